@@ -1,0 +1,13 @@
+//! RTP packets as they stand in a datagram, and the linear PCM samples in them.
+//!
+//! RFC 3550 (5.1 and 5.3.1) gives the header, RFC 3551 the 16-bit samples and RFC 3190 the 24-bit
+//! ones. Nothing here keeps state, takes memory or reads a socket.
+#![tactic(auto)]
+
+mod datagram;
+mod encoding;
+mod fault;
+
+pub use datagram::{RtpView, read};
+pub use encoding::{Enc, Payload};
+pub use fault::WireFault;
