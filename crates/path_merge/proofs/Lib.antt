@@ -1,0 +1,3 @@
+pub mod NearestLemmas
+pub mod StreamSpecLemmas
+pub mod WorkedCases

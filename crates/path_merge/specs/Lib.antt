@@ -1,0 +1,13 @@
+pub mod Nearest
+pub mod MarkFacts
+pub mod StreamSpecFacts
+pub mod StreamSpec
+pub mod History
+pub mod Anchor
+pub mod Copies
+pub mod Marks
+pub mod MarkList
+pub mod Window
+pub mod Fate
+pub mod CountsFacts
+pub mod Counts
