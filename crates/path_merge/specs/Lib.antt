@@ -8,6 +8,10 @@ pub mod Copies
 pub mod Marks
 pub mod MarkList
 pub mod Window
+pub mod SortedWindow
 pub mod Fate
 pub mod CountsFacts
 pub mod Counts
+pub mod MergeState
+pub mod Merge
+pub mod Steps

@@ -1,5 +1,6 @@
 //! What a stream's arrivals and slots came to.
-ghost use Rattle.std.specs.Prelude.{◌≡◌, ◌+◌, ◌≤◌, ◌<◌, ◌^◌, sum};
+ghost use Rattle.path_merge.specs.CountsFacts.{increased_at};
+ghost use Rattle.std.specs.Prelude.{◌≡◌, true, ◌+◌, ◌≤◌, ◌<◌, ◌^◌, sum};
 
 use crate::fate::Fate;
 use crate::mark::Body;
@@ -28,9 +29,18 @@ pub struct Counts {
     pub ghost given: { got ≤ taken },
 }
 
+/// Adds one to a path's number.
+fn add_one_at(numbers: &mut [u64; 4], path: Path)
+    requires { sum numbers.old < 2 ^ 63 }
+    ensures value { numbers.new ≡ increased_at path numbers.old }
+    ensures total { sum numbers.new ≡ sum numbers.old + 1 }
+{
+    numbers[usize::from(path.number())] += 1;
+}
+
 impl Counts {
     ghost use Rattle.path_merge.specs.CountsFacts.{empty_tally, with_fate, with_body};
-    ghost use Rattle.path_merge.specs.Counts.{tally_of};
+    ghost use Rattle.path_merge.specs.Counts.{tally_of, is_got_body};
 
     /// Nothing has arrived, and no slot was handed on.
     pub fn new() -> Self
@@ -48,6 +58,57 @@ impl Counts {
             wrong_source: 0,
             got: 0,
             lost: 0,
+        }
+    }
+
+    /// Counts an arrival on a path.
+    pub fn add_fate(&mut self, path: Path, fate: Fate)
+        requires { self.old.arrived < 2 ^ 62 }
+        ensures { tally_of self.new ≡ with_fate (tally_of self.old) path fate }
+    {
+        match fate {
+            Fate::Closed | Fate::CountersFull => {}
+            Fate::WrongSource => {
+                self.wrong_source += 1;
+                self.arrived += 1;
+            }
+            Fate::OffGrid => {
+                self.off_grid += 1;
+                self.arrived += 1;
+            }
+            Fate::Late => {
+                self.late += 1;
+                self.arrived += 1;
+            }
+            Fate::Ahead => {
+                self.ahead += 1;
+                self.arrived += 1;
+            }
+            Fate::Taken => {
+                add_one_at(&mut self.taken_by, path);
+                self.taken += 1;
+                self.arrived += 1;
+            }
+            Fate::Double => {
+                self.double += 1;
+                self.arrived += 1;
+            }
+            Fate::Unlike => {
+                self.unlike += 1;
+                self.arrived += 1;
+            }
+        }
+    }
+
+    /// Counts a slot.
+    pub fn add_slot(&mut self, body: &Body)
+        requires held { is_got_body body.now ≡ true → self.old.got < self.old.taken }
+        requires few { self.old.lost < 2 ^ 63 }
+        ensures { tally_of self.new ≡ with_body (tally_of self.old) body.now }
+    {
+        match body {
+            Body::Got(_) => self.got += 1,
+            Body::Lost => self.lost += 1,
         }
     }
 }

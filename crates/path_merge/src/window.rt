@@ -5,7 +5,10 @@ ghost use Rattle.std.specs.FinMap as map;
 ghost use Rattle.path_merge.specs.declared.packet.Packet.{Packet};
 ghost use Rattle.path_merge.specs.Window.{IsEmpty, put_answer, is_taken};
 
+mod sorted;
+
 use crate::packet::Packet;
+pub use sorted::SortedWindow;
 
 /// How a packet was put.
 #[derive(Clone, Copy, Debug, PartialEq, Eq)]

@@ -1,0 +1,36 @@
+use Rattle.std.proofs.Common.{◌≡◌, ℕ, ℤ, ◌^◌, ◌≤ℤ◌, ◌<ℤ◌, ◌-ℤ◌, ◌+ℤ◌, ◌*ℤ◌, ◌+◌, ◌-◌, ◌*◌, ◌<◌, ◌≤◌, pos, true, false, not, Some, None, arith, ap, sym, subst, refl, ◌∙◌}
+use Rattle.std.proofs.lemmas.Int.{ints}
+use Rattle.path_merge.specs.MergeState.{MergeState, IsSound}
+use Rattle.path_merge.proofs.SoundLemmas.{paths_few}
+use Rattle.path_merge.proofs.OfferLemmas.{offers_closed, offers_full, offers_next}
+use Rattle.path_merge.proofs.FirstLemmas.{offers_first}
+use Rattle.path_merge.proofs.merge.Merge.offer.Goals as goal
+
+pub returns-then-self-clause-stands : goal.returns-then-self-clause-stands
+returns-then-self-clause-stands g c = λ stream open_at events k at.
+    let sound : IsSound c.args.self.now c.self.inside.next_media = subst (λ m. IsSound m c.self.inside.next_media) c.self.view_is c.self.invariant in
+    let shut : c.args.self.now.closed ≡ true = ap (λ (m : MergeState). m.closed) (sym c.self.view_is) ∙ c.if-self.true in
+    offers_closed stream open_at c.args.self.now events k at shut c.args.path c.args.packet
+
+pub returns-then-self-eq-MOST_ARRIVALS-clause-stands : goal.returns-then-self-eq-MOST_ARRIVALS-clause-stands
+returns-then-self-eq-MOST_ARRIVALS-clause-stands g c = λ stream open_at events k at.
+    let sound : IsSound c.args.self.now c.self.inside.next_media = subst (λ m. IsSound m c.self.inside.next_media) c.self.view_is c.self.invariant in
+    let open_yet : c.args.self.now.closed ≡ false = ap (λ (m : MergeState). m.closed) (sym c.self.view_is) ∙ c.if-self.false in
+    let full : c.args.self.now.counts.arrived ≡ 2 ^ 62 = ap (λ (m : MergeState). m.counts.arrived) (sym c.self.view_is) ∙ c.if-self-eq-MOST_ARRIVALS.true in
+    offers_full stream open_at c.args.self.now events k at open_yet full c.args.path c.args.packet
+
+pub returns-in-Some-clause-stands : goal.returns-in-Some-clause-stands
+returns-in-Some-clause-stands g c = λ stream open_at events k at.
+    let sound : IsSound c.args.self.now c.self.inside.next_media = subst (λ m. IsSound m c.self.inside.next_media) c.self.view_is c.self.invariant in
+    let open_yet : c.args.self.now.closed ≡ false = ap (λ (m : MergeState). m.closed) (sym c.self.view_is) ∙ c.if-self.false in
+    let room : c.args.self.now.counts.arrived < 2 ^ 62 = omega (arith, ap (λ (m : MergeState). m.counts.arrived) c.self.view_is, c.if-self-eq-MOST_ARRIVALS.false, sound.few_arrived) in
+    let is_a : c.args.self.now.anchor ≡ Some c.in-Some.anchor = ap (λ (m : MergeState). m.anchor) (sym c.self.view_is) ∙ c.in-Some.is in
+    offers_next stream open_at c.args.self.now c.self.inside.next_media sound open_yet events k at room c.in-Some.anchor is_a c.args.path c.args.packet (paths_few c.args.self.now c.self.inside.next_media sound c.args.path c.requires.path) c.offer_next.new.self c.offer_next.result c.offer_next.ensures
+
+pub returns-in-None-clause-stands : goal.returns-in-None-clause-stands
+returns-in-None-clause-stands g c = λ stream open_at events k at.
+    let sound : IsSound c.args.self.now c.self.inside.next_media = subst (λ m. IsSound m c.self.inside.next_media) c.self.view_is c.self.invariant in
+    let open_yet : c.args.self.now.closed ≡ false = ap (λ (m : MergeState). m.closed) (sym c.self.view_is) ∙ c.if-self.false in
+    let room : c.args.self.now.counts.arrived < 2 ^ 62 = omega (arith, ap (λ (m : MergeState). m.counts.arrived) c.self.view_is, c.if-self-eq-MOST_ARRIVALS.false, sound.few_arrived) in
+    let is_none : c.args.self.now.anchor ≡ None = ap (λ (m : MergeState). m.anchor) (sym c.self.view_is) ∙ c.in-None.is in
+    offers_first stream open_at c.args.self.now c.self.inside.next_media sound open_yet events k at is_none room c.args.path c.args.packet (paths_few c.args.self.now c.self.inside.next_media sound c.args.path c.requires.path) c.offer_first.ensures.seq c.offer_first.ensures.ts c.offer_first.new.self c.offer_first.result c.offer_first.ensures.step

@@ -1,0 +1,66 @@
+-- What contracts see of a merge, and what is true of every one.
+use Rattle.std.specs.Prelude.{◌≡◌, ℕ, zero, suc, ◌+◌, ◌*◌, ◌^◌, ◌<◌, ◌≤◌, Bool, false, ℤ, pos, ◌≤ℤ◌, neg_ℤ, Option, Some, None, IsSome, is_some, if◌then◌else◌}
+use Rattle.std.specs.Ordering.{nat_cmp}
+use Rattle.std.specs.FinMap.{FinMap, get}
+use Rattle.path_merge.specs.StreamSpecFacts.{Stream, IsStream}
+use Rattle.path_merge.specs.StreamSpec.{Fits}
+use Rattle.path_merge.specs.CountsFacts.{Tally}
+use Rattle.path_merge.specs.declared.anchor.Anchor.{Anchor}
+use Rattle.path_merge.specs.declared.packet.Packet.{Packet}
+use Rattle.path_merge.specs.Window.{IsEmpty}
+use Rattle.path_merge.specs.Anchor.{media_time_of, next_number}
+
+pub record MergeState : Type 0 where
+  pub spec : Stream
+  pub time : ℤ
+  pub anchor : Option Anchor
+  pub base : ℕ
+  pub size : ℕ
+  pub held : FinMap nat_cmp Packet
+  pub quiet : ℤ
+  pub counts : Tally
+  pub closed : Bool
+  pub ended : Bool
+
+-- how many of these `count` numbers, from one on, have a packet
+abbrev pub held_count : FinMap nat_cmp Packet → ℕ → ℕ → ℕ
+held_count held number zero = 0
+held_count held number (suc count) = (if is_some (get held number) then 1 else 0) + held_count held (suc number) count
+
+-- once anchored, the base is the number due next until the close, and all that is held lies within the window
+pub record IsAnchored (m : MergeState) (media : ℤ) (anchor : Anchor) : Type 0 where
+  pub first_epoch : anchor.epoch ≡ 0
+  pub first_low : 65536 ≤ anchor.number
+  pub first_high : anchor.number < 131072
+  pub stamp : anchor.timestamp < 2 ^ 32
+  pub media_low : neg_ℤ (pos (2 ^ 33)) ≤ℤ anchor.media
+  pub media_high : anchor.media ≤ℤ pos (2 ^ 60 + 2 ^ 33)
+  pub media_is : media ≡ media_time_of m.spec anchor m.base
+  pub next_open : m.closed ≡ false → m.base ≡ next_number m.spec anchor m.time
+  pub next_low : next_number m.spec anchor m.time ≤ m.base
+  pub next_high : m.base ≤ next_number m.spec anchor m.time + m.spec.window
+  pub held_low : (n : ℕ) → IsSome (get m.held n) → m.base ≤ n
+  pub held_high : (n : ℕ) → IsSome (get m.held n) → n < next_number m.spec anchor m.time + m.spec.window
+  pub held_fits : (n : ℕ) (packet : Packet) → get m.held n ≡ Some packet → Fits m.spec packet
+  pub slots_given : m.counts.got + m.counts.lost + anchor.number ≡ m.base
+  pub taken_are : m.counts.taken ≡ m.counts.got + held_count m.held m.base m.spec.window
+
+-- before, nothing is held and nothing was taken
+pub record IsUnanchored (m : MergeState) : Type 0 where
+  pub empty : IsEmpty m.held
+  pub none_taken : m.counts.taken ≡ 0
+  pub none_got : m.counts.got ≡ 0
+  pub none_lost : m.counts.lost ≡ 0
+
+abbrev pub IsAnchoredOrNot : MergeState → ℤ → Option Anchor → Type 0
+IsAnchoredOrNot m media None = IsUnanchored m
+IsAnchoredOrNot m media (Some anchor) = IsAnchored m media anchor
+
+-- `media` is the media time of the base
+pub record IsSound (m : MergeState) (media : ℤ) : Type 0 where
+  pub spec_ok : IsStream m.spec
+  pub time_low : pos 0 ≤ℤ m.time
+  pub time_high : m.time ≤ℤ pos (2 ^ 60)
+  pub size_is : m.size ≡ m.spec.window
+  pub few_arrived : m.counts.arrived ≤ 2 ^ 62
+  pub anchored : IsAnchoredOrNot m media m.anchor

@@ -1,0 +1,168 @@
+-- What each call of a merge does to it.
+use Rattle.std.specs.Prelude.{◌≡◌, ℕ, ◌+◌, ◌^◌, Bool, true, false, not, ◌&&◌, nat_eq, nat_lt, List, [], ◌∷◌, ◌++◌, length, ℤ, pos, ◌-ℤ◌, ◌≤ℤ◌, ◌<ℤ◌, int_lt, int_le, Option, Some, None, IsSome, take, drop, ◌≤◌, if◌then◌else◌, option_to_list}
+use Rattle.std.specs.FinMap.{get}
+use Rattle.path_merge.specs.StreamSpecFacts.{Stream}
+use Rattle.path_merge.specs.MarkFacts.{MarkView}
+use Rattle.path_merge.specs.declared.anchor.Anchor.{Anchor}
+use Rattle.path_merge.specs.declared.packet.Packet.{Packet}
+use Rattle.path_merge.specs.declared.fate.Fate.{Fate}
+use Rattle.path_merge.specs.declared.fate.Fate.TheVariants.{WrongSource, OffGrid, Late, Ahead}
+use Rattle.path_merge.specs.declared.mark.MarkKind.TheVariants.{Slot, Quiet, End}
+use Rattle.path_merge.specs.declared.event.Event.{Event}
+use Rattle.path_merge.specs.declared.event.Event.TheVariants.{Arrive, Tick}
+use Rattle.path_merge.specs.declared.merge.ClockFault.{ClockFault}
+use Rattle.path_merge.specs.declared.merge.ClockFault.TheVariants.{WentBack, TooFar, Closed}
+use Rattle.path_merge.specs.History.{time_of, is_closed, is_well_timed, events_until_close}
+use Rattle.path_merge.specs.Anchor.{anchor_of, anchor_from, deadline_of}
+use Rattle.path_merge.specs.Copies.{copies_of, extended_number, is_on_grid}
+use Rattle.path_merge.specs.Marks.{marks_of, body_of, quiet_mark, is_slot}
+use Rattle.path_merge.specs.Window.{put_answer}
+use Rattle.path_merge.specs.Fate.{fate_of, fate_of_put, first_fate}
+use Rattle.path_merge.specs.CountsFacts.{with_fate, with_body}
+use Rattle.path_merge.specs.Counts.{fates_of, is_taken_fate}
+use Rattle.path_merge.specs.MergeState.{MergeState}
+use Rattle.path_merge.specs.Merge.{HasHistory}
+
+-- why a packet is no in-time copy, where this number is due next
+abbrev pub place_fault_of : Stream → Anchor → ℕ → Packet → Option Fate
+place_fault_of stream anchor next packet =
+    if not (nat_eq packet.ssrc anchor.source) then Some WrongSource
+    else if not (is_on_grid stream anchor (extended_number packet next) packet.ts) then Some OffGrid
+    else if nat_lt (extended_number packet next) next then Some Late
+    else if not (nat_lt (extended_number packet next) (next + stream.window)) then Some Ahead
+    else None
+
+abbrev pub fault_or : Option Fate → Fate → Fate
+fault_or (Some fault) other = fault
+fault_or None other = other
+
+-- an arrival at an anchored merge: only a packet that is taken changes what is held
+pub record IsNextStep (stream : Stream) (old new : MergeState) (a : Anchor) (path : ℕ) (packet : Packet) (fate : Fate) : Type 0 where
+  pub fate_is : fate ≡ fault_or (place_fault_of stream a old.base packet) (fate_of_put (put_answer (get old.held (extended_number packet old.base)) packet))
+  pub spec : new.spec ≡ old.spec
+  pub time : new.time ≡ old.time
+  pub anchor : new.anchor ≡ old.anchor
+  pub base : new.base ≡ old.base
+  pub held : (n : ℕ) → get new.held n ≡ (if is_taken_fate fate && nat_eq n (extended_number packet old.base) then Some packet else get old.held n)
+  pub quiet : new.quiet ≡ old.quiet
+  pub counts : new.counts ≡ with_fate old.counts path fate
+  pub closed : new.closed ≡ old.closed
+  pub ended : new.ended ≡ old.ended
+
+-- an arrival at a merge with no anchor: a packet that is taken becomes the anchor
+pub record IsFirstStep (stream : Stream) (old new : MergeState) (path : ℕ) (packet : Packet) (fate : Fate) : Type 0 where
+  pub fate_is : fate ≡ first_fate stream old.time packet
+  pub spec : new.spec ≡ old.spec
+  pub time : new.time ≡ old.time
+  pub anchor : new.anchor ≡ (if is_taken_fate fate then Some (anchor_from stream old.time packet) else None)
+  pub base : is_taken_fate fate ≡ true → new.base ≡ 65536 + packet.seq
+  pub held : (n : ℕ) → get new.held n ≡ (if is_taken_fate fate && nat_eq n (65536 + packet.seq) then Some packet else None)
+  pub quiet : new.quiet ≡ old.quiet
+  pub counts : new.counts ≡ with_fate old.counts path fate
+  pub closed : new.closed ≡ old.closed
+  pub ended : new.ended ≡ old.ended
+
+-- an arrival that changes no more than the count of its fate
+pub record IsRefusal (old new : MergeState) (path : ℕ) (fate : Fate) : Type 0 where
+  pub spec : new.spec ≡ old.spec
+  pub time : new.time ≡ old.time
+  pub anchor : new.anchor ≡ old.anchor
+  pub held : (n : ℕ) → get new.held n ≡ get old.held n
+  pub quiet : new.quiet ≡ old.quiet
+  pub counts : new.counts ≡ with_fate old.counts path fate
+  pub closed : new.closed ≡ old.closed
+  pub ended : new.ended ≡ old.ended
+
+-- the slot of the base is given, at its deadline
+pub record IsSlotStep (stream : Stream) (old new : MergeState) (a : Anchor) : Type 0 where
+  pub spec : new.spec ≡ old.spec
+  pub time : new.time ≡ deadline_of stream a old.base
+  pub anchor : new.anchor ≡ old.anchor
+  pub base : new.base ≡ old.base + 1
+  pub held : (n : ℕ) → get new.held n ≡ (if nat_eq n old.base then None else get old.held n)
+  pub quiet : new.quiet ≡ old.quiet
+  pub counts : new.counts ≡ with_body old.counts (body_of (get old.held old.base))
+  pub closed : new.closed ≡ old.closed
+  pub ended : new.ended ≡ old.ended
+
+-- no slot was ever given, and the last Quiet was earlier
+abbrev pub is_quiet_due : Bool → ℤ → ℤ → Bool
+is_quiet_due no_slot last until = no_slot && int_lt last until
+
+-- time passes with no slot
+pub record IsTimeStep (stream : Stream) (old new : MergeState) (now : ℤ) (no_slot : Bool) (given : Option MarkView) : Type 0 where
+  pub changed : new ≡ record old { time = now; quiet = if is_quiet_due no_slot old.quiet (now -ℤ pos stream.latency) then now -ℤ pos stream.latency else old.quiet }
+  pub mark : given ≡ (if is_quiet_due no_slot old.quiet (now -ℤ pos stream.latency) then Some (quiet_mark stream (now -ℤ pos stream.latency)) else None)
+
+-- where a tick to `now` stops: at the next deadline, if it comes before
+abbrev pub stop_at : Stream → Option Anchor → ℕ → ℤ → ℤ
+stop_at stream None base now = now
+stop_at stream (Some anchor) base now = if int_le (deadline_of stream anchor base) now then deadline_of stream anchor base else now
+
+-- two histories that a merge can't tell apart
+pub record IsAlike (stream : Stream) (open_at : ℤ) (e f : List Event) : Type 0 where
+  pub well_timed : is_well_timed open_at e ≡ true → is_well_timed open_at f ≡ true
+  pub time : time_of open_at e ≡ time_of open_at f
+  pub closed : is_closed e ≡ is_closed f
+  pub fates : fates_of stream open_at e ≡ fates_of stream open_at f
+  pub anchor : anchor_of stream open_at e ≡ anchor_of stream open_at f
+  pub copies : copies_of stream open_at e ≡ copies_of stream open_at f
+  pub marks : marks_of stream open_at e ≡ marks_of stream open_at f
+  pub before_close : marks_of stream open_at (events_until_close e) ≡ marks_of stream open_at (events_until_close f)
+
+abbrev pub is_slot_mark : Option MarkView → Bool
+is_slot_mark None = false
+is_slot_mark (Some mark) = is_slot mark.kind
+
+-- the arrival has the fate of the definition, and joins the history
+pub record Offers (stream : Stream) (open_at : ℤ) (new : MergeState) (events : List Event) (k : ℕ) (path : ℕ) (packet : Packet) (fate : Fate) : Type 0 where
+  pub fate_is : fate ≡ fate_of stream open_at events packet
+  pub stands : HasHistory stream open_at new (events ++ Arrive path packet ∷ []) k
+
+-- a tick to where it stops gave this mark and no other; after a slot, a tick to `now` gives the rest
+pub record Advances (stream : Stream) (open_at : ℤ) (old new : MergeState) (events : List Event) (k : ℕ) (now : ℤ) (mark : Option MarkView) : Type 0 where
+  pub time : new.time ≡ stop_at stream old.anchor old.base now
+  pub stands : HasHistory stream open_at new (events ++ Tick (stop_at stream old.anchor old.base now) ∷ []) (k + length (option_to_list mark))
+  pub gained : marks_of stream open_at (events ++ Tick (stop_at stream old.anchor old.base now) ∷ []) ≡ marks_of stream open_at events ++ option_to_list mark
+  pub joins : is_slot_mark mark ≡ true → IsAlike stream open_at ((events ++ Tick (stop_at stream old.anchor old.base now) ∷ []) ++ Tick now ∷ []) (events ++ Tick now ∷ [])
+
+-- a slot that was left at the close is given
+pub record IsLeftStep (old new : MergeState) : Type 0 where
+  pub spec : new.spec ≡ old.spec
+  pub time : new.time ≡ old.time
+  pub anchor : new.anchor ≡ old.anchor
+  pub base : new.base ≡ old.base + 1
+  pub held : (n : ℕ) → get new.held n ≡ (if nat_eq n old.base then None else get old.held n)
+  pub quiet : new.quiet ≡ old.quiet
+  pub counts : new.counts ≡ with_body old.counts (body_of (get old.held old.base))
+  pub closed : new.closed ≡ old.closed
+  pub ended : new.ended ≡ old.ended
+
+-- a packet is held at the base or after it
+pub record HoldsMore (m : MergeState) : Type 0 where
+  pub last : ℕ
+  pub from_base : m.base ≤ last
+  pub is_held : IsSome (get m.held last)
+
+-- a drain gave the next of the marks, if one is left
+pub record Drains (stream : Stream) (open_at : ℤ) (new : MergeState) (events : List Event) (k : ℕ) (mark : Option MarkView) : Type 0 where
+  pub stands : HasHistory stream open_at new events (k + length (option_to_list mark))
+  pub given : option_to_list mark ≡ take 1 (drop k (marks_of stream open_at events))
+
+-- no deadline has come
+abbrev pub IsBeforeDeadline : Stream → Option Anchor → ℕ → ℤ → Type 0
+IsBeforeDeadline stream None base now = Unit {0}
+IsBeforeDeadline stream (Some anchor) base now = now <ℤ deadline_of stream anchor base
+
+-- the first fault of a tick
+abbrev pub clock_fault_of : ℤ → Bool → ℤ → Option ClockFault
+clock_fault_of time closed now =
+    if int_lt now time then Some WentBack else if int_lt (pos (2 ^ 60)) now then Some TooFar else if closed then Some Closed else None
+
+-- with a slot the time rises, and is not past `now`; else it is `now`
+abbrev pub MovesBy : MergeState → MergeState → ℤ → Bool → Type 0
+MovesBy old new now true = (old.time <ℤ new.time) × (new.time ≤ℤ now) × (new.closed ≡ old.closed)
+MovesBy old new now false = (new.time ≡ now) × (new.closed ≡ old.closed)
+
+abbrev pub Moves : MergeState → MergeState → ℤ → Option MarkView → Type 0
+Moves old new now mark = MovesBy old new now (is_slot_mark mark)
