@@ -34,7 +34,7 @@ module _ (stream : Stream) (open_at : ℤ) where
   unfolding fates_of at_places
   fates_of-none = refl
 
-  marks_of-none : marks_of stream open_at [] ≡ []
+  pub marks_of-none : marks_of stream open_at [] ≡ []
   marks_of-none = marks_of-in stream open_at [] ∙ marks_in-none stream open_at (copies_of stream open_at [])
 
   pub stands_at_start : (time' : ℤ) (base size : ℕ) (h : FinMap nat_cmp Packet) (quiet : ℤ) (counts : Tally) → time' ≡ open_at → IsEmpty h → quiet ≡ open_at -ℤ pos stream.latency → counts ≡ empty_tally → HasHistory stream open_at (record { spec = stream; time = time'; anchor = None; base = base; size = size; held = h; quiet = quiet; counts = counts; closed = false; ended = false }) [] 0

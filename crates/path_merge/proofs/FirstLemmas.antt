@@ -8,7 +8,7 @@ use Rattle.std.specs.Int.{int_rem_euclid}
 use Rattle.std.specs.FinMap.{get, FinMap}
 use Rattle.std.specs.Ordering.{nat_cmp}
 use Rattle.std.proofs.lemmas.Nat.{mul-le}
-use Rattle.path_merge.proofs.ArrivalLemmas.{stands_after_arrival}
+use Rattle.path_merge.proofs.ArrivalLemmas.{marks_of-arrive, stands_after_arrival}
 use Rattle.path_merge.proofs.HeldLemmas.{FateCounts, held_count-none, held_count-put, with_fate-counts}
 use Rattle.path_merge.proofs.HistoryLemmas.{anchor_of-push}
 use Rattle.path_merge.proofs.MarksLemmas.{AllSlotsBelow, AllSlotsBelow-raise, limit_of}
@@ -353,4 +353,5 @@ offers_first stream open_at m media s open_yet events k at is_none room path pac
     record {
       fate_is = fate_first stream open_at m media s open_yet events k at is_none room path packet few_paths seq ts new answer step_s;
       stands = stands_first stream open_at m media s open_yet events k at is_none room path packet few_paths seq ts new answer step_s;
+      kept = marks_of-arrive stream open_at (rw at.spec at s.spec_ok.some_frames) events at.well_timed (sym at.closed ∙ open_yet) path packet;
     }

@@ -18,3 +18,4 @@ pub mod LeftLemmas
 pub mod ArrivalLemmas
 pub mod OfferLemmas
 pub mod FirstLemmas
+pub mod RunLemmas

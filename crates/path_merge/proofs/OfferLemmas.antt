@@ -10,7 +10,7 @@ use borrow.Author.Differences.{up, down}
 use Rattle.std.proofs.lemmas.Nat.{mul-le}
 use Rattle.std.specs.Prelude.{◌*ℤ◌, neg_ℤ}
 use Rattle.std.specs.Prelude.{bytes_eq}
-use Rattle.path_merge.proofs.ArrivalLemmas.{stands_after_arrival}
+use Rattle.path_merge.proofs.ArrivalLemmas.{marks_of-arrive, stands_after_arrival}
 use Rattle.path_merge.proofs.HeldLemmas.{FateCounts, held_count-from, held_count-put, with_fate-counts}
 use Rattle.path_merge.proofs.HistoryLemmas.{anchor_of-push, arrival_count-append, by_last_event, copies_of-push, events_events_until_close-closed, events_events_until_close-open, fates_of-push, fates_of-tick, is_closed-append, is_well_timed_from-append, marks_in, marks_in-push, marks_of-in, time_of-append}
 use Rattle.path_merge.proofs.LeftLemmas.{deaf_copies, keep}
@@ -82,7 +82,7 @@ module _ (stream : Stream) (open_at : ℤ) (m : MergeState) (events : List Event
   deaf_anchor : anchor_of stream open_at (events ++ Arrive path packet ∷ []) ≡ anchor_of stream open_at events
   deaf_anchor = anchor_of-push stream open_at events (Arrive path packet) ∙ keep stream open_at (anchor_of stream open_at events) (first_of (anchors_at stream open_at events (Arrive path packet))) (rw deaf refl)
 
-  deaf_marks : marks_of stream open_at (events ++ Arrive path packet ∷ []) ≡ marks_of stream open_at events
+  pub deaf_marks : marks_of stream open_at (events ++ Arrive path packet ∷ []) ≡ marks_of stream open_at events
   deaf_marks = marks_of-in stream open_at (events ++ Arrive path packet ∷ []) ∙ ap (λ c. marks_in stream open_at c (events ++ Arrive path packet ∷ [])) deaf_copy ∙ marks_in-push stream open_at (copies_of stream open_at events) events (Arrive path packet) ∙ append-nil _ ∙ sym (marks_of-in stream open_at events)
 
   deaf_fates : fates_of stream open_at (events ++ Arrive path packet ∷ []) ≡ fates_of stream open_at events
@@ -531,14 +531,14 @@ module _ (stream : Stream) (open_at : ℤ) (m : MergeState) (media : ℤ) (s : I
 pub offers_closed : (stream : Stream) (open_at : ℤ) (m : MergeState) (events : List Event) (k : ℕ) → HasHistory stream open_at m events k → m.closed ≡ true → (path : ℕ) (packet : Packet) → Offers stream open_at m events k path packet Closed
 offers_closed stream open_at m events k at shut path packet =
     let closed : is_closed events ≡ true = sym at.closed ∙ shut in
-    record { fate_is = sym (rw closed refl); stands = stands_unheard stream open_at m events k at (rw closed refl) path packet }
+    record { fate_is = sym (rw closed refl); stands = stands_unheard stream open_at m events k at (rw closed refl) path packet; kept = deaf_marks stream open_at m events k at (rw closed refl) path packet }
 
 pub offers_full : (stream : Stream) (open_at : ℤ) (m : MergeState) (events : List Event) (k : ℕ) → HasHistory stream open_at m events k → m.closed ≡ false → m.counts.arrived ≡ 2 ^ 62 → (path : ℕ) (packet : Packet) → Offers stream open_at m events k path packet CountersFull
 offers_full stream open_at m events k at open_yet full path packet =
     let still : is_closed events ≡ false = sym at.closed ∙ open_yet in
     let many : 2 ^ 62 ≤ arrival_count events = omega (arith, full, ap (λ (t : Tally). t.arrived) at.counts, counted_arrivals stream open_at events still) in
     let not_less : nat_lt (arrival_count events) (2 ^ 62) ≡ false = at_least (arrival_count events) many in
-    record { fate_is = sym (rw (still, not_less) refl); stands = stands_unheard stream open_at m events k at (rw (still, not_less) refl) path packet }
+    record { fate_is = sym (rw (still, not_less) refl); stands = stands_unheard stream open_at m events k at (rw (still, not_less) refl) path packet; kept = deaf_marks stream open_at m events k at (rw (still, not_less) refl) path packet }
   where
     at_least : (n : ℕ) → 2 ^ 62 ≤ n → nat_lt n (2 ^ 62) ≡ false
     at_least n h = grind (arith, nat_tests, h)
@@ -549,4 +549,5 @@ offers_next stream open_at m media s open_yet events k at room a is_a path packe
     record {
       fate_is = fate_next stream open_at m media s open_yet events k at room a is_a path packet new answer step_s;
       stands = stands_next stream open_at m media s open_yet events k at room a is_a path packet few_paths new answer step_s;
+      kept = marks_of-arrive stream open_at (rw at.spec at s.spec_ok.some_frames) events at.well_timed (sym at.closed ∙ open_yet) path packet;
     }

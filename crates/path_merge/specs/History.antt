@@ -46,6 +46,12 @@ is_well_timed_from time closed (Close ∷ events) = is_well_timed_from time true
 abbrev pub is_well_timed : ℤ → List Event → Bool
 is_well_timed opening events = is_well_timed_from opening false events
 
+-- the time and whether there is a close after an event, unless it is a tick out of order
+abbrev pub clock_after : ℤ → Bool → Event → Option (ℤ × Bool)
+clock_after time closed (Arrive path packet) = Some (time, closed)
+clock_after time closed (Tick u) = if is_tick_in_order time closed u then Some (u, closed) else None
+clock_after time closed Close = Some (time, true)
+
 -- the place of the first tick that is out of order
 abbrev pub first_clock_fault_from : ℤ → Bool → List Event → Option ℕ
 first_clock_fault_from time closed [] = None

@@ -15,3 +15,4 @@ pub mod Counts
 pub mod MergeState
 pub mod Merge
 pub mod Steps
+pub mod Runs

@@ -1,5 +1,5 @@
 -- What each call of a merge does to it.
-use Rattle.std.specs.Prelude.{◌≡◌, ℕ, ◌+◌, ◌^◌, Bool, true, false, not, ◌&&◌, nat_eq, nat_lt, List, [], ◌∷◌, ◌++◌, length, ℤ, pos, ◌-ℤ◌, ◌≤ℤ◌, ◌<ℤ◌, int_lt, int_le, Option, Some, None, IsSome, take, drop, ◌≤◌, if◌then◌else◌, option_to_list}
+use Rattle.std.specs.Prelude.{◌≡◌, ℕ, ◌+◌, ◌-◌, ◌^◌, Bool, true, false, not, ◌&&◌, nat_eq, nat_lt, List, [], ◌∷◌, ◌++◌, length, ℤ, pos, ◌-ℤ◌, ◌≤ℤ◌, ◌<ℤ◌, int_lt, int_le, Option, Some, None, IsSome, take, drop, ◌≤◌, if◌then◌else◌, option_to_list}
 use Rattle.std.specs.FinMap.{get}
 use Rattle.path_merge.specs.StreamSpecFacts.{Stream}
 use Rattle.path_merge.specs.MarkFacts.{MarkView}
@@ -13,7 +13,7 @@ use Rattle.path_merge.specs.declared.event.Event.TheVariants.{Arrive, Tick}
 use Rattle.path_merge.specs.declared.merge.ClockFault.{ClockFault}
 use Rattle.path_merge.specs.declared.merge.ClockFault.TheVariants.{WentBack, TooFar, Closed}
 use Rattle.path_merge.specs.History.{time_of, is_closed, is_well_timed, events_until_close}
-use Rattle.path_merge.specs.Anchor.{anchor_of, anchor_from, deadline_of}
+use Rattle.path_merge.specs.Anchor.{anchor_of, anchor_from, deadline_of, next_number}
 use Rattle.path_merge.specs.Copies.{copies_of, extended_number, is_on_grid}
 use Rattle.path_merge.specs.Marks.{marks_of, body_of, quiet_mark, is_slot}
 use Rattle.path_merge.specs.Window.{put_answer}
@@ -114,10 +114,11 @@ abbrev pub is_slot_mark : Option MarkView → Bool
 is_slot_mark None = false
 is_slot_mark (Some mark) = is_slot mark.kind
 
--- the arrival has the fate of the definition, and joins the history
+-- the arrival has the fate of the definition, and joins the history; it adds no mark and changes none
 pub record Offers (stream : Stream) (open_at : ℤ) (new : MergeState) (events : List Event) (k : ℕ) (path : ℕ) (packet : Packet) (fate : Fate) : Type 0 where
   pub fate_is : fate ≡ fate_of stream open_at events packet
   pub stands : HasHistory stream open_at new (events ++ Arrive path packet ∷ []) k
+  pub kept : marks_of stream open_at (events ++ Arrive path packet ∷ []) ≡ marks_of stream open_at events
 
 -- a tick to where it stops gave this mark and no other; after a slot, a tick to `now` gives the rest
 pub record Advances (stream : Stream) (open_at : ℤ) (old new : MergeState) (events : List Event) (k : ℕ) (now : ℤ) (mark : Option MarkView) : Type 0 where
@@ -166,3 +167,11 @@ MovesBy old new now false = (new.time ≡ now) × (new.closed ≡ old.closed)
 
 abbrev pub Moves : MergeState → MergeState → ℤ → Option MarkView → Type 0
 Moves old new now mark = MovesBy old new now (is_slot_mark mark)
+
+-- no more marks than this are left to drain: the numbers up to the window's end, and the end
+abbrev pub window_end : Stream → Option Anchor → ℤ → ℕ
+window_end stream None time = 0
+window_end stream (Some anchor) time = next_number stream anchor time + stream.window
+
+abbrev pub marks_left : MergeState → ℕ
+marks_left m = (if m.ended then 0 else 1) + (window_end m.spec m.anchor m.time - m.base)

@@ -1,5 +1,5 @@
 //! The merge of a stream's paths.
-ghost use Rattle.std.specs.Prelude.{◌≡◌, ◌==◌, if◌then◌else◌, ℕ, ◌+◌, ◌-◌, ◌*◌, ◌^◌, ◌<◌, ◌≤◌, ◌∷◌, ◌++◌, [], List, ℤ, pos, ◌+ℤ◌, ◌-ℤ◌, ◌≤ℤ◌, ◌<ℤ◌, neg_ℤ, Some, None, IsSome, IfOk, IfErr, OnErr, true, false};
+ghost use Rattle.std.specs.Prelude.{◌≡◌, ◌==◌, if◌then◌else◌, ℕ, ◌+◌, ◌-◌, ◌*◌, ◌^◌, ◌<◌, ◌≤◌, ◌∷◌, ◌++◌, [], List, ℤ, pos, ◌+ℤ◌, ◌-ℤ◌, ◌≤ℤ◌, ◌<ℤ◌, neg_ℤ, Some, None, IsSome, IfSome, IfOk, IfErr, OnErr, true, false};
 ghost use Rattle.std.specs.FinMap as map;
 ghost use Rattle.path_merge.specs.declared.event.Event.{Event};
 ghost use Rattle.path_merge.specs.declared.event.Event.TheVariants.{Arrive, Tick, Close};
@@ -42,7 +42,7 @@ pub enum ClockFault {
 }
 
 /// No time is past this one: 2^60 sampling instants.
-const LATEST: i64 = 1_152_921_504_606_846_976;
+pub const LATEST: i64 = 1_152_921_504_606_846_976;
 
 /// So many arrivals are counted: 2^62.
 const MOST_ARRIVALS: u64 = 4_611_686_018_427_387_904;
@@ -240,7 +240,7 @@ impl<V: Window> Merge<V> {
     ghost use Rattle.path_merge.specs.MergeState.{MergeState};
     ghost use Rattle.path_merge.specs.Merge.{HasHistory};
     ghost use Rattle.path_merge.specs.Window.{IsEmpty};
-    ghost use Rattle.path_merge.specs.Steps.{IsNextStep, IsFirstStep, IsRefusal, IsSlotStep, IsTimeStep, IsLeftStep, HoldsMore, IsBeforeDeadline, clock_fault_of, Moves, Offers, Advances, Drains};
+    ghost use Rattle.path_merge.specs.Steps.{IsNextStep, IsFirstStep, IsRefusal, IsSlotStep, IsTimeStep, IsLeftStep, HoldsMore, IsBeforeDeadline, clock_fault_of, Moves, Offers, Advances, Drains, marks_left};
 
     /// A merge over an empty window of the stream's size: nothing has happened yet.
     pub fn with_window(window: V, spec: StreamSpec, open_at: i64) -> Self
@@ -446,6 +446,7 @@ impl<V: Window> Merge<V> {
             → HasHistory stream open_at self.old events k → Drains stream open_at self.new events k result }
         ensures open_yet { self.old.closed ≡ false → (result ≡ None) × (self.new ≡ self.old) }
         ensures none { result ≡ None → self.new ≡ self.old }
+        ensures fewer { IfSome result (λ mark. marks_left self.new < marks_left self.old) }
         ensures time { self.new.time ≡ self.old.time }
         ensures closed { self.new.closed ≡ self.old.closed }
         ensures spec { self.new.spec ≡ self.old.spec }

@@ -1,0 +1,37 @@
+-- A run of a merge over a whole list of events.
+use Rattle.std.specs.Prelude.{◌≡◌, ◌<◌, ◌+◌, ◌-◌, ℕ, Bool, List, length, ℤ, Option, Some, None, if◌then◌else◌}
+use Rattle.path_merge.specs.StreamSpecFacts.{Stream}
+use Rattle.path_merge.specs.StreamSpec.{Fits}
+use Rattle.path_merge.specs.MarkFacts.{MarkView}
+use Rattle.path_merge.specs.declared.anchor.Anchor.{Anchor}
+use Rattle.path_merge.specs.declared.event.Event.{Event}
+use Rattle.path_merge.specs.declared.event.Event.TheVariants.{Arrive, Tick, Close}
+use Rattle.path_merge.specs.declared.history.RunFault.{RunFault}
+use Rattle.path_merge.specs.declared.history.RunFault.TheVariants.{Clock, Memory}
+use Rattle.path_merge.specs.History.{first_clock_fault}
+use Rattle.path_merge.specs.Marks.{marks_of}
+use Rattle.path_merge.specs.MergeState.{MergeState}
+use Rattle.path_merge.specs.Merge.{HasHistory}
+use Rattle.path_merge.specs.Steps.{clock_fault_of}
+
+-- an event that a stream can have: its packets have the stream's length, and come in on a path that it has
+abbrev pub IsEventOf : Stream → Event → Type 0
+IsEventOf stream (Arrive path packet) = (path < stream.paths) × Fits stream packet
+IsEventOf stream (Tick u) = Unit {0}
+IsEventOf stream Close = Unit {0}
+
+-- an event that a merge takes now: a tick in order, or another
+abbrev pub IsInOrder : MergeState → Event → Type 0
+IsInOrder m (Arrive path packet) = Unit {0}
+IsInOrder m (Tick u) = clock_fault_of m.time m.closed u ≡ None
+IsInOrder m Close = Unit {0}
+
+-- the merge has this history, and exactly these marks were given
+pub record HasGiven (stream : Stream) (open_at : ℤ) (m : MergeState) (events : List Event) (marks : List MarkView) : Type 0 where
+  pub stands : HasHistory stream open_at m events (length marks)
+  pub all : marks ≡ marks_of stream open_at events
+
+-- what the fault of a run says of its events
+abbrev pub IsRunFault : ℤ → List Event → RunFault → Type 0
+IsRunFault open_at events (Clock place) = first_clock_fault open_at events ≡ Some place
+IsRunFault open_at events (Memory error) = first_clock_fault open_at events ≡ None
