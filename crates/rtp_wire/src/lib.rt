@@ -7,7 +7,11 @@
 mod datagram;
 mod encoding;
 mod fault;
+mod header;
+mod samples;
 
 pub use datagram::{RtpView, read};
 pub use encoding::{Enc, Payload};
 pub use fault::WireFault;
+pub use header::{RtpHead, write_head};
+pub use samples::{sample, write_sample};
