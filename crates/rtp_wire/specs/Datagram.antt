@@ -1,5 +1,5 @@
 -- An RTP packet as it stands in a datagram (RFC 3550, 5.1 and 5.3.1).
-use Rattle.std.specs.Prelude.{◌≡◌, ◌≤◌, ◌<◌, ◌+◌, ◌-◌, ◌*◌, ◌/◌, ◌%◌, ◌^◌, ℕ, Bool, List, [], ◌∷◌, ◌++◌, length, slice_index, slice_range, MatchBool, Option, Some, None, nat_lt, nat_le, ◌==◌, not, ◌&&◌, ◌||◌, if◌then◌else◌}
+use Rattle.std.specs.Prelude.{◌≡◌, ◌<◌, ◌+◌, ◌-◌, ◌*◌, ◌/◌, ◌%◌, ◌^◌, ℕ, Bool, List, [], ◌∷◌, ◌++◌, length, slice_index, slice_range, MatchBool, Option, Some, None, nat_lt, nat_le, ◌==◌, not, ◌&&◌, ◌||◌, if◌then◌else◌}
 use Rattle.rtp_wire.specs.declared.datagram.RtpView.{RtpView}
 use Rattle.rtp_wire.specs.declared.fault.WireFault.{WireFault}
 use Rattle.rtp_wire.specs.declared.fault.WireFault.TheVariants.{Short, Version, CsrcCut, ExtensionCut, Padding}
@@ -36,8 +36,8 @@ pub record IsDatagram (octets : List ℕ) (head : Head) (payload : List ℕ) : T
   pub is_extension : MatchBool extended (IsExtension extension) (extension ≡ [])
   pub is_padding : MatchBool padded (IsPadding padding) (padding ≡ [])
   pub layout : octets ≡
-    octets_after (128 + 32 * bit padded + 16 * bit extended + source_count) head
-    ++ sources ++ extension ++ payload ++ padding
+      octets_after (128 + 32 * bit padded + 16 * bit extended + source_count) head
+      ++ sources ++ extension ++ payload ++ padding
 
 -- what the first octet announces
 abbrev pub version_of : List ℕ → ℕ

@@ -3,9 +3,8 @@ ghost use Rattle.std.specs.Prelude.{◌≡◌, ◌≤◌, ◌+◌, ◌*◌, ◌+
 ghost use Rattle.std.specs.List.{All};
 ghost use Rattle.rtp_wire.specs.Sample.{FitsEncoding, block_octets, octets_per_sample, sample_at, sample_count, sample_octets, samples_of};
 
-use byteorder::{BigEndian, ByteOrder};
-
 use crate::encoding::Enc;
+use byteorder::{BigEndian, ByteOrder};
 
 /// The sample at `index` of a payload, on the scale of 24 bits: one of 16 bits is multiplied by 256.
 pub fn sample(enc: Enc, octets: &[u8], index: usize) -> i32
