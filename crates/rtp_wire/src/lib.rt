@@ -16,4 +16,4 @@ pub use encoding::{Enc, Payload};
 pub use fault::WireFault;
 pub use header::{RtpHead, write_head};
 pub use laws::{datagrams_are_read_one_way, written_heads_read_back};
-pub use samples::{sample, write_sample};
+pub use samples::{read_samples, sample, write_sample, write_samples};
