@@ -10,6 +10,8 @@ mod fault;
 mod header;
 mod laws;
 mod samples;
+#[cfg(test)]
+mod tests;
 
 pub use datagram::{RtpView, read};
 pub use encoding::{Enc, Payload};
