@@ -9,9 +9,11 @@ ghost use Rattle.rtp_wire.specs.Sample.{FitsEncoding, sample_octets, sample_valu
 /// No octets are two packets, and they are one exactly where nothing is wrong with them.
 pub fn datagrams_are_read_one_way()
     ensures one { (octets : List ℕ) (head other : Head) (payload rest : List ℕ) →
-        IsDatagram octets head payload → IsDatagram octets other rest → (head ≡ other) × (payload ≡ rest) }
+        IsDatagram octets head payload → IsDatagram octets other rest →
+        (head ≡ other) × (payload ≡ rest) }
     ensures fault { (octets : List ℕ) → AreOctets octets →
-        (wire_fault_of octets ≡ None) ↔ ((head : Head) × (payload : List ℕ) × IsDatagram octets head payload) }
+        (wire_fault_of octets ≡ None)
+        ↔ ((head : Head) × (payload : List ℕ) × IsDatagram octets head payload) }
     ensures places { (octets : List ℕ) (head : Head) (payload : List ℕ) →
         IsDatagram octets head payload → (head ≡ head_at octets) × (payload ≡ payload_at octets) }
 {}
@@ -20,6 +22,8 @@ pub fn datagrams_are_read_one_way()
 pub fn written_heads_read_back()
     ensures head { (head : Head) (payload : List ℕ) →
         FitsHeader head → IsDatagram (head_octets head ++ payload) head payload }
-    ensures sample_of_24_bits { (v : ℤ) → FitsEncoding L24 v → sample_value L24 (sample_octets L24 v) ≡ v }
-    ensures sample_of_16_bits { (v : ℤ) → FitsEncoding L16 v → sample_value L16 (sample_octets L16 v) ≡ v *ℤ pos 256 }
+    ensures sample_of_24_bits { (v : ℤ) →
+        FitsEncoding L24 v → sample_value L24 (sample_octets L24 v) ≡ v }
+    ensures sample_of_16_bits { (v : ℤ) →
+        FitsEncoding L16 v → sample_value L16 (sample_octets L16 v) ≡ v *ℤ pos 256 }
 {}

@@ -36,7 +36,8 @@ pub fn write_sample(enc: Enc, v: i32, out: &mut [u8])
 pub fn read_samples(enc: Enc, octets: &[u8], out: &mut [i32]) -> usize
     requires { sample_count enc octets.now ≤ length out.old }
     ensures count { result ≡ sample_count enc octets.now }
-    ensures samples { out.new ≡ samples_of enc octets.now ++ drop (sample_count enc octets.now) out.old }
+    ensures samples { out.new ≡ samples_of enc octets.now
+        ++ drop (sample_count enc octets.now) out.old }
     ensures each { (k : ℕ) → k < result → slice_get out.new k ≡ Some (sample_at enc octets.now k) }
 {
     match enc {
@@ -49,7 +50,8 @@ pub fn read_samples(enc: Enc, octets: &[u8], out: &mut [i32]) -> usize
 pub fn write_samples(enc: Enc, samples: &[i32], out: &mut [u8]) -> usize
     requires room { octets_per_sample enc * length samples.now ≤ length out.old }
     requires fit { All (FitsEncoding enc) samples.now }
-    ensures written { out.new ≡ block_octets enc samples.now ++ drop (octets_per_sample enc * length samples.now) out.old }
+    ensures written { out.new ≡ block_octets enc samples.now
+        ++ drop (octets_per_sample enc * length samples.now) out.old }
     ensures len { result ≡ octets_per_sample enc * length samples.now }
 {
     match enc {
@@ -62,7 +64,8 @@ pub fn write_samples(enc: Enc, samples: &[i32], out: &mut [u8]) -> usize
 fn read_16(octets: &[u8], out: &mut [i32]) -> usize
     requires { sample_count L16 octets.now ≤ length out.old }
     ensures count { result ≡ sample_count L16 octets.now }
-    ensures samples { out.new ≡ samples_of L16 octets.now ++ drop (sample_count L16 octets.now) out.old }
+    ensures samples { out.new ≡ samples_of L16 octets.now
+        ++ drop (sample_count L16 octets.now) out.old }
 {
     let count = octets.len() / 2;
     for i in 0..count {
@@ -84,7 +87,8 @@ fn sample_in_word(octets: &[u8], index: usize) -> i32
 fn read_24(octets: &[u8], out: &mut [i32]) -> usize
     requires { sample_count L24 octets.now ≤ length out.old }
     ensures count { result ≡ sample_count L24 octets.now }
-    ensures samples { out.new ≡ samples_of L24 octets.now ++ drop (sample_count L24 octets.now) out.old }
+    ensures samples { out.new ≡ samples_of L24 octets.now
+        ++ drop (sample_count L24 octets.now) out.old }
 {
     let count = octets.len() / 3;
     if count == 0 {
@@ -102,7 +106,8 @@ fn read_24(octets: &[u8], out: &mut [i32]) -> usize
 fn write_16(samples: &[i32], out: &mut [u8]) -> usize
     requires room { 2 * length samples.now ≤ length out.old }
     requires fit { All (FitsEncoding L16) samples.now }
-    ensures written { out.new ≡ block_octets L16 samples.now ++ drop (2 * length samples.now) out.old }
+    ensures written { out.new ≡ block_octets L16 samples.now
+        ++ drop (2 * length samples.now) out.old }
     ensures len { result ≡ 2 * length samples.now }
 {
     for i in 0..samples.len() {
@@ -117,7 +122,8 @@ fn write_16(samples: &[i32], out: &mut [u8]) -> usize
 fn write_24(samples: &[i32], out: &mut [u8]) -> usize
     requires room { 3 * length samples.now ≤ length out.old }
     requires fit { All (FitsEncoding L24) samples.now }
-    ensures written { out.new ≡ block_octets L24 samples.now ++ drop (3 * length samples.now) out.old }
+    ensures written { out.new ≡ block_octets L24 samples.now
+        ++ drop (3 * length samples.now) out.old }
     ensures len { result ≡ 3 * length samples.now }
 {
     for i in 0..samples.len() {
