@@ -1,1 +1,4 @@
+pub mod Octets
 pub mod Sample
+pub mod Head
+pub mod Datagram

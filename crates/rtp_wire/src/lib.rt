@@ -7,7 +7,15 @@
 mod datagram;
 mod encoding;
 mod fault;
+mod header;
+mod laws;
+mod samples;
+#[cfg(test)]
+mod tests;
 
 pub use datagram::{RtpView, read};
 pub use encoding::{Enc, Payload};
 pub use fault::WireFault;
+pub use header::{RtpHead, write_head};
+pub use laws::{datagrams_are_read_one_way, written_heads_read_back};
+pub use samples::{read_samples, sample, write_sample, write_samples};

@@ -1,0 +1,3 @@
+pub mod OctetsLemmas
+pub mod DatagramLemmas
+pub mod SampleLemmas

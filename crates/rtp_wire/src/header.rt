@@ -1,0 +1,32 @@
+//! The fixed header of an RTP packet, written (RFC 3550, 5.1).
+ghost use Rattle.std.specs.Prelude.{◌≡◌, ◌≤◌, ◌<◌, ◌++◌, length, drop};
+ghost use Rattle.rtp_wire.specs.Head.{head_octets, head_of};
+
+use byteorder::{BigEndian, ByteOrder};
+
+/// The fields of a packet's header that has no padding, extension or contributing source.
+#[derive(Clone, Copy, Debug, PartialEq, Eq)]
+pub struct RtpHead {
+    pub marker: bool,
+    /// The payload type, below 128.
+    pub pt: u8,
+    pub seq: u16,
+    /// In sampling instants at the payload's clock rate.
+    pub ts: u32,
+    pub ssrc: u32,
+}
+
+/// Writes a header to the front of `out`, and answers its length, 12.
+pub fn write_head(out: &mut [u8], h: &RtpHead) -> usize
+    requires room { 12 ≤ length out.old }
+    requires pt { h.now.pt < 128 }
+    ensures written { out.new ≡ head_octets (head_of h.now) ++ drop 12 out.old }
+    ensures len { result ≡ 12 }
+{
+    out[0] = 128;
+    out[1] = if h.marker { 128 + h.pt } else { h.pt };
+    BigEndian::write_u16(&mut out[2..], h.seq);
+    BigEndian::write_u32(&mut out[4..], h.ts);
+    BigEndian::write_u32(&mut out[8..], h.ssrc);
+    12
+}
