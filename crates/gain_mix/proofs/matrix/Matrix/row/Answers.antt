@@ -1,0 +1,32 @@
+use Rattle.std.proofs.Common.{sym, ap, length, take, drop, arith, ◌≡◌, ◌+◌, ◌-◌, ◌*◌, ℕ, ◌∙◌, Some, get_or, rules}
+use Rattle.std.proofs.lemmas.List.{length-take, length-drop}
+use Rattle.gain_mix.proofs.RowLemmas.{seen_outs, seen_ins, seen_in_each_row, seen_rows, seen_length, row_bounds, seen_row}
+use Rattle.gain_mix.proofs.matrix.Matrix.row.Goals as goal
+
+pub overflow_mul-start : goal.overflow_mul-start
+overflow_mul-start c = let b = row_bounds _ _ _ _ c.self.view_is c.self.invariant c.args.output c.requires in omega arith
+
+pub overflow_add-result : goal.overflow_add-result
+overflow_add-result c = let b = row_bounds _ _ _ _ c.self.view_is c.self.invariant c.args.output c.requires in omega arith
+
+pub offset_bounds-deref-start : goal.offset_bounds-deref-start
+offset_bounds-deref-start c = let b = row_bounds _ _ _ _ c.self.view_is c.self.invariant c.args.output c.requires in omega arith
+
+pub slice_bounds-result-end : goal.slice_bounds-result-end
+slice_bounds-result-end c =
+    let b = row_bounds _ _ _ _ c.self.view_is c.self.invariant c.args.output c.requires in
+    let e = ap length c.deref.ensures.value in
+    omega arith
+
+pub returns-clause-row : goal.returns-clause-row
+returns-clause-row c =
+    let n = c.self.inside.ins in
+    let e : (c.args.output * n + n) - c.args.output * n ≡ n = omega arith in
+    rw e (seen_row _ _ _ _ c.self.view_is c.self.invariant c.args.output _ c.requires c.deref.ensures.value)
+
+pub returns-clause-len : goal.returns-clause-len
+returns-clause-len c =
+    let b = row_bounds _ _ _ _ c.self.view_is c.self.invariant c.args.output c.requires in
+    let i = seen_ins _ _ _ _ c.self.view_is c.self.invariant in
+    let e = ap length c.deref.ensures.value in
+    simp (length-take, length-drop) (omega arith)

@@ -1,0 +1,22 @@
+-- A matrix of gains, and the changes of it.
+use Rattle.std.specs.Prelude.{◌≡◌, ℤ, List, [], ◌∷◌, length, int_lt, All, ◌≤◌, if◌then◌else◌}
+use Rattle.gain_mix.specs.Gain.{ins_of}
+
+-- the rows before any change, and the rows from each time on
+pub record Changes : Type 0 where
+  pub first : List (List ℤ)
+  pub later : List (ℤ × List (List ℤ))
+
+-- the last of these changes at or before t, else these rows
+abbrev pub last_change : List (List ℤ) → List (ℤ × List (List ℤ)) → ℤ → List (List ℤ)
+last_change rows [] t = rows
+last_change rows (change ∷ later) t = last_change (if int_lt t change.0 then rows else change.1) later t
+
+-- the matrix in force at t
+abbrev pub matrix_at : Changes → ℤ → List (List ℤ)
+matrix_at changes t = last_change changes.first changes.later t
+
+-- all matrices have one shape
+pub record IsChanges (first : List (List ℤ)) (later : List (ℤ × List (List ℤ))) : Type 0 where
+  pub outs : All (λ change. length change.1 ≡ length first) later
+  pub ins : All (λ change. ins_of change.1 ≡ ins_of first) later
