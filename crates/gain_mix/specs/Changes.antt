@@ -1,5 +1,5 @@
 -- A matrix of gains, and the changes of it.
-use Rattle.std.specs.Prelude.{◌≡◌, ℤ, List, [], ◌∷◌, length, int_lt, All, ◌≤◌, if◌then◌else◌}
+use Rattle.std.specs.Prelude.{◌≡◌, ℤ, List, [], ◌∷◌, length, int_le, All, ◌≤◌, if◌then◌else◌}
 use Rattle.gain_mix.specs.Gain.{ins_of}
 
 -- the rows before any change, and the rows from each time on
@@ -10,7 +10,7 @@ pub record Changes : Type 0 where
 -- the last of these changes at or before t, else these rows
 abbrev pub last_change : List (List ℤ) → List (ℤ × List (List ℤ)) → ℤ → List (List ℤ)
 last_change rows [] t = rows
-last_change rows (change ∷ later) t = last_change (if int_lt t change.0 then rows else change.1) later t
+last_change rows (change ∷ later) t = last_change (if int_le change.0 t then change.1 else rows) later t
 
 -- the matrix in force at t
 abbrev pub matrix_at : Changes → ℤ → List (List ℤ)

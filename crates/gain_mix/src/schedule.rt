@@ -1,5 +1,5 @@
 //! A matrix of gains that changes at given times.
-ghost use Rattle.std.specs.Prelude.{◌≡◌, ◌*◌, ◌^◌, ◌⊎◌, pos, ◌+ℤ◌, ◌≤ℤ◌, length, All, IfSome, IfNone, IsOkAnd};
+ghost use Rattle.std.specs.Prelude.{◌≡◌, ◌≤◌, ◌*◌, ◌^◌, ℤ, ◌⊎◌, pos, ◌+ℤ◌, ◌≤ℤ◌, length, All, IfSome, IfNone, IsOkAnd};
 ghost use Rattle.gain_mix.specs.Gain.{ins_of};
 ghost use Rattle.gain_mix.specs.Changes.{matrix_at};
 ghost use Rattle.gain_mix.specs.Mix.{Is24Bits, IsMixed};
@@ -91,6 +91,23 @@ impl Schedule {
     {
         &self.later
     }
+
+    /// How many outputs each matrix has.
+    fn outs(&self) -> usize
+        ensures first { result ≡ length self.now.first }
+        ensures each { (t : ℤ) → length (matrix_at self.now t) ≡ result }
+        ensures some { 1 ≤ result }
+    {
+        self.first.outs()
+    }
+
+    /// How many inputs each matrix has.
+    fn ins(&self) -> usize
+        ensures first { result ≡ ins_of self.now.first }
+        ensures each { (t : ℤ) → ins_of (matrix_at self.now t) ≡ result }
+    {
+        self.first.ins()
+    }
 }
 
 /// The first fault of these changes.
@@ -163,8 +180,8 @@ pub fn mix_span(
     requires shift { (shift ≡ 16) ⊎ (shift ≡ 24) }
     ensures { IsMixed (λ f. matrix_at schedule.now (t +ℤ pos f)) ins.now outs.new frames shift }
 {
-    let width = schedule.first().ins();
-    let height = schedule.first().outs();
+    let width = schedule.ins();
+    let height = schedule.outs();
     for frame in 0..frames {
         let matrix = schedule.at(t + frame as i64);
         let from = frame * width;

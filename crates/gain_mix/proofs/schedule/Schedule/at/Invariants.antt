@@ -1,8 +1,7 @@
-use Rattle.std.proofs.Common.{◌≡◌, length, drop}
-use Rattle.gain_mix.specs.Gain.{ins_of}
+use Rattle.std.proofs.Common.{◌≡◌, drop}
 use Rattle.gain_mix.specs.Changes.{last_change}
 use Rattle.gain_mix.proofs.schedule.Schedule.at.Given as goal
 
 abbrev pub invariant-loop-change : goal.invariant-loop-change
 invariant-loop-change l =
-    (last_change l.matrix (drop l.change-index l.change-items) l.t ≡ last_change l.self.first l.change-items l.t) × (length l.matrix ≡ length l.self.first) × (ins_of l.matrix ≡ ins_of l.self.first)
+    last_change l.matrix (drop l.change-index l.change-items) l.t ≡ last_change l.self.first l.change-items l.t
