@@ -1,5 +1,5 @@
 -- Frames that stand one after another, and a frame that is written among them.
-use Rattle.std.proofs.Common.{◌≡◌, ℕ, ◌+◌, ◌*◌, ◌<◌, ◌≤◌, ℤ, List, ◌++◌, length, take, drop, arith, refl, sym, ap, ◌∙◌, below_more}
+use Rattle.std.proofs.Common.{◌≡◌, ℕ, ◌+◌, ◌*◌, ◌<◌, ◌≤◌, ℤ, List, length, take, drop, arith, sym, ap, ◌∙◌, below_more}
 use Rattle.std.proofs.lemmas.List.{drop-take, drop_at, length-take-le, length-map}
 use Rattle.std.proofs.lemmas.Slice.{take-put_mid_below, take-put_mid}
 use borrow.Rule.Slice.PartMut.{put_mid}

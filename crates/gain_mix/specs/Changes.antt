@@ -1,5 +1,5 @@
 -- A matrix of gains, and the changes of it.
-use Rattle.std.specs.Prelude.{◌≡◌, ℤ, List, [], ◌∷◌, length, int_le, All, ◌≤◌, if◌then◌else◌}
+use Rattle.std.specs.Prelude.{◌≡◌, ℤ, List, [], ◌∷◌, length, int_le, All, if◌then◌else◌}
 use Rattle.gain_mix.specs.Gain.{ins_of}
 
 -- the rows before any change, and the rows from each time on

@@ -1,10 +1,9 @@
 -- A schedule of matrices, and when one is refused.
-use Rattle.std.specs.Prelude.{ℕ, ◌^◌, ◌&&◌, not, Bool, true, ℤ, pos, List, [], ◌∷◌, length, Option, Some, None, nat_le, int_lt, ◌==◌, IsTrue, if◌then◌else◌}
+use Rattle.std.specs.Prelude.{◌^◌, ◌&&◌, not, Bool, true, ℤ, pos, List, [], ◌∷◌, length, Option, Some, None, nat_le, int_lt, ◌==◌, if◌then◌else◌}
 use Rattle.std.specs.List.{list_all}
 use Rattle.gain_mix.specs.Gain.{ins_of}
 use Rattle.gain_mix.specs.declared.schedule.ScheduleFault.{ScheduleFault}
 use Rattle.gain_mix.specs.declared.schedule.ScheduleFault.TheVariants.{TooMany, Shape, Time, Order}
-use Rattle.gain_mix.specs.Changes.{Changes}
 
 -- no more than 64 changes
 abbrev pub has_few : List (ℤ × List (List ℤ)) → Bool

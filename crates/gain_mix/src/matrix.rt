@@ -81,7 +81,7 @@ impl Matrix {
         ensures len { length result.now ≡ length self.now * ins_of self.now }
         ensures in_range { All IsGain result.now }
     {
-        &self.gains
+        self.gains.as_slice()
     }
 
     /// The gains of one output.

@@ -89,7 +89,7 @@ impl Schedule {
     pub fn later(&self) -> &[(i64, Matrix)]
         ensures { result.now ≡ self.now.later }
     {
-        &self.later
+        self.later.as_slice()
     }
 
     /// How many outputs each matrix has.

@@ -1,8 +1,8 @@
-use Rattle.std.proofs.Common.{arith, rules, sym, ap, ◌∙◌, [], ◌∷◌, ◌++◌, get_or, ◌≡◌, ℤ, List, length, map, take, ◌<◌, FitsSigned, to_z, w32, w64}
+use Rattle.std.proofs.Common.{arith, rules, sym, ap, ◌∙◌, [], ◌∷◌, ◌++◌, get_or, ◌≡◌, ℤ, List, length, map, take, ◌<◌, FitsSigned, w32, w64}
 use Rattle.std.proofs.lemmas.Int.{to_z-of_z}
 use Rattle.std.proofs.lemmas.List.{take_more_set, map_more}
 use Rattle.std.proofs.lemmas.Option.{get_or_from_slice_get}
-use Rattle.gain_mix.specs.Mix.{mixed_sample, rounded_sum, saturated_sum, weighted_sum}
+use Rattle.gain_mix.specs.Mix.{mixed_sample, rounded_sum, saturated_sum}
 use Rattle.gain_mix.proofs.mix.mix_frame.Goals as goal
 
 pub loop-output-preserved : goal.loop-output-preserved

@@ -1,6 +1,4 @@
-use Rattle.std.proofs.Common.{sym, ap, length, take, drop, arith, ◌≡◌, ◌+◌, ◌-◌, ◌*◌, ℕ, ◌∙◌, Some, get_or, rules}
-use Rattle.std.proofs.lemmas.List.{length-take-le, length-drop}
-use Rattle.gain_mix.proofs.RowLemmas.{seen_outs, seen_ins, seen_in_each_row, seen_rows, seen_length, row_bounds, seen_row}
+use Rattle.gain_mix.proofs.RowLemmas.{seen_in_each_row}
 use Rattle.gain_mix.proofs.matrix.Matrix.ins.Goals as goal
 
 pub returns-clause-in_each_row : goal.returns-clause-in_each_row

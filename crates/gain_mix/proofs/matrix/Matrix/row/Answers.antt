@@ -1,6 +1,6 @@
-use Rattle.std.proofs.Common.{sym, ap, length, take, drop, arith, ◌≡◌, ◌+◌, ◌-◌, ◌*◌, ℕ, ◌∙◌, Some, get_or, rules}
+use Rattle.std.proofs.Common.{ap, length, arith, ◌≡◌, ◌+◌, ◌-◌, ◌*◌}
 use Rattle.std.proofs.lemmas.List.{length-take, length-drop}
-use Rattle.gain_mix.proofs.RowLemmas.{seen_outs, seen_ins, seen_in_each_row, seen_rows, seen_length, row_bounds, seen_row}
+use Rattle.gain_mix.proofs.RowLemmas.{seen_ins, row_bounds, seen_row}
 use Rattle.gain_mix.proofs.matrix.Matrix.row.Goals as goal
 
 pub overflow_mul-start : goal.overflow_mul-start

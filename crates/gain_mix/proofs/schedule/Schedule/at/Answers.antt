@@ -1,4 +1,4 @@
-use Rattle.std.proofs.Common.{arith, rules, sym, ap, ◌∙◌, ◌≡◌, ◌+◌, ℕ, ℤ, List, Bool, true, false, length, drop, get_or, cond, [], ◌∷◌, to_z, of_z, w64, FitsSigned, Bor}
+use Rattle.std.proofs.Common.{rules, sym, ap, ◌∙◌, ◌≡◌, ◌+◌, ℤ, List, Bool, length, drop, cond, [], to_z, of_z, w64, FitsSigned}
 use Rattle.std.specs.Int.RustNames.{int_le}
 use Rattle.std.proofs.lemmas.Int.{to_z-of_z}
 use Rattle.std.proofs.lemmas.List.{at_drop_all}

@@ -1,4 +1,4 @@
-use Rattle.std.proofs.Common.{sym, ap, ◌∙◌, List, ℤ, length}
+use Rattle.std.proofs.Common.{sym, ap, ◌∙◌}
 use Rattle.gain_mix.specs.Gain.{ins_of}
 use Rattle.gain_mix.specs.Changes.{Changes}
 use Rattle.gain_mix.proofs.ChangeLemmas.{ins_of-matrix_at}

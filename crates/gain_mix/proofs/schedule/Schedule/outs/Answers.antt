@@ -1,5 +1,4 @@
-use Rattle.std.proofs.Common.{sym, ap, ◌∙◌, List, ℤ, length}
-use Rattle.gain_mix.specs.Gain.{ins_of}
+use Rattle.std.proofs.Common.{sym, ap, ◌∙◌, length}
 use Rattle.gain_mix.specs.Changes.{Changes}
 use Rattle.gain_mix.proofs.ChangeLemmas.{length-matrix_at}
 use Rattle.gain_mix.proofs.schedule.Schedule.outs.Goals as goal
