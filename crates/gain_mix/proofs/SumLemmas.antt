@@ -1,11 +1,12 @@
 -- Weighted sums: one input more, and how large they get.
-use Rattle.std.proofs.Common.{◌≡◌, ℕ, zero, suc, ◌+◌, ◌*◌, ◌<◌, ◌≤◌, ℤ, pos, negsuc, ◌+ℤ◌, ◌*ℤ◌, List, [], ◌∷◌, length, take, get_or, arith, sym, ap, ◌∙◌, add-one, All}
+use Rattle.std.proofs.Common.{◌≡◌, ℕ, zero, suc, ◌+◌, ◌*◌, ◌<◌, ◌≤◌, ℤ, pos, negsuc, ◌+ℤ◌, ◌*ℤ◌, List, [], ◌∷◌, length, take, get_or, arith, sym, ap, ◌∙◌, add-one, All, FitsSigned, to_z, of_z, w32, w64}
 use Rattle.std.specs.Int.RustNames.{unsigned_abs}
-use Rattle.std.proofs.lemmas.Int.{ints, unsigned_abs-mul}
+use Rattle.std.proofs.lemmas.Int.{ints, unsigned_abs-mul, to_z-of_z, fits_signed_from_abs}
+use Rattle.std.proofs.lemmas.List.{take_all}
 use Rattle.std.proofs.Math.Nat.{mul-le-mul_left, mul-le-mul_right}
 use Rattle.std.proofs.lemmas.List.Elements.{All-get_or}
-use Rattle.gain_mix.specs.Gain.{IsGain}
-use Rattle.gain_mix.specs.Mix.{Is24Bits, weighted_sum}
+use Rattle.gain_mix.specs.Gain.{IsGain, IsRow}
+use Rattle.gain_mix.specs.Mix.{Is24Bits, IsWeighted, weighted_sum, rounded_sum, saturated_sum, mixed_sample}
 
 weighted_sum_suc : (gs xs : List ℤ) (i : ℕ) → i < length gs → i < length xs → weighted_sum (take (suc i) gs) (take (suc i) xs) ≡ weighted_sum (take i gs) (take i xs) +ℤ (get_or gs i (pos 0) *ℤ get_or xs i (pos 0))
 weighted_sum_suc [] xs i h k = absurd (omega arith)
@@ -46,3 +47,33 @@ IsSumTo-more gs xs i sum gains values h k s =
       sum_is = ap (λ (z : ℤ). z +ℤ (g *ℤ x)) s.sum_is ∙ sym (weighted_sum_more gs xs i h k);
       bounded = omega (arith, unsigned_abs-add sum (g *ℤ x), p, s.bounded);
     }
+
+-- the same, where the numbers are those of the code
+pub IsSumTo-step : (gs xs : List ℤ) (i : ℕ) (sum r : ℤ) → IsRow (length xs) gs → All Is24Bits xs → i < length xs → FitsSigned w64 r → r ≡ sum +ℤ (to_z w32 (of_z w32 (get_or gs i (pos 0))) *ℤ to_z w32 (of_z w32 (get_or xs i (pos 0)))) → IsSumTo gs xs i sum → IsSumTo gs xs (i + 1) (to_z w64 (of_z w64 r))
+IsSumTo-step gs xs i sum r row values h fits e s =
+    let g = get_or gs i (pos 0) in
+    let x = get_or xs i (pos 0) in
+    let long = row.len in
+    let in_row : i < length gs = omega arith in
+    let gain_bound = All-get_or IsGain gs i (pos 0) in_row row.in_range in
+    let value_bound = Is24Bits-bound x (All-get_or Is24Bits xs i (pos 0) h values) in
+    let gain_fits : FitsSigned w32 g = fits_signed_from_abs w32 g (omega (arith, gain_bound)) in
+    let value_fits : FitsSigned w32 x = fits_signed_from_abs w32 x (omega (arith, value_bound)) in
+    let exact : r ≡ sum +ℤ (g *ℤ x) = simp to_z-of_z at e in
+    rw (to_z-of_z w64 r fits, exact) (IsSumTo-more gs xs i sum row.in_range values in_row h s)
+
+-- all inputs are in
+pub IsSumTo-whole : (gs xs : List ℤ) (sum : ℤ) → IsRow (length xs) gs → length xs ≤ 1024 → IsSumTo gs xs (length xs) sum → IsWeighted gs xs sum
+IsSumTo-whole gs xs sum row few s =
+    let long = row.len in
+    let bound = s.bounded in
+    record {
+      sum_is = s.sum_is ∙ ap (λ (l : List ℤ). weighted_sum l (take (length xs) xs)) (take_all (length xs) gs (omega arith)) ∙ ap (λ (l : List ℤ). weighted_sum gs l) (take_all (length xs) xs (omega arith));
+      bounded = omega arith;
+    }
+
+-- the output sample of a sum, where the numbers are those of the code
+pub mixed_sample-step : (s : ℕ) (gains values : List ℤ) (sum r : ℤ) → FitsSigned w64 sum → FitsSigned w32 r → IsWeighted gains values sum → r ≡ saturated_sum s (rounded_sum s (to_z w64 (of_z w64 sum))) → to_z w32 (of_z w32 r) ≡ mixed_sample s values gains
+mixed_sample-step s gains values sum r sum_fits fits weighted e =
+    to_z-of_z w32 r fits ∙ e
+    ∙ ap (λ (z : ℤ). saturated_sum s (rounded_sum s z)) (to_z-of_z w64 sum sum_fits ∙ weighted.sum_is)

@@ -6,6 +6,11 @@ use Rattle.std.specs.Int.RustNames.{unsigned_abs}
 abbrev pub IsGain : ℤ → Type 0
 IsGain g = unsigned_abs g ≤ 1048576
 
+-- a row of gains, one for each of so many inputs
+pub record IsRow (ins : ℕ) (row : List ℤ) : Type 0 where
+  pub len : length row ≡ ins
+  pub in_range : All IsGain row
+
 -- the rows of so many gains each
 abbrev pub rows_of : ℕ → ℕ → List ℤ → List (List ℤ)
 rows_of ins zero gains = []

@@ -1,6 +1,7 @@
 -- An output sample: the sum of gains times inputs, rounded half up and saturated once.
-use Rattle.std.specs.Prelude.{ℕ, ◌≡◌, ◌-◌, ◌*◌, ◌^◌, ◌<◌, ℤ, pos, negsuc, ◌+ℤ◌, ◌*ℤ◌, ◌==◌, List, [], ◌∷◌, map, length, take, drop, if◌then◌else◌}
+use Rattle.std.specs.Prelude.{ℕ, ◌≡◌, ◌-◌, ◌*◌, ◌^◌, ◌<◌, ◌≤◌, ℤ, pos, negsuc, ◌+ℤ◌, ◌*ℤ◌, ◌==◌, List, [], ◌∷◌, map, length, take, drop, if◌then◌else◌}
 use Rattle.gain_mix.specs.Gain.{ins_of}
+use Rattle.std.specs.Int.RustNames.{unsigned_abs}
 use Rattle.std.specs.Int.{int_div_euclid, saturate_to_bits}
 
 -- a sample of 24 bits
@@ -13,6 +14,11 @@ abbrev pub weighted_sum : List ℤ → List ℤ → ℤ
 weighted_sum [] values = pos 0
 weighted_sum (gain ∷ gains) [] = pos 0
 weighted_sum (gain ∷ gains) (value ∷ values) = (gain *ℤ value) +ℤ weighted_sum gains values
+
+-- that sum, which is at most 2 ^ 53 in size
+pub record IsWeighted (gains values : List ℤ) (sum : ℤ) : Type 0 where
+  pub sum_is : sum ≡ weighted_sum gains values
+  pub bounded : unsigned_abs sum ≤ 2 ^ 53
 
 -- the sum over 2 ^ s, rounded to the nearest number, and half a unit up: the floor of (sum + 2 ^ (s - 1)) / 2 ^ s
 abbrev pub rounded_sum : ℕ → ℤ → ℤ
@@ -33,6 +39,11 @@ mixed_sample s values gains = saturated_sum s (rounded_sum s (weighted_sum gains
 -- the output samples of one sampling instant, by the rows of a matrix
 abbrev pub mixed_frame : List (List ℤ) → List ℤ → ℕ → List ℤ
 mixed_frame rows values s = map (mixed_sample s values) rows
+
+-- the first n samples of a frame are mixed
+pub record HasMixed (rows : List (List ℤ)) (values : List ℤ) (s n : ℕ) (samples : List ℤ) : Type 0 where
+  pub count : length samples ≡ length rows
+  pub so_far : take n samples ≡ take n (mixed_frame rows values s)
 
 -- the samples of one sampling instant, out of so many a frame
 abbrev pub frame_at : ℕ → ℕ → List ℤ → List ℤ

@@ -1,6 +1,6 @@
 //! The matrix of gains: one row for each output, one gain in it for each input.
 ghost use Rattle.std.specs.Prelude.{◌≡◌, ◌*◌, ◌<◌, ◌≤◌, length, All, IfSome, IfNone, MatchResult, slice_get};
-ghost use Rattle.gain_mix.specs.Gain.{IsGain, ins_of, rows_of};
+ghost use Rattle.gain_mix.specs.Gain.{IsGain, IsRow, ins_of, rows_of};
 ghost use Rattle.gain_mix.specs.Matrix.{matrix_fault_of, has_shape, has_range};
 
 use std::alloc::Global;
@@ -88,9 +88,8 @@ impl Matrix {
     pub(crate) fn row(&self, output: usize) -> &[i32]
         requires { output < length self.now }
         ensures row { slice_get self.now output ≡ Some result.now }
-        ensures len { length result.now ≡ ins_of self.now }
-        ensures few { length result.now ≤ 1024 }
-        ensures in_range { All IsGain result.now }
+        ensures gains { IsRow (ins_of self.now) result.now }
+        ensures few { ins_of self.now ≤ 1024 }
     {
         let start = output * self.ins;
         &self.gains[start..start + self.ins]
