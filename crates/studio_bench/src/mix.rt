@@ -62,7 +62,7 @@ fn rate_of(
         mix_block(matrix, values, samples, FRAMES, 24);
     }
     let nanos = start.elapsed(clock)?.as_nanos().max(1);
-    Ok(u128::from(BLOCKS) * 48 * 1_000_000_000 / nanos)
+    Ok(u128::from(BLOCKS) * FRAMES as u128 * 1_000_000_000 / nanos)
 }
 
 fn are_24_bits(values: &[i32]) -> bool
