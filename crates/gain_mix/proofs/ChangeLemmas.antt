@@ -4,7 +4,8 @@ use Rattle.std.specs.Int.RustNames.{int_le}
 use Rattle.std.proofs.lemmas.List.{at_drop_more}
 use Rattle.std.proofs.lemmas.List.Elements.{All-head, All-tail}
 use Rattle.gain_mix.specs.Gain.{ins_of}
-use Rattle.gain_mix.specs.Changes.{Changes, last_change, matrix_at, IsChanges}
+use Rattle.gain_mix.specs.Changes.{Changes, last_change, matrix_at}
+use Rattle.gain_mix.specs.Schedule.{IsChanges}
 
 -- one change more
 pub last_change_more : (items : List (ℤ × List (List ℤ))) (i : ℕ) (change : ℤ × List (List ℤ)) (rows : List (List ℤ)) (t : ℤ) → i < length items → change ≡ get_or items i change → last_change rows (drop i items) t ≡ last_change (cond (int_le change.0 t) change.1 rows) (drop (i + 1) items) t

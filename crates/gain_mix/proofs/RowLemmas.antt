@@ -1,11 +1,17 @@
 -- The rows of a list of gains.
-use Rattle.std.proofs.Common.{◌≡◌, ℕ, zero, suc, ◌+◌, ◌*◌, ◌<◌, ◌≤◌, ℤ, List, [], length, take, drop, get_or, arith, refl, sym, ap, subst, ◌∙◌, All, Some}
+use Rattle.std.proofs.Common.{◌≡◌, ℕ, zero, suc, ◌+◌, ◌*◌, ◌<◌, ◌≤◌, ℤ, List, [], length, take, drop, get_or, arith, refl, sym, ap, subst, ◌∙◌, All, Some, None, Bool, true, false, cond, eq-eqb, ◌&&◌}
+use Rattle.std.proofs.Math.Dec.{leb}
 use Rattle.std.specs.List.{slice_get}
 use Rattle.std.proofs.Math.Nat.{mul-le-mul_right}
 use Rattle.std.proofs.lemmas.List.{drop-drop, length-take-le, length-drop}
 use Rattle.std.proofs.lemmas.List.Elements.{All-nil, All-cons}
 use Rattle.std.proofs.lemmas.Option.{slice_get-get_or}
 use Rattle.gain_mix.proofs.SumLemmas.{product_bound}
+use Rattle.std.specs.Int.RustNames.{unsigned_abs}
+use Rattle.std.proofs.lemmas.Bool.{le-leb}
+use Rattle.std.proofs.lemmas.List.Sums.{list_all-from_AllPass}
+use Rattle.gain_mix.specs.declared.matrix.MatrixFault.TheVariants.{Shape, Range}
+use Rattle.gain_mix.specs.Matrix.{matrix_fault_of, has_shape, has_range}
 use Rattle.gain_mix.specs.Gain.{rows_of, ins_of, IsMatrix}
 
 pub length-rows_of : (n m : ℕ) (gs : List ℤ) → length (rows_of n m gs) ≡ m
@@ -31,6 +37,18 @@ pub All-rows_of : (n m : ℕ) (gs : List ℤ) → length gs ≡ m * n → All (�
 All-rows_of n zero gs e = All-nil (λ row. length row ≡ n)
 All-rows_of n (suc m) gs e =
     All-cons (λ row. length row ≡ n) (take n gs) (rows_of n m (drop n gs)) (length-take-le n gs (omega arith)) (All-rows_of n m (drop n gs) (omega (arith, length-drop n gs)))
+
+both : (a b : Bool) → a ≡ true → b ≡ true → (a && b) ≡ true
+both true b p q = q
+both false b p q = p
+
+-- gains that make a matrix have no fault
+pub IsMatrix-no_fault : (m n : ℕ) (gs : List ℤ) → IsMatrix m n gs → matrix_fault_of m n gs ≡ None
+IsMatrix-no_fault m n gs facts =
+    let shape : has_shape m n gs ≡ true = both _ _ (both _ _ (both _ _ (both _ _ (le-leb 1 m facts.some_outs) (le-leb m 8 facts.few_outs)) (le-leb 1 n facts.some_ins)) (le-leb n 1024 facts.few_ins)) (eq-eqb (length gs) (m * n) facts.in_rows) in
+    let range : has_range gs ≡ true = list_all-from_AllPass (λ (g : ℤ). leb (unsigned_abs g) 1048576) gs (λ k d h. le-leb (unsigned_abs (get_or gs k d)) 1048576 (facts.in_range k d h)) in
+    ap (λ (b : Bool). cond b (cond (has_range gs) None (Some Range)) (Some Shape)) shape
+    ∙ ap (λ (b : Bool). cond b None (Some Range)) range
 
 -- what is known of a matrix that is seen as these rows
 module _ (n m : ℕ) (gs : List ℤ) (v : List (List ℤ)) (seen : rows_of n m gs ≡ v) (facts : IsMatrix m n gs) where
@@ -61,3 +79,10 @@ module _ (n m : ℕ) (gs : List ℤ) (v : List (List ℤ)) (seen : rows_of n m g
   pub seen_row : (k : ℕ) (rs : List ℤ) → k < length v → rs ≡ gs → slice_get v k ≡ Some (take n (drop (k * n) rs))
   seen_row k rs h e =
       slice_get-get_or v k [] h ∙ ap Some (ap (λ w. get_or w k []) (sym seen) ∙ get_or-rows_of n m gs k [] (row_bounds k h).2 ∙ ap (λ (w : List ℤ). take n (drop (k * n) w)) (sym e))
+
+  pub seen_no_fault : (rs : List ℤ) → rs ≡ gs → matrix_fault_of (length v) (ins_of v) rs ≡ None
+  seen_no_fault rs e =
+      ap (λ (o : ℕ). matrix_fault_of o (ins_of v) rs) seen_outs
+      ∙ ap (λ (i : ℕ). matrix_fault_of m i rs) seen_ins
+      ∙ ap (λ (g : List ℤ). matrix_fault_of m n g) e
+      ∙ IsMatrix-no_fault m n gs facts

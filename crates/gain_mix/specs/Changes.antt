@@ -1,6 +1,5 @@
 -- A matrix of gains, and the changes of it.
-use Rattle.std.specs.Prelude.{◌≡◌, ℤ, List, [], ◌∷◌, length, int_le, All, if◌then◌else◌}
-use Rattle.gain_mix.specs.Gain.{ins_of}
+use Rattle.std.specs.Prelude.{ℤ, List, [], ◌∷◌, int_le, if◌then◌else◌}
 
 -- the rows before any change, and the rows from each time on
 pub record Changes : Type 0 where
@@ -15,8 +14,3 @@ last_change rows (change ∷ later) t = last_change (if int_le change.0 t then c
 -- the matrix in force at t
 abbrev pub matrix_at : Changes → ℤ → List (List ℤ)
 matrix_at changes t = last_change changes.first changes.later t
-
--- all matrices have one shape
-pub record IsChanges (first : List (List ℤ)) (later : List (ℤ × List (List ℤ))) : Type 0 where
-  pub outs : All (λ change. length change.1 ≡ length first) later
-  pub ins : All (λ change. ins_of change.1 ≡ ins_of first) later

@@ -1,5 +1,5 @@
 -- A schedule of matrices, and when one is refused.
-use Rattle.std.specs.Prelude.{◌^◌, ◌&&◌, not, Bool, true, ℤ, pos, List, [], ◌∷◌, length, Option, Some, None, nat_le, int_lt, ◌==◌, if◌then◌else◌}
+use Rattle.std.specs.Prelude.{◌≡◌, All, ◌^◌, ◌&&◌, not, Bool, true, ℤ, pos, List, [], ◌∷◌, length, Option, Some, None, nat_le, int_lt, ◌==◌, if◌then◌else◌}
 use Rattle.std.specs.List.{list_all}
 use Rattle.gain_mix.specs.Gain.{ins_of}
 use Rattle.gain_mix.specs.declared.schedule.ScheduleFault.{ScheduleFault}
@@ -32,3 +32,9 @@ is_rising (change ∷ later) = rises_from change.0 later
 abbrev pub schedule_fault_of : List (List ℤ) → List (ℤ × List (List ℤ)) → Option ScheduleFault
 schedule_fault_of first later =
     if has_few later then if has_one_shape first later then if has_times later then if is_rising later then None else Some Order else Some Time else Some Shape else Some TooMany
+
+-- changes of matrices that are of one shape, and have no fault
+pub record IsChanges (first : List (List ℤ)) (later : List (ℤ × List (List ℤ))) : Type 0 where
+  pub outs : All (λ change. length change.1 ≡ length first) later
+  pub ins : All (λ change. ins_of change.1 ≡ ins_of first) later
+  pub no_fault : schedule_fault_of first later ≡ None

@@ -80,6 +80,9 @@ impl Matrix {
         ensures by_row { rows_of (ins_of self.now) (length self.now) result.now ≡ self.now }
         ensures len { length result.now ≡ length self.now * ins_of self.now }
         ensures in_range { All IsGain result.now }
+
+        // So a copy of the matrix can be made of them.
+        ensures no_fault { matrix_fault_of (length self.now) (ins_of self.now) result.now ≡ None }
     {
         self.gains.as_slice()
     }

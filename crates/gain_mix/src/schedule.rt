@@ -41,7 +41,8 @@ pub struct Schedule {
 }
 
 impl Model for Schedule {
-    ghost use Rattle.gain_mix.specs.Changes.{Changes, IsChanges};
+    ghost use Rattle.gain_mix.specs.Changes.{Changes};
+    ghost use Rattle.gain_mix.specs.Schedule.{IsChanges};
 
     ghost Value = { Changes };
 
@@ -87,7 +88,10 @@ impl Schedule {
 
     /// The changes, each with its time, in order.
     pub fn later(&self) -> &[(i64, Matrix)]
-        ensures { result.now ≡ self.now.later }
+        ensures changes { result.now ≡ self.now.later }
+
+        // So a copy of the schedule can be made of them.
+        ensures no_fault { schedule_fault_of self.now.first self.now.later ≡ None }
     {
         self.later.as_slice()
     }
