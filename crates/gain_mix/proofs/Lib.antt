@@ -1,0 +1,4 @@
+pub mod SumLemmas
+pub mod RowLemmas
+pub mod FrameLemmas
+pub mod ChangeLemmas

@@ -1,0 +1,11 @@
+use Rattle.std.proofs.Common.{rules, refl}
+use Rattle.gain_mix.proofs.SumLemmas.{mixed_sample-step}
+use Rattle.gain_mix.proofs.FrameLemmas.{HasMixed-more}
+use Rattle.gain_mix.proofs.mix.mix_one.Goals as goal
+
+pub returns : goal.returns
+returns c =
+    let s = c.args.shift in
+    let xs = c.args.ins.now in
+    let sample = mixed_sample-step s c.row.result.now xs c.weigh.result c.round.result (search rules) (search rules) c.weigh.ensures c.round.ensures in
+    HasMixed-more c.args.matrix.now xs s c.args.output _ c.args.outs.now c.row.result.now _ c.requires.before refl c.requires.within c.row.ensures.row sample

@@ -1,0 +1,5 @@
+use Rattle.gain_mix.proofs.SumLemmas.{IsSumTo}
+use Rattle.gain_mix.proofs.mix.weigh.Given as goal
+
+abbrev pub invariant-loop-input : goal.invariant-loop-input
+invariant-loop-input l = IsSumTo l.gains l.values l.input l.sum

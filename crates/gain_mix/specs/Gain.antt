@@ -1,0 +1,31 @@
+-- Gains as they stand in a list, row by row.
+use Rattle.std.specs.Prelude.{◌≡◌, ℕ, zero, suc, ◌*◌, ◌≤◌, ℤ, List, [], ◌∷◌, length, take, drop, All}
+use Rattle.std.specs.Int.RustNames.{unsigned_abs}
+
+-- a gain in units of 1/65,536: at most sixteen times, of either sign
+abbrev pub IsGain : ℤ → Type 0
+IsGain g = unsigned_abs g ≤ 1048576
+
+-- a row of gains, one for each of so many inputs
+pub record IsRow (ins : ℕ) (row : List ℤ) : Type 0 where
+  pub len : length row ≡ ins
+  pub in_range : All IsGain row
+
+-- the rows of so many gains each
+abbrev pub rows_of : ℕ → ℕ → List ℤ → List (List ℤ)
+rows_of ins zero gains = []
+rows_of ins (suc outs) gains = take ins gains ∷ rows_of ins outs (drop ins gains)
+
+-- how many inputs a matrix of these rows has
+abbrev pub ins_of : List (List ℤ) → ℕ
+ins_of [] = 0
+ins_of (row ∷ rows) = length row
+
+-- gains that make a matrix
+pub record IsMatrix (outs ins : ℕ) (gains : List ℤ) : Type 0 where
+  pub some_outs : 1 ≤ outs
+  pub few_outs : outs ≤ 8
+  pub some_ins : 1 ≤ ins
+  pub few_ins : ins ≤ 1024
+  pub in_rows : length gains ≡ outs * ins
+  pub in_range : All IsGain gains

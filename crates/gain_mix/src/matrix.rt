@@ -1,0 +1,125 @@
+//! The matrix of gains: one row for each output, one gain in it for each input.
+ghost use Rattle.std.specs.Prelude.{◌≡◌, ◌*◌, ◌<◌, ◌≤◌, length, All, IfSome, IfNone, MatchResult, slice_get};
+ghost use Rattle.gain_mix.specs.Gain.{IsGain, IsRow, ins_of, rows_of};
+ghost use Rattle.gain_mix.specs.Matrix.{matrix_fault_of, has_shape, has_range};
+
+use std::alloc::Global;
+use std::marker::Model;
+use thiserror::Error;
+
+/// Why gains are no matrix: the first of these, in this order.
+#[derive(Clone, Copy, Debug, PartialEq, Eq, Error)]
+pub enum MatrixFault {
+    /// The outputs are not 1 to 8, the inputs not 1 to 1,024, or the gains not their product.
+    #[error("the matrix has another shape")]
+    Shape,
+    /// A gain is below -1,048,576 or above 1,048,576.
+    #[error("a gain is out of range")]
+    Range,
+    /// The memory for the gains was refused.
+    #[error("the memory was refused")]
+    Memory,
+}
+
+/// Gains in units of 1/65,536, row by row: 1 to 8 outputs of 1 to 1,024 inputs.
+#[derive(Debug, Drop)]
+pub struct Matrix {
+    outs: usize,
+    ins: usize,
+    gains: Vec<i32>,
+}
+
+impl Model for Matrix {
+    ghost use Rattle.std.specs.Prelude.{List, ℤ};
+    ghost use Rattle.gain_mix.specs.Gain.{IsMatrix, rows_of};
+
+    ghost Value = { List (List ℤ) };
+
+    ghost view = { λ m. rows_of m.ins m.outs m.gains.items };
+
+    ghost invariant = { λ m. IsMatrix m.outs m.ins m.gains.items };
+}
+
+impl Matrix {
+    /// Makes the matrix of these gains, which stand row by row.
+    pub fn new(alloc: Global, outs: usize, ins: usize, gains: &[i32]) -> Result<Matrix, MatrixFault>
+        ensures refused { IfSome (matrix_fault_of outs ins gains.now) (λ f. result ≡ Err f) }
+        ensures made { IfNone (matrix_fault_of outs ins gains.now)
+            (MatchResult result (λ m. m ≡ rows_of ins outs gains.now) (λ f. f ≡ MatrixFault.Memory)) }
+    {
+        if let Some(fault) = fault_of(outs, ins, gains) {
+            return Err(fault);
+        }
+        match Vec::from_slice(alloc, gains) {
+            Ok(gains) => Ok(Matrix { outs, ins, gains }),
+            Err(_) => Err(MatrixFault::Memory),
+        }
+    }
+
+    /// How many outputs there are.
+    pub fn outs(&self) -> usize
+        ensures rows { result ≡ length self.now }
+        ensures some { 1 ≤ result }
+        ensures few { result ≤ 8 }
+    {
+        self.outs
+    }
+
+    /// How many inputs there are.
+    pub fn ins(&self) -> usize
+        ensures gains { result ≡ ins_of self.now }
+        ensures in_each_row { All (λ row. length row ≡ result) self.now }
+        ensures some { 1 ≤ result }
+        ensures few { result ≤ 1024 }
+    {
+        self.ins
+    }
+
+    /// The gains, row by row.
+    pub fn gains(&self) -> &[i32]
+        ensures by_row { rows_of (ins_of self.now) (length self.now) result.now ≡ self.now }
+        ensures len { length result.now ≡ length self.now * ins_of self.now }
+        ensures in_range { All IsGain result.now }
+
+        // So a copy of the matrix can be made of them.
+        ensures no_fault { matrix_fault_of (length self.now) (ins_of self.now) result.now ≡ None }
+    {
+        self.gains.as_slice()
+    }
+
+    /// The gains of one output.
+    pub(crate) fn row(&self, output: usize) -> &[i32]
+        requires { output < length self.now }
+        ensures row { slice_get self.now output ≡ Some result.now }
+        ensures gains { IsRow (ins_of self.now) result.now }
+        ensures few { ins_of self.now ≤ 1024 }
+    {
+        let start = output * self.ins;
+        &self.gains[start..start + self.ins]
+    }
+}
+
+/// The first fault of these gains, memory aside.
+fn fault_of(outs: usize, ins: usize, gains: &[i32]) -> Option<MatrixFault>
+    ensures { result ≡ matrix_fault_of outs ins gains.now }
+{
+    if !has_shape(outs, ins, gains) {
+        Some(MatrixFault::Shape)
+    } else if !has_range(gains) {
+        Some(MatrixFault::Range)
+    } else {
+        None
+    }
+}
+
+fn has_shape(outs: usize, ins: usize, gains: &[i32]) -> bool
+    ensures { result ≡ has_shape outs ins gains.now }
+{
+    1 <= outs && outs <= 8 && 1 <= ins && ins <= 1024 && gains.len() == outs * ins
+}
+
+fn has_range(gains: &[i32]) -> bool
+    ensures { result ≡ has_range gains.now }
+{
+    gains.iter().all(|gain| gain.unsigned_abs() <= 1_048_576)
+}

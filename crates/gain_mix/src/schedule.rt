@@ -1,0 +1,200 @@
+//! A matrix of gains that changes at given times.
+ghost use Rattle.std.specs.Prelude.{◌≡◌, ◌≤◌, ◌*◌, ◌^◌, ℤ, ◌⊎◌, pos, ◌+ℤ◌, ◌≤ℤ◌, length, All, IfSome, IfNone, IsOkAnd};
+ghost use Rattle.gain_mix.specs.Gain.{ins_of};
+ghost use Rattle.gain_mix.specs.Changes.{matrix_at};
+ghost use Rattle.gain_mix.specs.Mix.{Is24Bits, IsMixed};
+ghost use Rattle.gain_mix.specs.Schedule.{schedule_fault_of, has_one_shape, has_times, is_rising};
+
+use crate::matrix::Matrix;
+use crate::mix::mix_frame;
+use std::marker::Model;
+use thiserror::Error;
+
+/// The greatest number of changes.
+const CHANGES: usize = 64;
+
+/// The greatest time of a change.
+const LAST_TIME: i64 = 1 << 60;
+
+/// Why changes are no schedule: the first of these, in this order.
+#[derive(Clone, Copy, Debug, PartialEq, Eq, Error)]
+pub enum ScheduleFault {
+    /// There are more than 64 changes.
+    #[error("there are too many changes")]
+    TooMany,
+    /// A matrix has other outputs or inputs than the first.
+    #[error("a matrix has another shape than the first")]
+    Shape,
+    /// A change's time is below 0 or above 2^60.
+    #[error("a time is out of range")]
+    Time,
+    /// A change's time is not later than that of the change before it.
+    #[error("the times do not rise")]
+    Order,
+}
+
+/// A matrix, and those that take its place from a time on.
+#[derive(Debug, Drop)]
+pub struct Schedule {
+    first: Matrix,
+    later: Vec<(i64, Matrix)>,
+}
+
+impl Model for Schedule {
+    ghost use Rattle.gain_mix.specs.Changes.{Changes};
+    ghost use Rattle.gain_mix.specs.Schedule.{IsChanges};
+
+    ghost Value = { Changes };
+
+    ghost view = { λ s. record { first = s.first; later = s.later.items } };
+
+    ghost invariant = { λ s. IsChanges s.first s.later.items };
+}
+
+impl Schedule {
+    /// Makes a schedule of these changes, whose times are sampling instants of the media clock.
+    pub fn new(first: Matrix, later: Vec<(i64, Matrix)>) -> Result<Schedule, ScheduleFault>
+        ensures refused { IfSome (schedule_fault_of first later.items) (λ f. result ≡ Err f) }
+        ensures made { IfNone (schedule_fault_of first later.items)
+            (IsOkAnd result (λ s. s ≡ record { first = first; later = later.items })) }
+    {
+        match fault_of(&first, &later) {
+            Some(fault) => Err(fault),
+            None => Ok(Schedule { first, later }),
+        }
+    }
+
+    /// The matrix in force at a time: that of the last change at or before it, else the first.
+    pub fn at(&self, t: i64) -> &Matrix
+        ensures in_force { result.now ≡ matrix_at self.now t }
+        ensures outs { length result.now ≡ length self.now.first }
+        ensures ins { ins_of result.now ≡ ins_of self.now.first }
+    {
+        let mut matrix = &self.first;
+        for change in &self.later {
+            if change.0 <= t {
+                matrix = &change.1;
+            }
+        }
+        matrix
+    }
+
+    /// The matrix before any change.
+    pub fn first(&self) -> &Matrix
+        ensures { result.now ≡ self.now.first }
+    {
+        &self.first
+    }
+
+    /// The changes, each with its time, in order.
+    pub fn later(&self) -> &[(i64, Matrix)]
+        ensures changes { result.now ≡ self.now.later }
+
+        // So a copy of the schedule can be made of them.
+        ensures no_fault { schedule_fault_of self.now.first self.now.later ≡ None }
+    {
+        self.later.as_slice()
+    }
+
+    /// How many outputs each matrix has.
+    fn outs(&self) -> usize
+        ensures first { result ≡ length self.now.first }
+        ensures each { (t : ℤ) → length (matrix_at self.now t) ≡ result }
+        ensures some { 1 ≤ result }
+    {
+        self.first.outs()
+    }
+
+    /// How many inputs each matrix has.
+    fn ins(&self) -> usize
+        ensures first { result ≡ ins_of self.now.first }
+        ensures each { (t : ℤ) → ins_of (matrix_at self.now t) ≡ result }
+    {
+        self.first.ins()
+    }
+}
+
+/// The first fault of these changes.
+fn fault_of(first: &Matrix, later: &[(i64, Matrix)]) -> Option<ScheduleFault>
+    ensures { result ≡ schedule_fault_of first.now later.now }
+{
+    if CHANGES < later.len() {
+        Some(ScheduleFault::TooMany)
+    } else if !has_one_shape(first, later) {
+        Some(ScheduleFault::Shape)
+    } else if !has_times(later) {
+        Some(ScheduleFault::Time)
+    } else if !is_rising(later) {
+        Some(ScheduleFault::Order)
+    } else {
+        None
+    }
+}
+
+fn has_one_shape(first: &Matrix, later: &[(i64, Matrix)]) -> bool
+    ensures { result ≡ has_one_shape first.now later.now }
+{
+    let outs = first.outs();
+    let ins = first.ins();
+    later
+        .iter()
+        .all(|change| change.1.outs() == outs && change.1.ins() == ins)
+}
+
+fn has_times(later: &[(i64, Matrix)]) -> bool
+    ensures { result ≡ has_times later.now }
+{
+    later
+        .iter()
+        .all(|change| 0 <= change.0 && change.0 <= LAST_TIME)
+}
+
+fn is_rising(later: &[(i64, Matrix)]) -> bool
+    ensures { result ≡ is_rising later.now }
+{
+    let Some((change, rest)) = later.split_first() else {
+        return true;
+    };
+    let mut last = change.0;
+    for next in rest {
+        if next.0 <= last {
+            return false;
+        }
+        last = next.0;
+    }
+    true
+}
+
+/// Mixes the inputs of so many sampling instants from `t` on, each by the matrix in force at it.
+///
+/// The shift is 16 for L24 output and 24 for L16 output.
+pub fn mix_span(
+    schedule: &Schedule,
+    t: i64,
+    ins: &[i32],
+    outs: &mut [i32],
+    frames: usize,
+    shift: u32,
+)
+    requires not_early { pos 0 ≤ℤ t }
+    requires not_late { t ≤ℤ pos (2 ^ 62) }
+    requires ins_len { length ins.now ≡ frames * ins_of schedule.now.first }
+    requires outs_len { length outs.old ≡ frames * length schedule.now.first }
+    requires in_24_bits { All Is24Bits ins.now }
+    requires shift { (shift ≡ 16) ⊎ (shift ≡ 24) }
+    ensures { IsMixed (λ f. matrix_at schedule.now (t +ℤ pos f)) ins.now outs.new frames shift }
+{
+    let width = schedule.ins();
+    let height = schedule.outs();
+    for frame in 0..frames {
+        let matrix = schedule.at(t + frame as i64);
+        let from = frame * width;
+        let to = frame * height;
+        mix_frame(
+            matrix,
+            &ins[from..from + width],
+            &mut outs[to..to + height],
+            shift,
+        );
+    }
+}

@@ -1,0 +1,21 @@
+//! Times the kernels that carry the load, each by its word; without words it writes nothing.
+//!
+//! The scripts in `bench/` build it for a processor, run it beside C and compare.
+#![tactic(auto)]
+
+mod mix;
+
+use anyhow::bail;
+use std::env;
+
+fn main(rt: HostRuntime) -> anyhow::Result<()> {
+    let mut words = env::args(&rt)?;
+    let _program = words.next();
+    let Some(word) = words.next() else {
+        return Ok(());
+    };
+    match word.as_str() {
+        "mix" => mix::time_shapes(&rt, rt.alloc()),
+        _ => bail!("no kernel has this name"),
+    }
+}
