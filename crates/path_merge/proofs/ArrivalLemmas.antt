@@ -1,9 +1,9 @@
 -- One more arrival.
-use Rattle.std.proofs.Common.{◌≡◌, ℕ, ◌+◌, ◌^◌, ◌<◌, ◌≤◌, Bool, true, false, ◌&&◌, List, [], ◌∷◌, ◌++◌, length, Option, Some, None, ℤ, refl, sym, ap, ◌∙◌, arith, append-nil, if◌then◌else◌}
+use Rattle.std.proofs.Common.{◌≡◌, ℕ, ◌^◌, ◌<◌, ◌≤◌, Bool, true, false, ◌&&◌, List, [], ◌∷◌, ◌++◌, length, Option, Some, None, ℤ, refl, sym, ap, ◌∙◌, arith, append-nil, if◌then◌else◌}
 use Rattle.std.specs.Prelude.{nat_eq}
 use Rattle.std.specs.FinMap.{get}
 use Rattle.std.proofs.lemmas.Bool.Decides.{nat_tests}
-use Rattle.path_merge.proofs.HistoryLemmas.{anchor_of-push, copies_of-push, events_events_until_close-open, is_closed-append, is_well_timed_from-append, marks_in, marks_in-push, marks_of-in, time_of-append}
+use Rattle.path_merge.proofs.HistoryLemmas.{anchor_of-push, copies_of-push, events_until_close-open, is_closed-append, is_well_timed_from-append, marks_in, marks_in-push, marks_of-in, time_of-append}
 use Rattle.path_merge.proofs.MarksLemmas.{AllFrom, limit_at, limit_of, marks_in-more}
 use Rattle.path_merge.proofs.StepLemmas.{take_all}
 use Rattle.path_merge.specs.Anchor.{anchor_of, next_number}
@@ -76,7 +76,7 @@ stands_after_arrival stream open_at some m new events k path packet at open_yet 
       counts = step.counts ∙ rw (same, all) refl;
       given = rw same at.given;
       all_given = λ _. at.all_given shut ∙ ap length (sym same);
-      before_close = rw (events_events_until_close-open (events ++ Arrive path packet ∷ []) (is_closed-append events (Arrive path packet ∷ []) ∙ rw shut), same) (omega (arith, at.all_given shut));
+      before_close = rw (events_until_close-open (events ++ Arrive path packet ∷ []) (is_closed-append events (Arrive path packet ∷ []) ∙ rw shut), same) (omega (arith, at.all_given shut));
       base = rw (same, all) step.base;
       held = λ n. step.held n ∙ rw (same, all, copies_of-push stream open_at events (Arrive path packet));
       quiet = step.quiet ∙ at.quiet ∙ rw same;

@@ -1,11 +1,10 @@
 -- The start of a merge, its close, and what is left then.
-use Rattle.std.proofs.Common.{◌≡◌, ℕ, zero, suc, ◌+◌, ◌-◌, ◌^◌, ◌<◌, ◌≤◌, min, Bool, true, false, ◌&&◌, List, [], ◌∷◌, ◌++◌, length, take, drop, Option, Some, None, ℤ, pos, ◌-ℤ◌, ◌≤ℤ◌, refl, sym, ap, subst, ◌∙◌, arith, append-nil, length-append, if◌then◌else◌}
-use Rattle.std.specs.Prelude.{nat_eq}
+use Rattle.std.proofs.Common.{◌≡◌, ℕ, ◌^◌, ◌≤◌, Bool, true, false, List, [], ◌∷◌, ◌++◌, length, take, None, ℤ, pos, ◌-ℤ◌, ◌≤ℤ◌, refl, sym, ap, ◌∙◌, arith, length-append, if◌then◌else◌}
 use Rattle.std.specs.Ordering.{nat_cmp}
-use Rattle.std.specs.FinMap.{FinMap, get}
+use Rattle.std.specs.FinMap.{FinMap}
 use Rattle.std.proofs.lemmas.List.{take-append-le}
 use Rattle.std.proofs.lemmas.Int.{ints}
-use Rattle.path_merge.proofs.HistoryLemmas.{anchor_of-close, copies_of-close, events_events_until_close-close, events_events_until_close-closed, fates_of-close, is_closed-append, is_well_timed_from-append, marks_in, marks_in-none, marks_in-push, marks_of-in, time_of-append}
+use Rattle.path_merge.proofs.HistoryLemmas.{anchor_of-close, copies_of-close, events_until_close-close, events_until_close-closed, fates_of-close, is_closed-append, is_well_timed_from-append, marks_in, marks_in-none, marks_in-push, marks_of-in, time_of-append}
 use Rattle.path_merge.specs.Anchor.{anchor_of}
 use Rattle.path_merge.specs.Copies.{copies_of}
 use Rattle.path_merge.specs.Counts.{fates_of, tally_of_fates}
@@ -90,8 +89,8 @@ module _ (stream : Stream) (open_at : ℤ) where
       }
     where
       by_test : (b : Bool) → is_closed events ≡ b → length (marks_of stream open_at (events_until_close (events ++ Close ∷ []))) ≤ k
-      by_test true is = rw (events_events_until_close-closed events (Close ∷ []) is) at.before_close
-      by_test false is = rw (events_events_until_close-close events [] is) (omega (arith, at.all_given is))
+      by_test true is = rw (events_until_close-closed events (Close ∷ []) is) at.before_close
+      by_test false is = rw (events_until_close-close events [] is) (omega (arith, at.all_given is))
 
 -- a new merge is sound
 pub sound_start : (stream : Stream) (open_at time' media quiet : ℤ) (base size : ℕ) (h : FinMap nat_cmp Packet) (counts : Tally) → IsStream stream → pos 0 ≤ℤ open_at → open_at ≤ℤ pos (2 ^ 60) → time' ≡ open_at → IsEmpty h → size ≡ stream.window → counts ≡ empty_tally → IsSound (record { spec = stream; time = time'; anchor = None; base = base; size = size; held = h; quiet = quiet; counts = counts; closed = false; ended = false }) media

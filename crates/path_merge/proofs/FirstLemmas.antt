@@ -1,5 +1,5 @@
 -- The first arrival that anchors a stream.
-use Rattle.std.proofs.Common.{◌≡◌, ℕ, zero, suc, ◌+◌, ◌-◌, ◌*◌, ◌^◌, ◌<◌, ◌≤◌, Bool, true, false, not, ◌&&◌, List, [], ◌∷◌, ◌++◌, Option, Some, None, IsSome, ℤ, pos, ◌+ℤ◌, ◌-ℤ◌, ◌≤ℤ◌, ◌<ℤ◌, refl, sym, ap, subst, ◌∙◌, arith, append-nil, if◌then◌else◌, ◌*ℤ◌}
+use Rattle.std.proofs.Common.{◌≡◌, ℕ, ◌+◌, ◌-◌, ◌*◌, ◌^◌, ◌<◌, ◌≤◌, Bool, true, false, not, ◌&&◌, List, [], ◌∷◌, ◌++◌, Option, Some, None, IsSome, ℤ, pos, ◌+ℤ◌, ◌-ℤ◌, ◌<ℤ◌, refl, sym, ap, subst, ◌∙◌, arith, if◌then◌else◌, ◌*ℤ◌}
 use Rattle.std.specs.Prelude.{int_lt, int_le, nat_lt, nat_le}
 use Rattle.std.specs.Prelude.{nat_eq, unsigned_abs}
 use Rattle.std.proofs.lemmas.Bool.Decides.{nat_tests}
@@ -134,7 +134,7 @@ module _ (stream : Stream) (open_at : ℤ) (m : MergeState) (media : ℤ) (s : I
   slotless n = not_slot n (marks_of stream open_at events) (AllSlotsBelow-raise 0 n (marks_of stream open_at events) (omega arith) none_slotted)
 
   pub fate_first : (new : MergeState) (fate : Fate) → IsFirstStep stream m new path packet fate → fate ≡ fate_of stream open_at events packet
-  fate_first new fate step = step.fate_is ∙ sym (fate_heard stream open_at m media s open_yet events k at room packet ∙ ap (λ o. counted_fate stream m.time o (copies_of stream open_at events) packet) unanchored)
+  fate_first new answer step = step.fate_is ∙ sym (fate_heard stream open_at m media s open_yet events k at room packet ∙ ap (λ o. counted_fate stream m.time o (copies_of stream open_at events) packet) unanchored)
 
   -- the anchor after it
   anchor_after : anchor_of stream open_at (events ++ Arrive path packet ∷ []) ≡ (if can_anchor stream m.time packet then Some (anchor_from stream m.time packet) else None)
@@ -155,7 +155,7 @@ module _ (stream : Stream) (open_at : ℤ) (m : MergeState) (media : ℤ) (s : I
       by_test false e = refl
 
   taken_is : (new : MergeState) (fate : Fate) → IsFirstStep stream m new path packet fate → is_taken_fate fate ≡ can_anchor stream m.time packet
-  taken_is new fate step = ap is_taken_fate step.fate_is ∙ taken-can_anchor stream m.time packet
+  taken_is new answer step = ap is_taken_fate step.fate_is ∙ taken-can_anchor stream m.time packet
 
   base_after : (new : MergeState) (fate : Fate) → IsFirstStep stream m new path packet fate → IsBaseOf new.anchor new.base (marks_of stream open_at events)
   base_after new fate step = subst (λ o. IsBaseOf o new.base (marks_of stream open_at events)) (sym step.anchor) (by_test (is_taken_fate fate) refl)

@@ -1,6 +1,5 @@
 -- What one more event at the end of a history changes.
-use Rattle.std.proofs.Common.{◌≡◌, ℕ, ◌+◌, ◌^◌, Bool, true, false, not, ◌&&◌, List, [], ◌∷◌, ◌++◌, Option, Some, None, ℤ, pos, refl, sym, ap, subst, ◌∙◌, arith, append_assoc, append-nil, if◌then◌else◌}
-use Rattle.std.specs.Prelude.{int_le}
+use Rattle.std.proofs.Common.{◌≡◌, ℕ, ◌+◌, Bool, true, false, ◌&&◌, List, [], ◌∷◌, ◌++◌, Option, Some, None, ℤ, refl, sym, ap, subst, ◌∙◌, arith, append_assoc, append-nil, if◌then◌else◌}
 use Rattle.path_merge.specs.Anchor.{anchor_of, anchors_at, first_of}
 use Rattle.path_merge.specs.Copies.{copies_at, copies_of}
 use Rattle.path_merge.specs.Counts.{fates_at, fates_of}
@@ -45,23 +44,23 @@ arrival_count-append (Tick u ∷ before) after = arrival_count-append before aft
 arrival_count-append (Close ∷ before) after = arrival_count-append before after
 
 -- what stands before the close
-pub events_events_until_close-open : (events : List Event) → is_closed events ≡ false → events_until_close events ≡ events
-events_events_until_close-open [] o = refl
-events_events_until_close-open (Arrive path packet ∷ events) o = ap (λ l. Arrive path packet ∷ l) (events_events_until_close-open events o)
-events_events_until_close-open (Tick u ∷ events) o = ap (λ l. Tick u ∷ l) (events_events_until_close-open events o)
-events_events_until_close-open (Close ∷ events) o = cc
+pub events_until_close-open : (events : List Event) → is_closed events ≡ false → events_until_close events ≡ events
+events_until_close-open [] o = refl
+events_until_close-open (Arrive path packet ∷ events) o = ap (λ l. Arrive path packet ∷ l) (events_until_close-open events o)
+events_until_close-open (Tick u ∷ events) o = ap (λ l. Tick u ∷ l) (events_until_close-open events o)
+events_until_close-open (Close ∷ events) o = cc
 
-pub events_events_until_close-closed : (events more : List Event) → is_closed events ≡ true → events_until_close (events ++ more) ≡ events_until_close events
-events_events_until_close-closed [] more c = cc
-events_events_until_close-closed (Arrive path packet ∷ events) more c = ap (λ l. Arrive path packet ∷ l) (events_events_until_close-closed events more c)
-events_events_until_close-closed (Tick u ∷ events) more c = ap (λ l. Tick u ∷ l) (events_events_until_close-closed events more c)
-events_events_until_close-closed (Close ∷ events) more c = refl
+pub events_until_close-closed : (events more : List Event) → is_closed events ≡ true → events_until_close (events ++ more) ≡ events_until_close events
+events_until_close-closed [] more c = cc
+events_until_close-closed (Arrive path packet ∷ events) more c = ap (λ l. Arrive path packet ∷ l) (events_until_close-closed events more c)
+events_until_close-closed (Tick u ∷ events) more c = ap (λ l. Tick u ∷ l) (events_until_close-closed events more c)
+events_until_close-closed (Close ∷ events) more c = refl
 
-pub events_events_until_close-close : (events more : List Event) → is_closed events ≡ false → events_until_close (events ++ Close ∷ more) ≡ events
-events_events_until_close-close [] more o = refl
-events_events_until_close-close (Arrive path packet ∷ events) more o = ap (λ l. Arrive path packet ∷ l) (events_events_until_close-close events more o)
-events_events_until_close-close (Tick u ∷ events) more o = ap (λ l. Tick u ∷ l) (events_events_until_close-close events more o)
-events_events_until_close-close (Close ∷ events) more o = cc
+pub events_until_close-close : (events more : List Event) → is_closed events ≡ false → events_until_close (events ++ Close ∷ more) ≡ events
+events_until_close-close [] more o = refl
+events_until_close-close (Arrive path packet ∷ events) more o = ap (λ l. Arrive path packet ∷ l) (events_until_close-close events more o)
+events_until_close-close (Tick u ∷ events) more o = ap (λ l. Tick u ∷ l) (events_until_close-close events more o)
+events_until_close-close (Close ∷ events) more o = cc
 
 or_false : (b : Bool) → (if b then true else false) ≡ b
 or_false false = refl

@@ -1,7 +1,7 @@
 -- A tick to a deadline on the way to a later tick changes nothing.
-use Rattle.std.proofs.Common.{◌≡◌, ℕ, suc, ◌-◌, ◌^◌, ◌<◌, min, true, false, List, [], ◌∷◌, ◌++◌, length, Some, ℤ, pos, ◌≤ℤ◌, refl, sym, ap, ◌∙◌, arith, append_assoc, ◌||◌, Bool}
+use Rattle.std.proofs.Common.{◌≡◌, ℕ, suc, ◌-◌, ◌^◌, ◌<◌, true, false, List, [], ◌∷◌, ◌++◌, length, Some, ℤ, pos, ◌≤ℤ◌, refl, sym, ap, ◌∙◌, arith, append_assoc, ◌||◌, Bool}
 use Rattle.std.proofs.lemmas.Int.{ints}
-use Rattle.path_merge.proofs.HistoryLemmas.{anchor_of-tick, copies_of-tick, events_events_until_close-open, fates_of-tick, is_closed-append, time_of-append}
+use Rattle.path_merge.proofs.HistoryLemmas.{anchor_of-tick, copies_of-tick, events_until_close-open, fates_of-tick, is_closed-append, time_of-append}
 use Rattle.path_merge.proofs.MarksLemmas.{IsTickAt, tick_well_timed}
 use Rattle.path_merge.proofs.NextLemmas.{next_number-rises}
 use Rattle.path_merge.proofs.StepLemmas.{marks_of-tick}
@@ -47,7 +47,7 @@ stands_alike stream open_at m e f k same at = record {
   ended = rw (← same.marks) at.ended;
 }
 
-has_slot-append : (xs : List MarkView) (mark : MarkView) (ys : List MarkView) → is_slot mark.kind ≡ true → has_slot (xs ++ mark ∷ ys) ≡ true
+pub has_slot-append : (xs : List MarkView) (mark : MarkView) (ys : List MarkView) → is_slot mark.kind ≡ true → has_slot (xs ++ mark ∷ ys) ≡ true
 has_slot-append [] mark ys e = rw e refl
 has_slot-append (x ∷ xs) mark ys e = rw (has_slot-append xs mark ys e) (or_true (is_slot x.kind))
   where
@@ -56,7 +56,7 @@ has_slot-append (x ∷ xs) mark ys e = rw (has_slot-append xs mark ys e) (or_tru
     or_true false = refl
 
 -- no Quiet after a slot
-slots_or_quiet-slotted : (stream : Stream) (open_at : ℤ) (given : List MarkView) (u : ℤ) (marks : List MarkView) → has_slot given ≡ true → slots_or_quiet stream open_at given u marks ≡ marks
+pub slots_or_quiet-slotted : (stream : Stream) (open_at : ℤ) (given : List MarkView) (u : ℤ) (marks : List MarkView) → has_slot given ≡ true → slots_or_quiet stream open_at given u marks ≡ marks
 slots_or_quiet-slotted stream open_at given u [] slotted = rw slotted
 slots_or_quiet-slotted stream open_at given u (mark ∷ marks) slotted = refl
 
@@ -100,5 +100,5 @@ module _ (stream : Stream) (open_at : ℤ) (some : 0 < stream.frames) (events : 
     anchor = anchor_of-tick stream open_at (events ++ Tick u ∷ []) v ∙ anchor_of-tick stream open_at events u ∙ sym (anchor_of-tick stream open_at events v);
     copies = copies_of-tick stream open_at (events ++ Tick u ∷ []) v ∙ copies_of-tick stream open_at events u ∙ sym (copies_of-tick stream open_at events v);
     marks = joined_marks;
-    before_close = rw (events_events_until_close-open ((events ++ Tick u ∷ []) ++ Tick v ∷ []) (is_closed-append (events ++ Tick u ∷ []) (Tick v ∷ []) ∙ rw open_u), events_events_until_close-open (events ++ Tick v ∷ []) (is_closed-append events (Tick v ∷ []) ∙ rw tick.open_yet)) joined_marks;
+    before_close = rw (events_until_close-open ((events ++ Tick u ∷ []) ++ Tick v ∷ []) (is_closed-append (events ++ Tick u ∷ []) (Tick v ∷ []) ∙ rw open_u), events_until_close-open (events ++ Tick v ∷ []) (is_closed-append events (Tick v ∷ []) ∙ rw tick.open_yet)) joined_marks;
   }

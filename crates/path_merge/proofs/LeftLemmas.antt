@@ -1,17 +1,12 @@
 -- What is left after a close, and what a drain takes of it.
-use Rattle.std.proofs.Common.{◌≡◌, ℕ, zero, suc, ◌+◌, ◌-◌, ◌*◌, ◌^◌, ◌<◌, ◌≤◌, min, max, Bool, true, false, ◌&&◌, ◌||◌, List, [], ◌∷◌, ◌++◌, length, take, drop, Option, Some, None, IsSome, ℤ, pos, ◌+ℤ◌, ◌-ℤ◌, ◌≤ℤ◌, ◌<ℤ◌, refl, sym, ap, subst, ◌∙◌, arith, append-nil, length-append, ⊎_elim, if◌then◌else◌}
-use Rattle.std.specs.Prelude.{nat_eq, option_to_list, neg_ℤ}
-use Rattle.std.specs.Ordering.{nat_cmp}
-use Rattle.std.specs.FinMap.{FinMap, get}
+use Rattle.std.proofs.Common.{◌≡◌, ℕ, zero, suc, ◌+◌, ◌-◌, ◌<◌, ◌≤◌, max, Bool, true, false, ◌||◌, List, [], ◌∷◌, ◌++◌, length, take, drop, Option, Some, None, IsSome, ℤ, pos, ◌-ℤ◌, refl, sym, ap, subst, ◌∙◌, arith, append-nil, length-append, ⊎_elim, if◌then◌else◌}
+use Rattle.std.specs.Prelude.{nat_eq}
+use Rattle.std.specs.FinMap.{get}
 use Rattle.std.proofs.lemmas.Bool.Decides.{nat_tests}
 use Rattle.std.proofs.lemmas.Bool.{cases_lt}
-use Rattle.std.proofs.lemmas.Nat.{mul-le}
-use Rattle.std.proofs.Math.Nat.{add-mul}
-use Rattle.std.proofs.lemmas.Int.{ints}
 use Rattle.std.proofs.Math.Seq.{take-append-add, drop-append-add}
-use borrow.Author.Differences.{up}
 use Rattle.path_merge.proofs.CloseLemmas.{marks_of-close}
-use Rattle.path_merge.proofs.HistoryLemmas.{anchor_of-close, anchor_of-push, by_last_event, copies_of-close, copies_of-push, events_events_until_close-close, events_events_until_close-closed, is_closed-append, marks_in, marks_in-push, marks_of-in, time_of-append}
+use Rattle.path_merge.proofs.HistoryLemmas.{anchor_of-close, anchor_of-push, by_last_event, copies_of-close, copies_of-push, events_until_close-close, events_until_close-closed, is_closed-append, marks_in, marks_in-push, marks_of-in, time_of-append}
 use Rattle.path_merge.proofs.MarksLemmas.{AllSlotsBelow, AllSlotsBelow-append, AllSlotsBelow-raise, slots_below, well_timed_before, well_timed_tick}
 use Rattle.path_merge.proofs.SlotCountLemmas.{no_end_yet, slots_counted}
 use Rattle.path_merge.proofs.StepLemmas.{base_more, has_end-append, has_slot_numbered-append, last_quiet-append, not_slot, or_none, slot_count-append, without}
@@ -125,7 +120,7 @@ module _ (stream : Stream) (open_at : ℤ) where
           let no_anchor : anchor_of stream open_at (events ++ Arrive path packet ∷ []) ≡ anchor_of stream open_at events = anchor_of-push stream open_at events (Arrive path packet) ∙ keep (anchor_of stream open_at events) (first_of (anchors_at stream open_at events (Arrive path packet))) (rw deaf refl) in
           let no_mark : marks_of stream open_at (events ++ Arrive path packet ∷ []) ≡ marks_of stream open_at events =
           marks_of-in stream open_at (events ++ Arrive path packet ∷ []) ∙ ap (λ c. marks_in stream open_at c (events ++ Arrive path packet ∷ [])) no_copy ∙ marks_in-push stream open_at (copies_of stream open_at events) events (Arrive path packet) ∙ append-nil _ ∙ sym (marks_of-in stream open_at events) in
-          rw (events_events_until_close-closed events (Arrive path packet ∷ []) was) (record {
+          rw (events_until_close-closed events (Arrive path packet ∷ []) was) (record {
             well_timed = b.well_timed;
             open_yet = b.open_yet;
             time = time_of-append open_at events (Arrive path packet ∷ []) ∙ b.time;
@@ -136,7 +131,7 @@ module _ (stream : Stream) (open_at : ℤ) where
       step events Close before well_timed shut = by_test (is_closed events) refl
         where
           by_test : (c : Bool) → is_closed events ≡ c → IsClosedAt stream open_at (events ++ Close ∷ []) (events_until_close (events ++ Close ∷ []))
-          by_test false is = rw (events_events_until_close-close events [] is) (record {
+          by_test false is = rw (events_until_close-close events [] is) (record {
             well_timed = well_timed_before open_at events Close well_timed;
             open_yet = is;
             time = time_of-append open_at events (Close ∷ []);
@@ -146,7 +141,7 @@ module _ (stream : Stream) (open_at : ℤ) where
           })
           by_test true is =
               let b = before (well_timed_before open_at events Close well_timed) is in
-              rw (events_events_until_close-closed events (Close ∷ []) is) (record {
+              rw (events_until_close-closed events (Close ∷ []) is) (record {
                 well_timed = b.well_timed;
                 open_yet = b.open_yet;
                 time = time_of-append open_at events (Close ∷ []) ∙ b.time;

@@ -19,3 +19,6 @@ pub mod ArrivalLemmas
 pub mod OfferLemmas
 pub mod FirstLemmas
 pub mod RunLemmas
+pub mod LawLemmas
+pub mod ShapeLemmas
+pub mod GainLemmas

@@ -3,7 +3,6 @@ use Rattle.std.proofs.Common.{◌≡◌, ℕ, zero, suc, ◌+◌, ◌-◌, ◌^�
 use Rattle.std.specs.Prelude.{int_le, nat_eq}
 use Rattle.std.proofs.lemmas.Bool.Decides.{nat_tests}
 use Rattle.std.proofs.lemmas.Int.{ints}
-use borrow.Author.Differences.{up}
 use Rattle.path_merge.proofs.HistoryLemmas.{anchor_of-close, anchor_of-push, anchor_of-tick, by_last_event, is_closed-append, is_well_timed_from-append, marks_in, marks_in-none, marks_in-push, time_of-append}
 use Rattle.path_merge.proofs.NextLemmas.{next_number-rises}
 use Rattle.path_merge.specs.Anchor.{anchor_of, next_number}

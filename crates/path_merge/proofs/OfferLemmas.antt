@@ -1,6 +1,6 @@
 -- Arrivals, over the values that contracts see.
-use Rattle.std.proofs.Common.{◌≡◌, ℕ, zero, suc, ◌+◌, ◌-◌, ◌*◌, ◌^◌, ◌<◌, ◌≤◌, min, Bool, true, false, not, ◌&&◌, List, [], ◌∷◌, ◌++◌, length, take, Option, Some, None, IsSome, ℤ, pos, ◌+ℤ◌, ◌-ℤ◌, ◌≤ℤ◌, ◌<ℤ◌, refl, sym, ap, subst, ◌∙◌, arith, append-nil, ⊎_elim, if◌then◌else◌, length-append}
-use Rattle.std.specs.Prelude.{nat_eq, nat_lt, nat_le, int_lt, int_le}
+use Rattle.std.proofs.Common.{◌≡◌, ℕ, ◌+◌, ◌-◌, ◌*◌, ◌^◌, ◌<◌, ◌≤◌, min, Bool, true, false, not, ◌&&◌, List, [], ◌∷◌, ◌++◌, length, take, Option, Some, None, IsSome, ℤ, pos, ◌+ℤ◌, ◌-ℤ◌, ◌≤ℤ◌, refl, sym, ap, subst, ◌∙◌, arith, append-nil, ⊎_elim, if◌then◌else◌, length-append}
+use Rattle.std.specs.Prelude.{nat_eq, nat_lt, nat_le, int_le}
 use Rattle.std.specs.Ordering.{nat_cmp}
 use Rattle.std.specs.FinMap.{FinMap, get}
 use Rattle.std.proofs.lemmas.Bool.Decides.{nat_tests}
@@ -12,7 +12,7 @@ use Rattle.std.specs.Prelude.{◌*ℤ◌, neg_ℤ}
 use Rattle.std.specs.Prelude.{bytes_eq}
 use Rattle.path_merge.proofs.ArrivalLemmas.{marks_of-arrive, stands_after_arrival}
 use Rattle.path_merge.proofs.HeldLemmas.{FateCounts, held_count-from, held_count-put, with_fate-counts}
-use Rattle.path_merge.proofs.HistoryLemmas.{anchor_of-push, arrival_count-append, by_last_event, copies_of-push, events_events_until_close-closed, events_events_until_close-open, fates_of-push, fates_of-tick, is_closed-append, is_well_timed_from-append, marks_in, marks_in-push, marks_of-in, time_of-append}
+use Rattle.path_merge.proofs.HistoryLemmas.{anchor_of-push, arrival_count-append, by_last_event, copies_of-push, events_until_close-closed, events_until_close-open, fates_of-push, fates_of-tick, is_closed-append, is_well_timed_from-append, marks_in, marks_in-push, marks_of-in, time_of-append}
 use Rattle.path_merge.proofs.LeftLemmas.{deaf_copies, keep}
 use Rattle.path_merge.proofs.MarksLemmas.{AllSlotsBelow, AllSlotsBelow-raise, limit_of, slots_below}
 use Rattle.path_merge.proofs.SoundLemmas.{anchored_at, anchored_back}
@@ -113,8 +113,8 @@ module _ (stream : Stream) (open_at : ℤ) (m : MergeState) (events : List Event
   }
     where
       by_test : (b : Bool) → is_closed events ≡ b → length (marks_of stream open_at (events_until_close (events ++ Arrive path packet ∷ []))) ≤ k
-      by_test true is = rw (events_events_until_close-closed events (Arrive path packet ∷ []) is) at.before_close
-      by_test false is = rw (events_events_until_close-open (events ++ Arrive path packet ∷ []) (shut_as ∙ is), deaf_marks) (omega (arith, at.all_given is))
+      by_test true is = rw (events_until_close-closed events (Arrive path packet ∷ []) is) at.before_close
+      by_test false is = rw (events_until_close-open (events ++ Arrive path packet ∷ []) (shut_as ∙ is), deaf_marks) (omega (arith, at.all_given is))
 
 -- the fate of an anchored stream's arrival, by its parts
 fate_parts : (a b l h : Bool) (other : Fate) → (if not a then WrongSource else if not b then OffGrid else if l then Late else if not h then Ahead else other) ≡ fault_or (if not a then Some WrongSource else if not b then Some OffGrid else if l then Some Late else if not h then Some Ahead else None) other
@@ -504,7 +504,7 @@ module _ (stream : Stream) (open_at : ℤ) (m : MergeState) (media : ℤ) (s : I
             ∙ ap (λ l. if has_slot_numbered n (marks_of stream open_at events) then None else first_with n (copies_of stream open_at events ++ l)) (sym one)
 
     pub fate_next : (new : MergeState) (fate : Fate) → IsNextStep stream m new a path packet fate → fate ≡ fate_of stream open_at events packet
-    fate_next new fate step =
+    fate_next new answer step =
         step.fate_is ∙ by_fault (place_fault_of stream a m.base packet) refl
         ∙ sym (fate_heard room packet ∙ ap (λ o. counted_fate stream m.time o (copies_of stream open_at events) packet) is_a ∙ ap (λ n. next_fate stream a n (copies_of stream open_at events) packet) (sym next_is)
         ∙ fate_parts (nat_eq packet.ssrc a.source) (is_on_grid stream a (extended_number packet m.base) packet.ts) (nat_lt (extended_number packet m.base) m.base) (nat_lt (extended_number packet m.base) (m.base + stream.window)) (fate_of_put (put_answer (first_copy stream open_at events (extended_number packet m.base)) packet)))

@@ -1,14 +1,13 @@
 -- From one history to the next.
-use Rattle.std.proofs.Common.{◌≡◌, ℕ, zero, suc, ◌+◌, ◌-◌, ◌^◌, ◌<◌, ◌≤◌, min, Bool, true, false, not, ◌&&◌, ◌||◌, List, [], ◌∷◌, ◌++◌, length, take, Option, Some, None, ℤ, pos, ◌-ℤ◌, ◌≤ℤ◌, ◌<ℤ◌, refl, sym, ap, subst, ◌∙◌, arith, append-nil, length-append, if◌then◌else◌}
+use Rattle.std.proofs.Common.{◌≡◌, ℕ, zero, suc, ◌+◌, ◌-◌, ◌^◌, ◌<◌, ◌≤◌, Bool, true, false, not, ◌&&◌, ◌||◌, List, [], ◌∷◌, ◌++◌, length, take, Option, Some, None, ℤ, pos, ◌-ℤ◌, ◌≤ℤ◌, ◌<ℤ◌, refl, sym, ap, subst, ◌∙◌, arith, append-nil, length-append, if◌then◌else◌}
 use Rattle.std.specs.Prelude.{int_lt, nat_eq}
 use Rattle.std.specs.FinMap.{get}
 use Rattle.std.proofs.lemmas.Bool.Decides.{nat_tests}
 use Rattle.std.proofs.lemmas.Int.{ints, by_lt_z}
 use Rattle.std.specs.Prelude.{option_to_list}
-use Rattle.path_merge.proofs.HistoryLemmas.{anchor_of-tick, copies_of-tick, events_events_until_close-open, fates_of-tick, is_closed-append, marks_in, marks_in-none, marks_in-push, marks_of-in, time_of-append}
+use Rattle.path_merge.proofs.HistoryLemmas.{anchor_of-tick, copies_of-tick, events_until_close-open, fates_of-tick, is_closed-append, marks_in, marks_in-none, marks_in-push, marks_of-in, time_of-append}
 use Rattle.path_merge.proofs.MarksLemmas.{AllSlotsBelow, IsSlotBelow, IsTickAt, by_open_event, limit_of, slots_below, tick_well_timed}
 use Rattle.path_merge.proofs.NextLemmas.{due_before_next, next_number-at_deadline}
-use Rattle.path_merge.proofs.SoundLemmas.{from_first}
 use Rattle.path_merge.proofs.TallyLemmas.{tally-quiet, tally-slot}
 use Rattle.path_merge.specs.Anchor.{anchor_of, deadline_of, next_number}
 use Rattle.path_merge.specs.Copies.{copies_of, first_copy}
@@ -133,7 +132,7 @@ module _ (stream : Stream) (open_at : ℤ) (m : MergeState) (events : List Event
         counts = step.counts ∙ ap (λ t. with_body t (body_of (get m.held m.base))) (at.counts ∙ ap (counts_of stream open_at events) all_taken) ∙ sym (tally-slot (fates_of stream open_at events) (marks_of stream open_at events) (slot_mark stream a m.base (body_of (get m.held m.base))) (body_of (get m.held m.base)) refl refl) ∙ rw (all, fates_of-tick stream open_at events (deadline_of stream a m.base)) refl;
         given = omega (arith, len);
         all_given = λ _. len;
-        before_close = rw (events_events_until_close-open (events ++ Tick (deadline_of stream a m.base) ∷ []) (is_closed-append events (Tick (deadline_of stream a m.base) ∷ []) ∙ rw not_closed)) (omega (arith, len));
+        before_close = rw (events_until_close-open (events ++ Tick (deadline_of stream a m.base) ∷ []) (is_closed-append events (Tick (deadline_of stream a m.base) ∷ []) ∙ rw not_closed)) (omega (arith, len));
         base = rw (all, step.anchor, anchored)
             (let before : m.base ≡ a.number + slot_count (marks_of stream open_at events) = rw (anchored, all_taken) at at.base in
             omega (arith, step.base, slot_count-append (marks_of stream open_at events) (slot_mark stream a m.base (body_of (get m.held m.base)) ∷ [])));
@@ -278,7 +277,7 @@ module _ (stream : Stream) (open_at : ℤ) (m : MergeState) (events : List Event
         counts = at.counts ∙ ap (counts_of stream open_at events) taken_all ∙ sym (tally-quiet (fates_of stream open_at events) (marks_of stream open_at events) stream c (now -ℤ pos stream.latency)) ∙ rw (all, fates_of-tick stream open_at events now) refl;
         given = omega (arith, len);
         all_given = λ _. len;
-        before_close = rw (events_events_until_close-open (events ++ Tick now ∷ []) (is_closed-append events (Tick now ∷ []) ∙ rw closed_not)) (omega (arith, len));
+        before_close = rw (events_until_close-open (events ++ Tick now ∷ []) (is_closed-append events (Tick now ∷ []) ∙ rw closed_not)) (omega (arith, len));
         base = rw all (base_more m.anchor m.base (marks_of stream open_at events) (option_to_list (if c then Some (quiet_mark stream (now -ℤ pos stream.latency)) else None)) (slotless_in stream c (now -ℤ pos stream.latency)) (rw taken_all at at.base));
         held = λ n. at.held n ∙ rw (taken_all, all, copies_of-tick stream open_at events now, has_slot_numbered-append n (marks_of stream open_at events) (option_to_list (if c then Some (quiet_mark stream (now -ℤ pos stream.latency)) else None)), slotless_is stream c (now -ℤ pos stream.latency) n, or_none);
         quiet = ap (λ q. if c then now -ℤ pos stream.latency else q) quiet_is ∙ sym (rw (all, last_quiet-append (open_at -ℤ pos stream.latency) (marks_of stream open_at events) (option_to_list (if c then Some (quiet_mark stream (now -ℤ pos stream.latency)) else None)), quiet_after stream c (now -ℤ pos stream.latency) (last_quiet (open_at -ℤ pos stream.latency) (marks_of stream open_at events))) refl);

@@ -1,5 +1,5 @@
 -- Numbers of arrivals by fate and path, and of slots by body.
-use Rattle.std.specs.Prelude.{◌≡◌, ℕ, zero, suc, ◌+◌, ◌≤◌, List, [], ◌∷◌, sum}
+use Rattle.std.specs.Prelude.{ℕ, zero, suc, ◌+◌, List, [], ◌∷◌}
 use Rattle.path_merge.specs.declared.fate.Fate.{Fate}
 use Rattle.path_merge.specs.declared.fate.Fate.TheVariants.{Closed, CountersFull, WrongSource, OffGrid, Late, Ahead, Taken, Double, Unlike}
 use Rattle.path_merge.specs.declared.mark.Body.{Body}

@@ -16,3 +16,4 @@ pub mod MergeState
 pub mod Merge
 pub mod Steps
 pub mod Runs
+pub mod Laws

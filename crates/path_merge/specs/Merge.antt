@@ -4,7 +4,6 @@ use Rattle.std.specs.FinMap.{get}
 use Rattle.path_merge.specs.StreamSpecFacts.{Stream}
 use Rattle.path_merge.specs.MarkFacts.{MarkView}
 use Rattle.path_merge.specs.declared.anchor.Anchor.{Anchor}
-use Rattle.path_merge.specs.declared.mark.Body.{Body}
 use Rattle.path_merge.specs.declared.mark.MarkKind.{MarkKind}
 use Rattle.path_merge.specs.declared.mark.MarkKind.TheVariants.{Slot, Quiet, End}
 use Rattle.path_merge.specs.declared.event.Event.{Event}

@@ -1,5 +1,5 @@
 -- What contracts see of a merge, and what is true of every one.
-use Rattle.std.specs.Prelude.{◌≡◌, ℕ, zero, suc, ◌+◌, ◌*◌, ◌^◌, ◌<◌, ◌≤◌, Bool, false, ℤ, pos, ◌≤ℤ◌, neg_ℤ, Option, Some, None, IsSome, is_some, if◌then◌else◌}
+use Rattle.std.specs.Prelude.{◌≡◌, ℕ, zero, suc, ◌+◌, ◌^◌, ◌<◌, ◌≤◌, Bool, false, ℤ, pos, ◌≤ℤ◌, neg_ℤ, Option, Some, None, IsSome, is_some, if◌then◌else◌}
 use Rattle.std.specs.Ordering.{nat_cmp}
 use Rattle.std.specs.FinMap.{FinMap, get}
 use Rattle.path_merge.specs.StreamSpecFacts.{Stream, IsStream}

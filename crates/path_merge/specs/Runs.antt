@@ -1,9 +1,8 @@
 -- A run of a merge over a whole list of events.
-use Rattle.std.specs.Prelude.{◌≡◌, ◌<◌, ◌+◌, ◌-◌, ℕ, Bool, List, length, ℤ, Option, Some, None, if◌then◌else◌}
+use Rattle.std.specs.Prelude.{◌≡◌, ◌<◌, List, length, ℤ, Some, None}
 use Rattle.path_merge.specs.StreamSpecFacts.{Stream}
 use Rattle.path_merge.specs.StreamSpec.{Fits}
 use Rattle.path_merge.specs.MarkFacts.{MarkView}
-use Rattle.path_merge.specs.declared.anchor.Anchor.{Anchor}
 use Rattle.path_merge.specs.declared.event.Event.{Event}
 use Rattle.path_merge.specs.declared.event.Event.TheVariants.{Arrive, Tick, Close}
 use Rattle.path_merge.specs.declared.history.RunFault.{RunFault}

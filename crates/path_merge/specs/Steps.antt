@@ -7,7 +7,6 @@ use Rattle.path_merge.specs.declared.anchor.Anchor.{Anchor}
 use Rattle.path_merge.specs.declared.packet.Packet.{Packet}
 use Rattle.path_merge.specs.declared.fate.Fate.{Fate}
 use Rattle.path_merge.specs.declared.fate.Fate.TheVariants.{WrongSource, OffGrid, Late, Ahead}
-use Rattle.path_merge.specs.declared.mark.MarkKind.TheVariants.{Slot, Quiet, End}
 use Rattle.path_merge.specs.declared.event.Event.{Event}
 use Rattle.path_merge.specs.declared.event.Event.TheVariants.{Arrive, Tick}
 use Rattle.path_merge.specs.declared.merge.ClockFault.{ClockFault}

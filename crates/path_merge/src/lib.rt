@@ -6,6 +6,7 @@ mod counts;
 mod event;
 mod fate;
 mod history;
+mod laws;
 mod mark;
 mod merge;
 mod nearest;
@@ -18,6 +19,10 @@ pub use counts::Counts;
 pub use event::Event;
 pub use fate::Fate;
 pub use history::{RunFault, run_merge};
+pub use laws::{
+    arrivals_change_no_mark, each_number_is_handed_on_once, marks_are_a_mark_list,
+    merges_stand_at_their_histories, next_number_is_the_least_due, ticks_may_be_split_and_repeated,
+};
 pub use mark::{Body, Format, Mark, MarkKind};
 pub use merge::{ClockFault, Merge};
 pub use nearest::{near16, near32};

@@ -1,4 +1,4 @@
-use Rattle.std.proofs.Common.{◌≡◌, [], ◌∷◌, ◌++◌, None, Some, arith, append-nil, sym, subst, ap, ◌∙◌, w64, true, false}
+use Rattle.std.proofs.Common.{◌≡◌, [], ◌∷◌, ◌++◌, None, Some, arith, append-nil, sym, subst, ◌∙◌, w64, true, false}
 use Rattle.std.proofs.lemmas.Int.{ints, to_z-of_z}
 use Rattle.path_merge.specs.declared.event.Event.TheVariants.{Tick}
 use Rattle.path_merge.specs.Marks.{is_slot}

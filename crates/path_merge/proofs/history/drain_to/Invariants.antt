@@ -1,4 +1,4 @@
-use Rattle.std.proofs.Common.{◌≡◌, ℕ, List, ℤ, true, take}
+use Rattle.std.proofs.Common.{◌≡◌, ℕ, List, ℤ, take}
 use Rattle.path_merge.specs.StreamSpecFacts.{Stream}
 use Rattle.path_merge.specs.declared.event.Event.{Event}
 use Rattle.path_merge.specs.Marks.{marks_of}

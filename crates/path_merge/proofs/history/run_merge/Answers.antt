@@ -1,6 +1,5 @@
-use Rattle.std.proofs.Common.{◌≡◌, true, false, Result, Ok, Err, OnOk, sym, ◌∙◌, w64, ap}
+use Rattle.std.proofs.Common.{false, Result, Ok, Err, OnOk, sym, ◌∙◌, w64}
 use Rattle.std.proofs.lemmas.Int.{to_z-of_z}
-use Rattle.path_merge.specs.History.{is_well_timed}
 use Rattle.path_merge.proofs.RunLemmas.{no_fault-well_timed}
 use Rattle.path_merge.proofs.history.run_merge.Goals as goal
 

@@ -1,4 +1,4 @@
-use Rattle.std.proofs.Common.{[], ◌∷◌, ◌++◌, List, length, sym, subst}
+use Rattle.std.proofs.Common.{[], ◌∷◌, ◌++◌, length, sym, subst}
 use Rattle.path_merge.specs.declared.event.Event.{Event}
 use Rattle.path_merge.specs.declared.event.Event.TheVariants.{Close}
 use Rattle.path_merge.specs.declared.packet.Packet.{Packet}

@@ -1,6 +1,6 @@
-use Rattle.std.proofs.Common.{◌≡◌, ℕ, ℤ, ◌^◌, ◌≤ℤ◌, ◌<ℤ◌, ◌-ℤ◌, ◌+ℤ◌, ◌*ℤ◌, ◌+◌, ◌-◌, ◌*◌, ◌<◌, ◌≤◌, pos, true, false, not, Some, None, to_z, of_z, w16, w64, Fits, FitsSigned, rules, arith, ap, sym, subst, refl, ◌∙◌}
+use Rattle.std.proofs.Common.{◌≡◌, ◌-ℤ◌, ◌+ℤ◌, ◌*ℤ◌, pos, true, false, to_z, of_z, w64, FitsSigned, arith, ap, sym, refl, ◌∙◌}
 use Rattle.std.proofs.lemmas.Int.{ints}
-use Rattle.std.specs.Prelude.{nat_eq, nat_lt}
+use Rattle.std.specs.Prelude.{nat_eq}
 use Rattle.std.proofs.lemmas.Bool.Decides.{nat_tests}
 use Rattle.path_merge.specs.Anchor.{media_time_of}
 use Rattle.path_merge.proofs.OfferLemmas.{product_small, shifted, place_is}

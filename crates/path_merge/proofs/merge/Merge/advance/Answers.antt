@@ -1,8 +1,8 @@
-use Rattle.std.proofs.Common.{◌≡◌, ℕ, ℤ, ◌^◌, ◌≤ℤ◌, ◌<ℤ◌, ◌-ℤ◌, ◌+ℤ◌, ◌*ℤ◌, ◌+◌, ◌-◌, ◌<◌, ◌≤◌, pos, true, false, not, Some, None, to_z, of_z, w16, w64, Fits, FitsSigned, rules, arith, ap, sym, subst, refl, ◌∙◌}
+use Rattle.std.proofs.Common.{◌≡◌, ◌^◌, ◌≤ℤ◌, ◌<ℤ◌, pos, true, false, Some, None, to_z, of_z, w64, FitsSigned, rules, arith, ap, sym, subst, ◌∙◌}
 use Rattle.std.proofs.lemmas.Int.{ints}
 use Rattle.path_merge.specs.Anchor.{deadline_of}
 use Rattle.path_merge.specs.MergeState.{MergeState, IsSound}
-use Rattle.path_merge.specs.Steps.{IsTimeStep, IsBeforeDeadline, Moves}
+use Rattle.path_merge.specs.Steps.{IsTimeStep, IsBeforeDeadline}
 use Rattle.path_merge.proofs.SoundLemmas.{due_times}
 use Rattle.path_merge.proofs.AdvanceLemmas.{advance_slot, advance_time, no_slot_of, moves_time}
 use Rattle.path_merge.proofs.merge.Merge.advance.Goals as goal

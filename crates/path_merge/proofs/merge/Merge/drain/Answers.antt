@@ -1,5 +1,4 @@
-use Rattle.std.proofs.Common.{◌≡◌, ℕ, ℤ, ◌^◌, ◌≤ℤ◌, ◌<ℤ◌, ◌-ℤ◌, ◌+ℤ◌, ◌*ℤ◌, ◌+◌, ◌-◌, ◌*◌, ◌<◌, ◌≤◌, pos, true, false, not, Some, None, to_z, of_z, w16, w64, Fits, FitsSigned, rules, arith, ap, sym, subst, refl, ◌∙◌}
-use Rattle.std.proofs.lemmas.Int.{ints}
+use Rattle.std.proofs.Common.{◌≡◌, ◌-◌, true, false, arith, ap, sym, subst, ◌∙◌}
 use Rattle.path_merge.specs.MergeState.{MergeState, IsSound}
 use Rattle.path_merge.specs.Steps.{HoldsMore}
 use Rattle.path_merge.proofs.SoundLemmas.{held_anchored}

@@ -1,10 +1,8 @@
-use Rattle.std.proofs.Common.{◌≡◌, ℕ, ℤ, ◌^◌, ◌≤ℤ◌, ◌<ℤ◌, ◌-ℤ◌, ◌+ℤ◌, ◌*ℤ◌, ◌+◌, ◌-◌, ◌<◌, ◌≤◌, pos, true, false, not, Some, None, to_z, of_z, w16, w64, Fits, FitsSigned, rules, arith, ap, sym, subst, refl, ◌∙◌}
+use Rattle.std.proofs.Common.{◌≡◌, ℕ, ℤ, arith, ap, refl, ◌∙◌}
 use Rattle.std.proofs.lemmas.Int.{ints}
 use Rattle.path_merge.specs.declared.mark.Body.{Body}
 use Rattle.path_merge.specs.declared.mark.MarkKind.TheVariants.{Slot}
-use Rattle.path_merge.specs.declared.anchor.Anchor.{Anchor}
-use Rattle.path_merge.specs.MarkFacts.{MarkView, HasLength, payload_length}
-use Rattle.path_merge.specs.Marks.{body_of}
+use Rattle.path_merge.specs.MarkFacts.{MarkView}
 use Rattle.path_merge.specs.MergeState.{MergeState}
 use Rattle.path_merge.proofs.SoundLemmas.{anchored_at, base_small, room_for_got, few_lost, base_fits, due_times, sound_slot_is}
 use Rattle.path_merge.proofs.merge.Merge.give_due_slot.Goals as goal

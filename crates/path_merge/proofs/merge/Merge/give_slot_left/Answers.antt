@@ -1,12 +1,8 @@
-use Rattle.std.proofs.Common.{◌≡◌, ℕ, ℤ, ◌^◌, ◌≤ℤ◌, ◌<ℤ◌, ◌-ℤ◌, ◌+ℤ◌, ◌*ℤ◌, ◌+◌, ◌-◌, ◌<◌, ◌≤◌, pos, true, false, not, Some, None, to_z, of_z, w16, w64, Fits, FitsSigned, rules, arith, ap, sym, subst, refl, ◌∙◌}
+use Rattle.std.proofs.Common.{arith, ap, sym, subst, refl, ◌∙◌}
 use Rattle.std.proofs.lemmas.Int.{ints}
-use Rattle.path_merge.specs.declared.mark.Body.{Body}
-use Rattle.path_merge.specs.declared.mark.MarkKind.TheVariants.{Slot}
-use Rattle.path_merge.specs.declared.anchor.Anchor.{Anchor}
-use Rattle.path_merge.specs.MarkFacts.{MarkView}
 use Rattle.path_merge.specs.MergeState.{MergeState}
 use Rattle.path_merge.specs.Steps.{HoldsMore}
-use Rattle.path_merge.proofs.SoundLemmas.{anchored_at, base_small, room_for_got, few_lost, base_fits, media_small, sound_left_is}
+use Rattle.path_merge.proofs.SoundLemmas.{base_small, room_for_got, few_lost, base_fits, media_small, sound_left_is}
 use Rattle.path_merge.proofs.merge.Merge.give_slot_left.Goals as goal
 
 pub overflow_add-self : goal.overflow_add-self

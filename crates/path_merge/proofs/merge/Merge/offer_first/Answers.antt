@@ -1,9 +1,9 @@
-use Rattle.std.proofs.Common.{◌≡◌, ℕ, ℤ, ◌^◌, ◌≤ℤ◌, ◌<ℤ◌, ◌-ℤ◌, ◌+ℤ◌, ◌*ℤ◌, ◌+◌, ◌-◌, ◌*◌, ◌<◌, ◌≤◌, pos, true, false, not, Some, None, to_z, of_z, w64, FitsSigned, rules, arith, ap, sym, subst, refl, ◌∙◌}
+use Rattle.std.proofs.Common.{◌≡◌, ℤ, ◌^◌, ◌+◌, ◌<◌, true, false, to_z, of_z, w64, FitsSigned, rules, arith, ap, sym, subst, refl, ◌∙◌}
 use Rattle.std.proofs.lemmas.Int.{ints}
 use Rattle.path_merge.specs.declared.anchor.Anchor.{Anchor}
 use Rattle.path_merge.specs.declared.packet.Packet.{Packet}
 use Rattle.path_merge.specs.StreamSpec.{Fits}
-use Rattle.path_merge.specs.MergeState.{MergeState, IsSound}
+use Rattle.path_merge.specs.MergeState.{MergeState}
 use Rattle.path_merge.specs.Anchor.{anchor_from, base_media_time, can_anchor}
 use Rattle.path_merge.specs.Counts.{is_taken_fate}
 use Rattle.path_merge.specs.Fate.{first_fate}

@@ -1,4 +1,4 @@
-use Rattle.std.proofs.Common.{◌≡◌, ℕ, ℤ, ◌^◌, ◌≤ℤ◌, ◌<ℤ◌, ◌-ℤ◌, ◌+ℤ◌, ◌*ℤ◌, ◌+◌, ◌-◌, ◌*◌, ◌<◌, ◌≤◌, pos, true, false, not, Some, None, to_z, of_z, w16, w64, FitsSigned, rules, arith, ap, sym, subst, refl, ◌∙◌}
+use Rattle.std.proofs.Common.{◌≡◌, ◌^◌, ◌<◌, Some, None, arith, ap, sym, subst, ◌∙◌}
 use Rattle.std.proofs.lemmas.Int.{ints}
 use Rattle.path_merge.specs.MergeState.{MergeState}
 use Rattle.path_merge.specs.StreamSpec.{Fits}
@@ -6,7 +6,7 @@ use Rattle.path_merge.specs.Steps.{place_fault_of}
 use Rattle.path_merge.specs.Copies.{extended_number}
 use Rattle.path_merge.specs.CountsFacts.{with_fate}
 use Rattle.path_merge.specs.Counts.{tally_of}
-use Rattle.path_merge.proofs.SoundLemmas.{due_times, base_small, anchored_at}
+use Rattle.path_merge.proofs.SoundLemmas.{due_times, base_small}
 use Rattle.path_merge.proofs.OfferLemmas.{next_step_fault, next_step_put, in_window, sound_put, fault_untaken}
 use Rattle.path_merge.proofs.FirstLemmas.{sound_refused}
 use Rattle.path_merge.proofs.merge.Merge.offer_next.Goals as goal

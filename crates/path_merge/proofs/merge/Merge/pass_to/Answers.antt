@@ -1,7 +1,6 @@
-use Rattle.std.proofs.Common.{◌≡◌, to_z, of_z, ◌-ℤ◌, pos, FitsSigned, w64, rules, arith, ap, refl, ◌∙◌}
+use Rattle.std.proofs.Common.{to_z, of_z, ◌-ℤ◌, pos, FitsSigned, w64, rules, arith, ap, ◌∙◌}
 use Rattle.std.proofs.lemmas.Int.{ints}
 use Rattle.path_merge.specs.MergeState.{MergeState}
-use Rattle.path_merge.specs.Marks.{quiet_mark}
 use Rattle.path_merge.proofs.SoundLemmas.{quiet_due_is, sound_time_is, time_step_gives, time_step_none}
 use Rattle.path_merge.proofs.merge.Merge.pass_to.Goals as goal
 

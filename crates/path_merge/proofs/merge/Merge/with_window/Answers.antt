@@ -1,6 +1,6 @@
 use Rattle.std.proofs.Common.{arith}
 use Rattle.std.proofs.lemmas.Int.{ints}
-use Rattle.path_merge.proofs.CloseLemmas.{stands_at_start, sound_start}
+use Rattle.path_merge.proofs.CloseLemmas.{stands_at_start}
 use Rattle.path_merge.proofs.merge.Merge.with_window.Goals as goal
 
 pub returns-clause-stands : goal.returns-clause-stands

@@ -1,0 +1,15 @@
+use Rattle.path_merge.proofs.GainLemmas.{close_gives, slots_told, tick_gives}
+use Rattle.path_merge.proofs.ShapeLemmas.{spanned}
+use Rattle.path_merge.proofs.laws.each_number_is_handed_on_once.Goals as goal
+
+pub returns-clause-span : goal.returns-clause-span
+returns-clause-span c stream opening events some well_timed = (spanned stream opening events some well_timed).span
+
+pub returns-clause-by_tick : goal.returns-clause-by_tick
+returns-clause-by_tick c stream opening u events open_yet = tick_gives stream opening events u open_yet
+
+pub returns-clause-by_close : goal.returns-clause-by_close
+returns-clause-by_close c stream opening events open_yet = close_gives stream opening events open_yet
+
+pub returns-clause-counted : goal.returns-clause-counted
+returns-clause-counted c stream opening events given = slots_told given

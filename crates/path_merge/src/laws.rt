@@ -1,0 +1,96 @@
+//! What the definitions promise together. Nothing is computed here: the clauses are the laws.
+ghost use Rattle.std.specs.Prelude.{◌≡◌, ℕ, ◌+◌, ◌<◌, ◌≤◌, ℤ, ◌≤ℤ◌, List, [], ◌∷◌, ◌++◌, length, take, true, false};
+ghost use Rattle.path_merge.specs.StreamSpecFacts.{Stream, format_of};
+ghost use Rattle.path_merge.specs.MarkFacts.{MarkView};
+ghost use Rattle.path_merge.specs.MarkList.{is_mark_list};
+ghost use Rattle.path_merge.specs.MergeState.{MergeState};
+ghost use Rattle.path_merge.specs.declared.anchor.Anchor.{Anchor};
+ghost use Rattle.path_merge.specs.declared.packet.Packet.{Packet};
+ghost use Rattle.path_merge.specs.declared.event.Event.{Event};
+ghost use Rattle.path_merge.specs.declared.event.Event.TheVariants.{Arrive, Tick, Close};
+ghost use Rattle.path_merge.specs.History.{time_of, is_closed, is_well_timed};
+ghost use Rattle.path_merge.specs.Anchor.{anchor_of, deadline_of, next_number};
+ghost use Rattle.path_merge.specs.Copies.{copies_of};
+ghost use Rattle.path_merge.specs.Marks.{marks_of};
+ghost use Rattle.path_merge.specs.Counts.{counts_of};
+ghost use Rattle.path_merge.specs.Merge.{HasHistory};
+ghost use Rattle.path_merge.specs.Steps.{IsAlike};
+ghost use Rattle.path_merge.specs.Laws.{AllOfFirstEpoch, HasSpan, IsDeadlineOnTheWay, IsLeastDue, IsOpen, slot_numbers, slots_left, slots_reached};
+
+/// The numbers of the slots are exactly the span, rising, each once: each with the media time of its
+/// number, and with the payload of the earliest copy that came in time, on whichever path, or as lost.
+/// A slot is given by the first tick that reaches its deadline, or else by the close; and each one
+/// given is counted once, as got or as lost.
+pub fn each_number_is_handed_on_once()
+    ensures span { (stream : Stream) (opening : ℤ) (events : List Event) →
+        0 < stream.frames → is_well_timed opening events ≡ true →
+        HasSpan stream opening events (anchor_of stream opening events) }
+    ensures by_tick { (stream : Stream) (opening u : ℤ) (events : List Event) → is_closed events ≡ false →
+        slot_numbers (marks_of stream opening (events ++ Tick u ∷ []))
+        ≡ slot_numbers (marks_of stream opening events)
+        ++ slots_reached stream (anchor_of stream opening events) (time_of opening events) u }
+    ensures by_close { (stream : Stream) (opening : ℤ) (events : List Event) → is_closed events ≡ false →
+        slot_numbers (marks_of stream opening (events ++ Close ∷ []))
+        ≡ slot_numbers (marks_of stream opening events)
+        ++ slots_left stream (anchor_of stream opening events) (time_of opening events)
+        (copies_of stream opening events) }
+    ensures counted { (stream : Stream) (opening : ℤ) (events : List Event) (given : List MarkView) →
+        (counts_of stream opening events given).got + (counts_of stream opening events given).lost
+        ≡ length (slot_numbers given) }
+{}
+
+/// The number due next is the least, from the anchor's on, whose deadline is still to come; it never
+/// falls.
+pub fn next_number_is_the_least_due()
+    ensures least { (stream : Stream) (anchor : Anchor) (time : ℤ) →
+        0 < stream.frames → IsLeastDue stream anchor time }
+    ensures rising { (stream : Stream) (anchor : Anchor) (from to : ℤ) → 0 < stream.frames → from ≤ℤ to →
+        next_number stream anchor from ≤ next_number stream anchor to }
+{}
+
+/// A tick at a deadline on the way to u, and then the tick to u, are as the tick to u alone; and a tick
+/// at the current time changes nothing.
+pub fn ticks_may_be_split_and_repeated()
+    ensures split { (stream : Stream) (opening : ℤ) (events : List Event) (anchor : Anchor) (n : ℕ) (u : ℤ) →
+        0 < stream.frames → IsOpen opening events → IsDeadlineOnTheWay stream opening events anchor n u →
+        IsAlike stream opening ((events ++ Tick (deadline_of stream anchor n) ∷ []) ++ Tick u ∷ [])
+        (events ++ Tick u ∷ []) }
+    ensures repeated { (stream : Stream) (opening : ℤ) (events : List Event) →
+        0 < stream.frames → IsOpen opening events →
+        IsAlike stream opening (events ++ Tick (time_of opening events) ∷ []) events }
+{}
+
+/// An arrival adds no mark and changes none; and no later event changes a mark that was given.
+pub fn arrivals_change_no_mark()
+    ensures arrival { (stream : Stream) (opening : ℤ) (events : List Event) (path : ℕ) (packet : Packet) →
+        0 < stream.frames → is_well_timed opening events ≡ true →
+        marks_of stream opening (events ++ Arrive path packet ∷ []) ≡ marks_of stream opening events }
+    ensures later { (stream : Stream) (opening : ℤ) (events more : List Event) →
+        0 < stream.frames → is_well_timed opening (events ++ more) ≡ true →
+        take (length (marks_of stream opening events)) (marks_of stream opening (events ++ more))
+        ≡ marks_of stream opening events }
+{}
+
+/// The marks of every history, and each first part of them, are a mark list of the first epoch.
+pub fn marks_are_a_mark_list()
+    ensures whole { (stream : Stream) (opening : ℤ) (events : List Event) →
+        0 < stream.frames → is_well_timed opening events ≡ true →
+        is_mark_list (format_of stream) (marks_of stream opening events) ≡ true }
+    ensures parts { (stream : Stream) (opening : ℤ) (events : List Event) (k : ℕ) →
+        0 < stream.frames → is_well_timed opening events ≡ true →
+        is_mark_list (format_of stream) (take k (marks_of stream opening events)) ≡ true }
+    ensures epochs { (stream : Stream) (opening : ℤ) (events : List Event) →
+        0 < stream.frames → is_well_timed opening events ≡ true →
+        AllOfFirstEpoch (marks_of stream opening events) }
+{}
+
+/// While a merge is open, all marks of its history were given; and a merge that has one of two
+/// histories that are alike has the other.
+pub fn merges_stand_at_their_histories()
+    ensures all_given { (stream : Stream) (opening : ℤ) (merge : MergeState) (events : List Event) (k : ℕ) →
+        HasHistory stream opening merge events k → is_closed events ≡ false →
+        k ≡ length (marks_of stream opening events) }
+    ensures alike { (stream : Stream) (opening : ℤ) (merge : MergeState) (events others : List Event) (k : ℕ) →
+        IsAlike stream opening events others → HasHistory stream opening merge events k →
+        HasHistory stream opening merge others k }
+{}
