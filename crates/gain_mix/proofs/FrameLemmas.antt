@@ -6,7 +6,7 @@ use Rattle.std.specs.List.{slice_get}
 use Rattle.std.proofs.lemmas.Slice.{take-put_mid_below, take-put_mid}
 use borrow.Rule.Slice.PartMut.{put_mid}
 use Rattle.gain_mix.specs.Gain.{ins_of}
-use Rattle.gain_mix.specs.Mix.{frame_at, mixed_frame, mixed_sample, IsMixed, HasMixed}
+use Rattle.gain_mix.specs.Mix.{frame_at, mixed_frame, output_sample, IsMixed, HasMixed}
 use Rattle.gain_mix.proofs.RowLemmas.{row_end}
 
 -- a write of frame i leaves the frames before it
@@ -30,16 +30,16 @@ IsMixed-more matrix values samples ys n i k m s height before h l e =
     let Mixed : ℕ → Type 0 = λ f. frame_at (length (matrix f)) f (put_mid (i * m) k samples ys) ≡ mixed_frame (matrix f) (frame_at (ins_of (matrix f)) f values) s in
     let r = row_end i n m h in
     let within : i * m ≤ length samples = omega arith in
-    let long : length ys ≡ m = ap length e ∙ length-map (matrix i) (mixed_sample s (frame_at (ins_of (matrix i)) i values)) ∙ height i in
+    let long : length ys ≡ m = ap length e ∙ length-map (matrix i) (output_sample s (frame_at (ins_of (matrix i)) i values)) ∙ height i in
     let at : (f : ℕ) (zs : List ℤ) → frame_at (length (matrix f)) f zs ≡ frame_at m f zs = λ f zs. ap (λ (w : ℕ). frame_at w f zs) (height f) in
     below_more Mixed i
     (λ f g. at f (put_mid (i * m) k samples ys) ∙ frame_before m i f k samples ys g within ∙ sym (at f samples) ∙ before f g)
     (at i (put_mid (i * m) k samples ys) ∙ frame_written m i k samples ys within long ∙ e)
 
 -- one sample more of a frame is mixed
-pub HasMixed-more : (rows : List (List ℤ)) (values : List ℤ) (s i j : ℕ) (samples row : List ℤ) (y : ℤ) → HasMixed rows values s i samples → j ≡ i + 1 → i < length rows → slice_get rows i ≡ Some row → y ≡ mixed_sample s values row → HasMixed rows values s j (set samples i y)
+pub HasMixed-more : (rows : List (List ℤ)) (values : List ℤ) (s i j : ℕ) (samples row : List ℤ) (y : ℤ) → HasMixed rows values s i samples → j ≡ i + 1 → i < length rows → slice_get rows i ≡ Some row → y ≡ output_sample s values row → HasMixed rows values s j (set samples i y)
 HasMixed-more rows values s i j samples row y before next h at is =
-    let f = mixed_sample s values in
+    let f = output_sample s values in
     let mixed = mixed_frame rows values s in
     let count = before.count in
     let in_samples : i < length samples = omega arith in
@@ -56,5 +56,5 @@ HasMixed-more rows values s i j samples row y before next h at is =
 pub HasMixed-whole : (rows : List (List ℤ)) (values : List ℤ) (s n : ℕ) (samples : List ℤ) → HasMixed rows values s n samples → length samples ≤ n → samples ≡ mixed_frame rows values s
 HasMixed-whole rows values s n samples m h =
     let count = m.count in
-    let long : length (mixed_frame rows values s) ≡ length rows = length-map rows (mixed_sample s values) in
+    let long : length (mixed_frame rows values s) ≡ length rows = length-map rows (output_sample s values) in
     sym (take_all n samples h) ∙ m.so_far ∙ take_all n (mixed_frame rows values s) (omega arith)

@@ -6,7 +6,7 @@ use Rattle.std.proofs.lemmas.List.{take_all}
 use Rattle.std.proofs.Math.Nat.{mul-le-mul_left, mul-le-mul_right}
 use Rattle.std.proofs.lemmas.List.Elements.{All-get_or}
 use Rattle.gain_mix.specs.Gain.{IsGain, IsRow}
-use Rattle.gain_mix.specs.Mix.{Is24Bits, IsWeighted, weighted_sum, rounded_sum, saturated_sum, mixed_sample}
+use Rattle.gain_mix.specs.Mix.{Is24Bits, IsWeighted, weighted_sum, rounded_sum, saturated_sum, output_sample}
 
 weighted_sum_suc : (gs xs : List ℤ) (i : ℕ) → i < length gs → i < length xs → weighted_sum (take (suc i) gs) (take (suc i) xs) ≡ weighted_sum (take i gs) (take i xs) +ℤ (get_or gs i (pos 0) *ℤ get_or xs i (pos 0))
 weighted_sum_suc [] xs i h k = absurd (omega arith)
@@ -73,7 +73,7 @@ IsSumTo-whole gs xs sum row few s =
     }
 
 -- the output sample of a sum, where the numbers are those of the code
-pub mixed_sample-step : (s : ℕ) (gains values : List ℤ) (sum r : ℤ) → FitsSigned w64 sum → FitsSigned w32 r → IsWeighted gains values sum → r ≡ saturated_sum s (rounded_sum s (to_z w64 (of_z w64 sum))) → to_z w32 (of_z w32 r) ≡ mixed_sample s values gains
-mixed_sample-step s gains values sum r sum_fits fits weighted e =
+pub output_sample-step : (s : ℕ) (gains values : List ℤ) (sum r : ℤ) → FitsSigned w64 sum → FitsSigned w32 r → IsWeighted gains values sum → r ≡ saturated_sum s (rounded_sum s (to_z w64 (of_z w64 sum))) → to_z w32 (of_z w32 r) ≡ output_sample s values gains
+output_sample-step s gains values sum r sum_fits fits weighted e =
     to_z-of_z w32 r fits ∙ e
     ∙ ap (λ (z : ℤ). saturated_sum s (rounded_sum s z)) (to_z-of_z w64 sum sum_fits ∙ weighted.sum_is)

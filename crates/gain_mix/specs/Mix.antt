@@ -33,12 +33,12 @@ abbrev pub saturated_sum : ℕ → ℤ → ℤ
 saturated_sum s sum = saturate_to_bits (output_bits s) sum
 
 -- an output sample of these gains and inputs
-abbrev pub mixed_sample : ℕ → List ℤ → List ℤ → ℤ
-mixed_sample s values gains = saturated_sum s (rounded_sum s (weighted_sum gains values))
+abbrev pub output_sample : ℕ → List ℤ → List ℤ → ℤ
+output_sample s values gains = saturated_sum s (rounded_sum s (weighted_sum gains values))
 
 -- the output samples of one sampling instant, by the rows of a matrix
 abbrev pub mixed_frame : List (List ℤ) → List ℤ → ℕ → List ℤ
-mixed_frame rows values s = map (mixed_sample s values) rows
+mixed_frame rows values s = map (output_sample s values) rows
 
 -- the first n samples of a frame are mixed
 pub record HasMixed (rows : List (List ℤ)) (values : List ℤ) (s n : ℕ) (samples : List ℤ) : Type 0 where

@@ -1,0 +1,114 @@
+-- What a lane's calls do to what it was fed.
+use Rattle.std.proofs.Common.{◌≡◌, ◌+◌, ◌*◌, ◌-◌, ◌^◌, ℕ, Bool, ◌&&◌, List, [], ◌∷◌, ◌++◌, length, drop, get_or, ℤ, pos, negsuc, ◌+ℤ◌, ◌-ℤ◌, ◌<ℤ◌, Option, Some, None, refl, sym, ap, ◌∙◌, arith, length-drop}
+use Rattle.std.proofs.lemmas.Int.{ints}
+use Rattle.std.proofs.Math.Nat.{mul-sub, mul_comm}
+use Rattle.std.proofs.lemmas.List.{get_or-drop}
+use Rattle.path_merge.specs.StreamSpecFacts.{Stream, format_of}
+use Rattle.path_merge.specs.MarkFacts.{MarkView}
+use Rattle.path_merge.specs.MarkList.{can_follow, is_same_format, is_mark_list}
+use Rattle.path_merge.specs.declared.mark.Format.{Format}
+use Rattle.lane_align.specs.declared.last_slot.LastSlot.{LastSlot}
+use Rattle.lane_align.specs.Cover.{last_slot, has_end}
+use Rattle.lane_align.specs.Held.{Held, first_values}
+use Rattle.lane_align.specs.Value.{value_at, frames_from}
+use Rattle.lane_align.specs.Lane.{LaneState, HasFeed, IsLane, is_next, last_kind, natural, frames_left}
+use Rattle.lane_align.proofs.MarkListLemmas.{next_is}
+use Rattle.lane_align.proofs.ValueLemmas.{frames_by_place}
+
+-- what may follow
+pub fed_next : (stream : Stream) (from : ℤ) (size : ℕ) (lane : LaneState) (marks : List MarkView) (t : ℤ) (mark : MarkView)
+    → HasFeed stream from size lane marks t → is_next lane mark ≡ is_mark_list (format_of stream) (marks ++ mark ∷ [])
+fed_next stream from size lane marks t mark fed =
+    ap (λ (f : Format). is_same_format mark.format f && can_follow f.frames (last_kind lane.ended lane.slot lane.quiet) mark.kind) fed.format
+    ∙ ap (λ e. is_same_format mark.format (format_of stream) && can_follow stream.frames (last_kind e lane.slot lane.quiet) mark.kind) fed.ended
+    ∙ ap (λ s. is_same_format mark.format (format_of stream) && can_follow stream.frames (last_kind (has_end marks) s lane.quiet) mark.kind) fed.slot
+    ∙ ap (λ q. is_same_format mark.format (format_of stream) && can_follow stream.frames (last_kind (has_end marks) (last_slot marks) q) mark.kind) fed.quiet
+    ∙ sym (next_is (format_of stream) marks mark fed.mark_list)
+
+abbrev pub lane_of : Format → ℤ → ℕ → ℤ → Option LastSlot → Option ℤ → Bool → List ℤ → LaneState
+lane_of format start block position slot quiet ended values = record { format = format; start = start; block = block; position = position; slot = slot; quiet = quiet; ended = ended; values = values }
+
+-- a block is read
+abbrev pub after_block : LaneState → List ℤ → LaneState
+after_block lane values = record { format = lane.format; start = lane.start; block = lane.block; position = lane.position +ℤ pos lane.block; slot = lane.slot; quiet = lane.quiet; ended = lane.ended; values = values }
+
+-- what is past is a distance, and what isn't is none
+pub data Distance (z : ℤ) : Type 0 where
+  past : pos (natural z) ≡ z → Distance z
+  none : z <ℤ pos 0 → natural z ≡ 0 → Distance z
+
+pub distance : (z : ℤ) → Distance z
+distance (pos n) = past refl
+distance (negsuc n) = none (omega (arith, ints)) refl
+
+natural_less : (x : ℤ) (n : ℕ) → natural (x -ℤ pos n) ≡ natural x - n
+natural_less x n = elim (distance x) [
+  | past a ↦ elim (distance (x -ℤ pos n)) [ past b ↦ omega (arith, ints) | none b z ↦ omega (arith, ints) ]
+  | none a y ↦ elim (distance (x -ℤ pos n)) [ past b ↦ absurd (omega (arith, ints)) | none b z ↦ omega (arith, ints) ]
+]
+
+pub times_less : (a b c : ℕ) → a * c - b * c ≡ (a - b) * c
+times_less a b c = ap (λ k. k - b * c) (mul_comm a c) ∙ ap (λ k. c * a - k) (mul_comm b c) ∙ sym (mul-sub c a b) ∙ mul_comm c (a - b)
+
+frames_left_less : (frames : ℕ) (t : ℤ) (n : ℕ) (slot : Option LastSlot) → frames_left frames (t +ℤ pos n) slot ≡ frames_left frames t slot - n
+frames_left_less frames t n None = omega arith
+frames_left_less frames t n (Some slot) =
+    ap natural (let e : (slot.media +ℤ pos frames) -ℤ (t +ℤ pos n) ≡ ((slot.media +ℤ pos frames) -ℤ t) -ℤ pos n = omega (arith, ints) in e)
+    ∙ natural_less ((slot.media +ℤ pos frames) -ℤ t) n
+
+pub block_values : (stream : Stream) (from : ℤ) (size : ℕ) (lane : LaneState) (marks : List MarkView) (t : ℤ) → HasFeed stream from size lane marks t
+    → first_values (lane.block * lane.format.channels) lane.values ≡ frames_from (format_of stream) marks t size
+block_values stream from size lane marks t fed =
+    ap (λ (f : Format). first_values (lane.block * f.channels) lane.values) fed.format
+    ∙ ap (λ b. first_values (b * stream.channels) lane.values) fed.block
+    ∙ frames_by_place (format_of stream) marks t size lane.values fed.values
+
+pub block_read : (stream : Stream) (from : ℤ) (size : ℕ) (lane : LaneState) (marks : List MarkView) (t : ℤ) (values : List ℤ) → HasFeed stream from size lane marks t
+    → values ≡ drop (lane.block * lane.format.channels) lane.values
+    → HasFeed stream from size (after_block lane values) marks (t +ℤ pos size)
+block_read stream from size lane marks t values fed e = record {
+  format = fed.format;
+  start = fed.start;
+  block = fed.block;
+  position = ap (λ p. p +ℤ pos lane.block) fed.position ∙ ap (λ b. t +ℤ pos b) fed.block;
+  mark_list = fed.mark_list;
+  slot = fed.slot;
+  quiet = fed.quiet;
+  ended = fed.ended;
+  values = λ f k lt.
+      let n = size * stream.channels in
+      let e' : values ≡ drop n lane.values = e ∙ ap (λ (g : Format). drop (lane.block * g.channels) lane.values) fed.format ∙ ap (λ b. drop (b * stream.channels) lane.values) fed.block in
+      ap (λ vs. get_or vs (f * stream.channels + k) (pos 0)) e'
+      ∙ get_or-drop n lane.values (f * stream.channels + k) (pos 0)
+      ∙ ap (λ i. get_or lane.values i (pos 0)) (let m : size * stream.channels + (f * stream.channels + k) ≡ (size + f) * stream.channels + k = omega arith in m)
+      ∙ fed.values (size + f) k lt
+      ∙ ap (λ u. value_at (format_of stream) marks u k) (let m : t +ℤ pos (size + f) ≡ (t +ℤ pos size) +ℤ pos f = omega (arith, ints) in m);
+}
+
+pub block_sound : (lane : LaneState) (held next : Held) → IsLane lane held → lane.position <ℤ pos (2 ^ 62)
+    → next ≡ record held { values = drop (lane.block * lane.format.channels) held.values }
+    → IsLane (after_block lane next.values) next
+block_sound lane held next sound early e = record {
+  some_channels = sound.some_channels;
+  few_channels = sound.few_channels;
+  some_frames = sound.some_frames;
+  few_frames = sound.few_frames;
+  short = sound.short;
+  some_block = sound.some_block;
+  short_block = sound.short_block;
+  not_early = let p = sound.not_early in omega (arith, ints);
+  not_late = let b = sound.short_block in omega (arith, ints);
+  slot = sound.slot;
+  values = refl;
+  channels = ap (λ (h : Held). h.channels) e ∙ sound.channels;
+  held_block = ap (λ (h : Held). h.block) e ∙ sound.held_block;
+  room = ap (λ (h : Held). h.room) e ∙ sound.room;
+  left =
+      let n = lane.block * lane.format.channels in
+      let before = frames_left lane.format.frames lane.position lane.slot in
+      ap (λ (h : Held). length h.values) e
+      ∙ length-drop n held.values
+      ∙ ap (λ k. k - n) sound.left
+      ∙ (let m : before * lane.format.channels - lane.block * lane.format.channels ≡ (before - lane.block) * lane.format.channels = times_less before lane.block lane.format.channels in m)
+      ∙ ap (λ k. k * lane.format.channels) (sym (frames_left_less lane.format.frames lane.position lane.block lane.slot));
+}

@@ -1,0 +1,337 @@
+-- What a slot more does to what a lane was fed.
+use Rattle.std.proofs.Common.{◌≡◌, ◌≤◌, ◌<◌, ◌+◌, ◌*◌, ◌-◌, ◌^◌, ℕ, min, Bool, true, false, not, ◌||◌, List, [], ◌∷◌, ◌++◌, length, take, drop, get_or, ℤ, pos, ◌+ℤ◌, ◌-ℤ◌, ◌≤ℤ◌, ◌<ℤ◌, Option, Some, None, unwrap_or, unsigned_abs, refl, sym, ap, subst, ◌∙◌, arith, length-append, length-drop, inl, inr}
+use Rattle.std.proofs.lemmas.Bool.{cases_lt, false≢true}
+use Rattle.std.proofs.lemmas.Bool.Decides.{nat_tests}
+use Rattle.std.specs.Int.{int_max}
+use Rattle.std.proofs.lemmas.Int.{ints, clamps}
+use Rattle.std.proofs.lemmas.List.{get_or-drop, get_or_append_left, get_or-append_right, get_or_past, get_or-replicate, length-replicate, drop_all}
+use Rattle.std.proofs.lemmas.Slice.{between_is}
+use Rattle.std.specs.List.{between}
+use Rattle.std.proofs.Math.Nat.{mul-le-mul_right}
+use Rattle.std.specs.Option.{option_or}
+use Rattle.path_merge.specs.StreamSpecFacts.{Stream, format_of}
+use Rattle.path_merge.specs.MarkFacts.{MarkView, HasLength, payload_length}
+use Rattle.path_merge.specs.MarkList.{can_follow, is_same_format, is_mark_list}
+use Rattle.path_merge.specs.declared.mark.Format.{Format}
+use Rattle.path_merge.specs.declared.mark.Body.{Body}
+use Rattle.path_merge.specs.declared.mark.Body.TheVariants.{Lost}
+use Rattle.path_merge.specs.declared.mark.MarkKind.TheVariants.{Slot, Quiet, End}
+use Rattle.lane_align.specs.declared.last_slot.LastSlot.{LastSlot}
+use Rattle.lane_align.specs.Cover.{slot_of, quiet_of, is_end, last_slot, last_quiet, has_end, time_reached, cover_to, covers}
+use Rattle.lane_align.specs.Held.{Held, silence}
+use Rattle.lane_align.specs.Value.{sample_of, sample_in, sample_among, value_at}
+use Rattle.lane_align.specs.Lane.{LaneState, HasFeed, IsLane, IsSlot, IsAfter, last_kind, is_next, is_wanting, frames_between, frames_left, body_samples, with_slot}
+use Rattle.lane_align.proofs.MarkListLemmas.{or_none, both_right}
+use Rattle.lane_align.proofs.LaneLemmas.{past, none, distance, times_less, lane_of}
+use Rattle.lane_align.proofs.FeedLemmas.{last_slot_more, last_quiet_more, has_end_more, sample_among_more, sample_before, sample_past, sample_within, silent_after, body_length, body_in, place_below, slot_later, ahead, behind, place_of}
+
+-- the values of a list and a slot: those of the list before it, and its own from it on
+value_before : (format : Format) (marks : List MarkView) (mark : MarkView) (e n : ℕ) (m : ℤ) (b : Body) (u : ℤ) (k : ℕ) → mark.kind ≡ Slot e n m b → u <ℤ m
+    → value_at format (marks ++ mark ∷ []) u k ≡ value_at format marks u k
+value_before format marks mark e n m b u k is_slot early =
+    ap (λ o. unwrap_or o (pos 0)) (
+    sample_among_more format marks (mark ∷ []) u k
+    ∙ ap (λ kind. option_or (sample_among format marks u k) (option_or (sample_in format kind u k) None)) is_slot
+    ∙ ap (λ o. option_or (sample_among format marks u k) (option_or o None)) (sample_before format e n m b u k early)
+    ∙ or_none (sample_among format marks u k))
+
+value_from : (format : Format) (marks : List MarkView) (mark : MarkView) (e n : ℕ) (m : ℤ) (b : Body) (u : ℤ) (k : ℕ) → mark.kind ≡ Slot e n m b
+    → is_mark_list format marks ≡ true → IsAfter format.frames (last_slot marks) u
+    → value_at format (marks ++ mark ∷ []) u k ≡ unwrap_or (sample_in format (Slot e n m b) u k) (pos 0)
+value_from format marks mark e n m b u k is_slot listed late =
+    ap (λ o. unwrap_or o (pos 0)) (
+    sample_among_more format marks (mark ∷ []) u k
+    ∙ ap (λ o. option_or o (option_or (sample_in format mark.kind u k) None)) (silent_after format None marks u k listed late)
+    ∙ or_none (sample_in format mark.kind u k)
+    ∙ ap (λ kind. sample_in format kind u k) is_slot)
+
+-- the samples of a slot by places, from its beginning on
+slot_place : (format : Format) (e n : ℕ) (m : ℤ) (b : Body) (u : ℤ) (i k : ℕ) → HasLength (payload_length format) b → u ≡ m +ℤ pos i → k < format.channels
+    → get_or (body_samples format b) (i * format.channels + k) (pos 0) ≡ unwrap_or (sample_in format (Slot e n m b) u k) (pos 0)
+slot_place format e n m b u i k fits at lt = elim (cases_lt i format.frames) [
+  | inl below ↦
+      let within = sample_within format e n m b u k (omega (arith, ints)) (omega (arith, ints)) in
+      let frame : unsigned_abs (u -ℤ m) ≡ i = ap unsigned_abs (let d : u -ℤ m ≡ pos i = omega (arith, ints) in d) in
+      body_in format b fits i k below lt ∙ sym (ap (λ o. unwrap_or o (pos 0)) (within ∙ ap (λ f. sample_of format b f k) frame))
+  | inr above ↦
+      let len = body_length format b fits in
+      let more : format.frames * format.channels ≤ i * format.channels = mul-le-mul_right format.channels above in
+      get_or_past (body_samples format b) (i * format.channels + k) (pos 0) (omega arith)
+      ∙ sym (ap (λ o. unwrap_or o (pos 0)) (sample_past format e n m b u k (omega (arith, ints))))
+]
+
+-- values, silence and samples, by places
+three_parts : (xs ss : List ℤ) (c held gap skipped f k : ℕ) → length xs ≡ held * c → k < c → (held + gap) ≤ f
+    → get_or (xs ++ (silence c gap ++ drop (skipped * c) ss)) (f * c + k) (pos 0) ≡ get_or ss ((skipped + (f - (held + gap))) * c + k) (pos 0)
+three_parts xs ss c held gap skipped f k len lt late =
+    let j = f - (held + gap) in
+    let f_is : f ≡ held + gap + j = omega arith in
+    let at : f * c + k ≡ held * c + (gap * c + (j * c + k)) = ap (λ x. x * c + k) f_is ∙ (let e : (held + gap + j) * c + k ≡ held * c + (gap * c + (j * c + k)) = omega arith in e) in
+    let gap_len : length (silence c gap) ≡ gap * c = length-replicate (gap * c) (pos 0) in
+    ap (λ i. get_or (xs ++ (silence c gap ++ drop (skipped * c) ss)) i (pos 0)) at
+    ∙ get_or-append_right xs (silence c gap ++ drop (skipped * c) ss) (held * c) (held * c + (gap * c + (j * c + k))) (pos 0) len (omega arith)
+    ∙ ap (λ i. get_or (silence c gap ++ drop (skipped * c) ss) i (pos 0)) (let e : held * c + (gap * c + (j * c + k)) - held * c ≡ gap * c + (j * c + k) = omega arith in e)
+    ∙ get_or-append_right (silence c gap) (drop (skipped * c) ss) (gap * c) (gap * c + (j * c + k)) (pos 0) gap_len (omega arith)
+    ∙ ap (λ i. get_or (drop (skipped * c) ss) i (pos 0)) (let e : gap * c + (j * c + k) - gap * c ≡ j * c + k = omega arith in e)
+    ∙ get_or-drop (skipped * c) ss (j * c + k) (pos 0)
+    ∙ ap (λ i. get_or ss i (pos 0)) (let e : skipped * c + (j * c + k) ≡ (skipped + j) * c + k = omega arith in e)
+
+in_silence : (xs ss : List ℤ) (c held gap f k : ℕ) → length xs ≡ held * c → k < c → held ≤ f → f < held + gap
+    → get_or (xs ++ (silence c gap ++ ss)) (f * c + k) (pos 0) ≡ pos 0
+in_silence xs ss c held gap f k len lt late early =
+    let j = f - held in
+    let f_is : f ≡ held + j = omega arith in
+    let at : f * c + k ≡ held * c + (j * c + k) = ap (λ x. x * c + k) f_is ∙ (let e : (held + j) * c + k ≡ held * c + (j * c + k) = omega arith in e) in
+    let gap_len : length (silence c gap) ≡ gap * c = length-replicate (gap * c) (pos 0) in
+    let below : j * c + k < gap * c = place_below j gap k c (omega arith) lt in
+    ap (λ i. get_or (xs ++ (silence c gap ++ ss)) i (pos 0)) at
+    ∙ get_or-append_right xs (silence c gap ++ ss) (held * c) (held * c + (j * c + k)) (pos 0) len (omega arith)
+    ∙ ap (λ i. get_or (silence c gap ++ ss) i (pos 0)) (let e : held * c + (j * c + k) - held * c ≡ j * c + k = omega arith in e)
+    ∙ get_or_append_left (silence c gap) ss (pos 0) (j * c + k) (omega arith)
+    ∙ get_or-replicate (gap * c) (j * c + k) (pos 0) (pos 0) below
+
+-- a time that isn't left is from the end of the last slot on
+not_left : (frames : ℕ) (t : ℤ) (slot : Option LastSlot) (f : ℕ) → frames_left frames t slot ≤ f → IsAfter frames slot (t +ℤ pos f)
+not_left frames t None f h = tt
+not_left frames t (Some s) f h = elim (distance ((s.media +ℤ pos frames) -ℤ t)) [ past a ↦ omega (arith, ints) | none a y ↦ omega (arith, ints) ]
+
+-- the values by places
+slot_values : (format : Format) (marks : List MarkView) (mark : MarkView) (e n : ℕ) (m : ℤ) (b : Body) (t : ℤ) (slot : Option LastSlot) (xs : List ℤ)
+    → mark.kind ≡ Slot e n m b → HasLength (payload_length format) b → is_mark_list format marks ≡ true → slot ≡ last_slot marks → IsAfter format.frames slot m
+    → length xs ≡ frames_left format.frames t slot * format.channels
+    → ((f k : ℕ) → k < format.channels → get_or xs (f * format.channels + k) (pos 0) ≡ value_at format marks (t +ℤ pos f) k)
+    → (f k : ℕ) → k < format.channels
+    → get_or (xs ++ (silence format.channels (frames_between t m - frames_left format.frames t slot) ++ drop (frames_between m t * format.channels) (body_samples format b))) (f * format.channels + k) (pos 0)
+    ≡ value_at format (marks ++ mark ∷ []) (t +ℤ pos f) k
+slot_values format marks mark e n m b t slot xs is_slot fits listed is_last after len same f k lt =
+    let c = format.channels in
+    let held = frames_left format.frames t slot in
+    let before = frames_between t m in
+    let skipped = frames_between m t in
+    let ss = body_samples format b in
+    let u = t +ℤ pos f in
+    elim (cases_lt f held) [
+      | inl here ↦
+          let early : u <ℤ m = elim (place_of format.frames slot m t after) [ ahead m_is s h ↦ omega (arith, ints) | behind t_is g h ↦ absurd (omega arith) ] in
+          let below : f * c + k < length xs = let p = place_below f held k c here lt in omega arith in
+          get_or_append_left xs (silence c (before - held) ++ drop (skipped * c) ss) (pos 0) (f * c + k) below
+          ∙ same f k lt
+          ∙ sym (value_before format marks mark e n m b u k is_slot early)
+      | inr late ↦ elim (cases_lt f (held + (before - held))) [
+        | inl silent ↦
+            let early : u <ℤ m = elim (place_of format.frames slot m t after) [ ahead m_is s h ↦ omega (arith, ints) | behind t_is g h ↦ absurd (omega arith) ] in
+            let past_all : length xs ≤ f * c + k = let p : held * c ≤ f * c = mul-le-mul_right c late in omega arith in
+            in_silence xs (drop (skipped * c) ss) c held (before - held) f k len lt late silent
+            ∙ sym (get_or_past xs (f * c + k) (pos 0) past_all)
+            ∙ same f k lt
+            ∙ sym (value_before format marks mark e n m b u k is_slot early)
+        | inr own ↦
+            let i = skipped + (f - (held + (before - held))) in
+            let at : u ≡ m +ℤ pos i = elim (place_of format.frames slot m t after) [ ahead m_is s h ↦ omega (arith, ints) | behind t_is g h ↦ omega (arith, ints) ] in
+            three_parts xs ss c held (before - held) skipped f k len lt own
+            ∙ slot_place format e n m b u i k fits at lt
+            ∙ sym (value_from format marks mark e n m b u k is_slot listed (subst (λ o. IsAfter format.frames o u) is_last (not_left format.frames t slot f late)))
+      ]
+    ]
+
+-- the lane was fed the slot
+pub fed_slot : (stream : Stream) (from : ℤ) (size : ℕ) (lane : LaneState) (marks : List MarkView) (t : ℤ) (mark : MarkView) (e n : ℕ) (m : ℤ) (b : Body)
+    → HasFeed stream from size lane marks t → mark.kind ≡ Slot e n m b → HasLength (payload_length lane.format) b → IsAfter lane.format.frames lane.slot m
+    → length lane.values ≡ frames_left lane.format.frames lane.position lane.slot * lane.format.channels
+    → is_mark_list (format_of stream) (marks ++ mark ∷ []) ≡ true
+    → HasFeed stream from size (with_slot lane (record { epoch = e; number = n; media = m }) b) (marks ++ mark ∷ []) t
+fed_slot stream from size lane marks t mark e n m b fed is_slot fits after len listed = record {
+  format = fed.format;
+  start = fed.start;
+  block = fed.block;
+  position = fed.position;
+  mark_list = listed;
+  slot = sym (last_slot_more marks mark ∙ ap (λ kind. option_or (slot_of kind) (last_slot marks)) is_slot);
+  quiet = fed.quiet ∙ sym (last_quiet_more marks mark ∙ ap (λ kind. option_or (quiet_of kind) (last_quiet marks)) is_slot);
+  ended = fed.ended ∙ sym (has_end_more marks mark ∙ ap (λ kind. ◌||◌ (is_end kind) (has_end marks)) is_slot);
+  values =
+      let format = format_of stream in
+      let fits' : HasLength (payload_length format) b = subst (λ (g : Format). HasLength (payload_length g) b) fed.format fits in
+      let after' : IsAfter stream.frames lane.slot m = subst (λ (g : Format). IsAfter g.frames lane.slot m) fed.format after in
+      let len' : length lane.values ≡ frames_left stream.frames t lane.slot * stream.channels =
+      len ∙ ap (λ (g : Format). frames_left g.frames lane.position lane.slot * g.channels) fed.format ∙ ap (λ p. frames_left stream.frames p lane.slot * stream.channels) fed.position in
+      let values = slot_values format marks mark e n m b t lane.slot lane.values is_slot fits' fed.mark_list fed.slot after' len' fed.values in
+      λ f k lt.
+      ap (λ (g : Format). get_or (lane.values ++ (silence g.channels (frames_between lane.position m - frames_left g.frames lane.position lane.slot) ++ drop (frames_between m lane.position * g.channels) (body_samples g b))) (f * stream.channels + k) (pos 0)) fed.format
+      ∙ ap (λ p. get_or (lane.values ++ (silence stream.channels (frames_between p m - frames_left stream.frames p lane.slot) ++ drop (frames_between m p * stream.channels) (body_samples format b))) (f * stream.channels + k) (pos 0)) fed.position
+      ∙ values f k lt;
+}
+
+-- the frames of a slot that aren't skipped
+pub slot_rest : (ss samples : List ℤ) (c frames k skipped : ℕ) → take (frames * c) samples ≡ ss → length ss ≡ frames * c → skipped ≡ min k frames
+    → between (skipped * c) (frames * c) samples ≡ drop (k * c) ss
+slot_rest ss samples c frames k skipped e len s =
+    between_is samples (skipped * c) (frames * c)
+    ∙ ap (drop (skipped * c)) e
+    ∙ elim (cases_lt k frames) [
+      | inl some ↦ let same : skipped ≡ k = omega arith in ap (λ x. drop (x * c) ss) same
+      | inr all ↦
+          let same : skipped ≡ frames = omega arith in
+          let more : frames * c ≤ k * c = mul-le-mul_right c all in
+          ap (λ x. drop (x * c) ss) same ∙ drop_all (frames * c) ss (omega arith) ∙ sym (drop_all (k * c) ss (omega arith))
+    ]
+
+-- what is added is what the slot adds
+pub slot_added : (lane : LaneState) (held next : Held) (slot : LastSlot) (body : Body) (left before stored more block past_by skipped channels frames : ℕ) (samples : List ℤ)
+    → IsLane lane held → HasLength (payload_length lane.format) body
+    → left ≡ frames_left lane.format.frames lane.position lane.slot
+    → before ≡ frames_between lane.position slot.media
+    → past_by ≡ frames_between slot.media lane.position
+    → channels ≡ lane.format.channels → frames ≡ lane.format.frames
+    → stored ≡ min (before - left) (block - left) → more ≡ before - left - stored
+    → skipped ≡ min past_by frames
+    → take (lane.format.frames * lane.format.channels) samples ≡ body_samples lane.format body
+    → next ≡ record held { values = held.values ++ (silence held.channels (stored + more) ++ between (skipped * channels) (frames * channels) samples) }
+    → next ≡ record held { values = (with_slot lane slot body).values }
+slot_added lane held next slot body left before stored more block past_by skipped channels frames samples sound fits e_left e_before e_past e_channels e_frames e_stored e_more e_skipped e_samples e =
+    let c = lane.format.channels in
+    let p = lane.format.frames in
+    let rest : between (skipped * channels) (frames * channels) samples ≡ drop (frames_between slot.media lane.position * c) (body_samples lane.format body) =
+    ap (λ n. between (skipped * n) (frames * n) samples) e_channels
+    ∙ ap (λ n. between (skipped * c) (n * c) samples) e_frames
+    ∙ slot_rest (body_samples lane.format body) samples c p past_by skipped e_samples (body_length lane.format body fits) (e_skipped ∙ ap (min past_by) e_frames)
+    ∙ ap (λ n. drop (n * c) (body_samples lane.format body)) e_past in
+    let gap : stored + more ≡ frames_between lane.position slot.media - frames_left p lane.position lane.slot = omega arith in
+    e
+    ∙ ap (λ xs. record held { values = held.values ++ (silence held.channels (stored + more) ++ xs) }) rest
+    ∙ ap (λ n. record held { values = held.values ++ (silence held.channels n ++ drop (frames_between slot.media lane.position * c) (body_samples lane.format body)) }) gap
+    ∙ ap (λ n. record held { values = held.values ++ (silence n (frames_between lane.position slot.media - frames_left p lane.position lane.slot) ++ drop (frames_between slot.media lane.position * c) (body_samples lane.format body)) }) sound.channels
+    ∙ ap (λ xs. record held { values = xs ++ (silence c (frames_between lane.position slot.media - frames_left p lane.position lane.slot) ++ drop (frames_between slot.media lane.position * c) (body_samples lane.format body)) }) (sym sound.values)
+
+-- with a slot, what is true of a lane is true of it
+pub slot_sound : (lane : LaneState) (held next : Held) (slot : LastSlot) (body : Body)
+    → IsLane lane held → IsSlot (Some slot) → HasLength (payload_length lane.format) body → IsAfter lane.format.frames lane.slot slot.media
+    → next ≡ record held { values = (with_slot lane slot body).values }
+    → IsLane (lane_of lane.format lane.start lane.block lane.position (Some slot) lane.quiet lane.ended next.values) next
+slot_sound lane held next slot body sound small fits after e = record {
+  some_channels = sound.some_channels;
+  few_channels = sound.few_channels;
+  some_frames = sound.some_frames;
+  few_frames = sound.few_frames;
+  short = sound.short;
+  some_block = sound.some_block;
+  short_block = sound.short_block;
+  not_early = sound.not_early;
+  not_late = sound.not_late;
+  slot = small;
+  values = refl;
+  channels = ap (λ (h : Held). h.channels) e ∙ sound.channels;
+  held_block = ap (λ (h : Held). h.block) e ∙ sound.held_block;
+  room = ap (λ (h : Held). h.room) e ∙ sound.room;
+  left =
+      let c = lane.format.channels in
+      let p = lane.format.frames in
+      let left = frames_left p lane.position lane.slot in
+      let before = frames_between lane.position slot.media in
+      let behind' = frames_between slot.media lane.position in
+      let ss = body_samples lane.format body in
+      let ss_len = body_length lane.format body fits in
+      let gap_len : length (silence c (before - left)) ≡ (before - left) * c = length-replicate ((before - left) * c) (pos 0) in
+      let rest_len = length-drop (behind' * c) ss in
+      let inner = length-append (silence c (before - left)) (drop (behind' * c) ss) in
+      let outer = length-append lane.values (silence c (before - left) ++ drop (behind' * c) ss) in
+      let old : length lane.values ≡ left * c = ap length sound.values ∙ sound.left in
+      let own : p * c - behind' * c ≡ (p - behind') * c = times_less p behind' c in
+      let sum : left * c + ((before - left) * c + (p - behind') * c) ≡ (left + (before - left) + (p - behind')) * c = omega arith in
+      let total : left + (before - left) + (p - behind') ≡ frames_between lane.position (slot.media +ℤ pos p) = elim (distance ((slot.media +ℤ pos p) -ℤ lane.position)) [
+        | past a ↦ elim (place_of p lane.slot slot.media lane.position after) [ ahead m_is s h ↦ omega (arith, ints) | behind t_is g h ↦ omega (arith, ints) ]
+        | none a y ↦ elim (place_of p lane.slot slot.media lane.position after) [ ahead m_is s h ↦ absurd (omega (arith, ints)) | behind t_is g h ↦ omega (arith, ints) ]
+      ] in
+      ap (λ (h : Held). length h.values) e
+      ∙ (let all : length (with_slot lane slot body).values ≡ left * c + ((before - left) * c + (p - behind') * c) = omega arith in all)
+      ∙ sum
+      ∙ ap (λ n. n * c) total;
+}
+
+-- there is room in the block
+pub block_room : (len left stored block c held_c held_block : ℕ) → len ≡ left * c → held_c ≡ c → held_block ≡ block → left + stored ≤ block → len + stored * held_c ≤ held_block * held_c
+block_room len left stored block c held_c held_block e_len e_c e_block h =
+    let more : (left + stored) * c ≤ block * c = mul-le-mul_right c h in
+    let sum : (left + stored) * c ≡ left * c + stored * c = omega arith in
+    let a : stored * held_c ≡ stored * c = ap (λ x. stored * x) e_c in
+    let b : held_block * held_c ≡ block * c = ap (λ x. held_block * x) e_c ∙ ap (λ x. x * c) e_block in
+    omega arith
+
+pub block_full : (len left stored block c held_c held_block : ℕ) → len ≡ left * c → held_c ≡ c → held_block ≡ block → left + stored ≡ block → len + stored * held_c ≡ held_block * held_c
+block_full len left stored block c held_c held_block e_len e_c e_block h =
+    let more : (left + stored) * c ≡ block * c = ap (λ x. x * c) h in
+    let sum : (left + stored) * c ≡ left * c + stored * c = omega arith in
+    let a : stored * held_c ≡ stored * c = ap (λ x. stored * x) e_c in
+    let b : held_block * held_c ≡ block * c = ap (λ x. held_block * x) e_c ∙ ap (λ x. x * c) e_block in
+    omega arith
+
+pub short_gap : (p m : ℤ) → pos 0 ≤ℤ p → m ≤ℤ pos (2 ^ 61) → frames_between p m ≤ 2 ^ 61
+short_gap p m h g = elim (distance (m -ℤ p)) [ past a ↦ omega (arith, ints) | none a y ↦ omega (arith, ints) ]
+
+-- a mark that isn't a slot changes no value
+value_same : (format : Format) (marks : List MarkView) (mark : MarkView) (u : ℤ) (k : ℕ) → sample_in format mark.kind u k ≡ None → value_at format (marks ++ mark ∷ []) u k ≡ value_at format marks u k
+value_same format marks mark u k silent =
+    ap (λ o. unwrap_or o (pos 0)) (
+    sample_among_more format marks (mark ∷ []) u k
+    ∙ ap (λ o. option_or (sample_among format marks u k) (option_or o None)) silent
+    ∙ or_none (sample_among format marks u k))
+
+-- the lane was fed a Quiet
+pub fed_quiet : (stream : Stream) (from : ℤ) (size : ℕ) (lane : LaneState) (marks : List MarkView) (t : ℤ) (mark : MarkView) (until : ℤ)
+    → HasFeed stream from size lane marks t → mark.kind ≡ Quiet until → is_mark_list (format_of stream) (marks ++ mark ∷ []) ≡ true
+    → HasFeed stream from size (record lane { quiet = Some until }) (marks ++ mark ∷ []) t
+fed_quiet stream from size lane marks t mark until fed is_quiet listed = record {
+  format = fed.format;
+  start = fed.start;
+  block = fed.block;
+  position = fed.position;
+  mark_list = listed;
+  slot = fed.slot ∙ sym (last_slot_more marks mark ∙ ap (λ kind. option_or (slot_of kind) (last_slot marks)) is_quiet);
+  quiet = sym (last_quiet_more marks mark ∙ ap (λ kind. option_or (quiet_of kind) (last_quiet marks)) is_quiet);
+  ended = fed.ended ∙ sym (has_end_more marks mark ∙ ap (λ kind. is_end kind || has_end marks) is_quiet);
+  values = λ f k lt. fed.values f k lt ∙ sym (value_same (format_of stream) marks mark (t +ℤ pos f) k (ap (λ kind. sample_in (format_of stream) kind (t +ℤ pos f) k) is_quiet));
+}
+
+-- the lane was fed the end
+pub fed_end : (stream : Stream) (from : ℤ) (size : ℕ) (lane : LaneState) (marks : List MarkView) (t : ℤ) (mark : MarkView)
+    → HasFeed stream from size lane marks t → mark.kind ≡ End → is_mark_list (format_of stream) (marks ++ mark ∷ []) ≡ true
+    → HasFeed stream from size (record lane { ended = true }) (marks ++ mark ∷ []) t
+fed_end stream from size lane marks t mark fed is_last listed = record {
+  format = fed.format;
+  start = fed.start;
+  block = fed.block;
+  position = fed.position;
+  mark_list = listed;
+  slot = fed.slot ∙ sym (last_slot_more marks mark ∙ ap (λ kind. option_or (slot_of kind) (last_slot marks)) is_last);
+  quiet = fed.quiet ∙ sym (last_quiet_more marks mark ∙ ap (λ kind. option_or (quiet_of kind) (last_quiet marks)) is_last);
+  ended = sym (has_end_more marks mark ∙ ap (λ kind. is_end kind || has_end marks) is_last);
+  values = λ f k lt. fed.values f k lt ∙ sym (value_same (format_of stream) marks mark (t +ℤ pos f) k (ap (λ kind. sample_in (format_of stream) kind (t +ℤ pos f) k) is_last));
+}
+
+-- a slot that is accepted comes after the last
+follows_after : (frames : ℕ) (ended : Bool) (slot : Option LastSlot) (quiet : Option ℤ) (e n : ℕ) (m : ℤ) (b : Body) → can_follow frames (last_kind ended slot quiet) (Slot e n m b) ≡ true → IsAfter frames slot m
+follows_after frames true slot quiet e n m b h = absurd (false≢true h)
+follows_after frames false None quiet e n m b h = tt
+follows_after frames false (Some s) quiet e n m b h = slot_later frames s.epoch s.number s.media Lost e n m b h
+
+pub next_after : (lane : LaneState) (mark : MarkView) (e n : ℕ) (m : ℤ) (b : Body) → is_next lane mark ≡ true → mark.kind ≡ Slot e n m b → IsAfter lane.format.frames lane.slot m
+next_after lane mark e n m b h is_slot =
+    follows_after lane.format.frames lane.ended lane.slot lane.quiet e n m b
+    (ap (can_follow lane.format.frames (last_kind lane.ended lane.slot lane.quiet)) (sym is_slot)
+    ∙ both_right (is_same_format mark.format lane.format) (can_follow lane.format.frames (last_kind lane.ended lane.slot lane.quiet) mark.kind) h)
+
+-- while the next block is wanted, less than a block is left
+left_of : (frames : ℕ) (t : ℤ) (block : ℕ) (ended : Bool) (slot : Option LastSlot) (quiet : Option ℤ) → 0 < block → not (covers (cover_to ended (time_reached frames slot quiet)) (t +ℤ pos block)) ≡ true → frames_left frames t slot < block
+left_of frames t block true slot quiet some h = absurd (false≢true h)
+left_of frames t block false None quiet some h = some
+left_of frames t block false (Some s) None some h =
+    let short : (s.media +ℤ pos frames) <ℤ (t +ℤ pos block) = grind (arith, ints, nat_tests) in
+    elim (distance ((s.media +ℤ pos frames) -ℤ t)) [ past a ↦ omega (arith, ints) | none a y ↦ omega (arith, ints) ]
+left_of frames t block false (Some s) (Some u) some h =
+    let top = int_max (s.media +ℤ pos frames) u in
+    let short : top <ℤ (t +ℤ pos block) = grind (arith, ints, nat_tests) in
+    let below : (s.media +ℤ pos frames) ≤ℤ top = omega (arith, ints, clamps) in
+    elim (distance ((s.media +ℤ pos frames) -ℤ t)) [ past a ↦ omega (arith, ints) | none a y ↦ omega (arith, ints) ]
+
+pub wanted_left : (lane : LaneState) → 0 < lane.block → is_wanting lane (lane.position +ℤ pos lane.block) ≡ true → frames_left lane.format.frames lane.position lane.slot < lane.block
+wanted_left lane some h = left_of lane.format.frames lane.position lane.block lane.ended lane.slot lane.quiet some h

@@ -1,0 +1,9 @@
+pub mod Value
+pub mod Cover
+pub mod Accepted
+pub mod Held
+pub mod Lane
+pub use Rattle.rtp_wire.specs.Sample
+pub use Rattle.path_merge.specs.StreamSpecFacts
+pub use Rattle.path_merge.specs.MarkFacts
+pub use Rattle.path_merge.specs.MarkList

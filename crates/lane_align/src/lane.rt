@@ -1,0 +1,313 @@
+//! One stream's marks as frames at media times.
+ghost use Rattle.std.specs.Prelude.{◌≡◌, ◌+◌, ◌*◌, ◌^◌, ◌<◌, ◌≤◌, [], ◌∷◌, ◌++◌, List, ℤ, ℕ, pos, ◌+ℤ◌, ◌≤ℤ◌, ◌<ℤ◌, true, false, not, Some, length, take, IfOk};
+ghost use Rattle.path_merge.specs.StreamSpecFacts.{Stream, format_of, is_packet_time};
+ghost use Rattle.path_merge.specs.MarkFacts.{MarkView, HasLength, payload_length};
+ghost use Rattle.path_merge.specs.MarkList as list;
+ghost use Rattle.path_merge.specs.declared.mark.Body.{Body};
+ghost use Rattle.path_merge.specs.declared.mark.MarkKind.TheVariants.{Slot};
+ghost use Rattle.lane_align.specs.Value.{frames_from};
+ghost use Rattle.lane_align.specs.Cover.{cover_of, end_of, covers, time_reached};
+ghost use Rattle.lane_align.specs.Lane as state;
+ghost use Rattle.lane_align.specs.Lane.{IsSlot, IsAfter, body_samples, with_slot};
+
+use crate::cover::Cover;
+use crate::frames::FrameQueue;
+use crate::last_slot::LastSlot;
+use path_merge::{Body, Format, Mark, MarkKind, StreamSpec};
+use rtp_wire::{Enc, read_samples};
+use std::alloc::{AllocError, Global};
+use std::marker::Model;
+
+/// The most samples that a payload holds: 1,440 octets of 16-bit samples.
+const MOST_SAMPLES: usize = 720;
+
+/// The marks of one stream, taken one by one, and its values, given block by block.
+///
+/// Inputs: `feed`, with a mark that it `accepts`, while it `wants` one for the next block.
+/// Outputs: `read_block`, once it doesn't. Readers: `cover`, `end`, `position`.
+#[derive(Drop)]
+pub struct Lane {
+    format: Format,
+    start: i64,
+    block: u16,
+    position: i64,
+    slot: Option<LastSlot>,
+    quiet: Option<i64>,
+    ended: bool,
+    values: FrameQueue,
+}
+
+impl Model for Lane {
+    ghost use Rattle.lane_align.specs.Lane.{LaneState, IsLane};
+
+    ghost Value = { LaneState };
+
+    ghost view = { λ l. record { format = l.format; start = l.start; block = l.block; position = l.position; slot = l.slot; quiet = l.quiet; ended = l.ended; values = l.values.values } };
+
+    ghost invariant = { λ l. IsLane (record { format = l.format; start = l.start; block = l.block; position = l.position; slot = l.slot; quiet = l.quiet; ended = l.ended; values = l.values.values }) l.values };
+}
+
+/// Whether the samples of two streams lie alike.
+fn is_same_format(a: Format, b: Format) -> bool
+    ensures { result ≡ list.is_same_format a b }
+{
+    let same_encoding = match (a.enc, b.enc) {
+        (Enc::L16, Enc::L16) | (Enc::L24, Enc::L24) => true,
+        _ => false,
+    };
+    same_encoding && a.channels == b.channels && a.frames == b.frames
+}
+
+/// The greater of the end of the last slot and the last Quiet's time.
+fn time_reached_by(frames: u16, slot: Option<LastSlot>, quiet: Option<i64>) -> Option<i64>
+    requires few_frames { frames ≤ 192 }
+    requires slot { IsSlot slot }
+    ensures { result ≡ time_reached frames slot quiet }
+{
+    match (slot, quiet) {
+        (None, _) => quiet,
+        (Some(slot), None) => Some(slot.media + i64::from(frames)),
+        (Some(slot), Some(until)) => Some(until.max(slot.media + i64::from(frames))),
+    }
+}
+
+/// Whether two times are the same.
+fn is_same_time(t: i64, u: i64) -> bool
+    ensures { result ≡ list.is_same_time t u }
+{
+    t == u
+}
+
+/// Whether a slot may follow this one: the next number at its end, or a slot of the next epoch from there on.
+fn may_follow_slot(slot: LastSlot, frames: u16, epoch: u64, number: u64, media: i64) -> bool
+    requires few_frames { frames ≤ 192 }
+    requires slot { IsSlot (Some slot) }
+    ensures { (before after : Body) → result ≡ list.can_follow frames (Some (Slot slot.epoch slot.number slot.media before)) (Slot epoch number media after) }
+{
+    let end = slot.media + i64::from(frames);
+    if epoch == slot.epoch {
+        return number == slot.number + 1 && is_same_time(media, end);
+    }
+    epoch == slot.epoch + 1 && end <= media
+}
+
+/// How many frames lie from one time to another; none where it isn't after it.
+fn frames_between(from: i64, to: i64) -> u64
+    ensures { result ≡ state.frames_between from to }
+{
+    if from < to { to.abs_diff(from) } else { 0 }
+}
+
+/// The frames from a time to the end of the last slot.
+fn frames_left(frames: u16, t: i64, slot: Option<LastSlot>) -> u64
+    requires few_frames { frames ≤ 192 }
+    requires slot { IsSlot slot }
+    ensures { result ≡ state.frames_left frames t slot }
+{
+    match slot {
+        None => 0,
+        Some(slot) => frames_between(t, slot.media + i64::from(frames)),
+    }
+}
+
+/// The samples of a slot, frame by frame, and silence past them.
+fn slot_samples(format: Format, body: &Body) -> [i32; MOST_SAMPLES]
+    requires count { format.frames * format.channels ≤ 720 }
+    requires len { HasLength (payload_length format) body.now }
+    ensures { take (format.frames * format.channels) result ≡ body_samples format body.now }
+{
+    let mut samples = [0; MOST_SAMPLES];
+    match body {
+        Body::Got(payload) => {
+            read_samples(format.enc, payload.as_slice(), &mut samples);
+        }
+        Body::Lost => {}
+    }
+    samples
+}
+
+impl Lane {
+    ghost use Rattle.lane_align.specs.Lane.{LaneState, HasFeed, HasSameFacts, cover_at, end_at, is_wanting, is_next, last_kind};
+    ghost use Rattle.path_merge.specs.MarkFacts.{IsMark};
+
+    /// A lane that begins at media time `start` and gives blocks of `block` frames.
+    pub fn new(alloc: Global, spec: StreamSpec, start: i64, block: u16) -> Result<Lane, AllocError>
+        requires not_low { pos 0 ≤ℤ start }
+        requires not_high { start ≤ℤ pos (2 ^ 60) }
+        requires block { is_packet_time block ≡ true }
+        ensures { IfOk result (λ lane. HasFeed spec start block lane [] start) }
+    {
+        let format = spec.format();
+        let channels = usize::from(spec.channels());
+        let frames = usize::from(spec.frames());
+        let values = FrameQueue::new(alloc, channels, usize::from(block), frames)?;
+        Ok(Lane {
+            format,
+            start,
+            block,
+            position: start,
+            slot: None,
+            quiet: None,
+            ended: false,
+            values,
+        })
+    }
+
+    /// The media time at which the next block begins.
+    pub fn position(&self) -> i64
+        ensures value { result ≡ self.now.position }
+        ensures stands { (stream : Stream) (from : ℤ) (size : ℕ) (marks : List MarkView) (t : ℤ)
+            → HasFeed stream from size self.now marks t → result ≡ t }
+        ensures not_early { pos 0 ≤ℤ result }
+        ensures not_late { result <ℤ pos (2 ^ 62 + 192) }
+    {
+        self.position
+    }
+
+    /// The times that the marks so far cover.
+    pub fn cover(&self) -> Cover
+        ensures value { result ≡ cover_at self.now }
+        ensures stands { (stream : Stream) (from : ℤ) (size : ℕ) (marks : List MarkView) (t : ℤ)
+            → HasFeed stream from size self.now marks t → result ≡ cover_of (format_of stream) marks }
+    {
+        if self.ended {
+            return Cover::All;
+        }
+        match time_reached_by(self.format.frames, self.slot, self.quiet) {
+            None => Cover::Nothing,
+            Some(t) => Cover::Until(t),
+        }
+    }
+
+    /// The end of the marks so far, whether or not the stream has ended: the start, where there were none.
+    pub fn end(&self) -> i64
+        ensures value { result ≡ end_at self.now }
+        ensures stands { (stream : Stream) (from : ℤ) (size : ℕ) (marks : List MarkView) (t : ℤ)
+            → HasFeed stream from size self.now marks t → result ≡ end_of (format_of stream) from marks }
+    {
+        time_reached_by(self.format.frames, self.slot, self.quiet).unwrap_or(self.start)
+    }
+
+    /// Whether some time before `t_end` isn't covered yet.
+    pub fn wants(&self, t_end: i64) -> bool
+        ensures value { result ≡ is_wanting self.now t_end }
+        ensures stands { (stream : Stream) (from : ℤ) (size : ℕ) (marks : List MarkView) (t : ℤ)
+            → HasFeed stream from size self.now marks t → result ≡ not (covers (cover_of (format_of stream) marks) t_end) }
+    {
+        !self.cover().covers(t_end)
+    }
+
+    /// Whether a mark may follow those so far.
+    pub fn accepts(&self, mark: &Mark) -> bool
+        ensures value { result ≡ is_next self.now mark.now }
+        ensures stands { (stream : Stream) (from : ℤ) (size : ℕ) (marks : List MarkView) (t : ℤ)
+            → HasFeed stream from size self.now marks t → result ≡ list.is_mark_list (format_of stream) (marks ++ mark.now ∷ []) }
+    {
+        is_same_format(mark.format(), self.format) && self.may_follow(mark.kind())
+    }
+
+    /// Whether what a mark says may follow the last one.
+    fn may_follow(&self, kind: &MarkKind) -> bool
+        requires { IsMark self.now.format kind.now }
+        ensures { result ≡ list.can_follow self.now.format.frames (last_kind self.now.ended self.now.slot self.now.quiet) kind.now }
+    {
+        if self.ended {
+            return false;
+        }
+        match kind {
+            MarkKind::Slot {
+                epoch,
+                number,
+                media,
+                ..
+            } => self.may_begin(*epoch, *number, *media),
+            MarkKind::Quiet { until } => match (self.slot, self.quiet) {
+                (Some(_), _) => false,
+                (None, Some(last)) => last < *until,
+                (None, None) => true,
+            },
+            MarkKind::End => true,
+        }
+    }
+
+    /// Whether a slot may follow the last mark.
+    fn may_begin(&self, epoch: u64, number: u64, media: i64) -> bool
+        requires { self.now.ended ≡ false }
+        ensures { (body : Body) → result ≡ list.can_follow self.now.format.frames (last_kind self.now.ended self.now.slot self.now.quiet) (Slot epoch number media body) }
+    {
+        match (self.slot, self.quiet) {
+            (Some(slot), _) => may_follow_slot(slot, self.format.frames, epoch, number, media),
+            (None, Some(until)) => until <= media,
+            (None, None) => true,
+        }
+    }
+
+    /// Takes the next mark.
+    ///
+    /// It has to be one that the lane accepts, while it wants one for the block at its position.
+    pub fn feed(&mut self, mark: Mark)
+        requires accepted { is_next self.old mark ≡ true }
+        requires wanted { is_wanting self.old (self.old.position +ℤ pos self.old.block) ≡ true }
+        ensures stands { (stream : Stream) (from : ℤ) (size : ℕ) (marks : List MarkView) (t : ℤ)
+            → HasFeed stream from size self.old marks t → HasFeed stream from size self.new (marks ++ mark ∷ []) t }
+        ensures facts { HasSameFacts self.old self.new }
+        ensures position { self.new.position ≡ self.old.position }
+    {
+        match mark.kind() {
+            MarkKind::Slot {
+                epoch,
+                number,
+                media,
+                body,
+            } => {
+                let slot = LastSlot {
+                    epoch: *epoch,
+                    number: *number,
+                    media: *media,
+                };
+                self.take_slot(slot, body);
+            }
+            MarkKind::Quiet { until } => self.quiet = Some(*until),
+            MarkKind::End => self.ended = true,
+        }
+    }
+
+    /// Takes a slot after the last.
+    fn take_slot(&mut self, slot: LastSlot, body: &Body)
+        requires small { IsSlot (Some slot) }
+        requires len { HasLength (payload_length self.old.format) body.now }
+        requires after { IsAfter self.old.format.frames self.old.slot slot.media }
+        requires wanted { is_wanting self.old (self.old.position +ℤ pos self.old.block) ≡ true }
+        ensures taken { self.new ≡ with_slot self.old slot body.now }
+        ensures left { length self.old.values ≡ state.frames_left self.old.format.frames self.old.position self.old.slot * self.old.format.channels }
+    {
+        let channels = usize::from(self.format.channels);
+        let frames = usize::from(self.format.frames);
+        let held = frames_left(self.format.frames, self.position, self.slot);
+        let before = frames_between(self.position, slot.media) - held;
+        let stored = before.min(u64::from(self.block) - held);
+        let skipped = frames_between(slot.media, self.position).min(frames as u64) as usize;
+        let samples = slot_samples(self.format, body);
+        let rest = &samples[skipped * channels..frames * channels];
+        self.values.add(stored as usize, before - stored, rest);
+        self.slot = Some(slot);
+    }
+
+    /// Gives the values of one block, frame by frame, and moves on to the next.
+    pub fn read_block(&mut self, out: &mut [i32])
+        requires covered { covers (cover_at self.old) (self.old.position +ℤ pos self.old.block) ≡ true }
+        requires len { length out.old ≡ self.old.block * self.old.format.channels }
+        requires position { self.old.position <ℤ pos (2 ^ 62) }
+        ensures values { (stream : Stream) (from : ℤ) (size : ℕ) (marks : List MarkView) (t : ℤ)
+            → HasFeed stream from size self.old marks t → out.new ≡ frames_from (format_of stream) marks t size }
+        ensures stands { (stream : Stream) (from : ℤ) (size : ℕ) (marks : List MarkView) (t : ℤ)
+            → HasFeed stream from size self.old marks t → HasFeed stream from size self.new marks (t +ℤ pos size) }
+        ensures facts { HasSameFacts self.old self.new }
+        ensures position { self.new.position ≡ self.old.position +ℤ pos self.old.block }
+        ensures cover { cover_at self.new ≡ cover_at self.old }
+        ensures end { end_at self.new ≡ end_at self.old }
+    {
+        self.values.read(out);
+        self.position += i64::from(self.block);
+    }
+}

@@ -1,0 +1,33 @@
+//! Laws of values, covers and accepted marks.
+ghost use Rattle.std.specs.Prelude.{◌≡◌, ℕ, ℤ, pos, ◌+ℤ◌, List, [], ◌∷◌, ◌++◌, true};
+ghost use Rattle.path_merge.specs.MarkFacts.{MarkView};
+ghost use Rattle.path_merge.specs.MarkList.{is_mark_list};
+ghost use Rattle.path_merge.specs.declared.mark.Format.{Format};
+ghost use Rattle.lane_align.specs.Value.{value_at};
+ghost use Rattle.lane_align.specs.Cover.{cover_of, covers, has_end};
+ghost use Rattle.lane_align.specs.Accepted.{accepted_marks, accepted_with};
+
+/// No value before the cover changes when accepted marks are added; what is covered stays so, and
+/// nothing is added after an end.
+pub fn values_before_the_cover_stay()
+    ensures values { (format : Format) (came more : List MarkView) (t : ℤ) (k : ℕ)
+        → covers (cover_of format (accepted_marks format came)) (t +ℤ pos 1) ≡ true
+        → value_at format (accepted_marks format (came ++ more)) t k ≡ value_at format (accepted_marks format came) t k }
+    ensures list_values { (format : Format) (marks more : List MarkView) (t : ℤ) (k : ℕ)
+        → is_mark_list format (marks ++ more) ≡ true → covers (cover_of format marks) (t +ℤ pos 1) ≡ true
+        → value_at format (marks ++ more) t k ≡ value_at format marks t k }
+    ensures cover { (format : Format) (marks more : List MarkView) (t : ℤ)
+        → is_mark_list format (marks ++ more) ≡ true → covers (cover_of format marks) t ≡ true
+        → covers (cover_of format (marks ++ more)) t ≡ true }
+    ensures ended { (format : Format) (marks more : List MarkView)
+        → is_mark_list format (marks ++ more) ≡ true → has_end marks ≡ true → more ≡ [] }
+{}
+
+/// Accepted marks are a mark list, of a mark list all are accepted, and one mark more is accepted
+/// where with it what was accepted stays a mark list.
+pub fn accepted_marks_are_a_mark_list()
+    ensures listed { (format : Format) (came : List MarkView) → is_mark_list format (accepted_marks format came) ≡ true }
+    ensures all { (format : Format) (marks : List MarkView) → is_mark_list format marks ≡ true → accepted_marks format marks ≡ marks }
+    ensures next { (format : Format) (came : List MarkView) (mark : MarkView)
+        → accepted_marks format (came ++ mark ∷ []) ≡ accepted_with format (accepted_marks format came) mark }
+{}

@@ -1,0 +1,65 @@
+-- What an output's specification says, and what is true of every one.
+use Rattle.std.specs.Prelude.{◌≡◌, ℕ, ◌+◌, ◌*◌, ◌^◌, ◌<◌, ◌≤◌, ℤ, pos, ◌≤ℤ◌, Bool, true, not, ◌&&◌, ◌||◌, nat_eq, nat_lt, nat_le, int_le, Option, Some, None, if◌then◌else◌}
+use Rattle.rtp_wire.specs.declared.encoding.Enc.{Enc}
+use Rattle.rtp_wire.specs.declared.encoding.Enc.TheVariants.{L16, L24}
+use Rattle.rtp_wire.specs.Sample.{octets_per_sample}
+use Rattle.mix_packets.specs.declared.out_spec.OutFault.{OutFault}
+use Rattle.mix_packets.specs.declared.out_spec.OutFault.TheVariants.{Channels, Frames, PayloadType, TooLong, Start}
+
+-- what contracts see of a specification
+pub record Output : Type 0 where
+  pub enc : Enc
+  pub channels : ℕ
+  pub frames : ℕ
+  pub pt : ℕ
+  pub ssrc : ℕ
+  pub seq0 : ℕ
+  pub start : ℤ
+  pub offset : ℕ
+
+-- the packet times of AES67 and ST 2110-30 at 48 kHz, in sampling instants
+abbrev pub is_packet_time : ℕ → Bool
+is_packet_time frames = nat_eq frames 6 || (nat_eq frames 12 || (nat_eq frames 16 || (nat_eq frames 48 || nat_eq frames 192)))
+
+-- the samples of a block
+abbrev pub sample_total : Output → ℕ
+sample_total out = out.frames * out.channels
+
+-- their octets
+abbrev pub payload_length : Output → ℕ
+payload_length out = sample_total out * octets_per_sample out.enc
+
+-- the octets of a datagram: the header's twelve and the payload's (RFC 3550, 5.1)
+abbrev pub datagram_length : Output → ℕ
+datagram_length out = 12 + payload_length out
+
+-- from the scale of a gain's product to that of a sample: 16 bits, and 8 more where samples have 16
+abbrev pub shift_of : Enc → ℕ
+shift_of L16 = 24
+shift_of L24 = 16
+
+-- the first fault of a specification
+abbrev pub out_fault_of : Output → Option OutFault
+out_fault_of out =
+    if not (nat_le 1 out.channels && nat_le out.channels 8) then Some Channels
+    else if not (is_packet_time out.frames) then Some Frames
+    else if not (nat_le 96 out.pt && nat_le out.pt 127) then Some PayloadType
+    else if nat_lt 1440 (payload_length out) then Some TooLong
+    else if not (int_le (pos 0) out.start && int_le out.start (pos (2 ^ 60))) then Some Start
+    else None
+
+-- what follows of a specification with no fault
+pub record IsOutput (out : Output) : Type 0 where
+  pub some_channels : 0 < out.channels
+  pub few_channels : out.channels ≤ 8
+  pub packet_time : is_packet_time out.frames ≡ true
+  pub some_frames : 0 < out.frames
+  pub few_frames : out.frames ≤ 192
+  pub pt_low : 96 ≤ out.pt
+  pub pt_high : out.pt ≤ 127
+  pub short : payload_length out ≤ 1440
+  pub start_low : pos 0 ≤ℤ out.start
+  pub start_high : out.start ≤ℤ pos (2 ^ 60)
+  pub ssrc_fits : out.ssrc < 2 ^ 32
+  pub seq0_fits : out.seq0 < 2 ^ 16
+  pub offset_fits : out.offset < 2 ^ 32

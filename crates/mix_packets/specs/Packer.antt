@@ -1,0 +1,15 @@
+-- What contracts see of a packer, and what is true of every one.
+use Rattle.std.specs.Prelude.{◌≡◌, ℕ}
+use Rattle.mix_packets.specs.OutSpec.{Output, IsOutput}
+use Rattle.mix_packets.specs.Block.{sequence_number_of, timestamp_of}
+
+-- an output, and the number of the block that is next
+pub record PackerState : Type 0 where
+  pub spec : Output
+  pub number : ℕ
+
+-- what is kept for the next header is what its number says
+pub record IsInStep (packer : PackerState) (seq ts : ℕ) : Type 0 where
+  pub spec_ok : IsOutput packer.spec
+  pub seq_is : seq ≡ sequence_number_of packer.spec packer.number
+  pub ts_is : ts ≡ timestamp_of packer.spec packer.number
