@@ -50,7 +50,7 @@ pub fn next_number_is_the_least_due()
 
 /// A tick at a deadline on the way to u, and then the tick to u, are as the tick to u alone; and a tick
 /// at the current time changes nothing.
-pub fn ticks_may_be_split_and_repeated()
+pub fn ticks_may_be_split()
     ensures split { (stream : Stream) (opening : ℤ) (events : List Event) (anchor : Anchor) (n : ℕ) (u : ℤ) →
         0 < stream.frames → IsOpen opening events → IsDeadlineOnTheWay stream opening events anchor n u →
         IsAlike stream opening ((events ++ Tick (deadline_of stream anchor n) ∷ []) ++ Tick u ∷ [])

@@ -21,7 +21,7 @@ pub use fate::Fate;
 pub use history::{RunFault, run_merge};
 pub use laws::{
     arrivals_change_no_mark, each_number_is_handed_on_once, marks_are_a_mark_list,
-    merges_stand_at_their_histories, next_number_is_the_least_due, ticks_may_be_split_and_repeated,
+    merges_stand_at_their_histories, next_number_is_the_least_due, ticks_may_be_split,
 };
 pub use mark::{Body, Format, Mark, MarkKind};
 pub use merge::{ClockFault, Merge};

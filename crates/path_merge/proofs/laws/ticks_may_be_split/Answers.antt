@@ -1,6 +1,6 @@
 use Rattle.path_merge.proofs.GainLemmas.{tick_again}
 use Rattle.path_merge.proofs.LawLemmas.{tick_split}
-use Rattle.path_merge.proofs.laws.ticks_may_be_split_and_repeated.Goals as goal
+use Rattle.path_merge.proofs.laws.ticks_may_be_split.Goals as goal
 
 pub returns-clause-split : goal.returns-clause-split
 returns-clause-split c stream opening events anchor n u some still way = tick_split stream opening some events still anchor n u way
