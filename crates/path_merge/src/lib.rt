@@ -30,3 +30,6 @@ pub use packet::Packet;
 pub use path::Path;
 pub use stream_spec::{AdmitFault, SpecFault, StreamClock, StreamSpec};
 pub use window::{Put, SortedWindow, Window};
+
+#[cfg(test)]
+mod tests;
