@@ -4,6 +4,7 @@
 #![tactic(auto)]
 
 mod mix;
+mod samples;
 
 use anyhow::bail;
 use std::env;
@@ -16,6 +17,7 @@ fn main(rt: HostRuntime) -> anyhow::Result<()> {
     };
     match word.as_str() {
         "mix" => mix::time_shapes(&rt, rt.alloc()),
+        "samples" => samples::time_samples(&rt),
         _ => bail!("no kernel has this name"),
     }
 }
