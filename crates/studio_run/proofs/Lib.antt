@@ -1,0 +1,6 @@
+pub mod DecimalLemmas
+pub mod FieldsLemmas
+pub mod LinesLemmas
+pub mod NumberLemmas
+pub mod ReadLemmas
+pub mod TraceLemmas
