@@ -1,4 +1,7 @@
 //! Readings of the receiver's clock, and the two clocks of a stream.
+ghost use Rattle.std.specs.Prelude.{◌^◌, pos, ◌≤ℤ◌, All};
+ghost use Rattle.path_merge.specs.Runs.{IsEventOf};
+
 use super::*;
 use std::test::Fail;
 
@@ -105,15 +108,8 @@ fn silence_is_told_before_the_first_slot_alone(rt: HostRuntime) -> Result<(), Fa
 #[test]
 fn a_run_names_the_first_reading_out_of_order(rt: HostRuntime) -> Result<(), Fail> {
     let spec = stream()?;
-    let first = packet(1, 0).with_len(spec.payload_len());
-    assert!(rt; spec.fits(&first));
-    let path = Path::new(0).ok_or("path 0")?;
-    let back = [
-        Event::Tick(6),
-        Event::Arrive(path, first),
-        Event::Tick(5),
-        Event::Tick(4),
-    ];
+    let arrival = event(&rt, &spec, Step::On(0, packet(1, 0)));
+    let back = [Event::Tick(6), arrival, Event::Tick(5), Event::Tick(4)];
     assert_eq!(rt;
         clock_fault(rt.alloc(), spec, 0, &back),
         Some(2),
@@ -143,7 +139,11 @@ fn a_run_names_the_first_reading_out_of_order(rt: HostRuntime) -> Result<(), Fai
 }
 
 /// The place that a run names.
-fn clock_fault(alloc: Global, spec: StreamSpec, open_at: i64, events: &[Event]) -> Option<usize> {
+fn clock_fault(alloc: Global, spec: StreamSpec, open_at: i64, events: &[Event]) -> Option<usize>
+    requires not_low { pos 0 ≤ℤ open_at }
+    requires not_high { open_at ≤ℤ pos (2 ^ 60) }
+    requires of_stream { All (IsEventOf spec) events.now }
+{
     match run_merge(alloc, spec, open_at, events) {
         Err(RunFault::Clock(place)) => Some(place),
         _ => None,

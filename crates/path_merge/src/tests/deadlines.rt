@@ -61,7 +61,7 @@ fn the_window_ends_at_its_width(rt: HostRuntime) -> Result<(), Fail> {
 fn every_boundary_of_a_deadline_and_of_the_window(rt: HostRuntime) -> Result<(), Fail> {
     let spec = stream()?;
     for (time, next, first) in [
-        (0, 0, Fate::Double),
+        (0, 0u16, Fate::Double),
         (11, 0, Fate::Double),
         (12, 1, Fate::Taken),
         (13, 1, Fate::Taken),
@@ -74,11 +74,12 @@ fn every_boundary_of_a_deadline_and_of_the_window(rt: HostRuntime) -> Result<(),
     ] {
         for (k, want) in [
             (next, first),
-            (next + 1, Fate::Taken),
-            (next + 7, Fate::Taken),
-            (next + 8, Fate::Ahead),
+            (next.wrapping_add(1), Fate::Taken),
+            (next.wrapping_add(7), Fate::Taken),
+            (next.wrapping_add(8), Fate::Ahead),
         ] {
-            let fate = fate_at(&rt, rt.alloc(), spec, time, packet(1 + k, 6 * u32::from(k)))?;
+            let sent = packet(k.wrapping_add(1), 6 * u32::from(k));
+            let fate = fate_at(&rt, rt.alloc(), spec, time, sent)?;
             assert_eq!(rt; fate, want, "number 65537 + {k} at {time}");
         }
         let before = packet(next, (6 * u32::from(next)).wrapping_sub(6));

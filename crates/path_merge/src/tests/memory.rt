@@ -1,6 +1,9 @@
 //! Want of memory: `rt try --test --fail-alloc N` refuses the Nth allocation of each test.
 //!
 //! The tests of this file pass for every N: of two like calls one at most is refused, and answers so.
+ghost use Rattle.std.specs.Prelude.{All};
+ghost use Rattle.path_merge.specs.Runs.{IsEventOf};
+
 use super::*;
 use std::test::Fail;
 
@@ -20,10 +23,8 @@ fn each_refused_allocation_is_answered(rt: HostRuntime) -> Result<(), Fail> {
 #[test]
 fn each_refused_allocation_of_a_run_is_answered(rt: HostRuntime) -> Result<(), Fail> {
     let spec = stream()?;
-    let sent = packet(1, 0).with_len(spec.payload_len());
-    let path = Path::new(0).ok_or("path 0")?;
-    assert!(rt; path.number() < spec.paths() && spec.fits(&sent));
-    let events = [Event::Arrive(path, sent), Event::Tick(606), Event::Close];
+    let arrival = event(&rt, &spec, Step::On(0, packet(1, 0)));
+    let events = [arrival, Event::Tick(606), Event::Close];
     let first = mark_count(&rt, rt.alloc(), spec, &events);
     let second = mark_count(&rt, rt.alloc(), spec, &events);
     let counts = [first.unwrap_or(101), second.unwrap_or(101)];
@@ -36,7 +37,9 @@ fn each_refused_allocation_of_a_run_is_answered(rt: HostRuntime) -> Result<(), F
 }
 
 /// How many marks a run gave, or none for want of memory.
-fn mark_count(rt: &impl Abort, alloc: Global, spec: StreamSpec, events: &[Event]) -> Option<usize> {
+fn mark_count(rt: &impl Abort, alloc: Global, spec: StreamSpec, events: &[Event]) -> Option<usize>
+    requires { All (IsEventOf spec) events.now }
+{
     match run_merge(alloc, spec, 0, events) {
         Ok(marks) => Some(marks.len()),
         Err(RunFault::Memory(_)) => None,
