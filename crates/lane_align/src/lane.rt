@@ -1,6 +1,7 @@
 //! One stream's marks as frames at media times.
 ghost use Rattle.std.specs.Prelude.{◌≡◌, ◌+◌, ◌*◌, ◌^◌, ◌<◌, ◌≤◌, [], ◌∷◌, ◌++◌, List, ℤ, ℕ, pos, ◌+ℤ◌, ◌≤ℤ◌, ◌<ℤ◌, true, false, not, Some, length, take, IfOk};
-ghost use Rattle.path_merge.specs.StreamSpecFacts.{Stream, format_of, is_packet_time};
+ghost use Rattle.path_merge.specs.StreamSpecFacts.{Stream, format_of};
+ghost use Rattle.rtp_wire.specs.PacketTime.{is_packet_time};
 ghost use Rattle.path_merge.specs.MarkFacts.{MarkView, HasLength, payload_length};
 ghost use Rattle.path_merge.specs.MarkList as list;
 ghost use Rattle.path_merge.specs.declared.mark.Body.{Body};

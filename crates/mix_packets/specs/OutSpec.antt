@@ -1,7 +1,8 @@
 -- What an output's specification says, and what is true of every one.
-use Rattle.std.specs.Prelude.{◌≡◌, ℕ, ◌+◌, ◌*◌, ◌^◌, ◌<◌, ◌≤◌, ℤ, pos, ◌≤ℤ◌, Bool, true, not, ◌&&◌, ◌||◌, nat_eq, nat_lt, nat_le, int_le, Option, Some, None, if◌then◌else◌}
+use Rattle.std.specs.Prelude.{◌≡◌, ℕ, ◌+◌, ◌*◌, ◌^◌, ◌<◌, ◌≤◌, ℤ, pos, ◌≤ℤ◌, true, not, ◌&&◌, nat_lt, nat_le, int_le, Option, Some, None, if◌then◌else◌}
 use Rattle.rtp_wire.specs.declared.encoding.Enc.{Enc}
 use Rattle.rtp_wire.specs.declared.encoding.Enc.TheVariants.{L16, L24}
+use Rattle.rtp_wire.specs.PacketTime.{is_packet_time}
 use Rattle.rtp_wire.specs.Sample.{octets_per_sample}
 use Rattle.mix_packets.specs.declared.out_spec.OutFault.{OutFault}
 use Rattle.mix_packets.specs.declared.out_spec.OutFault.TheVariants.{Channels, Frames, PayloadType, TooLong, Start}
@@ -16,10 +17,6 @@ pub record Output : Type 0 where
   pub seq0 : ℕ
   pub start : ℤ
   pub offset : ℕ
-
--- the packet times of AES67 and ST 2110-30 at 48 kHz, in sampling instants
-abbrev pub is_packet_time : ℕ → Bool
-is_packet_time frames = nat_eq frames 6 || (nat_eq frames 12 || (nat_eq frames 16 || (nat_eq frames 48 || nat_eq frames 192)))
 
 -- the samples of a block
 abbrev pub sample_total : Output → ℕ

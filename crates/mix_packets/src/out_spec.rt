@@ -1,9 +1,8 @@
 //! What is fixed of an output before its first packet.
 ghost use Rattle.std.specs.Prelude.{◌≡◌, ◌≤◌, None, Some, IfOk, IfErr};
-ghost use Rattle.mix_packets.specs.OutSpec as spec;
 ghost use Rattle.mix_packets.specs.OutSpec.{Output, IsOutput, datagram_length, out_fault_of, shift_of};
 
-use rtp_wire::Enc;
+use rtp_wire::{Enc, is_packet_time};
 use std::marker::Model;
 use thiserror::Error;
 
@@ -53,13 +52,6 @@ impl Model for OutSpec {
     ghost invariant = { λ s. IsOutput (record { enc = s.enc; channels = s.channels; frames = s.frames; pt = s.pt; ssrc = s.ssrc; seq0 = s.seq0; start = s.start; offset = s.offset }) };
 
     ghost inverse = { λ s. record { enc = s.enc; channels = s.channels; frames = s.frames; pt = s.pt; ssrc = s.ssrc; seq0 = s.seq0; start = s.start; offset = s.offset } };
-}
-
-/// Whether packets may have this many sampling instants.
-fn is_packet_time(frames: u16) -> bool
-    ensures { result ≡ spec.is_packet_time frames }
-{
-    frames == 6 || frames == 12 || frames == 16 || frames == 48 || frames == 192
 }
 
 impl OutSpec {

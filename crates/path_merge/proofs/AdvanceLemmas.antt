@@ -1,6 +1,6 @@
 -- An advance, over the values that contracts see.
 use Rattle.std.proofs.Common.{◌≡◌, ℕ, ◌+◌, ◌-◌, ◌^◌, ◌<◌, Bool, true, false, not, List, [], ◌∷◌, Option, Some, None, ℤ, pos, ◌-ℤ◌, ◌≤ℤ◌, ◌<ℤ◌, refl, sym, ap, subst, ◌∙◌, arith, if◌then◌else◌, ◌||◌}
-use Rattle.std.specs.Prelude.{int_le, nat_eq}
+use Rattle.std.specs.Prelude.{int_le, int_lt, nat_eq}
 use Rattle.std.specs.FinMap.{get}
 use Rattle.std.proofs.lemmas.Bool.Decides.{nat_tests}
 use Rattle.std.proofs.lemmas.Int.{ints}
@@ -19,10 +19,27 @@ use Rattle.path_merge.specs.MarkFacts.{MarkView}
 use Rattle.path_merge.specs.Marks.{body_of, has_slot, is_slot, marks_of, quiet_mark, slot_mark, slots_between}
 use Rattle.path_merge.specs.Merge.{HasHistory, slot_count}
 use Rattle.path_merge.specs.MergeState.{IsAnchoredOrNot, IsSound, MergeState}
-use Rattle.path_merge.specs.Steps.{Advances, IsBeforeDeadline, IsSlotStep, IsTimeStep, Moves, is_quiet_due, is_slot_mark, stop_at}
+use Rattle.path_merge.specs.Steps.{Advances, IsBeforeDeadline, IsSlotStep, IsTimeStep, Moves, clock_fault_of, is_quiet_due, is_slot_mark, stop_at}
 use Rattle.path_merge.specs.StreamSpecFacts.{Stream}
 use Rattle.path_merge.specs.declared.anchor.Anchor.{Anchor}
+use Rattle.path_merge.specs.declared.clock.ClockFault.TheVariants.{Closed as ClockClosed, TooFar, WentBack}
 use Rattle.path_merge.specs.declared.event.Event.{Event}
+
+-- an open merge at a reading that is not refused
+pub record IsAtReading (m : MergeState) (media now : ℤ) : Type 0 where
+  pub sound : IsSound m media
+  pub open_yet : m.closed ≡ false
+  pub not_back : m.time ≤ℤ now
+  pub not_far : now ≤ℤ pos (2 ^ 60)
+
+pub at_reading : (m seen : MergeState) (media now : ℤ) → m ≡ seen → IsSound m media → clock_fault_of m.time m.closed now ≡ None → IsAtReading seen media now
+at_reading m seen media now same sound none = subst (λ x. IsAtReading x media now) same (by_tests (int_lt now m.time) (int_lt (pos (2 ^ 60)) now) m.closed refl refl refl none)
+  where
+    by_tests : (back far shut : Bool) → int_lt now m.time ≡ back → int_lt (pos (2 ^ 60)) now ≡ far → m.closed ≡ shut → (if back then Some WentBack else if far then Some TooFar else if shut then Some ClockClosed else None) ≡ None → IsAtReading m media now
+    by_tests true far shut b f c e = cc
+    by_tests false true shut b f c e = cc
+    by_tests false false true b f c e = cc
+    by_tests false false false b f c e = record { sound = sound; open_yet = c; not_back = grind (arith, ints, b); not_far = grind (arith, ints, f) }
 
 -- whether no slot was ever given, as the code tells it
 abbrev pub no_slot_of : Option Anchor → ℕ → Bool

@@ -16,9 +16,12 @@ pub mod AdvanceLemmas
 pub mod CloseLemmas
 pub mod LeftLemmas
 pub mod ArrivalLemmas
+pub mod FateLemmas
+pub mod PutLemmas
 pub mod OfferLemmas
 pub mod FirstLemmas
 pub mod RunLemmas
 pub mod LawLemmas
 pub mod ShapeLemmas
+pub mod SpanLemmas
 pub mod GainLemmas

@@ -24,7 +24,7 @@ use Rattle.path_merge.specs.StreamSpecFacts.{Stream}
 use Rattle.path_merge.specs.declared.event.Event.{Event}
 use Rattle.path_merge.specs.declared.event.Event.TheVariants.{Arrive, Close, Tick}
 use Rattle.path_merge.specs.declared.fate.Fate.{Fate}
-use Rattle.path_merge.specs.declared.merge.ClockFault.TheVariants.{TooFar, WentBack, Closed as ClockClosed}
+use Rattle.path_merge.specs.declared.clock.ClockFault.TheVariants.{TooFar, WentBack, Closed as ClockClosed}
 use Rattle.path_merge.specs.declared.packet.Packet.{Packet}
 
 -- the place of a fault in the rest of a list

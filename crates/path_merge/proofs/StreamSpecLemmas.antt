@@ -4,7 +4,8 @@ use Rattle.std.specs.Prelude.{nat_eq, nat_lt, nat_le}
 use Rattle.std.proofs.lemmas.Bool.Decides.{nat_tests}
 use Rattle.path_merge.specs.declared.stream_spec.SpecFault.TheVariants.{Channels, Frames, PayloadType, TooLong, Window, Latency, Paths}
 use Rattle.path_merge.specs.MarkFacts.{payload_length}
-use Rattle.path_merge.specs.StreamSpecFacts.{Stream, IsStream, format_of, is_packet_time, is_window, packets_fault_of, times_fault_of}
+use Rattle.path_merge.specs.StreamSpecFacts.{Stream, IsStream, format_of, is_window, packets_fault_of, times_fault_of}
+use Rattle.rtp_wire.specs.PacketTime.{is_packet_time}
 
 -- where a chain of tests finds nothing, each test fails
 none_of_four : {A : Type 0} (a b c d : Bool) (w x y z : A) → (if a then Some w else if b then Some x else if c then Some y else if d then Some z else None) ≡ None → (a ≡ false) × (b ≡ false) × (c ≡ false) × (d ≡ false)

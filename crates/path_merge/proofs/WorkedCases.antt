@@ -1,17 +1,16 @@
 -- Worked cases of the definitions, computed.
-use Rattle.std.specs.Prelude.{◌≡◌, ℕ, List, [], ◌∷◌, ◌++◌, ℤ, pos, negsuc, Option, Some, None, true, false, refl}
+use Rattle.std.specs.Prelude.{◌≡◌, ℕ, List, [], ◌∷◌, ◌++◌, ℤ, pos, negsuc, Some, None, true, refl}
 use Rattle.rtp_wire.specs.declared.encoding.Enc.TheVariants.{L24}
 use Rattle.path_merge.specs.StreamSpecFacts.{Stream, format_of}
 use Rattle.path_merge.specs.MarkFacts.{MarkView}
 use Rattle.path_merge.specs.declared.stream_spec.StreamClock.{StreamClock}
 use Rattle.path_merge.specs.declared.stream_spec.StreamClock.TheVariants.{Media, Arrival}
 use Rattle.path_merge.specs.declared.packet.Packet.{Packet}
-use Rattle.path_merge.specs.declared.mark.Body.{Body}
 use Rattle.path_merge.specs.declared.mark.Body.TheVariants.{Got, Lost}
 use Rattle.path_merge.specs.declared.mark.MarkKind.TheVariants.{Slot, Quiet, End}
 use Rattle.path_merge.specs.declared.event.Event.{Event}
 use Rattle.path_merge.specs.declared.event.Event.TheVariants.{Arrive, Tick, Close}
-use Rattle.path_merge.specs.declared.fate.Fate.TheVariants.{Closed, CountersFull, WrongSource, OffGrid, Late, Ahead, Taken, Double, Unlike}
+use Rattle.path_merge.specs.declared.fate.Fate.TheVariants.{Closed, WrongSource, OffGrid, Late, Ahead, Taken, Double, Unlike}
 use Rattle.path_merge.specs.History.{at_places, first_clock_fault}
 use Rattle.path_merge.specs.Anchor.{anchor_of}
 use Rattle.path_merge.specs.Copies.{copies_of}

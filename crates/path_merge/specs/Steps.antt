@@ -9,8 +9,8 @@ use Rattle.path_merge.specs.declared.fate.Fate.{Fate}
 use Rattle.path_merge.specs.declared.fate.Fate.TheVariants.{WrongSource, OffGrid, Late, Ahead}
 use Rattle.path_merge.specs.declared.event.Event.{Event}
 use Rattle.path_merge.specs.declared.event.Event.TheVariants.{Arrive, Tick}
-use Rattle.path_merge.specs.declared.merge.ClockFault.{ClockFault}
-use Rattle.path_merge.specs.declared.merge.ClockFault.TheVariants.{WentBack, TooFar, Closed}
+use Rattle.path_merge.specs.declared.clock.ClockFault.{ClockFault}
+use Rattle.path_merge.specs.declared.clock.ClockFault.TheVariants.{WentBack, TooFar, Closed}
 use Rattle.path_merge.specs.History.{time_of, is_closed, is_well_timed, events_until_close}
 use Rattle.path_merge.specs.Anchor.{anchor_of, anchor_from, deadline_of, next_number}
 use Rattle.path_merge.specs.Copies.{copies_of, extended_number, is_on_grid}

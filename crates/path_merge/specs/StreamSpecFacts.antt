@@ -1,5 +1,6 @@
 -- What a stream's specification says, and what is true of every one.
 use Rattle.std.specs.Prelude.{◌≡◌, ℕ, ◌+◌, ◌*◌, ◌^◌, ◌<◌, ◌≤◌, Bool, true, not, ◌&&◌, ◌||◌, nat_eq, nat_lt, nat_le, Option, Some, None, if◌then◌else◌}
+use Rattle.rtp_wire.specs.PacketTime.{is_packet_time}
 use Rattle.rtp_wire.specs.declared.encoding.Enc.{Enc}
 use Rattle.path_merge.specs.declared.mark.Format.{Format}
 use Rattle.path_merge.specs.declared.stream_spec.StreamClock.{StreamClock}
@@ -21,10 +22,6 @@ pub record Stream : Type 0 where
 
 abbrev pub format_of : Stream → Format
 format_of stream = record { enc = stream.enc; channels = stream.channels; frames = stream.frames }
-
--- the packet times of AES67 and ST 2110-30 at 48 kHz, in sampling instants
-abbrev pub is_packet_time : ℕ → Bool
-is_packet_time frames = nat_eq frames 6 || (nat_eq frames 12 || (nat_eq frames 16 || (nat_eq frames 48 || nat_eq frames 192)))
 
 -- a power of two from 8 to 16,384
 abbrev pub is_window : ℕ → Bool

@@ -11,9 +11,10 @@ ghost use Rattle.path_merge.specs.Runs.{HasGiven, IsEventOf, IsInOrder, IsRunFau
 ghost use Rattle.path_merge.specs.Steps.{clock_fault_of};
 ghost use Rattle.path_merge.specs.StreamSpecFacts.{Stream};
 
+use crate::clock::clock_fault;
 use crate::event::Event;
 use crate::mark::{Mark, MarkKind};
-use crate::merge::{LATEST, Merge};
+use crate::merge::Merge;
 use crate::stream_spec::StreamSpec;
 use crate::window::Window;
 use std::alloc::{AllocError, Global};
@@ -97,12 +98,10 @@ fn clock_after(time: i64, closed: bool, event: &Event) -> Option<(i64, bool)>
 {
     match event {
         Event::Arrive(_, _) => Some((time, closed)),
-        Event::Tick(now) => {
-            if closed || *now < time || *now > LATEST {
-                return None;
-            }
-            Some((*now, closed))
-        }
+        Event::Tick(now) => match clock_fault(time, closed, *now) {
+            Some(_) => None,
+            None => Some((*now, closed)),
+        },
         Event::Close => Some((time, true)),
     }
 }

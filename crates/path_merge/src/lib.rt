@@ -2,6 +2,8 @@
 #![tactic(auto)]
 
 mod anchor;
+mod arrival;
+mod clock;
 mod counts;
 mod event;
 mod fate;
@@ -15,6 +17,7 @@ mod path;
 mod stream_spec;
 mod window;
 
+pub use clock::ClockFault;
 pub use counts::Counts;
 pub use event::Event;
 pub use fate::Fate;
@@ -24,7 +27,7 @@ pub use laws::{
     merges_stand_at_their_histories, next_number_is_the_least_due, ticks_may_be_split,
 };
 pub use mark::{Body, Format, Mark, MarkKind};
-pub use merge::{ClockFault, Merge};
+pub use merge::Merge;
 pub use nearest::{near16, near32};
 pub use packet::Packet;
 pub use path::Path;

@@ -15,34 +15,18 @@ ghost use Rattle.path_merge.specs.StreamSpecFacts.{Stream};
 ghost use Rattle.path_merge.specs.declared.anchor.Anchor.{Anchor};
 ghost use Rattle.path_merge.specs.declared.packet.Packet.{Packet};
 
-use crate::anchor::{Anchor, is_in_step, is_wanted, media_of_first, number_of};
+use crate::anchor::{Anchor, media_of_first, number_of};
+use crate::arrival::{fate_of, fate_of_first, is_taken, place_fault};
+use crate::clock::{ClockFault, clock_fault};
 use crate::counts::Counts;
 use crate::fate::Fate;
 use crate::mark::{Body, Format, Mark};
 use crate::packet::Packet;
 use crate::path::Path;
 use crate::stream_spec::StreamSpec;
-use crate::window::{Put, SortedWindow, Window};
+use crate::window::{SortedWindow, Window};
 use std::alloc::{AllocError, Global};
 use std::marker::Model;
-use thiserror::Error;
-
-/// Why a clock reading was refused: the first of these, in this order.
-#[derive(Clone, Copy, Debug, PartialEq, Eq, Error)]
-pub enum ClockFault {
-    /// It is before the time.
-    #[error("the clock went back")]
-    WentBack,
-    /// It is past 2^60.
-    #[error("the clock is past 2^60")]
-    TooFar,
-    /// The stream is closed.
-    #[error("the stream is closed")]
-    Closed,
-}
-
-/// No time is past this one: 2^60 sampling instants.
-pub const LATEST: i64 = 1_152_921_504_606_846_976;
 
 /// So many arrivals are counted: 2^62.
 const MOST_ARRIVALS: u64 = 4_611_686_018_427_387_904;
@@ -105,24 +89,6 @@ impl<V: Window> Model for Merge<V> {
     }) m.next_media };
 }
 
-/// The fate of a packet that was put.
-fn fate_of(put: Put) -> Fate
-    ensures { result ≡ fate_of_put put }
-{
-    match put {
-        Put::Taken => Fate::Taken,
-        Put::Double => Fate::Double,
-        Put::Unlike => Fate::Unlike,
-    }
-}
-
-/// Whether a packet was taken.
-fn is_taken(fate: Fate) -> bool
-    ensures { result ≡ is_taken_fate fate }
-{
-    matches!(fate, Fate::Taken)
-}
-
 /// Whether a Quiet is given, where the last one was at `last`.
 fn is_silence_new(no_slot: bool, last: i64, until: i64) -> bool
     ensures { result ≡ is_quiet_due no_slot last until }
@@ -138,59 +104,6 @@ fn body_from(packet: Option<Packet>) -> Body
         Some(packet) => Body::Got(packet.payload),
         None => Body::Lost,
     }
-}
-
-/// Why a packet is no copy in time, where `next` is due next, at `media`.
-fn place_fault(
-    spec: &StreamSpec,
-    anchor: &Anchor,
-    next: u64,
-    media: i64,
-    packet: &Packet,
-) -> Option<Fate>
-    requires low { 65536 ≤ next }
-    requires high { next ≤ 2 ^ 61 }
-    requires media_low { neg_ℤ (pos (2 ^ 61)) ≤ℤ media }
-    requires media_high { media ≤ℤ pos (2 ^ 61) }
-    requires anchor_low { neg_ℤ (pos (2 ^ 61)) ≤ℤ anchor.now.media }
-    requires anchor_high { anchor.now.media ≤ℤ pos (2 ^ 61) }
-    requires media_is { media ≡ media_time_of spec.now anchor.now next }
-    ensures { result ≡ place_fault_of spec.now anchor.now next packet.now }
-{
-    if packet.ssrc != anchor.source {
-        return Some(Fate::WrongSource);
-    }
-    let number = number_of(packet, next);
-    let there = media + (number as i64 - next as i64) * i64::from(spec.frames());
-    if !is_in_step(anchor, there, packet.ts) {
-        return Some(Fate::OffGrid);
-    }
-    if number < next {
-        return Some(Fate::Late);
-    }
-    if number >= next + u64::from(spec.window()) {
-        return Some(Fate::Ahead);
-    }
-    None
-}
-
-/// The fate of a packet that would be the first, at `media`.
-fn fate_of_first(spec: &StreamSpec, time: i64, media: i64, source: u32) -> Fate
-    requires low { pos 0 ≤ℤ time }
-    requires high { time ≤ℤ pos (2 ^ 60) }
-    ensures { (packet : Packet) → packet.ssrc ≡ source → media ≡ base_media_time spec.now.clock packet.ts time → result ≡ first_fate spec.now time packet }
-{
-    if !is_wanted(spec.ssrc(), source) {
-        return Fate::WrongSource;
-    }
-    let earliest = time - i64::from(spec.latency());
-    if media <= earliest {
-        return Fate::Late;
-    }
-    if media >= earliest + i64::from(spec.window()) * i64::from(spec.frames()) {
-        return Fate::Ahead;
-    }
-    Fate::Taken
 }
 
 /// Takes the slot of a window's base, and counts it.
@@ -370,14 +283,8 @@ impl<V: Window> Merge<V> {
         ensures fault { IfErr result (λ fault. clock_fault_of self.old.time self.old.closed now ≡ Some fault) }
         ensures err { OnErr result (self.new ≡ self.old) }
     {
-        if now < self.time {
-            return Err(ClockFault::WentBack);
-        }
-        if now > LATEST {
-            return Err(ClockFault::TooFar);
-        }
-        if self.closed {
-            return Err(ClockFault::Closed);
+        if let Some(fault) = clock_fault(self.time, self.closed, now) {
+            return Err(fault);
         }
         match self.anchor {
             None => Ok(self.pass_to(now, true)),

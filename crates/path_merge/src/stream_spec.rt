@@ -6,7 +6,7 @@ ghost use Rattle.path_merge.specs.MarkFacts.{payload_length};
 
 use crate::mark::Format;
 use crate::packet::Packet;
-use rtp_wire::{Enc, Payload, RtpView};
+use rtp_wire::{Enc, Payload, RtpView, is_packet_time};
 use std::marker::Model;
 use thiserror::Error;
 
@@ -80,13 +80,6 @@ impl Model for StreamSpec {
     ghost invariant = { λ s. IsStream (record { enc = s.enc; channels = s.channels; frames = s.frames; pt = s.pt; ssrc = s.ssrc; clock = s.clock; latency = s.latency; window = s.window; paths = s.paths }) };
 
     ghost inverse = { λ s. record { enc = s.enc; channels = s.channels; frames = s.frames; pt = s.pt; ssrc = s.ssrc; clock = s.clock; latency = s.latency; window = s.window; paths = s.paths } };
-}
-
-/// Whether packets may have this many sampling instants.
-fn is_packet_time(frames: u16) -> bool
-    ensures { result ≡ spec.is_packet_time frames }
-{
-    frames == 6 || frames == 12 || frames == 16 || frames == 48 || frames == 192
 }
 
 /// Whether a reorder window may have this many packets: a power of two from 8 to 16,384.
@@ -181,7 +174,8 @@ impl StreamSpec {
     }
 
     pub fn format(&self) -> Format
-        ensures { result ≡ format_of self.now }
+        ensures value { result ≡ format_of self.now }
+        ensures sound { IsStream self.now }
     {
         Format {
             enc: self.enc,
@@ -257,7 +251,6 @@ impl StreamSpec {
         ensures value { result ≡ payload_length (format_of self.now) }
         ensures short { result ≤ 1440 }
     {
-        let _ = &self.enc;
         self.format().payload_len()
     }
 

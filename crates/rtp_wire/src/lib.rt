@@ -9,6 +9,7 @@ mod encoding;
 mod fault;
 mod header;
 mod laws;
+mod packet_time;
 mod samples;
 #[cfg(test)]
 mod tests;
@@ -18,4 +19,5 @@ pub use encoding::{Enc, Payload};
 pub use fault::WireFault;
 pub use header::{RtpHead, write_head};
 pub use laws::{datagrams_are_read_one_way, written_heads_read_back};
+pub use packet_time::is_packet_time;
 pub use samples::{read_samples, sample, write_sample, write_samples};

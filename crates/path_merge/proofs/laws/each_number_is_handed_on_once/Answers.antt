@@ -1,5 +1,5 @@
 use Rattle.path_merge.proofs.GainLemmas.{close_gives, slots_told, tick_gives}
-use Rattle.path_merge.proofs.ShapeLemmas.{spanned}
+use Rattle.path_merge.proofs.SpanLemmas.{spanned}
 use Rattle.path_merge.proofs.laws.each_number_is_handed_on_once.Goals as goal
 
 pub returns-clause-span : goal.returns-clause-span

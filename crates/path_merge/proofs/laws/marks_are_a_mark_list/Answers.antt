@@ -1,4 +1,4 @@
-use Rattle.path_merge.proofs.ShapeLemmas.{listed}
+use Rattle.path_merge.proofs.SpanLemmas.{listed}
 use Rattle.path_merge.proofs.laws.marks_are_a_mark_list.Goals as goal
 
 pub returns-clause-whole : goal.returns-clause-whole

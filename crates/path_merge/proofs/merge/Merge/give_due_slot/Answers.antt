@@ -34,7 +34,7 @@ take_slot-requires-clause-time g c =
 pub take_slot-requires-clause-len : goal.take_slot-requires-clause-len
 take_slot-requires-clause-len g c =
     let is_a = ap (λ (m : MergeState). m.anchor) c.self.view_is ∙ c.requires.anchored in
-    rw c.format-format.ensures (base_fits _ c.self.inside.next_media c.args.anchor c.self.invariant is_a)
+    rw c.format-format.ensures.value (base_fits _ c.self.inside.next_media c.args.anchor c.self.invariant is_a)
 
 pub take_slot-requires-clause-held : goal.take_slot-requires-clause-held
 take_slot-requires-clause-held g c =
@@ -85,4 +85,4 @@ returns-clause-mark g c =
     let is_a = ap (λ (m : MergeState). m.anchor) c.self.view_is ∙ c.requires.anchored in
     let open_yet = ap (λ (m : MergeState). m.closed) c.self.view_is ∙ c.requires.open_yet in
     let t = due_times _ c.self.inside.next_media c.args.anchor c.self.invariant is_a open_yet in
-    rw (← c.self.view_is) (mark_is _ _ _ _ _ _ _ _ c.take_slot.ensures.mark c.format-format.ensures (omega (arith, ints, t.media_low, t.media_high, t.media_is)))
+    rw (← c.self.view_is) (mark_is _ _ _ _ _ _ _ _ c.take_slot.ensures.mark c.format-format.ensures.value (omega (arith, ints, t.media_low, t.media_high, t.media_is)))

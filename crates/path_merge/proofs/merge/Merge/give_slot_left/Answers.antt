@@ -25,7 +25,7 @@ take_slot-requires-clause-time g c =
     (omega (arith, ints, t.1, t.2), omega (arith, ints, t.1, t.2))
 
 pub take_slot-requires-clause-len : goal.take_slot-requires-clause-len
-take_slot-requires-clause-len g c = rw c.format-format.ensures (base_fits _ c.self.inside.next_media c.in_ok-anchor.anchor c.self.invariant c.in_ok-anchor.was)
+take_slot-requires-clause-len g c = rw c.format-format.ensures.value (base_fits _ c.self.inside.next_media c.in_ok-anchor.anchor c.self.invariant c.in_ok-anchor.was)
 
 pub take_slot-requires-clause-held : goal.take_slot-requires-clause-held
 take_slot-requires-clause-held g c = λ got. room_for_got _ c.self.inside.next_media c.in_ok-anchor.anchor c.self.invariant c.in_ok-anchor.was got

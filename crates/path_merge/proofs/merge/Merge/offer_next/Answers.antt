@@ -7,7 +7,8 @@ use Rattle.path_merge.specs.Copies.{extended_number}
 use Rattle.path_merge.specs.CountsFacts.{with_fate}
 use Rattle.path_merge.specs.Counts.{tally_of}
 use Rattle.path_merge.proofs.SoundLemmas.{due_times, base_small}
-use Rattle.path_merge.proofs.OfferLemmas.{next_step_fault, next_step_put, in_window, sound_put, fault_untaken}
+use Rattle.path_merge.proofs.FateLemmas.{in_window, fault_untaken}
+use Rattle.path_merge.proofs.PutLemmas.{next_step_fault, next_step_put, sound_put}
 use Rattle.path_merge.proofs.FirstLemmas.{sound_refused}
 use Rattle.path_merge.proofs.merge.Merge.offer_next.Goals as goal
 

@@ -1,0 +1,84 @@
+//! What becomes of an arrival, test by test.
+ghost use Rattle.std.specs.Prelude.{◌≡◌, ◌^◌, ◌≤◌, ℤ, pos, ◌≤ℤ◌, neg_ℤ};
+ghost use Rattle.path_merge.specs.Anchor.{base_media_time, media_time_of};
+ghost use Rattle.path_merge.specs.Counts.{is_taken_fate};
+ghost use Rattle.path_merge.specs.Fate.{fate_of_put, first_fate};
+ghost use Rattle.path_merge.specs.Steps.{place_fault_of};
+ghost use Rattle.path_merge.specs.declared.packet.Packet.{Packet};
+
+use crate::anchor::{Anchor, is_in_step, is_wanted, number_of};
+use crate::fate::Fate;
+use crate::packet::Packet;
+use crate::stream_spec::StreamSpec;
+use crate::window::Put;
+
+/// The fate of a packet that was put.
+pub fn fate_of(put: Put) -> Fate
+    ensures { result ≡ fate_of_put put }
+{
+    match put {
+        Put::Taken => Fate::Taken,
+        Put::Double => Fate::Double,
+        Put::Unlike => Fate::Unlike,
+    }
+}
+
+/// Whether a packet was taken.
+pub fn is_taken(fate: Fate) -> bool
+    ensures { result ≡ is_taken_fate fate }
+{
+    matches!(fate, Fate::Taken)
+}
+
+/// Why a packet is no copy in time, where `next` is due next, at `media`.
+pub fn place_fault(
+    spec: &StreamSpec,
+    anchor: &Anchor,
+    next: u64,
+    media: i64,
+    packet: &Packet,
+) -> Option<Fate>
+    requires low { 65536 ≤ next }
+    requires high { next ≤ 2 ^ 61 }
+    requires media_low { neg_ℤ (pos (2 ^ 61)) ≤ℤ media }
+    requires media_high { media ≤ℤ pos (2 ^ 61) }
+    requires anchor_low { neg_ℤ (pos (2 ^ 61)) ≤ℤ anchor.now.media }
+    requires anchor_high { anchor.now.media ≤ℤ pos (2 ^ 61) }
+    requires media_is { media ≡ media_time_of spec.now anchor.now next }
+    ensures { result ≡ place_fault_of spec.now anchor.now next packet.now }
+{
+    if packet.ssrc != anchor.source {
+        return Some(Fate::WrongSource);
+    }
+    let number = number_of(packet, next);
+    let there = media + (number as i64 - next as i64) * i64::from(spec.frames());
+    if !is_in_step(anchor, there, packet.ts) {
+        return Some(Fate::OffGrid);
+    }
+    if number < next {
+        return Some(Fate::Late);
+    }
+    if number >= next + u64::from(spec.window()) {
+        return Some(Fate::Ahead);
+    }
+    None
+}
+
+/// The fate of a packet that would be the first, at `media`.
+pub fn fate_of_first(spec: &StreamSpec, time: i64, media: i64, source: u32) -> Fate
+    requires low { pos 0 ≤ℤ time }
+    requires high { time ≤ℤ pos (2 ^ 60) }
+    ensures { (packet : Packet) → packet.ssrc ≡ source → media ≡ base_media_time spec.now.clock packet.ts time → result ≡ first_fate spec.now time packet }
+{
+    if !is_wanted(spec.ssrc(), source) {
+        return Fate::WrongSource;
+    }
+    let earliest = time - i64::from(spec.latency());
+    if media <= earliest {
+        return Fate::Late;
+    }
+    if media >= earliest + i64::from(spec.window()) * i64::from(spec.frames()) {
+        return Fate::Ahead;
+    }
+    Fate::Taken
+}
