@@ -101,12 +101,14 @@ impl OutSpec {
         })
     }
 
+    /// How each sample is written.
     pub fn enc(&self) -> Enc
         ensures { result ≡ self.now.enc }
     {
         self.enc
     }
 
+    /// Channels, 1 to 8.
     pub fn channels(&self) -> u8
         ensures value { result ≡ self.now.channels }
         ensures sound { IsOutput self.now }
@@ -122,6 +124,7 @@ impl OutSpec {
         self.frames
     }
 
+    /// The RTP payload type, 96 to 127 (RFC 3551).
     pub fn pt(&self) -> u8
         ensures value { result ≡ self.now.pt }
         ensures sound { IsOutput self.now }
@@ -129,6 +132,7 @@ impl OutSpec {
         self.pt
     }
 
+    /// The synchronization source (RFC 3550, 5.1).
     pub fn ssrc(&self) -> u32
         ensures { result ≡ self.now.ssrc }
     {

@@ -40,6 +40,7 @@ fn first_timestamp(spec: &OutSpec) -> u32
 }
 
 impl Packer {
+    /// A packer that wrote nothing yet.
     pub fn new(spec: OutSpec) -> Packer
         ensures { result ≡ record { spec = spec; number = 0 } }
     {

@@ -193,6 +193,7 @@ impl<V: Window> Merge<V> {
         self.counts
     }
 
+    /// Whether there was a close.
     pub fn closed(&self) -> bool
         ensures { result ≡ self.now.closed }
     {

@@ -32,6 +32,7 @@ pub trait Window: Drop {
     /// The packet of a number.
     ghost held: { Self → map.FinMap nat_cmp Packet };
 
+    /// The least number that there is room for.
     fn base(&self) -> u64
         ensures { result ≡ base self.now };
 
