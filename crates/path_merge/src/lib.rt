@@ -17,7 +17,7 @@ mod path;
 mod stream_spec;
 mod window;
 
-pub use clock::ClockFault;
+pub use clock::{ClockFault, clock_fault};
 pub use counts::Counts;
 pub use event::Event;
 pub use fate::Fate;

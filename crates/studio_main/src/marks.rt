@@ -3,14 +3,11 @@ ghost use Rattle.std.specs.Prelude.{All, IfOk, IfSome, ◌≤ℤ◌, ◌^◌, po
 ghost use Rattle.path_merge.specs.Runs.{IsEventOf};
 
 use crate::fault::{EventFault, Fault};
-use path_merge::{Event, RunFault, StreamClock, StreamSpec, run_merge};
+use path_merge::{Event, RunFault, StreamClock, StreamSpec, clock_fault, run_merge};
 use rtp_wire::Enc;
 use std::alloc::{AllocError, Global};
 use std::io::{Read, Write};
 use studio_run::{StudioEvent, push_listing, read_text, read_trace, write_text};
-
-/// No clock reading is past this one: 2^60 sampling instants.
-const LATEST: i64 = 1_152_921_504_606_846_976;
 
 /// The stream of a run without words: L24, mono, packets of 6 sampling instants on two paths.
 pub fn standard_stream() -> StreamSpec {
@@ -67,7 +64,7 @@ fn check_events(spec: &StreamSpec, open_at: i64, events: &[StudioEvent]) -> Resu
                 }
             }
             StudioEvent::Tick(now) => {
-                if closed || *now < time || *now > LATEST {
+                if clock_fault(time, closed, *now).is_some() {
                     return Err(Fault::Event(EventFault::Clock(place)));
                 }
                 time = *now;
