@@ -1,6 +1,7 @@
 pub mod CountsLemmas
 pub mod NearestLemmas
 pub mod SortedLemmas
+pub mod SlotWindowLemmas
 pub mod StreamSpecLemmas
 pub mod WorkedCases
 pub mod HistoryLemmas

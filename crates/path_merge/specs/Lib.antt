@@ -9,6 +9,7 @@ pub mod Marks
 pub mod MarkList
 pub mod Window
 pub mod SortedWindow
+pub mod SlotWindow
 pub mod Fate
 pub mod CountsFacts
 pub mod Counts

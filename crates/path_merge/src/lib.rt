@@ -32,7 +32,7 @@ pub use nearest::{near16, near32};
 pub use packet::Packet;
 pub use path::Path;
 pub use stream_spec::{AdmitFault, SpecFault, StreamClock, StreamSpec};
-pub use window::{Put, SortedWindow, Window};
+pub use window::{Put, SlotWindow, SortedWindow, Window};
 
 #[cfg(test)]
 mod tests;

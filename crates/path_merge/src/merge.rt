@@ -24,7 +24,7 @@ use crate::mark::{Body, Format, Mark};
 use crate::packet::Packet;
 use crate::path::Path;
 use crate::stream_spec::StreamSpec;
-use crate::window::{SortedWindow, Window};
+use crate::window::{SlotWindow, Window};
 use std::alloc::{AllocError, Global};
 use std::marker::Model;
 
@@ -132,7 +132,7 @@ fn take_slot<V: Window>(
     Mark::slot(format, epoch, number, media, body)
 }
 
-impl Merge<SortedWindow> {
+impl Merge<SlotWindow> {
     ghost use Rattle.path_merge.specs.Merge.{HasHistory};
 
     /// A merge to which nothing has happened, at its opening time.
@@ -143,7 +143,7 @@ impl Merge<SortedWindow> {
         ensures time { IfOk result (λ merge. merge.time ≡ open_at) }
         ensures open_yet { IfOk result (λ merge. merge.closed ≡ false) }
     {
-        let window = SortedWindow::new(alloc, &spec)?;
+        let window = SlotWindow::new(alloc, &spec)?;
         Ok(Merge::with_window(window, spec, open_at))
     }
 }

@@ -152,8 +152,11 @@ impl Case<'_> {
             0 <= self.open_at && self.open_at <= 1_000_000,
             "the opening time"
         );
-        let window = SortedWindow::new(alloc, &self.spec)?;
-        let merge = Merge::with_window(window, self.spec, self.open_at);
+        let slots = SlotWindow::new(alloc, &self.spec)?;
+        let merge = Merge::with_window(slots, self.spec, self.open_at);
+        self.check_calls(rt, alloc, merge)?;
+        let sorted = SortedWindow::new(alloc, &self.spec)?;
+        let merge = Merge::with_window(sorted, self.spec, self.open_at);
         self.check_calls(rt, alloc, merge)?;
         self.check_run(rt, alloc)
     }
@@ -256,7 +259,7 @@ fn octet_of(rt: &impl Abort, payload: &Payload) -> u8 {
 }
 
 /// A merge to which nothing has happened.
-fn opened(alloc: Global, spec: StreamSpec, open_at: i64) -> Result<Merge<SortedWindow>, AllocError>
+fn opened(alloc: Global, spec: StreamSpec, open_at: i64) -> Result<Merge<SlotWindow>, AllocError>
     requires not_low { pos 0 ≤ℤ open_at }
     requires not_high { open_at ≤ℤ pos (2 ^ 60) }
     ensures { IfOk result (λ merge. merge.spec ≡ spec) }

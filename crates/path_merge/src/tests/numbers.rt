@@ -1,4 +1,6 @@
 //! Sequence numbers that wrap, and packets of other cycles.
+ghost use Rattle.std.specs.Prelude.{◌≡◌};
+
 use super::*;
 use std::test::Fail;
 
@@ -71,5 +73,59 @@ fn replays_from_old_cycles_are_off_grid(rt: HostRuntime) -> Result<(), Fail> {
         },
     };
     case.check(&rt, rt.alloc())?;
+    Ok(())
+}
+
+/// Packets 65,537 to 265,536, each at its own media time, but for every thousandth.
+#[test]
+fn three_cycles_with_every_thousandth_lost(rt: HostRuntime) -> Result<(), Fail> {
+    let spec = stream()?;
+    let slots = SlotWindow::new(rt.alloc(), &spec)?;
+    loses_every_thousandth(&rt, rt.alloc(), &spec, Merge::with_window(slots, spec, 0))?;
+    let sorted = SortedWindow::new(rt.alloc(), &spec)?;
+    loses_every_thousandth(&rt, rt.alloc(), &spec, Merge::with_window(sorted, spec, 0))?;
+    Ok(())
+}
+
+fn loses_every_thousandth<W: Window>(
+    rt: &impl Abort,
+    alloc: Global,
+    spec: &StreamSpec,
+    mut merge: Merge<W>,
+) -> Result<(), AllocError>
+    requires { merge.spec ≡ spec.now }
+{
+    let mut marks = Vec::new(alloc);
+    for step in 0..200_000u32 {
+        tick(rt, &mut merge, spec, i64::from(step) * 6, &mut marks)?;
+        let number = 65_537 + step;
+        if number % 1000 != 0 {
+            let sent = packet((number % 65_536) as u16, step * 6);
+            let fate = offer(rt, &mut merge, spec, 0, sent);
+            assert_eq!(rt; fate, Fate::Taken, "number {number}");
+        }
+    }
+    close(rt, &mut merge, spec, &mut marks)?;
+    assert_eq!(rt; marks.len(), 200_002);
+    assert_eq!(rt; marks.first(), Some(&Seen::Quiet(-6)));
+    assert_eq!(rt; marks.last(), Some(&Seen::End));
+    for (step, mark) in (0..200_000u32).zip(marks.iter().skip(1)) {
+        let number = 65_537 + u64::from(step);
+        let media = i64::from(step) * 6;
+        let want = if number % 1000 == 0 {
+            Seen::Lost(number, media)
+        } else {
+            Seen::Got(number, media, 7)
+        };
+        assert_eq!(rt; *mark, want);
+    }
+    let counts = Tally {
+        arrived: 199_800,
+        taken_by: [199_800, 0, 0, 0],
+        got: 199_800,
+        lost: 200,
+        ..NONE
+    };
+    assert_eq!(rt; tally_of(&merge.counts()), counts);
     Ok(())
 }
