@@ -3,6 +3,7 @@
 //! The scripts in `bench/` build it for a processor, run it beside C and compare.
 #![tactic(auto)]
 
+mod merge;
 mod mix;
 mod samples;
 
@@ -16,6 +17,7 @@ fn main(rt: HostRuntime) -> anyhow::Result<()> {
         return Ok(());
     };
     match word.as_str() {
+        "merge" => merge::time_windows(&rt, rt.alloc()),
         "mix" => mix::time_shapes(&rt, rt.alloc()),
         "samples" => samples::time_samples(&rt),
         _ => bail!("no kernel has this name"),
