@@ -26,3 +26,5 @@ pub mod LawLemmas
 pub mod ShapeLemmas
 pub mod SpanLemmas
 pub mod GainLemmas
+pub mod AliasLemmas
+pub mod SentLemmas

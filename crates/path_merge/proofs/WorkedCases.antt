@@ -16,6 +16,9 @@ use Rattle.path_merge.specs.Anchor.{anchor_of}
 use Rattle.path_merge.specs.Copies.{copies_of}
 use Rattle.path_merge.specs.Marks.{marks_of, marks_from}
 use Rattle.path_merge.specs.MarkList.{is_mark_list}
+use Rattle.path_merge.specs.Sent.{BeginsWith, IsWithinReach, marks_by_number, sent_copies, wire_history}
+use Rattle.path_merge.specs.declared.anchor.Anchor.{Anchor}
+use Rattle.std.proofs.Common.{◌^◌, arith}
 use Rattle.path_merge.specs.Fate.{fate_of}
 use Rattle.path_merge.specs.Counts.{fates_of, counts_of}
 
@@ -48,6 +51,26 @@ wrapped = Arrive 0 (packet 65535 0 (1 ∷ [])) ∷ Arrive 1 (packet 0 6 (2 ∷ [
 wraps_from_65535_to_0 : marks_of (stream (Media 0)) (pos 0) (wrapped ++ Tick (pos 24) ∷ []) ≡ got 131071 (pos 0) (1 ∷ []) ∷ got 131072 (pos 6) (2 ∷ []) ∷ lost 131073 (pos 12) ∷ []
 unfolding marks_of marks_from anchor_of copies_of at_places
 wraps_from_65535_to_0 = refl
+
+-- the same packets under their full numbers, and one of 65,536 numbers before: its low 16 bits are those of 131072
+abbrev sent : List Event
+sent = Arrive 0 (packet 131071 0 (1 ∷ [])) ∷ Arrive 1 (packet 131072 0 (2 ∷ [])) ∷ Arrive 0 (packet 65536 0 (9 ∷ [])) ∷ Tick (pos 12) ∷ Tick (pos 18) ∷ []
+
+abbrev base : Anchor
+base = record { epoch = 0; number = 131071; timestamp = 0; media = pos 0; source = 1 }
+
+sent_begins_with_its_base : BeginsWith (stream (Media 0)) base (pos 0) sent
+sent_begins_with_its_base = (refl, refl, refl)
+
+sent_is_within_reach : IsWithinReach (stream (Media 0)) base (2 ^ 25) (pos 0) sent
+sent_is_within_reach = (omega arith, omega arith, (omega arith, omega arith, (omega arith, omega arith, tt)))
+
+sent_with_16_and_32_bits : wire_history (stream (Media 0)) base sent ≡ Arrive 0 (packet 65535 0 (1 ∷ [])) ∷ Arrive 1 (packet 0 6 (2 ∷ [])) ∷ Arrive 0 (packet 0 4294574086 (9 ∷ [])) ∷ Tick (pos 12) ∷ Tick (pos 18) ∷ []
+sent_with_16_and_32_bits = refl
+
+marks_by_full_numbers : marks_by_number (stream (Media 0)) base (pos 0) sent ≡ got 131071 (pos 0) (1 ∷ []) ∷ got 131072 (pos 6) (2 ∷ []) ∷ []
+unfolding sent_copies marks_from anchor_of at_places
+marks_by_full_numbers = refl
 
 late_after_its_deadline : fate_of (stream (Media 0)) (pos 0) (wrapped ++ Tick (pos 24) ∷ []) (packet 1 12 (3 ∷ [])) ≡ Late
 unfolding anchor_of copies_of at_places

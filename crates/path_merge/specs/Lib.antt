@@ -17,4 +17,5 @@ pub mod MergeState
 pub mod Merge
 pub mod Steps
 pub mod Runs
+pub mod Sent
 pub mod Laws

@@ -1,6 +1,6 @@
 //! What the definitions promise together. Nothing is computed here: the clauses are the laws.
-ghost use Rattle.std.specs.Prelude.{◌≡◌, ℕ, ◌+◌, ◌<◌, ◌≤◌, ℤ, ◌≤ℤ◌, List, [], ◌∷◌, ◌++◌, length, take, true, false};
-ghost use Rattle.path_merge.specs.StreamSpecFacts.{Stream, format_of};
+ghost use Rattle.std.specs.Prelude.{◌≡◌, ℕ, ◌+◌, ◌%◌, ◌^◌, ◌<◌, ◌≤◌, ℤ, ◌≤ℤ◌, List, [], ◌∷◌, ◌++◌, length, take, true, false, IfSome};
+ghost use Rattle.path_merge.specs.StreamSpecFacts.{IsStream, Stream, format_of};
 ghost use Rattle.path_merge.specs.MarkFacts.{MarkView};
 ghost use Rattle.path_merge.specs.MarkList.{is_mark_list};
 ghost use Rattle.path_merge.specs.MergeState.{MergeState};
@@ -10,7 +10,8 @@ ghost use Rattle.path_merge.specs.declared.event.Event.{Event};
 ghost use Rattle.path_merge.specs.declared.event.Event.TheVariants.{Arrive, Tick, Close};
 ghost use Rattle.path_merge.specs.History.{time_of, is_closed, is_well_timed};
 ghost use Rattle.path_merge.specs.Anchor.{anchor_of, deadline_of, next_number};
-ghost use Rattle.path_merge.specs.Copies.{copies_of};
+ghost use Rattle.path_merge.specs.Copies.{copies_of, expected_timestamp, first_copy, is_on_grid};
+ghost use Rattle.path_merge.specs.Sent.{BeginsWith, HasEqualCopies, IsWithinReach, marks_by_number, wire_history};
 ghost use Rattle.path_merge.specs.Marks.{marks_of};
 ghost use Rattle.path_merge.specs.Counts.{counts_of};
 ghost use Rattle.path_merge.specs.Merge.{HasHistory};
@@ -93,4 +94,27 @@ pub fn merges_stand_at_their_histories()
     ensures alike { (stream : Stream) (opening : ℤ) (merge : MergeState) (events others : List Event) (k : ℕ) →
         IsAlike stream opening events others → HasHistory stream opening merge events k →
         HasHistory stream opening merge others k }
+{}
+
+/// A number is known by its low 16 bits and its timestamp, among those that are less than 1,024 cycles
+/// of sequence numbers away: two of them with the same low bits have other timestamps.
+pub fn aliases_are_off_grid()
+    ensures known { (stream : Stream) (base : Anchor) (m n : ℕ) →
+        IsStream stream → m % 65536 ≡ n % 65536 → m < n + 2 ^ 26 → n < m + 2 ^ 26 →
+        expected_timestamp stream base m ≡ expected_timestamp stream base n → m ≡ n }
+    ensures off_grid { (stream : Stream) (base : Anchor) (m n : ℕ) →
+        IsStream stream → m % 65536 ≡ n % 65536 → m < n → n < m + 2 ^ 26 →
+        is_on_grid stream base m (expected_timestamp stream base n) ≡ false }
+{}
+
+/// Where no packet comes 2^25 numbers or more from the one due next, what is handed on is what was sent,
+/// under its full numbers; and where all packets of a number have one payload, its first copy has it.
+pub fn sent_numbers_are_recovered()
+    ensures marks { (stream : Stream) (base : Anchor) (opening : ℤ) (sent : List Event) →
+        IsStream stream → BeginsWith stream base opening sent → IsWithinReach stream base (2 ^ 25) opening sent →
+        marks_of stream opening (wire_history stream base sent) ≡ marks_by_number stream base opening sent }
+    ensures payload { (stream : Stream) (base : Anchor) (opening : ℤ) (sent : List Event) (number : ℕ) (payload : List ℕ) →
+        IsStream stream → BeginsWith stream base opening sent → IsWithinReach stream base (2 ^ 25) opening sent →
+        HasEqualCopies number payload sent →
+        IfSome (first_copy stream opening (wire_history stream base sent) number) (λ packet. packet.payload.items ≡ payload) }
 {}

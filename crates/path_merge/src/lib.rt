@@ -23,8 +23,9 @@ pub use event::Event;
 pub use fate::Fate;
 pub use history::{RunFault, run_merge};
 pub use laws::{
-    arrivals_change_no_mark, each_number_is_handed_on_once, marks_are_a_mark_list,
-    merges_stand_at_their_histories, next_number_is_the_least_due, ticks_may_be_split,
+    aliases_are_off_grid, arrivals_change_no_mark, each_number_is_handed_on_once,
+    marks_are_a_mark_list, merges_stand_at_their_histories, next_number_is_the_least_due,
+    sent_numbers_are_recovered, ticks_may_be_split,
 };
 pub use mark::{Body, Format, Mark, MarkKind};
 pub use merge::Merge;
