@@ -1,6 +1,7 @@
 pub mod CountsLemmas
 pub mod NearestLemmas
 pub mod SortedLemmas
+pub mod RingLemmas
 pub mod SlotWindowLemmas
 pub mod StreamSpecLemmas
 pub mod WorkedCases

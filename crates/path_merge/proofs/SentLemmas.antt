@@ -52,9 +52,6 @@ CountsAsSent stream base next packet =
     ≡ one_copy (nat_le next packet.seq && nat_lt packet.seq (next + stream.window)) packet.seq (wire_packet stream base packet)
 
 module _ (stream : Stream) (base : Anchor) (opening : ℤ) where
-  wire : List Event → List Event
-  wire sent = wire_history stream base sent
-
   -- the wire keeps readings, closes and the number of arrivals
   pub wire-append : (before after : List Event) → wire_history stream base (before ++ after) ≡ wire_history stream base before ++ wire_history stream base after
   wire-append [] after = refl
@@ -95,9 +92,6 @@ module _ (stream : Stream) (base : Anchor) (opening : ℤ) where
   far_counts : is_packet_time stream.frames ≡ true → stream.window ≤ 16384 → (next : ℕ) (packet : Packet) → 65536 ≤ next → next ≤ packet.seq + 33554432 → packet.seq < next + 33554432 → CountsAsSent stream base next packet
   far_counts time narrow next packet some low high = by_reach (nat_le next (packet.seq + 32768)) (nat_lt packet.seq (next + 32768)) refl refl
     where
-      number : ℕ
-      number = extended_number (wire_packet stream base packet) next
-
       beyond : (packet.seq + 32768 < next) ⊎ (next + 32768 ≤ packet.seq) → CountsAsSent stream base next packet
       beyond far =
           let near = extended_near packet.seq next some in
@@ -139,11 +133,11 @@ module _ (stream : Stream) (base : Anchor) (opening : ℤ) where
       either true = refl
       either false = refl
 
-  -- from the base on
+  -- the base stays
   base_stays : (before : List Event) (event : Event) → anchor_of stream opening before ≡ Some base → anchor_of stream opening (before ++ event ∷ []) ≡ Some base
   base_stays before event is = anchor_of-push stream opening before event ∙ ap (λ o. elim o [ None ↦ first_of (anchors_at stream opening before event) | Some a ↦ Some a ]) is
 
-  -- within a reach at which arrivals count as sent
+  -- within a reach at which arrivals count as they were sent
   module _ (reach : ℕ) (counts : (next : ℕ) (packet : Packet) → 65536 ≤ next → next ≤ packet.seq + reach → packet.seq < next + reach → CountsAsSent stream base next packet) where
     arrived : (before : List Event) (path : ℕ) (packet : Packet) → 65536 ≤ base.number → anchor_of stream opening (wire_history stream base before ++ Arrive path (wire_packet stream base packet) ∷ []) ≡ Some base → next_number stream base (time_of opening before) ≤ packet.seq + reach → packet.seq < next_number stream base (time_of opening before) + reach → copies_at stream opening (wire_history stream base before) (Arrive path (wire_packet stream base packet)) ≡ sent_copies_at stream base opening before (Arrive path packet)
     arrived before path packet first is_base low high =
@@ -153,6 +147,7 @@ module _ (stream : Stream) (base : Anchor) (opening : ℤ) where
         by_counting false = refl
         by_counting true = counts (next_number stream base (time_of opening before)) packet (omega (arith, first)) low high
 
+    -- from the base on
     after_base : (before after : List Event) → 65536 ≤ base.number → anchor_of stream opening (wire_history stream base before) ≡ Some base → is_closed before ≡ false → IsWithinReach stream base reach (time_of opening before) after → at_places (copies_at stream opening) (wire_history stream base before) (wire_history stream base after) ≡ at_places (sent_copies_at stream base opening) before after
     unfolding at_places
     after_base before [] first is still within = refl
