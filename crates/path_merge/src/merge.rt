@@ -135,7 +135,7 @@ fn take_slot<V: Window>(
 impl Merge<SlotWindow> {
     ghost use Rattle.path_merge.specs.Merge.{HasHistory};
 
-    /// A merge to which nothing has happened, at its opening time.
+    /// A merge over a window of slots, at its opening time: nothing has happened yet.
     pub fn new(alloc: Global, spec: StreamSpec, open_at: i64) -> Result<Self, AllocError>
         requires not_low { pos 0 ≤ℤ open_at }
         requires not_high { open_at ≤ℤ pos (2 ^ 60) }

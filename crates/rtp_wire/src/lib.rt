@@ -1,7 +1,7 @@
 //! RTP packets as they stand in a datagram, and the linear PCM samples in them.
 //!
 //! RFC 3550 (5.1 and 5.3.1) gives the header, RFC 3551 the 16-bit samples and RFC 3190 the 24-bit
-//! ones. Nothing here keeps state, takes memory or reads a socket.
+//! ones; AES67 (7.2) gives the packet times. Nothing here keeps state, takes memory or reads a socket.
 #![tactic(auto)]
 
 mod datagram;
