@@ -1,7 +1,7 @@
-"""A slow receiver of the program's stream, written from docs/RECEPTION.md and docs/FORMATS.md alone.
+"""A slow receiver of the program's stream, after docs/RECEPTION.md and docs/FORMATS.md.
 
-It keeps every arrival and asks of the whole list what each number's packet is. Traces have to be well
-formed; faults of events are answered.
+It finds each number's packet over the whole trace before it gives a mark. Traces have to be well formed;
+faults of events are answered.
 """
 from collections import Counter, namedtuple
 
