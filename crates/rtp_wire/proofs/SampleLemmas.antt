@@ -5,7 +5,8 @@ use Rattle.std.proofs.lemmas.Bool.{cases_lt}
 use Rattle.byteorder.specs.Endian.{big_number}
 use Rattle.byteorder.specs.Numbers.{big_from-lt}
 use Rattle.std.specs.Int.{to_be_bytes}
-use Rattle.std.specs.List.{range_with_len, slice_get}
+use Rattle.std.specs.List.{range_with_len, slice_get, All}
+use Rattle.std.proofs.lemmas.List.Elements.{All-map}
 use Rattle.std.proofs.lemmas.Int.{ints}
 use Rattle.std.proofs.lemmas.Bool.Decides.{nat_tests}
 use Rattle.std.proofs.lemmas.Grind.{flat_map-append}
@@ -14,8 +15,8 @@ use Rattle.std.proofs.lemmas.List.FromFn.{length-map-range_with_len, map-range_w
 use Rattle.rtp_wire.specs.declared.encoding.Enc.{Enc}
 use Rattle.rtp_wire.specs.declared.encoding.Enc.TheVariants.{L16, L24}
 use Rattle.rtp_wire.specs.Octets.{AreOctets, big_endian, twos_complement}
-use Rattle.rtp_wire.specs.Sample.{FitsEncoding, octets_per_sample, sample_value, sample_octets, block_octets, sample_at, sample_count, samples_of}
-use Rattle.rtp_wire.proofs.OctetsLemmas.{big_endian-take, big_endian-octets_of_two, big_endian-octets_of_three}
+use Rattle.rtp_wire.specs.Sample.{FitsEncoding, Is24Bits, octets_per_sample, sample_value, sample_octets, block_octets, sample_at, sample_count, samples_of}
+use Rattle.rtp_wire.proofs.OctetsLemmas.{AreOctets-drop, big_endian-take, big_endian-octets_of_two, big_endian-octets_of_three}
 
 -- the signed number that the bits of a number of 24 bits spell is that number
 pub back_24 : (v : ℤ) → FitsEncoding L24 v → sample_value L24 (sample_octets L24 v) ≡ v
@@ -175,3 +176,39 @@ pub samples_of-at : (enc : Enc) (octets : List ℕ) (rest r : List ℤ) (count k
     → slice_get r k ≡ Some (sample_at enc octets k)
 samples_of-at enc octets rest r count k e same h =
     ap (λ x. slice_get x k) e ∙ filled_at (sample_at enc octets) rest (sample_count enc octets) k (omega arith)
+
+-- two's complement of so many bits lies in its range
+twos_24 : (n : ℕ) → n < 2 ^ 24 → FitsEncoding L24 (twos_complement 24 n)
+twos_24 n h = elim (cases_lt n (2 ^ 23)) [
+  | inl low ↦ record { low = grind (arith, ints, nat_tests); high = grind (arith, ints, nat_tests) }
+  | inr high ↦ record { low = grind (arith, ints, nat_tests); high = grind (arith, ints, nat_tests) }
+]
+
+twos_16 : (n : ℕ) → n < 2 ^ 16 → FitsEncoding L24 (twos_complement 16 n *ℤ pos 256)
+twos_16 n h = elim (cases_lt n (2 ^ 15)) [
+  | inl low ↦ record { low = grind (arith, ints, nat_tests); high = grind (arith, ints, nat_tests) }
+  | inr high ↦ record { low = grind (arith, ints, nat_tests); high = grind (arith, ints, nat_tests) }
+]
+
+small_24 : (xs : List ℕ) → AreOctets xs → big_endian (take 3 xs) < 2 ^ 24
+small_24 [] octets = omega arith
+small_24 (a ∷ []) octets = let h = octets 0 in omega (arith, h)
+small_24 (a ∷ b ∷ []) octets = let h = octets 0 in let i = octets 1 in omega (arith, h, i)
+small_24 (a ∷ b ∷ c ∷ xs) octets = let h = octets 0 in let i = octets 1 in let j = octets 2 in omega (arith, h, i, j)
+
+small_16 : (xs : List ℕ) → AreOctets xs → big_endian (take 2 xs) < 2 ^ 16
+small_16 [] octets = omega arith
+small_16 (a ∷ []) octets = let h = octets 0 in omega (arith, h)
+small_16 (a ∷ b ∷ xs) octets = let h = octets 0 in let i = octets 1 in omega (arith, h, i)
+
+is_24_bits : (v : ℤ) → FitsEncoding L24 v → Is24Bits v
+is_24_bits (pos n) h = let high = h.high in omega (arith, ints, high)
+is_24_bits (negsuc n) h = let low = h.low in omega (arith, ints, low)
+
+-- every sample of octets has 24 bits
+sample_in_24_bits : (enc : Enc) (octets : List ℕ) (k : ℕ) → AreOctets octets → Is24Bits (sample_at enc octets k)
+sample_in_24_bits L16 octets k h = is_24_bits _ (twos_16 (big_endian (take 2 (drop (2 * k) octets))) (small_16 (drop (2 * k) octets) (AreOctets-drop octets (2 * k) h)))
+sample_in_24_bits L24 octets k h = is_24_bits _ (twos_24 (big_endian (take 3 (drop (3 * k) octets))) (small_24 (drop (3 * k) octets) (AreOctets-drop octets (3 * k) h)))
+
+pub samples_in_24_bits : (enc : Enc) (octets : List ℕ) → AreOctets octets → All Is24Bits (samples_of enc octets)
+samples_in_24_bits enc octets h = All-map Is24Bits (sample_at enc octets) (range_with_len 0 (sample_count enc octets)) (λ k d within. sample_in_24_bits enc octets _ h)

@@ -1,5 +1,5 @@
 -- Linear PCM samples in a payload (RFC 3551, L16; RFC 3190, L24).
-use Rattle.std.specs.Prelude.{ℕ, ◌*◌, ◌/◌, ◌^◌, List, length, take, drop, map, ℤ, pos, ◌-ℤ◌, ◌*ℤ◌, ◌≤ℤ◌, ◌<ℤ◌}
+use Rattle.std.specs.Prelude.{ℕ, ◌*◌, ◌/◌, ◌^◌, ◌<◌, List, length, take, drop, map, ℤ, pos, negsuc, ◌-ℤ◌, ◌*ℤ◌, ◌≤ℤ◌, ◌<ℤ◌}
 use Rattle.std.specs.List.{range_with_len, flat_map}
 use Rattle.rtp_wire.specs.declared.encoding.Enc.{Enc}
 use Rattle.rtp_wire.specs.declared.encoding.Enc.TheVariants.{L16, L24}
@@ -19,6 +19,11 @@ sample_limit L24 = 2 ^ 23
 pub record FitsEncoding (enc : Enc) (v : ℤ) : Type 0 where
   pub low : (pos 0 -ℤ pos (sample_limit enc)) ≤ℤ v
   pub high : v <ℤ pos (sample_limit enc)
+
+-- a number of 24 bits
+abbrev pub Is24Bits : ℤ → Type 0
+Is24Bits (pos n) = n < 2 ^ 23
+Is24Bits (negsuc n) = n < 2 ^ 23
 
 -- what a sample's octets are worth, on the scale of 24 bits
 abbrev pub sample_value : Enc → List ℕ → ℤ

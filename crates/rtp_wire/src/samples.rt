@@ -2,7 +2,7 @@
 ghost use Rattle.std.specs.Prelude.{◌≡◌, ◌≤◌, ◌<◌, ◌+◌, ◌*◌, ◌++◌, ℕ, Some, drop, length, slice_get};
 ghost use Rattle.std.specs.List.{All};
 ghost use Rattle.rtp_wire.specs.declared.encoding.Enc.TheVariants.{L16, L24};
-ghost use Rattle.rtp_wire.specs.Sample.{FitsEncoding, block_octets, octets_per_sample, sample_at, sample_count, sample_octets, samples_of};
+ghost use Rattle.rtp_wire.specs.Sample.{FitsEncoding, Is24Bits, block_octets, octets_per_sample, sample_at, sample_count, sample_octets, samples_of};
 
 use crate::encoding::Enc;
 use byteorder::{BigEndian, ByteOrder};
@@ -39,6 +39,7 @@ pub fn read_samples(enc: Enc, octets: &[u8], out: &mut [i32]) -> usize
     ensures samples { out.new ≡ samples_of enc octets.now
         ++ drop (sample_count enc octets.now) out.old }
     ensures each { (k : ℕ) → k < result → slice_get out.new k ≡ Some (sample_at enc octets.now k) }
+    ensures in_24_bits { All Is24Bits (samples_of enc octets.now) }
 {
     match enc {
         Enc::L16 => read_16(octets, out),
