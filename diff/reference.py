@@ -1,15 +1,24 @@
 """A slow receiver of the program's stream, after docs/RECEPTION.md and docs/FORMATS.md.
 
-It finds each number's packet over the whole trace before it gives a mark. Traces have to be well formed;
-faults of events are answered.
+It finds the anchors, each epoch's packets and all fates over the whole trace before it gives a mark. Traces
+have to be well formed; faults of events are answered.
 """
-from collections import Counter, namedtuple
+from collections import Counter, defaultdict, namedtuple
 
 FRAMES, LATENCY, WINDOW, TYPE, OCTETS = 6, 12, 8, 96, 18
+PROBATION = 8
 LATEST = 2**60
 
+# what a specification asks for: a source or None, and the offset of the media clock or None for the arrival clock
+Stream = namedtuple("Stream", "source offset", defaults=(None, 0))
 Packet = namedtuple("Packet", "seq ts ssrc payload")
-Base = namedtuple("Base", "number ts media ssrc")
+Anchor = namedtuple("Anchor", "number ts media ssrc")
+# the place of the event that opened it, its anchor, and the payload of each number
+Epoch = namedtuple("Epoch", "place anchor packets")
+# an arrival of a path after the anchor in force, and whether it was off as it came
+Came = namedtuple("Came", "packet off")
+
+PROGRAM = Stream()
 
 
 def packet_of(octets):
@@ -41,44 +50,112 @@ def nearest(low, cycle, reference):
     return least + (low - least) % cycle
 
 
-def media_time_of(base, number):
-    return base.media + (number - base.number) * FRAMES
+def media_time_of(anchor, number):
+    return anchor.media + (number - anchor.number) * FRAMES
 
 
-def next_due(base, time):
-    """The least number from the base's on whose deadline is after the time."""
-    return base.number + max(0, (time - (base.media + LATENCY)) // FRAMES + 1)
+def next_due(anchor, time):
+    """The least number from the anchor's on whose deadline is after the time."""
+    return anchor.number + max(0, (time - (anchor.media + LATENCY)) // FRAMES + 1)
 
 
-def fate_of_first(time, packet):
-    media = nearest(packet.ts, 2**32, time)
+def number_of(anchor, time, packet):
+    return nearest(packet.seq, 65536, next_due(anchor, time))
+
+
+def is_asked_for(stream, packet):
+    return stream.source in (None, packet.ssrc)
+
+
+def is_off_grid(anchor, time, packet):
+    return packet.ts != (anchor.ts + (number_of(anchor, time, packet) - anchor.number) * FRAMES) % 2**32
+
+
+def is_off(anchor, time, packet):
+    return packet.ssrc != anchor.ssrc or is_off_grid(anchor, time, packet)
+
+
+def out_of_reach(time, media):
+    """On which side a media time is out of an anchor's reach, or None."""
     if media <= time - LATENCY:
-        return "late", None
+        return "late"
     if media >= time - LATENCY + WINDOW * FRAMES:
-        return "ahead", None
-    return "taken", Base(65536 + packet.seq, packet.ts, media, packet.ssrc)
+        return "ahead"
+    return None
 
 
-def fate_of_next(base, time, packets, packet):
-    due = next_due(base, time)
-    number = nearest(packet.seq, 65536, due)
-    if packet.ssrc != base.ssrc:
-        return "wrong_source", number
-    if packet.ts != (base.ts + (number - base.number) * FRAMES) % 2**32:
-        return "off_grid", number
+def first_media(stream, time, packet):
+    """The media time that a first packet would have."""
+    if stream.offset is None:
+        return time
+    return nearest((packet.ts - stream.offset) % 2**32, 2**32, time)
+
+
+def anchor_at(packet, media):
+    return Anchor(65536 + packet.seq, packet.ts, media, packet.ssrc)
+
+
+def follows(before, packet):
+    """Whether a packet is the next one in sequence."""
+    return (packet.ssrc, packet.seq, packet.ts) == (before.ssrc, (before.seq + 1) % 65536, (before.ts + FRAMES) % 2**32)
+
+
+def completes_probation(came):
+    """Whether the last of a path's arrivals completes a probation."""
+    last = came[-PROBATION:]
+    in_sequence = all(follows(before.packet, one.packet) for before, one in zip(last, last[1:]))
+    return len(last) == PROBATION and all(one.off for one in last) and in_sequence
+
+
+def anchor_of_restart(stream, epoch, time, came):
+    """The next epoch's anchor, where the last of a path's arrivals restarts the stream; or None."""
+    due, packet = next_due(epoch.anchor, time), came[-1].packet
+    if not completes_probation(came) or any(number >= due for number in epoch.packets):
+        return None
+    media, least = first_media(stream, time, packet), media_time_of(epoch.anchor, due)
+    if stream.offset is None:
+        media = max(media, least)
+    return None if media < least or out_of_reach(time, media) else anchor_at(packet, media)
+
+
+def anchor_of_arrival(stream, epochs, time, came, packet):
+    """The anchor that an arrival is, the first or a restart's; or None."""
+    if not is_asked_for(stream, packet):
+        return None
+    if epochs:
+        return anchor_of_restart(stream, epochs[-1], time, came)
+    media = first_media(stream, time, packet)
+    return None if out_of_reach(time, media) else anchor_at(packet, media)
+
+
+def fate_of_first(stream, time, packet):
+    """The fate of an arrival before an anchor."""
+    if not is_asked_for(stream, packet):
+        return "wrong_source"
+    return out_of_reach(time, first_media(stream, time, packet))
+
+
+def fate_of_next(epoch, time, packet):
+    """The fate of an arrival after an anchor."""
+    anchor, packets = epoch.anchor, epoch.packets
+    due, number = next_due(anchor, time), number_of(anchor, time, packet)
+    if packet.ssrc != anchor.ssrc:
+        return "wrong_source"
+    if is_off_grid(anchor, time, packet):
+        return "off_grid"
     if number < due:
-        return "late", number
+        return "late"
     if number >= due + WINDOW:
-        return "ahead", number
+        return "ahead"
     if number not in packets:
-        return "taken", number
-    return ("double" if packets[number] == packet.payload else "unlike"), number
+        return "taken"
+    return "double" if packets[number] == packet.payload else "unlike"
 
 
-def arrivals(events):
-    """The base, each number's packet, and how many arrivals met each fate."""
-    time, base, packets, fates = 0, None, {}, Counter()
-    for event in events:
+def arrivals(events, stream=PROGRAM):
+    """The epochs with their packets, and the fate of each datagram before a close."""
+    time, epochs, fates, came = 0, [], [], defaultdict(list)
+    for place, event in enumerate(events):
         if event[0] == "close":
             break
         if event[0] == "tick":
@@ -86,43 +163,65 @@ def arrivals(events):
             continue
         packet = packet_of(event[2])
         if packet is None:
-            fates["no_packet"] += 1
+            fates.append("no_packet")
             continue
-        if base is None:
-            fate, base = fate_of_first(time, packet)
-            number = base.number if base else None
+        of_path = came[event[0]]
+        if epochs and is_asked_for(stream, packet):
+            of_path.append(Came(packet, is_off(epochs[-1].anchor, time, packet)))
+        anchor = anchor_of_arrival(stream, epochs, time, of_path, packet)
+        if anchor:
+            fates.append("restarted" if epochs else "taken")
+            epochs.append(Epoch(place, anchor, {anchor.number: packet.payload}))
+            came.clear()
+        elif epochs:
+            fates.append(fate_of_next(epochs[-1], time, packet))
+            if fates[-1] == "taken":
+                epochs[-1].packets[number_of(epochs[-1].anchor, time, packet)] = packet.payload
         else:
-            fate, number = fate_of_next(base, time, packets, packet)
-        fates[fate] += 1
-        if fate == "taken":
-            packets[number] = packet.payload
-    return base, packets, fates
+            fates.append(fate_of_first(stream, time, packet))
+    return epochs, fates
 
 
-def slot(base, packets, number):
-    body = "got " + packets[number].hex() if number in packets else "lost"
-    return f"0 slot {number} {media_time_of(base, number)} {body}"
+def slots(epochs, numbers):
+    """The lines of numbers of the last of some epochs."""
+    lines, name = [], f"{len(epochs) - 1}:" if len(epochs) > 1 else ""
+    for number in numbers:
+        anchor, packets = epochs[-1].anchor, epochs[-1].packets
+        body = "got " + packets[number].hex() if number in packets else "lost"
+        lines.append(f"0 slot {name}{number} {media_time_of(anchor, number)} {body}")
+    return lines
 
 
-def marks(events):
+def slots_of_reading(epochs, before, time):
+    if not epochs:
+        return []
+    anchor = epochs[-1].anchor
+    return slots(epochs, range(next_due(anchor, before), next_due(anchor, time)))
+
+
+def slots_of_close(epochs, time):
+    if not epochs:
+        return []
+    anchor, packets = epochs[-1].anchor, epochs[-1].packets
+    return slots(epochs, range(next_due(anchor, time), max(packets) + 1))
+
+
+def marks(events, stream=PROGRAM):
     """The lines of the listing, and the fates."""
-    base, packets, fates = arrivals(events)
-    lines, time, quiet = [], 0, -LATENCY
-    for event in events:
+    epochs, fates = arrivals(events, stream)
+    lines, time, quiet, any_slot = [], 0, -LATENCY, False
+    for place, event in enumerate(events):
+        opened = [epoch for epoch in epochs if epoch.place < place]
         if event[0] == "tick":
             before, time = time, event[1]
-            numbers = range(next_due(base, before), next_due(base, time)) if base else ()
-            lines += [slot(base, packets, number) for number in numbers]
-            # a base that is still to come has no deadline up to here
-            none_yet = base is None or next_due(base, time) == base.number
-            if none_yet and time - LATENCY > quiet:
+            given = slots_of_reading(opened, before, time)
+            lines += given
+            any_slot = any_slot or bool(given)
+            if not any_slot and time - LATENCY > quiet:
                 quiet = time - LATENCY
                 lines.append(f"0 quiet {quiet}")
         elif event[0] == "close":
-            if packets:
-                numbers = range(next_due(base, time), max(packets) + 1)
-                lines += [slot(base, packets, number) for number in numbers]
-            lines.append("0 end")
+            lines += slots_of_close(opened, time) + ["0 end"]
             break
     return lines, fates
 
@@ -145,10 +244,11 @@ def fault_of(events):
 
 
 def answer(events):
-    """What the program has to write on standard output and on standard error, its status, and the fates."""
+    """What the program has to write on standard output and on standard error, its status, and counts of fates and marks."""
     fault = fault_of(events)
     if fault:
         return "", fault + "\n", 1, Counter({fault.split()[-1]: 1})
     lines, fates = marks(events)
-    fates.update(line.split()[1] if "slot" not in line else line.split()[4] for line in lines)
-    return "".join(line + "\n" for line in lines), "", 0, fates
+    counts = Counter(fates)
+    counts.update(line.split()[1] if "slot" not in line else line.split()[4] for line in lines)
+    return "".join(line + "\n" for line in lines), "", 0, counts

@@ -1,11 +1,12 @@
 -- Numbers with one sequence number have other timestamps, less than 1,024 cycles apart.
-use Rattle.std.proofs.Common.{◌≡◌, ℕ, ◌+◌, ◌*◌, ◌%◌, ◌<◌, Bool, true, false, ℤ, pos, ◌+ℤ◌, ◌-ℤ◌, ◌*ℤ◌, ◌≤ℤ◌, unsigned_abs, refl, sym, ap, subst, ◌∙◌, arith}
+use Rattle.std.proofs.Common.{◌≡◌, ℕ, ◌+◌, ◌*◌, Bool, true, false, ℤ, pos, ◌+ℤ◌, ◌-ℤ◌, ◌*ℤ◌, ◌≤ℤ◌, ◌<ℤ◌, unsigned_abs, refl, sym, ap, subst, ◌∙◌, arith}
 use Rattle.std.specs.Prelude.{nat_eq}
 use Rattle.std.specs.Int.{int_rem_euclid}
 use Rattle.std.proofs.lemmas.Bool.Decides.{nat_tests}
 use Rattle.std.proofs.lemmas.Int.{ints}
 use Rattle.path_merge.proofs.NearestLemmas.{rem_apart, rem_bounds}
-use Rattle.path_merge.specs.Copies.{expected_timestamp, is_on_grid}
+use Rattle.path_merge.specs.Grid.{is_on_grid}
+use Rattle.path_merge.specs.Sent.{timestamp_in_step}
 use Rattle.path_merge.specs.StreamSpecFacts.{Stream}
 use Rattle.path_merge.specs.declared.anchor.Anchor.{Anchor}
 use Rattle.rtp_wire.specs.PacketTime.{is_packet_time}
@@ -36,40 +37,44 @@ packet_time_cases P p6 p12 p16 p48 p192 frames is = by_6 (nat_eq frames 6) refl
 -- two numbers with the same low 16 bits, whose times differ by whole cycles of 32 bits
 abbrev pub IsOneNumber : ℕ → Type 0
 IsOneNumber frames =
-    (m n start first i j : ℕ) → (pos start +ℤ (pos m -ℤ pos first) *ℤ pos frames) +ℤ pos (i * 4294967296) ≡ (pos start +ℤ (pos n -ℤ pos first) *ℤ pos frames) +ℤ pos (j * 4294967296)
-    → m % 65536 ≡ n % 65536 → m < n + 67108864 → n < m + 67108864 → m ≡ n
+    (m n : ℤ) (start first i j k l : ℕ) → (pos start +ℤ (m -ℤ pos first) *ℤ pos frames) +ℤ pos (i * 4294967296) ≡ (pos start +ℤ (n -ℤ pos first) *ℤ pos frames) +ℤ pos (j * 4294967296)
+    → m +ℤ pos (k * 65536) ≡ n +ℤ pos (l * 65536) → m <ℤ (n +ℤ pos 67108864) → n <ℤ (m +ℤ pos 67108864) → m ≡ n
 
 one_6 : IsOneNumber 6
-one_6 m n start first i j e same less more = omega (arith, ints, e, same, less, more)
+one_6 m n start first i j k l e same less more = omega (arith, ints, e, same, less, more)
 
 one_12 : IsOneNumber 12
-one_12 m n start first i j e same less more = omega (arith, ints, e, same, less, more)
+one_12 m n start first i j k l e same less more = omega (arith, ints, e, same, less, more)
 
 one_16 : IsOneNumber 16
-one_16 m n start first i j e same less more = omega (arith, ints, e, same, less, more)
+one_16 m n start first i j k l e same less more = omega (arith, ints, e, same, less, more)
 
 one_48 : IsOneNumber 48
-one_48 m n start first i j e same less more = omega (arith, ints, e, same, less, more)
+one_48 m n start first i j k l e same less more = omega (arith, ints, e, same, less, more)
 
 one_192 : IsOneNumber 192
-one_192 m n start first i j e same less more = omega (arith, ints, e, same, less, more)
+one_192 m n start first i j k l e same less more = omega (arith, ints, e, same, less, more)
+
+-- a number that isn't negative is its size
+pub size_is : (z : ℤ) → pos 0 ≤ℤ z → pos (unsigned_abs z) ≡ z
+size_is z h = omega (arith, ints, h)
 
 -- less than 1,024 cycles apart, a number is known by its low 16 bits and its timestamp
-pub one_number : (stream : Stream) (base : Anchor) (m n : ℕ) → is_packet_time stream.frames ≡ true → m % 65536 ≡ n % 65536 → m < n + 67108864 → n < m + 67108864 → expected_timestamp stream base m ≡ expected_timestamp stream base n → m ≡ n
+pub one_number : (stream : Stream) (base : Anchor) (m n : ℤ) → is_packet_time stream.frames ≡ true → int_rem_euclid m (pos 65536) ≡ int_rem_euclid n (pos 65536) → m <ℤ (n +ℤ pos 67108864) → n <ℤ (m +ℤ pos 67108864) → timestamp_in_step stream base m ≡ timestamp_in_step stream base n → m ≡ n
 one_number stream base m n time same less more stamps =
-    let a = rem_apart 4294967296 (pos base.timestamp +ℤ (pos m -ℤ pos base.number) *ℤ pos stream.frames) (omega arith) in
-    let b = rem_apart 4294967296 (pos base.timestamp +ℤ (pos n -ℤ pos base.number) *ℤ pos stream.frames) (omega arith) in
-    let rest : int_rem_euclid (pos base.timestamp +ℤ (pos m -ℤ pos base.number) *ℤ pos stream.frames) (pos 4294967296) ≡ int_rem_euclid (pos base.timestamp +ℤ (pos n -ℤ pos base.number) *ℤ pos stream.frames) (pos 4294967296) = sym (size _ (rem_bounds 4294967296 _ (omega arith)).0) ∙ ap pos stamps ∙ size _ (rem_bounds 4294967296 _ (omega arith)).0 in
-    packet_time_cases IsOneNumber one_6 one_12 one_16 one_48 one_192 stream.frames time m n base.timestamp base.number (a.1 + b.0) (b.1 + a.0) (omega (arith, ints, a.2, b.2, rest)) same less more
-  where
-    size : (z : ℤ) → pos 0 ≤ℤ z → pos (unsigned_abs z) ≡ z
-    size z h = omega (arith, ints, h)
+    let a = rem_apart 4294967296 (pos base.timestamp +ℤ (m -ℤ pos base.number) *ℤ pos stream.frames) (omega arith) in
+    let b = rem_apart 4294967296 (pos base.timestamp +ℤ (n -ℤ pos base.number) *ℤ pos stream.frames) (omega arith) in
+    let low_m = rem_apart 65536 m (omega arith) in
+    let low_n = rem_apart 65536 n (omega arith) in
+    let rest : int_rem_euclid (pos base.timestamp +ℤ (m -ℤ pos base.number) *ℤ pos stream.frames) (pos 4294967296) ≡ int_rem_euclid (pos base.timestamp +ℤ (n -ℤ pos base.number) *ℤ pos stream.frames) (pos 4294967296) = sym (size_is _ (rem_bounds 4294967296 _ (omega arith)).0) ∙ ap pos stamps ∙ size_is _ (rem_bounds 4294967296 _ (omega arith)).0 in
+    packet_time_cases IsOneNumber one_6 one_12 one_16 one_48 one_192 stream.frames time m n base.timestamp base.number (a.1 + b.0) (b.1 + a.0) (low_m.1 + low_n.0) (low_n.1 + low_m.0) (omega (arith, ints, a.2, b.2, rest)) (omega (arith, ints, low_m.2, low_n.2, same)) less more
 
-pub off_grid : (stream : Stream) (base : Anchor) (m n : ℕ) → is_packet_time stream.frames ≡ true → m % 65536 ≡ n % 65536 → m < n → n < m + 67108864 → is_on_grid stream base m (expected_timestamp stream base n) ≡ false
-off_grid stream base m n time same less more = by_stamp (nat_eq (expected_timestamp stream base n) (expected_timestamp stream base m)) refl
+-- so another number is off the grid
+pub off_grid : (stream : Stream) (base : Anchor) (m : ℕ) (n : ℤ) → is_packet_time stream.frames ≡ true → int_rem_euclid (pos m) (pos 65536) ≡ int_rem_euclid n (pos 65536) → pos m <ℤ (n +ℤ pos 67108864) → n <ℤ (pos m +ℤ pos 67108864) → (pos m ≡ n → ⊥) → is_on_grid stream base m (timestamp_in_step stream base n) ≡ false
+off_grid stream base m n time same less more other = by_stamp (nat_eq (timestamp_in_step stream base n) (timestamp_in_step stream base (pos m))) refl
   where
-    by_stamp : (b : Bool) → nat_eq (expected_timestamp stream base n) (expected_timestamp stream base m) ≡ b → b ≡ false
+    by_stamp : (b : Bool) → nat_eq (timestamp_in_step stream base n) (timestamp_in_step stream base (pos m)) ≡ b → b ≡ false
     by_stamp false e = refl
     by_stamp true e =
-        let stamps : expected_timestamp stream base m ≡ expected_timestamp stream base n = grind (arith, nat_tests, e) in
-        absurd (omega (arith, less, one_number stream base m n time same (omega (arith, less)) more stamps))
+        let stamps : timestamp_in_step stream base (pos m) ≡ timestamp_in_step stream base n = grind (arith, nat_tests, e) in
+        absurd (other (one_number stream base (pos m) n time same less more stamps))

@@ -1,18 +1,21 @@
 -- One more arrival.
 use Rattle.std.proofs.Common.{◌≡◌, ℕ, ◌^◌, ◌<◌, ◌≤◌, Bool, true, false, ◌&&◌, List, [], ◌∷◌, ◌++◌, length, Option, Some, None, ℤ, refl, sym, ap, ◌∙◌, arith, append-nil, if◌then◌else◌}
-use Rattle.std.specs.Prelude.{nat_eq}
+use Rattle.std.specs.Prelude.{nat_eq, nat_lt}
+use Rattle.path_merge.proofs.StepLemmas.{take_all}
+use Rattle.path_merge.specs.Merge.{HasHistory, IsBaseOf, heard_of}
+use Rattle.path_merge.specs.MergeState.{MergeState}
+use Rattle.path_merge.specs.PathProbation.{probation_at, probation_of}
 use Rattle.std.specs.FinMap.{get}
 use Rattle.std.proofs.lemmas.Bool.Decides.{nat_tests}
-use Rattle.path_merge.proofs.HistoryLemmas.{anchor_of-push, copies_of-push, events_until_close-open, is_closed-append, is_well_timed_from-append, marks_in, marks_in-push, marks_of-in, time_of-append}
-use Rattle.path_merge.proofs.MarksLemmas.{AllFrom, limit_at, limit_of, marks_in-more}
-use Rattle.path_merge.proofs.StepLemmas.{take_all}
-use Rattle.path_merge.specs.Anchor.{anchor_of, next_number}
-use Rattle.path_merge.specs.Copies.{copies_at, copies_of, copies_under, extended_number, first_with, is_on_grid}
+use Rattle.path_merge.proofs.HistoryLemmas.{IsNextEpoch, anchor_made, made_next, or_else, anchor_of-push, copies_of-push, copies_of_all-push, events_until_close-open, is_closed-append, is_well_timed_from-append, marks_in, marks_in-push, marks_of-in, time_of-append}
+use Rattle.path_merge.proofs.MarksLemmas.{AllLater, AllLaterThan, marks_in-more}
+use Rattle.path_merge.specs.Anchor.{next_number}
+use Rattle.path_merge.specs.Epochs.{anchor_of, anchors_of, last_of}
+use Rattle.path_merge.specs.Copies.{copies_at, copies_of, copies_of_all, first_copy, copies_under_with, with_epoch}
+use Rattle.path_merge.specs.Grid.{copies_under, extended_number, first_with, is_on_grid}
 use Rattle.path_merge.specs.Counts.{counts_of}
 use Rattle.path_merge.specs.History.{arrival_count, is_closed, is_counting, is_well_timed, time_of}
 use Rattle.path_merge.specs.Marks.{marks_of}
-use Rattle.path_merge.specs.Merge.{HasHistory, IsBaseOf, has_slot_numbered}
-use Rattle.path_merge.specs.MergeState.{MergeState}
 use Rattle.path_merge.specs.StreamSpecFacts.{Stream}
 use Rattle.path_merge.specs.declared.anchor.Anchor.{Anchor}
 use Rattle.path_merge.specs.declared.event.Event.{Event}
@@ -20,34 +23,39 @@ use Rattle.path_merge.specs.declared.event.Event.TheVariants.{Arrive}
 use Rattle.path_merge.specs.declared.packet.Packet.{Packet}
 
 module _ (stream : Stream) (open_at : ℤ) (some : 0 < stream.frames) (events : List Event) (well_timed : is_well_timed open_at events ≡ true) (open_yet : is_closed events ≡ false) (path : ℕ) (packet : Packet) where
-  -- a copy has a number that has had no slot
-  copies_under-from : (time : ℤ) (hearing : Bool) (before : Option Anchor) (more : Option Anchor) → AllFrom (limit_of stream before time) (copies_under stream time hearing (elim before [ None ↦ more | Some a ↦ Some a ]) packet)
-  copies_under-from time hearing (Some a) more = by_test (next_number stream a time) (extended_number packet (next_number stream a time)) hearing (nat_eq packet.ssrc a.source) (is_on_grid stream a (extended_number packet (next_number stream a time)) packet.ts) _ (λ le. grind (arith, nat_tests, le))
+  -- a copy is of a number that has had no slot, or of a new epoch
+  copies_under-later : (time : ℤ) (hearing : Bool) (o made : Option Anchor) → IsNextEpoch stream open_at o made → AllLater stream o time (copies_under_with stream time hearing (or_else made o) packet)
+  copies_under-later time hearing None None next = tt
+  copies_under-later time hearing None (Some a) next = by_test (extended_number packet (next_number stream a time)) _
     where
-      by_test : (next n : ℕ) (h s g w : Bool) → (w ≡ true → next ≤ n) → AllFrom next (if h && (s && (g && w)) then (n, packet) ∷ [] else [])
-      by_test next n true true true true e = (e refl, tt)
-      by_test next n true true true false e = tt
-      by_test next n true true false w e = tt
-      by_test next n true false g w e = tt
-      by_test next n false s g w e = tt
-  copies_under-from time hearing None None = tt
-  copies_under-from time hearing None (Some a) = by_test (extended_number packet (next_number stream a time)) _
+      by_test : (n : ℕ) (b : Bool) → AllLater stream None time (with_epoch (Some a) (if b then (n, packet) ∷ [] else []))
+      by_test n true = (tt, tt)
+      by_test n false = tt
+  copies_under-later time hearing (Some a) None next = by_test (extended_number packet (next_number stream a time)) hearing (nat_eq packet.ssrc a.source) (is_on_grid stream a (extended_number packet (next_number stream a time)) packet.ts) _ (λ le. grind (arith, nat_tests, le))
     where
-      by_test : (n : ℕ) (b : Bool) → AllFrom 0 (if b then (n, packet) ∷ [] else [])
-      by_test n true = (omega arith, tt)
+      by_test : (n : ℕ) (h s g w : Bool) → (w ≡ true → next_number stream a time ≤ n) → AllLater stream (Some a) time (with_epoch (Some a) (if h && (s && (g && w)) then (n, packet) ∷ [] else []))
+      by_test n true true true true e = ((omega arith, λ same. e refl), tt)
+      by_test n true true true false e = tt
+      by_test n true true false w e = tt
+      by_test n true false g w e = tt
+      by_test n false s g w e = tt
+  copies_under-later time hearing (Some a) (Some b) next = by_test (extended_number packet (next_number stream b time)) _
+    where
+      by_test : (n : ℕ) (c : Bool) → AllLater stream (Some a) time (with_epoch (Some b) (if c then (n, packet) ∷ [] else []))
+      by_test n true = ((omega (arith, next), λ same. absurd (omega (arith, next, same))), tt)
       by_test n false = tt
 
-  copies_at-from : AllFrom (limit_at stream open_at events) (copies_at stream open_at events (Arrive path packet))
-  copies_at-from = rw (anchor_of-push stream open_at events (Arrive path packet)) (copies_under-from (time_of open_at events) (is_counting events) (anchor_of stream open_at events) _)
+  copies_at-later : AllLaterThan stream open_at events (copies_at stream open_at events (Arrive path packet))
+  copies_at-later = rw (anchor_of-push stream open_at events (Arrive path packet)) (copies_under-later (time_of open_at events) (is_counting events) (anchor_of stream open_at events) (anchor_made stream open_at events (Arrive path packet)) (made_next stream open_at events (Arrive path packet)))
 
-  -- an arrival changes no mark
+  -- an arrival changes no mark, also one that opens an epoch
   pub marks_of-arrive : marks_of stream open_at (events ++ Arrive path packet ∷ []) ≡ marks_of stream open_at events
   marks_of-arrive =
       marks_of-in stream open_at (events ++ Arrive path packet ∷ [])
-      ∙ ap (λ c. marks_in stream open_at c (events ++ Arrive path packet ∷ [])) (copies_of-push stream open_at events (Arrive path packet))
-      ∙ marks_in-push stream open_at (copies_of stream open_at events ++ copies_at stream open_at events (Arrive path packet)) events (Arrive path packet)
+      ∙ ap (λ c. marks_in stream open_at c (events ++ Arrive path packet ∷ [])) (copies_of_all-push stream open_at events (Arrive path packet))
+      ∙ marks_in-push stream open_at (copies_of_all stream open_at events ++ copies_at stream open_at events (Arrive path packet)) events (Arrive path packet)
       ∙ append-nil _
-      ∙ marks_in-more stream open_at some (copies_of stream open_at events) (copies_at stream open_at events (Arrive path packet)) events well_timed open_yet copies_at-from
+      ∙ marks_in-more stream open_at some (copies_of_all stream open_at events) (copies_at stream open_at events (Arrive path packet)) events well_timed open_yet copies_at-later
       ∙ sym (marks_of-in stream open_at events)
 
 -- what an arrival may change
@@ -56,7 +64,8 @@ pub record IsArrivalStep (stream : Stream) (open_at : ℤ) (old new : MergeState
   pub time : new.time ≡ old.time
   pub anchor : new.anchor ≡ anchor_of stream open_at (events ++ event ∷ [])
   pub base : IsBaseOf new.anchor new.base (marks_of stream open_at events)
-  pub held : (n : ℕ) → get new.held n ≡ (if has_slot_numbered n (marks_of stream open_at events) then None else first_with n (copies_of stream open_at events ++ copies_at stream open_at events event))
+  pub held : (n : ℕ) → get new.held n ≡ (if nat_lt n new.base then None else first_copy stream open_at (events ++ event ∷ []) n)
+  pub probation : (path : ℕ) → path < 4 → probation_at new.probations path ≡ probation_of stream (heard_of stream open_at (last_of (anchors_of stream open_at (events ++ event ∷ []))) (events ++ event ∷ []) path)
   pub quiet : new.quiet ≡ old.quiet
   pub counts : new.counts ≡ counts_of stream open_at (events ++ event ∷ []) (marks_of stream open_at events)
   pub closed : new.closed ≡ old.closed
@@ -78,7 +87,8 @@ stands_after_arrival stream open_at some m new events k path packet at open_yet 
       all_given = λ _. at.all_given shut ∙ ap length (sym same);
       before_close = rw (events_until_close-open (events ++ Arrive path packet ∷ []) (is_closed-append events (Arrive path packet ∷ []) ∙ rw shut), same) (omega (arith, at.all_given shut));
       base = rw (same, all) step.base;
-      held = λ n. step.held n ∙ rw (same, all, copies_of-push stream open_at events (Arrive path packet));
+      held = step.held;
+      probation = step.probation;
       quiet = step.quiet ∙ at.quiet ∙ rw same;
       ended = step.ended ∙ at.ended ∙ rw same;
     }

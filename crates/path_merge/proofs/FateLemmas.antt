@@ -1,4 +1,5 @@
 -- The fate of an arrival, test by test.
+use Rattle.path_merge.specs.Grid.{extended_number, first_with, is_on_grid}
 use Rattle.std.proofs.Common.{◌≡◌, ℕ, ◌+◌, ◌-◌, ◌*◌, ◌<◌, ◌≤◌, Bool, true, false, not, ◌&&◌, List, Option, Some, None, ℤ, pos, ◌+ℤ◌, ◌-ℤ◌, ◌≤ℤ◌, refl, ap, subst, ◌∙◌, arith, ⊎_elim, if◌then◌else◌}
 use Rattle.std.specs.Prelude.{nat_eq, nat_lt, nat_le, int_le}
 use Rattle.std.proofs.lemmas.Bool.Decides.{nat_tests}
@@ -8,10 +9,8 @@ use borrow.Author.Differences.{up, down}
 use Rattle.std.proofs.lemmas.Nat.{mul-le}
 use Rattle.std.specs.Prelude.{◌*ℤ◌, neg_ℤ}
 use Rattle.std.specs.Prelude.{bytes_eq}
-use Rattle.path_merge.proofs.TallyLemmas.{is_counted_fate}
 use Rattle.path_merge.specs.Anchor.{base_media_time, is_source_wanted, media_time_of}
-use Rattle.path_merge.specs.Copies.{extended_number, first_with, is_on_grid}
-use Rattle.path_merge.specs.Counts.{is_taken_fate}
+use Rattle.path_merge.specs.Counts.{is_counted_fate, is_taken_fate}
 use Rattle.path_merge.specs.Fate.{fate_of_put, first_fate, next_fate}
 use Rattle.path_merge.specs.Steps.{fault_or, place_fault_of}
 use Rattle.path_merge.specs.StreamSpecFacts.{Stream}

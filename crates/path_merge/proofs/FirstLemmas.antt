@@ -1,5 +1,7 @@
 -- The first arrival that anchors a stream.
-use Rattle.std.proofs.Common.{◌≡◌, ℕ, ◌+◌, ◌-◌, ◌*◌, ◌^◌, ◌<◌, ◌≤◌, Bool, true, false, not, ◌&&◌, List, [], ◌∷◌, ◌++◌, Option, Some, None, IsSome, ℤ, pos, ◌+ℤ◌, ◌-ℤ◌, ◌<ℤ◌, refl, sym, ap, subst, ◌∙◌, arith, if◌then◌else◌, ◌*ℤ◌}
+use Rattle.path_merge.specs.Epochs.{anchor_in, anchor_of, anchors_of, last_of, placed}
+use Rattle.path_merge.specs.Grid.{first_with}
+use Rattle.std.proofs.Common.{◌≡◌, ℕ, ◌+◌, ◌-◌, ◌*◌, ◌^◌, ◌<◌, ◌≤◌, Bool, true, false, not, ◌&&◌, List, [], ◌∷◌, ◌++◌, length, Option, Some, None, IsSome, ℤ, pos, ◌+ℤ◌, ◌-ℤ◌, ◌<ℤ◌, refl, sym, ap, subst, ◌∙◌, arith, if◌then◌else◌, ◌*ℤ◌}
 use Rattle.std.specs.Prelude.{int_lt, int_le, nat_lt, nat_le}
 use Rattle.std.specs.Prelude.{nat_eq, unsigned_abs}
 use Rattle.std.proofs.lemmas.Bool.Decides.{nat_tests}
@@ -10,25 +12,28 @@ use Rattle.std.specs.Ordering.{nat_cmp}
 use Rattle.std.proofs.lemmas.Nat.{mul-le}
 use Rattle.path_merge.proofs.ArrivalLemmas.{marks_of-arrive, stands_after_arrival}
 use Rattle.path_merge.proofs.HeldLemmas.{FateCounts, held_count-none, held_count-put, with_fate-counts}
-use Rattle.path_merge.proofs.HistoryLemmas.{anchor_of-push}
-use Rattle.path_merge.proofs.MarksLemmas.{AllSlotsBelow, AllSlotsBelow-raise, limit_of}
+use Rattle.path_merge.proofs.HistoryLemmas.{marks_of-in, or_else}
+use Rattle.path_merge.proofs.EpochLemmas.{anchor_is, copies_of-since, copies_since-made, heard_of-made, last-push, since_of}
+use Rattle.path_merge.proofs.FateLemmas.{first_counts}
+use Rattle.path_merge.proofs.MarksLemmas.{AllSlotsBelow, limit_of, slots_below}
 use Rattle.path_merge.proofs.NearestLemmas.{nearest_number-only, rem_same, rem_small}
 use Rattle.path_merge.proofs.NextLemmas.{media_time_of-from}
-use Rattle.path_merge.proofs.OfferLemmas.{all, below, counts_heard, fate_heard, few, first_with-append, hears, held_first}
-use Rattle.path_merge.proofs.SlotCountLemmas.{next_number-fresh, none_below}
+use Rattle.path_merge.proofs.RestartLemmas.{itself_eq, next_number-fresh, own_copy}
+use Rattle.path_merge.proofs.RestartOfferLemmas.{all, counts_heard, few, hears, none_above, one_held}
 use Rattle.path_merge.proofs.SoundLemmas.{some_window}
-use Rattle.path_merge.proofs.StepLemmas.{not_slot}
-use Rattle.path_merge.specs.Anchor.{anchor_from, anchor_of, anchors_at, base_media_time, can_anchor, first_of, is_source_wanted, media_time_of, next_number}
-use Rattle.path_merge.specs.Copies.{copies_at, copies_of, copies_under, expected_timestamp, extended_number, first_copy, first_with, is_on_grid}
-use Rattle.path_merge.specs.Counts.{counts_of, is_taken_fate}
+use Rattle.path_merge.specs.Anchor.{anchor_from, base_media_time, can_anchor, is_source_wanted, media_time_of, next_number}
+use Rattle.path_merge.specs.Copies.{copies_of, copies_of_all, first_copy}
+use Rattle.path_merge.specs.PathProbation.{no_probation, probation_at, probation_of}
+use Rattle.path_merge.specs.declared.probation.Probation.{Probation}
+use Rattle.path_merge.specs.Counts.{counts_of, is_counted_fate, is_restarted, is_taken_fate}
 use Rattle.path_merge.specs.CountsFacts.{Tally, with_fate}
 use Rattle.path_merge.specs.Fate.{counted_fate, fate_of, first_fate}
-use Rattle.path_merge.specs.History.{is_closed}
+use Rattle.path_merge.specs.History.{arrival_count, is_closed, is_counting}
 use Rattle.path_merge.specs.Marks.{marks_of}
-use Rattle.path_merge.specs.Merge.{HasHistory, IsBaseOf, has_slot_numbered}
+use Rattle.path_merge.specs.Merge.{HasHistory, IsBaseOf, heard_of, slot_count}
 use Rattle.path_merge.specs.MergeState.{IsAnchoredOrNot, IsSound, IsUnanchored, MergeState, held_count}
 use Rattle.path_merge.specs.Nearest.{IsNearest}
-use Rattle.path_merge.specs.Steps.{IsFirstStep, Offers}
+use Rattle.path_merge.specs.Steps.{IsFirstStep, IsRefusal, Offers}
 use Rattle.path_merge.specs.StreamSpec.{Fits}
 use Rattle.path_merge.specs.StreamSpecFacts.{Stream}
 use Rattle.path_merge.specs.Window.{IsEmpty, is_taken, put_answer}
@@ -36,7 +41,7 @@ use Rattle.path_merge.specs.declared.anchor.Anchor.{Anchor}
 use Rattle.path_merge.specs.declared.event.Event.{Event}
 use Rattle.path_merge.specs.declared.event.Event.TheVariants.{Arrive}
 use Rattle.path_merge.specs.declared.fate.Fate.{Fate}
-use Rattle.path_merge.specs.declared.fate.Fate.TheVariants.{Ahead, Closed, CountersFull, Double, Late, OffGrid, Taken, Unlike, WrongSource}
+use Rattle.path_merge.specs.declared.fate.Fate.TheVariants.{Ahead, Closed, CountersFull, Double, Late, OffGrid, Restarted, Taken, Unlike, WrongSource}
 use Rattle.path_merge.specs.declared.packet.Packet.{Packet}
 use Rattle.path_merge.specs.declared.window.Put.{Put}
 
@@ -75,38 +80,6 @@ is_first stream time packet can = by_tests (is_source_wanted stream.ssrc packet.
     by_tests true false b ea eb e = cc
     by_tests true true false ea eb e = cc
 
--- its own number is nearest to itself
-pub own_number : (packet : Packet) → packet.seq < 65536 → extended_number packet (65536 + packet.seq) ≡ 65536 + packet.seq
-own_number packet small =
-    let zero : 65536 + packet.seq ≡ packet.seq + 1 * 65536 = omega arith in
-    let low : int_rem_euclid (pos (65536 + packet.seq)) (pos 65536) ≡ pos packet.seq = rem_same 65536 (pos (65536 + packet.seq)) (pos packet.seq) 0 1 (omega arith) (omega (arith, ints)) ∙ rem_small 65536 packet.seq small in
-    let near : IsNearest 32768 packet.seq (pos (65536 + packet.seq)) (pos (65536 + packet.seq)) = record { low_bits = low; not_below = omega (arith, ints); below = omega (arith, ints) } in
-    sym (ap unsigned_abs (nearest_number-only 32768 packet.seq (pos (65536 + packet.seq)) (pos (65536 + packet.seq)) small near))
-
--- its timestamp is in step with its number
-pub own_timestamp : (stream : Stream) (time : ℤ) (packet : Packet) → packet.ts < 2 ^ 32 → is_on_grid stream (anchor_from stream time packet) (65536 + packet.seq) packet.ts ≡ true
-own_timestamp stream time packet small =
-    let none : (pos (65536 + packet.seq) -ℤ pos (65536 + packet.seq)) ≡ pos 0 = omega (arith, ints) in
-    let product : ((pos (65536 + packet.seq) -ℤ pos (65536 + packet.seq)) *ℤ pos stream.frames) ≡ pos 0 = ap (λ z. z *ℤ pos stream.frames) none ∙ omega (arith, ints) in
-    let step : (pos packet.ts +ℤ (pos (65536 + packet.seq) -ℤ pos (65536 + packet.seq)) *ℤ pos stream.frames) ≡ pos packet.ts = omega (arith, ints, product) in
-    let expected : expected_timestamp stream (anchor_from stream time packet) (65536 + packet.seq) ≡ packet.ts = ap (λ z. unsigned_abs (int_rem_euclid z (pos (2 ^ 32)))) step ∙ ap unsigned_abs (rem_small (2 ^ 32) packet.ts small) in
-    ap (nat_eq packet.ts) expected ∙ itself packet.ts
-  where
-    itself : (n : ℕ) → nat_eq n n ≡ true
-    itself n = grind (arith, nat_tests)
-
-pub itself_eq : (n : ℕ) → nat_eq n n ≡ true
-itself_eq n = grind (arith, nat_tests)
-
--- it is an in-time copy of itself
-pub own_copy : (stream : Stream) (time : ℤ) (packet : Packet) → 0 < stream.frames → 0 < stream.window → packet.seq < 65536 → packet.ts < 2 ^ 32 → can_anchor stream time packet ≡ true → copies_under stream time true (Some (anchor_from stream time packet)) packet ≡ (65536 + packet.seq, packet) ∷ []
-own_copy stream time packet some wide seq ts can =
-    let next : next_number stream (anchor_from stream time packet) time ≡ 65536 + packet.seq = next_number-fresh stream (anchor_from stream time packet) time some (is_first stream time packet can).after in
-    let number : extended_number packet (next_number stream (anchor_from stream time packet) time) ≡ 65536 + packet.seq = ap (extended_number packet) next ∙ own_number packet seq in
-    let low : nat_le (65536 + packet.seq) (65536 + packet.seq) ≡ true = grind (arith, nat_tests) in
-    let high : nat_lt (65536 + packet.seq) (65536 + packet.seq + stream.window) ≡ true = grind (arith, nat_tests, wide) in
-    rw (number, next, itself_eq packet.ssrc, own_timestamp stream time packet ts, low, high) refl
-
 some_inj : {x y : Packet} → Some x ≡ Some y → x ≡ y
 some_inj e = cc
 
@@ -124,78 +97,95 @@ module _ (stream : Stream) (open_at : ℤ) (m : MergeState) (media : ℤ) (s : I
   none_held : IsUnanchored m
   none_held = subst (λ o. IsAnchoredOrNot m media o) unanchored s.anchored
 
-  none_slotted : AllSlotsBelow 0 (marks_of stream open_at events)
-  none_slotted = subst (λ l. AllSlotsBelow l (marks_of stream open_at events)) (ap (λ o. limit_of stream o m.time) unanchored) (below stream open_at m media s open_yet events k at)
+  hearing : is_counting events ≡ true
+  hearing = hears stream open_at m media s open_yet events k at room
 
-  none_copied : (n : ℕ) → first_copy stream open_at events n ≡ None
-  none_copied n = sym (held_first stream open_at m media s open_yet events k at n (rw unanchored (omega arith))) ∙ none_held.empty n
+  no_last : last_of (anchors_of stream open_at events) ≡ None
+  no_last = by_last (last_of (anchors_of stream open_at events)) (sym (anchor_is stream open_at events) ∙ sym at.anchor ∙ unanchored)
+    where
+      by_last : (o : Option (ℕ × Anchor)) → anchor_in o ≡ None → o ≡ None
+      by_last None e = refl
+      by_last (Some (place, a)) e = cc
 
-  slotless : (n : ℕ) → has_slot_numbered n (marks_of stream open_at events) ≡ false
-  slotless n = not_slot n (marks_of stream open_at events) (AllSlotsBelow-raise 0 n (marks_of stream open_at events) (omega arith) none_slotted)
-
-  pub fate_first : (new : MergeState) (fate : Fate) → IsFirstStep stream m new path packet fate → fate ≡ fate_of stream open_at events packet
-  fate_first new answer step = step.fate_is ∙ sym (fate_heard stream open_at m media s open_yet events k at room packet ∙ ap (λ o. counted_fate stream m.time o (copies_of stream open_at events) packet) unanchored)
+  pub fate_first : (new : MergeState) (fate : Fate) → IsFirstStep stream m new path packet fate → fate ≡ fate_of stream open_at events path packet
+  fate_first new answer step = step.fate_is ∙ sym (rw (still_open, no_last, sym at.anchor ∙ unanchored, ← at.time) (by_count (arrival_count events) (few stream open_at m media s open_yet events k at room)))
+    where
+      by_count : (n : ℕ) → n < 2 ^ 62 → (if not (nat_lt n (2 ^ 62)) then CountersFull else first_fate stream m.time packet) ≡ first_fate stream m.time packet
+      by_count n h = let yes : nat_lt n (2 ^ 62) ≡ true = grind (arith, nat_tests, h) in rw yes refl
 
   -- the anchor after it
-  anchor_after : anchor_of stream open_at (events ++ Arrive path packet ∷ []) ≡ (if can_anchor stream m.time packet then Some (anchor_from stream m.time packet) else None)
-  anchor_after =
-      anchor_of-push stream open_at events (Arrive path packet)
-      ∙ ap (λ o. elim o [ None ↦ first_of (anchors_at stream open_at events (Arrive path packet)) | Some b ↦ Some b ]) (sym at.anchor ∙ unanchored)
-      ∙ rw (hears stream open_at m media s open_yet events k at room, ← at.time) (by_test (can_anchor stream m.time packet))
+  last_after : last_of (anchors_of stream open_at (events ++ Arrive path packet ∷ [])) ≡ (if can_anchor stream m.time packet then Some (length events, anchor_from stream m.time packet) else None)
+  last_after = last-push stream open_at events (Arrive path packet) ∙ ap (or_else _) no_last ∙ rw (hearing, no_last, ← at.time) (by_test (can_anchor stream m.time packet))
     where
-      by_test : (b : Bool) → first_of (if b then anchor_from stream m.time packet ∷ [] else []) ≡ (if b then Some (anchor_from stream m.time packet) else None)
+      by_test : (b : Bool) → or_else (last_of (placed (length events) (if b then anchor_from stream m.time packet ∷ [] else []))) None ≡ (if b then Some (length events, anchor_from stream m.time packet) else None)
       by_test true = refl
       by_test false = refl
 
-  copies_after : copies_at stream open_at events (Arrive path packet) ≡ (if can_anchor stream m.time packet then (65536 + packet.seq, packet) ∷ [] else [])
-  copies_after = rw (anchor_after, hears stream open_at m media s open_yet events k at room, ← at.time) (by_test (can_anchor stream m.time packet) refl)
+  anchor_after : anchor_of stream open_at (events ++ Arrive path packet ∷ []) ≡ (if can_anchor stream m.time packet then Some (anchor_from stream m.time packet) else None)
+  anchor_after = anchor_is stream open_at (events ++ Arrive path packet ∷ []) ∙ ap anchor_in last_after ∙ by_test (can_anchor stream m.time packet)
     where
-      by_test : (b : Bool) → can_anchor stream m.time packet ≡ b → copies_under stream m.time true (if b then Some (anchor_from stream m.time packet) else None) packet ≡ (if b then (65536 + packet.seq, packet) ∷ [] else [])
-      by_test true e = own_copy stream m.time packet frames_some window_some seq ts e
+      by_test : (b : Bool) → anchor_in (if b then Some (length events, anchor_from stream m.time packet) else None) ≡ (if b then Some (anchor_from stream m.time packet) else None)
+      by_test true = refl
+      by_test false = refl
+
+  copies_after : copies_of stream open_at (events ++ Arrive path packet ∷ []) ≡ (if can_anchor stream m.time packet then (65536 + packet.seq, packet) ∷ [] else [])
+  copies_after = copies_of-since stream open_at (events ++ Arrive path packet ∷ []) ∙ ap (λ o. since_of stream open_at o (events ++ Arrive path packet ∷ [])) last_after ∙ by_test (can_anchor stream m.time packet) refl
+    where
+      by_test : (b : Bool) → can_anchor stream m.time packet ≡ b → since_of stream open_at (if b then Some (length events, anchor_from stream m.time packet) else None) (events ++ Arrive path packet ∷ []) ≡ (if b then (65536 + packet.seq, packet) ∷ [] else [])
       by_test false e = refl
+      by_test true e = copies_since-made stream open_at events (Arrive path packet) (anchor_from stream m.time packet) ∙ rw (← at.time, hearing) (own_copy stream m.time packet 0 (base_media_time stream.clock packet.ts m.time) frames_some window_some seq ts (is_first stream m.time packet e).after)
+
+  heard_after : (on : ℕ) → heard_of stream open_at (last_of (anchors_of stream open_at (events ++ Arrive path packet ∷ []))) (events ++ Arrive path packet ∷ []) on ≡ []
+  heard_after on = ap (λ o. heard_of stream open_at o (events ++ Arrive path packet ∷ []) on) last_after ∙ by_test (can_anchor stream m.time packet)
+    where
+      by_test : (b : Bool) → heard_of stream open_at (if b then Some (length events, anchor_from stream m.time packet) else None) (events ++ Arrive path packet ∷ []) on ≡ []
+      by_test true = heard_of-made stream open_at (anchor_from stream m.time packet) events (Arrive path packet) on
+      by_test false = refl
+
+  was_none : (on : ℕ) → on < 4 → probation_at m.probations on ≡ no_probation
+  was_none on few_on = at.probation on few_on ∙ ap (λ o. probation_of stream (heard_of stream open_at o events on)) no_last
 
   taken_is : (new : MergeState) (fate : Fate) → IsFirstStep stream m new path packet fate → is_taken_fate fate ≡ can_anchor stream m.time packet
   taken_is new answer step = ap is_taken_fate step.fate_is ∙ taken-can_anchor stream m.time packet
+
+  none_slotted : slot_count 0 (marks_of stream open_at events) ≡ 0
+  none_slotted = none_above 0 (marks_of stream open_at events) (subst (λ o. AllSlotsBelow (limit_of stream o) (marks_of stream open_at events)) (sym at.anchor ∙ unanchored) (rw (marks_of-in stream open_at events) (slots_below stream open_at frames_some (copies_of_all stream open_at events) events at.well_timed still_open)))
 
   base_after : (new : MergeState) (fate : Fate) → IsFirstStep stream m new path packet fate → IsBaseOf new.anchor new.base (marks_of stream open_at events)
   base_after new fate step = subst (λ o. IsBaseOf o new.base (marks_of stream open_at events)) (sym step.anchor) (by_test (is_taken_fate fate) refl)
     where
       by_test : (b : Bool) → is_taken_fate fate ≡ b → IsBaseOf (if b then Some (anchor_from stream m.time packet) else None) new.base (marks_of stream open_at events)
-      by_test true e = omega (arith, step.base e, none_below (marks_of stream open_at events) none_slotted)
+      by_test true e = omega (arith, step.base e, none_slotted)
       by_test false e = tt
 
-  held_after : (new : MergeState) (fate : Fate) → IsFirstStep stream m new path packet fate → (n : ℕ) → get new.held n ≡ (if has_slot_numbered n (marks_of stream open_at events) then None else first_with n (copies_of stream open_at events ++ copies_at stream open_at events (Arrive path packet)))
-  held_after new fate step n =
-      step.held n ∙ ap (λ b. if b && nat_eq n (65536 + packet.seq) then Some packet else None) (taken_is new fate step)
-      ∙ sym (ap (λ b. if b then None else first_with n (copies_of stream open_at events ++ copies_at stream open_at events (Arrive path packet))) (slotless n)
-      ∙ first_with-append n (copies_of stream open_at events) (copies_at stream open_at events (Arrive path packet))
-      ∙ ap (λ o. elim o [ None ↦ first_with n (copies_at stream open_at events (Arrive path packet)) | Some p ↦ Some p ]) (none_copied n)
-      ∙ ap (first_with n) copies_after
-      ∙ by_test (can_anchor stream m.time packet))
+  held_after : (new : MergeState) (fate : Fate) → IsFirstStep stream m new path packet fate → (n : ℕ) → get new.held n ≡ (if nat_lt n new.base then None else first_copy stream open_at (events ++ Arrive path packet ∷ []) n)
+  held_after new fate step n = step.held n ∙ by_test (is_taken_fate fate) refl ∙ sym (ap (λ l. if nat_lt n new.base then None else first_with n l) copies_after)
     where
-      turned : (a b : ℕ) → nat_eq a b ≡ nat_eq b a
-      turned a b = grind (arith, nat_tests)
-
-      by_test : (b : Bool) → first_with n (if b then (65536 + packet.seq, packet) ∷ [] else []) ≡ (if b && nat_eq n (65536 + packet.seq) then Some packet else None)
-      by_test true = ap (λ c. if c then Some packet else None) (turned (65536 + packet.seq) n)
-      by_test false = refl
+      by_test : (b : Bool) → is_taken_fate fate ≡ b → (if b && nat_eq n (65536 + packet.seq) then Some packet else None) ≡ (if nat_lt n new.base then None else first_with n (if can_anchor stream m.time packet then (65536 + packet.seq, packet) ∷ [] else []))
+      by_test false e = rw (sym (taken_is new fate step) ∙ e) (none (nat_lt n new.base))
+        where
+          none : (b : Bool) → ◌≡◌ {A = Option Packet} None (if b then None else None)
+          none true = refl
+          none false = refl
+      by_test true e = rw (sym (taken_is new fate step) ∙ e, step.base e) (sym (one_held n (65536 + packet.seq) packet))
 
   pub stands_first : (new : MergeState) (fate : Fate) → IsFirstStep stream m new path packet fate → HasHistory stream open_at new (events ++ Arrive path packet ∷ []) k
   stands_first new fate step = stands_after_arrival stream open_at frames_some m new events k path packet at open_yet (few stream open_at m media s open_yet events k at room) (record {
-    spec = step.spec;
-    time = step.time;
+    spec = ap (λ (x : MergeState). x.spec) step.changed;
+    time = ap (λ (x : MergeState). x.time) step.changed;
     anchor = step.anchor ∙ ap (λ b. if b then Some (anchor_from stream m.time packet) else None) (taken_is new fate step) ∙ sym anchor_after;
     base = base_after new fate step;
+    probation = λ on few_on. ap (λ (x : MergeState). probation_at x.probations on) step.changed ∙ was_none on few_on ∙ ap (probation_of stream) (sym (heard_after on));
     held = held_after new fate step;
-    quiet = step.quiet;
-    counts = step.counts ∙ ap (λ t. with_fate t path fate) (at.counts ∙ ap (counts_of stream open_at events) (all stream open_at m media s open_yet events k at)) ∙ sym (counts_heard stream open_at m media s open_yet events k at path packet room fate (fate_first new fate step) few_paths);
-    closed = step.closed;
-    ended = step.ended;
+    quiet = ap (λ (x : MergeState). x.quiet) step.changed;
+    counts = ap (λ (x : MergeState). x.counts) step.changed ∙ ap (λ t. with_fate t path fate) (at.counts ∙ ap (counts_of stream open_at events) (all stream open_at m media s open_yet events k at)) ∙ sym (counts_heard stream open_at m media s open_yet events k at path packet room fate (fate_first new fate step) (ap is_counted_fate step.fate_is ∙ first_counts stream m.time packet) few_paths);
+    closed = ap (λ (x : MergeState). x.closed) step.changed;
+    ended = ap (λ (x : MergeState). x.ended) step.changed;
   })
 
 -- a merge that takes its first packet, and one that refuses it, stay sound
-pub sound_refused : (m : MergeState) (media : ℤ) (path : ℕ) (fate : Fate) (counts' : Tally) → IsSound m media → m.counts.arrived < 2 ^ 62 → is_taken_fate fate ≡ false → counts' ≡ with_fate m.counts path fate → IsSound (record m { counts = counts' }) media
-sound_refused m media path fate counts' s room untaken is_counts = rw is_counts (record {
+pub sound_refused : (m : MergeState) (media : ℤ) (path : ℕ) (fate : Fate) (counts' : Tally) (probations' : List Probation) → IsSound m media → m.counts.arrived < 2 ^ 62 → is_taken_fate fate ≡ false → counts' ≡ with_fate m.counts path fate → IsSound (record m { counts = counts'; probations = probations' }) media
+sound_refused m media path fate counts' probations' s room untaken is_counts = rw is_counts (record {
   spec_ok = s.spec_ok;
   time_low = s.time_low;
   time_high = s.time_high;
@@ -213,10 +203,29 @@ sound_refused m media path fate counts' s room untaken is_counts = rw is_counts 
         same : (n : ℕ) → n + 0 ≡ n
         same n = omega arith
 
-    by_anchor : (o : Option Anchor) → IsAnchoredOrNot m media o → IsAnchoredOrNot (record m { counts = with_fate m.counts path fate }) media o
-    by_anchor None an = record { empty = an.empty; none_taken = taken_same ∙ an.none_taken; none_got = counts.got ∙ an.none_got; none_lost = counts.lost ∙ an.none_lost }
+    untaken_stays : (f : Fate) → is_taken_fate f ≡ false → is_restarted f ≡ false
+    untaken_stays Restarted e = cc
+    untaken_stays Closed e = refl
+    untaken_stays CountersFull e = refl
+    untaken_stays WrongSource e = refl
+    untaken_stays OffGrid e = refl
+    untaken_stays Late e = refl
+    untaken_stays Ahead e = refl
+    untaken_stays Taken e = cc
+    untaken_stays Double e = refl
+    untaken_stays Unlike e = refl
+
+    no_restart : (with_fate m.counts path fate).restarts ≡ m.counts.restarts
+    no_restart = counts.restarts ∙ ap (λ b. m.counts.restarts + (if b then 1 else 0)) (untaken_stays fate untaken) ∙ same m.counts.restarts
+      where
+        same : (n : ℕ) → n + 0 ≡ n
+        same n = omega arith
+
+    by_anchor : (o : Option Anchor) → IsAnchoredOrNot m media o → IsAnchoredOrNot (record m { counts = with_fate m.counts path fate; probations = probations' }) media o
+    by_anchor None an = record { empty = an.empty; none_taken = taken_same ∙ an.none_taken; none_got = counts.got ∙ an.none_got; none_lost = counts.lost ∙ an.none_lost; none_restarted = no_restart ∙ an.none_restarted }
     by_anchor (Some a) an = record {
-      first_epoch = an.first_epoch;
+      epoch_is = omega (arith, no_restart, an.epoch_is);
+      few_epochs = omega (arith, counts.more, an.few_epochs);
       first_low = an.first_low;
       first_high = an.first_high;
       stamp = an.stamp;
@@ -229,7 +238,7 @@ sound_refused m media path fate counts' s room untaken is_counts = rw is_counts 
       held_low = an.held_low;
       held_high = an.held_high;
       held_fits = an.held_fits;
-      slots_given = omega (arith, counts.got, counts.lost, an.slots_given);
+      slots_given = omega (arith, ints, counts.got, counts.lost, an.slots_given);
       taken_are = omega (arith, taken_same, counts.got, an.taken_are);
     }
 
@@ -241,7 +250,8 @@ sound_first m media media' path packet a g h base' size' counts' s is_none open_
   size_is = s.size_is;
   few_arrived = omega (arith, counts.arrived, room);
   anchored = record {
-    first_epoch = refl;
+    epoch_is = omega (arith, counts.restarts, none.none_restarted);
+    few_epochs = omega arith;
     first_low = omega arith;
     first_high = omega (arith, seq);
     stamp = ts;
@@ -254,7 +264,7 @@ sound_first m media media' path packet a g h base' size' counts' s is_none open_
     held_low = λ n some_n. omega (arith, only n some_n);
     held_high = λ n some_n. omega (arith, only n some_n, next, wide);
     held_fits = λ n q is. subst (λ x. Fits m.spec x) (some_inj (sym (here n (subst IsSome (sym is) refl)) ∙ is)) fits;
-    slots_given = omega (arith, counts.got, counts.lost, none.none_got, none.none_lost);
+    slots_given = omega (arith, ints, counts.got, counts.lost, none.none_got, none.none_lost, first.after, s.time_low, s.spec_ok.small_latency);
     taken_are = omega (arith, counts.taken, counts.got, none.none_taken, none.none_got, one);
   };
 })
@@ -298,16 +308,14 @@ sound_first m media media' path packet a g h base' size' counts' s is_none open_
     here n some_n = (by_eq n (nat_eq n (65536 + packet.seq)) refl some_n).1
 
 -- the steps that the code makes
-taken_alone : (f : Fate) → is_taken_fate f ≡ true → f ≡ Taken
-taken_alone Closed e = cc
-taken_alone CountersFull e = cc
-taken_alone WrongSource e = cc
-taken_alone OffGrid e = cc
-taken_alone Late e = cc
-taken_alone Ahead e = cc
-taken_alone Taken e = refl
-taken_alone Double e = cc
-taken_alone Unlike e = cc
+taken_alone : (stream : Stream) (time : ℤ) (packet : Packet) → is_taken_fate (first_fate stream time packet) ≡ true → first_fate stream time packet ≡ Taken
+taken_alone stream time packet = by_tests (not (is_source_wanted stream.ssrc packet.ssrc)) (int_le (base_media_time stream.clock packet.ts time) (time -ℤ pos stream.latency)) (int_le (time -ℤ pos stream.latency +ℤ pos (stream.window * stream.frames)) (base_media_time stream.clock packet.ts time))
+  where
+    by_tests : (a b c : Bool) → is_taken_fate (if a then WrongSource else if b then Late else if c then Ahead else Taken) ≡ true → (if a then WrongSource else if b then Late else if c then Ahead else Taken) ≡ Taken
+    by_tests true b c e = cc
+    by_tests false true c e = cc
+    by_tests false false true e = cc
+    by_tests false false false e = refl
 
 pub unanchored_at : (m : MergeState) (media : ℤ) → IsSound m media → m.anchor ≡ None → IsUnanchored m
 unanchored_at m media s is_none = subst (λ o. IsAnchoredOrNot m media o) is_none s.anchored
@@ -315,29 +323,21 @@ unanchored_at m media s is_none = subst (λ o. IsAnchoredOrNot m media o) is_non
 pub first_step_refused : (m : MergeState) (media : ℤ) (path : ℕ) (packet : Packet) (answer : Fate) (counts' : Tally) → IsSound m media → m.anchor ≡ None → answer ≡ first_fate m.spec m.time packet → is_taken_fate answer ≡ false → counts' ≡ with_fate m.counts path answer → IsFirstStep m.spec m (record m { counts = counts' }) path packet answer
 first_step_refused m media path packet answer counts' s is_none is untaken is_counts = record {
   fate_is = is;
-  spec = refl;
-  time = refl;
   anchor = is_none ∙ sym (ap (λ b. if b then Some (anchor_from m.spec m.time packet) else None) untaken);
   base = λ taken. absurd (let no = sym untaken ∙ taken in cc);
   held = λ n. (unanchored_at m media s is_none).empty n ∙ sym (ap (λ b. if b && nat_eq n (65536 + packet.seq) then Some packet else None) untaken);
-  quiet = refl;
-  counts = is_counts;
-  closed = refl;
-  ended = refl;
+  changed = rw is_counts refl;
+  refused = λ _. rw is_counts refl;
 }
 
-pub first_step_taken : (m : MergeState) (path : ℕ) (packet : Packet) (a : Anchor) (g h : FinMap nat_cmp Packet) (base' size' : ℕ) (counts' : Tally) → is_taken_fate (first_fate m.spec m.time packet) ≡ true → a ≡ anchor_from m.spec m.time packet → IsEmpty g → ((n : ℕ) → get h n ≡ (if nat_eq n (65536 + packet.seq) then Some packet else get g n)) → base' ≡ 65536 + packet.seq → counts' ≡ with_fate m.counts path Taken → IsFirstStep m.spec m (record m { anchor = Some a; base = base'; size = size'; held = h; counts = counts' }) path packet Taken
-first_step_taken m path packet a g h base' size' counts' taken is_a empty put is_base is_counts = record {
-  fate_is = sym (taken_alone (first_fate m.spec m.time packet) taken);
-  spec = refl;
-  time = refl;
+pub first_step_taken : (m : MergeState) (path : ℕ) (packet : Packet) (a : Anchor) (g h : FinMap nat_cmp Packet) (base' size' : ℕ) (counts' : Tally) → is_taken_fate (first_fate m.spec m.time packet) ≡ true → a ≡ anchor_from m.spec m.time packet → IsEmpty g → ((n : ℕ) → get h n ≡ (if nat_eq n (65536 + packet.seq) then Some packet else get g n)) → base' ≡ 65536 + packet.seq → size' ≡ m.size → counts' ≡ with_fate m.counts path Taken → IsFirstStep m.spec m (record m { anchor = Some a; base = base'; size = size'; held = h; counts = counts' }) path packet Taken
+first_step_taken m path packet a g h base' size' counts' taken is_a empty put is_base is_size is_counts = record {
+  fate_is = sym (taken_alone m.spec m.time packet taken);
   anchor = ap (λ x. Some x) is_a;
   base = λ _. is_base;
   held = λ n. put n ∙ ap (λ o. if nat_eq n (65536 + packet.seq) then Some packet else o) (empty n);
-  quiet = refl;
-  counts = is_counts;
-  closed = refl;
-  ended = refl;
+  changed = rw (is_size, is_counts) refl;
+  refused = λ no. cc;
 }
 
 -- the put of the first packet, by the window's answer
@@ -355,3 +355,10 @@ offers_first stream open_at m media s open_yet events k at is_none room path pac
       stands = stands_first stream open_at m media s open_yet events k at is_none room path packet few_paths seq ts new answer step_s;
       kept = marks_of-arrive stream open_at (rw at.spec at s.spec_ok.some_frames) events at.well_timed (sym at.closed ∙ open_yet) path packet;
     }
+
+pub refused_first : (stream : Stream) (old new : MergeState) (path : ℕ) (packet : Packet) (fate : Fate) → IsFirstStep stream old new path packet fate → is_taken_fate fate ≡ false → IsRefusal old new path fate
+refused_first stream old new path packet fate step untaken = record {
+  held = λ n. ap (λ (x : MergeState). get x.held n) (step.refused untaken);
+  other_paths = λ other apart. ap (λ (x : MergeState). probation_at x.probations other) (step.refused untaken);
+  changed = subst (λ (x : MergeState). x ≡ record old { held = x.held; probations = x.probations; counts = with_fate old.counts path fate }) (sym (step.refused untaken)) refl;
+}

@@ -1,141 +1,56 @@
--- What each event adds to the marks.
-use Rattle.std.proofs.Common.{◌≡◌, ℕ, zero, suc, ◌+◌, ◌-◌, ◌<◌, Bool, true, false, not, ◌&&◌, List, [], ◌∷◌, ◌++◌, length, Option, Some, None, ℤ, pos, ◌-ℤ◌, refl, ap, ◌∙◌, arith, append-nil, if◌then◌else◌}
-use Rattle.std.specs.Prelude.{int_lt, cond, count_by}
-use Rattle.std.proofs.lemmas.Int.{ints}
-use Rattle.path_merge.proofs.ArrivalLemmas.{marks_of-arrive}
+-- What each event adds to the slots.
+use Rattle.std.proofs.Common.{◌≡◌, ℕ, ◌+◌, ◌-◌, false, List, [], ◌∷◌, ◌++◌, length, Option, Some, None, ℤ, refl, ap, ◌∙◌, arith, append-nil}
+use Rattle.std.specs.Prelude.{cond, count_by}
 use Rattle.path_merge.proofs.CloseLemmas.{marks_of-close}
-use Rattle.path_merge.proofs.HistoryLemmas.{anchor_of-tick, copies_of-tick, events_until_close-open, fates_of-tick, is_closed-append, marks_in-none, marks_of-in, time_of-append}
-use Rattle.path_merge.proofs.JoinLemmas.{has_slot-append}
-use Rattle.path_merge.proofs.MarksLemmas.{by_open_event}
-use Rattle.path_merge.proofs.ShapeLemmas.{run_numbers, slot_numbers-append}
+use Rattle.path_merge.proofs.HistoryLemmas.{copies_of-with}
+use Rattle.path_merge.proofs.SpanLemmas.{quiet_names, run_names, slot_names-append}
 use Rattle.path_merge.proofs.StepLemmas.{marks_of-tick}
 use Rattle.path_merge.proofs.TallyLemmas.{count_by-first}
-use Rattle.path_merge.specs.Anchor.{anchor_of, next_number}
-use Rattle.path_merge.specs.Copies.{copies_of, first_with}
+use Rattle.path_merge.specs.Anchor.{next_number}
+use Rattle.path_merge.specs.Copies.{copies_of}
 use Rattle.path_merge.specs.Counts.{is_got, is_lost}
-use Rattle.path_merge.specs.History.{is_closed, is_well_timed, time_of}
-use Rattle.path_merge.specs.Laws.{IsOpen, numbers_in, slot_numbers, slots_left, slots_reached}
+use Rattle.path_merge.specs.Epochs.{anchor_of}
+use Rattle.path_merge.specs.Grid.{end_of_copies}
+use Rattle.path_merge.specs.History.{is_closed, time_of}
+use Rattle.path_merge.specs.Laws.{names_in, slot_names, slots_left, slots_reached}
 use Rattle.path_merge.specs.MarkFacts.{MarkView}
-use Rattle.path_merge.specs.Marks.{body_of, end_mark, end_of_copies, has_slot, is_past_quiet, is_past_quiets, is_quiet_new, marks_of, quiet_mark, slot_mark, slots_at_close, slots_between, slots_from, slots_or_quiet}
-use Rattle.path_merge.specs.Steps.{IsAlike}
+use Rattle.path_merge.specs.Marks.{end_mark, marks_of, slots_at_close, slots_between}
 use Rattle.path_merge.specs.StreamSpecFacts.{Stream}
 use Rattle.path_merge.specs.declared.anchor.Anchor.{Anchor}
 use Rattle.path_merge.specs.declared.event.Event.{Event}
-use Rattle.path_merge.specs.declared.event.Event.TheVariants.{Arrive, Close, Tick}
+use Rattle.path_merge.specs.declared.event.Event.TheVariants.{Close, Tick}
 use Rattle.path_merge.specs.declared.mark.Body.TheVariants.{Got, Lost}
 use Rattle.path_merge.specs.declared.mark.MarkKind.{MarkKind}
 use Rattle.path_merge.specs.declared.mark.MarkKind.TheVariants.{End, Quiet, Slot}
 use Rattle.path_merge.specs.declared.packet.Packet.{Packet}
 
-past_no_self : (until : ℤ) (mark : MarkView) (given : List MarkView) → mark.kind ≡ Quiet until → is_past_quiets until (given ++ mark ∷ []) ≡ false
-past_no_self until mark [] e =
-    let x : int_lt until until ≡ false = grind (arith, ints) in
-    rw (e, x) refl
-past_no_self until mark (first ∷ given) e = rw (past_no_self until mark given e) (and_false (is_past_quiet until first.kind))
-  where
-    and_false : (b : Bool) → (b && false) ≡ false
-    and_false false = refl
-    and_false true = refl
+-- the slots that an event gives, by their epoch and number
+between_names : (stream : Stream) (copies : List (ℕ × Packet)) (o : Option Anchor) (from to : ℤ) → slot_names (slots_between stream copies o from to) ≡ slots_reached stream o from to
+between_names stream copies None from to = refl
+between_names stream copies (Some a) from to = run_names stream a copies (next_number stream a from) (next_number stream a to - next_number stream a from)
 
--- after a tick, no Quiet at its time is new
-module _ (stream : Stream) (open_at u : ℤ) (given : List MarkView) where
-  silent : is_quiet_new stream open_at (given ++ slots_or_quiet stream open_at given u []) (u -ℤ pos stream.latency) ≡ false
-  silent = by_test (is_quiet_new stream open_at given (u -ℤ pos stream.latency)) refl
-    where
-      no_third : (a b c : Bool) → c ≡ false → (a && (b && c)) ≡ false
-      no_third false b c e = refl
-      no_third true false c e = refl
-      no_third true true c e = e
-
-      by_test : (b : Bool) → is_quiet_new stream open_at given (u -ℤ pos stream.latency) ≡ b → is_quiet_new stream open_at (given ++ (if b then quiet_mark stream (u -ℤ pos stream.latency) ∷ [] else [])) (u -ℤ pos stream.latency) ≡ false
-      by_test false is = ap (λ l. is_quiet_new stream open_at l (u -ℤ pos stream.latency)) (append-nil given) ∙ is
-      by_test true is = no_third (not (has_slot (given ++ quiet_mark stream (u -ℤ pos stream.latency) ∷ []))) (int_lt (open_at -ℤ pos stream.latency) (u -ℤ pos stream.latency)) _ (past_no_self (u -ℤ pos stream.latency) (quiet_mark stream (u -ℤ pos stream.latency)) given refl)
-
-  told : (copies : List (ℕ × Packet)) (o : Option Anchor) (time : ℤ) → is_quiet_new stream open_at (given ++ slots_or_quiet stream open_at given u (slots_between stream copies o time u)) (u -ℤ pos stream.latency) ≡ false
-  told copies None time = silent
-  told copies (Some a) time = by_count (next_number stream a u - next_number stream a time)
-    where
-      by_count : (count : ℕ) → is_quiet_new stream open_at (given ++ slots_or_quiet stream open_at given u (slots_from stream a copies (next_number stream a time) count)) (u -ℤ pos stream.latency) ≡ false
-      by_count zero = silent
-      by_count (suc count) = rw (has_slot-append given (slot_mark stream a (next_number stream a time) (body_of (first_with (next_number stream a time) copies))) (slots_from stream a copies (suc (next_number stream a time)) count) refl) refl
-
--- no Quiet at the current time is new
-pub silence_told : (stream : Stream) (open_at : ℤ) → 0 < stream.frames → (events : List Event) → is_well_timed open_at events ≡ true → is_closed events ≡ false → is_quiet_new stream open_at (marks_of stream open_at events) (time_of open_at events -ℤ pos stream.latency) ≡ false
-silence_told stream open_at some = by_open_event stream open_at some (λ events. is_quiet_new stream open_at (marks_of stream open_at events) (time_of open_at events -ℤ pos stream.latency) ≡ false)
-    (rw (marks_of-in stream open_at [], marks_in-none stream open_at (copies_of stream open_at [])) not_yet)
-    (λ events path packet well_timed before open_yet is.
-    rw (marks_of-arrive stream open_at some events before open_yet path packet, time_of-append open_at events (Arrive path packet ∷ [])) is)
-    (λ events u t is.
-    rw (marks_of-tick stream open_at events u t.open_yet, time_of-append open_at events (Tick u ∷ [])) (told stream open_at u (marks_of stream open_at events) (copies_of stream open_at events) (anchor_of stream open_at events) (time_of open_at events)))
-  where
-    not_yet : (int_lt (open_at -ℤ pos stream.latency) (open_at -ℤ pos stream.latency) && true) ≡ false
-    not_yet =
-        let x : int_lt (open_at -ℤ pos stream.latency) (open_at -ℤ pos stream.latency) ≡ false = grind (arith, ints) in
-        rw x refl
-
--- a tick at the current time
-module _ (stream : Stream) (open_at : ℤ) (some : 0 < stream.frames) (events : List Event) (still : IsOpen open_at events) where
-  none_between : (o : Option Anchor) (time : ℤ) (copies : List (ℕ × Packet)) → slots_between stream copies o time time ≡ []
-  none_between None time copies = refl
-  none_between (Some a) time copies =
-      let none : next_number stream a time - next_number stream a time ≡ 0 = omega arith in
-      ap (slots_from stream a copies (next_number stream a time)) none
-
-  same_marks : marks_of stream open_at (events ++ Tick (time_of open_at events) ∷ []) ≡ marks_of stream open_at events
-  same_marks =
-      marks_of-tick stream open_at events (time_of open_at events) still.open_yet
-      ∙ ap (λ l. marks_of stream open_at events ++ slots_or_quiet stream open_at (marks_of stream open_at events) (time_of open_at events) l) (none_between (anchor_of stream open_at events) (time_of open_at events) (copies_of stream open_at events))
-      ∙ rw (silence_told stream open_at some events still.well_timed still.open_yet) (append-nil (marks_of stream open_at events))
-
-  pub tick_again : IsAlike stream open_at (events ++ Tick (time_of open_at events) ∷ []) events
-  tick_again =
-      let open_then = is_closed-append events (Tick (time_of open_at events) ∷ []) in
-      record {
-        well_timed = λ _. still.well_timed;
-        time = time_of-append open_at events (Tick (time_of open_at events) ∷ []);
-        closed = open_then ∙ rw still.open_yet refl;
-        fates = fates_of-tick stream open_at events (time_of open_at events);
-        anchor = anchor_of-tick stream open_at events (time_of open_at events);
-        copies = copies_of-tick stream open_at events (time_of open_at events);
-        marks = same_marks;
-        before_close = rw (events_until_close-open (events ++ Tick (time_of open_at events) ∷ []) (open_then ∙ rw still.open_yet refl), events_until_close-open events still.open_yet) same_marks;
-      }
-
--- the numbers of the slots that an event gives
-between_numbers : (stream : Stream) (copies : List (ℕ × Packet)) (o : Option Anchor) (from to : ℤ) → slot_numbers (slots_between stream copies o from to) ≡ slots_reached stream o from to
-between_numbers stream copies None from to = refl
-between_numbers stream copies (Some a) from to = run_numbers stream a copies (next_number stream a from) (next_number stream a to - next_number stream a from)
-
-or_quiet_numbers : (stream : Stream) (open_at : ℤ) (given : List MarkView) (to : ℤ) (slots : List MarkView) → slot_numbers (slots_or_quiet stream open_at given to slots) ≡ slot_numbers slots
-or_quiet_numbers stream open_at given to (mark ∷ marks) = refl
-or_quiet_numbers stream open_at given to [] = by_test (is_quiet_new stream open_at given (to -ℤ pos stream.latency))
-  where
-    by_test : (b : Bool) → slot_numbers (if b then quiet_mark stream (to -ℤ pos stream.latency) ∷ [] else []) ≡ []
-    by_test true = refl
-    by_test false = refl
-
-pub tick_gives : (stream : Stream) (open_at : ℤ) (events : List Event) (u : ℤ) → is_closed events ≡ false → slot_numbers (marks_of stream open_at (events ++ Tick u ∷ [])) ≡ slot_numbers (marks_of stream open_at events) ++ slots_reached stream (anchor_of stream open_at events) (time_of open_at events) u
+pub tick_gives : (stream : Stream) (open_at : ℤ) (events : List Event) (u : ℤ) → is_closed events ≡ false → slot_names (marks_of stream open_at (events ++ Tick u ∷ [])) ≡ slot_names (marks_of stream open_at events) ++ slots_reached stream (anchor_of stream open_at events) (time_of open_at events) u
 tick_gives stream open_at events u open_yet =
-    ap slot_numbers (marks_of-tick stream open_at events u open_yet)
-    ∙ slot_numbers-append (marks_of stream open_at events) _
-    ∙ ap (λ l. slot_numbers (marks_of stream open_at events) ++ l) (or_quiet_numbers stream open_at (marks_of stream open_at events) u (slots_between stream (copies_of stream open_at events) (anchor_of stream open_at events) (time_of open_at events) u) ∙ between_numbers stream (copies_of stream open_at events) (anchor_of stream open_at events) (time_of open_at events) u)
+    ap slot_names (marks_of-tick stream open_at events u open_yet)
+    ∙ slot_names-append (marks_of stream open_at events) _
+    ∙ ap (λ l. slot_names (marks_of stream open_at events) ++ l) (quiet_names stream open_at (marks_of stream open_at events) u (slots_between stream (copies_of stream open_at events) (anchor_of stream open_at events) (time_of open_at events) u) ∙ between_names stream (copies_of stream open_at events) (anchor_of stream open_at events) (time_of open_at events) u)
 
-left_numbers : (stream : Stream) (copies : List (ℕ × Packet)) (o : Option Anchor) (time : ℤ) → slot_numbers (slots_at_close stream copies o time ++ end_mark stream ∷ []) ≡ slots_left stream o time copies
-left_numbers stream copies None time = refl
-left_numbers stream copies (Some a) time = slot_numbers-append (slots_at_close stream copies (Some a) time) (end_mark stream ∷ []) ∙ append-nil _ ∙ run_numbers stream a copies (next_number stream a time) (end_of_copies copies - next_number stream a time)
+left_names : (stream : Stream) (copies : List (ℕ × Packet)) (o : Option Anchor) (time : ℤ) → slot_names (slots_at_close stream copies o time ++ end_mark stream ∷ []) ≡ slots_left stream o time copies
+left_names stream copies None time = refl
+left_names stream copies (Some a) time = slot_names-append (slots_at_close stream copies (Some a) time) (end_mark stream ∷ []) ∙ append-nil _ ∙ run_names stream a copies (next_number stream a time) (end_of_copies copies - next_number stream a time)
 
-pub close_gives : (stream : Stream) (open_at : ℤ) (events : List Event) → is_closed events ≡ false → slot_numbers (marks_of stream open_at (events ++ Close ∷ [])) ≡ slot_numbers (marks_of stream open_at events) ++ slots_left stream (anchor_of stream open_at events) (time_of open_at events) (copies_of stream open_at events)
+pub close_gives : (stream : Stream) (open_at : ℤ) (events : List Event) → is_closed events ≡ false → slot_names (marks_of stream open_at (events ++ Close ∷ [])) ≡ slot_names (marks_of stream open_at events) ++ slots_left stream (anchor_of stream open_at events) (time_of open_at events) (copies_of stream open_at events)
 close_gives stream open_at events open_yet =
-    ap slot_numbers (marks_of-close stream open_at events)
-    ∙ slot_numbers-append (marks_of stream open_at events) _
-    ∙ ap (λ l. slot_numbers (marks_of stream open_at events) ++ l) (rw open_yet (left_numbers stream (copies_of stream open_at events) (anchor_of stream open_at events) (time_of open_at events)))
+    ap slot_names (marks_of-close stream open_at events)
+    ∙ slot_names-append (marks_of stream open_at events) _
+    ∙ ap (λ l. slot_names (marks_of stream open_at events) ++ l) (rw (open_yet, copies_of-with stream open_at events) (left_names stream (copies_of stream open_at events) (anchor_of stream open_at events) (time_of open_at events)))
 
 -- each slot is counted once, as got or as lost
-pub slots_told : (marks : List MarkView) → count_by (λ mark. is_got mark.kind) marks + count_by (λ mark. is_lost mark.kind) marks ≡ length (slot_numbers marks)
+pub slots_told : (marks : List MarkView) → count_by (λ mark. is_got mark.kind) marks + count_by (λ mark. is_lost mark.kind) marks ≡ length (slot_names marks)
 slots_told [] = refl
 slots_told (mark ∷ marks) = omega (arith, count_by-first (λ mark. is_got mark.kind) mark marks, count_by-first (λ mark. is_lost mark.kind) mark marks, slots_told marks, by_kind mark.kind)
   where
-    by_kind : (kind : MarkKind) → cond (is_got kind) 1 0 + cond (is_lost kind) 1 0 + length (slot_numbers marks) ≡ length (numbers_in kind ++ slot_numbers marks)
+    by_kind : (kind : MarkKind) → cond (is_got kind) 1 0 + cond (is_lost kind) 1 0 + length (slot_names marks) ≡ length (names_in kind ++ slot_names marks)
     by_kind (Slot e n m (Got p)) = omega arith
     by_kind (Slot e n m Lost) = omega arith
     by_kind (Quiet u) = omega arith

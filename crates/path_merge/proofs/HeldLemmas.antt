@@ -1,15 +1,15 @@
 -- How many packets are held, and what a slot changes of the counts.
-use Rattle.std.proofs.Common.{◌≡◌, ℕ, zero, suc, ◌+◌, ◌<◌, ◌≤◌, Bool, true, false, Option, Some, None, IsSome, refl, sym, ap, ◌∙◌, arith, if◌then◌else◌}
+use Rattle.std.proofs.Common.{◌≡◌, ℕ, zero, suc, ◌+◌, ◌<◌, ◌≤◌, Bool, true, false, Option, Some, None, IsSome, refl, sym, ap, subst, ◌∙◌, arith, if◌then◌else◌}
 use Rattle.std.specs.Prelude.{nat_eq, is_some}
 use Rattle.std.specs.FinMap.{get, FinMap}
 use Rattle.std.specs.Ordering.{nat_cmp}
 use Rattle.std.proofs.lemmas.Bool.Decides.{nat_tests}
-use Rattle.path_merge.specs.Counts.{is_taken_fate}
+use Rattle.path_merge.specs.Counts.{is_restarted, is_taken_fate}
 use Rattle.path_merge.specs.CountsFacts.{Tally, with_body, with_fate}
 use Rattle.path_merge.specs.Marks.{body_of}
 use Rattle.path_merge.specs.MergeState.{held_count}
 use Rattle.path_merge.specs.declared.fate.Fate.{Fate}
-use Rattle.path_merge.specs.declared.fate.Fate.TheVariants.{Ahead, Closed, CountersFull, Double, Late, OffGrid, Taken, Unlike, WrongSource}
+use Rattle.path_merge.specs.declared.fate.Fate.TheVariants.{Ahead, Closed, CountersFull, Double, Late, OffGrid, Restarted, Taken, Unlike, WrongSource}
 use Rattle.path_merge.specs.declared.packet.Packet.{Packet}
 
 pub no_packet : (o : Option Packet) → (IsSome o → ⊥) → o ≡ None
@@ -78,14 +78,15 @@ held_count-put g h packet number base (suc size) low high none put = by_first (�
 
 -- the counts with a slot of what the base has
 pub record SlotCounts (t u : Tally) (o : Option Packet) : Type 0 where
+  pub restarts : u.restarts ≡ t.restarts
   pub arrived : u.arrived ≡ t.arrived
   pub taken : u.taken ≡ t.taken
   pub got : u.got ≡ t.got + (if is_some o then 1 else 0)
   pub given : u.got + u.lost ≡ t.got + t.lost + 1
 
 pub with_body-counts : (t : Tally) (o : Option Packet) → SlotCounts t (with_body t (body_of o)) o
-with_body-counts t None = record { arrived = refl; taken = refl; got = omega arith; given = omega arith }
-with_body-counts t (Some p) = record { arrived = refl; taken = refl; got = refl; given = omega arith }
+with_body-counts t None = record { restarts = refl; arrived = refl; taken = refl; got = omega arith; given = omega arith }
+with_body-counts t (Some p) = record { restarts = refl; arrived = refl; taken = refl; got = refl; given = omega arith }
 
 -- the counts with one more arrival
 pub record FateCounts (t u : Tally) (fate : Fate) : Type 0 where
@@ -93,14 +94,29 @@ pub record FateCounts (t u : Tally) (fate : Fate) : Type 0 where
   pub taken : u.taken ≡ t.taken + (if is_taken_fate fate then 1 else 0)
   pub got : u.got ≡ t.got
   pub lost : u.lost ≡ t.lost
+  pub more : t.arrived ≤ u.arrived
+  pub restarts : u.restarts ≡ t.restarts + (if is_restarted fate then 1 else 0)
 
 pub with_fate-counts : (t : Tally) (path : ℕ) (fate : Fate) → FateCounts t (with_fate t path fate) fate
-with_fate-counts t path Closed = record { arrived = omega arith; taken = omega arith; got = refl; lost = refl }
-with_fate-counts t path CountersFull = record { arrived = omega arith; taken = omega arith; got = refl; lost = refl }
-with_fate-counts t path WrongSource = record { arrived = omega arith; taken = omega arith; got = refl; lost = refl }
-with_fate-counts t path OffGrid = record { arrived = omega arith; taken = omega arith; got = refl; lost = refl }
-with_fate-counts t path Late = record { arrived = omega arith; taken = omega arith; got = refl; lost = refl }
-with_fate-counts t path Ahead = record { arrived = omega arith; taken = omega arith; got = refl; lost = refl }
-with_fate-counts t path Taken = record { arrived = omega arith; taken = refl; got = refl; lost = refl }
-with_fate-counts t path Double = record { arrived = omega arith; taken = omega arith; got = refl; lost = refl }
-with_fate-counts t path Unlike = record { arrived = omega arith; taken = omega arith; got = refl; lost = refl }
+with_fate-counts t path Closed = record { arrived = omega arith; taken = omega arith; got = refl; lost = refl; more = omega arith; restarts = omega arith }
+with_fate-counts t path CountersFull = record { arrived = omega arith; taken = omega arith; got = refl; lost = refl; more = omega arith; restarts = omega arith }
+with_fate-counts t path WrongSource = record { arrived = omega arith; taken = omega arith; got = refl; lost = refl; more = omega arith; restarts = omega arith }
+with_fate-counts t path OffGrid = record { arrived = omega arith; taken = omega arith; got = refl; lost = refl; more = omega arith; restarts = omega arith }
+with_fate-counts t path Late = record { arrived = omega arith; taken = omega arith; got = refl; lost = refl; more = omega arith; restarts = omega arith }
+with_fate-counts t path Ahead = record { arrived = omega arith; taken = omega arith; got = refl; lost = refl; more = omega arith; restarts = omega arith }
+with_fate-counts t path Taken = record { arrived = omega arith; taken = refl; got = refl; lost = refl; more = omega arith; restarts = omega arith }
+with_fate-counts t path Double = record { arrived = omega arith; taken = omega arith; got = refl; lost = refl; more = omega arith; restarts = omega arith }
+with_fate-counts t path Unlike = record { arrived = omega arith; taken = omega arith; got = refl; lost = refl; more = omega arith; restarts = omega arith }
+with_fate-counts t path Restarted = record { arrived = omega arith; taken = refl; got = refl; lost = refl; more = omega arith; restarts = refl }
+
+-- a packet among these numbers counts
+pub held_count-some : (h : FinMap nat_cmp Packet) (n base count : ℕ) → base ≤ n → n < base + count → IsSome (get h n) → 0 < held_count h base count
+held_count-some h n base zero low high some = absurd (omega (arith, low, high))
+held_count-some h n base (suc count) low high some = by_first (λ more. held_count-some h n (suc base) count more (omega (arith, high)) some) (nat_eq base n) refl
+  where
+    by_first : (suc base ≤ n → 0 < held_count h (suc base) count) → (b : Bool) → nat_eq base n ≡ b → 0 < held_count h base (suc count)
+    by_first later true is =
+        let same : n ≡ base = grind (arith, nat_tests, is) in
+        let one : is_some (get h base) ≡ true = subst (λ k. IsSome (get h k)) same some in
+        rw one (omega arith)
+    by_first later false is = omega (arith, later (grind (arith, nat_tests, is, low)))

@@ -1,12 +1,16 @@
 -- A tick to a deadline on the way to a later tick changes nothing.
+use Rattle.path_merge.proofs.EpochLemmas.{heard_of-tick}
+use Rattle.path_merge.specs.PathProbation.{probation_of}
+use Rattle.path_merge.specs.Epochs.{anchor_of}
+use Rattle.path_merge.specs.Grid.{first_with}
 use Rattle.std.proofs.Common.{◌≡◌, ℕ, suc, ◌-◌, ◌^◌, ◌<◌, true, false, List, [], ◌∷◌, ◌++◌, length, Some, ℤ, pos, ◌≤ℤ◌, refl, sym, ap, ◌∙◌, arith, append_assoc, ◌||◌, Bool}
 use Rattle.std.proofs.lemmas.Int.{ints}
 use Rattle.path_merge.proofs.HistoryLemmas.{anchor_of-tick, copies_of-tick, events_until_close-open, fates_of-tick, is_closed-append, time_of-append}
 use Rattle.path_merge.proofs.MarksLemmas.{IsTickAt, tick_well_timed}
 use Rattle.path_merge.proofs.NextLemmas.{next_number-rises}
 use Rattle.path_merge.proofs.StepLemmas.{marks_of-tick}
-use Rattle.path_merge.specs.Anchor.{anchor_of, next_number}
-use Rattle.path_merge.specs.Copies.{copies_of, first_with}
+use Rattle.path_merge.specs.Anchor.{next_number}
+use Rattle.path_merge.specs.Copies.{copies_of}
 use Rattle.path_merge.specs.History.{is_closed, time_of}
 use Rattle.path_merge.specs.MarkFacts.{MarkView}
 use Rattle.path_merge.specs.Marks.{body_of, has_slot, is_slot, marks_of, slot_mark, slots_between, slots_from, slots_or_quiet}
@@ -18,6 +22,9 @@ use Rattle.path_merge.specs.declared.anchor.Anchor.{Anchor}
 use Rattle.path_merge.specs.declared.event.Event.{Event}
 use Rattle.path_merge.specs.declared.event.Event.TheVariants.{Tick}
 
+pub alike-refl : (stream : Stream) (open_at : ℤ) (e : List Event) → IsAlike stream open_at e e
+alike-refl stream open_at e = record { well_timed = λ l. l; time = refl; closed = refl; fates = refl; anchor = refl; heard = λ path. refl; copies = refl; marks = refl; before_close = refl }
+
 pub alike-trans : (stream : Stream) (open_at : ℤ) (e f g : List Event) → IsAlike stream open_at e f → IsAlike stream open_at f g → IsAlike stream open_at e g
 alike-trans stream open_at e f g a b = record {
   well_timed = λ l. b.well_timed (a.well_timed l);
@@ -25,6 +32,7 @@ alike-trans stream open_at e f g a b = record {
   closed = a.closed ∙ b.closed;
   fates = a.fates ∙ b.fates;
   anchor = a.anchor ∙ b.anchor;
+  heard = λ path. a.heard path ∙ b.heard path;
   copies = a.copies ∙ b.copies;
   marks = a.marks ∙ b.marks;
   before_close = a.before_close ∙ b.before_close;
@@ -42,7 +50,8 @@ stands_alike stream open_at m e f k same at = record {
   all_given = λ o. at.all_given (same.closed ∙ o) ∙ ap length same.marks;
   before_close = rw (← same.before_close) at.before_close;
   base = rw (← same.marks) at.base;
-  held = λ n. rw (← same.marks, ← same.copies) (at.held n);
+  held = λ n. rw (← same.copies) (at.held n);
+  probation = λ path few. at.probation path few ∙ ap (probation_of stream) (same.heard path);
   quiet = rw (← same.marks) at.quiet;
   ended = rw (← same.marks) at.ended;
 }
@@ -98,6 +107,7 @@ module _ (stream : Stream) (open_at : ℤ) (some : 0 < stream.frames) (events : 
     closed = is_closed-append (events ++ Tick u ∷ []) (Tick v ∷ []) ∙ (rw open_u (sym (is_closed-append events (Tick v ∷ []) ∙ rw tick.open_yet)));
     fates = fates_of-tick stream open_at (events ++ Tick u ∷ []) v ∙ fates_of-tick stream open_at events u ∙ sym (fates_of-tick stream open_at events v);
     anchor = anchor_of-tick stream open_at (events ++ Tick u ∷ []) v ∙ anchor_of-tick stream open_at events u ∙ sym (anchor_of-tick stream open_at events v);
+    heard = λ path. heard_of-tick stream open_at (events ++ Tick u ∷ []) v path ∙ heard_of-tick stream open_at events u path ∙ sym (heard_of-tick stream open_at events v path);
     copies = copies_of-tick stream open_at (events ++ Tick u ∷ []) v ∙ copies_of-tick stream open_at events u ∙ sym (copies_of-tick stream open_at events v);
     marks = joined_marks;
     before_close = rw (events_until_close-open ((events ++ Tick u ∷ []) ++ Tick v ∷ []) (is_closed-append (events ++ Tick u ∷ []) (Tick v ∷ []) ∙ rw open_u), events_until_close-open (events ++ Tick v ∷ []) (is_closed-append events (Tick v ∷ []) ∙ rw tick.open_yet)) joined_marks;

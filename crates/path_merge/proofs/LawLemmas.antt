@@ -1,18 +1,19 @@
 -- The laws of the definitions.
+use Rattle.path_merge.specs.Grid.{first_with}
 use Rattle.std.proofs.Common.{◌≡◌, ℕ, zero, suc, ◌+◌, ◌-◌, ◌<◌, ◌≤◌, Bool, true, false, List, [], ◌∷◌, ◌++◌, length, take, ℤ, refl, sym, ap, ◌∙◌, arith, append-nil, append_assoc, ⊎_elim}
 use Rattle.std.proofs.lemmas.Int.{ints, by_lt_z}
 use Rattle.std.proofs.lemmas.Bool.{cases_lt}
 use Rattle.std.proofs.lemmas.List.{take-append-le}
 use Rattle.path_merge.proofs.ArrivalLemmas.{marks_of-arrive}
 use Rattle.path_merge.proofs.CloseLemmas.{marks_of-close}
-use Rattle.path_merge.proofs.HistoryLemmas.{anchor_of-tick, by_last_event, copies_of-push, copies_of-tick, events_until_close-open, fates_of-tick, is_closed-append, marks_in, marks_in-push, marks_of-in, time_of-append}
+use Rattle.path_merge.proofs.HistoryLemmas.{anchor_of-tick, by_last_event, copies_of-tick, events_until_close-open, fates_of-tick, is_closed-append, marks_in, marks_in-push, marks_of-in, time_of-append}
 use Rattle.path_merge.proofs.JoinLemmas.{has_slot-append, slots_or_quiet-slotted}
-use Rattle.path_merge.proofs.LeftLemmas.{deaf_copies}
+use Rattle.path_merge.proofs.EpochLemmas.{deaf_copies_all, heard_of-tick}
 use Rattle.path_merge.proofs.MarksLemmas.{IsTickAt, tick_well_timed, well_timed_before, well_timed_tick}
 use Rattle.path_merge.proofs.NextLemmas.{before_next_number, due_before_next, next_number-at_deadline, next_number-rises}
 use Rattle.path_merge.proofs.StepLemmas.{marks_of-tick, take_all}
-use Rattle.path_merge.specs.Anchor.{anchor_of, deadline_of, next_number}
-use Rattle.path_merge.specs.Copies.{copies_of, first_with}
+use Rattle.path_merge.specs.Anchor.{deadline_of, next_number}
+use Rattle.path_merge.specs.Copies.{copies_of, copies_of_all}
 use Rattle.path_merge.specs.History.{is_closed, is_counting, is_well_timed, time_of}
 use Rattle.path_merge.specs.Laws.{IsDeadlineOnTheWay, IsLeastDue, IsOpen}
 use Rattle.path_merge.specs.MarkFacts.{MarkView}
@@ -96,16 +97,17 @@ module _ (stream : Stream) (open_at : ℤ) (some : 0 < stream.frames) (events : 
     closed = is_closed-append (events ++ Tick (deadline_of stream a n) ∷ []) (Tick v ∷ []) ∙ (rw open_u (sym (is_closed-append events (Tick v ∷ []) ∙ rw still.open_yet)));
     fates = fates_of-tick stream open_at (events ++ Tick (deadline_of stream a n) ∷ []) v ∙ fates_of-tick stream open_at events (deadline_of stream a n) ∙ sym (fates_of-tick stream open_at events v);
     anchor = anchor_of-tick stream open_at (events ++ Tick (deadline_of stream a n) ∷ []) v ∙ anchor_of-tick stream open_at events (deadline_of stream a n) ∙ sym (anchor_of-tick stream open_at events v);
+    heard = λ path. heard_of-tick stream open_at (events ++ Tick (deadline_of stream a n) ∷ []) v path ∙ heard_of-tick stream open_at events (deadline_of stream a n) path ∙ sym (heard_of-tick stream open_at events v path);
     copies = copies_of-tick stream open_at (events ++ Tick (deadline_of stream a n) ∷ []) v ∙ copies_of-tick stream open_at events (deadline_of stream a n) ∙ sym (copies_of-tick stream open_at events v);
     marks = split_marks;
     before_close = rw (events_until_close-open ((events ++ Tick (deadline_of stream a n) ∷ []) ++ Tick v ∷ []) (is_closed-append (events ++ Tick (deadline_of stream a n) ∷ []) (Tick v ∷ []) ∙ rw open_u), events_until_close-open (events ++ Tick v ∷ []) (is_closed-append events (Tick v ∷ []) ∙ rw still.open_yet)) split_marks;
   }
 
 -- an arrival that doesn't count
-marks_of-unheard : (stream : Stream) (open_at : ℤ) (events : List Event) (path : ℕ) (packet : Packet) → is_counting events ≡ false → marks_of stream open_at (events ++ Arrive path packet ∷ []) ≡ marks_of stream open_at events
+pub marks_of-unheard : (stream : Stream) (open_at : ℤ) (events : List Event) (path : ℕ) (packet : Packet) → is_counting events ≡ false → marks_of stream open_at (events ++ Arrive path packet ∷ []) ≡ marks_of stream open_at events
 marks_of-unheard stream open_at events path packet deaf =
-    let no_copy : copies_of stream open_at (events ++ Arrive path packet ∷ []) ≡ copies_of stream open_at events = copies_of-push stream open_at events (Arrive path packet) ∙ rw deaf (ap (λ l. copies_of stream open_at events ++ l) (deaf_copies stream open_at (time_of open_at events) packet (anchor_of stream open_at (events ++ Arrive path packet ∷ []))) ∙ append-nil _) in
-    marks_of-in stream open_at (events ++ Arrive path packet ∷ []) ∙ ap (λ c. marks_in stream open_at c (events ++ Arrive path packet ∷ [])) no_copy ∙ marks_in-push stream open_at (copies_of stream open_at events) events (Arrive path packet) ∙ append-nil _ ∙ sym (marks_of-in stream open_at events)
+    let no_copy : copies_of_all stream open_at (events ++ Arrive path packet ∷ []) ≡ copies_of_all stream open_at events = deaf_copies_all stream open_at events deaf path packet in
+    marks_of-in stream open_at (events ++ Arrive path packet ∷ []) ∙ ap (λ c. marks_in stream open_at c (events ++ Arrive path packet ∷ [])) no_copy ∙ marks_in-push stream open_at (copies_of_all stream open_at events) events (Arrive path packet) ∙ append-nil _ ∙ sym (marks_of-in stream open_at events)
 
 -- an arrival adds no mark and changes none
 pub arrival_keeps : (stream : Stream) (open_at : ℤ) (events : List Event) (path : ℕ) (packet : Packet) → 0 < stream.frames → is_well_timed open_at events ≡ true → marks_of stream open_at (events ++ Arrive path packet ∷ []) ≡ marks_of stream open_at events

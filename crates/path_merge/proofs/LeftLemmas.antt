@@ -1,4 +1,11 @@
 -- What is left after a close, and what a drain takes of it.
+use Rattle.path_merge.proofs.EpochLemmas.{deaf_anchor, deaf_copies, deaf_copies_all}
+use Rattle.path_merge.proofs.HistoryLemmas.{copies_of-with}
+use Rattle.path_merge.proofs.RestartLemmas.{itself_eq}
+use Rattle.path_merge.specs.Copies.{copies_of_all}
+use Rattle.std.specs.Prelude.{nat_lt}
+use Rattle.path_merge.specs.Epochs.{anchor_of, anchors_at}
+use Rattle.path_merge.specs.Grid.{copies_under, end_of_copies, first_with}
 use Rattle.std.proofs.Common.{◌≡◌, ℕ, zero, suc, ◌+◌, ◌-◌, ◌<◌, ◌≤◌, max, Bool, true, false, ◌||◌, List, [], ◌∷◌, ◌++◌, length, take, drop, Option, Some, None, IsSome, ℤ, pos, ◌-ℤ◌, refl, sym, ap, subst, ◌∙◌, arith, append-nil, length-append, ⊎_elim, if◌then◌else◌}
 use Rattle.std.specs.Prelude.{nat_eq}
 use Rattle.std.specs.FinMap.{get}
@@ -7,44 +14,26 @@ use Rattle.std.proofs.lemmas.Bool.{cases_lt}
 use Rattle.std.proofs.Math.Seq.{take-append-add, drop-append-add}
 use Rattle.path_merge.proofs.CloseLemmas.{marks_of-close}
 use Rattle.path_merge.proofs.HistoryLemmas.{anchor_of-close, anchor_of-push, by_last_event, copies_of-close, copies_of-push, events_until_close-close, events_until_close-closed, is_closed-append, marks_in, marks_in-push, marks_of-in, time_of-append}
-use Rattle.path_merge.proofs.MarksLemmas.{AllSlotsBelow, AllSlotsBelow-append, AllSlotsBelow-raise, slots_below, well_timed_before, well_timed_tick}
+use Rattle.path_merge.proofs.MarksLemmas.{well_timed_before, well_timed_tick}
 use Rattle.path_merge.proofs.SlotCountLemmas.{no_end_yet, slots_counted}
-use Rattle.path_merge.proofs.StepLemmas.{base_more, has_end-append, has_slot_numbered-append, last_quiet-append, not_slot, or_none, slot_count-append, without}
+use Rattle.path_merge.proofs.StepLemmas.{base_more, has_end-append, last_quiet-append, or_none, slot_count-append, without}
 use Rattle.path_merge.proofs.TallyLemmas.{tally-other, tally-slot}
-use Rattle.path_merge.specs.Anchor.{anchor_of, anchors_at, first_of, next_number}
-use Rattle.path_merge.specs.Copies.{copies_of, copies_under, first_copy, first_with}
+use Rattle.path_merge.specs.Anchor.{next_number}
+use Rattle.path_merge.specs.Copies.{copies_of, first_copy}
 use Rattle.path_merge.specs.Counts.{fates_of}
 use Rattle.path_merge.specs.CountsFacts.{with_body}
 use Rattle.path_merge.specs.History.{events_until_close, is_closed, is_counting, is_well_timed, time_of}
 use Rattle.path_merge.specs.MarkFacts.{MarkView}
-use Rattle.path_merge.specs.Marks.{body_of, end_mark, end_of_copies, marks_of, slot_mark, slots_at_close, slots_from}
-use Rattle.path_merge.specs.Merge.{HasHistory, has_end, has_slot_numbered, slot_count}
+use Rattle.path_merge.specs.Marks.{body_of, end_mark, marks_of, slot_mark, slots_at_close, slots_from}
+use Rattle.path_merge.specs.Merge.{HasHistory, has_end, slot_count}
 use Rattle.path_merge.specs.MergeState.{IsSound, MergeState}
 use Rattle.path_merge.specs.Steps.{Drains, HoldsMore, IsLeftStep}
 use Rattle.path_merge.specs.StreamSpecFacts.{Stream}
 use Rattle.path_merge.specs.declared.anchor.Anchor.{Anchor}
 use Rattle.path_merge.specs.declared.event.Event.{Event}
 use Rattle.path_merge.specs.declared.event.Event.TheVariants.{Arrive, Close, Tick}
+use Rattle.path_merge.proofs.CopiesLemmas.{first_with-below, first_with-last}
 use Rattle.path_merge.specs.declared.packet.Packet.{Packet}
-
--- a number with a copy is below the end, and the one before the end has a copy
-first_with-below : (n : ℕ) (copies : List (ℕ × Packet)) → IsSome (first_with n copies) → n < end_of_copies copies
-first_with-below n [] some = cc
-first_with-below n ((m, p) ∷ copies) some = by_test (first_with-below n copies) (nat_eq m n) refl some
-  where
-    by_test : (IsSome (first_with n copies) → n < end_of_copies copies) → (b : Bool) → nat_eq m n ≡ b → IsSome (if b then Some p else first_with n copies) → n < max (suc m) (end_of_copies copies)
-    by_test more true is s = grind (arith, nat_tests, is)
-    by_test more false is s = omega (arith, more s)
-
-first_with-last : (e : ℕ) (copies : List (ℕ × Packet)) → suc e ≡ end_of_copies copies → IsSome (first_with e copies)
-first_with-last e [] is = absurd (omega (arith, is))
-first_with-last e ((m, p) ∷ copies) is = by_test (first_with-last e copies) (nat_eq m e) refl
-  where
-    by_test : (suc e ≡ end_of_copies copies → IsSome (first_with e copies)) → (b : Bool) → nat_eq m e ≡ b → IsSome (if b then Some p else first_with e copies)
-    by_test more true h = refl
-    by_test more false h =
-        let apart : (m ≡ e → ⊥) = λ same. absurd (grind (arith, nat_tests, h, same)) in
-        more (omega (arith, is, apart))
 
 -- one mark more
 one_more_taken : (k : ℕ) (xs : List MarkView) (x : MarkView) (rest : List MarkView) → drop k xs ≡ x ∷ rest → (take (k + 1) xs ≡ take k xs ++ x ∷ []) × (k + 1 ≤ length xs)
@@ -59,24 +48,22 @@ one_more_taken (suc k) (y ∷ xs) x rest e =
 module _ (stream : Stream) (a : Anchor) (copies : List (ℕ × Packet)) where
   -- what follows the first j of the slots and the End
   pub record IsLeft (j n count : ℕ) : Type 0 where
-    pub below : AllSlotsBelow (n + j) (take j (slots_from stream a copies n count ++ end_mark stream ∷ []))
-    pub more : has_end (take j (slots_from stream a copies n count ++ end_mark stream ∷ [])) ≡ false → (drop j (slots_from stream a copies n count ++ end_mark stream ∷ []) ≡ slots_from stream a copies (n + j) (count - j) ++ end_mark stream ∷ []) × (slot_count (take j (slots_from stream a copies n count ++ end_mark stream ∷ [])) ≡ j)
+    pub more : has_end (take j (slots_from stream a copies n count ++ end_mark stream ∷ [])) ≡ false → (drop j (slots_from stream a copies n count ++ end_mark stream ∷ []) ≡ slots_from stream a copies (n + j) (count - j) ++ end_mark stream ∷ []) × (slot_count a.epoch (take j (slots_from stream a copies n count ++ end_mark stream ∷ [])) ≡ j)
     pub none : has_end (take j (slots_from stream a copies n count ++ end_mark stream ∷ [])) ≡ true → drop j (slots_from stream a copies n count ++ end_mark stream ∷ []) ≡ []
 
   pub left : (j n count : ℕ) → j ≤ suc count → IsLeft j n count
   left zero n count le =
       let same : n + 0 ≡ n = omega arith in
       let all : count - 0 ≡ count = omega arith in
-      record { below = tt; more = λ _. (ap (λ c. slots_from stream a copies n c ++ end_mark stream ∷ []) (sym all) ∙ ap (λ b. slots_from stream a copies b (count - 0) ++ end_mark stream ∷ []) (sym same), refl); none = λ e. cc }
-  left (suc zero) n zero le = record { below = (tt, tt); more = λ e. cc; none = λ _. refl }
+      record { more = λ _. (ap (λ c. slots_from stream a copies n c ++ end_mark stream ∷ []) (sym all) ∙ ap (λ b. slots_from stream a copies b (count - 0) ++ end_mark stream ∷ []) (sym same), refl); none = λ e. cc }
+  left (suc zero) n zero le = record { more = λ e. cc; none = λ _. refl }
   left (suc (suc j)) n zero le = absurd (omega (arith, le))
   left (suc j) n (suc count) le =
       let next = left j (suc n) count (omega (arith, le)) in
       let same : n + suc j ≡ suc n + j = omega arith in
       let less : suc count - suc j ≡ count - j = omega arith in
       record {
-        below = (omega arith, subst (λ b. AllSlotsBelow b (take j (slots_from stream a copies (suc n) count ++ end_mark stream ∷ []))) (sym same) next.below);
-        more = λ e. ((next.more e).0 ∙ ap (λ c. slots_from stream a copies (suc n + j) c ++ end_mark stream ∷ []) (sym less) ∙ ap (λ b. slots_from stream a copies b (suc count - suc j) ++ end_mark stream ∷ []) (sym same), omega (arith, (next.more e).1));
+        more = λ e. ((next.more e).0 ∙ ap (λ c. slots_from stream a copies (suc n + j) c ++ end_mark stream ∷ []) (sym less) ∙ ap (λ b. slots_from stream a copies b (suc count - suc j) ++ end_mark stream ∷ []) (sym same), omega (arith, (next.more e).1, ap (λ b. (if b then 1 else 0) + slot_count a.epoch (take j (slots_from stream a copies (suc n) count ++ end_mark stream ∷ []))) (itself_eq a.epoch)));
         none = λ e. next.none e;
       }
 
@@ -94,14 +81,6 @@ pub record IsClosedAt (stream : Stream) (open_at : ℤ) (events before : List Ev
   pub marks : marks_of stream open_at events ≡ marks_of stream open_at before ++ (slots_at_close stream (copies_of stream open_at before) (anchor_of stream open_at before) (time_of open_at before) ++ end_mark stream ∷ [])
 
 module _ (stream : Stream) (open_at : ℤ) where
-  pub keep : (o more : Option Anchor) → more ≡ None → (elim o [ None ↦ more | Some a ↦ Some a ]) ≡ o
-  keep None more e = e
-  keep (Some a) more e = refl
-
-  pub deaf_copies : (time : ℤ) (packet : Packet) (o : Option Anchor) → copies_under stream time false o packet ≡ []
-  deaf_copies time packet None = refl
-  deaf_copies time packet (Some a) = refl
-
   closed_either : (a b : Bool) → b ≡ false → (if a then true else b) ≡ true → a ≡ true
   closed_either true b e h = refl
   closed_either false b e h = sym e ∙ h
@@ -116,16 +95,14 @@ module _ (stream : Stream) (open_at : ℤ) where
           let was : is_closed events ≡ true = closed_either (is_closed events) false refl (sym (is_closed-append events (Arrive path packet ∷ [])) ∙ shut) in
           let b = before (well_timed_before open_at events (Arrive path packet) well_timed) was in
           let deaf : is_counting events ≡ false = rw was refl in
-          let no_copy : copies_of stream open_at (events ++ Arrive path packet ∷ []) ≡ copies_of stream open_at events = copies_of-push stream open_at events (Arrive path packet) ∙ rw deaf (ap (λ l. copies_of stream open_at events ++ l) (deaf_copies (time_of open_at events) packet (anchor_of stream open_at (events ++ Arrive path packet ∷ []))) ∙ append-nil _) in
-          let no_anchor : anchor_of stream open_at (events ++ Arrive path packet ∷ []) ≡ anchor_of stream open_at events = anchor_of-push stream open_at events (Arrive path packet) ∙ keep (anchor_of stream open_at events) (first_of (anchors_at stream open_at events (Arrive path packet))) (rw deaf refl) in
           let no_mark : marks_of stream open_at (events ++ Arrive path packet ∷ []) ≡ marks_of stream open_at events =
-          marks_of-in stream open_at (events ++ Arrive path packet ∷ []) ∙ ap (λ c. marks_in stream open_at c (events ++ Arrive path packet ∷ [])) no_copy ∙ marks_in-push stream open_at (copies_of stream open_at events) events (Arrive path packet) ∙ append-nil _ ∙ sym (marks_of-in stream open_at events) in
+          marks_of-in stream open_at (events ++ Arrive path packet ∷ []) ∙ ap (λ c. marks_in stream open_at c (events ++ Arrive path packet ∷ [])) (deaf_copies_all stream open_at events deaf path packet) ∙ marks_in-push stream open_at (copies_of_all stream open_at events) events (Arrive path packet) ∙ append-nil _ ∙ sym (marks_of-in stream open_at events) in
           rw (events_until_close-closed events (Arrive path packet ∷ []) was) (record {
             well_timed = b.well_timed;
             open_yet = b.open_yet;
             time = time_of-append open_at events (Arrive path packet ∷ []) ∙ b.time;
-            anchor = no_anchor ∙ b.anchor;
-            copies = no_copy ∙ b.copies;
+            anchor = deaf_anchor stream open_at events deaf path packet ∙ b.anchor;
+            copies = deaf_copies stream open_at events deaf path packet ∙ b.copies;
             marks = no_mark ∙ b.marks;
           })
       step events Close before well_timed shut = by_test (is_closed events) refl
@@ -137,7 +114,7 @@ module _ (stream : Stream) (open_at : ℤ) where
             time = time_of-append open_at events (Close ∷ []);
             anchor = anchor_of-close stream open_at events;
             copies = copies_of-close stream open_at events;
-            marks = marks_of-close stream open_at events ∙ rw is;
+            marks = marks_of-close stream open_at events ∙ rw (is, copies_of-with stream open_at events);
           })
           by_test true is =
               let b = before (well_timed_before open_at events Close well_timed) is in
@@ -176,7 +153,7 @@ module _ (stream : Stream) (open_at : ℤ) (m : MergeState) (media : ℤ) (s : I
   -- whether the End is past is told by what was taken of the rest
   ended_is : m.ended ≡ has_end (take (k - length (marks_of stream open_at (events_until_close events))) (slots_at_close stream (copies_of stream open_at (events_until_close events)) (anchor_of stream open_at (events_until_close events)) (time_of open_at (events_until_close events)) ++ end_mark stream ∷ []))
   ended_is =
-      let none : has_end (marks_of stream open_at (events_until_close events)) ≡ false = rw (marks_of-in stream open_at (events_until_close events)) (no_end_yet stream open_at some_frames (copies_of stream open_at (events_until_close events)) (events_until_close events) closing.well_timed closing.open_yet) in
+      let none : has_end (marks_of stream open_at (events_until_close events)) ≡ false = rw (marks_of-in stream open_at (events_until_close events)) (no_end_yet stream open_at some_frames (copies_of_all stream open_at (events_until_close events)) (events_until_close events) closing.well_timed closing.open_yet) in
       at.ended ∙ ap has_end taken_is ∙ has_end-append (marks_of stream open_at (events_until_close events)) _ ∙ rw none
 
   length_is : length (marks_of stream open_at events) ≡ length (marks_of stream open_at (events_until_close events)) + length (slots_at_close stream (copies_of stream open_at (events_until_close events)) (anchor_of stream open_at (events_until_close events)) (time_of open_at (events_until_close events)) ++ end_mark stream ∷ [])
@@ -202,15 +179,15 @@ module _ (stream : Stream) (open_at : ℤ) (m : MergeState) (media : ℤ) (s : I
     here : IsLeft stream a (copies_of stream open_at (events_until_close events)) (k - length (marks_of stream open_at (events_until_close events))) (next_number stream a (time_of open_at (events_until_close events))) (end_of_copies (copies_of stream open_at (events_until_close events)) - next_number stream a (time_of open_at (events_until_close events)))
     here = left stream a (copies_of stream open_at (events_until_close events)) _ _ _ short
 
-    counted : next_number stream a (time_of open_at (events_until_close events)) ≡ a.number + slot_count (marks_of stream open_at (events_until_close events))
-    counted = rw (anchor_is, ← marks_of-in stream open_at (events_until_close events)) at (slots_counted stream open_at some_frames (copies_of stream open_at (events_until_close events)) (events_until_close events) closing.well_timed closing.open_yet)
+    counted : next_number stream a (time_of open_at (events_until_close events)) ≡ a.number + slot_count a.epoch (marks_of stream open_at (events_until_close events))
+    counted = rw (anchor_is, ← marks_of-in stream open_at (events_until_close events)) at (slots_counted stream open_at some_frames (copies_of_all stream open_at (events_until_close events)) (events_until_close events) closing.well_timed closing.open_yet)
 
     base_is : m.ended ≡ false → m.base ≡ next_number stream a (time_of open_at (events_until_close events)) + (k - length (marks_of stream open_at (events_until_close events)))
     base_is unended =
-        let based : m.base ≡ a.number + slot_count (take k (marks_of stream open_at events)) = rw is_a at at.base in
-        let split = ap slot_count (taken_is ∙ ap (λ l. marks_of stream open_at (events_until_close events) ++ take (k - length (marks_of stream open_at (events_until_close events))) l) rest_is) in
+        let based : m.base ≡ a.number + slot_count a.epoch (take k (marks_of stream open_at events)) = rw is_a at at.base in
+        let split = ap (slot_count a.epoch) (taken_is ∙ ap (λ l. marks_of stream open_at (events_until_close events) ++ take (k - length (marks_of stream open_at (events_until_close events))) l) rest_is) in
         let more = (here.more (sym (ap (λ l. has_end (take (k - length (marks_of stream open_at (events_until_close events))) l)) rest_is) ∙ sym ended_is ∙ unended)).1 in
-        omega (arith, based, split, counted, more, slot_count-append (marks_of stream open_at (events_until_close events)) (take (k - length (marks_of stream open_at (events_until_close events))) (slots_from stream a (copies_of stream open_at (events_until_close events)) (next_number stream a (time_of open_at (events_until_close events))) (end_of_copies (copies_of stream open_at (events_until_close events)) - next_number stream a (time_of open_at (events_until_close events))) ++ end_mark stream ∷ [])))
+        omega (arith, based, split, counted, more, slot_count-append a.epoch (marks_of stream open_at (events_until_close events)) (take (k - length (marks_of stream open_at (events_until_close events))) (slots_from stream a (copies_of stream open_at (events_until_close events)) (next_number stream a (time_of open_at (events_until_close events))) (end_of_copies (copies_of stream open_at (events_until_close events)) - next_number stream a (time_of open_at (events_until_close events))) ++ end_mark stream ∷ [])))
 
     -- the slots from the base on, and the End
     pub left_is : m.ended ≡ false → drop k (marks_of stream open_at events) ≡ slots_from stream a (copies_of stream open_at events) m.base (end_of_copies (copies_of stream open_at events) - m.base) ++ end_mark stream ∷ []
@@ -222,13 +199,6 @@ module _ (stream : Stream) (open_at : ℤ) (m : MergeState) (media : ℤ) (s : I
         ∙ ap (λ c. slots_from stream a (copies_of stream open_at (events_until_close events)) (next_number stream a (time_of open_at (events_until_close events)) + (k - length (marks_of stream open_at (events_until_close events)))) c ++ end_mark stream ∷ []) fewer
         ∙ ap (λ b. slots_from stream a (copies_of stream open_at (events_until_close events)) b (end_of_copies (copies_of stream open_at (events_until_close events)) - m.base) ++ end_mark stream ∷ []) (sym based)
         ∙ ap (λ cs. slots_from stream a cs m.base (end_of_copies cs - m.base) ++ end_mark stream ∷ []) (sym closing.copies)
-
-    -- no slot was given of a number from the base on
-    pub below_base : m.ended ≡ false → AllSlotsBelow m.base (take k (marks_of stream open_at events))
-    below_base unended =
-        let based = base_is unended in
-        let old : AllSlotsBelow (next_number stream a (time_of open_at (events_until_close events))) (marks_of stream open_at (events_until_close events)) = rw (anchor_is, ← marks_of-in stream open_at (events_until_close events)) at (slots_below stream open_at some_frames (copies_of stream open_at (events_until_close events)) (events_until_close events) closing.well_timed closing.open_yet) in
-        rw (taken_is, rest_is, based) (AllSlotsBelow-append _ (marks_of stream open_at (events_until_close events)) _ (AllSlotsBelow-raise (next_number stream a (time_of open_at (events_until_close events))) (next_number stream a (time_of open_at (events_until_close events)) + (k - length (marks_of stream open_at (events_until_close events)))) (marks_of stream open_at (events_until_close events)) (omega arith) old) here.below)
 
     pub none_left : m.ended ≡ true → drop k (marks_of stream open_at events) ≡ []
     none_left ended = dropped_is ∙ ap (drop (k - length (marks_of stream open_at (events_until_close events)))) rest_is ∙ here.none (sym (ap (λ l. has_end (take (k - length (marks_of stream open_at (events_until_close events))) l)) rest_is) ∙ sym ended_is ∙ ended)
@@ -255,21 +225,20 @@ module _ (stream : Stream) (open_at : ℤ) (m : MergeState) (media : ℤ) (s : I
     pub none_left_alone : m.ended ≡ true → drop k (marks_of stream open_at events) ≡ []
     none_left_alone ended = dropped_is ∙ ap (drop (k - length (marks_of stream open_at (events_until_close events)))) end_alone ∙ parts.1 ended
 
-  first_is : (n : ℕ) → AllSlotsBelow n (take k (marks_of stream open_at events)) → get m.held n ≡ first_copy stream open_at events n
-  first_is n below = at.held n ∙ rw (not_slot n (take k (marks_of stream open_at events)) below)
+  first_is : (n : ℕ) → m.base ≤ n → get m.held n ≡ first_copy stream open_at events n
+  first_is n le = let past : nat_lt n m.base ≡ false = grind (arith, nat_tests, le) in at.held n ∙ rw past refl
 
   -- the slot of the base, where a packet is held there or later
   pub slot_next : (a : Anchor) → m.anchor ≡ Some a → m.ended ≡ false → HoldsMore m → (rest : List MarkView) × (drop k (marks_of stream open_at events) ≡ slot_mark m.spec a m.base (body_of (get m.held m.base)) ∷ rest)
   slot_next a is_a unended holds =
-      let below = below_base a is_a unended in
-      let last_is : first_copy stream open_at events holds.last ≡ get m.held holds.last = sym (first_is holds.last (AllSlotsBelow-raise m.base holds.last (take k (marks_of stream open_at events)) holds.from_base below)) in
+      let last_is : first_copy stream open_at events holds.last ≡ get m.held holds.last = sym (first_is holds.last holds.from_base) in
       let more : holds.last < end_of_copies (copies_of stream open_at events) = first_with-below holds.last (copies_of stream open_at events) (subst IsSome (sym last_is) holds.is_held) in
       let count : end_of_copies (copies_of stream open_at events) - m.base ≡ suc (end_of_copies (copies_of stream open_at events) - suc m.base) = omega (arith, more, holds.from_base) in (
         slots_from stream a (copies_of stream open_at events) (suc m.base) (end_of_copies (copies_of stream open_at events) - suc m.base) ++ end_mark stream ∷ [],
         left_is a is_a unended
             ∙ ap (λ c. slots_from stream a (copies_of stream open_at events) m.base c ++ end_mark stream ∷ []) count
             ∙ ap (λ sp. slot_mark sp a m.base (body_of (first_copy stream open_at events m.base)) ∷ slots_from stream a (copies_of stream open_at events) (suc m.base) (end_of_copies (copies_of stream open_at events) - suc m.base) ++ end_mark stream ∷ []) (sym at.spec)
-            ∙ ap (λ o. slot_mark m.spec a m.base (body_of o) ∷ slots_from stream a (copies_of stream open_at events) (suc m.base) (end_of_copies (copies_of stream open_at events) - suc m.base) ++ end_mark stream ∷ []) (sym (first_is m.base below)),
+            ∙ ap (λ o. slot_mark m.spec a m.base (body_of o) ∷ slots_from stream a (copies_of stream open_at events) (suc m.base) (end_of_copies (copies_of stream open_at events) - suc m.base) ++ end_mark stream ∷ []) (sym (first_is m.base (omega arith))),
       )
 
   -- the End, where none is
@@ -279,12 +248,11 @@ module _ (stream : Stream) (open_at : ℤ) (m : MergeState) (media : ℤ) (s : I
       by_anchor : (o : Option Anchor) → m.anchor ≡ o → drop k (marks_of stream open_at events) ≡ end_mark stream ∷ []
       by_anchor None is = end_left is unended
       by_anchor (Some a) is =
-          let below = below_base a is unended in
           let none : end_of_copies (copies_of stream open_at events) - m.base ≡ 0 = ⊎_elim
           (λ lt.
           let last : suc (end_of_copies (copies_of stream open_at events) - 1) ≡ end_of_copies (copies_of stream open_at events) = omega (arith, lt) in
           let high_n : m.base ≤ end_of_copies (copies_of stream open_at events) - 1 = omega (arith, lt) in
-          let held : IsSome (get m.held (end_of_copies (copies_of stream open_at events) - 1)) = subst IsSome (sym (first_is (end_of_copies (copies_of stream open_at events) - 1) (AllSlotsBelow-raise m.base (end_of_copies (copies_of stream open_at events) - 1) (take k (marks_of stream open_at events)) high_n below))) (first_with-last (end_of_copies (copies_of stream open_at events) - 1) (copies_of stream open_at events) last) in
+          let held : IsSome (get m.held (end_of_copies (copies_of stream open_at events) - 1)) = subst IsSome (sym (first_is (end_of_copies (copies_of stream open_at events) - 1) high_n)) (first_with-last (end_of_copies (copies_of stream open_at events) - 1) (copies_of stream open_at events) last) in
           absurd (omega (arith, past_all (end_of_copies (copies_of stream open_at events) - 1) held, high, high_n)))
           (λ ge. omega (arith, ge))
           (cases_lt m.base (end_of_copies (copies_of stream open_at events))) in
@@ -318,10 +286,10 @@ module _ (stream : Stream) (open_at : ℤ) (m : MergeState) (media : ℤ) (s : I
           all_given = λ o. absurd (let c = shut_now in cc);
           before_close = omega (arith, at.before_close);
           base = rw (one.0, step.anchor, is_a)
-              (let based : m.base ≡ a.number + slot_count (take k (marks_of stream open_at events)) = rw is_a at at.base in
-              omega (arith, step.base, based, slot_count-append (take k (marks_of stream open_at events)) (slot_mark m.spec a m.base (body_of (get m.held m.base)) ∷ [])));
-          held = λ n. step.held n ∙ (rw (one.0, has_slot_numbered-append n (take k (marks_of stream open_at events)) (slot_mark m.spec a m.base (body_of (get m.held m.base)) ∷ []))
-              (without (nat_eq n m.base) (nat_eq m.base n) (has_slot_numbered n (take k (marks_of stream open_at events))) (first_copy stream open_at events n) (get m.held n) (grind (arith, nat_tests)) (at.held n)));
+              (let based : m.base ≡ a.number + slot_count a.epoch (take k (marks_of stream open_at events)) = rw is_a at at.base in
+              omega (arith, step.base, based, ap (λ b. (if b then 1 else 0) + 0) (itself_eq a.epoch), slot_count-append a.epoch (take k (marks_of stream open_at events)) (slot_mark m.spec a m.base (body_of (get m.held m.base)) ∷ [])));
+          held = λ n. step.held n ∙ without n m.base (first_copy stream open_at events n) (get m.held n) (at.held n) ∙ rw step.base;
+          probation = λ path few. rw step.probations (at.probation path few);
           quiet = step.quiet ∙ at.quiet ∙ rw (one.0, last_quiet-append (open_at -ℤ pos stream.latency) (take k (marks_of stream open_at events)) (slot_mark m.spec a m.base (body_of (get m.held m.base)) ∷ []));
           ended = step.ended ∙ at.ended ∙ rw (one.0, has_end-append (take k (marks_of stream open_at events)) (slot_mark m.spec a m.base (body_of (get m.held m.base)) ∷ []), or_none);
         };
@@ -343,8 +311,9 @@ module _ (stream : Stream) (open_at : ℤ) (m : MergeState) (media : ℤ) (s : I
           given = one.1;
           all_given = λ o. absurd (let c = shut_now in cc);
           before_close = omega (arith, at.before_close);
-          base = rw one.0 (base_more m.anchor m.base (take k (marks_of stream open_at events)) (end_mark stream ∷ []) refl at.base);
-          held = λ n. at.held n ∙ rw (one.0, has_slot_numbered-append n (take k (marks_of stream open_at events)) (end_mark stream ∷ []), or_none);
+          base = rw one.0 (base_more m.anchor m.base (take k (marks_of stream open_at events)) (end_mark stream ∷ []) (λ epoch. refl) at.base);
+          held = at.held;
+          probation = at.probation;
           quiet = at.quiet ∙ rw (one.0, last_quiet-append (open_at -ℤ pos stream.latency) (take k (marks_of stream open_at events)) (end_mark stream ∷ []));
           ended = sym (ap has_end one.0 ∙ has_end-append (take k (marks_of stream open_at events)) (end_mark stream ∷ []) ∙ or_true (has_end (take k (marks_of stream open_at events))));
         };

@@ -1,4 +1,5 @@
 -- A packet that is put: what it leaves of the model's invariant, of what is held, and of the counts.
+use Rattle.path_merge.specs.Grid.{extended_number, is_on_grid}
 use Rattle.std.proofs.Common.{◌≡◌, ℕ, ◌+◌, ◌^◌, ◌<◌, ◌≤◌, Bool, true, false, ◌&&◌, Option, Some, None, IsSome, ℤ, refl, sym, ap, subst, ◌∙◌, arith, if◌then◌else◌}
 use Rattle.std.specs.Prelude.{nat_eq, nat_lt, nat_le}
 use Rattle.std.specs.Ordering.{nat_cmp}
@@ -9,72 +10,39 @@ use Rattle.path_merge.proofs.FateLemmas.{fault_parts, is_none, taken_put}
 use Rattle.path_merge.proofs.HeldLemmas.{FateCounts, held_count-from, held_count-put, with_fate-counts}
 use Rattle.path_merge.proofs.SoundLemmas.{anchored_at, anchored_back}
 use Rattle.path_merge.specs.Anchor.{next_number}
-use Rattle.path_merge.specs.Copies.{extended_number, is_on_grid}
-use Rattle.path_merge.specs.Counts.{is_taken_fate}
+use Rattle.path_merge.specs.Counts.{is_restarted, is_taken_fate}
 use Rattle.path_merge.specs.CountsFacts.{Tally, with_fate}
 use Rattle.path_merge.specs.Fate.{fate_of_put}
 use Rattle.path_merge.specs.MergeState.{IsSound, MergeState, held_count}
-use Rattle.path_merge.specs.Steps.{IsNextStep, fault_or, place_fault_of}
+use Rattle.path_merge.specs.Steps.{IsPutStep, fault_or, place_fault_of}
+use Rattle.path_merge.specs.declared.probation.Probation.{Probation}
+use Rattle.std.specs.Prelude.{List}
+use Rattle.std.proofs.lemmas.Int.{ints}
 use Rattle.path_merge.specs.StreamSpec.{Fits}
 use Rattle.path_merge.specs.Window.{is_taken, put_answer}
 use Rattle.path_merge.specs.declared.anchor.Anchor.{Anchor}
 use Rattle.path_merge.specs.declared.fate.Fate.{Fate}
 use Rattle.path_merge.specs.declared.packet.Packet.{Packet}
 use Rattle.path_merge.specs.declared.window.Put.{Put}
+use Rattle.path_merge.specs.PathProbation.{probation_heard}
+use Rattle.path_merge.specs.Probation.{is_off}
 use Rattle.path_merge.specs.declared.window.Put.TheVariants.{Double as PutDouble, Taken as PutTaken, Unlike as PutUnlike}
 
--- what is held after a put, against the first copies after it
-pub put_held : (n number : ℕ) (packet : Packet) (g o x : Option Packet) (slot : Bool) (b : Bool) → nat_eq n number ≡ b → (b ≡ true → (o ≡ g) × (slot ≡ false)) → x ≡ (if slot then None else o)
-    → (if is_none g && nat_eq n number then Some packet else x) ≡ (if slot then None else elim o [ None ↦ if nat_eq number n then Some packet else None | Some p ↦ Some p ])
-put_held n number packet g o x true true e same is = absurd (let t = (same refl).1 in cc)
-put_held n number packet None o x false true e same is =
-    let back : nat_eq number n ≡ true = grind (arith, nat_tests, e) in
-    ap (λ b. if b then Some packet else x) e ∙ sym (ap (λ u. elim u [ None ↦ if nat_eq number n then Some packet else None | Some p ↦ Some p ]) (same refl).0 ∙ ap (λ b. if b then Some packet else None) back)
-put_held n number packet (Some p) o x false true e same is = is ∙ rw (same refl).0 refl
-put_held n number packet g o x true false e same is = rw e (by_test (is_none g))
-  where
-    by_test : (b : Bool) → (if b && false then Some packet else x) ≡ None
-    by_test true = is
-    by_test false = is
-put_held n number packet g o x false false e same is = let back : nat_eq number n ≡ false = grind (arith, nat_tests, e) in by_test (is_none g) (nat_eq n number) (nat_eq number n) e back (Some packet) o is
-  where
-    by_test : (b c d : Bool) → c ≡ false → d ≡ false → (y o : Option Packet) → x ≡ o → (if b && c then Some packet else x) ≡ (elim o [ None ↦ if d then y else None | Some p ↦ Some p ])
-    by_test b true d e1 e2 y o h = cc
-    by_test b false true e1 e2 y o h = cc
-    by_test true false false e1 e2 y None h = h
-    by_test true false false e1 e2 y (Some p) h = h
-    by_test false false false e1 e2 y None h = h
-    by_test false false false e1 e2 y (Some p) h = h
-
 -- the steps that the code makes
-pub next_step_fault : (m : MergeState) (a : Anchor) (path : ℕ) (packet : Packet) (fate : Fate) (counts' : Tally) → place_fault_of m.spec a m.base packet ≡ Some fate → counts' ≡ with_fate m.counts path fate → IsNextStep m.spec m (record m { counts = counts' }) a path packet fate
-next_step_fault m a path packet fate counts' is is_counts =
+pub put_step_fault : (m : MergeState) (a : Anchor) (path : ℕ) (packet : Packet) (fate : Fate) (counts' : Tally) → place_fault_of m.spec a m.base packet ≡ Some fate → counts' ≡ with_fate m.counts path fate → IsPutStep m.spec m (record m { counts = counts' }) a path packet fate
+put_step_fault m a path packet fate counts' is is_counts =
     let untaken = (fault_parts (nat_eq packet.ssrc a.source) (is_on_grid m.spec a (extended_number packet m.base) packet.ts) (nat_lt (extended_number packet m.base) m.base) (nat_lt (extended_number packet m.base) (m.base + m.spec.window)) (nat_le m.base (extended_number packet m.base)) fate (grind (arith, nat_tests)) is).1 in
     record {
       fate_is = rw is refl;
-      spec = refl;
-      time = refl;
-      anchor = refl;
-      base = refl;
       held = λ n. rw untaken refl;
-      quiet = refl;
-      counts = is_counts;
-      closed = refl;
-      ended = refl;
+      changed = rw is_counts refl;
     }
 
-pub next_step_put : (m : MergeState) (a : Anchor) (path : ℕ) (packet : Packet) (h : FinMap nat_cmp Packet) (base' size' number : ℕ) (counts' : Tally) (p : Put) (fate : Fate) → place_fault_of m.spec a m.base packet ≡ None → fate ≡ fate_of_put p → number ≡ extended_number packet m.base → p ≡ put_answer (get m.held number) packet → ((n : ℕ) → get h n ≡ (if is_taken p && nat_eq n number then Some packet else get m.held n)) → base' ≡ m.base → counts' ≡ with_fate m.counts path fate → IsNextStep m.spec m (record m { base = base'; size = size'; held = h; counts = counts' }) a path packet fate
-next_step_put m a path packet h base' size' number counts' p fate none is_fate is_number answer held is_base is_counts = record {
+pub put_step_put : (m : MergeState) (a : Anchor) (path : ℕ) (packet : Packet) (h : FinMap nat_cmp Packet) (base' size' number : ℕ) (counts' : Tally) (p : Put) (fate : Fate) → place_fault_of m.spec a m.base packet ≡ None → fate ≡ fate_of_put p → number ≡ extended_number packet m.base → p ≡ put_answer (get m.held number) packet → ((n : ℕ) → get h n ≡ (if is_taken p && nat_eq n number then Some packet else get m.held n)) → base' ≡ m.base → size' ≡ m.size → counts' ≡ with_fate m.counts path fate → IsPutStep m.spec m (record m { base = base'; size = size'; held = h; counts = counts' }) a path packet fate
+put_step_put m a path packet h base' size' number counts' p fate none is_fate is_number answer held is_base is_size is_counts = record {
   fate_is = is_fate ∙ ap fate_of_put answer ∙ ap (λ n. fate_of_put (put_answer (get m.held n) packet)) is_number ∙ sym (ap (λ o. fault_or o (fate_of_put (put_answer (get m.held (extended_number packet m.base)) packet))) none);
-  spec = refl;
-  time = refl;
-  anchor = refl;
-  base = is_base;
   held = λ n. held n ∙ ap (λ b. if b && nat_eq n number then Some packet else get m.held n) (sym (ap is_taken_fate is_fate ∙ taken_put p)) ∙ ap (λ x. if is_taken_fate fate && nat_eq n x then Some packet else get m.held n) is_number;
-  quiet = refl;
-  counts = is_counts;
-  closed = refl;
-  ended = refl;
+  changed = rw (is_base, is_size, is_counts) refl;
 }
 
 -- a number that wasn't held, by the answer of the put
@@ -90,6 +58,8 @@ was_free (Some p) packet e = absurd (by_test (bytes_eq p.payload.items packet.pa
 pub record PutCounts (m : MergeState) (h : FinMap nat_cmp Packet) (counts : Tally) : Type 0 where
   pub few_arrived : counts.arrived ≤ 2 ^ 62
   pub slots_given : counts.got + counts.lost ≡ m.counts.got + m.counts.lost
+  pub restarts : counts.restarts ≡ m.counts.restarts
+  pub more : m.counts.arrived ≤ counts.arrived
   pub taken_are : m.counts.taken ≡ m.counts.got + held_count m.held m.base m.spec.window → counts.taken ≡ counts.got + held_count h m.base m.spec.window
 
 put_counts : (m : MergeState) (packet : Packet) (h : FinMap nat_cmp Packet) (number path : ℕ) (p : Put) → m.counts.arrived < 2 ^ 62 → m.base ≤ number → number < m.base + m.spec.window → p ≡ put_answer (get m.held number) packet → ((n : ℕ) → get h n ≡ (if is_taken p && nat_eq n number then Some packet else get m.held n)) → PutCounts m h (with_fate m.counts path (fate_of_put p))
@@ -108,25 +78,26 @@ put_counts m packet h number path p room low high answer held = by_put p refl
     by_put PutTaken is =
         let one = taken_is (ap is_taken is) in
         let more = ap {B = ℕ} (λ q. if is_taken_fate (fate_of_put q) then 1 else 0) is in
-        record { few_arrived = omega (arith, counts.arrived, room); slots_given = omega (arith, counts.got, counts.lost); taken_are = λ are. omega (arith, counts.taken, counts.got, one, more, are) }
+        record { few_arrived = omega (arith, counts.arrived, room); slots_given = omega (arith, counts.got, counts.lost); restarts = omega (arith, counts.restarts, ap {B = ℕ} (λ q. if is_restarted (fate_of_put q) then 1 else 0) is); more = counts.more; taken_are = λ are. omega (arith, counts.taken, counts.got, one, more, are) }
     by_put PutDouble is =
         let same = not_taken (ap is_taken is) in
         let none = ap {B = ℕ} (λ q. if is_taken_fate (fate_of_put q) then 1 else 0) is in
-        record { few_arrived = omega (arith, counts.arrived, room); slots_given = omega (arith, counts.got, counts.lost); taken_are = λ are. omega (arith, counts.taken, counts.got, same, none, are) }
+        record { few_arrived = omega (arith, counts.arrived, room); slots_given = omega (arith, counts.got, counts.lost); restarts = omega (arith, counts.restarts, ap {B = ℕ} (λ q. if is_restarted (fate_of_put q) then 1 else 0) is); more = counts.more; taken_are = λ are. omega (arith, counts.taken, counts.got, same, none, are) }
     by_put PutUnlike is =
         let same = not_taken (ap is_taken is) in
         let none = ap {B = ℕ} (λ q. if is_taken_fate (fate_of_put q) then 1 else 0) is in
-        record { few_arrived = omega (arith, counts.arrived, room); slots_given = omega (arith, counts.got, counts.lost); taken_are = λ are. omega (arith, counts.taken, counts.got, same, none, are) }
+        record { few_arrived = omega (arith, counts.arrived, room); slots_given = omega (arith, counts.got, counts.lost); restarts = omega (arith, counts.restarts, ap {B = ℕ} (λ q. if is_restarted (fate_of_put q) then 1 else 0) is); more = counts.more; taken_are = λ are. omega (arith, counts.taken, counts.got, same, none, are) }
 
-pub sound_put : (m : MergeState) (media : ℤ) (a : Anchor) (path : ℕ) (packet : Packet) (h : FinMap nat_cmp Packet) (base' size' number : ℕ) (counts' : Tally) (p : Put) → IsSound m media → m.anchor ≡ Some a → m.closed ≡ false → m.counts.arrived < 2 ^ 62 → Fits m.spec packet → m.base ≤ number → number < m.base + m.spec.window → p ≡ put_answer (get m.held number) packet → ((n : ℕ) → get h n ≡ (if is_taken p && nat_eq n number then Some packet else get m.held n)) → base' ≡ m.base → size' ≡ m.size → counts' ≡ with_fate m.counts path (fate_of_put p) → IsSound (record m { base = base'; size = size'; held = h; counts = counts' }) media
-sound_put m media a path packet h base' size' number counts' p s is_a open_yet room fits low high answer held is_base is_size is_counts = rw (is_base, is_size, is_counts) (record {
+pub sound_put : (m : MergeState) (media : ℤ) (a : Anchor) (path : ℕ) (packet : Packet) (h : FinMap nat_cmp Packet) (base' size' number : ℕ) (counts' : Tally) (p : Put) (probations' : List Probation) → IsSound m media → m.anchor ≡ Some a → m.closed ≡ false → m.counts.arrived < 2 ^ 62 → Fits m.spec packet → m.base ≤ number → number < m.base + m.spec.window → p ≡ put_answer (get m.held number) packet → ((n : ℕ) → get h n ≡ (if is_taken p && nat_eq n number then Some packet else get m.held n)) → base' ≡ m.base → size' ≡ m.size → counts' ≡ with_fate m.counts path (fate_of_put p) → IsSound (record m { probations = probations'; base = base'; size = size'; held = h; counts = counts' }) media
+sound_put m media a path packet h base' size' number counts' p probations' s is_a open_yet room fits low high answer held is_base is_size is_counts = rw (is_base, is_size, is_counts) (record {
   spec_ok = s.spec_ok;
   time_low = s.time_low;
   time_high = s.time_high;
   size_is = s.size_is;
   few_arrived = counts.few_arrived;
   anchored = anchored_back _ _ m.anchor a is_a (let an = anchored_at m media m.anchor a is_a s.anchored in record {
-    first_epoch = an.first_epoch;
+    epoch_is = omega (arith, counts.restarts, an.epoch_is);
+    few_epochs = omega (arith, counts.more, an.few_epochs);
     first_low = an.first_low;
     first_high = an.first_high;
     stamp = an.stamp;
@@ -139,7 +110,7 @@ sound_put m media a path packet h base' size' number counts' p s is_a open_yet r
     held_low = λ n some_n. by_put n m.base (is_taken p) (held n) some_n low (an.held_low n);
     held_high = λ n some_n. by_put_high n (is_taken p) (held n) some_n (an.next_open open_yet) (an.held_high n);
     held_fits = λ n q is. by_packet n q (is_taken p && nat_eq n number) (held n) is (an.held_fits n q);
-    slots_given = omega (arith, counts.slots_given, an.slots_given);
+    slots_given = omega (arith, ints, counts.slots_given, an.slots_given);
     taken_are = counts.taken_are an.taken_are;
   });
 })

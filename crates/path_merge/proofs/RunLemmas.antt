@@ -12,7 +12,7 @@ use Rattle.path_merge.proofs.CloseLemmas.{marks_of-close, marks_of-none}
 use Rattle.path_merge.proofs.HistoryLemmas.{is_well_timed_from-append}
 use Rattle.path_merge.proofs.JoinLemmas.{alike-trans, stands_alike}
 use Rattle.path_merge.proofs.MarksLemmas.{well_timed_tick}
-use Rattle.path_merge.specs.Copies.{copies_of}
+use Rattle.path_merge.specs.Copies.{copies_of_all}
 use Rattle.path_merge.specs.History.{clock_after, first_clock_fault_from, is_closed, is_tick_in_order, is_well_timed, is_well_timed_from, time_of}
 use Rattle.path_merge.specs.MarkFacts.{MarkView}
 use Rattle.path_merge.specs.Marks.{is_slot, marks_at, marks_of}
@@ -136,9 +136,6 @@ moves_by_slot old new now mark slot moves = subst (MovesBy old new now) slot mov
 pub moves_by_other : (old new : MergeState) (now : ℤ) (mark : MarkView) → is_slot mark.kind ≡ false → Moves old new now (Some mark) → new.time ≡ now
 moves_by_other old new now mark other moves = (subst (MovesBy old new now) other moves).0
 
-pub alike-refl : (stream : Stream) (open_at : ℤ) (e : List Event) → IsAlike stream open_at e e
-alike-refl stream open_at e = record { well_timed = λ l. l; time = refl; closed = refl; fates = refl; anchor = refl; copies = refl; marks = refl; before_close = refl }
-
 -- one mark more
 take_one_more : (xs : List MarkView) (k : ℕ) → take (k + 1) xs ≡ take k xs ++ take 1 (drop k xs)
 take_one_more [] zero = refl
@@ -176,7 +173,7 @@ given_offered stream open_at new events marks path packet answer all offers = re
 
 pub given_closed : (stream : Stream) (open_at : ℤ) (new : MergeState) (events : List Event) (marks : List MarkView) → marks ≡ marks_of stream open_at events → marks ≡ take (length marks) (marks_of stream open_at (events ++ Close ∷ []))
 given_closed stream open_at new events marks all =
-    all ∙ sym (ap (take (length marks)) (marks_of-close stream open_at events) ∙ ap (λ n. take n (marks_of stream open_at events ++ marks_at stream open_at (copies_of stream open_at events) (marks_of stream open_at events) events Close)) (ap length all) ∙ take-append_seam (marks_of stream open_at events) _)
+    all ∙ sym (ap (take (length marks)) (marks_of-close stream open_at events) ∙ ap (λ n. take n (marks_of stream open_at events ++ marks_at stream open_at (copies_of_all stream open_at events) (marks_of stream open_at events) events Close)) (ap length all) ∙ take-append_seam (marks_of stream open_at events) _)
 
 -- the next event of a well-timed list is in order
 in_order : (open_at : ℤ) (m : MergeState) (before : List Event) (event : Event) → m.time ≡ time_of open_at before → m.closed ≡ is_closed before → is_well_timed open_at (before ++ event ∷ []) ≡ true → IsInOrder m event

@@ -1,22 +1,25 @@
--- The shape of the marks of an open history: a mark list, with a slot for each number up to the one due next.
-use Rattle.std.proofs.Common.{◌≡◌, ℕ, zero, suc, ◌+◌, ◌-◌, ◌<◌, ◌≤◌, Bool, true, false, not, ◌&&◌, ◌||◌, List, [], ◌∷◌, ◌++◌, length, Option, Some, None, ℤ, pos, ◌+ℤ◌, ◌-ℤ◌, ◌≤ℤ◌, refl, sym, ap, subst, ◌∙◌, arith, append-nil, append_assoc, if◌then◌else◌}
+-- The marks of a history are a mark list.
+use Rattle.std.proofs.Common.{◌≡◌, ℕ, zero, suc, ◌+◌, ◌-◌, ◌*◌, ◌<◌, ◌≤◌, max, Bool, true, false, not, ◌&&◌, ◌||◌, List, [], ◌∷◌, ◌++◌, length, Option, Some, None, ◌⊎◌, inl, inr, ℤ, pos, ◌+ℤ◌, ◌-ℤ◌, ◌≤ℤ◌, refl, sym, ap, subst, ◌∙◌, arith, append-nil, if◌then◌else◌}
 use Rattle.std.specs.Prelude.{int_lt, int_le, nat_eq}
 use Rattle.std.proofs.lemmas.Bool.Decides.{nat_tests}
 use Rattle.std.proofs.lemmas.Int.{ints}
-use Rattle.path_merge.proofs.FirstLemmas.{itself_eq}
-use Rattle.path_merge.proofs.HistoryLemmas.{anchor_of-push, anchor_of-tick, is_closed-append, marks_in, marks_in-none, marks_in-push, time_of-append}
+use Rattle.path_merge.proofs.AnchorLemmas.{IsMade, by_anchor_made}
+use Rattle.path_merge.proofs.EpochLemmas.{anchor_is, copies_of-since, copies_since-made, no_anchors, since_of}
+use Rattle.path_merge.proofs.HistoryLemmas.{anchor_of-tick, anchors_of-push, copies_of-push, copies_of-tick, marks_in, marks_in-none, marks_in-push, time_of-append}
 use Rattle.path_merge.proofs.LawLemmas.{least_due}
-use Rattle.path_merge.proofs.MarksLemmas.{by_open_event, limit_of}
-use Rattle.path_merge.proofs.NextLemmas.{media_time_of-suc, next_number-rises}
-use Rattle.path_merge.proofs.SlotCountLemmas.{slots_counted}
-use Rattle.path_merge.specs.Anchor.{anchor_of, media_time_of, next_number}
-use Rattle.path_merge.specs.Copies.{first_with}
-use Rattle.path_merge.specs.History.{at_places, is_closed, is_well_timed, time_of}
-use Rattle.path_merge.specs.Laws.{AllSlotsWith, IsSlotWith, numbers_from, numbers_in, slot_numbers}
+use Rattle.path_merge.proofs.MarksLemmas.{by_open_event}
+use Rattle.path_merge.proofs.NextLemmas.{media_time_of-from, media_time_of-suc, next_number-rises}
+use Rattle.path_merge.proofs.ProbationLemmas.{last_of-push}
+use Rattle.path_merge.proofs.RestartLemmas.{itself_eq, next_number-fresh}
+use Rattle.path_merge.specs.Anchor.{media_time_of, next_number}
+use Rattle.path_merge.specs.Copies.{copies_at, copies_of, copies_with}
+use Rattle.path_merge.specs.Epochs.{anchor_in, anchor_of, anchors_at, anchors_of, copies_since, last_of}
+use Rattle.path_merge.specs.Grid.{end_of_copies, first_with}
+use Rattle.path_merge.specs.History.{is_closed, is_well_timed, time_of}
 use Rattle.path_merge.specs.MarkFacts.{MarkView}
 use Rattle.path_merge.specs.MarkList.{can_follow, is_mark_list, is_mark_list_after, is_same_encoding, is_same_format, is_same_time}
 use Rattle.path_merge.specs.Marks.{body_of, has_slot, is_past_quiet, is_past_quiets, is_quiet_new, is_slot, quiet_mark, slots_between, slots_from, slots_or_quiet}
-use Rattle.path_merge.specs.Merge.{IsBaseOf, is_end, slot_count}
+use Rattle.path_merge.specs.Merge.{is_end}
 use Rattle.path_merge.specs.StreamSpecFacts.{Stream, format_of}
 use Rattle.path_merge.specs.declared.anchor.Anchor.{Anchor}
 use Rattle.path_merge.specs.declared.event.Event.{Event}
@@ -54,24 +57,6 @@ pub is_mark_list_after-append : (format : Format) (last : Option MarkKind) (xs y
 is_mark_list_after-append format last [] ys = refl
 is_mark_list_after-append format last (mark ∷ xs) ys = ap (λ b. (is_same_format mark.format format && can_follow format.frames last mark.kind) && b) (is_mark_list_after-append format (Some mark.kind) xs ys) ∙ and_assoc (is_same_format mark.format format && can_follow format.frames last mark.kind) (is_mark_list_after format (Some mark.kind) xs) (is_mark_list_after format (last_after (Some mark.kind) xs) ys)
 
-pub slot_numbers-append : (xs ys : List MarkView) → slot_numbers (xs ++ ys) ≡ slot_numbers xs ++ slot_numbers ys
-slot_numbers-append [] ys = refl
-slot_numbers-append (mark ∷ xs) ys = ap (λ l. numbers_in mark.kind ++ l) (slot_numbers-append xs ys) ∙ sym (append_assoc (numbers_in mark.kind) (slot_numbers xs) (slot_numbers ys))
-
-pub AllSlotsWith-append : (stream : Stream) (a : Anchor) (copies : List (ℕ × Packet)) (xs ys : List MarkView) → AllSlotsWith stream a copies xs → AllSlotsWith stream a copies ys → AllSlotsWith stream a copies (xs ++ ys)
-AllSlotsWith-append stream a copies [] ys p q = q
-AllSlotsWith-append stream a copies (mark ∷ xs) ys p q = (p.0, AllSlotsWith-append stream a copies xs ys p.1 q)
-
-pub numbers_from-append : (n i j : ℕ) → numbers_from n i ++ numbers_from (n + i) j ≡ numbers_from n (i + j)
-numbers_from-append n zero j =
-    let same : n + 0 ≡ n = omega arith in
-    let all : j ≡ 0 + j = omega arith in
-    ap (λ b. numbers_from b j) same ∙ ap (numbers_from n) all
-numbers_from-append n (suc i) j =
-    let next : n + suc i ≡ suc n + i = omega arith in
-    let up : suc (i + j) ≡ suc i + j = omega arith in
-    ap (λ l. n ∷ l) (ap (λ b. numbers_from (suc n) i ++ numbers_from b j) next ∙ numbers_from-append (suc n) i j) ∙ ap (numbers_from n) up
-
 pub same_format : (format : Format) → is_same_format format format ≡ true
 same_format format = rw (same_encoding format.enc, itself_eq format.channels, itself_eq format.frames) refl
   where
@@ -86,15 +71,6 @@ same_time t u e =
     rw (x, y) refl
 
 module _ (stream : Stream) (a : Anchor) (copies : List (ℕ × Packet)) where
-  -- a run of slots
-  pub run_numbers : (n count : ℕ) → slot_numbers (slots_from stream a copies n count) ≡ numbers_from n count
-  run_numbers n zero = refl
-  run_numbers n (suc count) = ap (λ l. n ∷ l) (run_numbers (suc n) count)
-
-  pub run_slots : (n count : ℕ) → AllSlotsWith stream a copies (slots_from stream a copies n count)
-  run_slots n zero = tt
-  run_slots n (suc count) = ((refl, refl, refl), run_slots (suc n) count)
-
   -- after the slot of one number, the slots of the next ones follow
   run_follows : (n count : ℕ) (body : Body) → a.number ≤ n → is_mark_list_after (format_of stream) (Some (Slot a.epoch n (media_time_of stream a n) body)) (slots_from stream a copies (suc n) count) ≡ true
   run_follows n zero body le = refl
@@ -109,42 +85,59 @@ module _ (stream : Stream) (a : Anchor) (copies : List (ℕ × Packet)) where
   run_listed last n zero le follows = refl
   run_listed last n (suc count) le follows = rw (same_format (format_of stream), follows) (run_follows n count (body_of (first_with n copies)) le)
 
--- where the last mark stands: a slot is of the number before the next one due, and a Quiet is not past the silence so far
-abbrev pub StandsLast : Stream → Option Anchor → ℤ → Option MarkKind → Type 0
-StandsLast stream o time None = Unit {0}
-StandsLast stream None time (Some (Slot epoch n m body)) = ⊥
-StandsLast stream (Some a) time (Some (Slot epoch n m body)) = (epoch ≡ a.epoch) × (a.number ≤ n) × (suc n ≡ next_number stream a time) × (m ≡ media_time_of stream a n)
-StandsLast stream o time (Some (Quiet until)) = until ≤ℤ (time -ℤ pos stream.latency)
-StandsLast stream o time (Some End) = ⊥
+-- the last slot is of the number before the next one due
+pub record IsBeforeNext (stream : Stream) (a : Anchor) (time : ℤ) (epoch n : ℕ) (media : ℤ) : Type 0 where
+  pub epoch_is : epoch ≡ a.epoch
+  pub from_anchor : a.number ≤ n
+  pub next : suc n ≡ next_number stream a time
+  pub media_is : media ≡ media_time_of stream a n
 
--- the slots so far
-abbrev pub HasRun : Stream → Option Anchor → ℤ → List (ℕ × Packet) → List MarkView → Type 0
-HasRun stream None time copies marks = slot_numbers marks ≡ []
-HasRun stream (Some a) time copies marks = (slot_numbers marks ≡ numbers_from a.number (next_number stream a time - a.number)) × AllSlotsWith stream a copies marks
+-- the last slot is of the epoch before, and ends before this one, whose own packet is still held
+pub record IsEpochBefore (stream : Stream) (a : Anchor) (time : ℤ) (held : ℕ) (epoch : ℕ) (media : ℤ) : Type 0 where
+  pub epoch_is : a.epoch ≡ epoch + 1
+  pub next : next_number stream a time ≡ a.number
+  pub not_back : (media +ℤ pos stream.frames) ≤ℤ a.media
+  pub own_held : a.number < held
 
-pub record IsShaped (stream : Stream) (o : Option Anchor) (time : ℤ) (copies : List (ℕ × Packet)) (marks : List MarkView) : Type 0 where
+-- where the last mark stands, of an open history whose copies end here; a Quiet is not past the silence so far
+abbrev pub StandsLast : Stream → Option Anchor → ℤ → ℕ → Option MarkKind → Type 0
+StandsLast stream o time held None = Unit {0}
+StandsLast stream None time held (Some (Slot epoch n m body)) = ⊥
+StandsLast stream (Some a) time held (Some (Slot epoch n m body)) = IsBeforeNext stream a time epoch n m ⊎ IsEpochBefore stream a time held epoch m
+StandsLast stream o time held (Some (Quiet until)) = until ≤ℤ (time -ℤ pos stream.latency)
+StandsLast stream o time held (Some End) = ⊥
+
+pub record IsShaped (stream : Stream) (o : Option Anchor) (time : ℤ) (held : ℕ) (marks : List MarkView) : Type 0 where
   pub listed : is_mark_list (format_of stream) marks ≡ true
-  pub last : StandsLast stream o time (last_after None marks)
-  pub run : HasRun stream o time copies marks
+  pub last : StandsLast stream o time held (last_after None marks)
 
 -- a slot may follow where the last mark stands
-pub slot_follows : (stream : Stream) (a : Anchor) (time : ℤ) (last : Option MarkKind) (body : Body) → 0 < stream.frames → StandsLast stream (Some a) time last → can_follow stream.frames last (Slot a.epoch (next_number stream a time) (media_time_of stream a (next_number stream a time)) body) ≡ true
-slot_follows stream a time None body some stands = refl
-slot_follows stream a time (Some (Slot epoch n m b)) body some stands =
-    let e : nat_eq a.epoch epoch ≡ true = grind (arith, nat_tests, stands.0) in
-    let number : nat_eq (next_number stream a time) (n + 1) ≡ true = grind (arith, nat_tests, stands.2) in
-    let next = ap (media_time_of stream a) (sym stands.2) in
-    let media : is_same_time (media_time_of stream a (next_number stream a time)) (m +ℤ pos stream.frames) ≡ true = same_time _ _ (sym (ap (λ z. z +ℤ pos stream.frames) stands.3 ∙ sym (media_time_of-suc stream a n stands.1) ∙ sym next)) in
+pub slot_follows : (stream : Stream) (a : Anchor) (time : ℤ) (held : ℕ) (last : Option MarkKind) (body : Body) → 0 < stream.frames → StandsLast stream (Some a) time held last → can_follow stream.frames last (Slot a.epoch (next_number stream a time) (media_time_of stream a (next_number stream a time)) body) ≡ true
+slot_follows stream a time held None body some stands = refl
+slot_follows stream a time held (Some (Slot epoch n m b)) body some (inl stands) =
+    let e : nat_eq a.epoch epoch ≡ true = grind (arith, nat_tests, stands.epoch_is) in
+    let number : nat_eq (next_number stream a time) (n + 1) ≡ true = grind (arith, nat_tests, stands.next) in
+    let next = ap (media_time_of stream a) (sym stands.next) in
+    let media : is_same_time (media_time_of stream a (next_number stream a time)) (m +ℤ pos stream.frames) ≡ true = same_time _ _ (sym (ap (λ z. z +ℤ pos stream.frames) stands.media_is ∙ sym (media_time_of-suc stream a n stands.from_anchor) ∙ sym next)) in
     rw (e, number, media) refl
-slot_follows stream a time (Some (Quiet until)) body some stands =
+slot_follows stream a time held (Some (Slot epoch n m b)) body some (inr stands) =
+    let e : nat_eq a.epoch epoch ≡ false = grind (arith, nat_tests, stands.epoch_is) in
+    let up : nat_eq a.epoch (epoch + 1) ≡ true = grind (arith, nat_tests, stands.epoch_is) in
+    let none : a.number - a.number ≡ 0 = omega arith in
+    let zero = ap (λ q. q * stream.frames) none in
+    let at_anchor = media_time_of-from stream a a.number (omega arith) in
+    let next = ap (media_time_of stream a) stands.next in
+    let media : int_le (m +ℤ pos stream.frames) (media_time_of stream a (next_number stream a time)) ≡ true = grind (arith, ints, stands.not_back, at_anchor, next, zero) in
+    rw (e, up, media) refl
+slot_follows stream a time held (Some (Quiet until)) body some stands =
     let least = least_due stream a time some in
     grind (arith, ints, stands, least.to_come)
-slot_follows stream a time (Some End) body some stands = absurd stands
+slot_follows stream a time held (Some End) body some stands = absurd stands
 
 -- the last of a run
-run_last : (stream : Stream) (a : Anchor) (time : ℤ) (copies : List (ℕ × Packet)) (last : Option MarkKind) (n count : ℕ) → a.number ≤ n → suc (n + count) ≡ next_number stream a time → StandsLast stream (Some a) time (last_after last (slots_from stream a copies n (suc count)))
-run_last stream a time copies last n zero le is = (refl, le, omega (arith, is), refl)
-run_last stream a time copies last n (suc count) le is = run_last stream a time copies (Some (Slot a.epoch n (media_time_of stream a n) (body_of (first_with n copies)))) (suc n) count (omega (arith, le)) (omega (arith, is))
+run_last : (stream : Stream) (a : Anchor) (time : ℤ) (held : ℕ) (copies : List (ℕ × Packet)) (last : Option MarkKind) (n count : ℕ) → a.number ≤ n → suc (n + count) ≡ next_number stream a time → StandsLast stream (Some a) time held (last_after last (slots_from stream a copies n (suc count)))
+run_last stream a time held copies last n zero le is = inl (record { epoch_is = refl; from_anchor = le; next = omega (arith, is); media_is = refl })
+run_last stream a time held copies last n (suc count) le is = run_last stream a time held copies (Some (Slot a.epoch n (media_time_of stream a n) (body_of (first_with n copies)))) (suc n) count (omega (arith, le)) (omega (arith, is))
 
 -- what holds of every mark holds of the last
 abbrev pub AllKinds : (MarkKind → Type 0) → List MarkView → Type 0
@@ -178,12 +171,12 @@ earlier_quiets until (mark ∷ marks) none past =
     let p = both_true (is_past_quiet until mark.kind) (is_past_quiets until marks) past in
     ((n.0, p.0), earlier_quiets until marks n.1 p.1)
 
-quiet_follows : (stream : Stream) (o : Option Anchor) (time until : ℤ) (last : Option MarkKind) → StandsLast stream o time last → OfLast (IsEarlierQuiet until) last → can_follow stream.frames last (Quiet until) ≡ true
-quiet_follows stream o time until None stands l = refl
-quiet_follows stream o time until (Some (Slot e n m b)) stands l = let no = l.0 in cc
-quiet_follows stream o time until (Some (Quiet u)) stands l = l.1
-quiet_follows stream None time until (Some End) stands l = absurd stands
-quiet_follows stream (Some a) time until (Some End) stands l = absurd stands
+quiet_follows : (stream : Stream) (o : Option Anchor) (time until : ℤ) (held : ℕ) (last : Option MarkKind) → StandsLast stream o time held last → OfLast (IsEarlierQuiet until) last → can_follow stream.frames last (Quiet until) ≡ true
+quiet_follows stream o time until held None stands l = refl
+quiet_follows stream o time until held (Some (Slot e n m b)) stands l = let no = l.0 in cc
+quiet_follows stream o time until held (Some (Quiet u)) stands l = l.1
+quiet_follows stream None time until held (Some End) stands l = absurd stands
+quiet_follows stream (Some a) time until held (Some End) stands l = absurd stands
 
 -- the end may follow where the last mark stands
 pub end_follows : (frames : ℕ) (last : Option MarkKind) → OfLast (λ kind. is_end kind ≡ false) last → can_follow frames last End ≡ true
@@ -192,12 +185,12 @@ end_follows frames (Some (Slot e n m b)) l = refl
 end_follows frames (Some (Quiet u)) l = refl
 end_follows frames (Some End) l = cc
 
-pub stands_no_end : (stream : Stream) (o : Option Anchor) (time : ℤ) (last : Option MarkKind) → StandsLast stream o time last → OfLast (λ kind. is_end kind ≡ false) last
-stands_no_end stream o time None stands = tt
-stands_no_end stream o time (Some (Slot e n m b)) stands = refl
-stands_no_end stream o time (Some (Quiet u)) stands = refl
-stands_no_end stream None time (Some End) stands = absurd stands
-stands_no_end stream (Some a) time (Some End) stands = absurd stands
+pub stands_no_end : (stream : Stream) (o : Option Anchor) (time : ℤ) (held : ℕ) (last : Option MarkKind) → StandsLast stream o time held last → OfLast (λ kind. is_end kind ≡ false) last
+stands_no_end stream o time held None stands = tt
+stands_no_end stream o time held (Some (Slot e n m b)) stands = refl
+stands_no_end stream o time held (Some (Quiet u)) stands = refl
+stands_no_end stream None time held (Some End) stands = absurd stands
+stands_no_end stream (Some a) time held (Some End) stands = absurd stands
 
 pub run_no_end : (stream : Stream) (a : Anchor) (copies : List (ℕ × Packet)) (n count : ℕ) → AllKinds (λ kind. is_end kind ≡ false) (slots_from stream a copies n count)
 run_no_end stream a copies n zero = tt
@@ -208,132 +201,133 @@ same_next : Stream → Option Anchor → ℤ → ℤ → Type 0
 same_next stream None t u = Unit {0}
 same_next stream (Some a) t u = next_number stream a u ≡ next_number stream a t
 
-module _ (stream : Stream) where
-  stands_later : (o : Option Anchor) (t u : ℤ) (last : Option MarkKind) → t ≤ℤ u → same_next stream o t u → StandsLast stream o t last → StandsLast stream o u last
+module _ (stream : Stream) (opening : ℤ) where
+  stands_later : (o : Option Anchor) (t u : ℤ) (held : ℕ) (last : Option MarkKind) → t ≤ℤ u → same_next stream o t u → StandsLast stream o t held last → StandsLast stream o u held last
   unfolding same_next
-  stands_later o t u None le same stands = tt
-  stands_later None t u (Some (Slot e n m b)) le same stands = stands
-  stands_later (Some a) t u (Some (Slot e n m b)) le same stands = (stands.0, stands.1, stands.2 ∙ sym same, stands.3)
-  stands_later None t u (Some (Quiet q)) le same stands = omega (arith, ints, stands, le)
-  stands_later (Some a) t u (Some (Quiet q)) le same stands = omega (arith, ints, stands, le)
-  stands_later None t u (Some End) le same stands = stands
-  stands_later (Some a) t u (Some End) le same stands = stands
-
-  run_later : (o : Option Anchor) (t u : ℤ) (copies : List (ℕ × Packet)) (marks : List MarkView) → same_next stream o t u → HasRun stream o t copies marks → HasRun stream o u copies marks
-  unfolding same_next
-  run_later None t u copies marks same run = run
-  run_later (Some a) t u copies marks same run = (run.0 ∙ ap (λ n. numbers_from a.number (n - a.number)) (sym same), run.1)
-
-  run_with_quiet : (o : Option Anchor) (u : ℤ) (copies : List (ℕ × Packet)) (marks : List MarkView) (mark : MarkView) → numbers_in mark.kind ≡ [] → ((a : Anchor) → IsSlotWith stream a copies mark.kind) → HasRun stream o u copies marks → HasRun stream o u copies (marks ++ mark ∷ [])
-  run_with_quiet None u copies marks mark none slot run = slot_numbers-append marks (mark ∷ []) ∙ rw (none, append-nil) run
-  run_with_quiet (Some a) u copies marks mark none slot run = (slot_numbers-append marks (mark ∷ []) ∙ rw (none, append-nil) run.0, AllSlotsWith-append stream a copies marks (mark ∷ []) run.1 (slot a, tt))
+  stands_later o t u held None le same stands = tt
+  stands_later None t u held (Some (Slot e n m b)) le same stands = stands
+  stands_later (Some a) t u held (Some (Slot e n m b)) le same (inl stands) = inl (record { epoch_is = stands.epoch_is; from_anchor = stands.from_anchor; next = stands.next ∙ sym same; media_is = stands.media_is })
+  stands_later (Some a) t u held (Some (Slot e n m b)) le same (inr stands) = inr (record { epoch_is = stands.epoch_is; next = same ∙ stands.next; not_back = stands.not_back; own_held = stands.own_held })
+  stands_later None t u held (Some (Quiet q)) le same stands = omega (arith, ints, stands, le)
+  stands_later (Some a) t u held (Some (Quiet q)) le same stands = omega (arith, ints, stands, le)
+  stands_later None t u held (Some End) le same stands = stands
+  stands_later (Some a) t u held (Some End) le same stands = stands
 
   -- a tick with no slot
-  quiet_shaped : (open_at : ℤ) (o : Option Anchor) (t u : ℤ) (copies : List (ℕ × Packet)) (marks : List MarkView) → t ≤ℤ u → same_next stream o t u → IsShaped stream o t copies marks → IsShaped stream o u copies (marks ++ slots_or_quiet stream open_at marks u [])
-  quiet_shaped open_at o t u copies marks le same shaped = by_test (is_quiet_new stream open_at marks (u -ℤ pos stream.latency)) refl
+  quiet_shaped : (o : Option Anchor) (t u : ℤ) (held : ℕ) (marks : List MarkView) → t ≤ℤ u → same_next stream o t u → IsShaped stream o t held marks → IsShaped stream o u held (marks ++ slots_or_quiet stream opening marks u [])
+  quiet_shaped o t u held marks le same shaped = by_test (is_quiet_new stream opening marks (u -ℤ pos stream.latency)) refl
     where
-      later : StandsLast stream o u (last_after None marks)
-      later = stands_later o t u (last_after None marks) le same shaped.last
+      later : StandsLast stream o u held (last_after None marks)
+      later = stands_later o t u held (last_after None marks) le same shaped.last
 
-      until : ℤ
-      until = u -ℤ pos stream.latency
-
-      stands_quiet : (o : Option Anchor) → StandsLast stream o u (Some (Quiet (u -ℤ pos stream.latency)))
+      stands_quiet : (o : Option Anchor) → StandsLast stream o u held (Some (Quiet (u -ℤ pos stream.latency)))
       stands_quiet None = omega (arith, ints)
       stands_quiet (Some a) = omega (arith, ints)
 
-      by_test : (c : Bool) → is_quiet_new stream open_at marks (u -ℤ pos stream.latency) ≡ c → IsShaped stream o u copies (marks ++ (if c then quiet_mark stream (u -ℤ pos stream.latency) ∷ [] else []))
-      by_test false is = rw append-nil (record { listed = shaped.listed; last = later; run = run_later o t u copies marks same shaped.run })
+      by_test : (c : Bool) → is_quiet_new stream opening marks (u -ℤ pos stream.latency) ≡ c → IsShaped stream o u held (marks ++ (if c then quiet_mark stream (u -ℤ pos stream.latency) ∷ [] else []))
+      by_test false is = rw append-nil (record { listed = shaped.listed; last = later })
       by_test true is =
-          let new = both_true (not (has_slot marks)) (int_lt (open_at -ℤ pos stream.latency) (u -ℤ pos stream.latency) && is_past_quiets (u -ℤ pos stream.latency) marks) is in
-          let past = both_true (int_lt (open_at -ℤ pos stream.latency) (u -ℤ pos stream.latency)) (is_past_quiets (u -ℤ pos stream.latency) marks) new.1 in
+          let new = both_true (not (has_slot marks)) (int_lt (opening -ℤ pos stream.latency) (u -ℤ pos stream.latency) && is_past_quiets (u -ℤ pos stream.latency) marks) is in
+          let past = both_true (int_lt (opening -ℤ pos stream.latency) (u -ℤ pos stream.latency)) (is_past_quiets (u -ℤ pos stream.latency) marks) new.1 in
           let earlier = of_last (IsEarlierQuiet (u -ℤ pos stream.latency)) None marks tt (earlier_quiets (u -ℤ pos stream.latency) marks new.0 past.1) in
-          let follows = quiet_follows stream o u (u -ℤ pos stream.latency) (last_after None marks) later earlier in
+          let follows = quiet_follows stream o u (u -ℤ pos stream.latency) held (last_after None marks) later earlier in
           record {
             listed = is_mark_list_after-append (format_of stream) None marks (quiet_mark stream (u -ℤ pos stream.latency) ∷ []) ∙ rw (shaped.listed, same_format (format_of stream), follows) refl;
-            last = subst (StandsLast stream o u) (sym (last_after-append None marks (quiet_mark stream (u -ℤ pos stream.latency) ∷ []))) (stands_quiet o);
-            run = run_with_quiet o u copies marks (quiet_mark stream (u -ℤ pos stream.latency)) refl (λ a. tt) (run_later o t u copies marks same shaped.run);
+            last = subst (StandsLast stream o u held) (sym (last_after-append None marks (quiet_mark stream (u -ℤ pos stream.latency) ∷ []))) (stands_quiet o);
           }
 
   -- a tick with slots
-  slots_shaped : (a : Anchor) (t u : ℤ) (copies : List (ℕ × Packet)) (marks : List MarkView) (count : ℕ) → 0 < stream.frames → suc (next_number stream a t + count) ≡ next_number stream a u → IsShaped stream (Some a) t copies marks → IsShaped stream (Some a) u copies (marks ++ slots_from stream a copies (next_number stream a t) (suc count))
-  slots_shaped a t u copies marks count some is shaped =
+  slots_shaped : (a : Anchor) (t u : ℤ) (held : ℕ) (copies : List (ℕ × Packet)) (marks : List MarkView) (count : ℕ) → 0 < stream.frames → suc (next_number stream a t + count) ≡ next_number stream a u → IsShaped stream (Some a) t held marks → IsShaped stream (Some a) u held (marks ++ slots_from stream a copies (next_number stream a t) (suc count))
+  slots_shaped a t u held copies marks count some is shaped =
       let first : a.number ≤ next_number stream a t = omega arith in
-      let follows = slot_follows stream a t (last_after None marks) (body_of (first_with (next_number stream a t) copies)) some shaped.last in
+      let follows = slot_follows stream a t held (last_after None marks) (body_of (first_with (next_number stream a t) copies)) some shaped.last in
       let listed = run_listed stream a copies (last_after None marks) (next_number stream a t) (suc count) first follows in
-      let seam : a.number + (next_number stream a t - a.number) ≡ next_number stream a t = omega (arith, first) in
-      let total : (next_number stream a t - a.number) + suc count ≡ next_number stream a u - a.number = omega (arith, first, is) in
       record {
         listed = is_mark_list_after-append (format_of stream) None marks (slots_from stream a copies (next_number stream a t) (suc count)) ∙ and_true _ _ shaped.listed listed;
-        last = subst (StandsLast stream (Some a) u) (sym (last_after-append None marks (slots_from stream a copies (next_number stream a t) (suc count)))) (run_last stream a u copies (last_after None marks) (next_number stream a t) count first is);
-        run = (
-          slot_numbers-append marks (slots_from stream a copies (next_number stream a t) (suc count)) ∙ ap (λ l. l ++ slot_numbers (slots_from stream a copies (next_number stream a t) (suc count))) shaped.run.0 ∙ ap (λ l. numbers_from a.number (next_number stream a t - a.number) ++ l) (run_numbers stream a copies (next_number stream a t) (suc count)) ∙ ap (λ b. numbers_from a.number (next_number stream a t - a.number) ++ numbers_from b (suc count)) (sym seam) ∙ numbers_from-append a.number (next_number stream a t - a.number) (suc count) ∙ ap (numbers_from a.number) total,
-          AllSlotsWith-append stream a copies marks (slots_from stream a copies (next_number stream a t) (suc count)) shaped.run.1 (run_slots stream a copies (next_number stream a t) (suc count)),
-        );
+        last = subst (StandsLast stream (Some a) u held) (sym (last_after-append None marks (slots_from stream a copies (next_number stream a t) (suc count)))) (run_last stream a u held copies (last_after None marks) (next_number stream a t) count first is);
       }
 
-  tick_shaped : (open_at : ℤ) (o : Option Anchor) (t u : ℤ) (copies : List (ℕ × Packet)) (marks : List MarkView) → 0 < stream.frames → t ≤ℤ u → IsShaped stream o t copies marks → IsShaped stream o u copies (marks ++ slots_or_quiet stream open_at marks u (slots_between stream copies o t u))
+  tick_shaped : (o : Option Anchor) (t u : ℤ) (held : ℕ) (copies : List (ℕ × Packet)) (marks : List MarkView) → 0 < stream.frames → t ≤ℤ u → IsShaped stream o t held marks → IsShaped stream o u held (marks ++ slots_or_quiet stream opening marks u (slots_between stream copies o t u))
   unfolding same_next
-  tick_shaped open_at None t u copies marks some le shaped = quiet_shaped open_at None t u copies marks le tt shaped
-  tick_shaped open_at (Some a) t u copies marks some le shaped = by_count (next_number stream a u - next_number stream a t) refl
+  tick_shaped None t u held copies marks some le shaped = quiet_shaped None t u held marks le tt shaped
+  tick_shaped (Some a) t u held copies marks some le shaped = by_count (next_number stream a u - next_number stream a t) refl
     where
       rises : next_number stream a t ≤ next_number stream a u
       rises = next_number-rises stream a t u some le
 
-      by_count : (c : ℕ) → next_number stream a u - next_number stream a t ≡ c → IsShaped stream (Some a) u copies (marks ++ slots_or_quiet stream open_at marks u (slots_from stream a copies (next_number stream a t) c))
-      by_count zero is = quiet_shaped open_at (Some a) t u copies marks le (omega (arith, is, rises)) shaped
-      by_count (suc c) is = slots_shaped a t u copies marks c some (omega (arith, is, rises)) shaped
+      by_count : (c : ℕ) → next_number stream a u - next_number stream a t ≡ c → IsShaped stream (Some a) u held (marks ++ slots_or_quiet stream opening marks u (slots_from stream a copies (next_number stream a t) c))
+      by_count zero is = quiet_shaped (Some a) t u held marks le (omega (arith, is, rises)) shaped
+      by_count (suc c) is = slots_shaped a t u held copies marks c some (omega (arith, is, rises)) shaped
 
--- no slot at all
-no_slot_with : (stream : Stream) (a : Anchor) (copies : List (ℕ × Packet)) (marks : List MarkView) → slot_numbers marks ≡ [] → AllSlotsWith stream a copies marks
-no_slot_with stream a copies [] none = tt
-no_slot_with stream a copies (mark ∷ marks) none = by_kind (no_slot_with stream a copies marks) mark.kind none
-  where
-    by_kind : (slot_numbers marks ≡ [] → AllSlotsWith stream a copies marks) → (kind : MarkKind) → numbers_in kind ++ slot_numbers marks ≡ [] → IsSlotWith stream a copies kind × AllSlotsWith stream a copies marks
-    by_kind rest (Slot e n m b) none = cc
-    by_kind rest (Quiet u) none = (tt, rest none)
-    by_kind rest End none = (tt, rest none)
+  -- more copies
+  stands_held : (o : Option Anchor) (time : ℤ) (held more : ℕ) (last : Option MarkKind) → held ≤ more → StandsLast stream o time held last → StandsLast stream o time more last
+  stands_held o time held more None le stands = tt
+  stands_held None time held more (Some (Slot e n m b)) le stands = stands
+  stands_held (Some a) time held more (Some (Slot e n m b)) le (inl stands) = inl stands
+  stands_held (Some a) time held more (Some (Slot e n m b)) le (inr stands) = inr (record { epoch_is = stands.epoch_is; next = stands.next; not_back = stands.not_back; own_held = omega (arith, stands.own_held, le) })
+  stands_held None time held more (Some (Quiet q)) le stands = stands
+  stands_held (Some a) time held more (Some (Quiet q)) le stands = stands
+  stands_held None time held more (Some End) le stands = stands
+  stands_held (Some a) time held more (Some End) le stands = stands
 
-pub slot_count-numbers : (marks : List MarkView) → slot_count marks ≡ length (slot_numbers marks)
-slot_count-numbers [] = refl
-slot_count-numbers (mark ∷ marks) = by_kind (slot_count-numbers marks) mark.kind
-  where
-    by_kind : slot_count marks ≡ length (slot_numbers marks) → (kind : MarkKind) → (if is_slot kind then 1 else 0) + slot_count marks ≡ length (numbers_in kind ++ slot_numbers marks)
-    by_kind rest (Slot e n m b) = omega (arith, rest)
-    by_kind rest (Quiet u) = omega (arith, rest)
-    by_kind rest End = omega (arith, rest)
+  -- a new anchor, where nothing is held that had no slot
+  stands_opened : 0 < stream.frames → (events : List Event) (path : ℕ) (packet : Packet) (old : Option (ℕ × Anchor)) (b : Anchor) (last : Option MarkKind) → IsMade stream opening events path packet old b → StandsLast stream (anchor_in old) (time_of opening events) (end_of_copies (since_of stream opening old events)) last → StandsLast stream (Some b) (time_of opening events) (end_of_copies (copies_since stream opening (length events) b (events ++ Arrive path packet ∷ []))) last
+  stands_opened some events path packet old b None made stands = tt
+  stands_opened some events path packet None b (Some (Slot e n m body)) made stands = absurd stands
+  stands_opened some events path packet (Some (place, a)) b (Some (Slot e n m body)) made (inl stands) =
+      let copies : end_of_copies (copies_since stream opening (length events) b (events ++ Arrive path packet ∷ [])) ≡ max (suc b.number) 0 = ap end_of_copies (copies_since-made stream opening events (Arrive path packet) b ∙ made.follows.own) in
+      let next = ap (media_time_of stream a) stands.next in
+      let ends = ap (λ z. z +ℤ pos stream.frames) stands.media_is ∙ sym (media_time_of-suc stream a n stands.from_anchor) ∙ next in
+      inr (record {
+        epoch_is = omega (arith, made.next, stands.epoch_is);
+        next = next_number-fresh stream b (time_of opening events) some made.early;
+        not_back = omega (arith, ints, ends, made.follows.not_back);
+        own_held = omega (arith, copies);
+      })
+  stands_opened some events path packet (Some (place, a)) b (Some (Slot e n m body)) made (inr stands) = absurd (omega (arith, stands.own_held, stands.next, made.follows.all_given))
+  stands_opened some events path packet None b (Some (Quiet q)) made stands = stands
+  stands_opened some events path packet (Some (place, a)) b (Some (Quiet q)) made stands = stands
+  stands_opened some events path packet None b (Some End) made stands = absurd stands
+  stands_opened some events path packet (Some (place, a)) b (Some End) made stands = absurd stands
 
--- an arrival may anchor the stream, and gives no mark
-arrived_shaped : (stream : Stream) (o more : Option Anchor) (time : ℤ) (copies : List (ℕ × Packet)) (marks : List MarkView) → IsBaseOf (elim o [ None ↦ more | Some a ↦ Some a ]) (limit_of stream (elim o [ None ↦ more | Some a ↦ Some a ]) time) marks → IsShaped stream o time copies marks → IsShaped stream (elim o [ None ↦ more | Some a ↦ Some a ]) time copies marks
-arrived_shaped stream (Some a) more time copies marks counted shaped = shaped
-arrived_shaped stream None None time copies marks counted shaped = shaped
-arrived_shaped stream None (Some a) time copies marks counted shaped = record {
-  listed = shaped.listed;
-  last = stands_more (last_after None marks) shaped.last;
-  run = (shaped.run ∙ sym (ap (numbers_from a.number) none), no_slot_with stream a copies marks shaped.run);
-}
-  where
-    none : next_number stream a time - a.number ≡ 0
-    none = omega (arith, counted, slot_count-numbers marks, ap length shaped.run)
+end_of_copies-append : (xs ys : List (ℕ × Packet)) → end_of_copies xs ≤ end_of_copies (xs ++ ys)
+end_of_copies-append [] ys = omega arith
+end_of_copies-append ((n, packet) ∷ xs) ys = omega (arith, end_of_copies-append xs ys)
 
-    stands_more : (last : Option MarkKind) → StandsLast stream None time last → StandsLast stream (Some a) time last
-    stands_more None stands = tt
-    stands_more (Some (Slot e n m b)) stands = absurd stands
-    stands_more (Some (Quiet u)) stands = stands
-    stands_more (Some End) stands = absurd stands
+pub no_anchor_yet : (stream : Stream) (opening : ℤ) → anchor_of stream opening [] ≡ None
+no_anchor_yet stream opening = anchor_is stream opening [] ∙ rw (no_anchors stream opening) refl
 
-pub no_anchor_yet : (stream : Stream) (open_at : ℤ) → anchor_of stream open_at [] ≡ None
-unfolding anchor_of at_places
-no_anchor_yet stream open_at = refl
+module _ (stream : Stream) (opening : ℤ) (some : 0 < stream.frames) where
+  abbrev pub IsShapedAt : List Event → List MarkView → Type 0
+  IsShapedAt events marks = IsShaped stream (anchor_of stream opening events) (time_of opening events) (end_of_copies (copies_of stream opening events)) marks
 
-pub shaped_open : (stream : Stream) (open_at : ℤ) (some : 0 < stream.frames) (copies : List (ℕ × Packet)) (events : List Event) → is_well_timed open_at events ≡ true → is_closed events ≡ false → IsShaped stream (anchor_of stream open_at events) (time_of open_at events) copies (marks_in stream open_at copies events)
-shaped_open stream open_at some copies = by_open_event stream open_at some (λ events. IsShaped stream (anchor_of stream open_at events) (time_of open_at events) copies (marks_in stream open_at copies events))
-    (rw (marks_in-none stream open_at copies, no_anchor_yet stream open_at) (record { listed = refl; last = tt; run = refl }))
-    (λ events path packet well_timed _ open_yet shaped.
-    let counted = slots_counted stream open_at some copies (events ++ Arrive path packet ∷ []) well_timed (is_closed-append events (Arrive path packet ∷ []) ∙ rw open_yet refl) in
-    rw (anchor_of-push stream open_at events (Arrive path packet), time_of-append open_at events (Arrive path packet ∷ []), marks_in-push stream open_at copies events (Arrive path packet), append-nil)
-    (arrived_shaped stream (anchor_of stream open_at events) _ (time_of open_at events) copies (marks_in stream open_at copies events)
-    (rw (anchor_of-push stream open_at events (Arrive path packet), time_of-append open_at events (Arrive path packet ∷ []), marks_in-push stream open_at copies events (Arrive path packet), append-nil) at counted) shaped))
-    (λ events u t shaped.
-    rw (anchor_of-tick stream open_at events u, time_of-append open_at events (Tick u ∷ []), marks_in-push stream open_at copies events (Tick u), t.open_yet)
-    (tick_shaped stream open_at (anchor_of stream open_at events) (time_of open_at events) u copies (marks_in stream open_at copies events) some t.not_back shaped))
+  arrived_shaped : (events : List Event) (path : ℕ) (packet : Packet) (marks : List MarkView) → IsShapedAt events marks → IsShapedAt (events ++ Arrive path packet ∷ []) marks
+  arrived_shaped events path packet marks shaped = by_anchor_made stream opening some events path packet (λ made. anchors_at stream opening (anchors_of stream opening events) events (Arrive path packet) ≡ made → IsShapedAt (events ++ Arrive path packet ∷ []) marks) none one refl
+    where
+      time : time_of opening (events ++ Arrive path packet ∷ []) ≡ time_of opening events
+      time = time_of-append opening events (Arrive path packet ∷ [])
+
+      none : anchors_at stream opening (anchors_of stream opening events) events (Arrive path packet) ≡ [] → IsShapedAt (events ++ Arrive path packet ∷ []) marks
+      none is =
+          let same : anchor_of stream opening (events ++ Arrive path packet ∷ []) ≡ anchor_of stream opening events = anchor_is stream opening (events ++ Arrive path packet ∷ []) ∙ ap (λ l. anchor_in (last_of l)) (anchors_of-push stream opening events (Arrive path packet) ∙ ap (λ l. anchors_of stream opening events ++ l) is ∙ append-nil _) ∙ sym (anchor_is stream opening events) in
+          let copies = copies_of-push stream opening events (Arrive path packet) same in
+          rw (same, time) (record { listed = shaped.listed; last = stands_held stream opening (anchor_of stream opening events) (time_of opening events) (end_of_copies (copies_of stream opening events)) (end_of_copies (copies_of stream opening (events ++ Arrive path packet ∷ []))) (last_after None marks) (omega (arith, ap end_of_copies copies, end_of_copies-append (copies_of stream opening events) (copies_with (anchor_of stream opening events) (copies_at stream opening events (Arrive path packet))))) shaped.last })
+
+      one : (b : Anchor) → IsMade stream opening events path packet (last_of (anchors_of stream opening events)) b → anchors_at stream opening (anchors_of stream opening events) events (Arrive path packet) ≡ (length events, b) ∷ [] → IsShapedAt (events ++ Arrive path packet ∷ []) marks
+      one b made is =
+          let last : last_of (anchors_of stream opening (events ++ Arrive path packet ∷ [])) ≡ Some (length events, b) = ap last_of (anchors_of-push stream opening events (Arrive path packet) ∙ ap (λ l. anchors_of stream opening events ++ l) is) ∙ last_of-push (anchors_of stream opening events) (length events, b) in
+          let anchor : anchor_of stream opening (events ++ Arrive path packet ∷ []) ≡ Some b = anchor_is stream opening (events ++ Arrive path packet ∷ []) ∙ ap anchor_in last in
+          let copies : copies_of stream opening (events ++ Arrive path packet ∷ []) ≡ copies_since stream opening (length events) b (events ++ Arrive path packet ∷ []) = copies_of-since stream opening (events ++ Arrive path packet ∷ []) ∙ ap (λ o. since_of stream opening o (events ++ Arrive path packet ∷ [])) last in
+          let before : StandsLast stream (anchor_in (last_of (anchors_of stream opening events))) (time_of opening events) (end_of_copies (since_of stream opening (last_of (anchors_of stream opening events)) events)) (last_after None marks) = subst (λ o. StandsLast stream o (time_of opening events) (end_of_copies (since_of stream opening (last_of (anchors_of stream opening events)) events)) (last_after None marks)) (anchor_is stream opening events) (subst (λ l. StandsLast stream (anchor_of stream opening events) (time_of opening events) (end_of_copies l) (last_after None marks)) (copies_of-since stream opening events) shaped.last) in
+          rw (anchor, time, copies) (record { listed = shaped.listed; last = stands_opened stream opening some events path packet (last_of (anchors_of stream opening events)) b (last_after None marks) made before })
+
+  -- the marks of an open history are a mark list, and its last mark stands where the next may follow
+  pub shaped_open : (copies : List (ℕ × (ℕ × Packet))) (events : List Event) → is_well_timed opening events ≡ true → is_closed events ≡ false → IsShapedAt events (marks_in stream opening copies events)
+  shaped_open copies = by_open_event stream opening some (λ events. IsShapedAt events (marks_in stream opening copies events))
+      (rw (marks_in-none stream opening copies, no_anchor_yet stream opening) (record { listed = refl; last = tt }))
+      (λ events path packet _ _ _ shaped.
+      rw (marks_in-push stream opening copies events (Arrive path packet), append-nil)
+      (arrived_shaped events path packet (marks_in stream opening copies events) shaped))
+      (λ events u t shaped.
+      rw (anchor_of-tick stream opening events u, time_of-append opening events (Tick u ∷ []), copies_of-tick stream opening events u, marks_in-push stream opening copies events (Tick u), t.open_yet)
+      (tick_shaped stream opening (anchor_of stream opening events) (time_of opening events) u (end_of_copies (copies_of stream opening events)) (copies_with (anchor_of stream opening events) copies) (marks_in stream opening copies events) some t.not_back shaped))

@@ -1,4 +1,5 @@
 -- What is found in a list of numbered packets, and what an edit of it leaves.
+use Rattle.path_merge.specs.Grid.{first_with}
 use Rattle.std.proofs.Common.{◌≡◌, ℕ, zero, suc, ◌+◌, ◌<◌, ◌≤◌, List, [], ◌∷◌, ◌++◌, length, take, drop, get_or, if◌then◌else◌, Some, None, IsSome, refl, ap, subst, ◌∙◌, arith}
 use Rattle.std.specs.Prelude.{nat_eq, true, false, insert}
 use Rattle.std.proofs.lemmas.List.Edits.{length-insert}
@@ -9,7 +10,6 @@ use Rattle.std.specs.Cmp.{nat_cmp_total}
 use Rattle.std.specs.FinMap.{get, find, from_entries, get-from_entries}
 use Rattle.path_merge.specs.declared.packet.Packet.{Packet}
 use Rattle.path_merge.specs.SortedWindow.{IsWithin, AllBelow, IsFrom, IsGapAt, starts_with_number}
-use Rattle.path_merge.specs.Copies.{first_with}
 
 -- there are no more packets than numbers
 pub length_within : (low high : ℕ) (l : List (ℕ × Packet)) → IsWithin low high l → low ≤ high → length l + low ≤ high

@@ -17,7 +17,7 @@ use Rattle.path_merge.specs.CountsFacts.{Tally, with_body}
 use Rattle.path_merge.specs.MarkFacts.{HasLength, payload_length}
 use Rattle.path_merge.specs.Marks.{body_of, quiet_mark}
 use Rattle.path_merge.specs.MergeState.{IsAnchored, IsAnchoredOrNot, IsSound, MergeState, held_count}
-use Rattle.path_merge.specs.Steps.{HoldsMore, IsBeforeDeadline, IsTimeStep, is_quiet_due}
+use Rattle.path_merge.specs.Steps.{HoldsMore, IsBeforeDeadline, IsTimeStep, is_quiet_due, next_deadline_of}
 use Rattle.path_merge.specs.StreamSpecFacts.{IsStream, Stream, format_of}
 use Rattle.path_merge.specs.declared.anchor.Anchor.{Anchor}
 use Rattle.path_merge.specs.declared.packet.Packet.{Packet}
@@ -56,18 +56,22 @@ some_window s ok = by_window s.window ok.wide
     by_window (suc w) wide = omega arith
 
 -- the counts after the slot of the base
-pub record GivesSlot (m : MergeState) (h : FinMap nat_cmp Packet) (anchor : Anchor) : Type 0 where
+pub record GivesSlot (m : MergeState) (media : ℤ) (h : FinMap nat_cmp Packet) (anchor : Anchor) : Type 0 where
   pub arrived : (with_body m.counts (body_of (get m.held m.base))).arrived ≤ 2 ^ 62
-  pub slots_given : (with_body m.counts (body_of (get m.held m.base))).got + (with_body m.counts (body_of (get m.held m.base))).lost + anchor.number ≡ m.base + 1
+  pub slots_given : pos ((with_body m.counts (body_of (get m.held m.base))).got + (with_body m.counts (body_of (get m.held m.base))).lost) ≤ℤ ((media +ℤ pos m.spec.frames) +ℤ pos (2 ^ 33))
+  pub epoch_is : anchor.epoch ≡ (with_body m.counts (body_of (get m.held m.base))).restarts
+  pub few_epochs : anchor.epoch < (with_body m.counts (body_of (get m.held m.base))).arrived
   pub taken_are : (with_body m.counts (body_of (get m.held m.base))).taken ≡ (with_body m.counts (body_of (get m.held m.base))).got + held_count h (m.base + 1) m.spec.window
 
-gives_slot : (m : MergeState) (media : ℤ) (a : Anchor) (h : FinMap nat_cmp Packet) → IsSound m media → IsAnchored m media a → ((n : ℕ) → get h n ≡ (if nat_eq n m.base then None else get m.held n)) → GivesSlot m h a
+gives_slot : (m : MergeState) (media : ℤ) (a : Anchor) (h : FinMap nat_cmp Packet) → IsSound m media → IsAnchored m media a → ((n : ℕ) → get h n ≡ (if nat_eq n m.base then None else get m.held n)) → GivesSlot m media h a
 gives_slot m media a h s an held =
     let counts = with_body-counts m.counts (get m.held m.base) in
     let taken = held_count-taken m.held h m.base m.spec.window (some_window m.spec s.spec_ok) (beyond m media a an) held in
     record {
       arrived = omega (arith, counts.arrived, s.few_arrived);
-      slots_given = omega (arith, counts.given, an.slots_given);
+      slots_given = omega (arith, ints, counts.given, an.slots_given, s.spec_ok.some_frames);
+      epoch_is = omega (arith, counts.restarts, an.epoch_is);
+      few_epochs = omega (arith, counts.arrived, an.few_epochs);
       taken_are = omega (arith, counts.taken, counts.got, taken, an.taken_are);
     }
 
@@ -87,7 +91,8 @@ sound_slot m media a h s is_a open_yet soon held =
       size_is = s.size_is;
       few_arrived = gives.arrived;
       anchored = anchored_back _ _ m.anchor a is_a (record {
-        first_epoch = an.first_epoch;
+        epoch_is = gives.epoch_is;
+        few_epochs = gives.few_epochs;
         first_low = an.first_low;
         first_high = an.first_high;
         stamp = an.stamp;
@@ -118,7 +123,8 @@ sound_left m media a h s is_a shut holds held =
       size_is = s.size_is;
       few_arrived = gives.arrived;
       anchored = anchored_back _ _ m.anchor a is_a (record {
-        first_epoch = an.first_epoch;
+        epoch_is = gives.epoch_is;
+        few_epochs = gives.few_epochs;
         first_low = an.first_low;
         first_high = an.first_high;
         stamp = an.stamp;
@@ -149,11 +155,12 @@ sound_time m media now quiet s open_yet not_back not_far early =
     }
   where
     by_anchor : (o : Option Anchor) → IsAnchoredOrNot m media o → IsBeforeDeadline m.spec o m.base now → IsAnchoredOrNot (record m { time = now; quiet = quiet }) media o
-    by_anchor None an early = record { empty = an.empty; none_taken = an.none_taken; none_got = an.none_got; none_lost = an.none_lost }
+    by_anchor None an early = record { empty = an.empty; none_taken = an.none_taken; none_got = an.none_got; none_lost = an.none_lost; none_restarted = an.none_restarted }
     by_anchor (Some a) an early =
         let same : next_number m.spec a now ≡ m.base = next_number-stays m.spec a m.time now s.spec_ok.some_frames not_back (subst (λ n. now <ℤ deadline_of m.spec a n) (an.next_open open_yet) early) ∙ sym (an.next_open open_yet) in
         record {
-          first_epoch = an.first_epoch;
+          epoch_is = an.epoch_is;
+          few_epochs = an.few_epochs;
           first_low = an.first_low;
           first_high = an.first_high;
           stamp = an.stamp;
@@ -181,9 +188,10 @@ sound_closed m media s = record {
 }
   where
     by_anchor : (o : Option Anchor) → IsAnchoredOrNot m media o → IsAnchoredOrNot (record m { closed = true }) media o
-    by_anchor None an = record { empty = an.empty; none_taken = an.none_taken; none_got = an.none_got; none_lost = an.none_lost }
+    by_anchor None an = record { empty = an.empty; none_taken = an.none_taken; none_got = an.none_got; none_lost = an.none_lost; none_restarted = an.none_restarted }
     by_anchor (Some a) an = record {
-      first_epoch = an.first_epoch;
+      epoch_is = an.epoch_is;
+      few_epochs = an.few_epochs;
       first_low = an.first_low;
       first_high = an.first_high;
       stamp = an.stamp;
@@ -303,8 +311,8 @@ room_for_got m media a s is_a got =
 pub few_lost : (m : MergeState) (media : ℤ) (a : Anchor) → IsSound m media → m.anchor ≡ Some a → m.counts.lost < 2 ^ 63
 few_lost m media a s is_a =
     let an = anchored_at m media m.anchor a is_a s.anchored in
-    let small = base_small m media a s is_a in
-    omega (arith, an.slots_given, small.1)
+    let t = media_small m media a s is_a in
+    omega (arith, ints, an.slots_given, t.2)
 
 -- the payload at the base has the stream's length
 pub base_fits : (m : MergeState) (media : ℤ) (a : Anchor) → IsSound m media → m.anchor ≡ Some a → HasLength (payload_length (format_of m.spec)) (body_of (get m.held m.base))
@@ -343,3 +351,6 @@ due_times m media a s is_a open_yet =
 
 pub paths_few : (m : MergeState) (media : ℤ) → IsSound m media → (path : ℕ) → path < m.spec.paths → path < 4
 paths_few m media s path lt = omega (arith, lt, s.spec_ok.few_paths)
+
+pub next_deadline_is : (m : MergeState) (media : ℤ) (a : Anchor) → IsSound m media → m.anchor ≡ Some a → m.closed ≡ false → Some (media +ℤ pos m.spec.latency) ≡ next_deadline_of m
+next_deadline_is m media a s is_a open_yet = ap (λ z. Some z) (due_times m media a s is_a open_yet).deadline ∙ sym (rw (open_yet, is_a) refl)

@@ -1,141 +1,294 @@
--- The marks of every history are a mark list, and their slots are its span.
-use Rattle.std.proofs.Common.{◌≡◌, ℕ, ◌+◌, ◌-◌, ◌<◌, max, Bool, true, false, ◌&&◌, List, [], ◌∷◌, ◌++◌, take, Option, Some, None, ℤ, refl, sym, ap, subst, ◌∙◌, arith, append-nil, if◌then◌else◌, drop}
-use Rattle.std.proofs.lemmas.List.{take-append-drop}
-use Rattle.path_merge.proofs.HistoryLemmas.{anchor_of-push, by_last_event, marks_of-in}
-use Rattle.path_merge.proofs.LeftLemmas.{closed_at}
-use Rattle.path_merge.proofs.ShapeLemmas.{AllKinds, AllSlotsWith-append, HasRun, IsShaped, StandsLast, and_left, and_true, end_follows, is_mark_list_after-append, last_after, no_anchor_yet, numbers_from-append, of_last, run_listed, run_no_end, run_numbers, run_slots, same_format, shaped_open, slot_follows, slot_numbers-append, stands_no_end}
-use Rattle.path_merge.specs.Anchor.{anchor_from, anchor_of, anchors_at, can_anchor, first_of, next_number}
-use Rattle.path_merge.specs.Copies.{copies_of, first_with}
-use Rattle.path_merge.specs.History.{events_until_close, is_closed, is_counting, is_well_timed, time_of}
-use Rattle.path_merge.specs.Laws.{AllOfFirstEpoch, AllSlotsWith, HasSpan, IsOfFirstEpoch, IsSlotWith, numbers_from, numbers_in, slot_numbers}
+-- The slots of every history are the spans of its epochs, one after the other.
+use Rattle.std.proofs.Common.{◌≡◌, ℕ, zero, suc, ◌+◌, ◌-◌, ◌<◌, ◌≤◌, max, Bool, true, false, List, [], ◌∷◌, ◌++◌, length, take, Option, Some, None, ℤ, pos, ◌-ℤ◌, ◌≤ℤ◌, refl, sym, ap, subst, ◌∙◌, arith, append-nil, append_assoc, if◌then◌else◌}
+use Rattle.std.proofs.lemmas.List.{take-append-le}
+use Rattle.std.proofs.Math.Seq.{take-append_seam}
+use Rattle.path_merge.proofs.AnchorLemmas.{AllWithin, IsMade, IsOwn, all_within, anchor_with-append, by_anchor_made, has_epochs}
+use Rattle.path_merge.proofs.ClosedLemmas.{closed_before, closed_stays, marks_of-closed}
+use Rattle.path_merge.proofs.CloseLemmas.{marks_of-close}
+use Rattle.path_merge.proofs.EpochLemmas.{anchor_is, deaf_anchors, deaf_copies, deaf_copies_all, no_anchors}
+use Rattle.path_merge.proofs.HistoryLemmas.{anchors_of-push, by_last_event, copies_of-close, copies_of-with, copies_of_all-close, is_closed-append, marks_in, marks_in-none, marks_in-push, marks_of-in, or_else, time_of-append}
+use Rattle.path_merge.proofs.MarksLemmas.{by_open_event, well_timed_before, well_timed_tick}
+use Rattle.path_merge.proofs.NextLemmas.{next_number-rises}
+use Rattle.path_merge.proofs.RestartLemmas.{next_number-fresh}
+use Rattle.path_merge.specs.Anchor.{next_number}
+use Rattle.path_merge.specs.Copies.{copies_in, copies_of, copies_of_all, copies_with}
+use Rattle.path_merge.specs.EpochLaws.{AllSlotsAmong, HasSpans, IsSlotAmong, IsSlotUnder, anchor_with, spans_of}
+use Rattle.path_merge.specs.Epochs.{anchor_in, anchor_of, anchors_at, anchors_of, last_of}
+use Rattle.path_merge.specs.Grid.{end_of_copies}
+use Rattle.path_merge.specs.History.{is_closed, is_counting, is_well_timed, time_of}
+use Rattle.path_merge.specs.Laws.{names_from, names_in, slot_names}
 use Rattle.path_merge.specs.MarkFacts.{MarkView}
-use Rattle.path_merge.specs.MarkList.{is_mark_list, is_mark_list_after}
-use Rattle.path_merge.specs.Marks.{body_of, end_mark, end_of_copies, marks_of, slots_at_close, slots_from}
-use Rattle.path_merge.specs.Merge.{is_end}
-use Rattle.path_merge.specs.StreamSpecFacts.{Stream, format_of}
+use Rattle.path_merge.specs.Marks.{end_mark, is_quiet_new, marks_of, quiet_mark, slots_at_close, slots_between, slots_from, slots_or_quiet, span_end}
+use Rattle.path_merge.specs.StreamSpecFacts.{Stream}
 use Rattle.path_merge.specs.declared.anchor.Anchor.{Anchor}
 use Rattle.path_merge.specs.declared.event.Event.{Event}
 use Rattle.path_merge.specs.declared.event.Event.TheVariants.{Arrive, Close, Tick}
+use Rattle.path_merge.specs.declared.mark.Body.{Body}
 use Rattle.path_merge.specs.declared.mark.MarkKind.{MarkKind}
 use Rattle.path_merge.specs.declared.mark.MarkKind.TheVariants.{End, Quiet, Slot}
 use Rattle.path_merge.specs.declared.packet.Packet.{Packet}
 
--- the span of an open history, and of a closed one
-pub record IsSpanned (stream : Stream) (open_at : ℤ) (events : List Event) : Type 0 where
-  pub listed : is_mark_list (format_of stream) (marks_of stream open_at events) ≡ true
-  pub span : HasSpan stream open_at events (anchor_of stream open_at events)
+pub slot_names-append : (xs ys : List MarkView) → slot_names (xs ++ ys) ≡ slot_names xs ++ slot_names ys
+slot_names-append [] ys = refl
+slot_names-append (mark ∷ xs) ys = ap (λ l. names_in mark.kind ++ l) (slot_names-append xs ys) ∙ sym (append_assoc (names_in mark.kind) (slot_names xs) (slot_names ys))
 
--- what a close adds
-closed_listed : (stream : Stream) (o : Option Anchor) (time : ℤ) (copies : List (ℕ × Packet)) (marks : List MarkView) → 0 < stream.frames → IsShaped stream o time copies marks → is_mark_list (format_of stream) (marks ++ (slots_at_close stream copies o time ++ end_mark stream ∷ [])) ≡ true
-closed_listed stream o time copies marks some shaped =
-    is_mark_list_after-append (format_of stream) None marks (slots_at_close stream copies o time ++ end_mark stream ∷ [])
-    ∙ and_true _ _ shaped.listed
-    (is_mark_list_after-append (format_of stream) (last_after None marks) (slots_at_close stream copies o time) (end_mark stream ∷ [])
-    ∙ and_true _ _ (slots_listed o shaped.last)
-    (rw (same_format (format_of stream), end_follows stream.frames (last_after (last_after None marks) (slots_at_close stream copies o time)) (of_last (λ kind. is_end kind ≡ false) (last_after None marks) (slots_at_close stream copies o time) (stands_no_end stream o time (last_after None marks) shaped.last) (slots_no_end o))) refl))
+-- a run of numbers goes on
+names_from-append : (epoch n i j : ℕ) → names_from epoch n i ++ names_from epoch (n + i) j ≡ names_from epoch n (i + j)
+names_from-append epoch n zero j =
+    let same : n + 0 ≡ n = omega arith in
+    let all : j ≡ 0 + j = omega arith in
+    ap (λ b. names_from epoch b j) same ∙ ap (names_from epoch n) all
+names_from-append epoch n (suc i) j =
+    let next : n + suc i ≡ suc n + i = omega arith in
+    let up : suc (i + j) ≡ suc i + j = omega arith in
+    ap (λ l. (epoch, n) ∷ l) (ap (λ b. names_from epoch (suc n) i ++ names_from epoch b j) next ∙ names_from-append epoch (suc n) i j) ∙ ap (names_from epoch n) up
+
+-- up to one end, and from there to a later one
+names_from-on : (epoch n low high : ℕ) → n ≤ low → low ≤ high → names_from epoch n (high - n) ≡ names_from epoch n (low - n) ++ names_from epoch low (high - low)
+names_from-on epoch n low high le more =
+    let seam : n + (low - n) ≡ low = omega (arith, le) in
+    let total : (low - n) + (high - low) ≡ high - n = omega (arith, le, more) in
+    sym (ap (λ b. names_from epoch n (low - n) ++ names_from epoch b (high - low)) (sym seam) ∙ names_from-append epoch n (low - n) (high - low) ∙ ap (names_from epoch n) total)
+
+module _ (stream : Stream) (a : Anchor) (copies : List (ℕ × Packet)) where
+  pub run_names : (n count : ℕ) → slot_names (slots_from stream a copies n count) ≡ names_from a.epoch n count
+  run_names n zero = refl
+  run_names n (suc count) = ap (λ l. (a.epoch, n) ∷ l) (run_names (suc n) count)
+
+-- the slots among the anchors
+AllSlotsAmong-append : (stream : Stream) (anchors : List (ℕ × Anchor)) (copies : List (ℕ × (ℕ × Packet))) (xs ys : List MarkView) → AllSlotsAmong stream anchors copies xs → AllSlotsAmong stream anchors copies ys → AllSlotsAmong stream anchors copies (xs ++ ys)
+AllSlotsAmong-append stream anchors copies [] ys p q = q
+AllSlotsAmong-append stream anchors copies (mark ∷ xs) ys p q = (p.0, AllSlotsAmong-append stream anchors copies xs ys p.1 q)
+
+-- later anchors change none of them
+AllSlotsAmong-more : (stream : Stream) (anchors more : List (ℕ × Anchor)) (copies : List (ℕ × (ℕ × Packet))) (marks : List MarkView) → AllSlotsAmong stream anchors copies marks → AllSlotsAmong stream (anchors ++ more) copies marks
+AllSlotsAmong-more stream anchors more copies [] all = tt
+AllSlotsAmong-more stream anchors more copies (mark ∷ marks) all = (by_kind mark.kind all.0, AllSlotsAmong-more stream anchors more copies marks all.1)
   where
-    slots_listed : (o : Option Anchor) → StandsLast stream o time (last_after None marks) → is_mark_list_after (format_of stream) (last_after None marks) (slots_at_close stream copies o time) ≡ true
-    slots_listed None stands = refl
-    slots_listed (Some a) stands = run_listed stream a copies (last_after None marks) (next_number stream a time) (end_of_copies copies - next_number stream a time) (omega arith) (slot_follows stream a time (last_after None marks) (body_of (first_with (next_number stream a time) copies)) some stands)
+    by_anchor : (epoch n : ℕ) (m : ℤ) (body : Body) (o other : Option Anchor) → IsSlotUnder stream o (copies_in epoch copies) n m body → IsSlotUnder stream (or_else o other) (copies_in epoch copies) n m body
+    by_anchor epoch n m body None other slot = absurd slot
+    by_anchor epoch n m body (Some a) other slot = slot
 
-    slots_no_end : (o : Option Anchor) → AllKinds (λ kind. is_end kind ≡ false) (slots_at_close stream copies o time)
-    slots_no_end None = tt
-    slots_no_end (Some a) = run_no_end stream a copies (next_number stream a time) (end_of_copies copies - next_number stream a time)
-
--- the slots with those of the close
-abbrev pub HasAll : Stream → ℤ → List (ℕ × Packet) → List MarkView → Option Anchor → Type 0
-HasAll stream time copies marks None = slot_numbers marks ≡ []
-HasAll stream time copies marks (Some a) = (slot_numbers marks ≡ numbers_from a.number (max (next_number stream a time) (end_of_copies copies) - a.number)) × AllSlotsWith stream a copies marks
-
-closed_run : (stream : Stream) (o : Option Anchor) (time : ℤ) (copies : List (ℕ × Packet)) (marks : List MarkView) → HasRun stream o time copies marks → HasAll stream time copies (marks ++ (slots_at_close stream copies o time ++ end_mark stream ∷ [])) o
-closed_run stream None time copies marks run = slot_numbers-append marks (end_mark stream ∷ []) ∙ rw append-nil run
-closed_run stream (Some a) time copies marks run =
-    let seam : a.number + (next_number stream a time - a.number) ≡ next_number stream a time = omega arith in
-    let total : (next_number stream a time - a.number) + (end_of_copies copies - next_number stream a time) ≡ max (next_number stream a time) (end_of_copies copies) - a.number = omega arith in (
-      slot_numbers-append marks (slots_from stream a copies (next_number stream a time) (end_of_copies copies - next_number stream a time) ++ end_mark stream ∷ [])
-          ∙ ap (λ l. slot_numbers marks ++ l) (slot_numbers-append (slots_from stream a copies (next_number stream a time) (end_of_copies copies - next_number stream a time)) (end_mark stream ∷ []) ∙ append-nil _ ∙ run_numbers stream a copies (next_number stream a time) (end_of_copies copies - next_number stream a time))
-          ∙ ap (λ l. l ++ numbers_from (next_number stream a time) (end_of_copies copies - next_number stream a time)) run.0
-          ∙ ap (λ b. numbers_from a.number (next_number stream a time - a.number) ++ numbers_from b (end_of_copies copies - next_number stream a time)) (sym seam)
-          ∙ numbers_from-append a.number (next_number stream a time - a.number) (end_of_copies copies - next_number stream a time)
-          ∙ ap (numbers_from a.number) total,
-      AllSlotsWith-append stream a copies marks (slots_from stream a copies (next_number stream a time) (end_of_copies copies - next_number stream a time) ++ end_mark stream ∷ []) run.1 (AllSlotsWith-append stream a copies (slots_from stream a copies (next_number stream a time) (end_of_copies copies - next_number stream a time)) (end_mark stream ∷ []) (run_slots stream a copies (next_number stream a time) (end_of_copies copies - next_number stream a time)) (tt, tt)),
-    )
-
-open_span : (stream : Stream) (open_at : ℤ) (events : List Event) (o : Option Anchor) → is_closed events ≡ false → HasRun stream o (time_of open_at events) (copies_of stream open_at events) (marks_of stream open_at events) → HasSpan stream open_at events o
-open_span stream open_at events None still run = run
-open_span stream open_at events (Some a) still run = rw still run
-
-closed_span : (stream : Stream) (open_at : ℤ) (events : List Event) (o : Option Anchor) (time : ℤ) (copies : List (ℕ × Packet)) (marks : List MarkView) → is_closed events ≡ true → time_of open_at events ≡ time → copies_of stream open_at events ≡ copies → marks_of stream open_at events ≡ marks → HasAll stream time copies marks o → HasSpan stream open_at events o
-closed_span stream open_at events None time copies marks shut e f g all = rw g all
-closed_span stream open_at events (Some a) time copies marks shut e f g all = rw (shut, e, f, g) all
-
-pub spanned : (stream : Stream) (open_at : ℤ) (events : List Event) → 0 < stream.frames → is_well_timed open_at events ≡ true → IsSpanned stream open_at events
-spanned stream open_at events some well_timed = by_test (is_closed events) refl
-  where
-    by_test : (b : Bool) → is_closed events ≡ b → IsSpanned stream open_at events
-    by_test false still =
-        let shaped : IsShaped stream (anchor_of stream open_at events) (time_of open_at events) (copies_of stream open_at events) (marks_of stream open_at events) = rw (marks_of-in stream open_at events) (shaped_open stream open_at some (copies_of stream open_at events) events well_timed still) in
-        record { listed = shaped.listed; span = open_span stream open_at events (anchor_of stream open_at events) still shaped.run }
-    by_test true shut =
-        let c = closed_at stream open_at events well_timed shut in
-        let before = events_until_close events in
-        let shaped : IsShaped stream (anchor_of stream open_at (events_until_close events)) (time_of open_at (events_until_close events)) (copies_of stream open_at (events_until_close events)) (marks_of stream open_at (events_until_close events)) = rw (marks_of-in stream open_at (events_until_close events)) (shaped_open stream open_at some (copies_of stream open_at (events_until_close events)) (events_until_close events) c.well_timed c.open_yet) in
-        record {
-          listed = ap (is_mark_list (format_of stream)) c.marks ∙ closed_listed stream (anchor_of stream open_at (events_until_close events)) (time_of open_at (events_until_close events)) (copies_of stream open_at (events_until_close events)) (marks_of stream open_at (events_until_close events)) some shaped;
-          span = subst (HasSpan stream open_at events) (sym c.anchor) (closed_span stream open_at events (anchor_of stream open_at (events_until_close events)) (time_of open_at (events_until_close events)) (copies_of stream open_at (events_until_close events)) _ shut c.time c.copies c.marks (closed_run stream (anchor_of stream open_at (events_until_close events)) (time_of open_at (events_until_close events)) (copies_of stream open_at (events_until_close events)) (marks_of stream open_at (events_until_close events)) shaped.run));
-        }
-
--- every anchor is of the first epoch
-abbrev FirstEpoch : Option Anchor → Type 0
-FirstEpoch None = Unit {0}
-FirstEpoch (Some a) = a.epoch ≡ 0
-
-first_epoch : (stream : Stream) (open_at : ℤ) (events : List Event) → FirstEpoch (anchor_of stream open_at events)
-first_epoch stream open_at = by_last_event (λ events. FirstEpoch (anchor_of stream open_at events)) (rw (no_anchor_yet stream open_at) tt) (λ events event before. rw (anchor_of-push stream open_at events event) (step events event (anchor_of stream open_at events) before))
-  where
-    by_test : (time : ℤ) (packet : Packet) (b : Bool) → FirstEpoch (first_of (if b then anchor_from stream time packet ∷ [] else []))
-    by_test time packet true = refl
-    by_test time packet false = tt
-
-    step : (events : List Event) (event : Event) (o : Option Anchor) → FirstEpoch o → FirstEpoch (elim o [ None ↦ first_of (anchors_at stream open_at events event) | Some a ↦ Some a ])
-    step events event (Some a) before = before
-    step events (Arrive path packet) None before = by_test (time_of open_at events) packet (is_counting events && can_anchor stream (time_of open_at events) packet)
-    step events (Tick u) None before = tt
-    step events Close None before = tt
-
-epochs_with : (stream : Stream) (a : Anchor) (copies : List (ℕ × Packet)) (marks : List MarkView) → a.epoch ≡ 0 → AllSlotsWith stream a copies marks → AllOfFirstEpoch marks
-epochs_with stream a copies [] first all = tt
-epochs_with stream a copies (mark ∷ marks) first all = (by_kind mark.kind all.0, epochs_with stream a copies marks first all.1)
-  where
-    by_kind : (kind : MarkKind) → IsSlotWith stream a copies kind → IsOfFirstEpoch kind
-    by_kind (Slot e n m b) slot = slot.0 ∙ first
+    by_kind : (kind : MarkKind) → IsSlotAmong stream anchors copies kind → IsSlotAmong stream (anchors ++ more) copies kind
+    by_kind (Slot e n m b) slot = rw (anchor_with-append e anchors more) (by_anchor e n m b (anchor_with e anchors) (anchor_with e more) slot)
     by_kind (Quiet u) slot = tt
     by_kind End slot = tt
 
-epochs_without : (marks : List MarkView) → slot_numbers marks ≡ [] → AllOfFirstEpoch marks
-epochs_without [] none = tt
-epochs_without (mark ∷ marks) none = by_kind (epochs_without marks) mark.kind none
-  where
-    by_kind : (slot_numbers marks ≡ [] → AllOfFirstEpoch marks) → (kind : MarkKind) → numbers_in kind ++ slot_numbers marks ≡ [] → IsOfFirstEpoch kind × AllOfFirstEpoch marks
-    by_kind rest (Slot e n m b) none = cc
-    by_kind rest (Quiet u) none = (tt, rest none)
-    by_kind rest End none = (tt, rest none)
+-- a run of slots under the anchor in force
+run_among : (stream : Stream) (anchors : List (ℕ × Anchor)) (copies : List (ℕ × (ℕ × Packet))) (a : Anchor) → anchor_with a.epoch anchors ≡ Some a → (n count : ℕ) → AllSlotsAmong stream anchors copies (slots_from stream a (copies_in a.epoch copies) n count)
+run_among stream anchors copies a own n zero = tt
+run_among stream anchors copies a own n (suc count) = (rw own (refl, refl), run_among stream anchors copies a own (suc n) count)
 
--- the marks of a history, and each first part of them, are a mark list, all of the first epoch
-pub record IsListed (stream : Stream) (opening : ℤ) (events : List Event) : Type 0 where
-  pub whole : is_mark_list (format_of stream) (marks_of stream opening events) ≡ true
-  pub parts : (k : ℕ) → is_mark_list (format_of stream) (take k (marks_of stream opening events)) ≡ true
-  pub epochs : AllOfFirstEpoch (marks_of stream opening events)
+module _ (stream : Stream) (opening : ℤ) where
+  end_low : (events : List Event) (a : Anchor) → a.number ≤ span_end stream opening events a
+  end_low events a = by_test (is_closed events)
+    where
+      by_test : (b : Bool) → a.number ≤ (if b then max (next_number stream a (time_of opening events)) (end_of_copies (copies_of stream opening events)) else next_number stream a (time_of opening events))
+      by_test true = omega arith
+      by_test false = omega arith
 
-pub listed : (stream : Stream) (open_at : ℤ) (events : List Event) → 0 < stream.frames → is_well_timed open_at events ≡ true → IsListed stream open_at events
-listed stream open_at events some well_timed =
-    let all = spanned stream open_at events some well_timed in
-    record {
-      whole = all.listed;
-      parts = λ k. and_left _ _ (sym (is_mark_list_after-append (format_of stream) None (take k (marks_of stream open_at events)) (drop k (marks_of stream open_at events))) ∙ ap (is_mark_list (format_of stream)) (take-append-drop k (marks_of stream open_at events)) ∙ all.listed);
-      epochs = by_anchor (anchor_of stream open_at events) (first_epoch stream open_at events) all.span;
-    }
-  where
-    by_anchor : (o : Option Anchor) → FirstEpoch o → HasSpan stream open_at events o → AllOfFirstEpoch (marks_of stream open_at events)
-    by_anchor None first span = epochs_without (marks_of stream open_at events) span
-    by_anchor (Some a) first span = epochs_with stream a (copies_of stream open_at events) (marks_of stream open_at events) first span.1
+  -- what one more event adds to the last span
+  abbrev added_span : List Event → Event → Option (ℕ × Anchor) → List (ℕ × ℕ)
+  added_span events event None = []
+  added_span events event (Some (place, a)) = names_from a.epoch (span_end stream opening events a) (span_end stream opening (events ++ event ∷ []) a - span_end stream opening events a)
+
+  earlier_time : (events : List Event) (event : Event) (place : ℕ) → place ≤ length events → time_of opening (take place (events ++ event ∷ [])) ≡ time_of opening (take place events)
+  earlier_time events event place le = ap (time_of opening) (take-append-le place events (event ∷ []) le)
+
+  spans_grow : (events : List Event) (event : Event) → ((a : Anchor) → span_end stream opening events a ≤ span_end stream opening (events ++ event ∷ []) a) → (anchors : List (ℕ × Anchor)) → AllWithin (length events) anchors → spans_of stream opening (events ++ event ∷ []) anchors ≡ spans_of stream opening events anchors ++ added_span events event (last_of anchors)
+  spans_grow events event rises [] within = refl
+  spans_grow events event rises ((place, a) ∷ []) within = names_from-on a.epoch a.number (span_end stream opening events a) (span_end stream opening (events ++ event ∷ []) a) (end_low events a) (rises a)
+  spans_grow events event rises ((place, a) ∷ (place', a') ∷ rest) within =
+      ap (λ t. names_from a.epoch a.number (next_number stream a t - a.number) ++ spans_of stream opening (events ++ event ∷ []) ((place', a') ∷ rest)) (earlier_time events event place' within.1.0)
+      ∙ ap (λ l. names_from a.epoch a.number (next_number stream a (time_of opening (take place' events)) - a.number) ++ l) (spans_grow events event rises ((place', a') ∷ rest) within.1)
+      ∙ sym (append_assoc (names_from a.epoch a.number (next_number stream a (time_of opening (take place' events)) - a.number)) (spans_of stream opening events ((place', a') ∷ rest)) (added_span events event (last_of ((place', a') ∷ rest))))
+
+  -- an event that moves no end
+  spans_stay : (events : List Event) (event : Event) → ((a : Anchor) → span_end stream opening (events ++ event ∷ []) a ≡ span_end stream opening events a) → (anchors : List (ℕ × Anchor)) → AllWithin (length events) anchors → spans_of stream opening (events ++ event ∷ []) anchors ≡ spans_of stream opening events anchors
+  spans_stay events event same [] within = refl
+  spans_stay events event same ((place, a) ∷ []) within = ap (λ e. names_from a.epoch a.number (e - a.number)) (same a)
+  spans_stay events event same ((place, a) ∷ (place', a') ∷ rest) within =
+      ap (λ t. names_from a.epoch a.number (next_number stream a t - a.number) ++ spans_of stream opening (events ++ event ∷ []) ((place', a') ∷ rest)) (earlier_time events event place' within.1.0)
+      ∙ ap (λ l. names_from a.epoch a.number (next_number stream a (time_of opening (take place' events)) - a.number) ++ l) (spans_stay events event same ((place', a') ∷ rest) within.1)
+
+  -- a new anchor has no slot yet, and ends the span before it where that stands
+  spans_open : (events : List Event) (event : Event) (b : Anchor) → is_closed events ≡ false → span_end stream opening (events ++ event ∷ []) b ≡ b.number → (anchors : List (ℕ × Anchor)) → AllWithin (length events) anchors → spans_of stream opening (events ++ event ∷ []) (anchors ++ (length events, b) ∷ []) ≡ spans_of stream opening events anchors
+  spans_open events event b still fresh [] within =
+      let none : span_end stream opening (events ++ event ∷ []) b - b.number ≡ 0 = omega (arith, fresh) in
+      ap (names_from b.epoch b.number) none
+  spans_open events event b still fresh ((place, a) ∷ []) within =
+      let none : span_end stream opening (events ++ event ∷ []) b - b.number ≡ 0 = omega (arith, fresh) in
+      ap (λ l. names_from a.epoch a.number (next_number stream a (time_of opening l) - a.number) ++ names_from b.epoch b.number (span_end stream opening (events ++ event ∷ []) b - b.number)) (take-append_seam events (event ∷ []))
+      ∙ ap (λ c. names_from a.epoch a.number (next_number stream a (time_of opening events) - a.number) ++ names_from b.epoch b.number c) none
+      ∙ append-nil (names_from a.epoch a.number (next_number stream a (time_of opening events) - a.number))
+      ∙ sym (rw still refl)
+  spans_open events event b still fresh ((place, a) ∷ (place', a') ∷ rest) within =
+      ap (λ t. names_from a.epoch a.number (next_number stream a t - a.number) ++ spans_of stream opening (events ++ event ∷ []) (((place', a') ∷ rest) ++ (length events, b) ∷ [])) (earlier_time events event place' within.1.0)
+      ∙ ap (λ l. names_from a.epoch a.number (next_number stream a (time_of opening (take place' events)) - a.number) ++ l) (spans_open events event b still fresh ((place', a') ∷ rest) within.1)
+
+  -- the slots so far, with these copies
+  pub record HasRun (copies : List (ℕ × (ℕ × Packet))) (events : List Event) (marks : List MarkView) : Type 0 where
+    pub names : slot_names marks ≡ spans_of stream opening events (anchors_of stream opening events)
+    pub slots : AllSlotsAmong stream (anchors_of stream opening events) copies marks
+
+  -- the end of the span in force, of an open history
+  open_end : (events : List Event) (a : Anchor) → is_closed events ≡ false → span_end stream opening events a ≡ next_number stream a (time_of opening events)
+  open_end events a still = rw still refl
+
+  pub quiet_names : (given : List MarkView) (u : ℤ) (slots : List MarkView) → slot_names (slots_or_quiet stream opening given u slots) ≡ slot_names slots
+  quiet_names given u (mark ∷ slots) = refl
+  quiet_names given u [] = by_test (is_quiet_new stream opening given (u -ℤ pos stream.latency))
+    where
+      by_test : (c : Bool) → slot_names (if c then quiet_mark stream (u -ℤ pos stream.latency) ∷ [] else []) ≡ []
+      by_test true = refl
+      by_test false = refl
+
+  quiet_among : (anchors : List (ℕ × Anchor)) (copies : List (ℕ × (ℕ × Packet))) (given : List MarkView) (u : ℤ) (slots : List MarkView) → AllSlotsAmong stream anchors copies slots → AllSlotsAmong stream anchors copies (slots_or_quiet stream opening given u slots)
+  quiet_among anchors copies given u (mark ∷ slots) all = all
+  quiet_among anchors copies given u [] all = by_test (is_quiet_new stream opening given (u -ℤ pos stream.latency))
+    where
+      by_test : (c : Bool) → AllSlotsAmong stream anchors copies (if c then quiet_mark stream (u -ℤ pos stream.latency) ∷ [] else [])
+      by_test true = (tt, tt)
+      by_test false = tt
+
+module _ (stream : Stream) (opening : ℤ) (some : 0 < stream.frames) where
+  -- the end of a span after one more arrival
+  arrived_end : (events : List Event) (path : ℕ) (packet : Packet) → is_closed events ≡ false → (a : Anchor) → span_end stream opening (events ++ Arrive path packet ∷ []) a ≡ next_number stream a (time_of opening events)
+  arrived_end events path packet still a =
+      open_end stream opening (events ++ Arrive path packet ∷ []) a (is_closed-append events (Arrive path packet ∷ []) ∙ rw still refl)
+      ∙ ap (next_number stream a) (time_of-append opening events (Arrive path packet ∷ []))
+
+  arrived_run : (copies : List (ℕ × (ℕ × Packet))) (events : List Event) (path : ℕ) (packet : Packet) (marks : List MarkView) → is_closed events ≡ false → HasRun stream opening copies events marks → HasRun stream opening copies (events ++ Arrive path packet ∷ []) marks
+  arrived_run copies events path packet marks still run = record {
+    names = run.names ∙ sym (ap (spans_of stream opening (events ++ Arrive path packet ∷ [])) (anchors_of-push stream opening events (Arrive path packet)) ∙ by_anchor_made stream opening some events path packet (λ made. spans_of stream opening (events ++ Arrive path packet ∷ []) (anchors_of stream opening events ++ made) ≡ spans_of stream opening events (anchors_of stream opening events)) none one);
+    slots = rw (anchors_of-push stream opening events (Arrive path packet)) (AllSlotsAmong-more stream (anchors_of stream opening events) (anchors_at stream opening (anchors_of stream opening events) events (Arrive path packet)) copies marks run.slots);
+  }
+    where
+      none : spans_of stream opening (events ++ Arrive path packet ∷ []) (anchors_of stream opening events ++ []) ≡ spans_of stream opening events (anchors_of stream opening events)
+      none =
+          ap (spans_of stream opening (events ++ Arrive path packet ∷ [])) (append-nil (anchors_of stream opening events))
+          ∙ spans_stay stream opening events (Arrive path packet) (λ a. arrived_end events path packet still a ∙ sym (open_end stream opening events a still)) (anchors_of stream opening events) (all_within stream opening some events)
+
+      one : (b : Anchor) → IsMade stream opening events path packet (last_of (anchors_of stream opening events)) b → spans_of stream opening (events ++ Arrive path packet ∷ []) (anchors_of stream opening events ++ (length events, b) ∷ []) ≡ spans_of stream opening events (anchors_of stream opening events)
+      one b made = spans_open stream opening events (Arrive path packet) b still (arrived_end events path packet still b ∙ next_number-fresh stream b (time_of opening events) some made.early) (anchors_of stream opening events) (all_within stream opening some events)
+
+  -- slots that are added up to another end of the last span
+  more_run : (copies : List (ℕ × (ℕ × Packet))) (events : List Event) (event : Event) (marks more : List MarkView) → anchors_of stream opening (events ++ event ∷ []) ≡ anchors_of stream opening events → ((a : Anchor) → span_end stream opening events a ≤ span_end stream opening (events ++ event ∷ []) a) → slot_names more ≡ added_span stream opening events event (last_of (anchors_of stream opening events)) → AllSlotsAmong stream (anchors_of stream opening events) copies more → HasRun stream opening copies events marks → HasRun stream opening copies (events ++ event ∷ []) (marks ++ more)
+  more_run copies events event marks more same rises names slots run = record {
+    names =
+        slot_names-append marks more
+        ∙ ap (λ l. l ++ slot_names more) run.names
+        ∙ ap (λ l. spans_of stream opening events (anchors_of stream opening events) ++ l) names
+        ∙ sym (spans_grow stream opening events event rises (anchors_of stream opening events) (all_within stream opening some events))
+        ∙ sym (ap (spans_of stream opening (events ++ event ∷ [])) same);
+    slots = rw same (AllSlotsAmong-append stream (anchors_of stream opening events) copies marks more run.slots slots);
+  }
+
+  ticked_run : (copies : List (ℕ × (ℕ × Packet))) (events : List Event) (u : ℤ) (marks : List MarkView) → is_closed events ≡ false → time_of opening events ≤ℤ u → HasRun stream opening copies events marks → HasRun stream opening copies (events ++ Tick u ∷ []) (marks ++ slots_or_quiet stream opening marks u (slots_between stream (copies_with (anchor_of stream opening events) copies) (anchor_of stream opening events) (time_of opening events) u))
+  ticked_run copies events u marks still le run =
+      more_run copies events (Tick u) marks (slots_or_quiet stream opening marks u (slots_between stream (copies_with (anchor_of stream opening events) copies) (anchor_of stream opening events) (time_of opening events) u))
+      (anchors_of-push stream opening events (Tick u) ∙ append-nil _)
+      (λ a. omega (arith, open_end stream opening events a still, ticked_end a, next_number-rises stream a (time_of opening events) u some le))
+      (quiet_names stream opening marks u (slots_between stream (copies_with (anchor_of stream opening events) copies) (anchor_of stream opening events) (time_of opening events) u)
+      ∙ ap (λ o. slot_names (slots_between stream (copies_with o copies) o (time_of opening events) u)) (anchor_is stream opening events)
+      ∙ between_names (last_of (anchors_of stream opening events)))
+      (quiet_among stream opening (anchors_of stream opening events) copies marks u (slots_between stream (copies_with (anchor_of stream opening events) copies) (anchor_of stream opening events) (time_of opening events) u)
+      (subst (λ o. AllSlotsAmong stream (anchors_of stream opening events) copies (slots_between stream (copies_with o copies) o (time_of opening events) u)) (sym (anchor_is stream opening events)) (between_among (anchor_in (last_of (anchors_of stream opening events))) (has_epochs stream opening some events).own)))
+      run
+    where
+      ticked_end : (a : Anchor) → span_end stream opening (events ++ Tick u ∷ []) a ≡ next_number stream a u
+      ticked_end a =
+          open_end stream opening (events ++ Tick u ∷ []) a (is_closed-append events (Tick u ∷ []) ∙ rw still refl)
+          ∙ ap (next_number stream a) (time_of-append opening events (Tick u ∷ []))
+
+      between_names : (o : Option (ℕ × Anchor)) → slot_names (slots_between stream (copies_with (anchor_in o) copies) (anchor_in o) (time_of opening events) u) ≡ added_span stream opening events (Tick u) o
+      between_names None = refl
+      between_names (Some (place, a)) = rw (ticked_end a, open_end stream opening events a still) (run_names stream a (copies_in a.epoch copies) (next_number stream a (time_of opening events)) (next_number stream a u - next_number stream a (time_of opening events)))
+
+      between_among : (o : Option Anchor) → IsOwn o (anchors_of stream opening events) → AllSlotsAmong stream (anchors_of stream opening events) copies (slots_between stream (copies_with o copies) o (time_of opening events) u)
+      between_among None own = tt
+      between_among (Some a) own = run_among stream (anchors_of stream opening events) copies a own (next_number stream a (time_of opening events)) (next_number stream a u - next_number stream a (time_of opening events))
+
+  -- the slots of an open history are its spans
+  run_open : (copies : List (ℕ × (ℕ × Packet))) (events : List Event) → is_well_timed opening events ≡ true → is_closed events ≡ false → HasRun stream opening copies events (marks_in stream opening copies events)
+  run_open copies = by_open_event stream opening some (λ events. HasRun stream opening copies events (marks_in stream opening copies events))
+      (rw (marks_in-none stream opening copies) (record { names = sym (ap (spans_of stream opening []) (no_anchors stream opening)); slots = tt }))
+      (λ events path packet _ _ still run.
+      rw (marks_in-push stream opening copies events (Arrive path packet), append-nil)
+      (arrived_run copies events path packet (marks_in stream opening copies events) still run))
+      (λ events u t run.
+      rw (marks_in-push stream opening copies events (Tick u), t.open_yet)
+      (ticked_run copies events u (marks_in stream opening copies events) t.open_yet t.not_back run))
+
+  -- a close adds the slots that are left
+  closed_end : (events : List Event) (event : Event) → is_closed (events ++ event ∷ []) ≡ true → (a : Anchor) → time_of opening (events ++ event ∷ []) ≡ time_of opening events → copies_of stream opening (events ++ event ∷ []) ≡ copies_of stream opening events → span_end stream opening (events ++ event ∷ []) a ≡ max (next_number stream a (time_of opening events)) (end_of_copies (copies_of stream opening events))
+  closed_end events event shut a time copies = rw (shut, time, copies) refl
+
+  close_end : (events : List Event) → is_closed events ≡ false → (a : Anchor) → span_end stream opening (events ++ Close ∷ []) a ≡ max (next_number stream a (time_of opening events)) (end_of_copies (copies_of stream opening events))
+  close_end events still a = closed_end events Close (is_closed-append events (Close ∷ []) ∙ rw still refl) a (time_of-append opening events (Close ∷ [])) (copies_of-close stream opening events)
+
+  closed_run : (copies : List (ℕ × (ℕ × Packet))) (events : List Event) (marks : List MarkView) → copies_with (anchor_of stream opening events) copies ≡ copies_of stream opening events → is_closed events ≡ false → HasRun stream opening copies events marks → HasRun stream opening copies (events ++ Close ∷ []) (marks ++ (slots_at_close stream (copies_with (anchor_of stream opening events) copies) (anchor_of stream opening events) (time_of opening events) ++ end_mark stream ∷ []))
+  closed_run copies events marks own still run =
+      more_run copies events Close marks (slots_at_close stream (copies_with (anchor_of stream opening events) copies) (anchor_of stream opening events) (time_of opening events) ++ end_mark stream ∷ [])
+      (anchors_of-push stream opening events Close ∙ append-nil _)
+      (λ a. omega (arith, open_end stream opening events a still, close_end events still a))
+      (slot_names-append (slots_at_close stream (copies_with (anchor_of stream opening events) copies) (anchor_of stream opening events) (time_of opening events)) (end_mark stream ∷ []) ∙ append-nil _
+      ∙ ap (λ o. slot_names (slots_at_close stream (copies_with o copies) o (time_of opening events))) (anchor_is stream opening events)
+      ∙ left_names (last_of (anchors_of stream opening events)) (ap (λ o. copies_with o copies) (sym (anchor_is stream opening events)) ∙ own))
+      (AllSlotsAmong-append stream (anchors_of stream opening events) copies (slots_at_close stream (copies_with (anchor_of stream opening events) copies) (anchor_of stream opening events) (time_of opening events)) (end_mark stream ∷ [])
+      (subst (λ o. AllSlotsAmong stream (anchors_of stream opening events) copies (slots_at_close stream (copies_with o copies) o (time_of opening events))) (sym (anchor_is stream opening events)) (left_among (anchor_in (last_of (anchors_of stream opening events))) (has_epochs stream opening some events).own))
+      (tt, tt))
+      run
+    where
+      left_names : (o : Option (ℕ × Anchor)) → copies_with (anchor_in o) copies ≡ copies_of stream opening events → slot_names (slots_at_close stream (copies_with (anchor_in o) copies) (anchor_in o) (time_of opening events)) ≡ added_span stream opening events Close o
+      left_names None is = refl
+      left_names (Some (place, a)) is =
+          let count : max (next_number stream a (time_of opening events)) (end_of_copies (copies_of stream opening events)) - next_number stream a (time_of opening events) ≡ end_of_copies (copies_of stream opening events) - next_number stream a (time_of opening events) = omega arith in
+          rw (is, close_end events still a, open_end stream opening events a still, count) (run_names stream a (copies_of stream opening events) (next_number stream a (time_of opening events)) (end_of_copies (copies_of stream opening events) - next_number stream a (time_of opening events)))
+
+      left_among : (o : Option Anchor) → IsOwn o (anchors_of stream opening events) → AllSlotsAmong stream (anchors_of stream opening events) copies (slots_at_close stream (copies_with o copies) o (time_of opening events))
+      left_among None own = tt
+      left_among (Some a) own = run_among stream (anchors_of stream opening events) copies a own (next_number stream a (time_of opening events)) (end_of_copies (copies_in a.epoch copies) - next_number stream a (time_of opening events))
+
+  run_at : (events : List Event) → is_well_timed opening events ≡ true → is_closed events ≡ false → HasRun stream opening (copies_of_all stream opening events) events (marks_of stream opening events)
+  run_at events well_timed still = rw (marks_of-in stream opening events) (run_open (copies_of_all stream opening events) events well_timed still)
+
+  -- one more event after a close
+  spans_kept : (events : List Event) (event : Event) → is_closed events ≡ true → time_of opening (events ++ event ∷ []) ≡ time_of opening events → anchors_of stream opening (events ++ event ∷ []) ≡ anchors_of stream opening events → copies_of_all stream opening (events ++ event ∷ []) ≡ copies_of_all stream opening events → copies_of stream opening (events ++ event ∷ []) ≡ copies_of stream opening events → HasSpans stream opening events → HasSpans stream opening (events ++ event ∷ [])
+  spans_kept events event shut time anchors all copies has = record {
+    epochs = (has_epochs stream opening some (events ++ event ∷ [])).epochs;
+    names =
+        ap slot_names (marks_of-closed stream opening events event shut)
+        ∙ has.names
+        ∙ sym (ap (spans_of stream opening (events ++ event ∷ [])) anchors ∙ spans_stay stream opening events event (λ a. closed_end events event (closed_stays events (event ∷ []) shut) a time copies ∙ sym (rw shut refl)) (anchors_of stream opening events) (all_within stream opening some events));
+    slots = rw (anchors, all, marks_of-closed stream opening events event shut) has.slots;
+  }
+
+  spans_closed : (events : List Event) → is_well_timed opening events ≡ true → is_closed events ≡ true → HasSpans stream opening events
+  spans_closed = by_last_event (λ events. is_well_timed opening events ≡ true → is_closed events ≡ true → HasSpans stream opening events) (λ _ shut. cc) step
+    where
+      step : (events : List Event) (event : Event) → (is_well_timed opening events ≡ true → is_closed events ≡ true → HasSpans stream opening events) → is_well_timed opening (events ++ event ∷ []) ≡ true → is_closed (events ++ event ∷ []) ≡ true → HasSpans stream opening (events ++ event ∷ [])
+      step events (Tick u) before well_timed shut = absurd (let still = (well_timed_tick opening events u well_timed).open_yet in let was = closed_before events (Tick u) refl shut in cc)
+      step events (Arrive path packet) before well_timed shut =
+          let was = closed_before events (Arrive path packet) refl shut in
+          let deaf : is_counting events ≡ false = rw was refl in
+          spans_kept events (Arrive path packet) was (time_of-append opening events (Arrive path packet ∷ [])) (deaf_anchors stream opening events deaf path packet) (deaf_copies_all stream opening events deaf path packet) (deaf_copies stream opening events deaf path packet) (before (well_timed_before opening events (Arrive path packet) well_timed) was)
+      step events Close before well_timed shut = by_test (is_closed events) refl
+        where
+          timed : is_well_timed opening events ≡ true
+          timed = well_timed_before opening events Close well_timed
+
+          by_test : (b : Bool) → is_closed events ≡ b → HasSpans stream opening (events ++ Close ∷ [])
+          by_test true was = spans_kept events Close was (time_of-append opening events (Close ∷ [])) (anchors_of-push stream opening events Close ∙ append-nil _) (copies_of_all-close stream opening events) (copies_of-close stream opening events) (before timed was)
+          by_test false still =
+              let run = closed_run (copies_of_all stream opening events) events (marks_of stream opening events) (copies_of-with stream opening events) still (run_at events timed still) in
+              let marks : marks_of stream opening (events ++ Close ∷ []) ≡ marks_of stream opening events ++ (slots_at_close stream (copies_with (anchor_of stream opening events) (copies_of_all stream opening events)) (anchor_of stream opening events) (time_of opening events) ++ end_mark stream ∷ []) = marks_of-close stream opening events ∙ rw still refl in
+              record { epochs = (has_epochs stream opening some (events ++ Close ∷ [])).epochs; names = ap slot_names marks ∙ run.names; slots = rw (marks, copies_of_all-close stream opening events) run.slots }
+
+  -- the slots of every history are its spans
+  pub spanned : (events : List Event) → is_well_timed opening events ≡ true → HasSpans stream opening events
+  spanned events well_timed = by_test (is_closed events) refl
+    where
+      by_test : (b : Bool) → is_closed events ≡ b → HasSpans stream opening events
+      by_test false still = let run = run_at events well_timed still in record { epochs = (has_epochs stream opening some events).epochs; names = run.names; slots = run.slots }
+      by_test true shut = spans_closed events well_timed shut

@@ -5,7 +5,7 @@ use Rattle.path_merge.specs.MarkFacts.{MarkView}
 use Rattle.path_merge.specs.CountsFacts.{Tally}
 use Rattle.path_merge.specs.declared.counts.Counts.{Counts}
 use Rattle.path_merge.specs.declared.fate.Fate.{Fate}
-use Rattle.path_merge.specs.declared.fate.Fate.TheVariants.{WrongSource, OffGrid, Late, Ahead, Taken, Double, Unlike}
+use Rattle.path_merge.specs.declared.fate.Fate.TheVariants.{Closed, CountersFull, WrongSource, OffGrid, Late, Ahead, Taken, Double, Unlike, Restarted}
 use Rattle.path_merge.specs.declared.mark.Body.{Body}
 use Rattle.path_merge.specs.declared.mark.Body.TheVariants.{Got, Lost}
 use Rattle.path_merge.specs.declared.mark.MarkKind.{MarkKind}
@@ -29,7 +29,14 @@ tally_of c = record {
   wrong_source = c.wrong_source;
   got = c.got;
   lost = c.lost;
+  restarts = c.restarts;
 }
+
+-- after a close nothing counts, nor after 2^62 arrivals
+abbrev pub is_counted_fate : Fate → Bool
+is_counted_fate Closed = false
+is_counted_fate CountersFull = false
+is_counted_fate _ = true
 
 abbrev pub is_wrong_source : Fate → Bool
 is_wrong_source WrongSource = true
@@ -47,9 +54,15 @@ abbrev pub is_ahead : Fate → Bool
 is_ahead Ahead = true
 is_ahead _ = false
 
+-- the packet is held: it is the first copy of its number, also where it opens an epoch
 abbrev pub is_taken_fate : Fate → Bool
 is_taken_fate Taken = true
+is_taken_fate Restarted = true
 is_taken_fate _ = false
+
+abbrev pub is_restarted : Fate → Bool
+is_restarted Restarted = true
+is_restarted _ = false
 
 abbrev pub is_double : Fate → Bool
 is_double Double = true
@@ -61,7 +74,7 @@ is_unlike _ = false
 
 -- the path and the fate of an arrival that counts
 abbrev pub fates_at : Stream → ℤ → List Event → Event → List (ℕ × Fate)
-fates_at stream opening before (Arrive path packet) = if is_counting before then (path, fate_of stream opening before packet) ∷ [] else []
+fates_at stream opening before (Arrive path packet) = if is_counting before then (path, fate_of stream opening before path packet) ∷ [] else []
 fates_at stream opening before (Tick u) = []
 fates_at stream opening before Close = []
 
@@ -108,6 +121,7 @@ tally_of_fates fates given = record {
   wrong_source = fate_count is_wrong_source fates;
   got = count_by (λ mark. is_got mark.kind) given;
   lost = count_by (λ mark. is_lost mark.kind) given;
+  restarts = fate_count is_restarted fates;
 }
 
 -- the counts of a history of which these marks were given

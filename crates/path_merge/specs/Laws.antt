@@ -1,5 +1,5 @@
 -- What the definitions promise together, in the subject's own words.
-use Rattle.std.specs.Prelude.{◌≡◌, ℕ, zero, suc, ◌-◌, ◌^◌, ◌<◌, ◌≤◌, true, false, List, [], ◌∷◌, ◌++◌, ℤ, pos, ◌≤ℤ◌, ◌<ℤ◌, Option, Some, None}
+use Rattle.std.specs.Prelude.{◌≡◌, ℕ, zero, suc, ◌-◌, ◌^◌, ◌<◌, ◌≤◌, true, false, List, [], ◌∷◌, ◌++◌, ℤ, pos, ◌+ℤ◌, ◌≤ℤ◌, ◌<ℤ◌, Option, Some, None}
 use Rattle.path_merge.specs.StreamSpecFacts.{Stream}
 use Rattle.path_merge.specs.MarkFacts.{MarkView}
 use Rattle.path_merge.specs.declared.anchor.Anchor.{Anchor}
@@ -8,9 +8,9 @@ use Rattle.path_merge.specs.declared.mark.MarkKind.{MarkKind}
 use Rattle.path_merge.specs.declared.mark.MarkKind.TheVariants.{Slot, Quiet, End}
 use Rattle.path_merge.specs.declared.event.Event.{Event}
 use Rattle.path_merge.specs.History.{time_of, is_closed, is_well_timed}
-use Rattle.path_merge.specs.Anchor.{anchor_of, media_time_of, deadline_of, next_number}
-use Rattle.path_merge.specs.Copies.{copies_of, first_with}
-use Rattle.path_merge.specs.Marks.{marks_of, body_of, end_of_copies, span_end}
+use Rattle.path_merge.specs.Anchor.{deadline_of, next_number}
+use Rattle.path_merge.specs.Epochs.{anchor_of}
+use Rattle.path_merge.specs.Grid.{end_of_copies}
 
 -- the number due next is the least from the anchor's on whose deadline is still to come
 pub record IsLeastDue (stream : Stream) (anchor : Anchor) (time : ℤ) : Type 0 where
@@ -31,53 +31,52 @@ pub record IsOpen (opening : ℤ) (events : List Event) : Type 0 where
   pub well_timed : is_well_timed opening events ≡ true
   pub open_yet : is_closed events ≡ false
 
--- the numbers of the slots, in their order
-abbrev pub numbers_in : MarkKind → List ℕ
-numbers_in (Slot epoch number media body) = number ∷ []
-numbers_in (Quiet until) = []
-numbers_in End = []
+-- the slots, each by its epoch and number, in their order
+abbrev pub names_in : MarkKind → List (ℕ × ℕ)
+names_in (Slot epoch number media body) = (epoch, number) ∷ []
+names_in (Quiet until) = []
+names_in End = []
 
-abbrev pub slot_numbers : List MarkView → List ℕ
-slot_numbers [] = []
-slot_numbers (mark ∷ marks) = numbers_in mark.kind ++ slot_numbers marks
+abbrev pub slot_names : List MarkView → List (ℕ × ℕ)
+slot_names [] = []
+slot_names (mark ∷ marks) = names_in mark.kind ++ slot_names marks
+
+-- the media times of the slots, in their order
+abbrev pub times_in : MarkKind → List ℤ
+times_in (Slot epoch number media body) = media ∷ []
+times_in (Quiet until) = []
+times_in End = []
+
+abbrev pub slot_times : List MarkView → List ℤ
+slot_times [] = []
+slot_times (mark ∷ marks) = times_in mark.kind ++ slot_times marks
+
+-- none of these times is before this one
+abbrev pub AllTimesFrom : ℤ → List ℤ → Type 0
+AllTimesFrom limit [] = Unit {0}
+AllTimesFrom limit (time ∷ times) = (limit ≤ℤ time) × AllTimesFrom limit times
+
+-- media time never goes back: each slot, so many sampling instants long, has ended where any later one begins
+abbrev pub AreInOrder : ℕ → List ℤ → Type 0
+AreInOrder frames [] = Unit {0}
+AreInOrder frames (time ∷ times) = AllTimesFrom (time +ℤ pos frames) times × AreInOrder frames times
 
 -- `count` numbers from one on, rising, each once
 abbrev pub numbers_from : ℕ → ℕ → List ℕ
 numbers_from n zero = []
 numbers_from n (suc count) = n ∷ numbers_from (suc n) count
 
--- a slot has its anchor's epoch, the media time of its number, and the payload of the first copy or none
-abbrev pub IsSlotWith : Stream → Anchor → List (ℕ × Packet) → MarkKind → Type 0
-IsSlotWith stream anchor copies (Slot epoch number media body) = (epoch ≡ anchor.epoch) × (media ≡ media_time_of stream anchor number) × (body ≡ body_of (first_with number copies))
-IsSlotWith stream anchor copies (Quiet until) = Unit {0}
-IsSlotWith stream anchor copies End = Unit {0}
+-- and those of an epoch
+abbrev pub names_from : ℕ → ℕ → ℕ → List (ℕ × ℕ)
+names_from epoch n zero = []
+names_from epoch n (suc count) = (epoch, n) ∷ names_from epoch (suc n) count
 
-abbrev pub AllSlotsWith : Stream → Anchor → List (ℕ × Packet) → List MarkView → Type 0
-AllSlotsWith stream anchor copies [] = Unit {0}
-AllSlotsWith stream anchor copies (mark ∷ marks) = IsSlotWith stream anchor copies mark.kind × AllSlotsWith stream anchor copies marks
-
--- the slots are those of the span, each number once, rising, each with its first in-time copy; without an anchor there are none
-abbrev pub HasSpan : Stream → ℤ → List Event → Option Anchor → Type 0
-HasSpan stream opening events None = slot_numbers (marks_of stream opening events) ≡ []
-HasSpan stream opening events (Some anchor) =
-    (slot_numbers (marks_of stream opening events) ≡ numbers_from anchor.number (span_end stream opening events anchor - anchor.number))
-    × (AllSlotsWith stream anchor (copies_of stream opening events) (marks_of stream opening events))
-
-abbrev pub IsOfFirstEpoch : MarkKind → Type 0
-IsOfFirstEpoch (Slot epoch number media body) = epoch ≡ 0
-IsOfFirstEpoch (Quiet until) = Unit {0}
-IsOfFirstEpoch End = Unit {0}
-
-abbrev pub AllOfFirstEpoch : List MarkView → Type 0
-AllOfFirstEpoch [] = Unit {0}
-AllOfFirstEpoch (mark ∷ marks) = IsOfFirstEpoch mark.kind × AllOfFirstEpoch marks
-
--- a tick gives the slots whose deadlines it reaches: those after the time and not after the tick, rising
-abbrev pub slots_reached : Stream → Option Anchor → ℤ → ℤ → List ℕ
+-- a tick gives the slots of the epoch in force whose deadlines it reaches: those after the time and not after the tick, rising
+abbrev pub slots_reached : Stream → Option Anchor → ℤ → ℤ → List (ℕ × ℕ)
 slots_reached stream None time u = []
-slots_reached stream (Some anchor) time u = numbers_from (next_number stream anchor time) (next_number stream anchor u - next_number stream anchor time)
+slots_reached stream (Some anchor) time u = names_from anchor.epoch (next_number stream anchor time) (next_number stream anchor u - next_number stream anchor time)
 
 -- a close gives the slots that are left: those from the number due next to the last with a copy
-abbrev pub slots_left : Stream → Option Anchor → ℤ → List (ℕ × Packet) → List ℕ
+abbrev pub slots_left : Stream → Option Anchor → ℤ → List (ℕ × Packet) → List (ℕ × ℕ)
 slots_left stream None time copies = []
-slots_left stream (Some anchor) time copies = numbers_from (next_number stream anchor time) (end_of_copies copies - next_number stream anchor time)
+slots_left stream (Some anchor) time copies = names_from anchor.epoch (next_number stream anchor time) (end_of_copies copies - next_number stream anchor time)

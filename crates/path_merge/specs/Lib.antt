@@ -1,9 +1,15 @@
 pub mod Nearest
 pub mod MarkFacts
+pub mod MarkRef
+pub mod PacketRef
 pub mod StreamSpecFacts
 pub mod StreamSpec
 pub mod History
 pub mod Anchor
+pub mod Grid
+pub mod Probation
+pub mod PathProbation
+pub mod Epochs
 pub mod Copies
 pub mod Marks
 pub mod MarkList
@@ -16,6 +22,9 @@ pub mod Counts
 pub mod MergeState
 pub mod Merge
 pub mod Steps
+pub mod Next
+pub mod Way
 pub mod Runs
 pub mod Sent
 pub mod Laws
+pub mod EpochLaws

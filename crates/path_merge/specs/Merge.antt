@@ -1,32 +1,31 @@
 -- What a merge has to be after a history, with some of its marks handed on.
-use Rattle.std.specs.Prelude.{◌≡◌, ℕ, ◌+◌, ◌≤◌, Bool, true, false, ◌||◌, nat_eq, List, [], ◌∷◌, take, length, ℤ, pos, ◌-ℤ◌, Option, Some, None, if◌then◌else◌}
+use Rattle.std.specs.Prelude.{◌≡◌, ℕ, ◌+◌, ◌≤◌, ◌<◌, nat_lt, Bool, true, false, ◌||◌, nat_eq, List, [], ◌∷◌, take, length, ℤ, pos, ◌-ℤ◌, Option, Some, None, if◌then◌else◌}
 use Rattle.std.specs.FinMap.{get}
 use Rattle.path_merge.specs.StreamSpecFacts.{Stream}
 use Rattle.path_merge.specs.MarkFacts.{MarkView}
 use Rattle.path_merge.specs.declared.anchor.Anchor.{Anchor}
+use Rattle.path_merge.specs.declared.packet.Packet.{Packet}
 use Rattle.path_merge.specs.declared.mark.MarkKind.{MarkKind}
 use Rattle.path_merge.specs.declared.mark.MarkKind.TheVariants.{Slot, Quiet, End}
 use Rattle.path_merge.specs.declared.event.Event.{Event}
 use Rattle.path_merge.specs.History.{time_of, is_closed, is_well_timed, events_until_close}
-use Rattle.path_merge.specs.Anchor.{anchor_of}
+use Rattle.path_merge.specs.Epochs.{anchor_of, anchors_of, last_of}
+use Rattle.path_merge.specs.Probation.{heard_since}
+use Rattle.path_merge.specs.PathProbation.{probation_at, probation_of}
 use Rattle.path_merge.specs.Copies.{first_copy}
 use Rattle.path_merge.specs.Marks.{marks_of, is_slot}
 use Rattle.path_merge.specs.Counts.{counts_of}
 use Rattle.path_merge.specs.MergeState.{MergeState}
 
-abbrev pub slot_count : List MarkView → ℕ
-slot_count [] = 0
-slot_count (mark ∷ marks) = (if is_slot mark.kind then 1 else 0) + slot_count marks
+abbrev pub is_slot_in : ℕ → MarkKind → Bool
+is_slot_in epoch (Slot e number media body) = nat_eq e epoch
+is_slot_in epoch (Quiet until) = false
+is_slot_in epoch End = false
 
-abbrev pub is_slot_numbered : ℕ → MarkKind → Bool
-is_slot_numbered n (Slot epoch number media body) = nat_eq number n
-is_slot_numbered n (Quiet until) = false
-is_slot_numbered n End = false
-
--- the number has a slot among the marks
-abbrev pub has_slot_numbered : ℕ → List MarkView → Bool
-has_slot_numbered n [] = false
-has_slot_numbered n (mark ∷ marks) = is_slot_numbered n mark.kind || has_slot_numbered n marks
+-- how many slots of an epoch are among the marks
+abbrev pub slot_count : ℕ → List MarkView → ℕ
+slot_count epoch [] = 0
+slot_count epoch (mark ∷ marks) = (if is_slot_in epoch mark.kind then 1 else 0) + slot_count epoch marks
 
 abbrev pub quiet_or : ℤ → MarkKind → ℤ
 quiet_or before (Slot epoch number media body) = before
@@ -47,10 +46,15 @@ abbrev pub has_end : List MarkView → Bool
 has_end [] = false
 has_end (mark ∷ marks) = is_end mark.kind || has_end marks
 
--- one past the numbers that have a slot among the marks, where there is an anchor
+-- one past the numbers of the anchor's epoch that have a slot among the marks, where there is an anchor
 abbrev pub IsBaseOf : Option Anchor → ℕ → List MarkView → Type 0
 IsBaseOf None base marks = Unit {0}
-IsBaseOf (Some anchor) base marks = base ≡ anchor.number + slot_count marks
+IsBaseOf (Some anchor) base marks = base ≡ anchor.number + slot_count anchor.epoch marks
+
+-- all that was heard on a path since the anchor in force; without one, nothing counts
+abbrev pub heard_of : Stream → ℤ → Option (ℕ × Anchor) → List Event → ℕ → List (Bool × Packet)
+heard_of stream opening None events path = []
+heard_of stream opening (Some (place, anchor)) events path = heard_since stream opening place anchor events path
 
 -- the merge is where this history leaves it, with its first k marks handed on; before a close all were, and after it at least those up to the close
 pub record HasHistory (stream : Stream) (open_at : ℤ) (m : MergeState) (events : List Event) (k : ℕ) : Type 0 where
@@ -64,6 +68,7 @@ pub record HasHistory (stream : Stream) (open_at : ℤ) (m : MergeState) (events
   pub all_given : is_closed events ≡ false → k ≡ length (marks_of stream open_at events)
   pub before_close : length (marks_of stream open_at (events_until_close events)) ≤ k
   pub base : IsBaseOf m.anchor m.base (take k (marks_of stream open_at events))
-  pub held : (n : ℕ) → get m.held n ≡ (if has_slot_numbered n (take k (marks_of stream open_at events)) then None else first_copy stream open_at events n)
+  pub held : (n : ℕ) → get m.held n ≡ (if nat_lt n m.base then None else first_copy stream open_at events n)
+  pub probation : (path : ℕ) → path < 4 → probation_at m.probations path ≡ probation_of stream (heard_of stream open_at (last_of (anchors_of stream open_at events)) events path)
   pub quiet : m.quiet ≡ last_quiet (open_at -ℤ pos stream.latency) (take k (marks_of stream open_at events))
   pub ended : m.ended ≡ has_end (take k (marks_of stream open_at events))

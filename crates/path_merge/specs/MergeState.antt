@@ -1,10 +1,11 @@
 -- What contracts see of a merge, and what is true of every one.
-use Rattle.std.specs.Prelude.{◌≡◌, ℕ, zero, suc, ◌+◌, ◌^◌, ◌<◌, ◌≤◌, Bool, false, ℤ, pos, ◌≤ℤ◌, neg_ℤ, Option, Some, None, IsSome, is_some, if◌then◌else◌}
+use Rattle.std.specs.Prelude.{◌≡◌, ℕ, zero, suc, ◌+◌, ◌^◌, ◌<◌, ◌≤◌, Bool, false, List, ℤ, pos, ◌+ℤ◌, ◌≤ℤ◌, neg_ℤ, Option, Some, None, IsSome, is_some, nat_eq, if◌then◌else◌}
 use Rattle.std.specs.Ordering.{nat_cmp}
 use Rattle.std.specs.FinMap.{FinMap, get}
 use Rattle.path_merge.specs.StreamSpecFacts.{Stream, IsStream}
 use Rattle.path_merge.specs.StreamSpec.{Fits}
 use Rattle.path_merge.specs.CountsFacts.{Tally}
+use Rattle.path_merge.specs.declared.probation.Probation.{Probation}
 use Rattle.path_merge.specs.declared.anchor.Anchor.{Anchor}
 use Rattle.path_merge.specs.declared.packet.Packet.{Packet}
 use Rattle.path_merge.specs.Window.{IsEmpty}
@@ -21,15 +22,21 @@ pub record MergeState : Type 0 where
   pub counts : Tally
   pub closed : Bool
   pub ended : Bool
+  pub probations : List Probation
 
 -- how many of these `count` numbers, from one on, have a packet
 abbrev pub held_count : FinMap nat_cmp Packet → ℕ → ℕ → ℕ
 held_count held number zero = 0
 held_count held number (suc count) = (if is_some (get held number) then 1 else 0) + held_count held (suc number) count
 
+-- nothing is held
+abbrev pub holds_nothing : MergeState → Bool
+holds_nothing m = nat_eq (held_count m.held m.base m.spec.window) 0
+
 -- once anchored, the base is the number due next until the close, and all that is held lies within the window
 pub record IsAnchored (m : MergeState) (media : ℤ) (anchor : Anchor) : Type 0 where
-  pub first_epoch : anchor.epoch ≡ 0
+  pub epoch_is : anchor.epoch ≡ m.counts.restarts
+  pub few_epochs : anchor.epoch < m.counts.arrived
   pub first_low : 65536 ≤ anchor.number
   pub first_high : anchor.number < 131072
   pub stamp : anchor.timestamp < 2 ^ 32
@@ -42,7 +49,7 @@ pub record IsAnchored (m : MergeState) (media : ℤ) (anchor : Anchor) : Type 0 
   pub held_low : (n : ℕ) → IsSome (get m.held n) → m.base ≤ n
   pub held_high : (n : ℕ) → IsSome (get m.held n) → n < next_number m.spec anchor m.time + m.spec.window
   pub held_fits : (n : ℕ) (packet : Packet) → get m.held n ≡ Some packet → Fits m.spec packet
-  pub slots_given : m.counts.got + m.counts.lost + anchor.number ≡ m.base
+  pub slots_given : pos (m.counts.got + m.counts.lost) ≤ℤ (media +ℤ pos (2 ^ 33))
   pub taken_are : m.counts.taken ≡ m.counts.got + held_count m.held m.base m.spec.window
 
 -- before, nothing is held and nothing was taken
@@ -51,6 +58,7 @@ pub record IsUnanchored (m : MergeState) : Type 0 where
   pub none_taken : m.counts.taken ≡ 0
   pub none_got : m.counts.got ≡ 0
   pub none_lost : m.counts.lost ≡ 0
+  pub none_restarted : m.counts.restarts ≡ 0
 
 abbrev pub IsAnchoredOrNot : MergeState → ℤ → Option Anchor → Type 0
 IsAnchoredOrNot m media None = IsUnanchored m

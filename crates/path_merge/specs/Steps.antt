@@ -1,26 +1,32 @@
 -- What each call of a merge does to it.
-use Rattle.std.specs.Prelude.{◌≡◌, ℕ, ◌+◌, ◌-◌, ◌^◌, Bool, true, false, not, ◌&&◌, nat_eq, nat_lt, List, [], ◌∷◌, ◌++◌, length, ℤ, pos, ◌-ℤ◌, ◌≤ℤ◌, ◌<ℤ◌, int_lt, int_le, Option, Some, None, IsSome, take, drop, ◌≤◌, if◌then◌else◌, option_to_list}
+use Rattle.std.specs.Prelude.{◌≡◌, ℕ, ◌+◌, ◌-◌, ◌^◌, Bool, true, false, not, ◌&&◌, nat_eq, nat_lt, List, [], ◌∷◌, ◌++◌, length, ℤ, pos, ◌-ℤ◌, ◌≤ℤ◌, ◌<ℤ◌, int_lt, int_le, Option, Some, None, IsSome, is_some, take, drop, ◌≤◌, if◌then◌else◌, option_to_list}
 use Rattle.std.specs.FinMap.{get}
+use Rattle.std.specs.Option.{option_map}
 use Rattle.path_merge.specs.StreamSpecFacts.{Stream}
 use Rattle.path_merge.specs.MarkFacts.{MarkView}
 use Rattle.path_merge.specs.declared.anchor.Anchor.{Anchor}
 use Rattle.path_merge.specs.declared.packet.Packet.{Packet}
 use Rattle.path_merge.specs.declared.fate.Fate.{Fate}
-use Rattle.path_merge.specs.declared.fate.Fate.TheVariants.{WrongSource, OffGrid, Late, Ahead}
+use Rattle.path_merge.specs.declared.fate.Fate.TheVariants.{WrongSource, OffGrid, Late, Ahead, Restarted}
+use Rattle.path_merge.specs.declared.probation.Probation.{Probation}
 use Rattle.path_merge.specs.declared.event.Event.{Event}
 use Rattle.path_merge.specs.declared.event.Event.TheVariants.{Arrive, Tick}
 use Rattle.path_merge.specs.declared.clock.ClockFault.{ClockFault}
 use Rattle.path_merge.specs.declared.clock.ClockFault.TheVariants.{WentBack, TooFar, Closed}
 use Rattle.path_merge.specs.History.{time_of, is_closed, is_well_timed, events_until_close}
-use Rattle.path_merge.specs.Anchor.{anchor_of, anchor_from, deadline_of, next_number}
-use Rattle.path_merge.specs.Copies.{copies_of, extended_number, is_on_grid}
+use Rattle.path_merge.specs.Anchor.{anchor_from, deadline_of, is_source_wanted, is_restart_in_reach, media_time_of, next_number, restart_from, restart_media_time}
+use Rattle.path_merge.specs.Grid.{extended_number, is_on_grid}
+use Rattle.path_merge.specs.Epochs.{anchor_of, anchors_of, last_of}
+use Rattle.path_merge.specs.Probation.{is_off}
+use Rattle.path_merge.specs.PathProbation.{is_complete, no_probation, probation_at, probation_heard}
+use Rattle.path_merge.specs.Copies.{copies_of, copies_of_all}
 use Rattle.path_merge.specs.Marks.{marks_of, body_of, quiet_mark, is_slot}
 use Rattle.path_merge.specs.Window.{put_answer}
 use Rattle.path_merge.specs.Fate.{fate_of, fate_of_put, first_fate}
 use Rattle.path_merge.specs.CountsFacts.{with_fate, with_body}
 use Rattle.path_merge.specs.Counts.{fates_of, is_taken_fate}
-use Rattle.path_merge.specs.MergeState.{MergeState}
-use Rattle.path_merge.specs.Merge.{HasHistory}
+use Rattle.path_merge.specs.MergeState.{MergeState, holds_nothing}
+use Rattle.path_merge.specs.Merge.{HasHistory, heard_of}
 
 -- why a packet is no in-time copy, where this number is due next
 abbrev pub place_fault_of : Stream → Anchor → ℕ → Packet → Option Fate
@@ -35,42 +41,60 @@ abbrev pub fault_or : Option Fate → Fate → Fate
 fault_or (Some fault) other = fault
 fault_or None other = other
 
--- an arrival at an anchored merge: only a packet that is taken changes what is held
-pub record IsNextStep (stream : Stream) (old new : MergeState) (a : Anchor) (path : ℕ) (packet : Packet) (fate : Fate) : Type 0 where
+-- the media time of the epoch that a packet may open: nothing is held, and media time goes on
+abbrev pub epoch_media : MergeState → Anchor → Packet → Option ℤ
+epoch_media m anchor packet =
+    if holds_nothing m && is_restart_in_reach m.spec m.time (media_time_of m.spec anchor m.base) (restart_media_time m.spec.clock packet.ts m.time (media_time_of m.spec anchor m.base))
+    then Some (restart_media_time m.spec.clock packet.ts m.time (media_time_of m.spec anchor m.base)) else None
+
+-- that of the epoch that the arrival opens: it completes its path's probation, and may
+abbrev pub opening_of : MergeState → Anchor → ℕ → Packet → Option ℤ
+opening_of m anchor path packet =
+    if is_source_wanted m.spec.ssrc packet.ssrc && is_complete (probation_heard m.spec (probation_at m.probations path) (is_off m.spec anchor m.base packet) packet)
+    then epoch_media m anchor packet else None
+
+abbrev pub opens_epoch : MergeState → Anchor → ℕ → Packet → Bool
+opens_epoch m anchor path packet = is_some (opening_of m anchor path packet)
+
+-- an arrival that is heard changes its path's probation alone
+pub record IsHeardStep (old new : MergeState) (a : Anchor) (path : ℕ) (packet : Packet) : Type 0 where
+  pub probation : probation_at new.probations path ≡ probation_heard old.spec (probation_at old.probations path) (is_off old.spec a old.base packet) packet
+  pub other_paths : (other : ℕ) → nat_eq other path ≡ false → probation_at new.probations other ≡ probation_at old.probations other
+  pub changed : new ≡ record old { probations = new.probations }
+
+-- an arrival at an anchored merge that is put, or refused: only a packet that is taken changes what is held
+pub record IsPutStep (stream : Stream) (old new : MergeState) (a : Anchor) (path : ℕ) (packet : Packet) (fate : Fate) : Type 0 where
   pub fate_is : fate ≡ fault_or (place_fault_of stream a old.base packet) (fate_of_put (put_answer (get old.held (extended_number packet old.base)) packet))
-  pub spec : new.spec ≡ old.spec
-  pub time : new.time ≡ old.time
-  pub anchor : new.anchor ≡ old.anchor
-  pub base : new.base ≡ old.base
   pub held : (n : ℕ) → get new.held n ≡ (if is_taken_fate fate && nat_eq n (extended_number packet old.base) then Some packet else get old.held n)
-  pub quiet : new.quiet ≡ old.quiet
-  pub counts : new.counts ≡ with_fate old.counts path fate
-  pub closed : new.closed ≡ old.closed
-  pub ended : new.ended ≡ old.ended
+  pub changed : new ≡ record old { held = new.held; counts = with_fate old.counts path fate }
+
+-- an arrival that opens no epoch: it is heard, and then put or refused
+pub record IsNextStep (stream : Stream) (old new : MergeState) (a : Anchor) (path : ℕ) (packet : Packet) (fate : Fate) : Type 0 where
+  pub heard : List Probation
+  pub hears : IsHeardStep old (record old { probations = heard }) a path packet
+  pub puts : IsPutStep stream (record old { probations = heard }) new a path packet fate
+
+-- an arrival that opens an epoch, where nothing is held: the window begins anew at its number, and every probation too
+pub record IsRestartStep (stream : Stream) (old new : MergeState) (a : Anchor) (path : ℕ) (packet : Packet) (fate : Fate) : Type 0 where
+  pub fate_is : fate ≡ Restarted
+  pub held : (n : ℕ) → get new.held n ≡ (if nat_eq n (65536 + packet.seq) then Some packet else None)
+  pub probations : (other : ℕ) → probation_at new.probations other ≡ no_probation
+  pub changed : new ≡ record old { anchor = Some (restart_from stream old.time a old.base packet); base = 65536 + packet.seq; held = new.held; counts = with_fate old.counts path Restarted; probations = new.probations }
 
 -- an arrival at a merge with no anchor: a packet that is taken becomes the anchor
 pub record IsFirstStep (stream : Stream) (old new : MergeState) (path : ℕ) (packet : Packet) (fate : Fate) : Type 0 where
   pub fate_is : fate ≡ first_fate stream old.time packet
-  pub spec : new.spec ≡ old.spec
-  pub time : new.time ≡ old.time
   pub anchor : new.anchor ≡ (if is_taken_fate fate then Some (anchor_from stream old.time packet) else None)
   pub base : is_taken_fate fate ≡ true → new.base ≡ 65536 + packet.seq
   pub held : (n : ℕ) → get new.held n ≡ (if is_taken_fate fate && nat_eq n (65536 + packet.seq) then Some packet else None)
-  pub quiet : new.quiet ≡ old.quiet
-  pub counts : new.counts ≡ with_fate old.counts path fate
-  pub closed : new.closed ≡ old.closed
-  pub ended : new.ended ≡ old.ended
+  pub changed : new ≡ record old { anchor = new.anchor; base = new.base; held = new.held; counts = with_fate old.counts path fate }
+  pub refused : is_taken_fate fate ≡ false → new ≡ record old { counts = with_fate old.counts path fate }
 
--- an arrival that changes no more than the count of its fate
+-- an arrival that was counted and not taken changes its count, and no more than the probation of its path
 pub record IsRefusal (old new : MergeState) (path : ℕ) (fate : Fate) : Type 0 where
-  pub spec : new.spec ≡ old.spec
-  pub time : new.time ≡ old.time
-  pub anchor : new.anchor ≡ old.anchor
   pub held : (n : ℕ) → get new.held n ≡ get old.held n
-  pub quiet : new.quiet ≡ old.quiet
-  pub counts : new.counts ≡ with_fate old.counts path fate
-  pub closed : new.closed ≡ old.closed
-  pub ended : new.ended ≡ old.ended
+  pub other_paths : (other : ℕ) → nat_eq other path ≡ false → probation_at new.probations other ≡ probation_at old.probations other
+  pub changed : new ≡ record old { held = new.held; probations = new.probations; counts = with_fate old.counts path fate }
 
 -- the slot of the base is given, at its deadline
 pub record IsSlotStep (stream : Stream) (old new : MergeState) (a : Anchor) : Type 0 where
@@ -83,6 +107,7 @@ pub record IsSlotStep (stream : Stream) (old new : MergeState) (a : Anchor) : Ty
   pub counts : new.counts ≡ with_body old.counts (body_of (get old.held old.base))
   pub closed : new.closed ≡ old.closed
   pub ended : new.ended ≡ old.ended
+  pub probations : new.probations ≡ old.probations
 
 -- no slot was ever given, and the last Quiet was earlier
 abbrev pub is_quiet_due : Bool → ℤ → ℤ → Bool
@@ -98,6 +123,10 @@ abbrev pub stop_at : Stream → Option Anchor → ℕ → ℤ → ℤ
 stop_at stream None base now = now
 stop_at stream (Some anchor) base now = if int_le (deadline_of stream anchor base) now then deadline_of stream anchor base else now
 
+-- when the next slot is due: not before an anchor, nor after a close
+abbrev pub next_deadline_of : MergeState → Option ℤ
+next_deadline_of m = if m.closed then None else option_map (λ anchor. deadline_of m.spec anchor m.base) m.anchor
+
 -- two histories that a merge can't tell apart
 pub record IsAlike (stream : Stream) (open_at : ℤ) (e f : List Event) : Type 0 where
   pub well_timed : is_well_timed open_at e ≡ true → is_well_timed open_at f ≡ true
@@ -105,6 +134,7 @@ pub record IsAlike (stream : Stream) (open_at : ℤ) (e f : List Event) : Type 0
   pub closed : is_closed e ≡ is_closed f
   pub fates : fates_of stream open_at e ≡ fates_of stream open_at f
   pub anchor : anchor_of stream open_at e ≡ anchor_of stream open_at f
+  pub heard : (path : ℕ) → heard_of stream open_at (last_of (anchors_of stream open_at e)) e path ≡ heard_of stream open_at (last_of (anchors_of stream open_at f)) f path
   pub copies : copies_of stream open_at e ≡ copies_of stream open_at f
   pub marks : marks_of stream open_at e ≡ marks_of stream open_at f
   pub before_close : marks_of stream open_at (events_until_close e) ≡ marks_of stream open_at (events_until_close f)
@@ -115,7 +145,7 @@ is_slot_mark (Some mark) = is_slot mark.kind
 
 -- the arrival has the fate of the definition, and joins the history; it adds no mark and changes none
 pub record Offers (stream : Stream) (open_at : ℤ) (new : MergeState) (events : List Event) (k : ℕ) (path : ℕ) (packet : Packet) (fate : Fate) : Type 0 where
-  pub fate_is : fate ≡ fate_of stream open_at events packet
+  pub fate_is : fate ≡ fate_of stream open_at events path packet
   pub stands : HasHistory stream open_at new (events ++ Arrive path packet ∷ []) k
   pub kept : marks_of stream open_at (events ++ Arrive path packet ∷ []) ≡ marks_of stream open_at events
 
@@ -137,6 +167,7 @@ pub record IsLeftStep (old new : MergeState) : Type 0 where
   pub counts : new.counts ≡ with_body old.counts (body_of (get old.held old.base))
   pub closed : new.closed ≡ old.closed
   pub ended : new.ended ≡ old.ended
+  pub probations : new.probations ≡ old.probations
 
 -- a packet is held at the base or after it
 pub record HoldsMore (m : MergeState) : Type 0 where

@@ -1,12 +1,13 @@
 //! What the first packet of a stream fixes, and where later ones belong.
 ghost use Rattle.std.specs.Prelude.{◌≡◌, ◌+◌, ◌<◌, ◌≤◌, ◌^◌, ℤ, pos, ◌≤ℤ◌, neg_ℤ, ◌<ℤ◌};
+ghost use Rattle.path_merge.specs.PacketRef.{packet_of};
 ghost use Rattle.path_merge.specs.StreamSpecFacts.{Stream};
-ghost use Rattle.path_merge.specs.Anchor.{media_time_of, base_media_time, is_source_wanted};
-ghost use Rattle.path_merge.specs.Copies.{extended_number, is_on_grid};
+ghost use Rattle.path_merge.specs.Anchor.{media_time_of, base_media_time, is_source_wanted, restart_media_time};
+ghost use Rattle.path_merge.specs.Grid.{extended_number, is_on_grid};
 ghost use Rattle.path_merge.specs.declared.anchor.Anchor.{Anchor};
 
 use crate::nearest::{near16, near32};
-use crate::packet::Packet;
+use crate::packet::PacketRef;
 use crate::stream_spec::StreamClock;
 
 /// The stream's base: the extended sequence number, timestamp, media time and source of its first
@@ -26,15 +27,34 @@ impl Anchor {
     ghost use Rattle.path_merge.specs.declared.anchor.Anchor.{Anchor};
 
     /// The anchor that a stream's first packet makes, at this media time.
-    ///
-    /// Extended numbers start in the second cycle of the sequence number, so that none is below 0.
     pub fn first(seq: u16, timestamp: u32, source: u32, media: i64) -> Anchor
         ensures value { result ≡ record { epoch = 0; number = 65536 + seq; timestamp = timestamp; media = media; source = source } }
         ensures seq { seq < 2 ^ 16 }
         ensures timestamp { timestamp < 2 ^ 32 }
     {
+        Anchor::of_epoch(0, seq, timestamp, source, media)
+    }
+
+    /// The anchor of the next epoch, at this media time.
+    pub fn following(epoch: u64, seq: u16, timestamp: u32, source: u32, media: i64) -> Anchor
+        requires { epoch < 2 ^ 62 }
+        ensures value { result ≡ record { epoch = epoch + 1; number = 65536 + seq; timestamp = timestamp; media = media; source = source } }
+        ensures seq { seq < 2 ^ 16 }
+        ensures timestamp { timestamp < 2 ^ 32 }
+    {
+        Anchor::of_epoch(epoch + 1, seq, timestamp, source, media)
+    }
+
+    /// The anchor that a packet makes, at this media time.
+    ///
+    /// Extended numbers start in the second cycle of the sequence number, so that none is below 0.
+    fn of_epoch(epoch: u64, seq: u16, timestamp: u32, source: u32, media: i64) -> Anchor
+        ensures value { result ≡ record { epoch = epoch; number = 65536 + seq; timestamp = timestamp; media = media; source = source } }
+        ensures seq { seq < 2 ^ 16 }
+        ensures timestamp { timestamp < 2 ^ 32 }
+    {
         Anchor {
-            epoch: 0,
+            epoch,
             number: 65_536 + u64::from(seq),
             timestamp,
             media,
@@ -44,10 +64,10 @@ impl Anchor {
 }
 
 /// The extended sequence number of a packet, where `next` is due next.
-pub fn number_of(packet: &Packet, next: u64) -> u64
+pub fn number_of(packet: &PacketRef<'_>, next: u64) -> u64
     requires low { 32768 ≤ next }
     requires high { next ≤ 2 ^ 61 }
-    ensures value { result ≡ extended_number packet.now next }
+    ensures value { result ≡ extended_number (packet_of packet.now) next }
     ensures low { next ≤ result + 32768 }
     ensures high { result < next + 32768 }
 {
@@ -85,5 +105,18 @@ pub fn media_of_first(clock: StreamClock, ts: u32, time: i64) -> i64
     match clock {
         StreamClock::Media { offset } => near32(ts.wrapping_sub(offset), time),
         StreamClock::Arrival => time,
+    }
+}
+
+/// The media time of a packet that would restart the stream, where `due` is that of the number due next.
+pub fn media_of_restart(clock: StreamClock, ts: u32, time: i64, due: i64) -> i64
+    requires low { pos 0 ≤ℤ time }
+    requires high { time ≤ℤ pos (2 ^ 60) }
+    ensures { result ≡ restart_media_time clock ts time due }
+{
+    let media = media_of_first(clock, ts, time);
+    match clock {
+        StreamClock::Arrival if media <= due => due,
+        _ => media,
     }
 }

@@ -1,14 +1,18 @@
 //! What becomes of an arrival, test by test.
-ghost use Rattle.std.specs.Prelude.{◌≡◌, ◌^◌, ◌≤◌, ℤ, pos, ◌≤ℤ◌, neg_ℤ};
-ghost use Rattle.path_merge.specs.Anchor.{base_media_time, media_time_of};
+ghost use Rattle.std.specs.Prelude.{◌≡◌, ◌^◌, ◌≤◌, ℕ, ℤ, pos, ◌≤ℤ◌, neg_ℤ};
+ghost use Rattle.path_merge.specs.PacketRef.{packet_of};
+ghost use Rattle.path_merge.specs.Anchor.{base_media_time, is_restart_in_reach, media_time_of};
 ghost use Rattle.path_merge.specs.Counts.{is_taken_fate};
 ghost use Rattle.path_merge.specs.Fate.{fate_of_put, first_fate};
+ghost use Rattle.path_merge.specs.Probation.{is_off as off_grid};
 ghost use Rattle.path_merge.specs.Steps.{place_fault_of};
+ghost use Rattle.path_merge.specs.StreamSpecFacts.{Stream};
+ghost use Rattle.path_merge.specs.declared.anchor.Anchor.{Anchor};
 ghost use Rattle.path_merge.specs.declared.packet.Packet.{Packet};
 
 use crate::anchor::{Anchor, is_in_step, is_wanted, number_of};
 use crate::fate::Fate;
-use crate::packet::Packet;
+use crate::packet::PacketRef;
 use crate::stream_spec::StreamSpec;
 use crate::window::Put;
 
@@ -27,7 +31,7 @@ pub fn fate_of(put: Put) -> Fate
 pub fn is_taken(fate: Fate) -> bool
     ensures { result ≡ is_taken_fate fate }
 {
-    matches!(fate, Fate::Taken)
+    matches!(fate, Fate::Taken | Fate::Restarted)
 }
 
 /// Why a packet is no copy in time, where `next` is due next, at `media`.
@@ -36,7 +40,7 @@ pub fn place_fault(
     anchor: &Anchor,
     next: u64,
     media: i64,
-    packet: &Packet,
+    packet: &PacketRef<'_>,
 ) -> Option<Fate>
     requires low { 65536 ≤ next }
     requires high { next ≤ 2 ^ 61 }
@@ -45,7 +49,7 @@ pub fn place_fault(
     requires anchor_low { neg_ℤ (pos (2 ^ 61)) ≤ℤ anchor.now.media }
     requires anchor_high { anchor.now.media ≤ℤ pos (2 ^ 61) }
     requires media_is { media ≡ media_time_of spec.now anchor.now next }
-    ensures { result ≡ place_fault_of spec.now anchor.now next packet.now }
+    ensures { result ≡ place_fault_of spec.now anchor.now next (packet_of packet.now) }
 {
     if packet.ssrc != anchor.source {
         return Some(Fate::WrongSource);
@@ -62,6 +66,29 @@ pub fn place_fault(
         return Some(Fate::Ahead);
     }
     None
+}
+
+/// Whether a packet with this fault is of another source, or off the grid.
+pub fn is_off(fault: Option<Fate>) -> bool
+    ensures { (stream : Stream) (anchor : Anchor) (next : ℕ) (packet : Packet) → fault ≡ place_fault_of stream anchor next packet → result ≡ off_grid stream anchor next packet }
+{
+    matches!(fault, Some(Fate::WrongSource | Fate::OffGrid))
+}
+
+/// Whether media time goes on with a packet at `media`, where `due` is that of the number due next.
+pub fn goes_on(spec: &StreamSpec, time: i64, due: i64, media: i64) -> bool
+    requires low { pos 0 ≤ℤ time }
+    requires high { time ≤ℤ pos (2 ^ 60) }
+    ensures { result ≡ is_restart_in_reach spec.now time due media }
+{
+    let earliest = time - i64::from(spec.latency());
+    if media <= earliest {
+        return false;
+    }
+    if media >= earliest + i64::from(spec.window()) * i64::from(spec.frames()) {
+        return false;
+    }
+    due <= media
 }
 
 /// The fate of a packet that would be the first, at `media`.

@@ -1,9 +1,9 @@
 //! What a stream's arrivals and slots came to.
 ghost use Rattle.path_merge.specs.CountsFacts.{increased_at};
+ghost use Rattle.path_merge.specs.declared.mark.Body.{Body};
 ghost use Rattle.std.specs.Prelude.{◌≡◌, true, ◌+◌, ◌≤◌, ◌<◌, ◌^◌, sum};
 
 use crate::fate::Fate;
-use crate::mark::Body;
 use crate::path::Path;
 
 /// Numbers of arrivals by fate and path, and of slots by body. They balance in every value.
@@ -24,9 +24,12 @@ pub struct Counts {
     pub got: u64,
     /// Slots handed on as lost.
     pub lost: u64,
+    /// Arrivals that opened a new epoch; each is counted as taken too.
+    pub restarts: u64,
     pub ghost balanced: { arrived ≡ taken + double + unlike + off_grid + late + ahead + wrong_source },
     pub ghost by_path: { taken ≡ sum taken_by },
     pub ghost given: { got ≤ taken },
+    pub ghost restarted: { restarts ≤ taken },
 }
 
 /// Adds one to a path's number.
@@ -58,10 +61,12 @@ impl Counts {
             wrong_source: 0,
             got: 0,
             lost: 0,
+            restarts: 0,
         }
     }
 
     /// Counts an arrival on a path.
+    #[inline]
     pub fn add_fate(&mut self, path: Path, fate: Fate)
         requires { self.old.arrived < 2 ^ 62 }
         ensures { tally_of self.new ≡ with_fate (tally_of self.old) path fate }
@@ -97,18 +102,26 @@ impl Counts {
                 self.unlike += 1;
                 self.arrived += 1;
             }
+            Fate::Restarted => {
+                add_one_at(&mut self.taken_by, path);
+                self.taken += 1;
+                self.restarts += 1;
+                self.arrived += 1;
+            }
         }
     }
 
-    /// Counts a slot.
-    pub fn add_slot(&mut self, body: &Body)
-        requires held { is_got_body body.now ≡ true → self.old.got < self.old.taken }
+    /// Counts a slot, with a payload or lost.
+    #[inline]
+    pub fn add_slot(&mut self, got: bool)
+        requires held { got ≡ true → self.old.got < self.old.taken }
         requires few { self.old.lost < 2 ^ 63 }
-        ensures { tally_of self.new ≡ with_body (tally_of self.old) body.now }
+        ensures { (body : Body) → is_got_body body ≡ got → tally_of self.new ≡ with_body (tally_of self.old) body }
     {
-        match body {
-            Body::Got(_) => self.got += 1,
-            Body::Lost => self.lost += 1,
+        if got {
+            self.got += 1;
+        } else {
+            self.lost += 1;
         }
     }
 }

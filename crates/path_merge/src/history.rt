@@ -119,7 +119,7 @@ fn take_event<V: Window>(
 {
     match event {
         Event::Arrive(path, packet) => {
-            let _ = merge.offer(*path, packet.copied());
+            let _ = merge.offer_ref(*path, packet.lent());
         }
         Event::Tick(now) => advance_to(merge, *now, marks)?,
         Event::Close => {

@@ -1,5 +1,6 @@
 //! What the definitions promise together. Nothing is computed here: the clauses are the laws.
-ghost use Rattle.std.specs.Prelude.{◌≡◌, ℕ, ◌+◌, ◌%◌, ◌^◌, ◌<◌, ◌≤◌, ℤ, ◌≤ℤ◌, List, [], ◌∷◌, ◌++◌, length, take, true, false, IfSome};
+ghost use Rattle.std.specs.Prelude.{◌≡◌, ℕ, ◌+◌, ◌^◌, ◌<◌, ◌≤◌, ℤ, pos, ◌+ℤ◌, ◌≤ℤ◌, ◌<ℤ◌, List, [], ◌∷◌, ◌++◌, length, take, true, false, Some, IfSome};
+ghost use Rattle.std.specs.Int.{int_rem_euclid};
 ghost use Rattle.path_merge.specs.StreamSpecFacts.{IsStream, Stream, format_of};
 ghost use Rattle.path_merge.specs.MarkFacts.{MarkView};
 ghost use Rattle.path_merge.specs.MarkList.{is_mark_list};
@@ -9,35 +10,38 @@ ghost use Rattle.path_merge.specs.declared.packet.Packet.{Packet};
 ghost use Rattle.path_merge.specs.declared.event.Event.{Event};
 ghost use Rattle.path_merge.specs.declared.event.Event.TheVariants.{Arrive, Tick, Close};
 ghost use Rattle.path_merge.specs.History.{time_of, is_closed, is_well_timed};
-ghost use Rattle.path_merge.specs.Anchor.{anchor_of, deadline_of, next_number};
-ghost use Rattle.path_merge.specs.Copies.{copies_of, expected_timestamp, first_copy, is_on_grid};
-ghost use Rattle.path_merge.specs.Sent.{BeginsWith, HasEqualCopies, IsWithinReach, marks_by_number, wire_history};
-ghost use Rattle.path_merge.specs.Marks.{marks_of};
+ghost use Rattle.path_merge.specs.Anchor.{deadline_of, next_number};
+ghost use Rattle.path_merge.specs.Grid.{is_on_grid};
+ghost use Rattle.path_merge.specs.Epochs.{anchor_of, last_of};
+ghost use Rattle.path_merge.specs.Copies.{copies_of, first_copy};
+ghost use Rattle.path_merge.specs.Marks.{end_mark, marks_of};
+ghost use Rattle.path_merge.specs.EpochLaws.{HasSpans};
+ghost use Rattle.path_merge.specs.Sent.{BeginsWith, HasEqualCopies, IsOneEpoch, IsWithinReach, SentEvent, marks_by_number, timestamp_in_step, wire_history};
 ghost use Rattle.path_merge.specs.Counts.{counts_of};
 ghost use Rattle.path_merge.specs.Merge.{HasHistory};
 ghost use Rattle.path_merge.specs.Steps.{IsAlike};
-ghost use Rattle.path_merge.specs.Laws.{AllOfFirstEpoch, HasSpan, IsDeadlineOnTheWay, IsLeastDue, IsOpen, slot_numbers, slots_left, slots_reached};
+ghost use Rattle.path_merge.specs.Laws.{AreInOrder, IsDeadlineOnTheWay, IsLeastDue, IsOpen, slot_names, slot_times, slots_left, slots_reached};
 
-/// The numbers of the slots are exactly the span, rising, each once: each with the media time of its
-/// number, and with the payload of the earliest copy that came in time, on whichever path, or as lost.
+/// The slots, by epoch and number, are exactly the spans of the epochs one after the other, rising, each
+/// once: each with the media time of its number under its epoch's anchor, and with the payload of the
+/// earliest copy that came in time in that epoch, on whichever path, or as lost.
 /// A slot is given by the first tick that reaches its deadline, or else by the close; and each one
 /// given is counted once, as got or as lost.
 pub fn each_number_is_handed_on_once()
-    ensures span { (stream : Stream) (opening : ℤ) (events : List Event) →
-        0 < stream.frames → is_well_timed opening events ≡ true →
-        HasSpan stream opening events (anchor_of stream opening events) }
+    ensures spans { (stream : Stream) (opening : ℤ) (events : List Event) →
+        0 < stream.frames → is_well_timed opening events ≡ true → HasSpans stream opening events }
     ensures by_tick { (stream : Stream) (opening u : ℤ) (events : List Event) → is_closed events ≡ false →
-        slot_numbers (marks_of stream opening (events ++ Tick u ∷ []))
-        ≡ slot_numbers (marks_of stream opening events)
+        slot_names (marks_of stream opening (events ++ Tick u ∷ []))
+        ≡ slot_names (marks_of stream opening events)
         ++ slots_reached stream (anchor_of stream opening events) (time_of opening events) u }
     ensures by_close { (stream : Stream) (opening : ℤ) (events : List Event) → is_closed events ≡ false →
-        slot_numbers (marks_of stream opening (events ++ Close ∷ []))
-        ≡ slot_numbers (marks_of stream opening events)
+        slot_names (marks_of stream opening (events ++ Close ∷ []))
+        ≡ slot_names (marks_of stream opening events)
         ++ slots_left stream (anchor_of stream opening events) (time_of opening events)
         (copies_of stream opening events) }
     ensures counted { (stream : Stream) (opening : ℤ) (events : List Event) (given : List MarkView) →
         (counts_of stream opening events given).got + (counts_of stream opening events given).lost
-        ≡ length (slot_numbers given) }
+        ≡ length (slot_names given) }
 {}
 
 /// The number due next is the least, from the anchor's on, whose deadline is still to come; it never
@@ -61,7 +65,8 @@ pub fn ticks_may_be_split()
         IsAlike stream opening (events ++ Tick (time_of opening events) ∷ []) events }
 {}
 
-/// An arrival adds no mark and changes none; and no later event changes a mark that was given.
+/// An arrival adds no mark and changes none, also one that opens an epoch; and no later event changes a
+/// mark that was given.
 pub fn arrivals_change_no_mark()
     ensures arrival { (stream : Stream) (opening : ℤ) (events : List Event) (path : ℕ) (packet : Packet) →
         0 < stream.frames → is_well_timed opening events ≡ true →
@@ -72,7 +77,8 @@ pub fn arrivals_change_no_mark()
         ≡ marks_of stream opening events }
 {}
 
-/// The marks of every history, and each first part of them, are a mark list of the first epoch.
+/// The marks of every history, and each first part of them, are a mark list; and media time never goes
+/// back in one, also where an epoch opens.
 pub fn marks_are_a_mark_list()
     ensures whole { (stream : Stream) (opening : ℤ) (events : List Event) →
         0 < stream.frames → is_well_timed opening events ≡ true →
@@ -80,9 +86,17 @@ pub fn marks_are_a_mark_list()
     ensures parts { (stream : Stream) (opening : ℤ) (events : List Event) (k : ℕ) →
         0 < stream.frames → is_well_timed opening events ≡ true →
         is_mark_list (format_of stream) (take k (marks_of stream opening events)) ≡ true }
-    ensures epochs { (stream : Stream) (opening : ℤ) (events : List Event) →
+    ensures times { (stream : Stream) (opening : ℤ) (events : List Event) →
         0 < stream.frames → is_well_timed opening events ≡ true →
-        AllOfFirstEpoch (marks_of stream opening events) }
+        AreInOrder stream.frames (slot_times (marks_of stream opening events)) }
+{}
+
+/// After a close nothing more is handed on, whatever comes: the last mark is the end.
+pub fn nothing_follows_a_close()
+    ensures same { (stream : Stream) (opening : ℤ) (events more : List Event) → is_closed events ≡ true →
+        marks_of stream opening (events ++ more) ≡ marks_of stream opening events }
+    ensures end { (stream : Stream) (opening : ℤ) (events : List Event) → is_closed events ≡ true →
+        last_of (marks_of stream opening events) ≡ Some (end_mark stream) }
 {}
 
 /// While a merge is open, all marks of its history were given; and a merge that has one of two
@@ -96,25 +110,41 @@ pub fn merges_stand_at_their_histories()
         HasHistory stream opening merge others k }
 {}
 
-/// A number is known by its low 16 bits and its timestamp, among those that are less than 1,024 cycles
-/// of sequence numbers away: two of them with the same low bits have other timestamps.
+/// A number of any sign is known by its low 16 bits and its timestamp, among those that are less than
+/// 1,024 cycles of sequence numbers away: another one with the same low bits is off its grid.
 pub fn aliases_are_off_grid()
-    ensures known { (stream : Stream) (base : Anchor) (m n : ℕ) →
-        IsStream stream → m % 65536 ≡ n % 65536 → m < n + 2 ^ 26 → n < m + 2 ^ 26 →
-        expected_timestamp stream base m ≡ expected_timestamp stream base n → m ≡ n }
-    ensures off_grid { (stream : Stream) (base : Anchor) (m n : ℕ) →
-        IsStream stream → m % 65536 ≡ n % 65536 → m < n → n < m + 2 ^ 26 →
-        is_on_grid stream base m (expected_timestamp stream base n) ≡ false }
+    ensures known { (stream : Stream) (base : Anchor) (m n : ℤ) →
+        IsStream stream → int_rem_euclid m (pos 65536) ≡ int_rem_euclid n (pos 65536) →
+        m <ℤ (n +ℤ pos (2 ^ 26)) → n <ℤ (m +ℤ pos (2 ^ 26)) →
+        timestamp_in_step stream base m ≡ timestamp_in_step stream base n → m ≡ n }
+    ensures off_grid { (stream : Stream) (base : Anchor) (m : ℕ) (n : ℤ) →
+        IsStream stream → int_rem_euclid (pos m) (pos 65536) ≡ int_rem_euclid n (pos 65536) →
+        pos m <ℤ (n +ℤ pos (2 ^ 26)) → n <ℤ (pos m +ℤ pos (2 ^ 26)) → (pos m ≡ n → ⊥) →
+        is_on_grid stream base m (timestamp_in_step stream base n) ≡ false }
 {}
 
-/// Where no packet comes 2^25 numbers or more from the one due next, what is handed on is what was sent,
-/// under its full numbers; and where all packets of a number have one payload, its first copy has it.
+/// Full numbers are whole numbers of any sign. Where the received history has one epoch, and each number
+/// lies from 2^25 below the one due next to just below 2^25 above it, what is handed on is what was sent;
+/// and where all packets of a number have one payload, its first copy has it.
 pub fn sent_numbers_are_recovered()
-    ensures marks { (stream : Stream) (base : Anchor) (opening : ℤ) (sent : List Event) →
+    ensures marks { (stream : Stream) (base : Anchor) (opening : ℤ) (sent : List SentEvent) →
         IsStream stream → BeginsWith stream base opening sent → IsWithinReach stream base (2 ^ 25) opening sent →
+        IsOneEpoch stream opening (wire_history stream base sent) →
         marks_of stream opening (wire_history stream base sent) ≡ marks_by_number stream base opening sent }
-    ensures payload { (stream : Stream) (base : Anchor) (opening : ℤ) (sent : List Event) (number : ℕ) (payload : List ℕ) →
+    ensures payload { (stream : Stream) (base : Anchor) (opening : ℤ) (sent : List SentEvent) (number : ℕ) (payload : List ℕ) →
         IsStream stream → BeginsWith stream base opening sent → IsWithinReach stream base (2 ^ 25) opening sent →
-        HasEqualCopies number payload sent →
+        IsOneEpoch stream opening (wire_history stream base sent) → HasEqualCopies number payload sent →
         IfSome (first_copy stream opening (wire_history stream base sent) number) (λ packet. packet.payload.items ≡ payload) }
+{}
+
+/// Where each number lies from 2^15 below the one due next to just below 2^15 above it, the received
+/// history has one epoch: no packet is off the grid, so no probation begins. And what is handed on is
+/// what was sent.
+pub fn near_numbers_open_one_epoch()
+    ensures one { (stream : Stream) (base : Anchor) (opening : ℤ) (sent : List SentEvent) →
+        BeginsWith stream base opening sent → IsWithinReach stream base (2 ^ 15) opening sent →
+        IsOneEpoch stream opening (wire_history stream base sent) }
+    ensures marks { (stream : Stream) (base : Anchor) (opening : ℤ) (sent : List SentEvent) →
+        BeginsWith stream base opening sent → IsWithinReach stream base (2 ^ 15) opening sent →
+        marks_of stream opening (wire_history stream base sent) ≡ marks_by_number stream base opening sent }
 {}

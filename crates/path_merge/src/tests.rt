@@ -14,6 +14,8 @@ mod duplicates;
 mod memory;
 mod numbers;
 mod order;
+mod probation;
+mod restarts;
 mod streams;
 mod windows;
 
@@ -53,6 +55,15 @@ impl Sent {
         Sent { source, ..self }
     }
 
+    /// The next packet of its sender.
+    fn next(self) -> Sent {
+        Sent {
+            seq: self.seq.wrapping_add(1),
+            ts: self.ts.wrapping_add(6),
+            ..self
+        }
+    }
+
     fn full_of(self, octet: u8) -> Sent {
         Sent { octet, ..self }
     }
@@ -86,6 +97,8 @@ enum Step {
 enum Seen {
     Got(u64, i64, u8),
     Lost(u64, i64),
+    /// A slot of an epoch after the first, whose number leads.
+    In(u64, u64, i64, Option<u8>),
     Quiet(i64),
     End,
 }
@@ -103,6 +116,7 @@ struct Tally {
     wrong_source: u64,
     got: u64,
     lost: u64,
+    restarts: u64,
 }
 
 const NONE: Tally = Tally {
@@ -116,6 +130,7 @@ const NONE: Tally = Tally {
     wrong_source: 0,
     got: 0,
     lost: 0,
+    restarts: 0,
 };
 
 fn tally_of(counts: &Counts) -> Tally {
@@ -130,6 +145,7 @@ fn tally_of(counts: &Counts) -> Tally {
         wrong_source: counts.wrong_source,
         got: counts.got,
         lost: counts.lost,
+        restarts: counts.restarts,
     }
 }
 
@@ -237,10 +253,14 @@ fn seen_in(rt: &impl Abort, spec: &StreamSpec, mark: &Mark) -> Seen {
             media,
             body,
         } => {
-            assert_eq!(rt; *epoch, 0, "no source was restarted");
-            match body {
-                Body::Got(payload) => Seen::Got(*number, *media, octet_of(rt, payload)),
-                Body::Lost => Seen::Lost(*number, *media),
+            let octet = match body {
+                Body::Got(payload) => Some(octet_of(rt, payload)),
+                Body::Lost => None,
+            };
+            match (*epoch, octet) {
+                (0, Some(octet)) => Seen::Got(*number, *media, octet),
+                (0, None) => Seen::Lost(*number, *media),
+                (epoch, octet) => Seen::In(epoch, *number, *media, octet),
             }
         }
         MarkKind::Quiet { until } => Seen::Quiet(*until),
@@ -298,6 +318,7 @@ fn media_of(mark: Seen) -> Option<i64> {
     match mark {
         Seen::Got(_, media, _) => Some(media),
         Seen::Lost(_, media) => Some(media),
+        Seen::In(_, _, media, _) => Some(media),
         Seen::Quiet(_) => None,
         Seen::End => None,
     }

@@ -9,9 +9,9 @@ use Rattle.path_merge.proofs.history.take_event.Goals as goal
 
 pub returns-in-Arrive : goal.returns-in-Arrive
 returns-in-Arrive g c = λ stream open_at events given.
-    subst (λ (e : Event). HasGiven stream open_at c.offer.new.self (events ++ e ∷ []) c.args.marks.now.items) (sym c.in-Arrive.is)
-    (given_offered stream open_at c.offer.new.self events c.args.marks.now.items c.in-Arrive.path c.in-Arrive.packet c.offer.result given.all
-    (subst (λ (p : Packet). Offers stream open_at c.offer.new.self events (length c.args.marks.now.items) c.in-Arrive.path p c.offer.result) c.copied.ensures (c.offer.ensures.stands stream open_at events (length c.args.marks.now.items) given.stands)))
+    subst (λ (e : Event). HasGiven stream open_at c.offer_ref.new.self (events ++ e ∷ []) c.args.marks.now.items) (sym c.in-Arrive.is)
+    (given_offered stream open_at c.offer_ref.new.self events c.args.marks.now.items c.in-Arrive.path c.in-Arrive.packet c.offer_ref.result given.all
+    (subst (λ (p : Packet). Offers stream open_at c.offer_ref.new.self events (length c.args.marks.now.items) c.in-Arrive.path p c.offer_ref.result) c.lent.ensures.packet (c.offer_ref.ensures.stands stream open_at events (length c.args.marks.now.items) given.stands)))
 
 pub returns-in_ok-drain_to-in-Close : goal.returns-in_ok-drain_to-in-Close
 returns-in_ok-drain_to-in-Close g c = λ stream open_at events given.

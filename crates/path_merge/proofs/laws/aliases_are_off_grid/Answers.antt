@@ -5,4 +5,4 @@ pub returns-clause-known : goal.returns-clause-known
 returns-clause-known c = λ stream base m n ok same less more stamps. one_number stream base m n ok.packet_time same less more stamps
 
 pub returns-clause-off_grid : goal.returns-clause-off_grid
-returns-clause-off_grid c = λ stream base m n ok same less more. off_grid stream base m n ok.packet_time same less more
+returns-clause-off_grid c = λ stream base m n ok same less more other. off_grid stream base m n ok.packet_time same less more other

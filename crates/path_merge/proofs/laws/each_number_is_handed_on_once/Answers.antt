@@ -2,8 +2,8 @@ use Rattle.path_merge.proofs.GainLemmas.{close_gives, slots_told, tick_gives}
 use Rattle.path_merge.proofs.SpanLemmas.{spanned}
 use Rattle.path_merge.proofs.laws.each_number_is_handed_on_once.Goals as goal
 
-pub returns-clause-span : goal.returns-clause-span
-returns-clause-span c stream opening events some well_timed = (spanned stream opening events some well_timed).span
+pub returns-clause-spans : goal.returns-clause-spans
+returns-clause-spans c stream opening events some well_timed = spanned stream opening some events well_timed
 
 pub returns-clause-by_tick : goal.returns-clause-by_tick
 returns-clause-by_tick c stream opening u events open_yet = tick_gives stream opening events u open_yet

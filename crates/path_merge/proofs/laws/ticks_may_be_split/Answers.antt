@@ -1,4 +1,4 @@
-use Rattle.path_merge.proofs.GainLemmas.{tick_again}
+use Rattle.path_merge.proofs.AgainLemmas.{tick_again}
 use Rattle.path_merge.proofs.LawLemmas.{tick_split}
 use Rattle.path_merge.proofs.laws.ticks_may_be_split.Goals as goal
 

@@ -1,0 +1,235 @@
+-- An offer that opens an epoch takes the history on.
+use Rattle.std.proofs.Common.{◌≡◌, ℕ, zero, suc, ◌+◌, ◌^◌, ◌<◌, ◌≤◌, Bool, true, false, not, ◌&&◌, List, [], ◌∷◌, ◌++◌, length, take, min, Option, Some, None, ℤ, refl, sym, ap, subst, ◌∙◌, arith, append-nil, length-append, if◌then◌else◌, pos, ◌-ℤ◌, ◌<ℤ◌}
+use Rattle.std.specs.Prelude.{IsSome, is_some, nat_eq, nat_le, nat_lt, ◌-◌}
+use Rattle.std.specs.FinMap.{get}
+use Rattle.std.proofs.lemmas.Bool.Decides.{nat_tests}
+use Rattle.std.proofs.lemmas.Int.{ints}
+use Rattle.path_merge.proofs.ArrivalLemmas.{marks_of-arrive, stands_after_arrival}
+use Rattle.path_merge.proofs.EpochLemmas.{WithinLength, anchor_is, copies_of-since, copies_since-made, heard_of-made, heard_of-push, last-push, place_within, since_of}
+use Rattle.path_merge.proofs.HistoryLemmas.{arrival_count-append, by_last_event, fates_of-close, fates_of-push, fates_of-tick, is_closed-append, marks_of-in, or_else}
+use Rattle.path_merge.proofs.MarksLemmas.{AllSlotsBelow, IsSlotBelow, limit_of, slots_below}
+use Rattle.path_merge.proofs.ProbationLemmas.{complete_is, probation_of-push}
+use Rattle.path_merge.proofs.RestartLemmas.{GoesOn, in_reach, itself_eq, own_copy}
+use Rattle.path_merge.proofs.SoundLemmas.{anchored_at, some_window}
+use Rattle.path_merge.proofs.StepLemmas.{take_all}
+use Rattle.path_merge.proofs.TallyLemmas.{tally-fate}
+use Rattle.path_merge.specs.Anchor.{is_restart_in_reach, is_source_wanted, media_time_of, next_number, restart_from, restart_media_time}
+use Rattle.path_merge.specs.Copies.{copies_of, copies_of_all}
+use Rattle.path_merge.specs.Counts.{counts_of, fates_of, is_counted_fate, tally_of_fates}
+use Rattle.path_merge.specs.CountsFacts.{Tally, with_fate}
+use Rattle.path_merge.specs.Epochs.{anchor_in, anchor_of, anchors_at, anchors_of, can_restart, copies_since, goes_on, is_all_given, last_of}
+use Rattle.path_merge.specs.Fate.{fate_of}
+use Rattle.path_merge.specs.Grid.{end_of_copies, first_with}
+use Rattle.path_merge.specs.History.{arrival_count, at_places, is_closed, is_counting, time_of}
+use Rattle.path_merge.specs.MarkFacts.{MarkView}
+use Rattle.path_merge.specs.Marks.{marks_of}
+use Rattle.path_merge.specs.Merge.{HasHistory, heard_of, is_slot_in, slot_count}
+use Rattle.path_merge.specs.MergeState.{IsSound, MergeState, holds_nothing}
+use Rattle.path_merge.specs.PathProbation.{is_complete, probation_after, probation_at, probation_heard, probation_of}
+use Rattle.path_merge.specs.Probation.{completes_probation, heard_since, is_off}
+use Rattle.path_merge.specs.Steps.{IsRestartStep, Offers, opens_epoch}
+use Rattle.path_merge.specs.StreamSpecFacts.{Stream}
+use Rattle.path_merge.specs.declared.anchor.Anchor.{Anchor}
+use Rattle.path_merge.specs.declared.event.Event.{Event}
+use Rattle.path_merge.specs.declared.event.Event.TheVariants.{Arrive, Close, Tick}
+use Rattle.path_merge.specs.declared.fate.Fate.{Fate}
+use Rattle.path_merge.specs.declared.fate.Fate.TheVariants.{CountersFull, Restarted}
+use Rattle.path_merge.specs.declared.mark.MarkKind.{MarkKind}
+use Rattle.path_merge.specs.declared.mark.MarkKind.TheVariants.{End, Quiet, Slot}
+use Rattle.path_merge.proofs.EmptyLemmas.{nothing_is}
+use Rattle.path_merge.proofs.CopiesLemmas.{first_with-below, first_with-last}
+use Rattle.path_merge.specs.declared.packet.Packet.{Packet}
+
+-- no slot of an epoch that is still to come
+not_of : (epoch : ℕ) (kind : MarkKind) → IsSlotBelow epoch kind → is_slot_in epoch kind ≡ false
+not_of epoch (Slot e n m b) below = grind (arith, nat_tests, below)
+not_of epoch (Quiet u) below = refl
+not_of epoch End below = refl
+
+pub none_above : (epoch : ℕ) (marks : List MarkView) → AllSlotsBelow epoch marks → slot_count epoch marks ≡ 0
+none_above epoch [] all = refl
+none_above epoch (mark ∷ marks) all = ap (λ b. (if b then 1 else 0) + slot_count epoch marks) (not_of epoch mark.kind all.0) ∙ omega (arith, none_above epoch marks all.1)
+
+-- one packet alone
+pub one_held : (n b : ℕ) (packet : Packet) → (if nat_lt n b then None else (if nat_eq b n then Some packet else None)) ≡ (if nat_eq n b then Some packet else None)
+one_held n b packet = by_tests (nat_lt n b) (nat_eq b n) (nat_eq n b) refl refl refl
+  where
+    by_tests : (l e f : Bool) → nat_lt n b ≡ l → nat_eq b n ≡ e → nat_eq n b ≡ f → (if l then None else (if e then Some packet else None)) ≡ (if f then Some packet else None)
+    by_tests true e false el ee ef = refl
+    by_tests true e true el ee ef = absurd (grind (arith, nat_tests, el, ef))
+    by_tests false true true el ee ef = refl
+    by_tests false false false el ee ef = refl
+    by_tests false true false el ee ef = absurd (grind (arith, nat_tests, ee, ef))
+    by_tests false false true el ee ef = absurd (grind (arith, nat_tests, ee, ef))
+
+no_arrivals : (stream : Stream) (open_at : ℤ) → length (fates_of stream open_at []) ≡ min 0 (2 ^ 62)
+unfolding fates_of at_places
+no_arrivals stream open_at = refl
+
+-- while nothing is closed, the arrivals that count are the first 2^62
+pub counted_arrivals : (stream : Stream) (open_at : ℤ) (events : List Event) → is_closed events ≡ false → length (fates_of stream open_at events) ≡ min (arrival_count events) (2 ^ 62)
+counted_arrivals stream open_at = by_last_event (λ events. is_closed events ≡ false → length (fates_of stream open_at events) ≡ min (arrival_count events) (2 ^ 62)) (λ o. no_arrivals stream open_at) step
+  where
+    open_part : (a b : Bool) → (if a then true else b) ≡ false → a ≡ false
+    open_part false b e = refl
+    open_part true b e = cc
+
+    step : (events : List Event) (event : Event) → (is_closed events ≡ false → length (fates_of stream open_at events) ≡ min (arrival_count events) (2 ^ 62)) → is_closed (events ++ event ∷ []) ≡ false → length (fates_of stream open_at (events ++ event ∷ [])) ≡ min (arrival_count (events ++ event ∷ [])) (2 ^ 62)
+    step events (Tick u) before o =
+        let shut = open_part (is_closed events) false (sym (is_closed-append events (Tick u ∷ [])) ∙ o) in
+        ap length (fates_of-tick stream open_at events u) ∙ before shut ∙ ap (λ n. min n (2 ^ 62)) (omega (arith, arrival_count-append events (Tick u ∷ [])))
+    step events Close before o = absurd (closes (is_closed events) (sym (is_closed-append events (Close ∷ [])) ∙ o))
+      where
+        closes : (a : Bool) → (if a then true else true) ≡ false → ⊥
+        closes true e = cc
+        closes false e = cc
+    step events (Arrive path packet) before o =
+        let shut = open_part (is_closed events) false (sym (is_closed-append events (Arrive path packet ∷ [])) ∙ o) in
+        let counts : is_counting events ≡ nat_lt (arrival_count events) (2 ^ 62) = rw shut refl in
+        ap length (fates_of-push stream open_at events (Arrive path packet)) ∙ ap (λ b. length (fates_of stream open_at events ++ (if b then (path, fate_of stream open_at events path packet) ∷ [] else []))) counts ∙ by_count (nat_lt (arrival_count events) (2 ^ 62)) refl (before shut)
+      where
+        by_count : (b : Bool) → nat_lt (arrival_count events) (2 ^ 62) ≡ b → length (fates_of stream open_at events) ≡ min (arrival_count events) (2 ^ 62) → length (fates_of stream open_at events ++ (if b then (path, fate_of stream open_at events path packet) ∷ [] else [])) ≡ min (arrival_count (events ++ Arrive path packet ∷ [])) (2 ^ 62)
+        by_count true is same =
+            let less : arrival_count events < 2 ^ 62 = grind (arith, nat_tests, is) in
+            omega (arith, same, less, length-append (fates_of stream open_at events) ((path, fate_of stream open_at events path packet) ∷ []), arrival_count-append events (Arrive path packet ∷ []))
+        by_count false is same =
+            let many : 2 ^ 62 ≤ arrival_count events = grind (arith, nat_tests, is) in
+            ap length (append-nil (fates_of stream open_at events)) ∙ omega (arith, same, many, arrival_count-append events (Arrive path packet ∷ []))
+
+module _ (stream : Stream) (open_at : ℤ) (m : MergeState) (media : ℤ) (s : IsSound m media) (open_yet : m.closed ≡ false) (events : List Event) (k : ℕ) (at : HasHistory stream open_at m events k) where
+  pub some_frames : 0 < stream.frames
+  some_frames = rw at.spec at s.spec_ok.some_frames
+
+  pub shut : is_closed events ≡ false
+  shut = sym at.closed ∙ open_yet
+
+  pub all : take k (marks_of stream open_at events) ≡ marks_of stream open_at events
+  all = take_all (marks_of stream open_at events) k (at.all_given shut)
+
+  pub few : m.counts.arrived < 2 ^ 62 → arrival_count events < 2 ^ 62
+  few lt = omega (arith, lt, ap (λ (t : Tally). t.arrived) at.counts, counted_arrivals stream open_at events shut)
+
+  pub hears : m.counts.arrived < 2 ^ 62 → is_counting events ≡ true
+  hears lt = rw shut (less (arrival_count events) (few lt))
+    where
+      less : (n : ℕ) → n < 2 ^ 62 → (not false && nat_lt n (2 ^ 62)) ≡ true
+      less n h = grind (arith, nat_tests, h)
+
+  -- the counts of one more arrival that counts
+  pub counts_heard : (path : ℕ) (packet : Packet) → m.counts.arrived < 2 ^ 62 → (fate : Fate) → fate ≡ fate_of stream open_at events path packet → is_counted_fate fate ≡ true → path < 4 → counts_of stream open_at (events ++ Arrive path packet ∷ []) (marks_of stream open_at events) ≡ with_fate (counts_of stream open_at events (marks_of stream open_at events)) path fate
+  counts_heard path packet lt fate is counted few_paths =
+      let one : fates_of stream open_at (events ++ Arrive path packet ∷ []) ≡ fates_of stream open_at events ++ (path, fate) ∷ [] = fates_of-push stream open_at events (Arrive path packet) ∙ rw (hears lt, is) refl in
+      ap (λ f. tally_of_fates f (marks_of stream open_at events)) one ∙ tally-fate (fates_of stream open_at events) (marks_of stream open_at events) path fate few_paths counted
+
+  -- an arrival that opens an epoch
+  module _ (room : m.counts.arrived < 2 ^ 62) (a : Anchor) (is_a : m.anchor ≡ Some a) (place : ℕ) (last : last_of (anchors_of stream open_at events) ≡ Some (place, a)) (path : ℕ) (packet : Packet) (few_paths : path < 4) where
+    pub next_is : m.base ≡ next_number stream a m.time
+    next_is = rw at.spec at (anchored_at m media m.anchor a is_a s.anchored).next_open open_yet
+
+    -- the merge tells whether it does
+    pub heard_here : is_source_wanted stream.ssrc packet.ssrc ≡ true → heard_since stream open_at place a (events ++ Arrive path packet ∷ []) path ≡ heard_since stream open_at place a events path ++ (is_off stream a m.base packet, packet) ∷ []
+    heard_here wanted =
+        heard_of-push stream open_at (Some (place, a)) events (Arrive path packet) path (subst (WithinLength (length events)) last (place_within stream open_at events))
+        ∙ ap (λ l. heard_since stream open_at place a events path ++ l) (rw (hears room, itself_eq path, wanted, next_is, at.time) refl)
+
+    completes_is : is_source_wanted stream.ssrc packet.ssrc ≡ true → completes_probation stream (heard_since stream open_at place a (events ++ Arrive path packet ∷ []) path) ≡ is_complete (probation_heard stream (probation_at m.probations path) (is_off stream a m.base packet) packet)
+    completes_is wanted =
+        complete_is stream (heard_since stream open_at place a (events ++ Arrive path packet ∷ []) path)
+        ∙ ap (λ l. is_complete (probation_of stream l)) (heard_here wanted)
+        ∙ ap is_complete (probation_of-push stream (heard_since stream open_at place a events path) (is_off stream a m.base packet, packet))
+        ∙ ap (λ p. is_complete (probation_after stream p (is_off stream a m.base packet, packet))) (sym (at.probation path few_paths ∙ ap (λ o. probation_of stream (heard_of stream open_at o events path)) last))
+        ∙ sym (rw wanted refl)
+
+    copies_are : copies_of stream open_at events ≡ copies_since stream open_at place a events
+    copies_are = copies_of-since stream open_at events ∙ ap (λ o. since_of stream open_at o events) last
+
+    given_is : holds_nothing m ≡ is_all_given stream open_at place a events
+    given_is =
+        nothing_is m media a s is_a open_yet (end_of_copies (copies_of stream open_at events)) (λ n low some. first_with-below n (copies_of stream open_at events) (subst IsSome (held_copy n low) some)) (λ lt. subst IsSome (sym (held_copy (end_of_copies (copies_of stream open_at events) - 1) (omega (arith, lt)))) (first_with-last (end_of_copies (copies_of stream open_at events) - 1) (copies_of stream open_at events) (omega (arith, lt))))
+        ∙ ap (λ l. nat_le (end_of_copies l) m.base) copies_are
+        ∙ ap (nat_le (end_of_copies (copies_since stream open_at place a events))) (next_is ∙ ap (next_number stream a) at.time)
+      where
+        held_copy : (n : ℕ) → m.base ≤ n → get m.held n ≡ first_with n (copies_of stream open_at events)
+        held_copy n low = let past : nat_lt n m.base ≡ false = grind (arith, nat_tests, low) in at.held n ∙ rw past refl
+
+    goes_is : is_restart_in_reach stream m.time (media_time_of stream a m.base) (restart_media_time stream.clock packet.ts m.time (media_time_of stream a m.base)) ≡ goes_on stream (time_of open_at events) a packet
+    goes_is = ap (λ b. is_restart_in_reach stream m.time (media_time_of stream a b) (restart_media_time stream.clock packet.ts m.time (media_time_of stream a b))) next_is ∙ ap (λ t. goes_on stream t a packet) at.time
+
+    pub opens_is : opens_epoch m a path packet ≡ can_restart stream open_at place a events path packet
+    opens_is =
+        ap (λ sp. is_some (if is_source_wanted sp.ssrc packet.ssrc && is_complete (probation_heard sp (probation_at m.probations path) (is_off sp a m.base packet) packet) then (if holds_nothing m && is_restart_in_reach sp m.time (media_time_of sp a m.base) (restart_media_time sp.clock packet.ts m.time (media_time_of sp a m.base)) then Some (restart_media_time sp.clock packet.ts m.time (media_time_of sp a m.base)) else None) else None)) at.spec
+        ∙ by_tests (is_source_wanted stream.ssrc packet.ssrc) _ _ _ _ _ _ (restart_media_time stream.clock packet.ts m.time (media_time_of stream a m.base)) (λ wanted. sym (completes_is wanted)) given_is goes_is
+      where
+        in_order : (c g r : Bool) (z : ℤ) → is_some (if c then (if g && r then Some z else None) else None) ≡ (r && (g && c))
+        in_order true true true z = refl
+        in_order true true false z = refl
+        in_order true false true z = refl
+        in_order true false false z = refl
+        in_order false true true z = refl
+        in_order false true false z = refl
+        in_order false false true z = refl
+        in_order false false false z = refl
+
+        by_tests : (w c c' g g' r r' : Bool) (z : ℤ) → (w ≡ true → c ≡ c') → g ≡ g' → r ≡ r' → is_some (if w && c then (if g && r then Some z else None) else None) ≡ (r' && (g' && (w && c')))
+        by_tests false c c' g g' r r' z same is_g is_r = in_order false g r z ∙ ap (λ b. r && (b && false)) is_g ∙ ap (λ b. b && (g' && false)) is_r
+        by_tests true c c' g g' r r' z same is_g is_r = in_order c g r z ∙ ap (λ b. r && (g && b)) (same refl) ∙ ap (λ b. r && (b && c')) is_g ∙ ap (λ b. b && (g' && c')) is_r
+
+    -- what is known where it does
+    module _ (opens : can_restart stream open_at place a events path packet ≡ true) (seq : packet.seq < 65536) (ts : packet.ts < 2 ^ 32) where
+      abbrev media_then : ℤ
+      media_then = restart_media_time stream.clock packet.ts m.time (media_time_of stream a m.base)
+
+      first : GoesOn stream m.time (media_time_of stream a m.base) (restart_media_time stream.clock packet.ts m.time (media_time_of stream a m.base))
+      first = in_reach_then (goes_on stream (time_of open_at events) a packet) refl opens
+        where
+          in_reach_then : (b : Bool) → goes_on stream (time_of open_at events) a packet ≡ b → (b && (is_all_given stream open_at place a events && (is_source_wanted stream.ssrc packet.ssrc && completes_probation stream (heard_since stream open_at place a (events ++ Arrive path packet ∷ []) path)))) ≡ true → GoesOn stream m.time (media_time_of stream a m.base) (restart_media_time stream.clock packet.ts m.time (media_time_of stream a m.base))
+          in_reach_then true is e = in_reach stream m.time (media_time_of stream a m.base) (restart_media_time stream.clock packet.ts m.time (media_time_of stream a m.base)) (rw (next_is, at.time) is)
+          in_reach_then false is e = cc
+
+      made_then : last_of (anchors_of stream open_at (events ++ Arrive path packet ∷ [])) ≡ Some (length events, restart_from stream m.time a m.base packet)
+      made_then =
+          let made : last_of (anchors_at stream open_at (anchors_of stream open_at events) events (Arrive path packet)) ≡ Some (length events, restart_from stream m.time a m.base packet) = rw (hears room, last, opens, next_is, at.time) refl in
+          last-push stream open_at events (Arrive path packet) ∙ ap (λ o. or_else o (last_of (anchors_of stream open_at events))) made
+
+      anchor_then : anchor_of stream open_at (events ++ Arrive path packet ∷ []) ≡ Some (restart_from stream m.time a m.base packet)
+      anchor_then = anchor_is stream open_at (events ++ Arrive path packet ∷ []) ∙ ap anchor_in made_then
+
+      copies_then : copies_of stream open_at (events ++ Arrive path packet ∷ []) ≡ (65536 + packet.seq, packet) ∷ []
+      copies_then =
+          copies_of-since stream open_at (events ++ Arrive path packet ∷ [])
+          ∙ ap (λ o. since_of stream open_at o (events ++ Arrive path packet ∷ [])) made_then
+          ∙ copies_since-made stream open_at events (Arrive path packet) (restart_from stream m.time a m.base packet)
+          ∙ rw (← at.time, hears room) (own_copy stream m.time packet (a.epoch + 1) (restart_media_time stream.clock packet.ts m.time (media_time_of stream a m.base)) some_frames (rw at.spec at (some_window m.spec s.spec_ok)) seq ts first.after)
+
+      -- no slot of it yet
+      none_yet : slot_count (a.epoch + 1) (marks_of stream open_at events) ≡ 0
+      none_yet = none_above (a.epoch + 1) (marks_of stream open_at events) (subst (λ o. AllSlotsBelow (limit_of stream o) (marks_of stream open_at events)) (sym at.anchor ∙ is_a) (rw (marks_of-in stream open_at events) (slots_below stream open_at some_frames (copies_of_all stream open_at events) events at.well_timed shut)))
+
+      pub fate_restart : Restarted ≡ fate_of stream open_at events path packet
+      fate_restart = sym (rw (shut, last, opens) (by_count (arrival_count events) (few room)))
+        where
+          by_count : (n : ℕ) → n < 2 ^ 62 → (if not (nat_lt n (2 ^ 62)) then CountersFull else Restarted) ≡ Restarted
+          by_count n h = let yes : nat_lt n (2 ^ 62) ≡ true = grind (arith, nat_tests, h) in rw yes refl
+
+      -- so the merge stands at the history with the arrival, in the new epoch
+      pub stands_restart : (new : MergeState) (fate : Fate) → IsRestartStep stream m new a path packet fate → HasHistory stream open_at new (events ++ Arrive path packet ∷ []) k
+      stands_restart new fate step = stands_after_arrival stream open_at some_frames m new events k path packet at open_yet (few room) (record {
+        spec = ap (λ (x : MergeState). x.spec) step.changed;
+        time = ap (λ (x : MergeState). x.time) step.changed;
+        anchor = ap (λ (x : MergeState). x.anchor) step.changed ∙ sym anchor_then;
+        base = rw (ap (λ (x : MergeState). x.anchor) step.changed) (omega (arith, ap (λ (x : MergeState). x.base) step.changed, none_yet));
+        held = λ n. step.held n ∙ sym (ap (λ b. if nat_lt n b then None else first_with n (copies_of stream open_at (events ++ Arrive path packet ∷ []))) (ap (λ (x : MergeState). x.base) step.changed) ∙ ap (λ l. if nat_lt n (65536 + packet.seq) then None else first_with n l) copies_then ∙ one_held n (65536 + packet.seq) packet);
+        probation = λ other few_others. step.probations other ∙ sym (ap (λ o. probation_of stream (heard_of stream open_at o (events ++ Arrive path packet ∷ []) other)) made_then ∙ ap (probation_of stream) (heard_of-made stream open_at (restart_from stream m.time a m.base packet) events (Arrive path packet) other));
+        quiet = ap (λ (x : MergeState). x.quiet) step.changed;
+        counts = ap (λ (x : MergeState). x.counts) step.changed ∙ ap (λ t. with_fate t path Restarted) (at.counts ∙ ap (counts_of stream open_at events) all) ∙ sym (counts_heard path packet room Restarted fate_restart refl few_paths);
+        closed = ap (λ (x : MergeState). x.closed) step.changed;
+        ended = ap (λ (x : MergeState). x.ended) step.changed;
+      })
+
+      -- an offer that opens an epoch
+      pub offers_restart : (new : MergeState) (fate : Fate) → IsRestartStep stream m new a path packet fate → Offers stream open_at new events k path packet fate
+      offers_restart new fate step = record {
+        fate_is = step.fate_is ∙ fate_restart;
+        stands = stands_restart new fate step;
+        kept = marks_of-arrive stream open_at some_frames events at.well_timed shut path packet;
+      }

@@ -1,0 +1,17 @@
+-- A merge on its way from a history to a reading.
+use Rattle.std.specs.Prelude.{◌≡◌, ℕ, ◌+◌, List, [], ◌∷◌, ◌++◌, length, ℤ, ◌≤ℤ◌}
+use Rattle.path_merge.specs.StreamSpecFacts.{Stream}
+use Rattle.path_merge.specs.MarkFacts.{MarkView}
+use Rattle.path_merge.specs.declared.event.Event.{Event}
+use Rattle.path_merge.specs.declared.event.Event.TheVariants.{Tick}
+use Rattle.path_merge.specs.Marks.{marks_of}
+use Rattle.path_merge.specs.MergeState.{MergeState}
+use Rattle.path_merge.specs.Merge.{HasHistory}
+use Rattle.path_merge.specs.Steps.{IsAlike}
+
+-- after these events it has gone some way to a reading of `now`, and gave so many marks more: it has some history so far, which any reading of a time still on the way makes alike to that reading after the events alone
+pub record IsOnWay (stream : Stream) (open_at : ℤ) (m : MergeState) (events : List Event) (now : ℤ) (k : ℕ) (more : List MarkView) : Type 0 where
+  pub so_far : List Event
+  pub stands : HasHistory stream open_at m so_far (k + length more)
+  pub marks : marks_of stream open_at so_far ≡ marks_of stream open_at events ++ more
+  pub joins : (u : ℤ) → m.time ≤ℤ u → u ≤ℤ now → IsAlike stream open_at (so_far ++ Tick u ∷ []) (events ++ Tick u ∷ [])

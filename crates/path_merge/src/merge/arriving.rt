@@ -1,0 +1,202 @@
+//! Arrivals at a merge.
+ghost use Rattle.std.specs.Prelude.{◌≡◌, ℕ, ◌+◌, ◌^◌, ◌<◌, ◌∷◌, ◌++◌, [], List, ℤ, Some, None, true, false};
+ghost use Rattle.path_merge.specs.declared.anchor.Anchor.{Anchor};
+ghost use Rattle.path_merge.specs.declared.event.Event.{Event};
+ghost use Rattle.path_merge.specs.declared.fate.Fate.TheVariants.{Restarted};
+ghost use Rattle.path_merge.specs.declared.packet.Packet.{Packet};
+ghost use Rattle.path_merge.specs.Anchor.{is_restart_in_reach, media_time_of, restart_media_time};
+ghost use Rattle.path_merge.specs.PacketRef.{packet_of};
+ghost use Rattle.path_merge.specs.Counts.{is_counted_fate, is_taken_fate};
+ghost use Rattle.path_merge.specs.Probation.{is_off as off_grid};
+ghost use Rattle.path_merge.specs.StreamSpecFacts.{Stream};
+
+use super::Merge;
+use crate::anchor::{Anchor, media_of_first, media_of_restart, number_of};
+use crate::arrival::{fate_of, fate_of_first, goes_on, is_off, is_taken, place_fault};
+use crate::fate::Fate;
+use crate::packet::{Packet, PacketRef};
+use crate::path::Path;
+use crate::probation::{Probation, hear_on};
+use crate::window::Window;
+
+/// So many arrivals are counted: 2^62.
+const MOST_ARRIVALS: u64 = 4_611_686_018_427_387_904;
+
+impl<V: Window> Merge<V> {
+    ghost use Rattle.path_merge.specs.StreamSpec.{Fits};
+    ghost use Rattle.path_merge.specs.MergeState.{MergeState};
+    ghost use Rattle.path_merge.specs.Merge.{HasHistory};
+    ghost use Rattle.path_merge.specs.Window.{IsEmpty};
+    ghost use Rattle.path_merge.specs.Steps.{IsFirstStep, IsHeardStep, IsNextStep, IsPutStep, IsRefusal, IsRestartStep, Offers, epoch_media, opening_of, opens_epoch, place_fault_of};
+
+    /// Takes a packet of the stream's length that came in on one of its paths.
+    pub fn offer(&mut self, path: Path, packet: Packet) -> Fate
+        requires path { path < self.old.spec.paths }
+        requires fits { Fits self.old.spec packet }
+        ensures stands { (stream : Stream) (open_at : ℤ) (events : List Event) (k : ℕ)
+            → HasHistory stream open_at self.old events k → Offers stream open_at self.new events k path packet result }
+        ensures refused { is_taken_fate result ≡ false → IsRefusal self.old self.new path result }
+        ensures unheard { is_counted_fate result ≡ false → self.new ≡ self.old }
+        ensures time { self.new.time ≡ self.old.time }
+        ensures closed { self.new.closed ≡ self.old.closed }
+        ensures spec { self.new.spec ≡ self.old.spec }
+    {
+        self.offer_ref(path, packet.lent())
+    }
+
+    /// As `offer`, of a packet that is lent: its samples are copied to where they stay.
+    #[inline]
+    pub fn offer_ref(&mut self, path: Path, packet: PacketRef<'_>) -> Fate
+        requires path { path < self.old.spec.paths }
+        requires fits { Fits self.old.spec (packet_of packet) }
+        ensures stands { (stream : Stream) (open_at : ℤ) (events : List Event) (k : ℕ)
+            → HasHistory stream open_at self.old events k → Offers stream open_at self.new events k path (packet_of packet.entry) result }
+        ensures refused { is_taken_fate result ≡ false → IsRefusal self.old self.new path result }
+        ensures unheard { is_counted_fate result ≡ false → self.new ≡ self.old }
+        ensures time { self.new.time ≡ self.old.time }
+        ensures closed { self.new.closed ≡ self.old.closed }
+        ensures spec { self.new.spec ≡ self.old.spec }
+    {
+        if self.closed {
+            return Fate::Closed;
+        }
+        if self.counts.arrived == MOST_ARRIVALS {
+            return Fate::CountersFull;
+        }
+        match self.anchor {
+            Some(anchor) => self.offer_next(anchor, path, &packet),
+            None => self.offer_first(path, &packet),
+        }
+    }
+
+    /// Takes an arrival at an anchored merge.
+    #[inline]
+    fn offer_next(&mut self, anchor: Anchor, path: Path, packet: &PacketRef<'_>) -> Fate
+        requires anchored { self.old.anchor ≡ Some anchor }
+        requires open_yet { self.old.closed ≡ false }
+        requires room { self.old.counts.arrived < 2 ^ 62 }
+        requires fits { Fits self.old.spec (packet_of packet.now) }
+        ensures next { opens_epoch self.old anchor path (packet_of packet.now) ≡ false → IsNextStep self.old.spec self.old self.new anchor path (packet_of packet.now) result }
+        ensures restart { opens_epoch self.old anchor path (packet_of packet.now) ≡ true → IsRestartStep self.old.spec self.old self.new anchor path (packet_of packet.now) result }
+    {
+        let next = self.window.base();
+        let fault = place_fault(&self.spec, &anchor, next, self.next_media, packet);
+        match self.hear(anchor, path, is_off(fault), packet) {
+            Some(media) => {
+                self.restart(anchor, media, path, packet);
+                Fate::Restarted
+            }
+            None => self.put_or_refuse(anchor, fault, path, packet),
+        }
+    }
+
+    /// Hears a packet on its path, and answers the media time of the epoch that it opens.
+    #[inline]
+    fn hear(&mut self, anchor: Anchor, path: Path, off: bool, packet: &PacketRef<'_>) -> Option<i64>
+        requires anchored { self.old.anchor ≡ Some anchor }
+        requires open_yet { self.old.closed ≡ false }
+        requires off { off ≡ off_grid self.old.spec anchor self.old.base (packet_of packet.now) }
+        ensures opening { result ≡ opening_of self.old anchor path (packet_of packet.now) }
+        ensures step { IsHeardStep self.old self.new anchor path (packet_of packet.now) }
+    {
+        if hear_on(&mut self.probations, path, &self.spec, off, packet) {
+            self.media_of_epoch(packet)
+        } else {
+            None
+        }
+    }
+
+    /// Takes a packet with no fault, where its number has none, and counts it.
+    #[inline]
+    fn put_or_refuse(
+        &mut self,
+        anchor: Anchor,
+        fault: Option<Fate>,
+        path: Path,
+        packet: &PacketRef<'_>,
+    ) -> Fate
+        requires anchored { self.old.anchor ≡ Some anchor }
+        requires open_yet { self.old.closed ≡ false }
+        requires room { self.old.counts.arrived < 2 ^ 62 }
+        requires fits { Fits self.old.spec (packet_of packet.now) }
+        requires fault { fault ≡ place_fault_of self.old.spec anchor self.old.base (packet_of packet.now) }
+        ensures { IsPutStep self.old.spec self.old self.new anchor path (packet_of packet.now) result }
+    {
+        match fault {
+            Some(fate) => {
+                self.counts.add_fate(path, fate);
+                fate
+            }
+            None => {
+                let number = number_of(packet, self.window.base());
+                let fate = fate_of(self.window.put_ref(number, *packet));
+                self.counts.add_fate(path, fate);
+                fate
+            }
+        }
+    }
+
+    /// The media time of an epoch that a packet may open: nothing is held, and media time goes on.
+    fn media_of_epoch(&self, packet: &PacketRef<'_>) -> Option<i64>
+        requires open_yet { self.now.closed ≡ false }
+        ensures { (a : Anchor) → self.now.anchor ≡ Some a → result ≡ epoch_media self.now a (packet_of packet.now) }
+    {
+        if self.window.base() < self.window.end() {
+            return None;
+        }
+        let due = self.next_media;
+        let media = media_of_restart(self.spec.clock(), packet.ts, self.time, due);
+        if !goes_on(&self.spec, self.time, due, media) {
+            return None;
+        }
+        Some(media)
+    }
+
+    /// Begins a new epoch at a packet, where nothing is held.
+    #[inline(never)]
+    fn restart(&mut self, anchor: Anchor, media: i64, path: Path, packet: &PacketRef<'_>)
+        requires anchored { self.old.anchor ≡ Some anchor }
+        requires open_yet { self.old.closed ≡ false }
+        requires room { self.old.counts.arrived < 2 ^ 62 }
+        requires fits { Fits self.old.spec (packet_of packet.now) }
+        requires few_epochs { anchor.epoch < 2 ^ 62 }
+        requires nothing_held { IsEmpty self.old.held }
+        requires goes_on { is_restart_in_reach self.old.spec self.old.time (media_time_of self.old.spec anchor self.old.base) media ≡ true }
+        requires media { media ≡ restart_media_time self.old.spec.clock packet.now.ts self.old.time (media_time_of self.old.spec anchor self.old.base) }
+        ensures { IsRestartStep self.old.spec self.old self.new anchor path (packet_of packet.now) Restarted }
+    {
+        let next = Anchor::following(anchor.epoch, packet.seq, packet.ts, packet.ssrc, media);
+        self.anchor = Some(next);
+        self.next_media = media;
+        self.window.begin_at(next.number);
+        let _ = self.window.put_ref(next.number, *packet);
+        self.probations = [Probation::new(); 4];
+        self.counts.add_fate(path, Fate::Restarted);
+    }
+
+    /// Takes an arrival at a merge with no anchor.
+    #[inline(never)]
+    fn offer_first(&mut self, path: Path, packet: &PacketRef<'_>) -> Fate
+        requires unanchored { self.old.anchor ≡ None }
+        requires open_yet { self.old.closed ≡ false }
+        requires room { self.old.counts.arrived < 2 ^ 62 }
+        requires fits { Fits self.old.spec (packet_of packet.now) }
+        ensures step { IsFirstStep self.old.spec self.old self.new path (packet_of packet.now) result }
+        ensures seq { packet.now.seq < 2 ^ 16 }
+        ensures ts { packet.now.ts < 2 ^ 32 }
+    {
+        let media = media_of_first(self.spec.clock(), packet.ts, self.time);
+        let anchor = Anchor::first(packet.seq, packet.ts, packet.ssrc, media);
+        let fate = fate_of_first(&self.spec, self.time, media, packet.ssrc);
+        if !is_taken(fate) {
+            self.counts.add_fate(path, fate);
+            return fate;
+        }
+        self.anchor = Some(anchor);
+        self.next_media = media;
+        self.window.begin_at(anchor.number);
+        let _ = self.window.put_ref(anchor.number, *packet);
+        self.counts.add_fate(path, Fate::Taken);
+        Fate::Taken
+    }
+}

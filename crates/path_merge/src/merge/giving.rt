@@ -1,0 +1,296 @@
+//! The marks that a merge gives.
+ghost use Rattle.std.specs.Prelude.{◌≡◌, ◌==◌, if◌then◌else◌, nat_eq, ℕ, ◌+◌, ◌^◌, ◌<◌, List, ℤ, pos, ◌≤ℤ◌, Some, None, IfSome, OnOk, IfOk, IfErr, OnErr, true, false, option_copied};
+ghost use Rattle.std.specs.FinMap as map;
+ghost use Rattle.path_merge.specs.declared.event.Event.{Event};
+ghost use Rattle.path_merge.specs.Counts.{is_got_body, tally_of};
+ghost use Rattle.path_merge.specs.CountsFacts.{with_body};
+ghost use Rattle.path_merge.specs.MarkRef.{body_from};
+ghost use Rattle.path_merge.specs.Anchor.{deadline_of};
+ghost use Rattle.path_merge.specs.Marks.{body_of, slot_mark};
+ghost use Rattle.path_merge.specs.Steps.{is_quiet_due};
+ghost use Rattle.path_merge.specs.StreamSpecFacts.{Stream};
+
+use super::Merge;
+use crate::anchor::Anchor;
+use crate::clock::{ClockFault, clock_fault};
+use crate::counts::Counts;
+use crate::mark::Mark;
+use crate::mark_ref::MarkRef;
+use crate::packet::Packet;
+use crate::window::Window;
+
+/// Whether a Quiet is given, where the last one was at `last`.
+fn is_silence_new(no_slot: bool, last: i64, until: i64) -> bool
+    ensures { result ≡ is_quiet_due no_slot last until }
+{
+    no_slot && last < until
+}
+
+/// Whether no slot was ever given.
+fn is_slotless(counts: &Counts) -> bool
+    ensures { result ≡ nat_eq (counts.now.got + counts.now.lost) 0 }
+{
+    counts.got == 0 && counts.lost == 0
+}
+
+/// The samples of a packet, if there is one.
+#[inline]
+fn octets_of(packet: Option<&Packet>) -> Option<&[u8]>
+    ensures { body_from (option_copied result) ≡ body_of (option_copied packet.entry) }
+{
+    match packet {
+        Some(packet) => Some(packet.payload.as_slice()),
+        None => None,
+    }
+}
+
+/// The mark with a payload of its own, if there is one.
+fn mark_copied(mark: Option<MarkRef<'_>>) -> Option<Mark>
+    ensures { result ≡ mark.entry }
+{
+    match mark {
+        Some(mark) => Some(mark.to_mark()),
+        None => None,
+    }
+}
+
+/// Lets the slot of a window's base go, and counts it.
+#[inline]
+fn drop_slot<V: Window>(window: &mut V, counts: &mut Counts)
+    requires number { V.base window.old < 2 ^ 62 }
+    requires held { is_got_body (body_of (map.get (V.held window.old) (V.base window.old))) ≡ true → counts.old.got < counts.old.taken }
+    requires few { counts.old.lost < 2 ^ 63 }
+    ensures base { V.base window.new ≡ V.base window.old + 1 }
+    ensures size { V.size window.new ≡ V.size window.old }
+    ensures held { (n : ℕ) → map.get (V.held window.new) n ≡ (if n == V.base window.old then None else map.get (V.held window.old) n) }
+    ensures counted { tally_of counts.new ≡ with_body (tally_of counts.old) (body_of (map.get (V.held window.old) (V.base window.old))) }
+{
+    counts.add_slot(window.front().is_some());
+    window.drop_front();
+}
+
+impl<V: Window> Merge<V> {
+    ghost use Rattle.path_merge.specs.Merge.{HasHistory};
+    ghost use Rattle.path_merge.specs.Next.{anchor_due, anchor_left, next_mark, next_left, quiet_next};
+    ghost use Rattle.path_merge.specs.Steps.{IsSlotStep, IsTimeStep, IsLeftStep, HoldsMore, IsBeforeDeadline, clock_fault_of, is_slot_mark, Moves, Advances, Drains, marks_left};
+
+    /// Moves the time to `now`, or to the next deadline if that comes first, and gives the mark there.
+    ///
+    /// A slot may be followed by more at the same reading: the reading is passed when the answer is
+    /// `None` or a Quiet. It is `mark_at` with a copy, and then `pass`.
+    pub fn advance(&mut self, now: i64) -> Result<Option<Mark>, ClockFault>
+        ensures stands { IfOk result (λ mark. (stream : Stream) (open_at : ℤ) (events : List Event) (k : ℕ)
+            → HasHistory stream open_at self.old events k → Advances stream open_at self.old self.new events k now mark) }
+        ensures fine { IfOk result (λ mark. clock_fault_of self.old.time self.old.closed now ≡ None) }
+        ensures moved { IfOk result (Moves self.old self.new now) }
+        ensures spec { self.new.spec ≡ self.old.spec }
+        ensures fault { IfErr result (λ fault. clock_fault_of self.old.time self.old.closed now ≡ Some fault) }
+        ensures err { OnErr result (self.new ≡ self.old) }
+    {
+        let mark = mark_copied(self.mark_at(now)?);
+        self.pass(now)?;
+        Ok(mark)
+    }
+
+    /// The mark that a reading of `now` gives next, its payload lent by the window.
+    #[inline]
+    pub fn mark_at(&self, now: i64) -> Result<Option<MarkRef<'_>>, ClockFault>
+        ensures mark { IfOk result (λ mark. mark ≡ next_mark self.now now) }
+        ensures fine { IfOk result (λ mark. clock_fault_of self.now.time self.now.closed now ≡ None) }
+        ensures fault { IfErr result (λ fault. clock_fault_of self.now.time self.now.closed now ≡ Some fault) }
+    {
+        if let Some(fault) = clock_fault(self.time, self.closed, now) {
+            return Err(fault);
+        }
+        match self.anchor_due(now) {
+            Some(anchor) => Ok(Some(self.slot_next(anchor))),
+            None => Ok(self.quiet_next(now)),
+        }
+    }
+
+    /// Lets the mark that a reading of `now` gives next go, and moves the time as `advance` does.
+    ///
+    /// Answers whether it was a slot: then more may follow at the same reading.
+    #[inline]
+    pub fn pass(&mut self, now: i64) -> Result<bool, ClockFault>
+        ensures stands { OnOk result ((stream : Stream) (open_at : ℤ) (events : List Event) (k : ℕ)
+            → HasHistory stream open_at self.old events k → Advances stream open_at self.old self.new events k now (next_mark self.old now)) }
+        ensures slot { IfOk result (λ slot. slot ≡ is_slot_mark (next_mark self.old now)) }
+        ensures fine { OnOk result (clock_fault_of self.old.time self.old.closed now ≡ None) }
+        ensures moved { OnOk result (Moves self.old self.new now (next_mark self.old now)) }
+        ensures spec { self.new.spec ≡ self.old.spec }
+        ensures fault { IfErr result (λ fault. clock_fault_of self.old.time self.old.closed now ≡ Some fault) }
+        ensures err { OnErr result (self.new ≡ self.old) }
+    {
+        if let Some(fault) = clock_fault(self.time, self.closed, now) {
+            return Err(fault);
+        }
+        match self.anchor_due(now) {
+            Some(anchor) => {
+                self.pass_due_slot(anchor);
+                Ok(true)
+            }
+            None => {
+                self.pass_time(now);
+                Ok(false)
+            }
+        }
+    }
+
+    /// The anchor, if the deadline of the base has come.
+    #[inline]
+    fn anchor_due(&self, now: i64) -> Option<Anchor>
+        requires { clock_fault_of self.now.time self.now.closed now ≡ None }
+        ensures { result ≡ anchor_due self.now now }
+    {
+        let anchor = self.anchor?;
+        if self.next_media + i64::from(self.spec.latency()) <= now {
+            Some(anchor)
+        } else {
+            None
+        }
+    }
+
+    /// The slot of the base.
+    #[inline]
+    fn slot_next(&self, anchor: Anchor) -> MarkRef<'_>
+        requires anchored { self.now.anchor ≡ Some anchor }
+        ensures { result ≡ slot_mark self.now.spec anchor self.now.base (body_of (map.get self.now.held self.now.base)) }
+    {
+        let payload = octets_of(self.window.front());
+        MarkRef::slot(
+            self.spec.format(),
+            anchor.epoch,
+            self.window.base(),
+            self.next_media,
+            payload,
+        )
+    }
+
+    /// The Quiet that a reading gives before every slot, if it is new.
+    #[inline]
+    fn quiet_next(&self, now: i64) -> Option<MarkRef<'_>>
+        requires { clock_fault_of self.now.time self.now.closed now ≡ None }
+        ensures { result ≡ quiet_next self.now now }
+    {
+        let until = now - i64::from(self.spec.latency());
+        let counts = self.counts;
+        if is_silence_new(is_slotless(&counts), self.quiet, until) {
+            Some(MarkRef::quiet(self.spec.format(), until))
+        } else {
+            None
+        }
+    }
+
+    /// Lets the slot of the base go at its deadline.
+    #[inline]
+    fn pass_due_slot(&mut self, anchor: Anchor)
+        requires anchored { self.old.anchor ≡ Some anchor }
+        requires open_yet { self.old.closed ≡ false }
+        requires soon { deadline_of self.old.spec anchor self.old.base ≤ℤ pos (2 ^ 60) }
+        ensures { IsSlotStep self.old.spec self.old self.new anchor }
+    {
+        let media = self.next_media;
+        self.time = media + i64::from(self.spec.latency());
+        self.next_media = media + i64::from(self.spec.frames());
+        drop_slot(&mut self.window, &mut self.counts);
+    }
+
+    /// Lets time pass with no slot.
+    #[inline]
+    fn pass_time(&mut self, now: i64)
+        requires not_back { self.old.time ≤ℤ now }
+        requires not_far { now ≤ℤ pos (2 ^ 60) }
+        requires open_yet { self.old.closed ≡ false }
+        requires no_deadline { IsBeforeDeadline self.old.spec self.old.anchor self.old.base now }
+        ensures { IsTimeStep self.old.spec self.old self.new now (nat_eq (self.old.counts.got + self.old.counts.lost) 0) (quiet_next self.old now) }
+    {
+        let until = now - i64::from(self.spec.latency());
+        let counts = self.counts;
+        let no_slot = is_slotless(&counts);
+        self.time = now;
+        if is_silence_new(no_slot, self.quiet, until) {
+            self.quiet = until;
+        }
+    }
+
+    /// After a close, gives the next mark that is left: the slots up to the last packet held, then the end.
+    ///
+    /// It is `mark_left` with a copy, and then `pass_left`.
+    pub fn drain(&mut self) -> Option<Mark>
+        ensures stands { (stream : Stream) (open_at : ℤ) (events : List Event) (k : ℕ)
+            → HasHistory stream open_at self.old events k → Drains stream open_at self.new events k result }
+        ensures open_yet { self.old.closed ≡ false → (result ≡ None) × (self.new ≡ self.old) }
+        ensures none { result ≡ None → self.new ≡ self.old }
+        ensures fewer { IfSome result (λ mark. marks_left self.new < marks_left self.old) }
+        ensures time { self.new.time ≡ self.old.time }
+        ensures closed { self.new.closed ≡ self.old.closed }
+        ensures spec { self.new.spec ≡ self.old.spec }
+    {
+        let mark = mark_copied(self.mark_left());
+        self.pass_left();
+        mark
+    }
+
+    /// The next mark that is left after a close, its payload lent by the window.
+    pub fn mark_left(&self) -> Option<MarkRef<'_>>
+        ensures { result ≡ next_left self.now }
+    {
+        if !self.closed {
+            return None;
+        }
+        if self.ended {
+            return None;
+        }
+        match self.anchor_left() {
+            Some(anchor) => Some(self.slot_next(anchor)),
+            None => Some(MarkRef::end(self.spec.format())),
+        }
+    }
+
+    /// Lets the next mark that is left after a close go.
+    pub fn pass_left(&mut self)
+        ensures stands { (stream : Stream) (open_at : ℤ) (events : List Event) (k : ℕ)
+            → HasHistory stream open_at self.old events k → Drains stream open_at self.new events k (next_left self.old) }
+        ensures none { next_left self.old ≡ None → self.new ≡ self.old }
+        ensures fewer { IfSome (next_left self.old) (λ mark. marks_left self.new < marks_left self.old) }
+        ensures time { self.new.time ≡ self.old.time }
+        ensures closed { self.new.closed ≡ self.old.closed }
+        ensures spec { self.new.spec ≡ self.old.spec }
+    {
+        if !self.closed {
+            return;
+        }
+        if self.ended {
+            return;
+        }
+        match self.anchor_left() {
+            Some(anchor) => self.pass_slot_left(anchor),
+            None => self.ended = true,
+        }
+    }
+
+    /// The anchor, if a packet is held at the base or later.
+    fn anchor_left(&self) -> Option<Anchor>
+        ensures { result ≡ anchor_left self.now }
+    {
+        let anchor = self.anchor?;
+        if self.window.base() < self.window.end() {
+            Some(anchor)
+        } else {
+            None
+        }
+    }
+
+    /// Lets the slot of the base go, where a packet is held there or later.
+    fn pass_slot_left(&mut self, anchor: Anchor)
+        requires anchored { self.old.anchor ≡ Some anchor }
+        requires closed { self.old.closed ≡ true }
+        requires more { HoldsMore self.old }
+        ensures { IsLeftStep self.old self.new }
+    {
+        let media = self.next_media;
+        self.next_media = media + i64::from(self.spec.frames());
+        drop_slot(&mut self.window, &mut self.counts);
+    }
+}
