@@ -1,5 +1,5 @@
 //! A matrix of gains that changes at given times.
-ghost use Rattle.std.specs.Prelude.{◌≡◌, ◌≤◌, ◌*◌, ◌^◌, ℤ, ◌⊎◌, pos, ◌+ℤ◌, ◌≤ℤ◌, length, All, IfSome, IfNone, IsOkAnd};
+ghost use Rattle.std.specs.Prelude.{◌≡◌, ◌≤◌, ◌*◌, ◌^◌, ℤ, ◌⊎◌, pos, ◌+ℤ◌, ◌≤ℤ◌, length, All, IfOk, IfSome, IfNone, IsOkAnd};
 ghost use Rattle.gain_mix.specs.Gain.{ins_of};
 ghost use Rattle.gain_mix.specs.Changes.{matrix_at};
 ghost use Rattle.gain_mix.specs.Mix.{Is24Bits, IsMixed};
@@ -7,6 +7,7 @@ ghost use Rattle.gain_mix.specs.Schedule.{schedule_fault_of, has_one_shape, has_
 
 use crate::matrix::Matrix;
 use crate::mix::mix_frame;
+use std::alloc::{AllocError, Global};
 use std::marker::Model;
 use thiserror::Error;
 
@@ -96,8 +97,20 @@ impl Schedule {
         self.later.as_slice()
     }
 
+    /// A schedule of the same gains.
+    pub fn copied(&self, alloc: Global) -> Result<Schedule, AllocError>
+        ensures { IfOk result (λ copy. copy ≡ self.now) }
+    {
+        let first = copied_matrix(alloc, &self.first)?;
+        let mut later = Vec::new(alloc);
+        for change in &self.later {
+            later.push((change.0, copied_matrix(alloc, &change.1)?))?;
+        }
+        Ok(Schedule { first, later })
+    }
+
     /// How many outputs each matrix has.
-    fn outs(&self) -> usize
+    pub fn outs(&self) -> usize
         ensures first { result ≡ length self.now.first }
         ensures each { (t : ℤ) → length (matrix_at self.now t) ≡ result }
         ensures some { 1 ≤ result }
@@ -106,11 +119,22 @@ impl Schedule {
     }
 
     /// How many inputs each matrix has.
-    fn ins(&self) -> usize
+    pub fn ins(&self) -> usize
         ensures first { result ≡ ins_of self.now.first }
         ensures each { (t : ℤ) → ins_of (matrix_at self.now t) ≡ result }
+        ensures few { result ≤ 1024 }
     {
         self.first.ins()
+    }
+}
+
+/// A matrix of the same gains.
+fn copied_matrix(alloc: Global, matrix: &Matrix) -> Result<Matrix, AllocError>
+    ensures { IfOk result (λ copy. copy ≡ matrix.now) }
+{
+    match Matrix::new(alloc, matrix.outs(), matrix.ins(), matrix.gains()) {
+        Ok(copy) => Ok(copy),
+        Err(_) => Err(AllocError),
     }
 }
 
@@ -182,7 +206,9 @@ pub fn mix_span(
     requires outs_len { length outs.old ≡ frames * length schedule.now.first }
     requires in_24_bits { All Is24Bits ins.now }
     requires shift { (shift ≡ 16) ⊎ (shift ≡ 24) }
-    ensures { IsMixed (λ f. matrix_at schedule.now (t +ℤ pos f)) ins.now outs.new frames shift }
+    ensures mixed { IsMixed (λ f. matrix_at schedule.now (t +ℤ pos f)) ins.now outs.new frames shift }
+    ensures outs { (u : ℤ) → length (matrix_at schedule.now u) ≡ length schedule.now.first }
+    ensures ins { (u : ℤ) → ins_of (matrix_at schedule.now u) ≡ ins_of schedule.now.first }
 {
     let width = schedule.ins();
     let height = schedule.outs();
