@@ -1,6 +1,9 @@
 -- What a lane's calls do to what it was fed.
-use Rattle.std.proofs.Common.{◌≡◌, ◌+◌, ◌*◌, ◌-◌, ◌^◌, ℕ, Bool, ◌&&◌, List, [], ◌∷◌, ◌++◌, length, drop, get_or, ℤ, pos, negsuc, ◌+ℤ◌, ◌-ℤ◌, ◌<ℤ◌, Option, Some, None, refl, sym, ap, ◌∙◌, arith, length-drop}
+use Rattle.std.proofs.Common.{◌≡◌, ◌+◌, ◌*◌, ◌-◌, ◌^◌, ℕ, Bool, ◌&&◌, List, [], ◌∷◌, ◌++◌, length, drop, get_or, ℤ, pos, negsuc, ◌+ℤ◌, ◌-ℤ◌, ◌<ℤ◌, Option, Some, None, refl, sym, ap, subst, ◌∙◌, arith, length-drop}
 use Rattle.std.proofs.lemmas.Int.{ints}
+use Rattle.std.specs.List.{All}
+use Rattle.std.proofs.lemmas.List.Elements.{All-drop}
+use Rattle.rtp_wire.specs.Sample.{Is24Bits}
 use Rattle.std.proofs.Math.Nat.{mul-sub, mul_comm}
 use Rattle.std.proofs.lemmas.List.{get_or-drop}
 use Rattle.path_merge.specs.StreamSpecFacts.{Stream, format_of}
@@ -98,7 +101,10 @@ block_sound lane held next sound early e = record {
   short_block = sound.short_block;
   not_early = let p = sound.not_early in omega (arith, ints);
   not_late = let b = sound.short_block in omega (arith, ints);
+  small_start = sound.small_start;
   slot = sound.slot;
+  quiet = sound.quiet;
+  in_24_bits = subst (λ (h : Held). All Is24Bits h.values) (sym e) (All-drop Is24Bits (lane.block * lane.format.channels) held.values sound.in_24_bits);
   values = refl;
   channels = ap (λ (h : Held). h.channels) e ∙ sound.channels;
   held_block = ap (λ (h : Held). h.block) e ∙ sound.held_block;

@@ -8,6 +8,9 @@ use Rattle.std.proofs.lemmas.List.{get_or-drop, get_or_append_left, get_or-appen
 use Rattle.std.proofs.lemmas.Slice.{between_is}
 use Rattle.std.specs.List.{between}
 use Rattle.std.proofs.Math.Nat.{mul-le-mul_right}
+use Rattle.std.specs.List.{All}
+use Rattle.std.proofs.lemmas.List.Elements.{All-append, All-drop, All-replicate}
+use Rattle.rtp_wire.specs.Sample.{Is24Bits}
 use Rattle.std.specs.Option.{option_or}
 use Rattle.path_merge.specs.StreamSpecFacts.{Stream, format_of}
 use Rattle.path_merge.specs.MarkFacts.{MarkView, HasLength, payload_length}
@@ -206,9 +209,9 @@ slot_added lane held next slot body left before stored more block past_by skippe
 -- with a slot, what is true of a lane is true of it
 pub slot_sound : (lane : LaneState) (held next : Held) (slot : LastSlot) (body : Body)
     → IsLane lane held → IsSlot (Some slot) → HasLength (payload_length lane.format) body → IsAfter lane.format.frames lane.slot slot.media
-    → next ≡ record held { values = (with_slot lane slot body).values }
+    → next ≡ record held { values = (with_slot lane slot body).values } → All Is24Bits (body_samples lane.format body)
     → IsLane (lane_of lane.format lane.start lane.block lane.position (Some slot) lane.quiet lane.ended next.values) next
-slot_sound lane held next slot body sound small fits after e = record {
+slot_sound lane held next slot body sound small fits after e in_24_bits = record {
   some_channels = sound.some_channels;
   few_channels = sound.few_channels;
   some_frames = sound.some_frames;
@@ -218,7 +221,14 @@ slot_sound lane held next slot body sound small fits after e = record {
   short_block = sound.short_block;
   not_early = sound.not_early;
   not_late = sound.not_late;
+  small_start = sound.small_start;
   slot = small;
+  quiet = sound.quiet;
+  in_24_bits = subst (λ (h : Held). All Is24Bits h.values) (sym e)
+      (All-append Is24Bits lane.values _ (subst (All Is24Bits) (sym sound.values) sound.in_24_bits)
+      (All-append Is24Bits (silence lane.format.channels (frames_between lane.position slot.media - frames_left lane.format.frames lane.position lane.slot)) _
+      (All-replicate Is24Bits _ (pos 0) (omega arith))
+      (All-drop Is24Bits (frames_between slot.media lane.position * lane.format.channels) (body_samples lane.format body) in_24_bits)));
   values = refl;
   channels = ap (λ (h : Held). h.channels) e ∙ sound.channels;
   held_block = ap (λ (h : Held). h.block) e ∙ sound.held_block;

@@ -1,5 +1,5 @@
 -- Until when the marks of a stream say its values.
-use Rattle.std.specs.Prelude.{ℕ, Bool, true, false, ◌||◌, List, [], ◌∷◌, ℤ, pos, ◌+ℤ◌, int_le, Option, Some, None, unwrap_or}
+use Rattle.std.specs.Prelude.{ℕ, ◌+◌, ◌^◌, ◌≤ℤ◌, Bool, true, false, ◌||◌, List, [], ◌∷◌, ℤ, pos, ◌+ℤ◌, int_le, Option, Some, None, unwrap_or}
 use Rattle.std.specs.Int.{int_max}
 use Rattle.std.specs.Option.{option_or, option_map}
 use Rattle.path_merge.specs.MarkFacts.{MarkView}
@@ -67,3 +67,9 @@ covers All t = true
 -- the end of a list: the time that it reached, and the start where it reached none
 abbrev pub end_of : Format → ℤ → List MarkView → ℤ
 end_of format start marks = unwrap_or (time_reached format.frames (last_slot marks) (last_quiet marks)) start
+
+-- where it is a time, it is one that no sum of a few such leaves 64 bits by
+abbrev pub IsSmallCover : Cover → Type 0
+IsSmallCover Nothing = Unit {0}
+IsSmallCover (Until t) = t ≤ℤ pos (2 ^ 61 + 192)
+IsSmallCover All = Unit {0}

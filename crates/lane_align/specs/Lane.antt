@@ -13,7 +13,8 @@ use Rattle.lane_align.specs.declared.last_slot.LastSlot.{LastSlot}
 use Rattle.lane_align.specs.Value.{value_at}
 use Rattle.lane_align.specs.Cover.{last_slot, last_quiet, has_end, time_reached, cover_to, covers}
 use Rattle.lane_align.specs.Held.{Held, silence}
-use Rattle.rtp_wire.specs.Sample.{samples_of}
+use Rattle.std.specs.List.{All}
+use Rattle.rtp_wire.specs.Sample.{Is24Bits, samples_of}
 
 -- what contracts see of a lane: its facts, its last marks, and the values from its position to the end of its last slot
 pub record LaneState : Type 0 where
@@ -102,6 +103,10 @@ abbrev pub IsSlot : Option LastSlot → Type 0
 IsSlot None = Unit {0}
 IsSlot (Some slot) = (slot.epoch < 2 ^ 62) × (slot.number ≤ 2 ^ 61) × IsTime slot.media
 
+abbrev pub IsQuiet : Option ℤ → Type 0
+IsQuiet None = Unit {0}
+IsQuiet (Some until) = IsTime until
+
 -- what is true of every lane
 pub record IsLane (lane : LaneState) (held : Held) : Type 0 where
   pub some_channels : 0 < lane.format.channels
@@ -113,7 +118,10 @@ pub record IsLane (lane : LaneState) (held : Held) : Type 0 where
   pub short_block : lane.block ≤ 192
   pub not_early : pos 0 ≤ℤ lane.position
   pub not_late : lane.position <ℤ pos (2 ^ 62 + 192)
+  pub small_start : lane.start ≤ℤ pos (2 ^ 60)
   pub slot : IsSlot lane.slot
+  pub quiet : IsQuiet lane.quiet
+  pub in_24_bits : All Is24Bits held.values
   pub values : lane.values ≡ held.values
   pub channels : held.channels ≡ lane.format.channels
   pub held_block : held.block ≡ lane.block

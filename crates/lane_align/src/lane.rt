@@ -7,7 +7,9 @@ ghost use Rattle.path_merge.specs.MarkList as list;
 ghost use Rattle.path_merge.specs.declared.mark.Body.{Body};
 ghost use Rattle.path_merge.specs.declared.mark.MarkKind.TheVariants.{Slot};
 ghost use Rattle.lane_align.specs.Value.{frames_from};
-ghost use Rattle.lane_align.specs.Cover.{cover_of, end_of, covers, time_reached};
+ghost use Rattle.lane_align.specs.Cover.{cover_of, end_of, covers, time_reached, IsSmallCover};
+ghost use Rattle.std.specs.List.{All};
+ghost use Rattle.rtp_wire.specs.Sample.{Is24Bits};
 ghost use Rattle.lane_align.specs.Lane as state;
 ghost use Rattle.lane_align.specs.Lane.{IsSlot, IsAfter, body_samples, with_slot};
 
@@ -115,7 +117,8 @@ fn frames_left(frames: u16, t: i64, slot: Option<LastSlot>) -> u64
 fn slot_samples(format: Format, body: &Body) -> [i32; MOST_SAMPLES]
     requires count { format.frames * format.channels ≤ 720 }
     requires len { HasLength (payload_length format) body.now }
-    ensures { take (format.frames * format.channels) result ≡ body_samples format body.now }
+    ensures samples { take (format.frames * format.channels) result ≡ body_samples format body.now }
+    ensures in_24_bits { All Is24Bits (body_samples format body.now) }
 {
     let mut samples = [0; MOST_SAMPLES];
     match body {
@@ -154,6 +157,15 @@ impl Lane {
         })
     }
 
+    /// How the samples of its stream's packets lie.
+    pub fn format(&self) -> Format
+        ensures value { result ≡ self.now.format }
+        ensures some { 0 < result.channels }
+        ensures few { result.channels ≤ 64 }
+    {
+        self.format
+    }
+
     /// The media time at which the next block begins.
     pub fn position(&self) -> i64
         ensures value { result ≡ self.now.position }
@@ -170,6 +182,7 @@ impl Lane {
         ensures value { result ≡ cover_at self.now }
         ensures stands { (stream : Stream) (from : ℤ) (size : ℕ) (marks : List MarkView) (t : ℤ)
             → HasFeed stream from size self.now marks t → result ≡ cover_of (format_of stream) marks }
+        ensures small { IsSmallCover result }
     {
         if self.ended {
             return Cover::All;
@@ -185,6 +198,7 @@ impl Lane {
         ensures value { result ≡ end_at self.now }
         ensures stands { (stream : Stream) (from : ℤ) (size : ℕ) (marks : List MarkView) (t : ℤ)
             → HasFeed stream from size self.now marks t → result ≡ end_of (format_of stream) from marks }
+        ensures small { result ≤ℤ pos (2 ^ 61 + 192) }
     {
         time_reached_by(self.format.frames, self.slot, self.quiet).unwrap_or(self.start)
     }
@@ -307,6 +321,7 @@ impl Lane {
         ensures position { self.new.position ≡ self.old.position +ℤ pos self.old.block }
         ensures cover { cover_at self.new ≡ cover_at self.old }
         ensures end { end_at self.new ≡ end_at self.old }
+        ensures in_24_bits { All Is24Bits out.new }
     {
         self.values.read(out);
         self.position += i64::from(self.block);

@@ -71,9 +71,9 @@ invariant_of-self c =
     let fits : HasLength (payload_length i.format) c.args.body.now = subst (λ (l : LaneState). HasLength (payload_length l.format) c.args.body.now) (sym c.self.view_is) c.requires.len in
     let added : c.add.new.self ≡ record i.values { values = (with_slot lane c.args.slot c.args.body.now).values } =
     slot_added lane i.values c.add.new.self c.args.slot c.args.body.now c.frames_left-held.result c.frames_between.result c.min-stored.result (c.frames_between.result - c.frames_left-held.result - c.min-stored.result) c.from.result c.frames_between-2.result c.min-skipped.result c.from-channels.result c.from-frames.result c.slot_samples-samples.result
-    s fits left before past_by c.from-channels.ensures c.from-frames.ensures c.min-stored.ensures refl c.min-skipped.ensures c.slot_samples-samples.ensures c.add.ensures in
+    s fits left before past_by c.from-channels.ensures c.from-frames.ensures c.min-stored.ensures refl c.min-skipped.ensures c.slot_samples-samples.ensures.samples c.add.ensures in
     let after : IsAfter i.format.frames i.slot c.args.slot.media = subst (λ (l : LaneState). IsAfter l.format.frames l.slot c.args.slot.media) (sym c.self.view_is) c.requires.after in
-    slot_sound lane i.values c.add.new.self c.args.slot c.args.body.now s c.requires.small fits after added
+    slot_sound lane i.values c.add.new.self c.args.slot c.args.body.now s c.requires.small fits after added c.slot_samples-samples.ensures.in_24_bits
 
 pub returns-clause-taken : goal.returns-clause-taken
 returns-clause-taken c =
@@ -92,9 +92,20 @@ returns-clause-taken c =
     let fits : HasLength (payload_length i.format) c.args.body.now = subst (λ (l : LaneState). HasLength (payload_length l.format) c.args.body.now) (sym c.self.view_is) c.requires.len in
     let added : c.add.new.self ≡ record i.values { values = (with_slot lane c.args.slot c.args.body.now).values } =
     slot_added lane i.values c.add.new.self c.args.slot c.args.body.now c.frames_left-held.result c.frames_between.result c.min-stored.result (c.frames_between.result - c.frames_left-held.result - c.min-stored.result) c.from.result c.frames_between-2.result c.min-skipped.result c.from-channels.result c.from-frames.result c.slot_samples-samples.result
-    s fits left before past_by c.from-channels.ensures c.from-frames.ensures c.min-stored.ensures refl c.min-skipped.ensures c.slot_samples-samples.ensures c.add.ensures in
+    s fits left before past_by c.from-channels.ensures c.from-frames.ensures c.min-stored.ensures refl c.min-skipped.ensures c.slot_samples-samples.ensures.samples c.add.ensures in
     ap (λ (h : Held). lane_of i.format i.start i.block i.position (Some c.args.slot) i.quiet i.ended h.values) added
     ∙ ap (λ (l : LaneState). with_slot l c.args.slot c.args.body.now) c.self.view_is
 
 pub returns-clause-left : goal.returns-clause-left
 returns-clause-left c = subst (λ (l : LaneState). length l.values ≡ frames_left l.format.frames l.position l.slot * l.format.channels) c.self.view_is c.self.invariant.left
+
+pub overflow_sub-from : goal.overflow_sub-from
+overflow_sub-from c =
+    let i = c.self.inside in
+    let s = c.self.invariant in
+    let early = s.not_early in
+    let late = s.not_late in
+    let same : to_z w64 (of_z w64 i.position) ≡ i.position = omega (arith, ints) in
+    let left = c.frames_left-held.ensures ∙ ap (λ t. frames_left i.format.frames t i.slot) same in
+    let wanted : frames_left i.format.frames i.position i.slot < i.block = wanted_left (lane_of i.format i.start i.block i.position i.slot i.quiet i.ended i.values.values) s.some_block (subst (λ (l : LaneState). is_wanting l (l.position +ℤ pos l.block) ≡ true) (sym c.self.view_is) c.requires.wanted) in
+    omega (arith, left, wanted, c.from.ensures)
