@@ -1,0 +1,4 @@
+pub mod ViewLemmas
+pub mod FaultLemmas
+pub mod GainLemmas
+pub mod PortLemmas

@@ -1,0 +1,54 @@
+use Rattle.std.proofs.Common.{rules, ◌≡◌, ◌∷◌, ◌++◌, [], ℕ, ◌+◌, None, length, take, drop, map, slice_set, ap, sym, ◌∙◌, arith}
+use Rattle.std.proofs.lemmas.List.{length-map, length-take-le, take_more, drop_more, map-append}
+use Rattle.toml.specs.View.{view, table_view}
+use Rattle.toml.specs.declared.value.Value.{Value}
+use Rattle.studio_spec.specs.Values.{members_in}
+use Rattle.studio_spec.specs.Rows.{first_of}
+use Rattle.studio_spec.specs.StreamTable.{stream_of, ports_of, stream_fault}
+use Rattle.studio_spec.specs.OutputTable.{each_fault}
+use Rattle.studio_spec.specs.Config.{port_table}
+use Rattle.studio_spec.specs.declared.config.fault.Place.TheVariants as at
+use Rattle.studio_spec.proofs.PortLemmas.{length-port_table, port_table-more}
+use Rattle.studio_spec.proofs.config.top.read_streams.Goals as goal
+
+pub set_row-requires : goal.set_row-requires
+set_row-requires c =
+    let ms = map (λ (t : Value). members_in (view t)) (take c.loop-number.number c.args.tables.now) in
+    let count : length ms ≡ c.loop-number.number = length-map (take c.loop-number.number c.args.tables.now) (λ (t : Value). members_in (view t)) ∙ length-take-le c.loop-number.number c.args.tables.now (omega (arith, c.loop-number-test.true)) in
+    let long : length c.loop-number.ports.paths ≡ 16 = ap length c.loop-number.invariant.rows ∙ length-port_table ms (omega (arith, count, c.loop-number-test.true, c.requires.few)) in
+    omega (arith, long, count, c.loop-number-test.true, c.requires.few)
+
+pub loop-number-preserved : goal.loop-number-preserved
+loop-number-preserved c =
+    let n = c.loop-number.number in
+    let tables = c.args.tables.now in
+    let value = c.index-tables-number.result in
+    let m = members_in (view value) in
+    let read = λ (t : Value). members_in (view t) in
+    let ms = map read (take n tables) in
+    let fault = λ (k : ℕ). stream_fault (at.Stream k) in
+    let table : table_view c.table_of.result.now ≡ m = c.table_of.ensures in
+    let more : take (n + 1) tables ≡ take n tables ++ value ∷ [] = take_more tables n value c.loop-number-test.true ∙ ap (λ v. take n tables ++ v ∷ []) (sym c.index-tables-number.is) in
+    let read_more : map read (take (n + 1) tables) ≡ ms ++ m ∷ [] = ap (map read) more ∙ map-append read (take n tables) (value ∷ []) in
+    let count : length ms ≡ n = length-map (take n tables) read ∙ length-take-le n tables (omega (arith, c.loop-number-test.true)) in
+    let pushed : c.push.new.self.items ≡ c.loop-number.streams.items ++ c.in_ok-entry.entry.spec ∷ [] = search rules in
+    let so_far : c.push.new.self.items ≡ map stream_of (map read (take (n + 1) tables)) =
+    pushed
+    ∙ ap (λ items. items ++ c.in_ok-entry.entry.spec ∷ []) c.loop-number.invariant.so_far
+    ∙ ap (λ stream. map stream_of ms ++ stream ∷ []) (c.in_ok-entry.ensures.stream ∙ ap stream_of table)
+    ∙ sym (map-append stream_of ms (m ∷ []))
+    ∙ ap (map stream_of) (sym read_more) in
+    let rows : c.set_row.new.self.paths ≡ port_table (map read (take (n + 1) tables)) =
+    c.set_row.ensures
+    ∙ ap (λ paths. slice_set paths n c.in_ok-entry.entry.ports) c.loop-number.invariant.rows
+    ∙ ap (slice_set (port_table ms) n) (c.in_ok-entry.ensures.ports ∙ ap ports_of table)
+    ∙ ap (λ k. slice_set (port_table ms) k (ports_of m)) (sym count)
+    ∙ port_table-more ms m (omega (arith, count, c.loop-number-test.true, c.requires.few))
+    ∙ ap port_table (sym read_more) in
+    let rest : drop n tables ≡ value ∷ drop (n + 1) tables = drop_more tables n value c.loop-number-test.true ∙ ap (λ v. v ∷ drop (n + 1) tables) (sym c.index-tables-number.is) in
+    let none : fault n m ≡ None = ap (fault n) (sym table) ∙ c.in_ok-entry.ensures.ok in
+    let left : each_fault fault 0 (map read tables) ≡ each_fault fault (n + 1) (map read (drop (n + 1) tables)) =
+    c.loop-number.invariant.left
+    ∙ ap (λ d. each_fault fault n (map read d)) rest
+    ∙ ap (λ first. first_of first (each_fault fault (n + 1) (map read (drop (n + 1) tables)))) none in
+    record { so_far = so_far; rows = rows; left = left }

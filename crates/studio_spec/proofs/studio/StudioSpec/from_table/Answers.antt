@@ -1,0 +1,52 @@
+use Rattle.std.proofs.Common.{◌≡◌, Err, None, Some, pos, map, ap, sym, ◌∙◌, inl, inr, ⊎_elim, rules, arith, to_z, w64}
+use Rattle.std.proofs.Math.Facts.{to_z_pos}
+use Rattle.toml.specs.View.{table_view}
+use Rattle.studio_spec.specs.Studio.{channel_total}
+use Rattle.studio_spec.specs.Values.{number_at, number_or, tables_at, table_at}
+use Rattle.studio_spec.specs.StreamTable.{stream_of, stream_fault}
+use Rattle.studio_spec.specs.OutputTable.{output_of, schedule_of, each_fault, output_fault}
+use Rattle.studio_spec.specs.Config.{streams_of, port_table}
+use Rattle.studio_spec.specs.declared.config.fault.Place.TheVariants as at
+use Rattle.studio_spec.specs.declared.config.keys.Key.TheVariants as key
+use Rattle.studio_spec.proofs.FaultLemmas.{top_fault-none, config_fault-output}
+use Rattle.studio_spec.proofs.studio.StudioSpec.from_table.Goals as goal
+
+pub returns-in_err-output-clause-fault : goal.returns-in_err-output-clause-fault
+returns-in_err-output-clause-fault c =
+    let m = table_view c.args.table.now in
+    let is : c.from_residual-in_err-output.result ≡ Err c.in_err-output.field-0.0 = search rules in
+    let top = top_fault-none m c.in_ok-open_at.ensures.ok c.in_ok-tables.ensures.ok c.in_ok-output_table.ensures.ok c.in_ok-check_known.ensures.ok in
+    let streams : each_fault (λ n. stream_fault (at.Stream n)) 0 (tables_at m key.Stream) ≡ None = ap (each_fault (λ n. stream_fault (at.Stream n)) 0) (sym c.in_ok-tables.ensures.tables) ∙ c.in_ok-streams.ensures.ok in
+    let ins : c.channel_total-ins.result ≡ channel_total (streams_of m) = c.channel_total-ins.ensures.total ∙ ap channel_total (c.deref.ensures.value ∙ c.in_ok-streams.ensures.streams ∙ ap (map stream_of) c.in_ok-tables.ensures.tables) in
+    rw is (⊎_elim
+    (λ memory. inl memory)
+    (λ fault. inr (config_fault-output m (Some c.in_err-output.field-0.0) top streams
+    (ap (λ n. output_fault n (table_at m key.Output)) (sym ins) ∙ ap (output_fault c.channel_total-ins.result) c.in_ok-output_table.ensures.table ∙ fault)))
+    c.in_err-output.ensures.fault)
+
+pub new-studio-requires-clause-not_low : goal.new-studio-requires-clause-not_low
+new-studio-requires-clause-not_low c =
+    let number : to_z w64 c.in_ok-open_at.field-0 ≡ pos c.in_ok-open_at.field-0 = to_z_pos w64 (omega (arith, c.in_ok-open_at.ensures.high)) in
+    rw number search rules
+
+pub returns-clause-ok : goal.returns-clause-ok
+returns-clause-ok c =
+    let m = table_view c.args.table.now in
+    let top = top_fault-none m c.in_ok-open_at.ensures.ok c.in_ok-tables.ensures.ok c.in_ok-output_table.ensures.ok c.in_ok-check_known.ensures.ok in
+    let streams : each_fault (λ n. stream_fault (at.Stream n)) 0 (tables_at m key.Stream) ≡ None = ap (each_fault (λ n. stream_fault (at.Stream n)) 0) (sym c.in_ok-tables.ensures.tables) ∙ c.in_ok-streams.ensures.ok in
+    let ins : c.channel_total-ins.result ≡ channel_total (streams_of m) = c.channel_total-ins.ensures.total ∙ ap channel_total (c.deref.ensures.value ∙ c.in_ok-streams.ensures.streams ∙ ap (map stream_of) c.in_ok-tables.ensures.tables) in
+    config_fault-output m None top streams
+    (ap (λ n. output_fault n (table_at m key.Output)) (sym ins) ∙ ap (output_fault c.channel_total-ins.result) c.in_ok-output_table.ensures.table ∙ c.in_ok-output.ensures.ok)
+
+pub returns-clause-studio : goal.returns-clause-studio
+returns-clause-studio c =
+    let m = table_view c.args.table.now in
+    let open_at : to_z w64 c.in_ok-open_at.field-0 ≡ pos (number_or m key.OpenAt 0) = to_z_pos w64 (omega (arith, c.in_ok-open_at.ensures.high)) ∙ ap pos (sym c.in_ok-open_at.ensures.number) in
+    let streams : c.in_ok-streams.streams.items ≡ streams_of m = c.in_ok-streams.ensures.streams ∙ ap (map stream_of) c.in_ok-tables.ensures.tables in
+    let paths : c.read_streams.new.ports.paths ≡ port_table (tables_at m key.Stream) = c.in_ok-streams.ensures.ports ∙ ap port_table c.in_ok-tables.ensures.tables in
+    let table = sym c.in_ok-output_table.ensures.table in
+    let output : c.in_ok-output.output.spec ≡ output_of (table_at m key.Output) = c.in_ok-output.ensures.output ∙ ap output_of table in
+    let schedule : c.in_ok-output.output.schedule ≡ schedule_of (table_at m key.Output) = c.in_ok-output.ensures.schedule ∙ ap schedule_of table in
+    let to_a : c.in_ok-output.output.addresses.to_a ≡ number_at (table_at m key.Output) key.ToA = sym c.in_ok-output.ensures.to_a ∙ ap (λ t. number_at t key.ToA) table in
+    let to_b : c.in_ok-output.output.addresses.to_b ≡ number_at (table_at m key.Output) key.ToB = sym c.in_ok-output.ensures.to_b ∙ ap (λ t. number_at t key.ToB) table in
+    rw (c.with_ports.ensures, c.new-studio.ensures, open_at, streams, paths, output, schedule, to_a, to_b)

@@ -1,0 +1,15 @@
+-- The ports of streams, path by path.
+use Rattle.std.specs.Prelude.{ℕ, zero, suc, List, [], ◌∷◌, Option, None, slice_get, unwrap_or}
+
+-- four paths of which no port is known
+abbrev pub absent_row : List (Option ℕ)
+absent_row = None ∷ None ∷ None ∷ None ∷ []
+
+-- so many streams of which no port is known
+abbrev pub absent_rows : ℕ → List (List (Option ℕ))
+absent_rows zero = []
+absent_rows (suc streams) = absent_row ∷ absent_rows streams
+
+-- the port of this stream's path
+abbrev pub port_at : List (List (Option ℕ)) → ℕ → ℕ → Option ℕ
+port_at rows stream path = unwrap_or (slice_get (unwrap_or (slice_get rows stream) []) path) None

@@ -1,0 +1,17 @@
+//! A studio's specification, read from the tables of its configuration.
+mod change;
+mod fault;
+mod gains;
+mod keys;
+mod output;
+mod packets;
+mod readers;
+mod stream;
+mod top;
+
+pub use fault::{Kind, Place, SpecError};
+pub use keys::Key;
+#[cfg(test)]
+pub(crate) use output::read_output;
+#[cfg(test)]
+pub(crate) use stream::read_stream;

@@ -1,0 +1,88 @@
+//! The whole of a configuration.
+ghost use Rattle.std.specs.Prelude.{◌≡◌, ◌≤◌, ◌*◌, ◌⊎◌, true, None, Some, OnOk, IfOk, IfErr, map, length};
+ghost use Rattle.std.specs.List.{list_all};
+ghost use Rattle.toml.specs.View.{view, table_view};
+ghost use Rattle.studio_spec.specs.Ports.{absent_rows};
+ghost use Rattle.studio_spec.specs.Studio.{channel_total};
+ghost use Rattle.studio_spec.specs.Values.{members_in, is_table};
+ghost use Rattle.studio_spec.specs.StreamTable.{stream_of, stream_fault};
+ghost use Rattle.studio_spec.specs.OutputTable.{each_fault};
+ghost use Rattle.studio_spec.specs.Config.{port_table, studio_of, config_fault_of, no_memory};
+ghost use Rattle.studio_spec.specs.declared.config.fault.Place.TheVariants as at;
+
+use crate::config::fault::{Place, SpecError, out_of_memory};
+use crate::config::keys::Key;
+use crate::config::output::read_output;
+use crate::config::readers::{check_known, few_tables, table_in, table_of, whole};
+use crate::config::stream::read_stream;
+use crate::ports::Ports;
+use crate::studio::StudioSpec;
+use path_merge::StreamSpec;
+use std::alloc::Global;
+use toml::{Table, Value};
+
+/// The keys of the whole document.
+const KEYS: [Key; 3] = [Key::OpenAt, Key::Stream, Key::Output];
+
+impl StudioSpec {
+    /// The studio that a configuration says, or its first fault.
+    ///
+    /// Tables are tested in the order of the document's keys, and each key for its presence, its
+    /// kind and its range.
+    pub fn from_table(alloc: Global, table: &Table) -> Result<StudioSpec, SpecError>
+        ensures ok { OnOk result (config_fault_of (table_view table.now) ≡ None) }
+        ensures studio { IfOk result (λ s. s ≡ studio_of (table_view table.now)) }
+        ensures fault { IfErr result (λ e. (e ≡ no_memory) ⊎ (config_fault_of (table_view table.now) ≡ Some e)) }
+    {
+        let place = Place::Top;
+        let open_at = whole(table, place, Key::OpenAt, 0, 1_152_921_504_606_846_976)? as i64;
+        let tables = few_tables(table, place, Key::Stream, 1, 16)?;
+        let output_table = table_in(table, place, Key::Output)?;
+        check_known(table, place, &KEYS)?;
+        let mut ports = Ports::absent();
+        let streams = read_streams(alloc, tables, &mut ports)?;
+        let ins = channel_total(&streams);
+        let output = read_output(alloc, output_table, ins)?;
+        ports.to_a = output.addresses.to_a;
+        ports.to_b = output.addresses.to_b;
+        let studio = StudioSpec::new(open_at, streams, output.spec, output.schedule);
+        Ok(studio.with_ports(ports))
+    }
+}
+
+/// Reads the tables of streams, and writes down where their paths come in.
+fn read_streams(
+    alloc: Global,
+    tables: &[Value],
+    ports: &mut Ports,
+) -> Result<Vec<StreamSpec>, SpecError>
+    requires tables { list_all (λ t. is_table (view t)) tables.now ≡ true }
+    requires few { length tables.now ≤ 16 }
+    requires absent { ports.old.paths ≡ absent_rows 16 }
+    ensures ok { OnOk result (each_fault (λ n. stream_fault (at.Stream n)) 0 (map (λ t. members_in (view t)) tables.now) ≡ None) }
+    ensures streams { IfOk result (λ s. s.items ≡ map stream_of (map (λ t. members_in (view t)) tables.now)) }
+    ensures ports { OnOk result (ports.new.paths ≡ port_table (map (λ t. members_in (view t)) tables.now)) }
+    ensures fault { IfErr result (λ e. (e ≡ no_memory) ⊎ (each_fault (λ n. stream_fault (at.Stream n)) 0 (map (λ t. members_in (view t)) tables.now) ≡ Some e)) }
+{
+    let mut streams = Vec::new(alloc);
+    for (number, stream) in tables.iter().enumerate() {
+        let entry = read_stream(table_of(stream), Place::Stream(number))?;
+        streams.push(entry.spec).map_err(|_| out_of_memory())?;
+        ports.set_row(number, entry.ports);
+    }
+    Ok(streams)
+}
+
+/// How many channels all streams have.
+fn channel_total(streams: &[StreamSpec]) -> usize
+    requires few { length streams.now ≤ 16 }
+    ensures total { result ≡ channel_total streams.now }
+    ensures some { length streams.now ≤ result }
+    ensures few { result ≤ 64 * length streams.now }
+{
+    let mut total = 0;
+    for stream in streams {
+        total += usize::from(stream.channels());
+    }
+    total
+}

@@ -1,0 +1,216 @@
+//! Tables of a configuration that are read, and the lines of their first faults.
+use crate::config::{Place, SpecError, read_output, read_stream};
+use crate::studio::StudioSpec;
+use std::alloc::{AllocError, Global};
+use std::test::Fail;
+
+/// A stream of one channel.
+const STREAM: &str =
+    "encoding = \"L24\"\nchannels = 1\nframes = 6\npt = 96\nclock = \"media\"\nlatency = 12\nwindow = 8\n";
+
+/// The same without its window.
+const NO_WINDOW: &str =
+    "encoding = \"L24\"\nchannels = 1\nframes = 6\npt = 96\nclock = \"media\"\nlatency = 12\n";
+
+/// A stream whose packets have no such number of frames.
+const FIVE_FRAMES: &str =
+    "encoding = \"L24\"\nchannels = 1\nframes = 5\npt = 96\nclock = \"media\"\nlatency = 12\nwindow = 8\n";
+
+/// An output of one channel, without its gains.
+const OUTPUT: &str =
+    "encoding = \"L24\"\nchannels = 1\nframes = 6\npt = 97\nssrc = 2\nseq = 0\nstart = 0\n";
+
+/// The line of a fault, `good` where there is none.
+fn line<T: Drop>(alloc: Global, answer: Result<T, SpecError>) -> Result<String, AllocError> {
+    match answer {
+        Ok(_) => String::from_str(alloc, "good"),
+        Err(fault) => format!(in alloc; "{fault}"),
+    }
+}
+
+#[test]
+fn a_streams_table_says_it_or_its_first_fault(rt: HostRuntime) -> Result<(), Fail> {
+    let alloc = rt.alloc();
+    let cases = [
+        ("", "", "stream[3].encoding: missing"),
+        ("", "encoding = 24", "stream[3].encoding: kind"),
+        ("", "encoding = \"L20\"", "stream[3].encoding: range"),
+        (
+            "",
+            "encoding = \"L16\"\nchannels = true",
+            "stream[3].channels: kind",
+        ),
+        (
+            "",
+            "encoding = \"L16\"\nchannels = 1.0",
+            "stream[3].channels: kind",
+        ),
+        (
+            "",
+            "encoding = \"L16\"\nchannels = 256",
+            "stream[3].channels: range",
+        ),
+        (
+            "",
+            "encoding = \"L16\"\nchannels = -1",
+            "stream[3].channels: range",
+        ),
+        (
+            "",
+            "encoding = \"L16\"\nchannels = 1\nframes = 5",
+            "stream[3].pt: missing",
+        ),
+        (NO_WINDOW, "", "stream[3].window: missing"),
+        (NO_WINDOW, "window = 6", "stream[3]: stream 5"),
+        (STREAM, "", "good"),
+        (STREAM, "paths = 0", "stream[3].paths: range"),
+        (STREAM, "paths = 5", "stream[3].paths: range"),
+        (STREAM, "paths = 4\nport_d = 65535", "good"),
+        (STREAM, "port_a = 0", "stream[3].port_a: range"),
+        (
+            STREAM,
+            "port_c = 65536\ncolour = 1",
+            "stream[3].port_c: range",
+        ),
+        (STREAM, "colour = 1", "stream[3]: unknown"),
+        (STREAM, "offset = \"0\"", "stream[3].offset: kind"),
+        (STREAM, "ssrc = 4294967296", "stream[3].ssrc: range"),
+    ];
+    for (head, tail, told) in cases {
+        let text = format!(in alloc; "{head}{tail}")?;
+        let table = toml::table_from_str(alloc, text.as_str())?;
+        let line = line(alloc, read_stream(&table, Place::Stream(3)))?;
+        assert_eq!(rt; line.as_str(), told, "{tail}");
+    }
+    Ok(())
+}
+
+#[test]
+fn an_outputs_table_says_it_or_its_first_fault(rt: HostRuntime) -> Result<(), Fail> {
+    let alloc = rt.alloc();
+    let cases = [
+        ("", "output.gains: missing"),
+        ("gains = [[65536]]", "good"),
+        ("gains = [[65536, 0]]", "output.gains: gains 1"),
+        ("gains = [[1048577]]", "output.gains: gains 2"),
+        ("gains = [[4294967296]]", "output.gains: gains 2"),
+        ("gains = [65536]", "output.gains: kind"),
+        ("gains = [[1.0]]", "output.gains: kind"),
+        ("gains = [[1]]\nchange = []", "good"),
+        ("gains = [[1]]\nchange = [1]", "output.change: kind"),
+        (
+            "gains = [[1]]\nchange = [{ gains = [[1]] }]",
+            "output.change[0].at: missing",
+        ),
+        (
+            "gains = [[1]]\nchange = [{ at = \"3\" }]",
+            "output.change[0].at: kind",
+        ),
+        (
+            "gains = [[1, 2]]\nto_a = 0\nchange = [{ at = 3, gains = [[1]], colour = 1 }]",
+            "output.change[0]: unknown",
+        ),
+        (
+            "gains = [[1]]\nchange = [{ at = 3, gains = [[1]] }, { at = 4, gains = [[]] }]",
+            "output.change[1].gains: gains 1",
+        ),
+        (
+            "gains = [[1]]\nchange = [{ at = 3, gains = [[1]] }, { at = 3, gains = [[2]] }]",
+            "output.change: schedule 4",
+        ),
+        ("gains = [[1, 2]]\nto_b = 65536", "output.to_b: range"),
+        ("gains = [[1, 2]]\ncolour = 1", "output: unknown"),
+    ];
+    for (tail, told) in cases {
+        let text = format!(in alloc; "{OUTPUT}{tail}")?;
+        let table = toml::table_from_str(alloc, text.as_str())?;
+        let line = line(alloc, read_output(alloc, &table, 1))?;
+        assert_eq!(rt; line.as_str(), told, "{tail}");
+    }
+    Ok(())
+}
+
+#[test]
+fn a_configuration_says_a_studio_or_its_first_fault(rt: HostRuntime) -> Result<(), Fail> {
+    let alloc = rt.alloc();
+    let cases = [
+        (STREAM, "", "gains = [[65536]]", "good"),
+        (FIVE_FRAMES, "", "", "stream[0]: stream 2"),
+        (NO_WINDOW, "", "", "stream[0].window: missing"),
+        ("", "encoding = \"L20\"", "", "stream[0].encoding: range"),
+        (STREAM, "colour = 1", "", "stream[0]: unknown"),
+        (STREAM, "", "", "output.gains: missing"),
+        (STREAM, "", "gains = [[65536, 0]]", "output.gains: gains 1"),
+        (STREAM, "", "gains = [[1048577]]", "output.gains: gains 2"),
+        (
+            STREAM,
+            "",
+            "gains = [[1]]\nchange = [{ at = 3, gains = [[1]] }, { at = 3, gains = [[2]] }]",
+            "output.change: schedule 4",
+        ),
+        (
+            STREAM,
+            "",
+            "gains = [[65536]]\ncolour = 1",
+            "output: unknown",
+        ),
+    ];
+    for (head, tail, gains, told) in cases {
+        let text = format!(in alloc;
+            "open_at = 0\n[[stream]]\n{head}{tail}\n[output]\n{OUTPUT}{gains}"
+        )?;
+        let table = toml::table_from_str(alloc, text.as_str())?;
+        let line = line(alloc, StudioSpec::from_table(alloc, &table))?;
+        assert_eq!(rt; line.as_str(), told, "{tail} {gains}");
+    }
+    Ok(())
+}
+
+#[test]
+fn a_streams_channels_are_inputs_of_the_gains(rt: HostRuntime) -> Result<(), Fail> {
+    let alloc = rt.alloc();
+    let cases = [
+        ("gains = [[65536]]", "output.gains: gains 1"),
+        ("gains = [[65536, 0]]", "good"),
+    ];
+    for (gains, told) in cases {
+        let text = format!(in alloc;
+            "open_at = 0\n[[stream]]\n{STREAM}[[stream]]\n{STREAM}[output]\n{OUTPUT}{gains}"
+        )?;
+        let table = toml::table_from_str(alloc, text.as_str())?;
+        let line = line(alloc, StudioSpec::from_table(alloc, &table))?;
+        assert_eq!(rt; line.as_str(), told, "{gains}");
+    }
+    Ok(())
+}
+
+#[test]
+fn the_top_table_is_tested_before_those_in_it(rt: HostRuntime) -> Result<(), Fail> {
+    let alloc = rt.alloc();
+    let cases = [
+        ("", "open_at: missing"),
+        ("open_at = 0.0", "open_at: kind"),
+        ("open_at = -1", "open_at: range"),
+        ("open_at = 1152921504606846977", "open_at: range"),
+        ("open_at = 1152921504606846976", "stream: missing"),
+        ("open_at = 0\nstream = 1", "stream: kind"),
+        ("open_at = 0\nstream = [1]", "stream: kind"),
+        ("open_at = 0\nstream = []", "stream: range"),
+        ("open_at = 0\nstream = [{}]", "output: missing"),
+        ("open_at = 0\nstream = [{}]\noutput = []", "output: kind"),
+        (
+            "open_at = 0\nstream = [{}]\noutput = {}\ncolour = 1",
+            "top: unknown",
+        ),
+        (
+            "open_at = 0\nstream = [{}]\noutput = {}",
+            "stream[0].encoding: missing",
+        ),
+    ];
+    for (text, told) in cases {
+        let table = toml::table_from_str(alloc, text)?;
+        let line = line(alloc, StudioSpec::from_table(alloc, &table))?;
+        assert_eq!(rt; line.as_str(), told, "{text}");
+    }
+    Ok(())
+}
