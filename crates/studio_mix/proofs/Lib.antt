@@ -1,0 +1,9 @@
+pub mod LayLemmas
+pub mod MixerLemmas
+pub mod ReadyLemmas
+pub mod RowLemmas
+pub mod BlockLemmas
+pub mod NextLemmas
+pub mod NewLemmas
+pub mod LawLemmas
+mod WorkedCases

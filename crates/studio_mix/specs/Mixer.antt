@@ -1,0 +1,55 @@
+-- What a mixer is, once its lanes were fed and it has come to a block.
+use Rattle.std.specs.Prelude.{◌≡◌, ℕ, ◌+◌, ◌*◌, ◌^◌, ◌≤◌, Bool, false, ℤ, pos, ◌+ℤ◌, ◌≤ℤ◌, List, length, map, slice_get, Option, Some, None, All}
+use Rattle.path_merge.specs.MarkFacts.{MarkView}
+use Rattle.lane_align.specs.Lane.{LaneState, is_next, is_wanting}
+use Rattle.gain_mix.specs.Gain.{ins_of}
+use Rattle.gain_mix.specs.Mix.{Is24Bits}
+use Rattle.gain_mix.specs.Changes.{Changes}
+use Rattle.mix_packets.specs.OutSpec.{Output, IsOutput, sample_total}
+use Rattle.mix_packets.specs.Block.{block_start}
+use Rattle.mix_packets.specs.Packer.{PackerState}
+use Rattle.studio_spec.specs.Studio.{Studio}
+use Rattle.studio_mix.specs.Feed.{Feed}
+use Rattle.studio_mix.specs.Lanes.{AreFed, IsLaneAt, lane_channels}
+
+-- what contracts see of a mixer
+pub record MixerState : Type 0 where
+  pub lanes : List LaneState
+  pub schedule : Changes
+  pub packer : PackerState
+
+-- the mixer of this studio was fed these marks, and this block is next
+pub record HasFeeds (studio : Studio) (mixer : MixerState) (feeds : List Feed) (next : ℕ) : Type 0 where
+  pub output : mixer.packer.spec ≡ studio.output
+  pub schedule : mixer.schedule ≡ studio.schedule
+  pub number : mixer.packer.number ≡ next
+  pub streams : map (λ (feed : Feed). feed.stream) feeds ≡ studio.streams
+  pub lanes : AreFed studio.output.start studio.output.frames mixer.lanes feeds (block_start studio.output next)
+
+-- what holds of a lane, if there is one
+abbrev pub holds_of : (LaneState → Bool) → Option LaneState → Bool
+holds_of test None = false
+holds_of test (Some lane) = test lane
+
+-- the next block needs more marks of the stream
+abbrev pub is_wanted_by : MixerState → ℕ → Bool
+is_wanted_by mixer stream = holds_of (λ lane. is_wanting lane (lane.position +ℤ pos lane.block)) (slice_get mixer.lanes stream)
+
+-- the mark may follow those of its stream
+abbrev pub is_next_of : MixerState → ℕ → MarkView → Bool
+is_next_of mixer stream mark = holds_of (λ lane. is_next lane mark) (slice_get mixer.lanes stream)
+
+-- what is true of every mixer
+pub record IsMixer (mixer : MixerState) (out : Output) (time : ℤ) (one ins outs : List ℤ) : Type 0 where
+  pub out_is : out ≡ mixer.packer.spec
+  pub out_ok : IsOutput out
+  pub time_is : time ≡ block_start out mixer.packer.number
+  pub not_late : time ≤ℤ pos (2 ^ 61 + 384)
+  pub each_lane : All (IsLaneAt out.frames time) mixer.lanes
+  pub some_lanes : 1 ≤ length mixer.lanes
+  pub width : ins_of mixer.schedule.first ≡ lane_channels mixer.lanes
+  pub height : length mixer.schedule.first ≡ out.channels
+  pub one_room : length one ≡ out.frames * 64
+  pub ins_room : length ins ≡ out.frames * ins_of mixer.schedule.first
+  pub outs_room : length outs ≡ sample_total out
+  pub in_24_bits : All Is24Bits ins

@@ -1,0 +1,16 @@
+-- The datagrams of a studio.
+use Rattle.std.specs.Prelude.{ℕ, ℤ, pos, ◌+ℤ◌, List, flat_map}
+use Rattle.std.specs.List.{range_with_len}
+use Rattle.mix_packets.specs.Block.{block_start, block_datagram}
+use Rattle.studio_spec.specs.Studio.{Studio}
+use Rattle.studio_mix.specs.Feed.{Feed}
+use Rattle.studio_mix.specs.Mixed.{mixed_samples}
+
+-- the samples of a block, frame by frame
+abbrev pub block_samples : Studio → List Feed → ℕ → List ℤ
+block_samples studio feeds number =
+    flat_map (λ frame. mixed_samples studio feeds (block_start studio.output number +ℤ pos frame)) (range_with_len 0 studio.output.frames)
+
+-- the datagram of a block
+abbrev pub datagram_of : Studio → List Feed → ℕ → List ℕ
+datagram_of studio feeds number = block_datagram studio.output number (block_samples studio feeds number)

@@ -1,0 +1,113 @@
+//! The lanes of a studio's streams: when a block of all of them is final, and its values side by side.
+ghost use Rattle.std.specs.Prelude.{◌≡◌, ◌+◌, ◌*◌, ◌^◌, ◌≤◌, ◌≤ℤ◌, pos, true, length, All, IfOk};
+ghost use Rattle.std.specs.List.{list_all, list_any};
+ghost use Rattle.rtp_wire.specs.PacketTime.{is_packet_time};
+ghost use Rattle.lane_align.specs.Cover.{covers};
+ghost use Rattle.lane_align.specs.Lane.{LaneState, cover_at};
+ghost use Rattle.gain_mix.specs.Mix.{Is24Bits};
+ghost use Rattle.studio_spec.specs.Studio.{channel_total};
+ghost use Rattle.studio_mix.specs.Feed.{unfed};
+ghost use Rattle.studio_mix.specs.Lanes.{AreFed, AreRead, IsLaneAt, IsReadyLane, lane_channels, reaches_past};
+
+use crate::lay::lay_stream;
+use lane_align::{Cover, Lane};
+use path_merge::StreamSpec;
+use std::alloc::{AllocError, Global};
+
+/// A lane for each stream, that was fed nothing.
+pub(crate) fn new_lanes(
+    alloc: Global,
+    streams: &[StreamSpec],
+    start: i64,
+    block: u16,
+) -> Result<Vec<Lane>, AllocError>
+    requires not_low { pos 0 ≤ℤ start }
+    requires not_high { start ≤ℤ pos (2 ^ 60) }
+    requires block { is_packet_time block ≡ true }
+    ensures fed { IfOk result (λ lanes. AreFed start block lanes.items (unfed streams.now) start) }
+    ensures each { IfOk result (λ lanes. All (IsLaneAt block start) lanes.items) }
+    ensures channels { IfOk result (λ lanes. lane_channels lanes.items ≡ channel_total streams.now) }
+    ensures count { IfOk result (λ lanes. length lanes.items ≡ length streams.now) }
+{
+    let mut lanes = Vec::new(alloc);
+    for stream in streams {
+        let lane = Lane::new(alloc, *stream, start, block)?;
+        let _format = lane.format();
+        lanes.push(lane)?;
+    }
+    Ok(lanes)
+}
+
+/// Whether every lane is final before a time.
+pub(crate) fn are_covered(lanes: &[Lane], end: i64) -> bool
+    ensures { result ≡ list_all (λ (lane : LaneState). covers (cover_at lane) end) lanes.now }
+{
+    lanes.iter().all(|lane| lane.cover().covers(end))
+}
+
+/// Whether one of the lanes hasn't ended, or ends past a time.
+pub(crate) fn reach_past(lanes: &[Lane], time: i64, end: i64) -> bool
+    requires covered { list_all (λ (lane : LaneState). covers (cover_at lane) end) lanes.now ≡ true }
+    requires later { time ≤ℤ end }
+    ensures value { result ≡ list_any (reaches_past time) lanes.now }
+    ensures early { result ≡ true → time ≤ℤ pos (2 ^ 61 + 192) }
+{
+    for lane in lanes {
+        match lane.cover() {
+            Cover::All => {
+                if time < lane.end() {
+                    return true;
+                }
+            }
+            _ => return true,
+        }
+    }
+    false
+}
+
+/// Reads a block of every lane, and lays the streams' values side by side, frame by frame.
+///
+/// The block of one stream alone is read where it has to stand; else each goes through `one`.
+pub(crate) fn read_lanes(
+    lanes: &mut [Lane],
+    one: &mut [i32],
+    frames: usize,
+    width: usize,
+    ins: &mut [i32],
+)
+    requires ready { All (IsReadyLane frames) lanes.old }
+    requires width { width ≡ lane_channels lanes.old }
+    requires narrow { width ≤ 1024 }
+    requires short { frames ≤ 192 }
+    requires one { length one.old ≡ frames * 64 }
+    requires ins { length ins.old ≡ frames * width }
+    requires in_24_bits { All Is24Bits ins.old }
+    ensures { AreRead lanes.old lanes.new ins.new frames width }
+{
+    if lanes.len() == 1 {
+        lanes[0].read_block(ins);
+    } else {
+        read_each(lanes, one, frames, width, ins);
+    }
+}
+
+/// Reads a block of every lane, one after the other.
+fn read_each(lanes: &mut [Lane], one: &mut [i32], frames: usize, width: usize, ins: &mut [i32])
+    requires ready { All (IsReadyLane frames) lanes.old }
+    requires width { width ≡ lane_channels lanes.old }
+    requires narrow { width ≤ 1024 }
+    requires short { frames ≤ 192 }
+    requires one { length one.old ≡ frames * 64 }
+    requires ins { length ins.old ≡ frames * width }
+    requires in_24_bits { All Is24Bits ins.old }
+    ensures { AreRead lanes.old lanes.new ins.new frames width }
+{
+    let mut at = 0;
+    for lane in lanes.iter_mut() {
+        let channels = usize::from(lane.format().channels);
+        let values = &mut one[..frames * channels];
+        lane.read_block(values);
+        lay_stream(frames, channels, values, width, at, ins);
+        at += channels;
+    }
+}

@@ -1,0 +1,20 @@
+//! A law of blocks.
+ghost use Rattle.std.specs.Prelude.{◌≡◌, ℕ, ◌+◌, ◌<◌, List, true};
+ghost use Rattle.mix_packets.specs.Block.{block_start};
+ghost use Rattle.mix_packets.specs.OutSpec.{Output};
+ghost use Rattle.studio_spec.specs.Studio.{Studio};
+ghost use Rattle.studio_mix.specs.Feed.{AreLonger, Feed};
+ghost use Rattle.studio_mix.specs.Output.{datagram_of};
+ghost use Rattle.studio_mix.specs.Ready.{are_covered, is_ready};
+
+/// Once every stream is final to a block's end, longer lists of marks change neither whether it is
+/// ready nor its datagram. A ready block is one whose streams are final to its end.
+pub fn ready_blocks_stay()
+    ensures ready { (out : Output) (feeds longer : List Feed) (number : ℕ) → 0 < out.frames → AreLonger feeds longer
+        → are_covered feeds (block_start out (number + 1)) ≡ true → is_ready out longer number ≡ is_ready out feeds number }
+    ensures datagram { (studio : Studio) (feeds longer : List Feed) (number : ℕ) → AreLonger feeds longer
+        → are_covered feeds (block_start studio.output (number + 1)) ≡ true
+        → datagram_of studio longer number ≡ datagram_of studio feeds number }
+    ensures covered { (out : Output) (feeds : List Feed) (number : ℕ) → is_ready out feeds number ≡ true
+        → are_covered feeds (block_start out (number + 1)) ≡ true }
+{}

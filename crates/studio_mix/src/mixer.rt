@@ -1,0 +1,198 @@
+//! The lanes of a studio's streams, mixed block by block.
+ghost use Rattle.std.specs.Prelude.{◌≡◌, ℕ, ℤ, pos, ◌+◌, ◌*◌, ◌^◌, ◌<◌, ◌≤◌, ◌+ℤ◌, ◌≤ℤ◌, true, false, not, List, ◌∷◌, [], ◌++◌, length, take, drop, replicate, slice_get, slice_set, All, Some, None, is_some, IfOk, IfSome};
+ghost use Rattle.path_merge.specs.StreamSpecFacts.{format_of};
+ghost use Rattle.path_merge.specs.MarkFacts.{MarkView};
+ghost use Rattle.path_merge.specs.MarkList.{is_mark_list};
+ghost use Rattle.lane_align.specs.Cover.{covers, cover_of};
+ghost use Rattle.mix_packets.specs.OutSpec.{datagram_length};
+ghost use Rattle.mix_packets.specs.Block.{block_start};
+ghost use Rattle.studio_mix.specs.Lanes.{IsReadyLane};
+ghost use Rattle.studio_spec.specs.Studio.{Studio};
+ghost use Rattle.studio_mix.specs.Feed.{Feed, studio_values, unfed};
+ghost use Rattle.studio_mix.specs.Ready.{is_ready};
+ghost use Rattle.studio_mix.specs.Output.{datagram_of};
+
+use crate::lanes::{are_covered, new_lanes, reach_past, read_lanes};
+use gain_mix::{Schedule, mix_span};
+use lane_align::Lane;
+use mix_packets::{OutSpec, Packer};
+use path_merge::Mark;
+use std::alloc::{AllocError, Global};
+use std::marker::Model;
+use studio_spec::StudioSpec;
+
+/// The lanes of a studio's streams, and its output, block by block.
+///
+/// Inputs: `feed`, with a mark that it `accepts`, while it `wants` one of that stream. Outputs:
+/// `next_block`. Readers: `streams`, `output`. No call but `new` takes memory.
+#[derive(Drop)]
+pub struct Mixer {
+    lanes: Vec<Lane>,
+    schedule: Schedule,
+    output: OutSpec,
+    packer: Packer,
+    /// The media time of the next block.
+    time: i64,
+    /// Room for one stream's block, for those of all streams side by side, and for the output's.
+    one: Vec<i32>,
+    ins: Vec<i32>,
+    outs: Vec<i32>,
+}
+
+impl Model for Mixer {
+    ghost use Rattle.studio_mix.specs.Mixer.{MixerState, IsMixer};
+
+    ghost Value = { MixerState };
+
+    ghost view = { λ m. record { lanes = m.lanes.items; schedule = m.schedule; packer = m.packer } };
+
+    ghost invariant = { λ m. IsMixer (record { lanes = m.lanes.items; schedule = m.schedule; packer = m.packer }) m.output m.time m.one.items m.ins.items m.outs.items };
+}
+
+impl Mixer {
+    ghost use Rattle.studio_mix.specs.Mixer.{MixerState, HasFeeds, is_wanted_by, is_next_of};
+
+    /// A mixer of a studio's streams: nothing was fed yet.
+    pub fn new(alloc: Global, spec: &StudioSpec) -> Result<Mixer, AllocError>
+        ensures { IfOk result (λ mixer. HasFeeds spec.now mixer (unfed spec.now.streams) 0) }
+    {
+        let output = *spec.output();
+        let start = output.start();
+        let frames = usize::from(output.frames());
+        let lanes = new_lanes(alloc, spec.streams(), start, output.frames())?;
+        let schedule = spec.schedule().copied(alloc)?;
+        let one = silence(alloc, frames * 64)?;
+        let ins = silence(alloc, frames * schedule.ins())?;
+        let outs = silence(alloc, frames * usize::from(output.channels()))?;
+        Ok(Mixer {
+            lanes,
+            schedule,
+            output,
+            packer: Packer::new(output),
+            time: start,
+            one,
+            ins,
+            outs,
+        })
+    }
+
+    /// How many streams there are.
+    pub fn streams(&self) -> usize
+        ensures value { result ≡ length self.now.lanes }
+        ensures stands { (studio : Studio) (feeds : List Feed) (number : ℕ)
+            → HasFeeds studio self.now feeds number → result ≡ length feeds }
+        ensures some { 1 ≤ result }
+    {
+        self.lanes.len()
+    }
+
+    /// What is fixed of the output.
+    pub fn output(&self) -> &OutSpec
+        ensures value { result.now ≡ self.now.packer.spec }
+        ensures stands { (studio : Studio) (feeds : List Feed) (number : ℕ)
+            → HasFeeds studio self.now feeds number → result.now ≡ studio.output }
+    {
+        &self.output
+    }
+
+    /// Whether the next block needs more marks of a stream.
+    pub fn wants(&self, stream: usize) -> bool
+        requires { stream < length self.now.lanes }
+        ensures value { result ≡ is_wanted_by self.now stream }
+        ensures stands { (studio : Studio) (feeds : List Feed) (number : ℕ) (feed : Feed)
+            → HasFeeds studio self.now feeds number → slice_get feeds stream ≡ Some feed
+            → result ≡ not (covers (cover_of (format_of feed.stream) feed.marks) (block_start studio.output (number + 1))) }
+    {
+        let lane = &self.lanes[stream];
+        let end = self.time + i64::from(self.output.frames());
+        lane.wants(end)
+    }
+
+    /// Whether a mark may follow those of its stream.
+    pub fn accepts(&self, stream: usize, mark: &Mark) -> bool
+        requires { stream < length self.now.lanes }
+        ensures value { result ≡ is_next_of self.now stream mark.now }
+        ensures stands { (studio : Studio) (feeds : List Feed) (number : ℕ) (feed : Feed)
+            → HasFeeds studio self.now feeds number → slice_get feeds stream ≡ Some feed
+            → result ≡ is_mark_list (format_of feed.stream) (feed.marks ++ mark.now ∷ []) }
+    {
+        let lane = &self.lanes[stream];
+        lane.accepts(mark)
+    }
+
+    /// Takes the next mark of a stream.
+    pub fn feed(&mut self, stream: usize, mark: Mark)
+        requires accepted { is_next_of self.old stream mark ≡ true }
+        requires wanted { is_wanted_by self.old stream ≡ true }
+        ensures stands { (studio : Studio) (feeds : List Feed) (number : ℕ) (feed : Feed)
+            → HasFeeds studio self.old feeds number → slice_get feeds stream ≡ Some feed
+            → HasFeeds studio self.new (slice_set feeds stream (record { stream = feed.stream; marks = feed.marks ++ mark ∷ [] })) number }
+        ensures packer { self.new.packer ≡ self.old.packer }
+        ensures streams { length self.new.lanes ≡ length self.old.lanes }
+    {
+        let lane = &mut self.lanes[stream];
+        lane.feed(mark);
+    }
+
+    /// Whether the next block is final.
+    fn is_ready(&self) -> bool
+        ensures stands { (studio : Studio) (feeds : List Feed) (number : ℕ)
+            → HasFeeds studio self.now feeds number → result ≡ is_ready studio.output feeds number }
+        ensures lanes { result ≡ true → All (IsReadyLane self.now.packer.spec.frames) self.now.lanes }
+        ensures early { result ≡ true → block_start self.now.packer.spec self.now.packer.number ≤ℤ pos (2 ^ 61 + 192) }
+    {
+        let end = self.time + i64::from(self.output.frames());
+        are_covered(self.lanes.as_slice(), end) && reach_past(self.lanes.as_slice(), self.time, end)
+    }
+
+    /// Writes the next datagram to the front of `out` where its block is final, and answers its length.
+    pub fn next_block(&mut self, out: &mut [u8]) -> Option<usize>
+        requires room { datagram_length self.old.packer.spec ≤ length out.old }
+        ensures ready { (studio : Studio) (feeds : List Feed) (number : ℕ)
+            → HasFeeds studio self.old feeds number → is_some result ≡ is_ready studio.output feeds number }
+        ensures none { result ≡ None → (self.new ≡ self.old) × (out.new ≡ out.old) }
+        ensures some { IfSome result (λ len. (studio : Studio) (feeds : List Feed) (number : ℕ)
+            → HasFeeds studio self.old feeds number
+            → (len ≡ datagram_length studio.output)
+            × (out.new ≡ datagram_of studio feeds number ++ drop len out.old)
+            × HasFeeds studio self.new feeds (number + 1)) }
+        ensures len { IfSome result (λ len. len ≡ datagram_length self.old.packer.spec) }
+        ensures number { IfSome result (λ _. self.new.packer.number ≡ self.old.packer.number + 1) }
+        ensures early { IfSome result (λ _. block_start self.old.packer.spec self.old.packer.number ≤ℤ pos (2 ^ 61 + 192)) }
+        ensures spec { self.new.packer.spec ≡ self.old.packer.spec }
+        ensures streams { length self.new.lanes ≡ length self.old.lanes }
+    {
+        if !self.is_ready() {
+            return None;
+        }
+        let frames = usize::from(self.output.frames());
+        let width = self.schedule.ins();
+        read_lanes(
+            self.lanes.as_mut_slice(),
+            self.one.as_mut_slice(),
+            frames,
+            width,
+            self.ins.as_mut_slice(),
+        );
+        mix_span(
+            &self.schedule,
+            self.time,
+            self.ins.as_slice(),
+            self.outs.as_mut_slice(),
+            frames,
+            self.output.shift(),
+        );
+        let len = self.packer.next(self.outs.as_slice(), out);
+        self.time += i64::from(self.output.frames());
+        Some(len)
+    }
+}
+
+/// So many samples of silence.
+fn silence(alloc: Global, samples: usize) -> Result<Vec<i32>, AllocError>
+    ensures { IfOk result (λ values. values.items ≡ replicate samples (pos 0)) }
+{
+    let mut values = Vec::new(alloc);
+    values.resize(samples, 0)?;
+    Ok(values)
+}
