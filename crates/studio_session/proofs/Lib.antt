@@ -1,0 +1,9 @@
+pub mod WayLemmas
+pub mod CursorLemmas
+pub mod PlayLemmas
+pub mod SessionLemmas
+pub mod NewLemmas
+pub mod RunLemmas
+pub mod SourceLemmas
+pub mod FaultLemmas
+pub mod ReportLemmas

@@ -1,0 +1,7 @@
+use Rattle.std.proofs.Common.{◌≡◌, ℕ, ◌<◌, Some, slice_get}
+use Rattle.path_merge.specs.StreamSpecFacts.{IsStream, Stream}
+use Rattle.studio_session.proofs.fault.are_streams.Given as goal
+
+-- the first ones are
+abbrev pub invariant-loop-stream : goal.invariant-loop-stream
+invariant-loop-stream l = (i : ℕ) (stream : Stream) → i < l.stream-index → slice_get l.streams i ≡ Some stream → IsStream stream

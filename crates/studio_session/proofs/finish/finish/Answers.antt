@@ -1,0 +1,26 @@
+use Rattle.std.proofs.Common.{◌≡◌, sym, subst}
+use Rattle.studio_session.specs.Cursor.{CursorState}
+use Rattle.studio_session.specs.Report.{merge_tally_of}
+use Rattle.studio_session.proofs.ReportLemmas.{finished}
+use Rattle.studio_session.proofs.finish.finish.Goals as goal
+
+pub events-preserved : goal.events-preserved
+events-preserved g c =
+    let inv = c.events.invariant in
+    record {
+      ready = c.take_event.ensures.ready;
+      stands = λ stream number open_at run some.
+          let events = g.E.EventSource.events c.args.source.now in
+          let on = c.drop_on_way.ensures.stands stream number open_at events run (inv.stands stream number open_at run some) in
+          let left = c.drop_left.ensures.stands stream number open_at events on in
+          record { given = left.given; pulled = c.take_event.ensures.stands stream number open_at left.given run left.pulled };
+    }
+
+pub returns-then-not-take_event-clause-stands : goal.returns-then-not-take_event-clause-stands
+returns-then-not-take_event-clause-stands g c = λ stream number open_at run some.
+    let events = g.E.EventSource.events c.args.source.now in
+    let all = c.take_event.ensures.all c.if-not-take_event.true in
+    let on = c.drop_on_way.ensures.stands stream number open_at events run (c.events.invariant.stands stream number open_at run some) in
+    let left = c.drop_left.ensures.stands stream number open_at events on in
+    subst (λ (s : CursorState). s.merge.counts ≡ merge_tally_of stream number open_at events) (sym all.0)
+    (finished stream number open_at events c.drop_left.new.cursor c.drop_left.ensures.settled all.1 left)

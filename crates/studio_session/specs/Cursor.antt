@@ -1,0 +1,89 @@
+-- How far one stream of a run has come.
+use Rattle.std.specs.Prelude.{◌≡◌, ℕ, ◌+◌, ◌-◌, ◌-ℤ◌, ◌<◌, ◌≤◌, true, List, [], ◌∷◌, length, take, drop, ℤ, Option, Some, None, slice_get}
+use Rattle.std.specs.Option.{option_to_list}
+use Rattle.path_merge.specs.StreamSpecFacts.{Stream}
+use Rattle.path_merge.specs.MarkFacts.{MarkView}
+use Rattle.path_merge.specs.MergeState.{MergeState}
+use Rattle.path_merge.specs.Marks.{marks_of}
+use Rattle.path_merge.specs.History.{is_well_timed}
+use Rattle.studio_session.specs.Event.{TraceEvent, Arrival}
+use Rattle.path_merge.specs.StreamSpec.{Fits}
+use Rattle.studio_session.specs.declared.reception.Reception.{Reception}
+use Rattle.studio_session.specs.declared.reception.Reception.TheVariants.{Sent, Bad, WrongType, WrongLength}
+use Rattle.studio_session.specs.declared.source.Step.{Step}
+use Rattle.studio_session.specs.declared.source.Step.TheVariants.{Other, Datagram, Clock, End}
+use Rattle.lane_align.specs.Lane.{natural}
+use Rattle.studio_session.specs.Session.{stream_history}
+use Rattle.studio_session.specs.Way.{IsOnWay}
+
+pub record CursorState : Type 0 where
+  pub spec : Stream
+  pub number : ℕ
+  pub merge : MergeState
+  pub place : ℕ
+  pub reading : Option ℤ
+
+pub record IsCursor (cursor : CursorState) : Type 0 where
+  pub spec : cursor.merge.spec ≡ cursor.spec
+
+-- so many events were taken, and the first k marks of all of them were given
+pub record HasPulled (stream : Stream) (number : ℕ) (open_at : ℤ) (events : List TraceEvent) (cursor : CursorState) (k : ℕ) : Type 0 where
+  pub spec : cursor.spec ≡ stream
+  pub stream_number : cursor.number ≡ number
+  pub within : cursor.place ≤ length events
+  pub stands : IsOnWay stream open_at cursor.merge cursor.reading (stream_history stream number (take cursor.place events)) k
+
+-- the readings of a stream's events are in order
+pub record IsRunnable (stream : Stream) (number : ℕ) (open_at : ℤ) (events : List TraceEvent) : Type 0 where
+  pub some_frames : 0 < stream.frames
+  pub well_timed : is_well_timed open_at (stream_history stream number events) ≡ true
+
+-- its arrivals are on paths that the stream has
+pub record HasPaths (stream : Stream) (number : ℕ) (events : List TraceEvent) : Type 0 where
+  pub paths : (place path : ℕ) (octets : List ℕ) → slice_get events place ≡ Some (Arrival number path octets) → path < stream.paths
+
+-- all that a cursor needs of events: its place is among them, and its arrivals are on paths that the stream has
+pub record IsReadyFor (events : List TraceEvent) (cursor : CursorState) : Type 0 where
+  pub within : cursor.place ≤ length events
+  pub paths : HasPaths cursor.spec cursor.number events
+
+-- the same stream, at the same place
+pub record IsSameCursor (old new : CursorState) : Type 0 where
+  pub spec : new.spec ≡ old.spec
+  pub number : new.number ≡ old.number
+  pub place : new.place ≡ old.place
+
+-- how far it is from a reading, and from the end of the events
+abbrev pub way_to : MergeState → Option ℤ → ℕ
+way_to merge None = 0
+way_to merge (Some u) = 1 + natural (u -ℤ merge.time)
+
+abbrev pub way_left : CursorState → ℕ
+way_left cursor = way_to cursor.merge cursor.reading
+
+abbrev pub events_left : List TraceEvent → CursorState → ℕ
+events_left events cursor = length events - cursor.place
+
+-- a mark that was given on the way is the next of what was taken
+pub record IsOnTheWay (stream : Stream) (number : ℕ) (open_at : ℤ) (events : List TraceEvent) (cursor : CursorState) (k : ℕ) (given : Option MarkView) : Type 0 where
+  pub mark : (m : MarkView) → given ≡ Some m → m ∷ [] ≡ take 1 (drop k (marks_of stream open_at (stream_history stream number (take cursor.place events))))
+  pub stands : HasPulled stream number open_at events cursor (k + length (option_to_list given))
+
+-- the next mark of what was taken, if one is left of it
+pub record IsDue (stream : Stream) (number : ℕ) (open_at : ℤ) (events : List TraceEvent) (cursor : CursorState) (k : ℕ) (given : Option MarkView) : Type 0 where
+  pub mark : option_to_list given ≡ take 1 (drop k (marks_of stream open_at (stream_history stream number (take cursor.place events))))
+  pub stands : HasPulled stream number open_at events cursor (k + length (option_to_list given))
+
+-- a packet that was received has the stream's length
+abbrev pub FitsReception : Stream → Reception → Type 0
+FitsReception stream (Sent packet) = Fits stream packet
+FitsReception stream Bad = Unit {0}
+FitsReception stream WrongType = Unit {0}
+FitsReception stream WrongLength = Unit {0}
+
+-- and came in on one of its paths
+abbrev pub FitsStep : Stream → Step → Type 0
+FitsStep stream Other = Unit {0}
+FitsStep stream (Datagram path reception) = (path < stream.paths) × FitsReception stream reception
+FitsStep stream (Clock time) = Unit {0}
+FitsStep stream End = Unit {0}

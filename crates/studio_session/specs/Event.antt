@@ -1,0 +1,16 @@
+-- What happens to the streams of a studio.
+use Rattle.std.specs.Prelude.{ℕ, ℤ, List}
+use Rattle.studio_session.specs.declared.event.StudioEvent.{StudioEvent}
+use Rattle.studio_session.specs.declared.event.StudioEvent.TheVariants.{Arrive, Tick, Close}
+
+-- what an event says: an arrival's stream, path and octets, a reading of the clock, or the close
+pub data TraceEvent : Type 0 where
+  Arrival : ℕ → ℕ → List ℕ → TraceEvent
+  Reading : ℤ → TraceEvent
+  Closing : TraceEvent
+
+-- what an event in memory says
+abbrev pub said_by : StudioEvent → TraceEvent
+said_by (Arrive stream path octets) = Arrival stream path octets.items
+said_by (Tick time) = Reading time
+said_by Close = Closing

@@ -1,0 +1,54 @@
+-- The first event of a studio that is at fault.
+use Rattle.std.specs.Prelude.{◌≡◌, ℕ, suc, ◌<◌, Bool, true, false, nat_lt, List, [], ◌∷◌, slice_get, ℤ, Option, Some, None, if◌then◌else◌}
+use Rattle.path_merge.specs.StreamSpecFacts.{Stream}
+use Rattle.path_merge.specs.History.{is_tick_in_order}
+use Rattle.studio_spec.specs.Studio.{Studio}
+use Rattle.studio_session.specs.Event.{TraceEvent, Arrival, Reading, Closing}
+use Rattle.studio_session.specs.declared.fault.StudioFault.{StudioFault}
+use Rattle.studio_session.specs.declared.fault.StudioFault.TheVariants.{Clock, Stream as NoStream, Path as NoPath, Memory}
+
+-- an arrival's stream is none, or lacks the path
+abbrev pub path_fault : ℕ → Option Stream → ℕ → Option StudioFault
+path_fault place None path = Some (NoStream place)
+path_fault place (Some stream) path = if nat_lt path stream.paths then None else Some (NoPath place)
+
+abbrev pub clock_fault : ℕ → Bool → Option StudioFault
+clock_fault place true = None
+clock_fault place false = Some (Clock place)
+
+-- what is wrong with the event at a place, after which time and close
+abbrev pub event_fault : List Stream → ℕ → ℤ → Bool → TraceEvent → Option StudioFault
+event_fault streams place time closed (Arrival stream path octets) = path_fault place (slice_get streams stream) path
+event_fault streams place time closed (Reading u) = clock_fault place (is_tick_in_order time closed u)
+event_fault streams place time closed Closing = None
+
+abbrev pub time_after : ℤ → TraceEvent → ℤ
+time_after time (Arrival stream path octets) = time
+time_after time (Reading u) = u
+time_after time Closing = time
+
+abbrev pub closed_after : Bool → TraceEvent → Bool
+closed_after closed (Arrival stream path octets) = closed
+closed_after closed (Reading u) = closed
+closed_after closed Closing = true
+
+abbrev pub or_later : Option StudioFault → Option StudioFault → Option StudioFault
+or_later (Some fault) later = Some fault
+or_later None later = later
+
+-- the first fault of the events from a place on
+abbrev pub session_fault_from : List Stream → ℕ → ℤ → Bool → List TraceEvent → Option StudioFault
+session_fault_from streams place time closed [] = None
+session_fault_from streams place time closed (event ∷ events) =
+    or_later (event_fault streams place time closed event) (session_fault_from streams (suc place) (time_after time event) (closed_after closed event) events)
+
+-- the first event that is at fault: a reading out of order, a stream that is none, or a path that its stream lacks
+abbrev pub session_fault_of : Studio → List TraceEvent → Option StudioFault
+session_fault_of studio events = session_fault_from studio.streams 0 studio.open_at false events
+
+-- why a run gives no report: the first event at fault, or want of memory where none is
+abbrev pub IsRunFault : Studio → List TraceEvent → StudioFault → Type 0
+IsRunFault studio events (Clock place) = session_fault_of studio events ≡ Some (Clock place)
+IsRunFault studio events (NoStream place) = session_fault_of studio events ≡ Some (NoStream place)
+IsRunFault studio events (NoPath place) = session_fault_of studio events ≡ Some (NoPath place)
+IsRunFault studio events (Memory e) = session_fault_of studio events ≡ None

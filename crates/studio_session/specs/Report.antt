@@ -1,0 +1,42 @@
+-- What a run comes to.
+use Rattle.std.specs.Prelude.{◌≡◌, ℕ, List, [], length, take, drop, map, slice_get, ℤ, Some}
+use Rattle.path_merge.specs.StreamSpecFacts.{Stream}
+use Rattle.path_merge.specs.CountsFacts.{Tally}
+use Rattle.path_merge.specs.Counts.{counts_of, tally_of}
+use Rattle.studio_spec.specs.Studio.{Studio}
+use Rattle.studio_session.specs.declared.report.StreamCounts.{StreamCounts}
+use Rattle.studio_session.specs.Event.{TraceEvent}
+use Rattle.studio_session.specs.Session.{stream_history}
+use Rattle.studio_session.specs.Counts.{path_tallies, path_tally_of}
+use Rattle.studio_session.specs.Cursor.{CursorState, HasPulled}
+use Rattle.studio_session.specs.Play.{stream_marks}
+
+-- the counts of a stream's merge once all its marks were given
+abbrev pub merge_tally_of : Stream → ℕ → ℤ → List TraceEvent → Tally
+merge_tally_of stream number open_at events = counts_of stream open_at (stream_history stream number events) (stream_marks stream number open_at events)
+
+-- the counts of a stream: of each of its paths, and of its merge
+pub record AreCountsOf (stream : Stream) (number : ℕ) (open_at : ℤ) (events : List TraceEvent) (counts : StreamCounts) : Type 0 where
+  pub paths : map path_tally_of counts.paths.items ≡ path_tallies stream number events stream.paths
+  pub merge : tally_of counts.merge ≡ merge_tally_of stream number open_at events
+
+-- those of each stream
+pub record AreCounts (studio : Studio) (events : List TraceEvent) (counts : List StreamCounts) : Type 0 where
+  pub count : length counts ≡ length studio.streams
+  pub each : (i : ℕ) (stream : Stream) (c : StreamCounts) → slice_get studio.streams i ≡ Some stream → slice_get counts i ≡ Some c → AreCountsOf stream i studio.open_at events c
+
+-- so many events were taken, and some marks of all of them were given
+pub record HasPulledSome (stream : Stream) (number : ℕ) (open_at : ℤ) (events : List TraceEvent) (cursor : CursorState) : Type 0 where
+  pub given : ℕ
+  pub pulled : HasPulled stream number open_at events cursor given
+
+-- and no mark is left of the events that were taken
+pub record HasPulledAll (stream : Stream) (number : ℕ) (open_at : ℤ) (events : List TraceEvent) (cursor : CursorState) : Type 0 where
+  pub given : ℕ
+  pub pulled : HasPulled stream number open_at events cursor given
+  pub none : [] ≡ take 1 (drop given (stream_marks stream number open_at (take cursor.place events)))
+
+-- so it is of each stream
+pub record ArePulled (studio : Studio) (events : List TraceEvent) (cursors : List CursorState) : Type 0 where
+  pub count : length cursors ≡ length studio.streams
+  pub each : (i : ℕ) (stream : Stream) (cursor : CursorState) → slice_get studio.streams i ≡ Some stream → slice_get cursors i ≡ Some cursor → HasPulledSome stream i studio.open_at events cursor

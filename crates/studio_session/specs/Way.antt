@@ -1,0 +1,27 @@
+-- A merge on its way to a reading of the clock.
+use Rattle.std.specs.Prelude.{◌≡◌, ℕ, ◌+◌, List, [], ◌∷◌, ◌++◌, length, take, drop, ℤ, Option, Some, None, if◌then◌else◌}
+use Rattle.std.specs.Option.{option_to_list}
+use Rattle.path_merge.specs.StreamSpecFacts.{Stream}
+use Rattle.path_merge.specs.MarkFacts.{MarkView}
+use Rattle.path_merge.specs.declared.event.Event.{Event}
+use Rattle.path_merge.specs.declared.event.Event.TheVariants.{Tick}
+use Rattle.path_merge.specs.MergeState.{MergeState}
+use Rattle.path_merge.specs.Merge.{HasHistory}
+use Rattle.path_merge.specs.Marks.{marks_of, is_slot}
+use Rattle.path_merge.specs.Steps.{IsAlike, clock_fault_of}
+
+-- the merge has this history, or is on its way to the reading at its end
+abbrev pub IsOnWay : Stream → ℤ → MergeState → Option ℤ → List Event → ℕ → Type 0
+IsOnWay stream open_at merge None events k = HasHistory stream open_at merge events k
+IsOnWay stream open_at merge (Some u) events k =
+    (so_far : List Event) × HasHistory stream open_at merge so_far k × (clock_fault_of merge.time merge.closed u ≡ None) × IsAlike stream open_at (so_far ++ Tick u ∷ []) events
+
+-- the reading that is still to be reached, after a mark on the way to it
+abbrev pub on_way_after : Option MarkView → ℤ → Option ℤ
+on_way_after None u = None
+on_way_after (Some mark) u = if is_slot mark.kind then Some u else None
+
+-- the next mark was given, if there is one before the reading is reached
+pub record WentOn (stream : Stream) (open_at : ℤ) (merge : MergeState) (u : ℤ) (events : List Event) (k : ℕ) (mark : Option MarkView) : Type 0 where
+  pub given : (m : MarkView) → mark ≡ Some m → m ∷ [] ≡ take 1 (drop k (marks_of stream open_at events))
+  pub stands : IsOnWay stream open_at merge (on_way_after mark u) events (k + length (option_to_list mark))

@@ -1,0 +1,138 @@
+//! Why a list of events can't be run.
+ghost use Rattle.std.specs.Prelude.{◌≡◌, ℕ, false, map, Some, None, slice_get};
+ghost use Rattle.path_merge.specs.StreamSpecFacts.{IsStream, Stream};
+ghost use Rattle.path_merge.specs.History.{is_tick_in_order};
+ghost use Rattle.mix_packets.specs.OutSpec.{IsOutput};
+ghost use Rattle.studio_session.specs.Event.{said_by};
+ghost use Rattle.studio_session.specs.Fault as spec;
+ghost use Rattle.studio_session.specs.Fault.{session_fault_from, session_fault_of};
+ghost use Rattle.studio_session.specs.Play.{HasPathsBy, IsRunnableBy};
+
+use crate::event::StudioEvent;
+use mix_packets::OutSpec;
+use path_merge::{Path, StreamSpec};
+use std::alloc::AllocError;
+use studio_spec::StudioSpec;
+use thiserror::Error;
+
+/// Why a list of events gives no report: its first event at fault, by the place, or want of memory.
+#[derive(Debug, Drop, Error)]
+pub enum StudioFault {
+    /// A reading of the clock goes back, or past 2^60, or comes after a close.
+    #[error("the clock reading at place {0} is out of order")]
+    Clock(usize),
+    /// A datagram came in for a stream that is none.
+    #[error("the datagram at place {0} is of no stream")]
+    Stream(usize),
+    /// A datagram came in on a path that its stream lacks.
+    #[error("the datagram at place {0} is on a path that its stream lacks")]
+    Path(usize),
+    /// A growth was refused.
+    #[error("out of memory")]
+    Memory(AllocError),
+}
+
+/// The first event at fault. It takes no memory, and never answers want of it.
+pub fn first_fault(spec: &StudioSpec, events: &[StudioEvent]) -> Option<StudioFault>
+    ensures fault { result ≡ session_fault_of spec.now (map said_by events.now) }
+    ensures runnable { result ≡ None → IsRunnableBy spec.now (map said_by events.now) }
+    ensures paths { result ≡ None → HasPathsBy spec.now (map said_by events.now) }
+{
+    are_streams(spec.streams());
+    is_output(spec.output());
+    fault_from(spec.streams(), spec.open_at(), events)
+}
+
+/// What holds of every output, for the contract above.
+pub(crate) fn is_output(output: &OutSpec)
+    ensures { IsOutput output.now }
+{
+    let _ = output.frames();
+}
+
+/// What holds of every stream, for the contract above.
+fn are_streams(streams: &[StreamSpec])
+    ensures { (i : ℕ) (stream : Stream) → slice_get streams.now i ≡ Some stream → IsStream stream }
+{
+    for stream in streams {
+        let _ = stream.paths();
+    }
+}
+
+/// The first event at fault after an opening.
+fn fault_from(streams: &[StreamSpec], open_at: i64, events: &[StudioEvent]) -> Option<StudioFault>
+    ensures { result ≡ session_fault_from streams.now 0 open_at false (map said_by events.now) }
+{
+    let mut time = open_at;
+    let mut closed = false;
+    for (place, event) in events.iter().enumerate() {
+        if let Some(fault) = event_fault(streams, place, time, closed, event) {
+            return Some(fault);
+        }
+        time = time_after(time, event);
+        closed = closed_after(closed, event);
+    }
+    None
+}
+
+/// What is wrong with an event.
+fn event_fault(
+    streams: &[StreamSpec],
+    place: usize,
+    time: i64,
+    closed: bool,
+    event: &StudioEvent,
+) -> Option<StudioFault>
+    ensures { result ≡ spec.event_fault streams.now place time closed (said_by event.now) }
+{
+    match event {
+        StudioEvent::Arrive { stream, path, .. } => match streams.get(*stream as usize) {
+            Some(stream) => path_fault(place, stream, *path),
+            None => Some(StudioFault::Stream(place)),
+        },
+        StudioEvent::Tick(now) => {
+            if in_order(time, closed, *now) {
+                None
+            } else {
+                Some(StudioFault::Clock(place))
+            }
+        }
+        StudioEvent::Close => None,
+    }
+}
+
+/// What is wrong with a path of a stream.
+fn path_fault(place: usize, stream: &StreamSpec, path: Path) -> Option<StudioFault>
+    ensures { result ≡ spec.path_fault place (Some stream.now) path }
+{
+    if path.number() < stream.paths() {
+        None
+    } else {
+        Some(StudioFault::Path(place))
+    }
+}
+
+/// Whether a reading is in order.
+fn in_order(time: i64, closed: bool, now: i64) -> bool
+    ensures { result ≡ is_tick_in_order time closed now }
+{
+    path_merge::clock_fault(time, closed, now).is_none()
+}
+
+fn time_after(time: i64, event: &StudioEvent) -> i64
+    ensures { result ≡ spec.time_after time (said_by event.now) }
+{
+    match event {
+        StudioEvent::Tick(now) => *now,
+        _ => time,
+    }
+}
+
+fn closed_after(closed: bool, event: &StudioEvent) -> bool
+    ensures { result ≡ spec.closed_after closed (said_by event.now) }
+{
+    match event {
+        StudioEvent::Close => true,
+        _ => closed,
+    }
+}

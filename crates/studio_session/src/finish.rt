@@ -1,0 +1,57 @@
+//! One stream's marks to the last of them, for its counts.
+ghost use Rattle.std.specs.Prelude.{◌≡◌, ℕ, List, ℤ, None};
+ghost use Rattle.path_merge.specs.StreamSpecFacts.{Stream};
+ghost use Rattle.studio_session.specs.Event.{TraceEvent};
+ghost use Rattle.studio_session.specs.Cursor.{IsReadyFor, IsRunnable, IsSameCursor};
+ghost use Rattle.studio_session.specs.Report.{HasPulledAll, HasPulledSome, merge_tally_of};
+
+use crate::cursor::Cursor;
+use crate::source::EventSource;
+
+/// Drops the marks on the way to the reading that was taken last.
+fn drop_on_way(cursor: &mut Cursor)
+    ensures stands { (stream : Stream) (number : ℕ) (open_at : ℤ) (events : List TraceEvent) → IsRunnable stream number open_at events
+        → HasPulledSome stream number open_at events cursor.old → HasPulledSome stream number open_at events cursor.new }
+    ensures settled { cursor.new.reading ≡ None }
+    ensures kept { IsSameCursor cursor.old cursor.new }
+{
+    'marks: loop {
+        match cursor.next_on_way() {
+            Some(_) => {}
+            None => return,
+        }
+    }
+}
+
+/// Drops the marks that are left after a close.
+fn drop_left(cursor: &mut Cursor)
+    requires settled { cursor.old.reading ≡ None }
+    ensures stands { (stream : Stream) (number : ℕ) (open_at : ℤ) (events : List TraceEvent)
+        → HasPulledSome stream number open_at events cursor.old → HasPulledAll stream number open_at events cursor.new }
+    ensures settled { cursor.new.reading ≡ None }
+    ensures kept { IsSameCursor cursor.old cursor.new }
+{
+    'marks: loop {
+        match cursor.next_left() {
+            Some(_) => {}
+            None => return,
+        }
+    }
+}
+
+/// Takes all events, and drops all marks that weren't given.
+pub(crate) fn finish<E: EventSource>(cursor: &mut Cursor, source: &E)
+    requires ready { IsReadyFor (E.events source.now) cursor.old }
+    ensures ready { IsReadyFor (E.events source.now) cursor.new }
+    ensures stands { (stream : Stream) (number : ℕ) (open_at : ℤ) → IsRunnable stream number open_at (E.events source.now)
+        → HasPulledSome stream number open_at (E.events source.now) cursor.old
+        → cursor.new.merge.counts ≡ merge_tally_of stream number open_at (E.events source.now) }
+{
+    'events: loop {
+        drop_on_way(cursor);
+        drop_left(cursor);
+        if !cursor.take_event(source) {
+            return;
+        }
+    }
+}

@@ -1,0 +1,110 @@
+//! One stream's marks, handed to the mixer while it wants them.
+ghost use Rattle.std.specs.Prelude.{◌≡◌, ℕ, ◌<◌, ◌++◌, ◌∷◌, [], List, length, slice_get, slice_set, true, false, Some, None};
+ghost use Rattle.path_merge.specs.StreamSpecFacts.{Stream, format_of};
+ghost use Rattle.path_merge.specs.MarkList.{is_mark_list};
+ghost use Rattle.studio_spec.specs.Studio.{Studio};
+ghost use Rattle.studio_mix.specs.Feed.{Feed};
+ghost use Rattle.studio_mix.specs.Mixer.{HasFeeds, is_wanted_by};
+ghost use Rattle.studio_session.specs.Event.{TraceEvent};
+ghost use Rattle.studio_session.specs.Cursor.{IsReadyFor, IsSameCursor};
+ghost use Rattle.studio_session.specs.Play.{IsRunnableBy, Plays, PlaysOut, PlaysFinal};
+
+use crate::cursor::Cursor;
+use crate::source::EventSource;
+use path_merge::Mark;
+use studio_mix::Mixer;
+
+/// Hands a mark of a stream to the mixer.
+fn hand_on(mixer: &mut Mixer, stream: usize, mark: Mark)
+    requires stream { stream < length mixer.old.lanes }
+    requires wanted { is_wanted_by mixer.old stream ≡ true }
+    ensures stands { (studio : Studio) (feeds : List Feed) (next : ℕ) (feed : Feed)
+        → HasFeeds studio mixer.old feeds next → slice_get feeds stream ≡ Some feed
+        → is_mark_list (format_of feed.stream) (feed.marks ++ mark ∷ []) ≡ true
+        → HasFeeds studio mixer.new (slice_set feeds stream (record { stream = feed.stream; marks = feed.marks ++ mark ∷ [] })) next }
+    ensures packer { mixer.new.packer ≡ mixer.old.packer }
+    ensures streams { length mixer.new.lanes ≡ length mixer.old.lanes }
+{
+    if mixer.accepts(stream, &mark) {
+        mixer.feed(stream, mark);
+    }
+}
+
+/// Hands on the marks on the way to the reading that was taken last.
+fn pull_on_way(mixer: &mut Mixer, stream: usize, cursor: &mut Cursor)
+    requires stream { stream < length mixer.old.lanes }
+    ensures stands { (studio : Studio) (events : List TraceEvent) (feeds : List Feed) (next : ℕ)
+        → IsRunnableBy studio events → stream < length feeds
+        → Plays studio events feeds next stream mixer.old cursor.old → Plays studio events feeds next stream mixer.new cursor.new }
+    ensures settled { is_wanted_by mixer.new stream ≡ true → cursor.new.reading ≡ None }
+    ensures kept { IsSameCursor cursor.old cursor.new }
+    ensures packer { mixer.new.packer ≡ mixer.old.packer }
+    ensures streams { length mixer.new.lanes ≡ length mixer.old.lanes }
+{
+    'marks: loop {
+        if !mixer.wants(stream) {
+            return;
+        }
+        match cursor.next_on_way() {
+            Some(mark) => hand_on(mixer, stream, mark),
+            None => return,
+        }
+    }
+}
+
+/// Hands on the marks that are left after a close; true where none is left.
+fn pull_left(mixer: &mut Mixer, stream: usize, cursor: &mut Cursor) -> bool
+    requires stream { stream < length mixer.old.lanes }
+    requires settled { cursor.old.reading ≡ None }
+    ensures out { result ≡ true → (studio : Studio) (events : List TraceEvent) (feeds : List Feed) (next : ℕ)
+        → IsRunnableBy studio events → stream < length feeds
+        → Plays studio events feeds next stream mixer.old cursor.old → PlaysOut studio events feeds next stream mixer.new cursor.new }
+    ensures covered { result ≡ false → (studio : Studio) (events : List TraceEvent) (feeds : List Feed) (next : ℕ)
+        → IsRunnableBy studio events → stream < length feeds
+        → Plays studio events feeds next stream mixer.old cursor.old → PlaysFinal studio events feeds next stream mixer.new cursor.new }
+    ensures settled { cursor.new.reading ≡ None }
+    ensures kept { IsSameCursor cursor.old cursor.new }
+    ensures packer { mixer.new.packer ≡ mixer.old.packer }
+    ensures streams { length mixer.new.lanes ≡ length mixer.old.lanes }
+{
+    'marks: loop {
+        if !mixer.wants(stream) {
+            return false;
+        }
+        match cursor.next_left() {
+            Some(mark) => hand_on(mixer, stream, mark),
+            None => return true,
+        }
+    }
+}
+
+/// Hands on a stream's marks until the mixer wants no more, or all were given.
+pub(crate) fn pull<E: EventSource>(
+    mixer: &mut Mixer,
+    stream: usize,
+    cursor: &mut Cursor,
+    source: &E,
+)
+    requires stream { stream < length mixer.old.lanes }
+    requires ready { IsReadyFor (E.events source.now) cursor.old }
+    ensures ready { IsReadyFor (E.events source.now) cursor.new }
+    ensures stands { (studio : Studio) (feeds : List Feed) (next : ℕ)
+        → IsRunnableBy studio (E.events source.now) → stream < length feeds
+        → Plays studio (E.events source.now) feeds next stream mixer.old cursor.old
+        → PlaysFinal studio (E.events source.now) feeds next stream mixer.new cursor.new }
+    ensures packer { mixer.new.packer ≡ mixer.old.packer }
+    ensures streams { length mixer.new.lanes ≡ length mixer.old.lanes }
+{
+    'events: loop {
+        pull_on_way(mixer, stream, cursor);
+        if !mixer.wants(stream) {
+            return;
+        }
+        if !pull_left(mixer, stream, cursor) {
+            return;
+        }
+        if !cursor.take_event(source) {
+            return;
+        }
+    }
+}

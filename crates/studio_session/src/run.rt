@@ -1,0 +1,44 @@
+//! A whole session: the datagrams of a list of events.
+ghost use Rattle.std.specs.Prelude.{◌≡◌, ℕ, ◌<◌, ◌≤◌, List, length, map, None, All, IfOk, IfErr, OnOk};
+ghost use Rattle.mix_packets.specs.OutSpec.{datagram_length};
+ghost use Rattle.studio_spec.specs.Studio.{Studio};
+ghost use Rattle.studio_session.specs.Cursor.{IsReadyFor};
+ghost use Rattle.studio_session.specs.Play.{HasPlayed, IsRunnableBy};
+ghost use Rattle.studio_session.specs.Run.{AreDatagrams};
+
+use crate::session::Session;
+use crate::source::EventSource;
+use std::alloc::{AllocError, Global};
+
+/// The greatest length of a datagram: a header of 12 octets and a payload of 1,440.
+const MOST_OCTETS: usize = 1452;
+
+/// The datagrams of all blocks that are ready, in order.
+pub fn all_datagrams<E: EventSource>(
+    alloc: Global,
+    session: &mut Session,
+    source: &E,
+) -> Result<Vec<Vec<u8>>, AllocError>
+    requires short { datagram_length session.old.mixer.packer.spec ≤ 1452 }
+    requires some { 0 < session.old.mixer.packer.spec.frames }
+    requires ready { All (IsReadyFor (E.events source.now)) session.old.cursors }
+    ensures datagrams { IfOk result (λ datagrams. (studio : Studio)
+        → IsRunnableBy studio (E.events source.now) → HasPlayed studio (E.events source.now) session.old 0
+        → AreDatagrams studio (E.events source.now) (map (λ d. d.items) datagrams.items)) }
+    ensures ready { OnOk result (All (IsReadyFor (E.events source.now)) session.new.cursors) }
+    ensures played { IfOk result (λ datagrams. (studio : Studio)
+        → IsRunnableBy studio (E.events source.now) → HasPlayed studio (E.events source.now) session.old 0
+        → HasPlayed studio (E.events source.now) session.new (length datagrams.items)) }
+{
+    let mut out = [0u8; MOST_OCTETS];
+    let mut datagrams = Vec::new(alloc);
+    'rounds: loop {
+        match session.next_datagram(source, &mut out) {
+            Some(len) => {
+                let datagram = Vec::from_slice(alloc, &out[..len])?;
+                datagrams.push(datagram)?;
+            }
+            None => return Ok(datagrams),
+        }
+    }
+}

@@ -1,0 +1,138 @@
+//! A session of a studio: its streams' merges, and the mixer that takes their marks.
+ghost use Rattle.std.specs.Prelude.{◌≡◌, ℕ, ◌+◌, ◌*◌, ◌^◌, ◌≤◌, ◌++◌, ℤ, pos, ◌≤ℤ◌, List, length, drop, All, None, is_some, IfOk, IfSome};
+ghost use Rattle.mix_packets.specs.Block.{block_start};
+ghost use Rattle.mix_packets.specs.OutSpec.{datagram_length};
+ghost use Rattle.studio_spec.specs.Studio.{Studio};
+ghost use Rattle.studio_mix.specs.Output.{datagram_of};
+ghost use Rattle.studio_mix.specs.Ready.{is_ready};
+ghost use Rattle.studio_session.specs.Event.{TraceEvent};
+ghost use Rattle.studio_session.specs.Cursor.{IsReadyFor};
+ghost use Rattle.studio_session.specs.Report.{AreCounts};
+ghost use Rattle.studio_session.specs.Play.{AreNew, HasFilled, HasPathsBy, HasPlayed, IsRunnableBy, feeds_of};
+
+use crate::cursor::Cursor;
+use crate::pull::pull;
+use crate::report::StreamCounts;
+use crate::source::EventSource;
+use crate::tally::all_counts;
+use path_merge::StreamSpec;
+use std::alloc::{AllocError, Global};
+use std::marker::Model;
+use studio_mix::Mixer;
+use studio_spec::StudioSpec;
+
+/// The merges of a studio's streams, each with its own place in the events, and the mixer.
+///
+/// `next_datagram` pulls marks while the mixer wants them. No call but `new` takes memory.
+#[derive(Drop)]
+pub struct Session {
+    mixer: Mixer,
+    cursors: Vec<Cursor>,
+}
+
+impl Model for Session {
+    ghost use Rattle.studio_session.specs.Play.{SessionState, IsSession};
+    ghost use Rattle.std.specs.FinMap as map;
+    ghost use Rattle.std.specs.Coded.{codes, coded_ℕ};
+    ghost use Rattle.std.specs.Ordering.{nat_cmp};
+    ghost use Rattle.path_merge.specs.contracts.packet.Packet as packet;
+
+    ghost Value = { SessionState };
+
+    ghost coded = { Prim.hlevel (codes, map.code {R = nat_cmp} coded_ℕ packet.the_row.coded) };
+
+    ghost view = { λ s. record { mixer = s.mixer; cursors = s.cursors.items } };
+
+    ghost invariant = { λ s. IsSession (record { mixer = s.mixer; cursors = s.cursors.items }) };
+}
+
+impl Session {
+    /// A session before its first event.
+    pub fn new(alloc: Global, spec: &StudioSpec) -> Result<Session, AllocError>
+        ensures stands { IfOk result (λ session. (events : List TraceEvent) → HasPlayed spec.now events session 0) }
+        ensures ready { IfOk result (λ session. (events : List TraceEvent) → HasPathsBy spec.now events
+            → All (IsReadyFor events) session.cursors) }
+        ensures spec { IfOk result (λ session. session.mixer.packer.spec ≡ spec.now.output) }
+    {
+        let mixer = Mixer::new(alloc, spec)?;
+        let cursors = new_cursors(alloc, spec.streams(), spec.open_at())?;
+        Ok(Session { mixer, cursors })
+    }
+
+    /// Writes the datagram of the next block to the front of `out`, and answers its length; none where
+    /// no block is ready any more.
+    pub fn next_datagram<E: EventSource>(&mut self, source: &E, out: &mut [u8]) -> Option<usize>
+        requires room { datagram_length self.old.mixer.packer.spec ≤ length out.old }
+        requires ready { All (IsReadyFor (E.events source.now)) self.old.cursors }
+        ensures ready { All (IsReadyFor (E.events source.now)) self.new.cursors }
+        ensures given { (studio : Studio) (next : ℕ)
+            → IsRunnableBy studio (E.events source.now) → HasPlayed studio (E.events source.now) self.old next
+            → is_some result ≡ is_ready studio.output (feeds_of studio (E.events source.now)) next }
+        ensures some { IfSome result (λ len. (studio : Studio) (next : ℕ)
+            → IsRunnableBy studio (E.events source.now) → HasPlayed studio (E.events source.now) self.old next
+            → (len ≡ datagram_length studio.output)
+            × (out.new ≡ datagram_of studio (feeds_of studio (E.events source.now)) next ++ drop len out.old)
+            × HasPlayed studio (E.events source.now) self.new (next + 1)) }
+        ensures none { result ≡ None → (studio : Studio) (next : ℕ)
+            → IsRunnableBy studio (E.events source.now) → HasPlayed studio (E.events source.now) self.old next
+            → HasPlayed studio (E.events source.now) self.new next }
+        ensures len { IfSome result (λ len. len ≡ datagram_length self.old.mixer.packer.spec) }
+        ensures number { IfSome result (λ len. self.new.mixer.packer.number ≡ self.old.mixer.packer.number + 1) }
+        ensures early { IfSome result (λ len. block_start self.old.mixer.packer.spec self.old.mixer.packer.number ≤ℤ pos (2 ^ 61 + 192)) }
+        ensures spec { self.new.mixer.packer.spec ≡ self.old.mixer.packer.spec }
+    {
+        fill(&mut self.mixer, self.cursors.as_mut_slice(), source);
+        self.mixer.next_block(out)
+    }
+
+    /// The counts of each stream, after all its marks: to be called once no block is ready any more,
+    /// since the marks that weren't fed are dropped.
+    pub fn counts<E: EventSource>(
+        mut self,
+        alloc: Global,
+        source: &E,
+    ) -> Result<Vec<StreamCounts>, AllocError>
+        requires ready { All (IsReadyFor (E.events source.now)) self.cursors }
+        ensures { IfOk result (λ counts. (studio : Studio) (next : ℕ)
+            → IsRunnableBy studio (E.events source.now) → HasPlayed studio (E.events source.now) self next
+            → AreCounts studio (E.events source.now) counts.items) }
+    {
+        let counts = all_counts(alloc, self.cursors.as_mut_slice(), source)?;
+        Ok(counts)
+    }
+}
+
+/// A cursor for each stream, before the first event.
+fn new_cursors(
+    alloc: Global,
+    streams: &[StreamSpec],
+    open_at: i64,
+) -> Result<Vec<Cursor>, AllocError>
+    requires not_low { pos 0 ≤ℤ open_at }
+    requires not_high { open_at ≤ℤ pos (2 ^ 60) }
+    requires few { length streams.now ≤ 16 }
+    ensures { IfOk result (λ cursors. AreNew streams.now open_at cursors.items (length streams.now)) }
+{
+    let mut cursors = Vec::new(alloc);
+    for (number, stream) in streams.iter().enumerate() {
+        let cursor = Cursor::new(alloc, *stream, number as u8, open_at)?;
+        cursors.push(cursor)?;
+    }
+    Ok(cursors)
+}
+
+/// Hands on each stream's marks until the mixer wants no more, or all were given.
+fn fill<E: EventSource>(mixer: &mut Mixer, cursors: &mut [Cursor], source: &E)
+    requires streams { length cursors.old ≡ length mixer.old.lanes }
+    requires ready { All (IsReadyFor (E.events source.now)) cursors.old }
+    ensures ready { All (IsReadyFor (E.events source.now)) cursors.new }
+    ensures stands { (studio : Studio) (next : ℕ) → IsRunnableBy studio (E.events source.now)
+        → HasPlayed studio (E.events source.now) (record { mixer = mixer.old; cursors = cursors.old }) next
+        → HasFilled studio (E.events source.now) (record { mixer = mixer.new; cursors = cursors.new }) next (length cursors.old) }
+    ensures packer { mixer.new.packer ≡ mixer.old.packer }
+    ensures streams { length mixer.new.lanes ≡ length mixer.old.lanes }
+{
+    for stream in 0..cursors.len() {
+        pull(mixer, stream, &mut cursors[stream], source);
+    }
+}

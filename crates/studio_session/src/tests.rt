@@ -1,0 +1,177 @@
+//! A studio of two streams, from datagrams to datagrams.
+use super::*;
+use gain_mix::{Matrix, Schedule};
+use mix_packets::OutSpec;
+use path_merge::{Path, StreamClock, StreamSpec};
+use rtp_wire::Enc;
+use std::alloc::{AllocError, Global};
+use std::process::Abort;
+use std::test::Fail;
+use studio_spec::StudioSpec;
+
+/// A stream of one channel of L24.
+fn stream(rt: &impl Abort, frames: u16, latency: u32) -> StreamSpec {
+    let clock = StreamClock::Media { offset: 0 };
+    match StreamSpec::new(Enc::L24, 1, frames, 96, None, clock, latency, 8, 2) {
+        Ok(spec) => spec,
+        Err(_) => { panic!(rt; "a stream without a fault") }
+    }
+}
+
+/// The streams of six and of 48 sampling instants a packet, added into packets of 48.
+fn six_and_forty_eight(rt: &impl Abort, alloc: Global) -> Result<StudioSpec, Fail> {
+    let output = OutSpec::new(Enc::L24, 1, 48, 97, 2, 65_535, 0, 0)?;
+    let gains = Matrix::new(alloc, 1, 2, &[65_536, 65_536])?;
+    let schedule = Schedule::new(gains, Vec::new(alloc))?;
+    assert!(rt; schedule.outs() == usize::from(output.channels()));
+    let first = stream(rt, 6, 12);
+    let second = stream(rt, 48, 48);
+    assert!(rt; schedule.ins() == usize::from(first.channels()) + usize::from(second.channels()));
+    let mut both = Vec::new(alloc);
+    both.push(first)?;
+    both.push(second)?;
+    Ok(StudioSpec::new(0, both, output, schedule))
+}
+
+/// A header, and so many times these samples, one after another.
+fn datagram(alloc: Global, head: [u8; 12], runs: &[(u8, [u8; 3])]) -> Result<Vec<u8>, AllocError> {
+    let mut octets = Vec::from_slice(alloc, &head)?;
+    for (times, sample) in runs {
+        for _ in 0..*times {
+            octets.extend_from_slice(sample)?;
+        }
+    }
+    Ok(octets)
+}
+
+const PACKETS: [[u8; 2]; 8] = [
+    [1, 0],
+    [2, 6],
+    [3, 12],
+    [4, 18],
+    [5, 24],
+    [6, 30],
+    [7, 36],
+    [8, 42],
+];
+
+/// Eight packets of the first stream from 0 on, of 1000 throughout.
+fn push_eight_thousands(
+    alloc: Global,
+    path: Path,
+    events: &mut Vec<StudioEvent>,
+) -> Result<(), AllocError> {
+    for packet in &PACKETS {
+        let [seq, ts] = *packet;
+        let head = [0x80, 0x60, 0, seq, 0, 0, 0, ts, 0, 0, 0, 1];
+        let octets = datagram(alloc, head, &[(6, [0, 3, 0xe8])])?;
+        events.push(StudioEvent::Arrive {
+            stream: 0,
+            path,
+            octets,
+        })?;
+    }
+    Ok(())
+}
+
+const FIRST: [u8; 12] = [0x80, 0x61, 0xff, 0xff, 0, 0, 0, 0, 0, 0, 0, 2];
+
+const NEXT: [u8; 12] = [0x80, 0x61, 0, 0, 0, 0, 0, 48, 0, 0, 0, 2];
+
+#[test]
+fn two_streams_are_mixed_from_datagrams_to_datagrams(rt: HostRuntime) -> Result<(), Fail> {
+    let alloc = rt.alloc();
+    let spec = six_and_forty_eight(&rt, alloc)?;
+    let Some(path) = Path::new(0) else {
+        panic!(rt; "a path")
+    };
+    let mut events = Vec::new(alloc);
+    push_eight_thousands(alloc, path, &mut events)?;
+    let head = [0x80, 0x60, 0, 100, 0, 0, 0, 20, 0, 0, 0, 1];
+    let octets = datagram(alloc, head, &[(48, [0, 0, 1])])?;
+    events.push(StudioEvent::Arrive {
+        stream: 1,
+        path,
+        octets,
+    })?;
+    events.push(StudioEvent::Close)?;
+    let Ok(report) = run_studio(alloc, &spec, events.as_slice()) else {
+        panic!(rt; "a report")
+    };
+    assert_eq!(rt; report.datagrams.len(), 2, "the greatest end is 68");
+    let sums = [(20, [0, 3, 0xe8]), (28, [0, 3, 0xe9])];
+    assert_eq!(rt; report.datagrams[0], datagram(alloc, FIRST, &sums)?);
+    let rest = [(20, [0, 0, 1]), (28, [0, 0, 0])];
+    assert_eq!(rt; report.datagrams[1], datagram(alloc, NEXT, &rest)?);
+    let Some(counts) = report.streams.first() else {
+        panic!(rt; "two streams")
+    };
+    let merge = counts.merge;
+    assert_eq!(rt;
+        (merge.arrived, merge.taken, merge.got, merge.lost),
+        (8, 8, 8, 0)
+    );
+    Ok(())
+}
+
+#[test]
+fn a_silent_stream_does_not_hold_up_a_session(rt: HostRuntime) -> Result<(), Fail> {
+    let alloc = rt.alloc();
+    let spec = six_and_forty_eight(&rt, alloc)?;
+    let Some(path) = Path::new(0) else {
+        panic!(rt; "a path")
+    };
+    let mut events = Vec::new(alloc);
+    push_eight_thousands(alloc, path, &mut events)?;
+    events.push(StudioEvent::Tick(96))?;
+    let Ok(report) = run_studio(alloc, &spec, events.as_slice()) else {
+        panic!(rt; "a report")
+    };
+    assert_eq!(rt;
+        report.datagrams.len(),
+        1,
+        "the second stream is silent until 48"
+    );
+    let sums = [(48, [0, 3, 0xe8])];
+    assert_eq!(rt; report.datagrams[0], datagram(alloc, FIRST, &sums)?);
+    Ok(())
+}
+
+#[test]
+fn each_refused_allocation_is_answered(rt: HostRuntime) -> Result<(), Fail> {
+    let spec = six_and_forty_eight(&rt, rt.alloc())?;
+    let events = [StudioEvent::Tick(96), StudioEvent::Close];
+    let first = run_studio(rt.alloc(), &spec, &events).is_ok();
+    let second = run_studio(rt.alloc(), &spec, &events).is_ok();
+    assert!(rt; first || second, "one of two like runs succeeds");
+    Ok(())
+}
+
+#[test]
+fn the_first_fault_is_answered_by_its_place(rt: HostRuntime) -> Result<(), Fail> {
+    let alloc = rt.alloc();
+    let spec = six_and_forty_eight(&rt, alloc)?;
+    let back = [StudioEvent::Tick(6), StudioEvent::Tick(5)];
+    assert!(rt; matches!(run_studio(alloc, &spec, &back), Err(StudioFault::Clock(1))));
+    let Some(path) = Path::new(2) else {
+        panic!(rt; "a path")
+    };
+    let none = [StudioEvent::Arrive {
+        stream: 2,
+        path,
+        octets: Vec::new(alloc),
+    }];
+    assert!(rt; matches!(run_studio(alloc, &spec, &none), Err(StudioFault::Stream(0))));
+    let lacking = [StudioEvent::Arrive {
+        stream: 1,
+        path,
+        octets: Vec::new(alloc),
+    }];
+    assert!(rt;
+        matches!(
+            run_studio(alloc, &spec, &lacking),
+            Err(StudioFault::Path(0))
+        )
+    );
+    Ok(())
+}
