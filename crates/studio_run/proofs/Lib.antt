@@ -1,6 +1,9 @@
+pub mod BufferLemmas
 pub mod DecimalLemmas
 pub mod FieldsLemmas
 pub mod LinesLemmas
 pub mod NumberLemmas
+pub mod PlaceLemmas
 pub mod ReadLemmas
+pub mod ReaderLemmas
 pub mod TraceLemmas

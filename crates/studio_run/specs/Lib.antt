@@ -1,4 +1,9 @@
+pub mod Buffer
 pub mod Fields
+pub mod LineEvent
 pub mod Lines
+pub mod Places
+pub mod Reader
+pub mod Report
 pub mod Text
 pub mod Trace

@@ -1,16 +1,32 @@
 //! What happens to the streams of a studio, read from a trace, and the texts of what came of it.
 #![tactic(auto)]
 
+mod buffer;
 mod device;
 mod event;
+mod events;
 mod field;
 mod line;
+mod listing;
+mod path_counts;
+mod places;
+mod reader;
+mod report;
 #[cfg(test)]
 mod tests;
 mod text;
 mod trace;
+mod traced;
 
+pub use buffer::TextBuffer;
 pub use device::{ReadFault, WriteFault, read_text, write_text};
 pub use event::StudioEvent;
+pub use events::read_trace;
+pub use line::DatagramRoom;
+pub use listing::write_mark;
+pub use path_counts::PathCounts;
+pub use places::TracedEvent;
+pub use report::{write_datagram, write_merge_counts, write_path_counts};
 pub use text::push_listing;
-pub use trace::{TraceFault, TraceKind, read_trace};
+pub use trace::{TraceFault, TraceKind};
+pub use traced::{TracedEvents, checked_trace};

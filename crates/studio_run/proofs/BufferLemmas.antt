@@ -1,0 +1,48 @@
+-- Text that passes through a buffer, piece by piece.
+use Rattle.std.proofs.Common.{◌≡◌, ℕ, List, [], ◌++◌, Option, length, take, sym, ◌∙◌, ap, refl, arith, append_assoc, length-append, ◌+◌}
+use Rattle.std.proofs.lemmas.List.{take-append-le}
+use Rattle.std.proofs.Math.Seq.{take-append-add}
+use Rattle.std.specs.Io.KnownBytes.{Appends}
+use Rattle.std.proofs.KnownBytes.{Appends-nil, Appends-trans}
+use Rattle.studio_run.specs.Buffer.{PassesOn, BreaksOff}
+
+-- nothing was written, and the octets are held
+pub PassesOn-held : (a : Option (List ℕ)) (held octets : List ℕ) → PassesOn a held a (held ++ octets) octets
+PassesOn-held a held octets = record { front = []; whole = refl; wrote = Appends-nil a }
+
+-- what was held is written, and nothing is held
+pub PassesOn-written : (a b : Option (List ℕ)) (held : List ℕ) → Appends a b held → PassesOn a held b [] []
+PassesOn-written a b held wrote = record { front = held; whole = refl; wrote = wrote }
+
+-- one run of octets after another
+pub PassesOn-trans : (a b c : Option (List ℕ)) (h i j xs ys : List ℕ) → PassesOn a h b i xs → PassesOn b i c j ys → PassesOn a h c j (xs ++ ys)
+PassesOn-trans a b c h i j xs ys first second = record {
+  front = first.front ++ second.front;
+  whole = sym (append_assoc h xs ys) ∙ ap (λ l. l ++ ys) first.whole ∙ append_assoc first.front i ys ∙ ap (λ l. first.front ++ l) second.whole ∙ sym (append_assoc first.front second.front j);
+  wrote = Appends-trans a b c first.front second.front first.wrote second.wrote;
+}
+
+-- the octets are held after others
+pub PassesOn-grown : (a b : Option (List ℕ)) (h i j xs : List ℕ) → PassesOn a h b i [] → j ≡ i ++ xs → PassesOn a h b j xs
+PassesOn-grown a b h i j xs passes grown = rw grown (PassesOn-trans a b b h i (i ++ xs) [] xs passes (PassesOn-held b i xs))
+
+-- a fault before all that was to come
+pub BreaksOff-longer : (a b : Option (List ℕ)) (h xs ys : List ℕ) → BreaksOff a h b xs → BreaksOff a h b (xs ++ ys)
+BreaksOff-longer a b h xs ys fault =
+    let same : take fault.count (h ++ (xs ++ ys)) ≡ take fault.count (h ++ xs) =
+    ap (take fault.count) (sym (append_assoc h xs ys)) ∙ take-append-le fault.count (h ++ xs) ys (omega (arith, fault.part)) in record {
+      count = fault.count;
+      part = omega (arith, fault.part, length-append h xs, length-append xs ys, length-append h (xs ++ ys));
+      wrote = rw same fault.wrote;
+    }
+
+-- a fault after other octets
+pub BreaksOff-later : (a b c : Option (List ℕ)) (h i xs ys : List ℕ) → PassesOn a h b i xs → BreaksOff b i c ys → BreaksOff a h c (xs ++ ys)
+BreaksOff-later a b c h i xs ys passes fault =
+    let whole : h ++ (xs ++ ys) ≡ passes.front ++ (i ++ ys) = sym (append_assoc h xs ys) ∙ ap (λ l. l ++ ys) passes.whole ∙ append_assoc passes.front i ys in
+    let same : take (length passes.front + fault.count) (h ++ (xs ++ ys)) ≡ passes.front ++ take fault.count (i ++ ys) =
+    ap (take (length passes.front + fault.count)) whole ∙ take-append-add passes.front (i ++ ys) fault.count in record {
+      count = length passes.front + fault.count;
+      part = omega (arith, fault.part, ap length whole, length-append passes.front (i ++ ys));
+      wrote = rw same (Appends-trans a b c passes.front (take fault.count (i ++ ys)) passes.wrote fault.wrote);
+    }

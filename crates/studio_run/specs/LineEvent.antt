@@ -1,0 +1,49 @@
+-- The event that a line was read as.
+use Rattle.std.specs.Prelude.{◌≡◌, ℕ, ◌≤◌, List, [], ◌∷◌, ◌++◌, length, Option, Some, None, IsSome, IfSome, Result, Ok, Err, unwrap_or}
+use Rattle.std.specs.Borrow.{Bor}
+use Rattle.studio_run.specs.Fields.{EndsWith}
+use Rattle.studio_run.specs.Trace.{TraceEvent, Arrival, Reading, Closing, octets_of}
+use Rattle.studio_run.specs.declared.line.LineEvent.{LineEvent}
+use Rattle.studio_run.specs.declared.line.LineEvent.TheVariants.{Arrive, Tick, Close}
+use Rattle.studio_run.specs.declared.trace.TraceKind.{TraceKind}
+
+-- the octets that digits spell, where they spell some
+abbrev pub octets_by : List ℕ → List ℕ
+octets_by digits = unwrap_or (octets_of digits) []
+
+-- what it says
+abbrev pub said_in : LineEvent → TraceEvent
+said_in (Arrive stream path digits) = Arrival stream path (octets_by digits.now)
+said_in (Tick time) = Reading time
+said_in Close = Closing
+
+-- an answer to what fields say
+abbrev pub event_of : Result LineEvent TraceKind → Result TraceEvent TraceKind
+event_of (Ok event) = Ok (said_in event)
+event_of (Err kind) = Err kind
+
+-- an answer to what a line says, which may be nothing
+abbrev pub line_event_of : Result (Option LineEvent) TraceKind → Result (Option TraceEvent) TraceKind
+line_event_of (Ok None) = Ok None
+line_event_of (Ok (Some event)) = Ok (Some (said_in event))
+line_event_of (Err kind) = Err kind
+
+-- the digits of a datagram are good, and stand at the end of this text
+abbrev pub IsLast : List ℕ → LineEvent → Type 0
+IsLast text (Arrive stream path digits) = EndsWith text digits.now × IsSome (octets_of digits.now)
+IsLast text (Tick time) = Unit {0}
+IsLast text Close = Unit {0}
+
+-- the same where this follows the line's word, if something does
+abbrev pub IsLastIn : Option (Bor (List ℕ)) → LineEvent → Type 0
+IsLastIn (Some text) event = IsLast text.now event
+IsLastIn None (Arrive stream path digits) = ⊥
+IsLastIn None (Tick time) = Unit {0}
+IsLastIn None Close = Unit {0}
+
+-- the event, if there is one, is that of a line which this rest follows
+pub record IsLineOf (text : List ℕ) (event : Option LineEvent) (rest : List ℕ) : Type 0 where
+  pub line : List ℕ
+  pub whole : text ≡ line ++ 10 ∷ rest
+  pub short : length line ≤ 4096
+  pub last : IfSome event (IsLast line)

@@ -1,0 +1,50 @@
+-- Events of a trace as places of its text.
+use Rattle.std.specs.Prelude.{ℕ, ◌+◌, ◌-◌, ◌≤◌, List, [], ◌∷◌, length, take, slice_range, Option, Some, None, IsSome}
+use Rattle.studio_run.specs.Trace.{TraceEvent, Arrival, Reading, Closing, octets_of}
+use Rattle.studio_run.specs.LineEvent.{octets_by, said_in}
+use Rattle.studio_run.specs.declared.line.LineEvent.{LineEvent}
+use Rattle.studio_run.specs.declared.line.LineEvent.TheVariants.{Arrive as LineArrive, Tick as LineTick, Close as LineClose}
+use Rattle.studio_run.specs.declared.places.TracedEvent.{TracedEvent}
+use Rattle.studio_run.specs.declared.places.TracedEvent.TheVariants.{Arrive as RoomArrive, Tick as RoomTick, Close as RoomClose}
+use Rattle.studio_run.specs.declared.places.Place.{Place}
+use Rattle.studio_run.specs.declared.places.Place.TheVariants.{Arrive, Tick, Close}
+
+-- the event of a place
+abbrev pub event_at : List ℕ → Place → TraceEvent
+event_at text (Arrive stream path start end) = Arrival stream path (octets_by (slice_range text start end))
+event_at text (Tick time) = Reading time
+event_at text Close = Closing
+
+-- the place is one of the text, and its digits spell a datagram, of no more than a line
+abbrev pub IsPlace : List ℕ → Place → Type 0
+IsPlace text (Arrive stream path start end) = (start ≤ end) × (end ≤ length text) × (end ≤ start + 4096) × IsSome (octets_of (slice_range text start end))
+IsPlace text (Tick time) = Unit {0}
+IsPlace text Close = Unit {0}
+
+-- the place of a line's event, where the line ends here
+abbrev pub place_in : ℕ → LineEvent → Place
+place_in end (LineArrive stream path digits) = Arrive stream path (end - length digits.now) end
+place_in end (LineTick time) = Tick time
+place_in end LineClose = Close
+
+-- how many digits of a datagram the event has
+abbrev pub digits_in : LineEvent → ℕ
+digits_in (LineArrive stream path digits) = length digits.now
+digits_in (LineTick time) = 0
+digits_in LineClose = 0
+
+-- what a line's event says, if it gave one
+abbrev pub said_by_line : Option LineEvent → List TraceEvent
+said_by_line None = []
+said_by_line (Some event) = said_in event ∷ []
+
+-- the event of a place, if there is one
+abbrev pub said_at : List ℕ → Option Place → List TraceEvent
+said_at text None = []
+said_at text (Some place) = event_at text place ∷ []
+
+-- what an event says, whose octets stand at the front of a room
+abbrev pub said_of : List ℕ → TracedEvent → TraceEvent
+said_of room (RoomArrive stream path count) = Arrival stream path (take count room)
+said_of room (RoomTick time) = Reading time
+said_of room RoomClose = Closing

@@ -1,0 +1,106 @@
+//! Text on its way to a writer, through a buffer of fixed size.
+ghost use Rattle.std.specs.Prelude.{◌≡◌, ◌+◌, ◌*◌, ◌≤◌, [], ◌++◌, length, take, ℕ, ◌<◌, IfOk, OnOk, OnErr};
+ghost use Rattle.std.specs.Io.KnownBytes.{Appends};
+ghost use Rattle.hex.specs.Hex.{encode_lower};
+ghost use Rattle.studio_run.specs.Buffer.{PassesOn, BreaksOff};
+
+use crate::device::{WriteFault, write_text};
+use itoa::Integer;
+use std::alloc::{AllocError, Global};
+use std::io::Write;
+use std::marker::Model;
+
+/// The most octets that are held.
+const MOST_HELD: usize = 65_536;
+
+/// The most octets of one line, with its line feed.
+const MOST_LINE: usize = 4096;
+
+/// Text that a writer has not been given yet: 65,536 octets at most. Its memory is taken when it is
+/// made, and no later call takes any.
+///
+/// Inputs: `write_mark`, `write_datagram`, `write_path_counts`, `write_merge_counts`.
+/// Output: `finish`, after the last of them. After a fault nothing more may be written.
+#[derive(Drop)]
+pub struct TextBuffer {
+    held: Vec<u8>,
+}
+
+impl Model for TextBuffer {
+    ghost use Rattle.std.specs.Prelude.{ℕ, ◌≤◌, List, vec_capacity};
+
+    ghost Value = { List ℕ };
+
+    ghost view = { λ b. b.held.items };
+
+    ghost invariant = { λ b. 65536 ≤ vec_capacity b.held };
+}
+
+impl TextBuffer {
+    /// Holds nothing.
+    pub fn new(alloc: Global) -> Result<Self, AllocError>
+        ensures { IfOk result (λ buffer. buffer ≡ []) }
+    {
+        let held = Vec::with_capacity(alloc, MOST_HELD)?;
+        Ok(TextBuffer { held })
+    }
+
+    /// Writes all that is held.
+    pub fn finish<W: Write>(&mut self, writer: &mut W) -> Result<(), WriteFault>
+        ensures ok { OnOk result (Appends (W.contents writer.old) (W.contents writer.new) self.old) }
+        ensures fault { OnErr result ((n : ℕ) × (n < length self.old) × Appends (W.contents writer.old) (W.contents writer.new) (take n self.old)) }
+        ensures empty { OnOk result (self.new ≡ []) }
+    {
+        write_text(writer, self.held.as_slice())?;
+        self.held.clear();
+        Ok(())
+    }
+
+    /// Makes room for one line.
+    pub(crate) fn make_room<W: Write>(&mut self, writer: &mut W) -> Result<(), WriteFault>
+        ensures ok { OnOk result (PassesOn (W.contents writer.old) self.old (W.contents writer.new) self.new []) }
+        ensures fault { OnErr result (BreaksOff (W.contents writer.old) self.old (W.contents writer.new) []) }
+        ensures room { OnOk result (length self.new + 4096 ≤ 65536) }
+    {
+        if self.held.len() > MOST_HELD - MOST_LINE {
+            self.finish(writer)?;
+        }
+        Ok(())
+    }
+
+    /// Holds a text.
+    pub(crate) fn push(&mut self, text: &str)
+        requires { length self.old + length text.now ≤ 65536 }
+        ensures text { self.new ≡ self.old ++ text.now }
+        ensures length { length self.new ≡ length self.old + length text.now }
+    {
+        let Ok(()) = self.held.extend_from_slice(text.as_bytes()) else {
+            unreachable!()
+        };
+    }
+
+    /// Holds a decimal number.
+    pub(crate) fn push_number<I: Integer>(&mut self, number: I)
+        requires { length self.old + 40 ≤ 65536 }
+        ensures text { self.new ≡ self.old ++ I.text number }
+        ensures few { length self.new ≤ length self.old + 40 }
+    {
+        let mut digits = itoa::Buffer::new();
+        self.push(digits.format(number));
+    }
+
+    /// Holds octets, each by two hexadecimal digits.
+    pub(crate) fn push_octets(&mut self, octets: &[u8])
+        requires { length self.old + 2 * length octets.now ≤ 65536 }
+        ensures text { self.new ≡ self.old ++ encode_lower octets.now }
+        ensures length { length self.new ≡ length self.old + 2 * length octets.now }
+    {
+        let start = self.held.len();
+        let Ok(()) = self.held.resize(start + 2 * octets.len(), 0) else {
+            unreachable!()
+        };
+        let Ok(()) = hex::encode_to_slice(octets, &mut self.held[start..]) else {
+            unreachable!()
+        };
+    }
+}

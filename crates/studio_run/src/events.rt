@@ -1,0 +1,50 @@
+//! The events of a trace, in memory.
+ghost use Rattle.std.specs.Prelude.{◌≡◌, ◌⊎◌, map, IfOk, IfErr, Ok, Err};
+ghost use Rattle.studio_run.specs.Trace.{trace_events, said_by, fault_in};
+ghost use Rattle.studio_run.specs.declared.trace.TraceKind.TheVariants.{Memory};
+ghost use Rattle.studio_run.specs.Places.{event_at, IsPlace};
+
+use crate::event::StudioEvent;
+use crate::places::Place;
+use crate::reader::TraceReader;
+use crate::trace::{TraceFault, WANT_OF_MEMORY};
+use std::alloc::{AllocError, Global};
+
+/// Reads the events of a trace. The memory of an event is taken once its line is known to be good.
+pub fn read_trace(alloc: Global, text: &[u8]) -> Result<Vec<StudioEvent>, TraceFault>
+    ensures ok { IfOk result (λ events. trace_events text.now ≡ Ok (map said_by events.items)) }
+    ensures fault { IfErr result (λ e. (e ≡ fault_in 0 Memory) ⊎ (trace_events text.now ≡ Err e)) }
+{
+    let mut events = Vec::new(alloc);
+    let mut reader = TraceReader::new(text)?;
+    while let Some(place) = reader.next()? {
+        let event = event_of(alloc, text, place).map_err(|_| WANT_OF_MEMORY)?;
+        events.push(event).map_err(|_| WANT_OF_MEMORY)?;
+    }
+    Ok(events)
+}
+
+/// The event of a place.
+fn event_of(alloc: Global, text: &[u8], place: Place) -> Result<StudioEvent, AllocError>
+    requires { IsPlace text.now place }
+    ensures { IfOk result (λ event. said_by event ≡ event_at text.now place) }
+{
+    match place {
+        Place::Arrive {
+            stream,
+            path,
+            start,
+            end,
+        } => {
+            let digits = &text[start as usize..end as usize];
+            let octets = hex::decode(alloc, digits).map_err(|_| AllocError)?;
+            Ok(StudioEvent::Arrive {
+                stream,
+                path,
+                octets,
+            })
+        }
+        Place::Tick(time) => Ok(StudioEvent::Tick(time)),
+        Place::Close => Ok(StudioEvent::Close),
+    }
+}
