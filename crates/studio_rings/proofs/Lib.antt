@@ -1,0 +1,12 @@
+pub mod FittingLemmas
+pub mod TurnLemmas
+pub mod MarkLemmas
+pub mod LookLemmas
+pub mod StreamLemmas
+pub mod CloseLemmas
+pub mod DrainLemmas
+pub mod TokenLemmas
+pub mod AcceptedLemmas
+pub mod MixTurnLemmas
+pub mod MixLemmas
+pub mod OpenLemmas

@@ -1,0 +1,20 @@
+use Rattle.std.proofs.Common.{rules, arith, ◌≡◌, ◌∙◌, sym, refl, if◌then◌else◌, not}
+use Rattle.studio_rings.proofs.AcceptedLemmas.{at_most_one, stops_empty, stops_final, stops_full, took-more, took-none}
+use Rattle.studio_rings.proofs.take_marks.take_stream.Goals as goal
+
+pub loop-taken-init : goal.loop-taken-init
+loop-taken-init c = (omega arith, omega arith, took-none _ _ _)
+
+pub loop-taken-preserved : goal.loop-taken-preserved
+loop-taken-preserved c =
+    let i = c.loop-taken.invariant in
+    let k = c.keep_mark-kept.ensures in
+    let one : c.from-strange.result ≡ (if not c.keep_mark-kept.result then 1 else 0) = search rules in
+    let most = at_most_one _ _ one in
+    let few = i.1 in
+    (omega arith, omega (arith, most, few), took-more _ c.loop-taken.side c.pop.new.self _ c.loop-taken.mixer c.keep_mark-kept.new.mixer _ _ _ _ c.in-Some.mark c.keep_mark-kept.result i.2 c.in-Some.ensures.ring c.in-Some.ensures.done c.in-Some.ensures.some.0 k.stands k.value k.lanes k.spec one)
+
+pub returns-then-not-wants : goal.returns-then-not-wants
+returns-then-not-wants c =
+    let i = c.loop-taken.invariant in
+    stops_final _ _ _ _ _ _ _ i.2 i.0 i.1 (λ studio feeds number feed h is. sym c.if-not-wants.true ∙ c.wants.ensures.stands studio feeds number feed h is)

@@ -1,0 +1,11 @@
+-- Which packets have a stream's length.
+use Rattle.std.specs.Prelude.{nat_eq, List, [], ◌∷◌, length, if◌then◌else◌}
+use Rattle.path_merge.specs.StreamSpecFacts.{Stream, format_of}
+use Rattle.path_merge.specs.MarkFacts.{payload_length}
+use Rattle.path_merge.specs.declared.packet.Packet.{Packet}
+
+-- those packets that have the stream's length
+abbrev pub fitting : Stream → List Packet → List Packet
+fitting stream [] = []
+fitting stream (packet ∷ packets) =
+    if nat_eq (length packet.payload.items) (payload_length (format_of stream)) then packet ∷ fitting stream packets else fitting stream packets

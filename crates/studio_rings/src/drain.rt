@@ -1,0 +1,30 @@
+//! The marks that a closed merge has left.
+ghost use Rattle.std.specs.Prelude.{◌≡◌, ◌+◌, ◌⊎◌, length, true, false};
+ghost use Rattle.rtrb.specs.Ring.{sent, known_free};
+ghost use Rattle.studio_rings.specs.Turns.{DrainsMarks, HasGivenAll};
+
+use crate::take::BATCH;
+use path_merge::{Mark, Merge, SlotWindow};
+use rtrb::Producer;
+
+/// Pushes what is left, while there is room, and says whether the end is among what was pushed by now.
+pub(crate) fn drain_marks(marks: &mut Producer<Mark>, merge: &mut Merge<SlotWindow>) -> bool
+    requires { merge.old.closed ≡ true }
+    ensures drained { DrainsMarks marks.old merge.old marks.new merge.new }
+    ensures all { result ≡ true → HasGivenAll merge.new }
+    ensures some { result ≡ false → (length (sent marks.new) ≡ length (sent marks.old) + 64) ⊎ (known_free marks.new ≡ 0) }
+{
+    for _ in 0..BATCH {
+        if merge.ended() {
+            return true;
+        }
+        if marks.is_full() {
+            return false;
+        }
+        match merge.drain() {
+            Some(mark) => marks.push_reserved(mark),
+            None => return true,
+        }
+    }
+    merge.ended()
+}

@@ -1,0 +1,72 @@
+//! The end of the mixer.
+ghost use Rattle.std.specs.Prelude.{◌≡◌, ◌↔◌, ◌<◌, ◌≤◌, ◌+◌, ℕ, length, IsTrue, None, slice_get, Some, vec_len};
+ghost use Rattle.mix_packets.specs.OutSpec.{datagram_length};
+ghost use Rattle.rtrb.specs.Ring.{all_sent, IsFinishedOf};
+ghost use Rattle.path_merge.specs.MarkFacts.{MarkView};
+ghost use Rattle.studio_spec.specs.Studio.{Studio};
+ghost use Rattle.studio_rings.specs.declared.side.Side.{Side};
+ghost use Rattle.studio_rings.specs.AcceptedFeeds.{received_total};
+ghost use Rattle.studio_rings.specs.Looks.{AllDrained, AllLookAt};
+ghost use Rattle.studio_rings.specs.Mixes.{AllTakeSome};
+ghost use Rattle.studio_rings.specs.MixEnds.{MixHasFeeds, MixesBlock};
+ghost use Rattle.studio_rings.specs.Tokens.{HandsIn};
+
+use crate::look::look_at;
+use crate::mix_end::MixEnd;
+use crate::stream::StreamDone;
+use crate::take_marks::take_streams;
+
+/// What a turn of the mixer's end did.
+#[derive(Clone, Copy, Debug)]
+pub struct MixNote {
+    /// How many marks it took of all streams.
+    pub taken: u32,
+    /// How many of them may not follow those before.
+    pub strange: u32,
+    /// The length of the datagram, if one was final.
+    pub len: Option<usize>,
+}
+
+impl MixEnd {
+    /// Takes the marks of all streams that are wanted, and then writes the next datagram to the front
+    /// of `out` where its block is final.
+    pub fn turn(&mut self, out: &mut [u8]) -> MixNote
+        requires room { datagram_length self.old.mixer.packer.spec ≤ length out.old }
+        ensures taken { AllTakeSome self.old.sides.items self.new.sides.items }
+        ensures total { received_total self.new.sides.items ≡ received_total self.old.sides.items + result.taken }
+        ensures mixes { (studio : Studio) (number : ℕ) → MixHasFeeds studio self.old number
+            → MixesBlock studio self.old result self.new number out.old out.new }
+        ensures none { result.len ≡ None → out.new ≡ out.old }
+        ensures spec { self.new.mixer.packer.spec ≡ self.old.mixer.packer.spec }
+    {
+        let (taken, strange) = take_streams(&mut self.sides, &mut self.mixer);
+        let len = self.mixer.next_block(out);
+        MixNote {
+            taken,
+            strange,
+            len,
+        }
+    }
+
+    /// Takes the proof that a stream has finished.
+    pub fn stream_done(&mut self, stream: usize, done: StreamDone)
+        requires stream { stream < vec_len self.old.sides }
+        requires token { (side : Side MarkView) → slice_get self.old.sides.items stream ≡ Some side → IsFinishedOf done.token side.ring }
+        ensures sides { HandsIn self.old.sides.items stream (all_sent done.token) self.new.sides.items }
+        ensures mixer { self.new.mixer ≡ self.old.mixer }
+        ensures stands { (studio : Studio) (number : ℕ) → MixHasFeeds studio self.old number → MixHasFeeds studio self.new number }
+    {
+        self.sides[stream].hand_in(done.token);
+    }
+
+    /// Whether every stream has finished, and all its marks were taken.
+    pub fn settled(&mut self) -> bool
+        ensures value { IsTrue result ↔ AllDrained self.new.sides.items }
+        ensures rings { AllLookAt self.old.sides.items self.new.sides.items }
+        ensures mixer { self.new.mixer ≡ self.old.mixer }
+        ensures stands { (studio : Studio) (number : ℕ) → MixHasFeeds studio self.old number → MixHasFeeds studio self.new number }
+    {
+        let mut open_yet = [false; 16];
+        !look_at(&mut self.sides, &mut open_yet)
+    }
+}

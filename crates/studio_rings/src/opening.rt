@@ -1,0 +1,192 @@
+//! Opens the rings of a studio.
+ghost use Rattle.std.specs.Prelude.{◌≡◌, ◌<◌, ◌≤◌, [], List, ◌++◌, IfOk, IfErr, OnOk, length, vec_len, None, ℤ, pos, ◌≤ℤ◌, ◌^◌};
+ghost use Rattle.studio_spec.specs.Studio.{Studio, IsStudio};
+ghost use Rattle.studio_rings.specs.declared.path_end.PathEnd.{PathEnd};
+ghost use Rattle.studio_rings.specs.MixEnds.{MixHasFeeds};
+ghost use Rattle.studio_rings.specs.Opened.{AllFreshPaths, AreFreshRings, AreOpened, IsFreshPath, IsFreshStream, open_fault_of};
+ghost use Rattle.studio_rings.specs.Opening.{AddsStream, AllUnread, AreFreshEnds};
+
+use crate::counts::PathCounts;
+use crate::ends::{Ends, OpenFault};
+use crate::mix_end::MixEnd;
+use crate::monitor_end::MonitorEnd;
+use crate::path_end::PathEnd;
+use crate::side::Side;
+use crate::stream_end::StreamEnd;
+use path_merge::{Mark, Merge, Packet, StreamSpec};
+use rtrb::RingBuffer;
+use std::alloc::{AllocError, Global};
+use studio_mix::Mixer;
+use studio_spec::StudioSpec;
+
+/// The ends of some streams, and of their marks' rings.
+#[derive(Drop)]
+pub(crate) struct StreamEnds {
+    pub(crate) paths: Vec<PathEnd>,
+    pub(crate) streams: Vec<StreamEnd>,
+    pub(crate) monitors: Vec<MonitorEnd>,
+    pub(crate) marks: Vec<Side<Mark>>,
+}
+
+/// A path's ring, with both ends.
+fn open_path(
+    alloc: Global,
+    spec: &StreamSpec,
+    ring_len: usize,
+) -> Result<(PathEnd, Side<Packet>), AllocError>
+    ensures { IfOk result (λ r. IsFreshPath spec.now ring_len r.0 r.1) }
+{
+    let (ring, pop) = RingBuffer::new(alloc, ring_len)?;
+    let counts = PathCounts {
+        offered: 0,
+        sent: 0,
+        bad: 0,
+        wrong_type: 0,
+        wrong_length: 0,
+        full: 0,
+    };
+    let end = PathEnd {
+        spec: *spec,
+        ring,
+        counts,
+    };
+    Ok((end, Side::new(pop)))
+}
+
+/// The rings of a stream's paths: their ends join the others, and the stream's sides are answered.
+fn open_paths(
+    alloc: Global,
+    spec: &StreamSpec,
+    ring_len: usize,
+    paths: &mut Vec<PathEnd>,
+) -> Result<Vec<Side<Packet>>, AllocError>
+    ensures { IfOk result (λ sides. (own : List PathEnd) × (paths.new.items ≡ paths.old.items ++ own)
+        × (length own ≡ spec.now.paths) × (vec_len sides ≡ spec.now.paths) × AllFreshPaths spec.now ring_len own sides.items) }
+{
+    let mut sides = Vec::new(alloc);
+    for _ in 0..spec.paths() {
+        let (end, side) = open_path(alloc, spec, ring_len)?;
+        paths.push(end)?;
+        sides.push(side)?;
+    }
+    Ok(sides)
+}
+
+/// A stream's merge, and its rings of marks and of counts.
+fn open_stream(
+    alloc: Global,
+    spec: &StreamSpec,
+    open_at: i64,
+    sides: Vec<Side<Packet>>,
+    ring_len: usize,
+) -> Result<(StreamEnd, MonitorEnd, Side<Mark>), AllocError>
+    requires not_low { pos 0 ≤ℤ open_at }
+    requires not_high { open_at ≤ℤ pos (2 ^ 60) }
+    requires paths { vec_len sides ≡ spec.now.paths }
+    ensures fresh { (own : List PathEnd) → length own ≡ spec.now.paths → AllFreshPaths spec.now ring_len own sides.items
+        → IfOk result (λ r. IsFreshStream open_at ring_len spec.now own r.0) }
+    ensures rings { IfOk result (λ r. AreFreshRings ring_len r.0 r.1 r.2) }
+{
+    let merge = Merge::new(alloc, *spec, open_at)?;
+    let (marks, take) = RingBuffer::new(alloc, ring_len)?;
+    let (monitor, look) = RingBuffer::new(alloc, ring_len)?;
+    let _format = spec.format();
+    let end = StreamEnd {
+        spec: *spec,
+        sides,
+        marks,
+        monitor,
+        merge,
+    };
+    Ok((end, MonitorEnd { ring: look }, Side::new(take)))
+}
+
+/// Adds the ends of a stream to those of the streams before it.
+fn add_stream(
+    alloc: Global,
+    spec: &StreamSpec,
+    open_at: i64,
+    ring_len: usize,
+    ends: &mut StreamEnds,
+) -> Result<(), AllocError>
+    requires not_low { pos 0 ≤ℤ open_at }
+    requires not_high { open_at ≤ℤ pos (2 ^ 60) }
+    ensures { OnOk result (AddsStream open_at ring_len spec.now ends.old ends.new) }
+{
+    let sides = open_paths(alloc, spec, ring_len, &mut ends.paths)?;
+    let (end, monitor, side) = open_stream(alloc, spec, open_at, sides, ring_len)?;
+    ends.streams.push(end)?;
+    ends.monitors.push(monitor)?;
+    ends.marks.push(side)?;
+    Ok(())
+}
+
+/// The ends of all streams.
+fn open_streams(
+    alloc: Global,
+    specs: &[StreamSpec],
+    open_at: i64,
+    ring_len: usize,
+) -> Result<StreamEnds, AllocError>
+    requires not_low { pos 0 ≤ℤ open_at }
+    requires not_high { open_at ≤ℤ pos (2 ^ 60) }
+    ensures { IfOk result (λ ends. AreFreshEnds open_at ring_len specs.now ends) }
+{
+    let mut ends = StreamEnds {
+        paths: Vec::new(alloc),
+        streams: Vec::new(alloc),
+        monitors: Vec::new(alloc),
+        marks: Vec::new(alloc),
+    };
+    for spec in specs {
+        add_stream(alloc, spec, open_at, ring_len, &mut ends)?;
+    }
+    Ok(ends)
+}
+
+/// The mixer's end, over the rings of all streams' marks.
+fn open_mix(
+    alloc: Global,
+    studio: &StudioSpec,
+    sides: Vec<Side<Mark>>,
+) -> Result<MixEnd, AllocError>
+    requires sound { IsStudio studio.now }
+    requires unread { AllUnread studio.now.streams sides.items }
+    ensures { IfOk result (λ mix. (mix.sides ≡ sides) × MixHasFeeds studio.now mix 0) }
+{
+    let mixer = Mixer::new(alloc, studio)?;
+    Ok(MixEnd { sides, mixer })
+}
+
+/// The ends of all paths, streams and monitors, and of the mixer.
+fn open_ends(alloc: Global, studio: &StudioSpec, ring_len: usize) -> Result<Ends, AllocError>
+    ensures { IfOk result (λ ends. AreOpened studio.now ring_len ends) }
+{
+    let StreamEnds {
+        paths,
+        streams,
+        monitors,
+        marks,
+    } = open_streams(alloc, studio.streams(), studio.open_at(), ring_len)?;
+    let mix = open_mix(alloc, studio, marks)?;
+    Ok(Ends {
+        paths,
+        streams,
+        monitors,
+        mix,
+    })
+}
+
+/// Opens the rings of a studio, each with so many places: nothing was sent, and nothing happened yet.
+///
+/// From then on no call of an end takes memory. Each end may go to a thread of its own.
+pub fn open(alloc: Global, studio: &StudioSpec, ring_len: usize) -> Result<Ends, OpenFault>
+    ensures opened { IfOk result (λ ends. AreOpened studio.now ring_len ends) }
+    ensures places { IfOk result (λ ends. (1 ≤ ring_len) × (ring_len ≤ 65536)) }
+    ensures fault { IfErr result (λ fault. fault ≡ open_fault_of ring_len) }
+{
+    if ring_len < 1 || 65536 < ring_len {
+        return Err(OpenFault::RingLength);
+    }
+    open_ends(alloc, studio, ring_len).map_err(|_| OpenFault::Memory)
+}

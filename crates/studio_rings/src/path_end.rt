@@ -1,0 +1,20 @@
+//! What the end of a path consists of.
+ghost use Rattle.std.specs.Prelude.{◌≡◌, length};
+ghost use Rattle.rtrb.specs.Ring.{sent};
+ghost use Rattle.studio_rings.specs.Fitting.{fitting};
+
+use crate::counts::PathCounts;
+use path_merge::{Packet, StreamSpec};
+use rtrb::Producer;
+
+/// The end of a path: its datagrams go in.
+///
+/// Input: `offer`. At the end: `finish`. Neither takes memory or waits.
+#[derive(Drop)]
+pub struct PathEnd {
+    pub(crate) spec: StreamSpec,
+    pub(crate) ring: Producer<Packet>,
+    pub(crate) counts: PathCounts,
+    ghost all_counted: { counts.sent ≡ length (sent ring) },
+    ghost all_fit: { fitting spec (sent ring) ≡ sent ring },
+}

@@ -1,0 +1,70 @@
+//! Packets from the rings of a stream's paths to its merge.
+ghost use Rattle.std.specs.Prelude.{◌≡◌, ℕ, ◌+◌, ◌<◌, ◌≤◌, List, [], ◌∷◌, ◌++◌, length, vec_len, get_or};
+ghost use Rattle.path_merge.specs.declared.packet.Packet.{Packet};
+ghost use Rattle.studio_rings.specs.Fitting.{fitting};
+ghost use Rattle.studio_rings.specs.Turns.{AllTakePackets, Joins, TakesPackets, arrivals_by, arrivals_from};
+
+use crate::side::Side;
+use path_merge::{Merge, Packet, Path, SlotWindow, StreamSpec};
+
+/// How many packets of a path, or marks, one turn takes at most.
+pub(crate) const BATCH: u32 = 64;
+
+/// Offers a packet to the merge if it has the stream's length.
+fn join_packet(spec: &StreamSpec, merge: &mut Merge<SlotWindow>, path: Path, packet: Packet)
+    requires spec { merge.old.spec ≡ spec.now }
+    requires path { path < spec.now.paths }
+    ensures { Joins merge.old merge.new (λ stream. arrivals_by path (fitting stream (packet ∷ []))) }
+{
+    if spec.fits(&packet) {
+        let _ = merge.offer(path, packet);
+    }
+}
+
+/// Offers what a path's ring has to the merge.
+fn take_path(
+    side: &mut Side<Packet>,
+    spec: &StreamSpec,
+    merge: &mut Merge<SlotWindow>,
+    path: Path,
+) -> u32
+    requires spec { merge.old.spec ≡ spec.now }
+    requires path { path < spec.now.paths }
+    ensures took { (packets : List Packet) × TakesPackets side.old side.new packets × (length packets ≡ result)
+        × Joins merge.old merge.new (λ stream. arrivals_by path (fitting stream packets)) }
+{
+    let mut taken = 0;
+    while taken < BATCH {
+        let Some(packet) = side.pop() else {
+            return taken;
+        };
+        join_packet(spec, merge, path, packet);
+        taken += 1;
+    }
+    taken
+}
+
+/// Offers what the rings of all paths have to the merge, path by path, and says how many it took of each.
+pub(crate) fn take_all(
+    sides: &mut Vec<Side<Packet>>,
+    spec: &StreamSpec,
+    merge: &mut Merge<SlotWindow>,
+) -> [u32; 4]
+    requires spec { merge.old.spec ≡ spec.now }
+    requires paths { vec_len sides.old ≡ spec.now.paths }
+    ensures took { (taken : List (List Packet)) × AllTakePackets sides.old.items sides.new.items taken
+        × ((i : ℕ) → get_or result i 0 ≡ length (get_or taken i []))
+        × Joins merge.old merge.new (λ stream. arrivals_from stream 0 taken) }
+    ensures count { vec_len sides.new ≡ vec_len sides.old }
+{
+    let mut from = [0u32; 4];
+    for number in 0..spec.paths() {
+        let Some(path) = Path::new(number) else {
+            unreachable!();
+        };
+        let place = usize::from(number);
+        let count = take_path(&mut sides[place], spec, merge, path);
+        from[place] = count;
+    }
+    from
+}

@@ -1,0 +1,198 @@
+//! One stream through its rings, by worked examples.
+use super::*;
+use gain_mix::{Matrix, Schedule};
+use mix_packets::OutSpec;
+use path_merge::{ClockFault, StreamClock, StreamSpec};
+use rtp_wire::Enc;
+use std::alloc::Global;
+use std::process::Abort;
+use std::test::Fail;
+use studio_spec::StudioSpec;
+
+const FIRST: [u8; 30] = [
+    0x80, 0x60, 0, 1, 0, 0, 0, 0, 0, 0, 0, 1, 0, 0, 1, 0, 0, 2, 0, 0, 3, 0, 0, 4, 0, 0, 5, 0, 0, 6,
+];
+
+const SECOND: [u8; 30] = [
+    0x80, 0x60, 0, 2, 0, 0, 0, 6, 0, 0, 0, 1, 0, 0, 7, 0, 0, 8, 0, 0, 9, 0, 0, 10, 0, 0, 11, 0, 0,
+    12,
+];
+
+/// One stream of L24 on two paths, in packets of six sampling instants, twelve later; its output is alike.
+fn studio(rt: &impl Abort, alloc: Global) -> Result<StudioSpec, Fail> {
+    let clock = StreamClock::Media { offset: 0 };
+    let spec = StreamSpec::new(Enc::L24, 1, 6, 96, None, clock, 12, 8, 2)?;
+    let output = OutSpec::new(Enc::L24, 1, 6, 97, 2, 65_535, 0, 0)?;
+    let gains = Matrix::new(alloc, 1, 1, &[65_536])?;
+    let schedule = Schedule::new(gains, Vec::new(alloc))?;
+    assert!(rt; schedule.outs() == usize::from(output.channels()));
+    assert!(rt; schedule.ins() == usize::from(spec.channels()));
+    let mut streams = Vec::new(alloc);
+    streams.push(spec)?;
+    Ok(StudioSpec::new(0, streams, output, schedule))
+}
+
+/// The ends of that studio.
+#[derive(Drop)]
+struct OneStream {
+    first: PathEnd,
+    second: PathEnd,
+    stream: StreamEnd,
+    monitor: MonitorEnd,
+    mix: MixEnd,
+}
+
+fn one_stream(rt: &impl Abort, alloc: Global, ring_len: usize) -> Result<OneStream, Fail> {
+    let studio = studio(rt, alloc)?;
+    let Ends {
+        mut paths,
+        mut streams,
+        mut monitors,
+        mix,
+    } = open(alloc, &studio, ring_len)?;
+    assert_eq!(rt; (paths.len(), streams.len(), monitors.len()), (2, 1, 1));
+    let (Some(second), Some(first)) = (paths.pop(), paths.pop()) else {
+        panic!(rt; "two paths")
+    };
+    let (Some(stream), Some(monitor)) = (streams.pop(), monitors.pop()) else {
+        panic!(rt; "one stream")
+    };
+    Ok(OneStream {
+        first,
+        second,
+        stream,
+        monitor,
+        mix,
+    })
+}
+
+/// What a turn took of the first two paths, how many marks it handed on, where it stopped, and why.
+fn turn(rt: &impl Abort, stream: &mut StreamEnd, now: i64) -> (u32, u32, u32, i64, StopReason) {
+    match stream.turn(now) {
+        Ok(note) => {
+            let [first, second, _, _] = note.from;
+            (first, second, note.marks, note.reached, note.why_stopped)
+        }
+        Err(_) => { panic!(rt; "the readings are in order") }
+    }
+}
+
+/// A turn of the mixer, which takes this many marks and gives a datagram with these samples, or none.
+fn mixes(rt: &impl Abort, mix: &mut MixEnd, taken: u32, samples: Option<&[u8]>) {
+    let mut out = [0u8; 1452];
+    let _short = mix.mixer.output().datagram_len();
+    let note = mix.turn(&mut out);
+    assert_eq!(rt; (note.taken, note.strange), (taken, 0));
+    assert_eq!(rt; note.len.is_some(), samples.is_some());
+    if let Some(samples) = samples {
+        assert_eq!(rt; note.len, Some(30));
+        assert!(rt; &out[12..30] == samples, "the samples of the block");
+    }
+}
+
+#[test]
+fn rings_of_one_place_lose_nothing(rt: HostRuntime) -> Result<(), Fail> {
+    let mut ends = one_stream(&rt, rt.alloc(), 1)?;
+    let stream = &mut ends.stream;
+    assert_eq!(rt; ends.first.offer(&FIRST), Offer::Sent);
+    assert_eq!(rt; ends.first.offer(&SECOND), Offer::Full);
+    assert_eq!(rt; turn(&rt, stream, 0), (1, 0, 0, 0, StopReason::CaughtUp));
+    assert_eq!(rt; ends.first.offer(&SECOND), Offer::Sent);
+    assert_eq!(rt; turn(&rt, stream, 18), (1, 0, 1, 12, StopReason::NoRoom));
+    mixes(&rt, &mut ends.mix, 1, Some(&FIRST[12..]));
+    assert_eq!(rt; turn(&rt, stream, 18), (0, 0, 1, 18, StopReason::NoRoom));
+    mixes(&rt, &mut ends.mix, 1, Some(&SECOND[12..]));
+    assert_eq!(rt; turn(&rt, stream, 18), (0, 0, 0, 18, StopReason::CaughtUp));
+    assert!(rt; matches!(stream.turn(17), Err(ClockFault::WentBack)));
+    assert!(rt; !ends.mix.settled(), "no stream has finished");
+    let (done, counts) = ends.first.finish();
+    assert!(rt; done.is_some());
+    let all = (counts.offered, counts.sent, counts.full);
+    assert_eq!(rt; all, (3, 2, 1));
+    Ok(())
+}
+
+#[test]
+fn counts_reach_the_monitor(rt: HostRuntime) -> Result<(), Fail> {
+    let mut ends = one_stream(&rt, rt.alloc(), 1)?;
+    assert_eq!(rt; ends.first.offer(&FIRST), Offer::Sent);
+    assert_eq!(rt;
+        turn(&rt, &mut ends.stream, 0),
+        (1, 0, 0, 0, StopReason::CaughtUp)
+    );
+    let Some(counts) = ends.monitor.next() else {
+        panic!(rt; "the first turn's counts")
+    };
+    assert_eq!(rt; (counts.arrived, counts.taken, counts.got), (1, 1, 0));
+    assert_eq!(rt; counts.taken_by, [1, 0, 0, 0]);
+    assert!(rt; ends.monitor.next().is_none(), "one turn, one item");
+    assert_eq!(rt; ends.first.offer(&SECOND), Offer::Sent);
+    assert_eq!(rt;
+        turn(&rt, &mut ends.stream, 18),
+        (1, 0, 1, 12, StopReason::NoRoom)
+    );
+    assert!(rt; ends.stream.turn(11).is_err());
+    let Some(counts) = ends.monitor.next() else {
+        panic!(rt; "the second turn's counts")
+    };
+    assert_eq!(rt; (counts.arrived, counts.taken, counts.got), (2, 2, 1));
+    assert_eq!(rt; counts.taken_by, [2, 0, 0, 0]);
+    assert!(rt; ends.monitor.next().is_none(), "a refused turn shows none");
+    Ok(())
+}
+
+#[test]
+fn an_open_path_holds_up_the_close(rt: HostRuntime) -> Result<(), Fail> {
+    let mut ends = one_stream(&rt, rt.alloc(), 1)?;
+    let Err(open) = ends.stream.close() else {
+        panic!(rt; "no path has finished")
+    };
+    assert_eq!(rt; open.still_open, [true, true, false, false]);
+    assert!(rt;
+        !ends.stream.drain_turn(),
+        "nothing to drain before a close"
+    );
+    let (done, _) = ends.second.finish();
+    assert!(rt; done.is_some());
+    Ok(())
+}
+
+#[test]
+fn ring_lengths_are_bounded(rt: HostRuntime) -> Result<(), Fail> {
+    let studio = studio(&rt, rt.alloc())?;
+    for len in [0usize, 65_537] {
+        match open(rt.alloc(), &studio, len) {
+            Ok(_) => { panic!(rt; "no ring has that many places") }
+            Err(fault) => assert_eq!(rt; fault, OpenFault::RingLength),
+        }
+    }
+    Ok(())
+}
+
+#[test]
+fn a_turn_stops_after_64_marks(rt: HostRuntime) -> Result<(), Fail> {
+    let mut ends = one_stream(&rt, rt.alloc(), 128)?;
+    let stream = &mut ends.stream;
+    assert_eq!(rt; ends.first.offer(&FIRST), Offer::Sent);
+    assert_eq!(rt; turn(&rt, stream, 0), (1, 0, 0, 0, StopReason::CaughtUp));
+    assert_eq!(rt; turn(&rt, stream, 600), (0, 0, 64, 390, StopReason::Batch));
+    assert_eq!(rt;
+        turn(&rt, stream, 600),
+        (0, 0, 35, 600, StopReason::CaughtUp)
+    );
+    Ok(())
+}
+
+/// `rt try --test --fail-alloc N` refuses the Nth allocation: the call that meets it says so, and the next succeeds.
+#[test]
+fn each_refused_allocation_is_answered(rt: HostRuntime) -> Result<(), Fail> {
+    let studio = studio(&rt, rt.alloc())?;
+    match open(rt.alloc(), &studio, 3) {
+        Ok(ends) => assert_eq!(rt; ends.paths.len(), 2),
+        Err(fault) => {
+            assert_eq!(rt; fault, OpenFault::Memory);
+            assert!(rt; open(rt.alloc(), &studio, 3).is_ok(), "with memory again");
+        }
+    }
+    Ok(())
+}
