@@ -17,7 +17,7 @@ fn main(rt: HostRuntime) -> anyhow::Result<()> {
         return Ok(());
     };
     match word.as_str() {
-        "merge" => merge::time_windows(&rt, rt.alloc()),
+        "merge" => merge::time_merge(&rt, rt.alloc(), &mut words),
         "mix" => mix::time_shapes(&rt, rt.alloc()),
         "samples" => samples::time_samples(&rt),
         _ => bail!("no kernel has this name"),
