@@ -2,7 +2,16 @@
 PREFIX ?= /usr/local
 sources := $(shell find crates -path '*/out' -prune -o -type f -print) crates.txt
 
-.PHONY: build run test check fmt install
+.PHONY: help build run test check fmt install clean
+
+help:
+	@echo "make build    prove and build bin/darbexum"
+	@echo "make run      the program on its stored example"
+	@echo "make test     the gate: the pages, every proof from nothing, edits, tests, stored runs"
+	@echo "make check    every crate's proofs, over what earlier checks kept"
+	@echo "make fmt      lay out every file"
+	@echo "make install  the program into PREFIX/bin (/usr/local)"
+	@echo "make clean    what was built and kept"
 
 build: bin/darbexum
 
@@ -16,6 +25,7 @@ run: build
 	bin/darbexum < examples/first/input.trace
 
 test:
+	docs/check
 	rt ci
 
 check:
@@ -26,3 +36,6 @@ fmt:
 
 install: build
 	install -D bin/darbexum $(DESTDIR)$(PREFIX)/bin/darbexum
+
+clean:
+	rm -rf bin crates/*/out
