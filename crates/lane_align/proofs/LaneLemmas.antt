@@ -6,10 +6,10 @@ use Rattle.std.proofs.lemmas.List.Elements.{All-drop}
 use Rattle.rtp_wire.specs.Sample.{Is24Bits}
 use Rattle.std.proofs.Math.Nat.{mul-sub, mul_comm}
 use Rattle.std.proofs.lemmas.List.{get_or-drop}
-use Rattle.path_merge.specs.StreamSpecFacts.{Stream, format_of}
-use Rattle.path_merge.specs.MarkFacts.{MarkView}
-use Rattle.path_merge.specs.MarkList.{can_follow, is_same_format, is_mark_list}
-use Rattle.path_merge.specs.declared.mark.Format.{Format}
+use Rattle.stream_rules.specs.StreamSpecFacts.{Stream, format_of}
+use Rattle.stream_rules.specs.MarkFacts.{MarkView}
+use Rattle.stream_rules.specs.MarkList.{can_follow, is_same_format, is_mark_list}
+use Rattle.stream_rules.specs.declared.mark.Format.{Format}
 use Rattle.lane_align.specs.declared.last_slot.LastSlot.{LastSlot}
 use Rattle.lane_align.specs.Cover.{last_slot, has_end}
 use Rattle.lane_align.specs.Held.{Held, first_values}

@@ -12,13 +12,13 @@ use Rattle.std.specs.List.{All}
 use Rattle.std.proofs.lemmas.List.Elements.{All-append, All-drop, All-replicate}
 use Rattle.rtp_wire.specs.Sample.{Is24Bits}
 use Rattle.std.specs.Option.{option_or}
-use Rattle.path_merge.specs.StreamSpecFacts.{Stream, format_of}
-use Rattle.path_merge.specs.MarkFacts.{MarkView, HasLength, payload_length}
-use Rattle.path_merge.specs.MarkList.{can_follow, is_same_format, is_mark_list}
-use Rattle.path_merge.specs.declared.mark.Format.{Format}
-use Rattle.path_merge.specs.declared.mark.Body.{Body}
-use Rattle.path_merge.specs.declared.mark.Body.TheVariants.{Lost}
-use Rattle.path_merge.specs.declared.mark.MarkKind.TheVariants.{Slot, Quiet, End}
+use Rattle.stream_rules.specs.StreamSpecFacts.{Stream, format_of}
+use Rattle.stream_rules.specs.MarkFacts.{MarkView, HasLength, payload_length}
+use Rattle.stream_rules.specs.MarkList.{can_follow, is_same_format, is_mark_list}
+use Rattle.stream_rules.specs.declared.mark.Format.{Format}
+use Rattle.stream_rules.specs.declared.mark.Body.{Body}
+use Rattle.stream_rules.specs.declared.mark.Body.TheVariants.{Lost}
+use Rattle.stream_rules.specs.declared.mark.MarkKind.TheVariants.{Slot, Quiet, End}
 use Rattle.lane_align.specs.declared.last_slot.LastSlot.{LastSlot}
 use Rattle.lane_align.specs.Cover.{slot_of, quiet_of, is_end, last_slot, last_quiet, has_end, time_reached, cover_to, covers}
 use Rattle.lane_align.specs.Held.{Held, silence}

@@ -1,13 +1,13 @@
 -- What a lane is, once it was fed marks and has come to a position.
 use Rattle.std.specs.Prelude.{◌≡◌, ℕ, ◌+◌, ◌*◌, ◌^◌, ◌<◌, ◌≤◌, Bool, true, false, not, ◌&&◌, ◌-◌, List, ◌++◌, length, drop, slice_index_or, ℤ, pos, negsuc, ◌+ℤ◌, ◌-ℤ◌, ◌≤ℤ◌, ◌<ℤ◌, Option, Some, None, unwrap_or}
-use Rattle.path_merge.specs.StreamSpecFacts.{Stream, format_of}
-use Rattle.path_merge.specs.MarkFacts.{MarkView, IsTime}
-use Rattle.path_merge.specs.MarkList.{can_follow, is_same_format, is_mark_list}
-use Rattle.path_merge.specs.declared.mark.Format.{Format}
-use Rattle.path_merge.specs.declared.mark.Body.{Body}
-use Rattle.path_merge.specs.declared.mark.Body.TheVariants.{Got, Lost}
-use Rattle.path_merge.specs.declared.mark.MarkKind.{MarkKind}
-use Rattle.path_merge.specs.declared.mark.MarkKind.TheVariants.{Slot, Quiet, End}
+use Rattle.stream_rules.specs.StreamSpecFacts.{Stream, format_of}
+use Rattle.stream_rules.specs.MarkFacts.{MarkView, IsTime}
+use Rattle.stream_rules.specs.MarkList.{can_follow, is_same_format, is_mark_list}
+use Rattle.stream_rules.specs.declared.mark.Format.{Format}
+use Rattle.stream_rules.specs.declared.mark.Body.{Body}
+use Rattle.stream_rules.specs.declared.mark.Body.TheVariants.{Got, Lost}
+use Rattle.stream_rules.specs.declared.mark.MarkKind.{MarkKind}
+use Rattle.stream_rules.specs.declared.mark.MarkKind.TheVariants.{Slot, Quiet, End}
 use Rattle.lane_align.specs.declared.cover.Cover.{Cover}
 use Rattle.lane_align.specs.declared.last_slot.LastSlot.{LastSlot}
 use Rattle.lane_align.specs.Value.{value_at}

@@ -4,6 +4,6 @@ pub mod Accepted
 pub mod Held
 pub mod Lane
 pub use Rattle.rtp_wire.specs.Sample
-pub use Rattle.path_merge.specs.StreamSpecFacts
-pub use Rattle.path_merge.specs.MarkFacts
-pub use Rattle.path_merge.specs.MarkList
+pub use Rattle.stream_rules.specs.StreamSpecFacts
+pub use Rattle.stream_rules.specs.MarkFacts
+pub use Rattle.stream_rules.specs.MarkList

@@ -1,11 +1,11 @@
 //! One stream's marks as frames at media times.
 ghost use Rattle.std.specs.Prelude.{◌≡◌, ◌+◌, ◌*◌, ◌^◌, ◌<◌, ◌≤◌, [], ◌∷◌, ◌++◌, List, ℤ, ℕ, pos, ◌+ℤ◌, ◌≤ℤ◌, ◌<ℤ◌, true, false, not, Some, length, take, IfOk};
-ghost use Rattle.path_merge.specs.StreamSpecFacts.{Stream, format_of};
+ghost use Rattle.stream_rules.specs.StreamSpecFacts.{Stream, format_of};
 ghost use Rattle.rtp_wire.specs.PacketTime.{is_packet_time};
-ghost use Rattle.path_merge.specs.MarkFacts.{MarkView, HasLength, payload_length};
-ghost use Rattle.path_merge.specs.MarkList as list;
-ghost use Rattle.path_merge.specs.declared.mark.Body.{Body};
-ghost use Rattle.path_merge.specs.declared.mark.MarkKind.TheVariants.{Slot};
+ghost use Rattle.stream_rules.specs.MarkFacts.{MarkView, HasLength, payload_length};
+ghost use Rattle.stream_rules.specs.MarkList as list;
+ghost use Rattle.stream_rules.specs.declared.mark.Body.{Body};
+ghost use Rattle.stream_rules.specs.declared.mark.MarkKind.TheVariants.{Slot};
 ghost use Rattle.lane_align.specs.Value.{frames_from};
 ghost use Rattle.lane_align.specs.Cover.{cover_of, end_of, covers, time_reached, IsSmallCover};
 ghost use Rattle.std.specs.List.{All};
@@ -132,7 +132,7 @@ fn slot_samples(format: Format, body: &Body) -> [i32; MOST_SAMPLES]
 
 impl Lane {
     ghost use Rattle.lane_align.specs.Lane.{LaneState, HasFeed, HasSameFacts, cover_at, end_at, is_wanting, is_next, last_kind};
-    ghost use Rattle.path_merge.specs.MarkFacts.{IsMark};
+    ghost use Rattle.stream_rules.specs.MarkFacts.{IsMark};
 
     /// A lane that begins at media time `start` and gives blocks of `block` frames.
     pub fn new(alloc: Global, spec: StreamSpec, start: i64, block: u16) -> Result<Lane, AllocError>

@@ -8,21 +8,21 @@ use Rattle.path_merge.proofs.HistoryLemmas.{anchor_of-tick, copies_of-tick, even
 use Rattle.path_merge.proofs.JoinLemmas.{has_slot-append}
 use Rattle.path_merge.proofs.MarksLemmas.{by_open_event}
 use Rattle.path_merge.proofs.StepLemmas.{marks_of-tick}
-use Rattle.path_merge.specs.Anchor.{next_number}
-use Rattle.path_merge.specs.Copies.{copies_of, copies_of_all}
-use Rattle.path_merge.specs.Epochs.{anchor_of}
-use Rattle.path_merge.specs.Grid.{first_with}
-use Rattle.path_merge.specs.History.{is_closed, is_well_timed, time_of}
-use Rattle.path_merge.specs.Laws.{IsOpen}
-use Rattle.path_merge.specs.MarkFacts.{MarkView}
-use Rattle.path_merge.specs.Marks.{body_of, has_slot, is_past_quiet, is_past_quiets, is_quiet_new, marks_of, quiet_mark, slot_mark, slots_between, slots_from, slots_or_quiet}
+use Rattle.stream_rules.specs.Anchor.{next_number}
+use Rattle.stream_rules.specs.Copies.{copies_of, copies_of_all}
+use Rattle.stream_rules.specs.Epochs.{anchor_of}
+use Rattle.stream_rules.specs.Grid.{first_with}
+use Rattle.stream_rules.specs.History.{is_closed, is_well_timed, time_of}
+use Rattle.stream_rules.specs.Laws.{IsOpen}
+use Rattle.stream_rules.specs.MarkFacts.{MarkView}
+use Rattle.stream_rules.specs.Marks.{body_of, has_slot, is_past_quiet, is_past_quiets, is_quiet_new, marks_of, quiet_mark, slot_mark, slots_between, slots_from, slots_or_quiet}
 use Rattle.path_merge.specs.Steps.{IsAlike}
-use Rattle.path_merge.specs.StreamSpecFacts.{Stream}
-use Rattle.path_merge.specs.declared.anchor.Anchor.{Anchor}
-use Rattle.path_merge.specs.declared.event.Event.{Event}
-use Rattle.path_merge.specs.declared.event.Event.TheVariants.{Arrive, Tick}
-use Rattle.path_merge.specs.declared.mark.MarkKind.TheVariants.{Quiet}
-use Rattle.path_merge.specs.declared.packet.Packet.{Packet}
+use Rattle.stream_rules.specs.StreamSpecFacts.{Stream}
+use Rattle.stream_rules.specs.declared.anchor.Anchor.{Anchor}
+use Rattle.stream_rules.specs.declared.event.Event.{Event}
+use Rattle.stream_rules.specs.declared.event.Event.TheVariants.{Arrive, Tick}
+use Rattle.stream_rules.specs.declared.mark.MarkKind.TheVariants.{Quiet}
+use Rattle.stream_rules.specs.declared.packet.Packet.{Packet}
 
 past_no_self : (until : ℤ) (mark : MarkView) (given : List MarkView) → mark.kind ≡ Quiet until → is_past_quiets until (given ++ mark ∷ []) ≡ false
 past_no_self until mark [] e =

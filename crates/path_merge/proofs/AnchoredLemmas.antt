@@ -6,24 +6,24 @@ use Rattle.path_merge.proofs.EpochLemmas.{anchor_is}
 use Rattle.path_merge.proofs.OfferLemmas.{offers_next}
 use Rattle.path_merge.proofs.RestartOfferLemmas.{offers_restart, opens_is}
 use Rattle.path_merge.proofs.SoundLemmas.{anchored_at}
-use Rattle.path_merge.specs.Counts.{is_counted_fate, is_taken_fate}
-use Rattle.path_merge.specs.CountsFacts.{with_fate}
-use Rattle.path_merge.specs.Epochs.{anchor_in, anchors_of, can_restart, last_of}
-use Rattle.path_merge.specs.Fate.{fate_of_put}
-use Rattle.path_merge.specs.Grid.{extended_number, is_on_grid}
+use Rattle.stream_rules.specs.Counts.{is_counted_fate, is_taken_fate}
+use Rattle.stream_rules.specs.CountsFacts.{with_fate}
+use Rattle.stream_rules.specs.Epochs.{anchor_in, anchors_of, can_restart, last_of}
+use Rattle.stream_rules.specs.Fate.{fate_of_put}
+use Rattle.stream_rules.specs.Grid.{extended_number, is_on_grid}
 use Rattle.path_merge.specs.Merge.{HasHistory}
 use Rattle.path_merge.specs.MergeState.{IsSound, MergeState}
-use Rattle.path_merge.specs.PathProbation.{probation_at}
+use Rattle.stream_rules.specs.PathProbation.{probation_at}
 use Rattle.path_merge.specs.Steps.{IsNextStep, IsRefusal, IsRestartStep, Offers, fault_or, opens_epoch, place_fault_of}
-use Rattle.path_merge.specs.StreamSpecFacts.{Stream}
-use Rattle.path_merge.specs.Window.{put_answer}
-use Rattle.path_merge.specs.declared.anchor.Anchor.{Anchor}
-use Rattle.path_merge.specs.declared.event.Event.{Event}
-use Rattle.path_merge.specs.declared.fate.Fate.{Fate}
-use Rattle.path_merge.specs.declared.fate.Fate.TheVariants.{Ahead, Late, OffGrid, WrongSource}
-use Rattle.path_merge.specs.declared.packet.Packet.{Packet}
-use Rattle.path_merge.specs.declared.window.Put.{Put}
-use Rattle.path_merge.specs.declared.window.Put.TheVariants.{Double as PutDouble, Taken as PutTaken, Unlike as PutUnlike}
+use Rattle.stream_rules.specs.StreamSpecFacts.{Stream}
+use Rattle.stream_rules.specs.Put.{put_answer}
+use Rattle.stream_rules.specs.declared.anchor.Anchor.{Anchor}
+use Rattle.stream_rules.specs.declared.event.Event.{Event}
+use Rattle.stream_rules.specs.declared.fate.Fate.{Fate}
+use Rattle.stream_rules.specs.declared.fate.Fate.TheVariants.{Ahead, Late, OffGrid, WrongSource}
+use Rattle.stream_rules.specs.declared.packet.Packet.{Packet}
+use Rattle.stream_rules.specs.declared.put.Put.{Put}
+use Rattle.stream_rules.specs.declared.put.Put.TheVariants.{Double as PutDouble, Taken as PutTaken, Unlike as PutUnlike}
 
 pub refused_next : (stream : Stream) (old new : MergeState) (a : Anchor) (path : ℕ) (packet : Packet) (fate : Fate) → IsNextStep stream old new a path packet fate → is_taken_fate fate ≡ false → IsRefusal old new path fate
 refused_next stream old new a path packet fate step untaken = record {

@@ -3,15 +3,15 @@ use Rattle.std.proofs.Common.{◌≡◌, Bool, true, false, List, [], ◌∷◌,
 use Rattle.path_merge.proofs.CloseLemmas.{marks_of-close}
 use Rattle.path_merge.proofs.HistoryLemmas.{by_last_event, copies_of_all-tick, is_closed-append, marks_in, marks_in-push, marks_of-in}
 use Rattle.path_merge.proofs.LawLemmas.{marks_of-unheard}
-use Rattle.path_merge.proofs.ProbationLemmas.{last_of-push}
-use Rattle.path_merge.specs.Copies.{copies_of_all, copies_with}
-use Rattle.path_merge.specs.Epochs.{anchor_of, last_of}
-use Rattle.path_merge.specs.History.{is_closed, time_of}
-use Rattle.path_merge.specs.MarkFacts.{MarkView}
-use Rattle.path_merge.specs.Marks.{end_mark, marks_of, slots_at_close}
-use Rattle.path_merge.specs.StreamSpecFacts.{Stream}
-use Rattle.path_merge.specs.declared.event.Event.{Event}
-use Rattle.path_merge.specs.declared.event.Event.TheVariants.{Arrive, Close, Tick}
+use Rattle.stream_rules.proofs.ProbationLemmas.{last_of-push}
+use Rattle.stream_rules.specs.Copies.{copies_of_all, copies_with}
+use Rattle.stream_rules.specs.Epochs.{anchor_of, last_of}
+use Rattle.stream_rules.specs.History.{is_closed, time_of}
+use Rattle.stream_rules.specs.MarkFacts.{MarkView}
+use Rattle.stream_rules.specs.Marks.{end_mark, marks_of, slots_at_close}
+use Rattle.stream_rules.specs.StreamSpecFacts.{Stream}
+use Rattle.stream_rules.specs.declared.event.Event.{Event}
+use Rattle.stream_rules.specs.declared.event.Event.TheVariants.{Arrive, Close, Tick}
 
 -- a history that was closed stays so
 pub closed_stays : (events more : List Event) → is_closed events ≡ true → is_closed (events ++ more) ≡ true

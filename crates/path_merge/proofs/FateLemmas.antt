@@ -1,5 +1,5 @@
 -- The fate of an arrival, test by test.
-use Rattle.path_merge.specs.Grid.{extended_number, first_with, is_on_grid}
+use Rattle.stream_rules.specs.Grid.{extended_number, first_with, is_on_grid}
 use Rattle.std.proofs.Common.{◌≡◌, ℕ, ◌+◌, ◌-◌, ◌*◌, ◌<◌, ◌≤◌, Bool, true, false, not, ◌&&◌, List, Option, Some, None, ℤ, pos, ◌+ℤ◌, ◌-ℤ◌, ◌≤ℤ◌, refl, ap, subst, ◌∙◌, arith, ⊎_elim, if◌then◌else◌}
 use Rattle.std.specs.Prelude.{nat_eq, nat_lt, nat_le, int_le}
 use Rattle.std.proofs.lemmas.Bool.Decides.{nat_tests}
@@ -9,18 +9,18 @@ use borrow.Author.Differences.{up, down}
 use Rattle.std.proofs.lemmas.Nat.{mul-le}
 use Rattle.std.specs.Prelude.{◌*ℤ◌, neg_ℤ}
 use Rattle.std.specs.Prelude.{bytes_eq}
-use Rattle.path_merge.specs.Anchor.{base_media_time, is_source_wanted, media_time_of}
-use Rattle.path_merge.specs.Counts.{is_counted_fate, is_taken_fate}
-use Rattle.path_merge.specs.Fate.{fate_of_put, first_fate, next_fate}
+use Rattle.stream_rules.specs.Anchor.{base_media_time, is_source_wanted, media_time_of}
+use Rattle.stream_rules.specs.Counts.{is_counted_fate, is_taken_fate}
+use Rattle.stream_rules.specs.Fate.{fate_of_put, first_fate, next_fate}
 use Rattle.path_merge.specs.Steps.{fault_or, place_fault_of}
-use Rattle.path_merge.specs.StreamSpecFacts.{Stream}
-use Rattle.path_merge.specs.Window.{is_taken, put_answer}
-use Rattle.path_merge.specs.declared.anchor.Anchor.{Anchor}
-use Rattle.path_merge.specs.declared.fate.Fate.{Fate}
-use Rattle.path_merge.specs.declared.fate.Fate.TheVariants.{Ahead, Late, OffGrid, Taken, WrongSource}
-use Rattle.path_merge.specs.declared.packet.Packet.{Packet}
-use Rattle.path_merge.specs.declared.window.Put.{Put}
-use Rattle.path_merge.specs.declared.window.Put.TheVariants.{Double as PutDouble, Taken as PutTaken, Unlike as PutUnlike}
+use Rattle.stream_rules.specs.StreamSpecFacts.{Stream}
+use Rattle.stream_rules.specs.Put.{is_taken, put_answer}
+use Rattle.stream_rules.specs.declared.anchor.Anchor.{Anchor}
+use Rattle.stream_rules.specs.declared.fate.Fate.{Fate}
+use Rattle.stream_rules.specs.declared.fate.Fate.TheVariants.{Ahead, Late, OffGrid, Taken, WrongSource}
+use Rattle.stream_rules.specs.declared.packet.Packet.{Packet}
+use Rattle.stream_rules.specs.declared.put.Put.{Put}
+use Rattle.stream_rules.specs.declared.put.Put.TheVariants.{Double as PutDouble, Taken as PutTaken, Unlike as PutUnlike}
 
 -- a few numbers away
 pub shifted : (spec : Stream) (a : Anchor) (next n : ℕ) → (media_time_of spec a next +ℤ (pos n -ℤ pos next) *ℤ pos spec.frames) ≡ media_time_of spec a n

@@ -1,6 +1,6 @@
 -- The first arrival that anchors a stream.
-use Rattle.path_merge.specs.Epochs.{anchor_in, anchor_of, anchors_of, last_of, placed}
-use Rattle.path_merge.specs.Grid.{first_with}
+use Rattle.stream_rules.specs.Epochs.{anchor_in, anchor_of, anchors_of, last_of, placed}
+use Rattle.stream_rules.specs.Grid.{first_with}
 use Rattle.std.proofs.Common.{◌≡◌, ℕ, ◌+◌, ◌-◌, ◌*◌, ◌^◌, ◌<◌, ◌≤◌, Bool, true, false, not, ◌&&◌, List, [], ◌∷◌, ◌++◌, length, Option, Some, None, IsSome, ℤ, pos, ◌+ℤ◌, ◌-ℤ◌, ◌<ℤ◌, refl, sym, ap, subst, ◌∙◌, arith, if◌then◌else◌, ◌*ℤ◌}
 use Rattle.std.specs.Prelude.{int_lt, int_le, nat_lt, nat_le}
 use Rattle.std.specs.Prelude.{nat_eq, unsigned_abs}
@@ -16,34 +16,35 @@ use Rattle.path_merge.proofs.HistoryLemmas.{marks_of-in, or_else}
 use Rattle.path_merge.proofs.EpochLemmas.{anchor_is, copies_of-since, copies_since-made, heard_of-made, last-push, since_of}
 use Rattle.path_merge.proofs.FateLemmas.{first_counts}
 use Rattle.path_merge.proofs.MarksLemmas.{AllSlotsBelow, limit_of, slots_below}
-use Rattle.path_merge.proofs.NearestLemmas.{nearest_number-only, rem_same, rem_small}
+use Rattle.stream_rules.proofs.NearestLemmas.{nearest_number-only, rem_same, rem_small}
 use Rattle.path_merge.proofs.NextLemmas.{media_time_of-from}
 use Rattle.path_merge.proofs.RestartLemmas.{itself_eq, next_number-fresh, own_copy}
 use Rattle.path_merge.proofs.RestartOfferLemmas.{all, counts_heard, few, hears, none_above, one_held}
 use Rattle.path_merge.proofs.SoundLemmas.{some_window}
-use Rattle.path_merge.specs.Anchor.{anchor_from, base_media_time, can_anchor, is_source_wanted, media_time_of, next_number}
-use Rattle.path_merge.specs.Copies.{copies_of, copies_of_all, first_copy}
-use Rattle.path_merge.specs.PathProbation.{no_probation, probation_at, probation_of}
-use Rattle.path_merge.specs.declared.probation.Probation.{Probation}
-use Rattle.path_merge.specs.Counts.{counts_of, is_counted_fate, is_restarted, is_taken_fate}
-use Rattle.path_merge.specs.CountsFacts.{Tally, with_fate}
-use Rattle.path_merge.specs.Fate.{counted_fate, fate_of, first_fate}
-use Rattle.path_merge.specs.History.{arrival_count, is_closed, is_counting}
-use Rattle.path_merge.specs.Marks.{marks_of}
+use Rattle.stream_rules.specs.Anchor.{anchor_from, base_media_time, can_anchor, is_source_wanted, media_time_of, next_number}
+use Rattle.stream_rules.specs.Copies.{copies_of, copies_of_all, first_copy}
+use Rattle.stream_rules.specs.PathProbation.{no_probation, probation_at, probation_of}
+use Rattle.stream_rules.specs.declared.probation.Probation.{Probation}
+use Rattle.stream_rules.specs.Counts.{counts_of, is_counted_fate, is_restarted, is_taken_fate}
+use Rattle.stream_rules.specs.CountsFacts.{Tally, with_fate}
+use Rattle.stream_rules.specs.Fate.{counted_fate, fate_of, first_fate}
+use Rattle.stream_rules.specs.History.{arrival_count, is_closed, is_counting}
+use Rattle.stream_rules.specs.Marks.{marks_of}
 use Rattle.path_merge.specs.Merge.{HasHistory, IsBaseOf, heard_of, slot_count}
 use Rattle.path_merge.specs.MergeState.{IsAnchoredOrNot, IsSound, IsUnanchored, MergeState, held_count}
-use Rattle.path_merge.specs.Nearest.{IsNearest}
+use Rattle.stream_rules.specs.Nearest.{IsNearest}
 use Rattle.path_merge.specs.Steps.{IsFirstStep, IsRefusal, Offers}
-use Rattle.path_merge.specs.StreamSpec.{Fits}
-use Rattle.path_merge.specs.StreamSpecFacts.{Stream}
-use Rattle.path_merge.specs.Window.{IsEmpty, is_taken, put_answer}
-use Rattle.path_merge.specs.declared.anchor.Anchor.{Anchor}
-use Rattle.path_merge.specs.declared.event.Event.{Event}
-use Rattle.path_merge.specs.declared.event.Event.TheVariants.{Arrive}
-use Rattle.path_merge.specs.declared.fate.Fate.{Fate}
-use Rattle.path_merge.specs.declared.fate.Fate.TheVariants.{Ahead, Closed, CountersFull, Double, Late, OffGrid, Restarted, Taken, Unlike, WrongSource}
-use Rattle.path_merge.specs.declared.packet.Packet.{Packet}
-use Rattle.path_merge.specs.declared.window.Put.{Put}
+use Rattle.stream_rules.specs.StreamSpec.{Fits}
+use Rattle.stream_rules.specs.StreamSpecFacts.{Stream}
+use Rattle.stream_rules.specs.Put.{is_taken, put_answer}
+use Rattle.reorder_window.specs.Window.{IsEmpty}
+use Rattle.stream_rules.specs.declared.anchor.Anchor.{Anchor}
+use Rattle.stream_rules.specs.declared.event.Event.{Event}
+use Rattle.stream_rules.specs.declared.event.Event.TheVariants.{Arrive}
+use Rattle.stream_rules.specs.declared.fate.Fate.{Fate}
+use Rattle.stream_rules.specs.declared.fate.Fate.TheVariants.{Ahead, Closed, CountersFull, Double, Late, OffGrid, Restarted, Taken, Unlike, WrongSource}
+use Rattle.stream_rules.specs.declared.packet.Packet.{Packet}
+use Rattle.stream_rules.specs.declared.put.Put.{Put}
 
 -- an order test and its turn
 lt-not_le : (a b : ℤ) → int_lt a b ≡ not (int_le b a)

@@ -2,10 +2,10 @@
 use Rattle.path_merge.proofs.EpochLemmas.{deaf_anchor, deaf_copies, deaf_copies_all}
 use Rattle.path_merge.proofs.HistoryLemmas.{copies_of-with}
 use Rattle.path_merge.proofs.RestartLemmas.{itself_eq}
-use Rattle.path_merge.specs.Copies.{copies_of_all}
+use Rattle.stream_rules.specs.Copies.{copies_of_all}
 use Rattle.std.specs.Prelude.{nat_lt}
-use Rattle.path_merge.specs.Epochs.{anchor_of, anchors_at}
-use Rattle.path_merge.specs.Grid.{copies_under, end_of_copies, first_with}
+use Rattle.stream_rules.specs.Epochs.{anchor_of, anchors_at}
+use Rattle.stream_rules.specs.Grid.{copies_under, end_of_copies, first_with}
 use Rattle.std.proofs.Common.{◌≡◌, ℕ, zero, suc, ◌+◌, ◌-◌, ◌<◌, ◌≤◌, max, Bool, true, false, ◌||◌, List, [], ◌∷◌, ◌++◌, length, take, drop, Option, Some, None, IsSome, ℤ, pos, ◌-ℤ◌, refl, sym, ap, subst, ◌∙◌, arith, append-nil, length-append, ⊎_elim, if◌then◌else◌}
 use Rattle.std.specs.Prelude.{nat_eq}
 use Rattle.std.specs.FinMap.{get}
@@ -18,22 +18,22 @@ use Rattle.path_merge.proofs.MarksLemmas.{well_timed_before, well_timed_tick}
 use Rattle.path_merge.proofs.SlotCountLemmas.{no_end_yet, slots_counted}
 use Rattle.path_merge.proofs.StepLemmas.{base_more, has_end-append, last_quiet-append, or_none, slot_count-append, without}
 use Rattle.path_merge.proofs.TallyLemmas.{tally-other, tally-slot}
-use Rattle.path_merge.specs.Anchor.{next_number}
-use Rattle.path_merge.specs.Copies.{copies_of, first_copy}
-use Rattle.path_merge.specs.Counts.{fates_of}
-use Rattle.path_merge.specs.CountsFacts.{with_body}
-use Rattle.path_merge.specs.History.{events_until_close, is_closed, is_counting, is_well_timed, time_of}
-use Rattle.path_merge.specs.MarkFacts.{MarkView}
-use Rattle.path_merge.specs.Marks.{body_of, end_mark, marks_of, slot_mark, slots_at_close, slots_from}
+use Rattle.stream_rules.specs.Anchor.{next_number}
+use Rattle.stream_rules.specs.Copies.{copies_of, first_copy}
+use Rattle.stream_rules.specs.Counts.{fates_of}
+use Rattle.stream_rules.specs.CountsFacts.{with_body}
+use Rattle.stream_rules.specs.History.{events_until_close, is_closed, is_counting, is_well_timed, time_of}
+use Rattle.stream_rules.specs.MarkFacts.{MarkView}
+use Rattle.stream_rules.specs.Marks.{body_of, end_mark, marks_of, slot_mark, slots_at_close, slots_from}
 use Rattle.path_merge.specs.Merge.{HasHistory, has_end, slot_count}
 use Rattle.path_merge.specs.MergeState.{IsSound, MergeState}
 use Rattle.path_merge.specs.Steps.{Drains, HoldsMore, IsLeftStep}
-use Rattle.path_merge.specs.StreamSpecFacts.{Stream}
-use Rattle.path_merge.specs.declared.anchor.Anchor.{Anchor}
-use Rattle.path_merge.specs.declared.event.Event.{Event}
-use Rattle.path_merge.specs.declared.event.Event.TheVariants.{Arrive, Close, Tick}
+use Rattle.stream_rules.specs.StreamSpecFacts.{Stream}
+use Rattle.stream_rules.specs.declared.anchor.Anchor.{Anchor}
+use Rattle.stream_rules.specs.declared.event.Event.{Event}
+use Rattle.stream_rules.specs.declared.event.Event.TheVariants.{Arrive, Close, Tick}
 use Rattle.path_merge.proofs.CopiesLemmas.{first_with-below, first_with-last}
-use Rattle.path_merge.specs.declared.packet.Packet.{Packet}
+use Rattle.stream_rules.specs.declared.packet.Packet.{Packet}
 
 -- one mark more
 one_more_taken : (k : ℕ) (xs : List MarkView) (x : MarkView) (rest : List MarkView) → drop k xs ≡ x ∷ rest → (take (k + 1) xs ≡ take k xs ++ x ∷ []) × (k + 1 ≤ length xs)

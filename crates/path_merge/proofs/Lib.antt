@@ -1,9 +1,3 @@
-pub mod CountsLemmas
-pub mod NearestLemmas
-pub mod StreamSpecLemmas
-pub mod WorkedCases
-pub mod RestartCases
-pub mod ProbationLemmas
 pub mod NextLemmas
 pub mod HistoryLemmas
 pub mod MarksLemmas
@@ -29,9 +23,6 @@ pub mod AdvanceLemmas
 pub mod NextMarkLemmas
 pub mod PutLemmas
 pub mod FirstLemmas
-pub mod SortedLemmas
-pub mod RingLemmas
-pub mod SlotWindowLemmas
 pub mod AliasLemmas
 pub mod LawLemmas
 pub mod RunLemmas
@@ -42,7 +33,6 @@ pub mod ShapeLemmas
 pub mod ClosedLemmas
 pub mod MarkListLemmas
 pub mod SpanLemmas
-pub mod SentCases
 pub mod SentLemmas
 pub mod SentHistoryLemmas
 pub mod NearLemmas

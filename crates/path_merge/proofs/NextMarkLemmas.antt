@@ -5,21 +5,21 @@ use Rattle.std.specs.Ordering.{nat_cmp}
 use Rattle.std.specs.FinMap.{FinMap, get}
 use Rattle.std.proofs.lemmas.Bool.Decides.{nat_tests}
 use Rattle.std.proofs.lemmas.Int.{ints}
-use Rattle.path_merge.specs.declared.anchor.Anchor.{Anchor}
-use Rattle.path_merge.specs.declared.mark.Body.{Body}
-use Rattle.path_merge.specs.declared.mark.Body.TheVariants.{Got, Lost}
-use Rattle.path_merge.specs.declared.packet.Packet.{Packet}
-use Rattle.path_merge.specs.MarkFacts.{HasLength}
-use Rattle.path_merge.specs.MarkRef.{IsShort}
-use Rattle.path_merge.specs.Anchor.{deadline_of, next_number}
+use Rattle.stream_rules.specs.declared.anchor.Anchor.{Anchor}
+use Rattle.stream_rules.specs.declared.mark.Body.{Body}
+use Rattle.stream_rules.specs.declared.mark.Body.TheVariants.{Got, Lost}
+use Rattle.stream_rules.specs.declared.packet.Packet.{Packet}
+use Rattle.stream_rules.specs.MarkFacts.{HasLength}
+use Rattle.stream_rules.specs.MarkRef.{IsShort}
+use Rattle.stream_rules.specs.Anchor.{deadline_of, next_number}
 use Rattle.path_merge.specs.MergeState.{IsAnchored, IsAnchoredOrNot, IsSound, MergeState, held_count}
-use Rattle.path_merge.specs.declared.event.Event.{Event}
-use Rattle.path_merge.specs.MarkFacts.{MarkView}
-use Rattle.path_merge.specs.Marks.{quiet_mark}
+use Rattle.stream_rules.specs.declared.event.Event.{Event}
+use Rattle.stream_rules.specs.MarkFacts.{MarkView}
+use Rattle.stream_rules.specs.Marks.{quiet_mark}
 use Rattle.path_merge.specs.Merge.{HasHistory}
 use Rattle.path_merge.specs.Next.{anchor_due, anchor_if_due, anchor_if_held, anchor_left, next_left, next_mark, quiet_next, slot_or_end, slot_or_quiet}
 use Rattle.path_merge.specs.Steps.{Drains, HoldsMore, IsBeforeDeadline, IsLeftStep, IsTimeStep, clock_fault_of, is_quiet_due, marks_left}
-use Rattle.path_merge.specs.StreamSpecFacts.{Stream}
+use Rattle.stream_rules.specs.StreamSpecFacts.{Stream}
 use Rattle.path_merge.proofs.AdvanceLemmas.{IsAtReading, at_reading, no_slot_of}
 use Rattle.path_merge.proofs.LeftLemmas.{drains_end, end_mark_is}
 use Rattle.path_merge.proofs.SoundLemmas.{anchored_at, time_step_gives, time_step_none}

@@ -8,39 +8,39 @@ use Rattle.path_merge.proofs.ArrivalLemmas.{marks_of-arrive, stands_after_arriva
 use Rattle.path_merge.proofs.EpochLemmas.{WithinLength, all_tags, heard_by, anchor_is, copies_of-since, copies_since-made, heard_of-made, heard_of-push, last-push, place_within, since_of}
 use Rattle.path_merge.proofs.HistoryLemmas.{copies_of-push, arrival_count-append, by_last_event, fates_of-close, fates_of-push, fates_of-tick, is_closed-append, marks_of-in, or_else}
 use Rattle.path_merge.proofs.MarksLemmas.{AllSlotsBelow, IsSlotBelow, limit_of, slots_below}
-use Rattle.path_merge.proofs.ProbationLemmas.{complete_is, probation_of-push}
+use Rattle.stream_rules.proofs.ProbationLemmas.{complete_is, probation_of-push}
 use Rattle.path_merge.proofs.RestartOfferLemmas.{all, counts_heard, few, heard_here, hears, next_is, shut, some_frames}
 use Rattle.path_merge.proofs.FateLemmas.{fate_parts, fault_parts, in_window, is_none, next_counts, taken_answer, time_parts}
 use Rattle.path_merge.proofs.RestartLemmas.{GoesOn, in_reach, itself_eq, own_copy}
 use Rattle.path_merge.proofs.SoundLemmas.{anchored_at, some_window}
 use Rattle.path_merge.proofs.StepLemmas.{take_all}
 use Rattle.path_merge.proofs.TallyLemmas.{tally-fate}
-use Rattle.path_merge.specs.Anchor.{is_source_wanted, media_time_of, next_number, restart_from, restart_media_time}
-use Rattle.path_merge.specs.Copies.{copies_at, copies_in, copies_of, copies_of_all, copies_with, first_copy, with_epoch}
-use Rattle.path_merge.specs.Counts.{counts_of, fates_of, is_counted_fate, is_taken_fate, tally_of_fates}
-use Rattle.path_merge.specs.CountsFacts.{Tally, with_fate}
-use Rattle.path_merge.specs.Epochs.{anchor_in, anchor_of, anchors_at, anchors_of, can_restart, copies_since, goes_on, is_all_given, last_of}
-use Rattle.path_merge.specs.Fate.{counted_fate, fate_of, fate_of_put, next_fate}
-use Rattle.path_merge.specs.Grid.{copies_under, extended_number, first_with, is_in_time, is_on_grid}
-use Rattle.path_merge.specs.History.{arrival_count, at_places, is_closed, is_counting, time_of}
-use Rattle.path_merge.specs.MarkFacts.{MarkView}
-use Rattle.path_merge.specs.Marks.{marks_of}
+use Rattle.stream_rules.specs.Anchor.{is_source_wanted, media_time_of, next_number, restart_from, restart_media_time}
+use Rattle.stream_rules.specs.Copies.{copies_at, copies_in, copies_of, copies_of_all, copies_with, first_copy, with_epoch}
+use Rattle.stream_rules.specs.Counts.{counts_of, fates_of, is_counted_fate, is_taken_fate, tally_of_fates}
+use Rattle.stream_rules.specs.CountsFacts.{Tally, with_fate}
+use Rattle.stream_rules.specs.Epochs.{anchor_in, anchor_of, anchors_at, anchors_of, can_restart, copies_since, goes_on, is_all_given, last_of}
+use Rattle.stream_rules.specs.Fate.{counted_fate, fate_of, fate_of_put, next_fate}
+use Rattle.stream_rules.specs.Grid.{copies_under, extended_number, first_with, is_in_time, is_on_grid}
+use Rattle.stream_rules.specs.History.{arrival_count, at_places, is_closed, is_counting, time_of}
+use Rattle.stream_rules.specs.MarkFacts.{MarkView}
+use Rattle.stream_rules.specs.Marks.{marks_of}
 use Rattle.path_merge.specs.Merge.{HasHistory, heard_of, is_slot_in, slot_count}
 use Rattle.path_merge.specs.MergeState.{IsSound, MergeState}
-use Rattle.path_merge.specs.PathProbation.{is_complete, probation_after, probation_at, probation_heard, probation_of}
-use Rattle.path_merge.specs.Probation.{completes_probation, heard_since, is_off}
+use Rattle.stream_rules.specs.PathProbation.{is_complete, probation_after, probation_at, probation_heard, probation_of}
+use Rattle.stream_rules.specs.Probation.{completes_probation, heard_since, is_off}
 use Rattle.path_merge.specs.Steps.{IsNextStep, Offers, fault_or, place_fault_of}
-use Rattle.path_merge.specs.Window.{put_answer}
-use Rattle.path_merge.specs.StreamSpecFacts.{Stream}
-use Rattle.path_merge.specs.declared.anchor.Anchor.{Anchor}
-use Rattle.path_merge.specs.declared.event.Event.{Event}
-use Rattle.path_merge.specs.declared.event.Event.TheVariants.{Arrive, Close, Tick}
-use Rattle.path_merge.specs.declared.fate.Fate.{Fate}
-use Rattle.path_merge.specs.declared.fate.Fate.TheVariants.{Ahead, Closed, CountersFull, Late, OffGrid, Restarted, WrongSource}
-use Rattle.path_merge.specs.declared.mark.MarkKind.{MarkKind}
-use Rattle.path_merge.specs.declared.mark.MarkKind.TheVariants.{End, Quiet, Slot}
+use Rattle.stream_rules.specs.Put.{put_answer}
+use Rattle.stream_rules.specs.StreamSpecFacts.{Stream}
+use Rattle.stream_rules.specs.declared.anchor.Anchor.{Anchor}
+use Rattle.stream_rules.specs.declared.event.Event.{Event}
+use Rattle.stream_rules.specs.declared.event.Event.TheVariants.{Arrive, Close, Tick}
+use Rattle.stream_rules.specs.declared.fate.Fate.{Fate}
+use Rattle.stream_rules.specs.declared.fate.Fate.TheVariants.{Ahead, Closed, CountersFull, Late, OffGrid, Restarted, WrongSource}
+use Rattle.stream_rules.specs.declared.mark.MarkKind.{MarkKind}
+use Rattle.stream_rules.specs.declared.mark.MarkKind.TheVariants.{End, Quiet, Slot}
 use Rattle.path_merge.proofs.CopiesLemmas.{first_with-append}
-use Rattle.path_merge.specs.declared.packet.Packet.{Packet}
+use Rattle.stream_rules.specs.declared.packet.Packet.{Packet}
 
 -- what is held after a put is the first copy after it
 put_held : (n number base : ℕ) (packet : Packet) (f g : Option Packet) → base ≤ number → g ≡ (if nat_lt n base then None else f) → (there : Option Packet) → (n ≡ number → there ≡ f) → (if is_none there && nat_eq n number then Some packet else g) ≡ (if nat_lt n base then None else or_else f (if nat_eq number n then Some packet else None))

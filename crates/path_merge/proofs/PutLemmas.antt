@@ -1,5 +1,5 @@
 -- A packet that is put: what it leaves of the model's invariant, of what is held, and of the counts.
-use Rattle.path_merge.specs.Grid.{extended_number, is_on_grid}
+use Rattle.stream_rules.specs.Grid.{extended_number, is_on_grid}
 use Rattle.std.proofs.Common.{◌≡◌, ℕ, ◌+◌, ◌^◌, ◌<◌, ◌≤◌, Bool, true, false, ◌&&◌, Option, Some, None, IsSome, ℤ, refl, sym, ap, subst, ◌∙◌, arith, if◌then◌else◌}
 use Rattle.std.specs.Prelude.{nat_eq, nat_lt, nat_le}
 use Rattle.std.specs.Ordering.{nat_cmp}
@@ -9,24 +9,24 @@ use Rattle.std.specs.Prelude.{bytes_eq}
 use Rattle.path_merge.proofs.FateLemmas.{fault_parts, is_none, taken_put}
 use Rattle.path_merge.proofs.HeldLemmas.{FateCounts, held_count-from, held_count-put, with_fate-counts}
 use Rattle.path_merge.proofs.SoundLemmas.{anchored_at, anchored_back}
-use Rattle.path_merge.specs.Anchor.{next_number}
-use Rattle.path_merge.specs.Counts.{is_restarted, is_taken_fate}
-use Rattle.path_merge.specs.CountsFacts.{Tally, with_fate}
-use Rattle.path_merge.specs.Fate.{fate_of_put}
+use Rattle.stream_rules.specs.Anchor.{next_number}
+use Rattle.stream_rules.specs.Counts.{is_restarted, is_taken_fate}
+use Rattle.stream_rules.specs.CountsFacts.{Tally, with_fate}
+use Rattle.stream_rules.specs.Fate.{fate_of_put}
 use Rattle.path_merge.specs.MergeState.{IsSound, MergeState, held_count}
 use Rattle.path_merge.specs.Steps.{IsPutStep, fault_or, place_fault_of}
-use Rattle.path_merge.specs.declared.probation.Probation.{Probation}
+use Rattle.stream_rules.specs.declared.probation.Probation.{Probation}
 use Rattle.std.specs.Prelude.{List}
 use Rattle.std.proofs.lemmas.Int.{ints}
-use Rattle.path_merge.specs.StreamSpec.{Fits}
-use Rattle.path_merge.specs.Window.{is_taken, put_answer}
-use Rattle.path_merge.specs.declared.anchor.Anchor.{Anchor}
-use Rattle.path_merge.specs.declared.fate.Fate.{Fate}
-use Rattle.path_merge.specs.declared.packet.Packet.{Packet}
-use Rattle.path_merge.specs.declared.window.Put.{Put}
-use Rattle.path_merge.specs.PathProbation.{probation_heard}
-use Rattle.path_merge.specs.Probation.{is_off}
-use Rattle.path_merge.specs.declared.window.Put.TheVariants.{Double as PutDouble, Taken as PutTaken, Unlike as PutUnlike}
+use Rattle.stream_rules.specs.StreamSpec.{Fits}
+use Rattle.stream_rules.specs.Put.{is_taken, put_answer}
+use Rattle.stream_rules.specs.declared.anchor.Anchor.{Anchor}
+use Rattle.stream_rules.specs.declared.fate.Fate.{Fate}
+use Rattle.stream_rules.specs.declared.packet.Packet.{Packet}
+use Rattle.stream_rules.specs.declared.put.Put.{Put}
+use Rattle.stream_rules.specs.PathProbation.{probation_heard}
+use Rattle.stream_rules.specs.Probation.{is_off}
+use Rattle.stream_rules.specs.declared.put.Put.TheVariants.{Double as PutDouble, Taken as PutTaken, Unlike as PutUnlike}
 
 -- the steps that the code makes
 pub put_step_fault : (m : MergeState) (a : Anchor) (path : ℕ) (packet : Packet) (fate : Fate) (counts' : Tally) → place_fault_of m.spec a m.base packet ≡ Some fate → counts' ≡ with_fate m.counts path fate → IsPutStep m.spec m (record m { counts = counts' }) a path packet fate

@@ -9,25 +9,25 @@ use Rattle.std.proofs.lemmas.Bool.Decides.{nat_tests}
 use Rattle.std.proofs.lemmas.Int.{ints}
 use Rattle.std.proofs.lemmas.Nat.{mul-le}
 use Rattle.path_merge.proofs.HeldLemmas.{FateCounts, held_count-none, held_count-put, with_fate-counts}
-use Rattle.path_merge.proofs.NearestLemmas.{nearest_number-only, rem_same, rem_small}
+use Rattle.stream_rules.proofs.NearestLemmas.{nearest_number-only, rem_same, rem_small}
 use Rattle.path_merge.proofs.NextLemmas.{before_next_number, media_time_of-from}
 use Rattle.path_merge.proofs.SoundLemmas.{anchored_at, some_window}
-use Rattle.path_merge.specs.Anchor.{base_media_time, is_base_in_reach, is_restart_in_reach, media_time_of, next_number, restart_from, restart_media_time}
-use Rattle.path_merge.specs.CountsFacts.{Tally, with_fate}
-use Rattle.path_merge.specs.Epochs.{goes_on}
-use Rattle.path_merge.specs.Grid.{copies_under, expected_timestamp, extended_number, is_on_grid}
+use Rattle.stream_rules.specs.Anchor.{base_media_time, is_base_in_reach, is_restart_in_reach, media_time_of, next_number, restart_from, restart_media_time}
+use Rattle.stream_rules.specs.CountsFacts.{Tally, with_fate}
+use Rattle.stream_rules.specs.Epochs.{goes_on}
+use Rattle.stream_rules.specs.Grid.{copies_under, expected_timestamp, extended_number, is_on_grid}
 use Rattle.path_merge.specs.MergeState.{IsAnchored, IsSound, MergeState, held_count}
-use Rattle.path_merge.specs.Nearest.{IsNearest}
+use Rattle.stream_rules.specs.Nearest.{IsNearest}
 use Rattle.path_merge.specs.Steps.{IsRestartStep}
-use Rattle.path_merge.specs.PathProbation.{no_probation, probation_at}
-use Rattle.path_merge.specs.declared.probation.Probation.{Probation}
-use Rattle.path_merge.specs.StreamSpec.{Fits}
-use Rattle.path_merge.specs.StreamSpecFacts.{Stream}
-use Rattle.path_merge.specs.Window.{IsEmpty}
-use Rattle.path_merge.specs.declared.anchor.Anchor.{Anchor}
-use Rattle.path_merge.specs.declared.fate.Fate.{Fate}
-use Rattle.path_merge.specs.declared.fate.Fate.TheVariants.{Restarted}
-use Rattle.path_merge.specs.declared.packet.Packet.{Packet}
+use Rattle.stream_rules.specs.PathProbation.{no_probation, probation_at}
+use Rattle.stream_rules.specs.declared.probation.Probation.{Probation}
+use Rattle.stream_rules.specs.StreamSpec.{Fits}
+use Rattle.stream_rules.specs.StreamSpecFacts.{Stream}
+use Rattle.reorder_window.specs.Window.{IsEmpty}
+use Rattle.stream_rules.specs.declared.anchor.Anchor.{Anchor}
+use Rattle.stream_rules.specs.declared.fate.Fate.{Fate}
+use Rattle.stream_rules.specs.declared.fate.Fate.TheVariants.{Restarted}
+use Rattle.stream_rules.specs.declared.packet.Packet.{Packet}
 
 -- before the anchor's deadline it is itself next due
 pub next_number-fresh : (spec : Stream) (a : Anchor) (time : ℤ) → 0 < spec.frames → (time -ℤ pos spec.latency) <ℤ a.media → next_number spec a time ≡ a.number

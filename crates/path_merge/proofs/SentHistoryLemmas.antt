@@ -9,18 +9,18 @@ use Rattle.path_merge.proofs.EpochLemmas.{anchor_is, deaf_anchors, no_anchors}
 use Rattle.path_merge.proofs.HistoryLemmas.{anchors_of-push, arrival_count-append, by_last_event, is_closed-append, or_else, time_of-append}
 use Rattle.path_merge.proofs.CopiesLemmas.{first_with-append}
 use Rattle.path_merge.proofs.SentLemmas.{CountsAsSent, far_counts, near_counts, one_copy}
-use Rattle.path_merge.specs.Anchor.{anchor_from, next_number}
-use Rattle.path_merge.specs.Copies.{copies_at, copies_in, copies_of, copies_of_all, copies_with, first_copy, with_epoch}
-use Rattle.path_merge.specs.Epochs.{anchor_in, anchor_of, anchors_at, anchors_of, last_of}
-use Rattle.path_merge.specs.Grid.{copies_under, extended_number, first_with, is_in_time}
-use Rattle.path_merge.specs.History.{arrival_count, at_places, is_closed, is_counting, time_of}
-use Rattle.path_merge.specs.Marks.{marks_from, marks_of}
-use Rattle.path_merge.specs.Sent.{Arrives, BeginsWith, Closes, HasEqualCopies, IsNear, IsOneEpoch, IsWithinReach, SentEvent, SentPacket, Ticks, marks_by_number, sent_copies, sent_copies_after, sent_copies_at, wire_event, wire_history, wire_packet}
-use Rattle.path_merge.specs.StreamSpecFacts.{IsStream, Stream}
-use Rattle.path_merge.specs.declared.anchor.Anchor.{Anchor}
-use Rattle.path_merge.specs.declared.event.Event.{Event}
-use Rattle.path_merge.specs.declared.event.Event.TheVariants.{Arrive, Close, Tick}
-use Rattle.path_merge.specs.declared.packet.Packet.{Packet}
+use Rattle.stream_rules.specs.Anchor.{anchor_from, next_number}
+use Rattle.stream_rules.specs.Copies.{copies_at, copies_in, copies_of, copies_of_all, copies_with, first_copy, with_epoch}
+use Rattle.stream_rules.specs.Epochs.{anchor_in, anchor_of, anchors_at, anchors_of, last_of}
+use Rattle.stream_rules.specs.Grid.{copies_under, extended_number, first_with, is_in_time}
+use Rattle.stream_rules.specs.History.{arrival_count, at_places, is_closed, is_counting, time_of}
+use Rattle.stream_rules.specs.Marks.{marks_from, marks_of}
+use Rattle.stream_rules.specs.Sent.{Arrives, BeginsWith, Closes, HasEqualCopies, IsNear, IsOneEpoch, IsWithinReach, SentEvent, SentPacket, Ticks, marks_by_number, sent_copies, sent_copies_after, sent_copies_at, wire_event, wire_history, wire_packet}
+use Rattle.stream_rules.specs.StreamSpecFacts.{IsStream, Stream}
+use Rattle.stream_rules.specs.declared.anchor.Anchor.{Anchor}
+use Rattle.stream_rules.specs.declared.event.Event.{Event}
+use Rattle.stream_rules.specs.declared.event.Event.TheVariants.{Arrive, Close, Tick}
+use Rattle.stream_rules.specs.declared.packet.Packet.{Packet}
 
 -- copies with their epoch
 with_epoch-append : (a : Anchor) (xs ys : List (ℕ × Packet)) → with_epoch (Some a) (xs ++ ys) ≡ with_epoch (Some a) xs ++ with_epoch (Some a) ys

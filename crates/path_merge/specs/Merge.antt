@@ -1,20 +1,20 @@
 -- What a merge has to be after a history, with some of its marks handed on.
 use Rattle.std.specs.Prelude.{◌≡◌, ℕ, ◌+◌, ◌≤◌, ◌<◌, nat_lt, Bool, true, false, ◌||◌, nat_eq, List, [], ◌∷◌, take, length, ℤ, pos, ◌-ℤ◌, Option, Some, None, if◌then◌else◌}
 use Rattle.std.specs.FinMap.{get}
-use Rattle.path_merge.specs.StreamSpecFacts.{Stream}
-use Rattle.path_merge.specs.MarkFacts.{MarkView}
-use Rattle.path_merge.specs.declared.anchor.Anchor.{Anchor}
-use Rattle.path_merge.specs.declared.packet.Packet.{Packet}
-use Rattle.path_merge.specs.declared.mark.MarkKind.{MarkKind}
-use Rattle.path_merge.specs.declared.mark.MarkKind.TheVariants.{Slot, Quiet, End}
-use Rattle.path_merge.specs.declared.event.Event.{Event}
-use Rattle.path_merge.specs.History.{time_of, is_closed, is_well_timed, events_until_close}
-use Rattle.path_merge.specs.Epochs.{anchor_of, anchors_of, last_of}
-use Rattle.path_merge.specs.Probation.{heard_since}
-use Rattle.path_merge.specs.PathProbation.{probation_at, probation_of}
-use Rattle.path_merge.specs.Copies.{first_copy}
-use Rattle.path_merge.specs.Marks.{marks_of, is_slot}
-use Rattle.path_merge.specs.Counts.{counts_of}
+use Rattle.stream_rules.specs.StreamSpecFacts.{Stream}
+use Rattle.stream_rules.specs.MarkFacts.{MarkView}
+use Rattle.stream_rules.specs.declared.anchor.Anchor.{Anchor}
+use Rattle.stream_rules.specs.declared.packet.Packet.{Packet}
+use Rattle.stream_rules.specs.declared.mark.MarkKind.{MarkKind}
+use Rattle.stream_rules.specs.declared.mark.MarkKind.TheVariants.{Slot, Quiet, End}
+use Rattle.stream_rules.specs.declared.event.Event.{Event}
+use Rattle.stream_rules.specs.History.{time_of, is_closed, is_well_timed, events_until_close}
+use Rattle.stream_rules.specs.Epochs.{anchor_of, anchors_of, last_of}
+use Rattle.stream_rules.specs.Probation.{heard_since}
+use Rattle.stream_rules.specs.PathProbation.{probation_at, probation_of}
+use Rattle.stream_rules.specs.Copies.{first_copy}
+use Rattle.stream_rules.specs.Marks.{marks_of, is_slot}
+use Rattle.stream_rules.specs.Counts.{counts_of}
 use Rattle.path_merge.specs.MergeState.{MergeState}
 
 abbrev pub is_slot_in : ℕ → MarkKind → Bool

@@ -2,14 +2,14 @@
 use Rattle.std.specs.Prelude.{◌≡◌, ℕ, zero, suc, ◌+◌, ◌^◌, ◌<◌, ◌≤◌, Bool, false, List, ℤ, pos, ◌+ℤ◌, ◌≤ℤ◌, neg_ℤ, Option, Some, None, IsSome, is_some, nat_eq, if◌then◌else◌}
 use Rattle.std.specs.Ordering.{nat_cmp}
 use Rattle.std.specs.FinMap.{FinMap, get}
-use Rattle.path_merge.specs.StreamSpecFacts.{Stream, IsStream}
-use Rattle.path_merge.specs.StreamSpec.{Fits}
-use Rattle.path_merge.specs.CountsFacts.{Tally}
-use Rattle.path_merge.specs.declared.probation.Probation.{Probation}
-use Rattle.path_merge.specs.declared.anchor.Anchor.{Anchor}
-use Rattle.path_merge.specs.declared.packet.Packet.{Packet}
-use Rattle.path_merge.specs.Window.{IsEmpty}
-use Rattle.path_merge.specs.Anchor.{media_time_of, next_number}
+use Rattle.stream_rules.specs.StreamSpecFacts.{Stream, IsStream}
+use Rattle.stream_rules.specs.StreamSpec.{Fits}
+use Rattle.stream_rules.specs.CountsFacts.{Tally}
+use Rattle.stream_rules.specs.declared.probation.Probation.{Probation}
+use Rattle.stream_rules.specs.declared.anchor.Anchor.{Anchor}
+use Rattle.stream_rules.specs.declared.packet.Packet.{Packet}
+use Rattle.reorder_window.specs.Window.{IsEmpty}
+use Rattle.stream_rules.specs.Anchor.{media_time_of, next_number}
 
 pub record MergeState : Type 0 where
   pub spec : Stream

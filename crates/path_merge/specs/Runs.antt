@@ -1,14 +1,14 @@
 -- A run of a merge over a whole list of events.
 use Rattle.std.specs.Prelude.{◌≡◌, ◌<◌, List, length, ℤ, Some, None}
-use Rattle.path_merge.specs.StreamSpecFacts.{Stream}
-use Rattle.path_merge.specs.StreamSpec.{Fits}
-use Rattle.path_merge.specs.MarkFacts.{MarkView}
-use Rattle.path_merge.specs.declared.event.Event.{Event}
-use Rattle.path_merge.specs.declared.event.Event.TheVariants.{Arrive, Tick, Close}
+use Rattle.stream_rules.specs.StreamSpecFacts.{Stream}
+use Rattle.stream_rules.specs.StreamSpec.{Fits}
+use Rattle.stream_rules.specs.MarkFacts.{MarkView}
+use Rattle.stream_rules.specs.declared.event.Event.{Event}
+use Rattle.stream_rules.specs.declared.event.Event.TheVariants.{Arrive, Tick, Close}
 use Rattle.path_merge.specs.declared.history.RunFault.{RunFault}
 use Rattle.path_merge.specs.declared.history.RunFault.TheVariants.{Clock, Memory}
-use Rattle.path_merge.specs.History.{first_clock_fault}
-use Rattle.path_merge.specs.Marks.{marks_of}
+use Rattle.stream_rules.specs.History.{first_clock_fault}
+use Rattle.stream_rules.specs.Marks.{marks_of}
 use Rattle.path_merge.specs.MergeState.{MergeState}
 use Rattle.path_merge.specs.Merge.{HasHistory}
 use Rattle.path_merge.specs.Steps.{clock_fault_of}

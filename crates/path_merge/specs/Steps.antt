@@ -2,29 +2,29 @@
 use Rattle.std.specs.Prelude.{◌≡◌, ℕ, ◌+◌, ◌-◌, ◌^◌, Bool, true, false, not, ◌&&◌, nat_eq, nat_lt, List, [], ◌∷◌, ◌++◌, length, ℤ, pos, ◌-ℤ◌, ◌≤ℤ◌, ◌<ℤ◌, int_lt, int_le, Option, Some, None, IsSome, is_some, take, drop, ◌≤◌, if◌then◌else◌, option_to_list}
 use Rattle.std.specs.FinMap.{get}
 use Rattle.std.specs.Option.{option_map}
-use Rattle.path_merge.specs.StreamSpecFacts.{Stream}
-use Rattle.path_merge.specs.MarkFacts.{MarkView}
-use Rattle.path_merge.specs.declared.anchor.Anchor.{Anchor}
-use Rattle.path_merge.specs.declared.packet.Packet.{Packet}
-use Rattle.path_merge.specs.declared.fate.Fate.{Fate}
-use Rattle.path_merge.specs.declared.fate.Fate.TheVariants.{WrongSource, OffGrid, Late, Ahead, Restarted}
-use Rattle.path_merge.specs.declared.probation.Probation.{Probation}
-use Rattle.path_merge.specs.declared.event.Event.{Event}
-use Rattle.path_merge.specs.declared.event.Event.TheVariants.{Arrive, Tick}
+use Rattle.stream_rules.specs.StreamSpecFacts.{Stream}
+use Rattle.stream_rules.specs.MarkFacts.{MarkView}
+use Rattle.stream_rules.specs.declared.anchor.Anchor.{Anchor}
+use Rattle.stream_rules.specs.declared.packet.Packet.{Packet}
+use Rattle.stream_rules.specs.declared.fate.Fate.{Fate}
+use Rattle.stream_rules.specs.declared.fate.Fate.TheVariants.{WrongSource, OffGrid, Late, Ahead, Restarted}
+use Rattle.stream_rules.specs.declared.probation.Probation.{Probation}
+use Rattle.stream_rules.specs.declared.event.Event.{Event}
+use Rattle.stream_rules.specs.declared.event.Event.TheVariants.{Arrive, Tick}
 use Rattle.path_merge.specs.declared.clock.ClockFault.{ClockFault}
 use Rattle.path_merge.specs.declared.clock.ClockFault.TheVariants.{WentBack, TooFar, Closed}
-use Rattle.path_merge.specs.History.{time_of, is_closed, is_well_timed, events_until_close}
-use Rattle.path_merge.specs.Anchor.{anchor_from, deadline_of, is_source_wanted, is_restart_in_reach, media_time_of, next_number, restart_from, restart_media_time}
-use Rattle.path_merge.specs.Grid.{extended_number, is_on_grid}
-use Rattle.path_merge.specs.Epochs.{anchor_of, anchors_of, last_of}
-use Rattle.path_merge.specs.Probation.{is_off}
-use Rattle.path_merge.specs.PathProbation.{is_complete, no_probation, probation_at, probation_heard}
-use Rattle.path_merge.specs.Copies.{copies_of, copies_of_all}
-use Rattle.path_merge.specs.Marks.{marks_of, body_of, quiet_mark, is_slot}
-use Rattle.path_merge.specs.Window.{put_answer}
-use Rattle.path_merge.specs.Fate.{fate_of, fate_of_put, first_fate}
-use Rattle.path_merge.specs.CountsFacts.{with_fate, with_body}
-use Rattle.path_merge.specs.Counts.{fates_of, is_taken_fate}
+use Rattle.stream_rules.specs.History.{time_of, is_closed, is_well_timed, events_until_close}
+use Rattle.stream_rules.specs.Anchor.{anchor_from, deadline_of, is_source_wanted, is_restart_in_reach, media_time_of, next_number, restart_from, restart_media_time}
+use Rattle.stream_rules.specs.Grid.{extended_number, is_on_grid}
+use Rattle.stream_rules.specs.Epochs.{anchor_of, anchors_of, last_of}
+use Rattle.stream_rules.specs.Probation.{is_off}
+use Rattle.stream_rules.specs.PathProbation.{is_complete, no_probation, probation_at, probation_heard}
+use Rattle.stream_rules.specs.Copies.{copies_of, copies_of_all}
+use Rattle.stream_rules.specs.Marks.{marks_of, body_of, quiet_mark, is_slot}
+use Rattle.stream_rules.specs.Put.{put_answer}
+use Rattle.stream_rules.specs.Fate.{fate_of, fate_of_put, first_fate}
+use Rattle.stream_rules.specs.CountsFacts.{with_fate, with_body}
+use Rattle.stream_rules.specs.Counts.{fates_of, is_taken_fate}
 use Rattle.path_merge.specs.MergeState.{MergeState, holds_nothing}
 use Rattle.path_merge.specs.Merge.{HasHistory, heard_of}
 

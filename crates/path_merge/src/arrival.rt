@@ -1,20 +1,16 @@
 //! What becomes of an arrival, test by test.
 ghost use Rattle.std.specs.Prelude.{◌≡◌, ◌^◌, ◌≤◌, ℕ, ℤ, pos, ◌≤ℤ◌, neg_ℤ};
-ghost use Rattle.path_merge.specs.PacketRef.{packet_of};
-ghost use Rattle.path_merge.specs.Anchor.{base_media_time, is_restart_in_reach, media_time_of};
-ghost use Rattle.path_merge.specs.Counts.{is_taken_fate};
-ghost use Rattle.path_merge.specs.Fate.{fate_of_put, first_fate};
-ghost use Rattle.path_merge.specs.Probation.{is_off as off_grid};
+ghost use Rattle.stream_rules.specs.PacketRef.{packet_of};
+ghost use Rattle.stream_rules.specs.Anchor.{base_media_time, is_restart_in_reach, media_time_of};
+ghost use Rattle.stream_rules.specs.Counts.{is_taken_fate};
+ghost use Rattle.stream_rules.specs.Fate.{fate_of_put, first_fate};
+ghost use Rattle.stream_rules.specs.Probation.{is_off as off_grid};
 ghost use Rattle.path_merge.specs.Steps.{place_fault_of};
-ghost use Rattle.path_merge.specs.StreamSpecFacts.{Stream};
-ghost use Rattle.path_merge.specs.declared.anchor.Anchor.{Anchor};
-ghost use Rattle.path_merge.specs.declared.packet.Packet.{Packet};
+ghost use Rattle.stream_rules.specs.StreamSpecFacts.{Stream};
+ghost use Rattle.stream_rules.specs.declared.anchor.Anchor.{Anchor};
+ghost use Rattle.stream_rules.specs.declared.packet.Packet.{Packet};
 
-use crate::anchor::{Anchor, is_in_step, is_wanted, number_of};
-use crate::fate::Fate;
-use crate::packet::PacketRef;
-use crate::stream_spec::StreamSpec;
-use crate::window::Put;
+use stream_rules::{Anchor, Fate, PacketRef, Put, StreamSpec, is_in_step, is_wanted, number_of};
 
 /// The fate of a packet that was put.
 pub fn fate_of(put: Put) -> Fate

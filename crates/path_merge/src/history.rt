@@ -1,23 +1,21 @@
 //! A merge over a whole list of events.
 ghost use Rattle.std.specs.Prelude.{◌≡◌, ℕ, ◌+◌, ◌^◌, ◌∷◌, ◌++◌, [], List, ℤ, pos, ◌≤ℤ◌, None, true, OnOk, IfOk, IfErr, All, take};
-ghost use Rattle.path_merge.specs.declared.event.Event.{Event};
-ghost use Rattle.path_merge.specs.declared.event.Event.TheVariants.{Tick};
-ghost use Rattle.path_merge.specs.History as spec;
-ghost use Rattle.path_merge.specs.History.{first_clock_fault, is_well_timed};
-ghost use Rattle.path_merge.specs.Marks.{marks_of};
-ghost use Rattle.path_merge.specs.Marks as slots;
+ghost use Rattle.stream_rules.specs.declared.event.Event.{Event};
+ghost use Rattle.stream_rules.specs.declared.event.Event.TheVariants.{Tick};
+ghost use Rattle.stream_rules.specs.History as spec;
+ghost use Rattle.stream_rules.specs.History.{first_clock_fault, is_well_timed};
+ghost use Rattle.stream_rules.specs.Marks.{marks_of};
+ghost use Rattle.stream_rules.specs.Marks as slots;
 ghost use Rattle.path_merge.specs.Merge.{HasHistory};
 ghost use Rattle.path_merge.specs.Runs.{HasGiven, IsEventOf, IsInOrder, IsRunFault};
 ghost use Rattle.path_merge.specs.Steps.{clock_fault_of};
-ghost use Rattle.path_merge.specs.StreamSpecFacts.{Stream};
+ghost use Rattle.stream_rules.specs.StreamSpecFacts.{Stream};
 
 use crate::clock::clock_fault;
-use crate::event::Event;
-use crate::mark::{Mark, MarkKind};
 use crate::merge::Merge;
-use crate::stream_spec::StreamSpec;
-use crate::window::Window;
+use reorder_window::Window;
 use std::alloc::{AllocError, Global};
+use stream_rules::{Event, Mark, MarkKind, StreamSpec};
 use thiserror::Error;
 
 /// Why a list of events gives no marks.

@@ -1,26 +1,26 @@
 //! What the definitions promise together. Nothing is computed here: the clauses are the laws.
 ghost use Rattle.std.specs.Prelude.{◌≡◌, ℕ, ◌+◌, ◌^◌, ◌<◌, ◌≤◌, ℤ, pos, ◌+ℤ◌, ◌≤ℤ◌, ◌<ℤ◌, List, [], ◌∷◌, ◌++◌, length, take, true, false, Some, IfSome};
 ghost use Rattle.std.specs.Int.{int_rem_euclid};
-ghost use Rattle.path_merge.specs.StreamSpecFacts.{IsStream, Stream, format_of};
-ghost use Rattle.path_merge.specs.MarkFacts.{MarkView};
-ghost use Rattle.path_merge.specs.MarkList.{is_mark_list};
+ghost use Rattle.stream_rules.specs.StreamSpecFacts.{IsStream, Stream, format_of};
+ghost use Rattle.stream_rules.specs.MarkFacts.{MarkView};
+ghost use Rattle.stream_rules.specs.MarkList.{is_mark_list};
 ghost use Rattle.path_merge.specs.MergeState.{MergeState};
-ghost use Rattle.path_merge.specs.declared.anchor.Anchor.{Anchor};
-ghost use Rattle.path_merge.specs.declared.packet.Packet.{Packet};
-ghost use Rattle.path_merge.specs.declared.event.Event.{Event};
-ghost use Rattle.path_merge.specs.declared.event.Event.TheVariants.{Arrive, Tick, Close};
-ghost use Rattle.path_merge.specs.History.{time_of, is_closed, is_well_timed};
-ghost use Rattle.path_merge.specs.Anchor.{deadline_of, next_number};
-ghost use Rattle.path_merge.specs.Grid.{is_on_grid};
-ghost use Rattle.path_merge.specs.Epochs.{anchor_of, last_of};
-ghost use Rattle.path_merge.specs.Copies.{copies_of, first_copy};
-ghost use Rattle.path_merge.specs.Marks.{end_mark, marks_of};
-ghost use Rattle.path_merge.specs.EpochLaws.{HasSpans};
-ghost use Rattle.path_merge.specs.Sent.{BeginsWith, HasEqualCopies, IsOneEpoch, IsWithinReach, SentEvent, marks_by_number, timestamp_in_step, wire_history};
-ghost use Rattle.path_merge.specs.Counts.{counts_of};
+ghost use Rattle.stream_rules.specs.declared.anchor.Anchor.{Anchor};
+ghost use Rattle.stream_rules.specs.declared.packet.Packet.{Packet};
+ghost use Rattle.stream_rules.specs.declared.event.Event.{Event};
+ghost use Rattle.stream_rules.specs.declared.event.Event.TheVariants.{Arrive, Tick, Close};
+ghost use Rattle.stream_rules.specs.History.{time_of, is_closed, is_well_timed};
+ghost use Rattle.stream_rules.specs.Anchor.{deadline_of, next_number};
+ghost use Rattle.stream_rules.specs.Grid.{is_on_grid};
+ghost use Rattle.stream_rules.specs.Epochs.{anchor_of, last_of};
+ghost use Rattle.stream_rules.specs.Copies.{copies_of, first_copy};
+ghost use Rattle.stream_rules.specs.Marks.{end_mark, marks_of};
+ghost use Rattle.stream_rules.specs.EpochLaws.{HasSpans};
+ghost use Rattle.stream_rules.specs.Sent.{BeginsWith, HasEqualCopies, IsOneEpoch, IsWithinReach, SentEvent, marks_by_number, timestamp_in_step, wire_history};
+ghost use Rattle.stream_rules.specs.Counts.{counts_of};
 ghost use Rattle.path_merge.specs.Merge.{HasHistory};
 ghost use Rattle.path_merge.specs.Steps.{IsAlike};
-ghost use Rattle.path_merge.specs.Laws.{AreInOrder, IsDeadlineOnTheWay, IsLeastDue, IsOpen, slot_names, slot_times, slots_left, slots_reached};
+ghost use Rattle.stream_rules.specs.Laws.{AreInOrder, IsDeadlineOnTheWay, IsLeastDue, IsOpen, slot_names, slot_times, slots_left, slots_reached};
 
 /// The slots, by epoch and number, are exactly the spans of the epochs one after the other, rising, each
 /// once: each with the media time of its number under its epoch's anchor, and with the payload of the

@@ -14,28 +14,13 @@
 //! call; `to_mark` keeps it. `advance` is `mark_at` with that copy and then `pass`, `drain` likewise.
 #![tactic(auto)]
 
-mod anchor;
 mod arrival;
 mod clock;
-mod counts;
-mod event;
-mod fate;
 mod history;
 mod laws;
-mod mark;
-mod mark_ref;
 mod merge;
-mod nearest;
-mod packet;
-mod path;
-mod probation;
-mod stream_spec;
-mod window;
 
 pub use clock::{ClockFault, clock_fault};
-pub use counts::Counts;
-pub use event::Event;
-pub use fate::Fate;
 pub use history::{RunFault, run_merge};
 pub use laws::{
     aliases_are_off_grid, arrivals_change_no_mark, each_number_is_handed_on_once,
@@ -43,15 +28,12 @@ pub use laws::{
     next_number_is_the_least_due, nothing_follows_a_close, sent_numbers_are_recovered,
     ticks_may_be_split,
 };
-pub use mark::{Body, Format, Mark, MarkKind};
-pub use mark_ref::{MarkKindRef, MarkRef};
 pub use merge::Merge;
-pub use nearest::{near16, near32};
-pub use packet::{Packet, PacketRef};
-pub use path::Path;
-pub use probation::Probation;
-pub use stream_spec::{AdmitFault, SpecFault, StreamClock, StreamSpec};
-pub use window::{Put, SlotWindow, SortedWindow, Window};
+pub use reorder_window::{SlotWindow, SortedWindow, Window};
+pub use stream_rules::{
+    AdmitFault, Body, Counts, Event, Fate, Format, Mark, MarkKind, MarkKindRef, MarkRef, Packet,
+    PacketRef, Path, Probation, Put, SpecFault, StreamClock, StreamSpec, near16, near32,
+};
 
 #[cfg(test)]
 mod tests;

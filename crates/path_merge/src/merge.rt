@@ -1,19 +1,16 @@
 //! The merge of a stream's paths.
 ghost use Rattle.std.specs.Prelude.{◌≡◌, ℕ, ◌+◌, ◌-◌, ◌^◌, ◌<◌, ◌≤◌, ◌∷◌, ◌++◌, [], List, ℤ, pos, ◌≤ℤ◌, Some, None, IfOk, true, false};
 ghost use Rattle.std.specs.FinMap as map;
-ghost use Rattle.path_merge.specs.declared.event.Event.{Event};
-ghost use Rattle.path_merge.specs.declared.event.Event.TheVariants.{Close};
-ghost use Rattle.path_merge.specs.Counts.{tally_of};
-ghost use Rattle.path_merge.specs.StreamSpecFacts.{Stream};
-ghost use Rattle.path_merge.specs.declared.anchor.Anchor.{Anchor};
+ghost use Rattle.stream_rules.specs.declared.event.Event.{Event};
+ghost use Rattle.stream_rules.specs.declared.event.Event.TheVariants.{Close};
+ghost use Rattle.stream_rules.specs.Counts.{tally_of};
+ghost use Rattle.stream_rules.specs.StreamSpecFacts.{Stream};
+ghost use Rattle.stream_rules.specs.declared.anchor.Anchor.{Anchor};
 
-use crate::anchor::Anchor;
-use crate::counts::Counts;
-use crate::probation::Probation;
-use crate::stream_spec::StreamSpec;
-use crate::window::{SlotWindow, Window};
+use reorder_window::{SlotWindow, Window};
 use std::alloc::{AllocError, Global};
 use std::marker::Model;
+use stream_rules::{Anchor, Counts, Probation, StreamSpec};
 
 mod arriving;
 mod giving;
@@ -41,11 +38,11 @@ pub struct Merge<V: Window> {
 
 impl<V: Window> Model for Merge<V> {
     ghost use Rattle.path_merge.specs.MergeState.{MergeState, IsSound};
-    ghost use Rattle.path_merge.specs.Counts.{tally_of};
+    ghost use Rattle.stream_rules.specs.Counts.{tally_of};
     ghost use Rattle.std.specs.FinMap as map;
     ghost use Rattle.std.specs.Coded.{codes, coded_ℕ};
     ghost use Rattle.std.specs.Ordering.{nat_cmp};
-    ghost use Rattle.path_merge.specs.contracts.packet.Packet as packet;
+    ghost use Rattle.stream_rules.specs.contracts.packet.Packet as packet;
 
     ghost Value = { MergeState };
 
@@ -99,7 +96,7 @@ impl Merge<SlotWindow> {
 impl<V: Window> Merge<V> {
     ghost use Rattle.path_merge.specs.MergeState.{MergeState};
     ghost use Rattle.path_merge.specs.Merge.{HasHistory};
-    ghost use Rattle.path_merge.specs.Window.{IsEmpty};
+    ghost use Rattle.reorder_window.specs.Window.{IsEmpty};
     ghost use Rattle.path_merge.specs.Steps.{next_deadline_of};
 
     /// A merge over an empty window of the stream's size: nothing has happened yet.

@@ -8,12 +8,12 @@ use Rattle.std.specs.List.{range_with_len}
 use Rattle.std.specs.Option.{option_or}
 use Rattle.gain_mix.specs.Changes.{matrix_at}
 use Rattle.gain_mix.specs.Mix.{mixed_frame}
-use Rattle.path_merge.specs.StreamSpecFacts.{Stream, format_of}
-use Rattle.path_merge.specs.MarkFacts.{MarkView}
-use Rattle.path_merge.specs.MarkList.{is_mark_list}
-use Rattle.path_merge.specs.declared.mark.Format.{Format}
-use Rattle.path_merge.specs.declared.mark.MarkKind.{MarkKind}
-use Rattle.path_merge.specs.declared.mark.MarkKind.TheVariants.{Slot, Quiet, End}
+use Rattle.stream_rules.specs.StreamSpecFacts.{Stream, format_of}
+use Rattle.stream_rules.specs.MarkFacts.{MarkView}
+use Rattle.stream_rules.specs.MarkList.{is_mark_list}
+use Rattle.stream_rules.specs.declared.mark.Format.{Format}
+use Rattle.stream_rules.specs.declared.mark.MarkKind.{MarkKind}
+use Rattle.stream_rules.specs.declared.mark.MarkKind.TheVariants.{Slot, Quiet, End}
 use Rattle.lane_align.specs.declared.cover.Cover.{Cover}
 use Rattle.lane_align.specs.declared.cover.Cover.TheVariants.{Nothing, Until, All}
 use Rattle.lane_align.specs.Cover.{slot_of, quiet_of, is_end, last_slot, last_quiet, has_end, time_reached, cover_to, cover_of, covers, end_of}

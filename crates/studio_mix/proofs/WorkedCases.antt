@@ -1,11 +1,11 @@
 -- Worked cases of the definitions, computed.
 use Rattle.std.specs.Prelude.{◌≡◌, ℕ, List, [], ◌∷◌, ◌++◌, replicate, ℤ, pos, None, true, false, refl, flat_map}
 use Rattle.rtp_wire.specs.declared.encoding.Enc.TheVariants.{L24}
-use Rattle.path_merge.specs.StreamSpecFacts.{Stream, format_of}
-use Rattle.path_merge.specs.MarkFacts.{MarkView}
-use Rattle.path_merge.specs.declared.stream_spec.StreamClock.TheVariants.{Media}
-use Rattle.path_merge.specs.declared.mark.Body.TheVariants.{Got, Lost}
-use Rattle.path_merge.specs.declared.mark.MarkKind.TheVariants.{Slot, Quiet, End}
+use Rattle.stream_rules.specs.StreamSpecFacts.{Stream, format_of}
+use Rattle.stream_rules.specs.MarkFacts.{MarkView}
+use Rattle.stream_rules.specs.declared.stream_spec.StreamClock.TheVariants.{Media}
+use Rattle.stream_rules.specs.declared.mark.Body.TheVariants.{Got, Lost}
+use Rattle.stream_rules.specs.declared.mark.MarkKind.TheVariants.{Slot, Quiet, End}
 use Rattle.mix_packets.specs.OutSpec.{Output}
 use Rattle.studio_spec.specs.Ports.{absent_rows}
 use Rattle.studio_spec.specs.Studio.{Studio}

@@ -1,8 +1,8 @@
 -- The marks of each stream, and its values.
 use Rattle.std.specs.Prelude.{◌≡◌, ℕ, true, ℤ, List, [], ◌++◌, length, map, flat_map, slice_get, Some}
-use Rattle.path_merge.specs.StreamSpecFacts.{Stream, format_of}
-use Rattle.path_merge.specs.MarkFacts.{MarkView}
-use Rattle.path_merge.specs.MarkList.{is_mark_list}
+use Rattle.stream_rules.specs.StreamSpecFacts.{Stream, format_of}
+use Rattle.stream_rules.specs.MarkFacts.{MarkView}
+use Rattle.stream_rules.specs.MarkList.{is_mark_list}
 use Rattle.lane_align.specs.Value.{frame_at}
 
 -- a stream, and the marks that it gave

@@ -5,9 +5,9 @@ pub mod Output
 pub mod Lanes
 pub mod Mixer
 pub use Rattle.rtp_wire.specs.Sample
-pub use Rattle.path_merge.specs.StreamSpecFacts
-pub use Rattle.path_merge.specs.MarkFacts
-pub use Rattle.path_merge.specs.MarkList
+pub use Rattle.stream_rules.specs.StreamSpecFacts
+pub use Rattle.stream_rules.specs.MarkFacts
+pub use Rattle.stream_rules.specs.MarkList
 pub use Rattle.lane_align.specs.Value
 pub use Rattle.lane_align.specs.Cover
 pub use Rattle.lane_align.specs.Lane

@@ -4,17 +4,17 @@ use Rattle.std.specs.Option.{option_to_list}
 use Rattle.std.proofs.lemmas.Bool.{false≢true}
 use Rattle.rtrb.specs.Ring.{sent, SameProducer}
 use Rattle.rtrb.specs.declared.producer.Producer.{Producer}
-use Rattle.path_merge.specs.StreamSpecFacts.{Stream}
-use Rattle.path_merge.specs.MarkFacts.{MarkView}
-use Rattle.path_merge.specs.declared.anchor.Anchor.{Anchor}
-use Rattle.path_merge.specs.declared.packet.Packet.{Packet}
-use Rattle.path_merge.specs.declared.event.Event.{Event}
-use Rattle.path_merge.specs.History.{events_until_close, time_of}
-use Rattle.path_merge.specs.Anchor.{next_number}
-use Rattle.path_merge.specs.Grid.{end_of_copies}
-use Rattle.path_merge.specs.Epochs.{anchor_of}
-use Rattle.path_merge.specs.Copies.{copies_of, copies_of_all}
-use Rattle.path_merge.specs.Marks.{end_mark, marks_of, slots_at_close, slots_from}
+use Rattle.stream_rules.specs.StreamSpecFacts.{Stream}
+use Rattle.stream_rules.specs.MarkFacts.{MarkView}
+use Rattle.stream_rules.specs.declared.anchor.Anchor.{Anchor}
+use Rattle.stream_rules.specs.declared.packet.Packet.{Packet}
+use Rattle.stream_rules.specs.declared.event.Event.{Event}
+use Rattle.stream_rules.specs.History.{events_until_close, time_of}
+use Rattle.stream_rules.specs.Anchor.{next_number}
+use Rattle.stream_rules.specs.Grid.{end_of_copies}
+use Rattle.stream_rules.specs.Epochs.{anchor_of}
+use Rattle.stream_rules.specs.Copies.{copies_of, copies_of_all}
+use Rattle.stream_rules.specs.Marks.{end_mark, marks_of, slots_at_close, slots_from}
 use Rattle.path_merge.specs.MergeState.{MergeState}
 use Rattle.path_merge.specs.Merge.{HasHistory, has_end, is_end}
 use Rattle.path_merge.specs.Steps.{Drains}

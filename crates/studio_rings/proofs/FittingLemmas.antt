@@ -1,10 +1,10 @@
 -- Packets that have a stream's length, one more.
 use Rattle.std.proofs.Common.{◌≡◌, ℕ, Bool, true, false, nat_eq, List, [], ◌∷◌, ◌++◌, length, if◌then◌else◌, refl, sym, ap, ◌∙◌, arith}
 use Rattle.std.proofs.lemmas.Bool.Decides.{nat_tests}
-use Rattle.path_merge.specs.StreamSpecFacts.{Stream, format_of}
-use Rattle.path_merge.specs.StreamSpec.{Fits}
-use Rattle.path_merge.specs.MarkFacts.{payload_length}
-use Rattle.path_merge.specs.declared.packet.Packet.{Packet}
+use Rattle.stream_rules.specs.StreamSpecFacts.{Stream, format_of}
+use Rattle.stream_rules.specs.StreamSpec.{Fits}
+use Rattle.stream_rules.specs.MarkFacts.{payload_length}
+use Rattle.stream_rules.specs.declared.packet.Packet.{Packet}
 use Rattle.studio_rings.specs.Fitting.{fitting}
 
 by_fit : (b : Bool) (x : Packet) (l fs gs : List Packet) → l ≡ fs ++ gs → (if b then x ∷ l else l) ≡ (if b then x ∷ fs else fs) ++ gs

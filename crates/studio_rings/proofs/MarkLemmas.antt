@@ -4,9 +4,9 @@ use Rattle.std.specs.Option.{option_to_list}
 use Rattle.std.proofs.lemmas.Int.{ints}
 use Rattle.rtrb.specs.Ring.{sent, SameProducer}
 use Rattle.rtrb.specs.declared.producer.Producer.{Producer}
-use Rattle.path_merge.specs.StreamSpecFacts.{Stream}
-use Rattle.path_merge.specs.MarkFacts.{MarkView}
-use Rattle.path_merge.specs.declared.event.Event.{Event}
+use Rattle.stream_rules.specs.StreamSpecFacts.{Stream}
+use Rattle.stream_rules.specs.MarkFacts.{MarkView}
+use Rattle.stream_rules.specs.declared.event.Event.{Event}
 use Rattle.path_merge.specs.MergeState.{MergeState}
 use Rattle.path_merge.specs.Merge.{HasHistory}
 use Rattle.path_merge.specs.Steps.{Advances, Moves, MovesBy, is_slot_mark}

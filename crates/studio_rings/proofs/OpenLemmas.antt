@@ -3,11 +3,11 @@ use Rattle.std.proofs.Common.{◌≡◌, ℕ, suc, ◌+◌, ◌<◌, List, [], �
 use Rattle.std.proofs.Math.Seq.{take-length}
 use Rattle.std.proofs.lemmas.List.{length-map, take_more}
 use Rattle.rtrb.specs.Ring.{received, sent}
-use Rattle.path_merge.specs.StreamSpecFacts.{IsStream, Stream, format_of}
-use Rattle.path_merge.specs.Marks.{marks_of}
+use Rattle.stream_rules.specs.StreamSpecFacts.{IsStream, Stream, format_of}
+use Rattle.stream_rules.specs.Marks.{marks_of}
 use Rattle.path_merge.specs.Merge.{HasHistory}
-use Rattle.path_merge.specs.MarkFacts.{MarkView}
-use Rattle.path_merge.specs.declared.packet.Packet.{Packet}
+use Rattle.stream_rules.specs.MarkFacts.{MarkView}
+use Rattle.stream_rules.specs.declared.packet.Packet.{Packet}
 use Rattle.lane_align.specs.Accepted.{accepted_marks}
 use Rattle.studio_spec.specs.Studio.{Studio}
 use Rattle.studio_mix.specs.Feed.{Feed, unfed}

@@ -1,10 +1,10 @@
 -- Tokens that were handed in change nothing of what came.
 use Rattle.std.proofs.Common.{◌≡◌, ℕ, zero, suc, ◌<◌, List, [], ◌∷◌, length, get_or, set, ℤ, refl, sym, ap, subst, ◌∙◌, arith}
 use Rattle.rtrb.specs.Ring.{received}
-use Rattle.path_merge.specs.StreamSpecFacts.{Stream, format_of}
-use Rattle.path_merge.specs.MarkFacts.{MarkView}
-use Rattle.path_merge.specs.declared.packet.Packet.{Packet}
-use Rattle.path_merge.specs.declared.event.Event.{Event}
+use Rattle.stream_rules.specs.StreamSpecFacts.{Stream, format_of}
+use Rattle.stream_rules.specs.MarkFacts.{MarkView}
+use Rattle.stream_rules.specs.declared.packet.Packet.{Packet}
+use Rattle.stream_rules.specs.declared.event.Event.{Event}
 use Rattle.lane_align.specs.Accepted.{accepted_marks}
 use Rattle.studio_mix.specs.Feed.{Feed}
 use Rattle.studio_rings.specs.Fitting.{fitting}

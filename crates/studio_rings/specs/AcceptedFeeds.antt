@@ -1,7 +1,7 @@
 -- What each stream's ring delivered of marks that are accepted.
 use Rattle.std.specs.Prelude.{ℕ, List, [], ◌∷◌, length, sum_by}
-use Rattle.path_merge.specs.StreamSpecFacts.{Stream, format_of}
-use Rattle.path_merge.specs.MarkFacts.{MarkView}
+use Rattle.stream_rules.specs.StreamSpecFacts.{Stream, format_of}
+use Rattle.stream_rules.specs.MarkFacts.{MarkView}
 use Rattle.rtrb.specs.Ring.{received}
 use Rattle.lane_align.specs.Accepted.{accepted_marks}
 use Rattle.studio_mix.specs.Feed.{Feed}

@@ -1,8 +1,8 @@
 -- Which packets have a stream's length.
 use Rattle.std.specs.Prelude.{nat_eq, List, [], ◌∷◌, length, if◌then◌else◌}
-use Rattle.path_merge.specs.StreamSpecFacts.{Stream, format_of}
-use Rattle.path_merge.specs.MarkFacts.{payload_length}
-use Rattle.path_merge.specs.declared.packet.Packet.{Packet}
+use Rattle.stream_rules.specs.StreamSpecFacts.{Stream, format_of}
+use Rattle.stream_rules.specs.MarkFacts.{payload_length}
+use Rattle.stream_rules.specs.declared.packet.Packet.{Packet}
 
 -- those packets that have the stream's length
 abbrev pub fitting : Stream → List Packet → List Packet

@@ -13,11 +13,11 @@ pub mod Tokens
 pub mod Opened
 pub mod Opening
 pub use Rattle.rtp_wire.specs.Datagram
-pub use Rattle.path_merge.specs.StreamSpecFacts
-pub use Rattle.path_merge.specs.StreamSpec
-pub use Rattle.path_merge.specs.MarkFacts
+pub use Rattle.stream_rules.specs.StreamSpecFacts
+pub use Rattle.stream_rules.specs.StreamSpec
+pub use Rattle.stream_rules.specs.MarkFacts
 pub use Rattle.path_merge.specs.Merge
-pub use Rattle.path_merge.specs.Marks
+pub use Rattle.stream_rules.specs.Marks
 pub use Rattle.path_merge.specs.Steps
 pub use Rattle.lane_align.specs.Accepted
 pub use Rattle.lane_align.specs.Cover

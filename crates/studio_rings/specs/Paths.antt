@@ -1,7 +1,7 @@
 -- What a path's end does with a datagram.
 use Rattle.std.specs.Prelude.{◌≡◌, ℕ, ◌+◌, ◌<◌, ◌^◌, List, [], ◌∷◌, ◌++◌}
 use Rattle.rtrb.specs.Ring.{sent, known_free}
-use Rattle.path_merge.specs.declared.packet.Packet.{Packet}
+use Rattle.stream_rules.specs.declared.packet.Packet.{Packet}
 use Rattle.studio_rings.specs.Reception.{reception_of}
 use Rattle.studio_rings.specs.declared.reception.Reception.TheVariants.{Sent as Received, Bad as BadWire, WrongType as OtherType, WrongLength as OtherLength}
 use Rattle.studio_rings.specs.declared.counts.PathCounts.{PathCounts}

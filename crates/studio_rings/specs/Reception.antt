@@ -2,11 +2,11 @@
 use Rattle.std.specs.Prelude.{ℕ, List, length, Option, Some, None}
 use Rattle.rtp_wire.specs.Datagram.{wire_fault_of, head_at, payload_at}
 use Rattle.rtp_wire.specs.declared.fault.WireFault.{WireFault}
-use Rattle.path_merge.specs.StreamSpecFacts.{Stream}
-use Rattle.path_merge.specs.StreamSpec.{admit_fault_of}
-use Rattle.path_merge.specs.declared.stream_spec.AdmitFault.{AdmitFault}
-use Rattle.path_merge.specs.declared.stream_spec.AdmitFault.TheVariants.{WrongType as TypeFault, WrongLength as LengthFault}
-use Rattle.path_merge.specs.declared.packet.Packet.{Packet}
+use Rattle.stream_rules.specs.StreamSpecFacts.{Stream}
+use Rattle.stream_rules.specs.StreamSpec.{admit_fault_of}
+use Rattle.stream_rules.specs.declared.stream_spec.AdmitFault.{AdmitFault}
+use Rattle.stream_rules.specs.declared.stream_spec.AdmitFault.TheVariants.{WrongType as TypeFault, WrongLength as LengthFault}
+use Rattle.stream_rules.specs.declared.packet.Packet.{Packet}
 use Rattle.studio_rings.specs.declared.reception.Reception.{Reception}
 use Rattle.studio_rings.specs.declared.reception.Reception.TheVariants.{Sent, Bad, WrongType, WrongLength}
 

@@ -2,7 +2,7 @@
 ghost use Rattle.std.specs.Prelude.{◌≡◌, ◌↔◌, ◌<◌, ◌≤◌, ◌+◌, ℕ, length, IsTrue, None, slice_get, Some, vec_len};
 ghost use Rattle.mix_packets.specs.OutSpec.{datagram_length};
 ghost use Rattle.rtrb.specs.Ring.{all_sent, IsFinishedOf};
-ghost use Rattle.path_merge.specs.MarkFacts.{MarkView};
+ghost use Rattle.stream_rules.specs.MarkFacts.{MarkView};
 ghost use Rattle.studio_spec.specs.Studio.{Studio};
 ghost use Rattle.studio_rings.specs.declared.side.Side.{Side};
 ghost use Rattle.studio_rings.specs.AcceptedFeeds.{received_total};

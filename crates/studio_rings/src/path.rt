@@ -1,7 +1,7 @@
 //! The end of a path.
 ghost use Rattle.std.specs.Prelude.{◌≡◌, ◌<◌, ◌^◌, IfSome};
 ghost use Rattle.rtrb.specs.Ring.{sent, known_free, Finishes, SameProducer};
-ghost use Rattle.path_merge.specs.declared.packet.Packet.{Packet};
+ghost use Rattle.stream_rules.specs.declared.packet.Packet.{Packet};
 ghost use Rattle.studio_rings.specs.Reception.{reception_of};
 ghost use Rattle.studio_rings.specs.declared.reception.Reception.TheVariants.{Sent as Received};
 ghost use Rattle.studio_rings.specs.Paths.{Offers};

@@ -1,6 +1,6 @@
 //! What a stream makes of a datagram.
 ghost use Rattle.std.specs.Prelude.{◌≡◌, IfSome};
-ghost use Rattle.path_merge.specs.StreamSpec.{Fits};
+ghost use Rattle.stream_rules.specs.StreamSpec.{Fits};
 ghost use Rattle.studio_rings.specs.Reception.{packet_in, reception_of};
 
 use path_merge::{AdmitFault, Packet, StreamSpec};

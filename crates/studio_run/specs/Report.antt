@@ -2,7 +2,7 @@
 use Rattle.std.specs.Prelude.{ℕ, suc, ◌+◌, ◌++◌, ◌∷◌, [], List, codes, take}
 use Rattle.std.specs.Fmt.{decimal}
 use Rattle.hex.specs.Hex.{encode_lower}
-use Rattle.path_merge.specs.CountsFacts.{Tally}
+use Rattle.stream_rules.specs.CountsFacts.{Tally}
 use Rattle.studio_run.specs.declared.path_counts.PathCounts.{PathCounts}
 
 -- the line of a datagram

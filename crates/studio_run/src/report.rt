@@ -1,6 +1,6 @@
 //! The lines of a run's report.
 ghost use Rattle.std.specs.Prelude.{◌≡◌, ◌+◌, ◌≤◌, ◌<◌, ◌++◌, length, take, OnOk, OnErr};
-ghost use Rattle.path_merge.specs.Counts.{tally_of};
+ghost use Rattle.stream_rules.specs.Counts.{tally_of};
 ghost use Rattle.studio_run.specs.Buffer.{PassesOn, BreaksOff};
 ghost use Rattle.studio_run.specs.Report.{datagram_line, path_letter, count_text, path_line, taken_text, refused_text, slots_text, merge_line};
 

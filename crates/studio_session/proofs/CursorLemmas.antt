@@ -4,10 +4,10 @@ use Rattle.std.specs.Option.{option_to_list}
 use Rattle.std.proofs.lemmas.Grind.{flat_map-append}
 use Rattle.std.proofs.lemmas.List.{take_more, take_all, append-nil}
 use Rattle.std.proofs.lemmas.Option.{slice_get_within, get_or_from_slice_get}
-use Rattle.path_merge.specs.StreamSpecFacts.{Stream}
-use Rattle.path_merge.specs.declared.event.Event.{Event}
-use Rattle.path_merge.specs.Marks.{marks_of}
-use Rattle.path_merge.specs.MarkFacts.{MarkView}
+use Rattle.stream_rules.specs.StreamSpecFacts.{Stream}
+use Rattle.stream_rules.specs.declared.event.Event.{Event}
+use Rattle.stream_rules.specs.Marks.{marks_of}
+use Rattle.stream_rules.specs.MarkFacts.{MarkView}
 use Rattle.path_merge.proofs.LawLemmas.{marks_stay}
 use Rattle.path_merge.proofs.JoinLemmas.{alike-refl}
 use Rattle.lane_align.proofs.MarkListLemmas.{both_left}
@@ -15,7 +15,7 @@ use Rattle.path_merge.specs.Steps.{Drains}
 use Rattle.std.proofs.lemmas.Bool.{false≢true}
 use Rattle.studio_session.proofs.WayLemmas.{in_time, next_in_whole}
 use Rattle.path_merge.proofs.HistoryLemmas.{is_well_timed_from-append}
-use Rattle.path_merge.specs.declared.event.Event.TheVariants.{Tick}
+use Rattle.stream_rules.specs.declared.event.Event.TheVariants.{Tick}
 use Rattle.path_merge.specs.MergeState.{MergeState}
 use Rattle.path_merge.specs.Merge.{HasHistory}
 use Rattle.studio_session.specs.Way.{IsOnWay, WentOn, on_way_after}
@@ -24,11 +24,11 @@ use Rattle.studio_session.specs.Cursor.{IsRunnable}
 use Rattle.std.proofs.lemmas.Bool.Decides.{nat_tests}
 use Rattle.rtp_wire.specs.Datagram.{wire_fault_of, head_at, payload_at}
 use Rattle.rtp_wire.specs.declared.fault.WireFault.{WireFault}
-use Rattle.path_merge.specs.StreamSpecFacts.{format_of}
-use Rattle.path_merge.specs.MarkFacts.{payload_length}
-use Rattle.path_merge.specs.StreamSpec.{admit_fault_of}
-use Rattle.path_merge.specs.History.{is_well_timed}
-use Rattle.path_merge.specs.declared.stream_spec.AdmitFault.TheVariants.{WrongType as TypeFault, WrongLength as LengthFault}
+use Rattle.stream_rules.specs.StreamSpecFacts.{format_of}
+use Rattle.stream_rules.specs.MarkFacts.{payload_length}
+use Rattle.stream_rules.specs.StreamSpec.{admit_fault_of}
+use Rattle.stream_rules.specs.History.{is_well_timed}
+use Rattle.stream_rules.specs.declared.stream_spec.AdmitFault.TheVariants.{WrongType as TypeFault, WrongLength as LengthFault}
 use Rattle.studio_session.specs.declared.source.Step.{Step}
 use Rattle.studio_session.specs.declared.source.Step.TheVariants.{Other, Datagram, Clock, End}
 use Rattle.studio_session.specs.Event.{TraceEvent, Arrival, Reading, Closing}

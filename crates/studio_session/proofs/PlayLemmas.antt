@@ -3,9 +3,9 @@ use Rattle.std.proofs.Common.{◌≡◌, inl, inr, ◌<◌, ◌≤◌, ◌+◌, 
 use Rattle.std.specs.Option.{option_map}
 use Rattle.std.proofs.lemmas.List.{length_push, take_all}
 use Rattle.std.proofs.lemmas.Option.{slice_get-map}
-use Rattle.path_merge.specs.StreamSpecFacts.{format_of}
-use Rattle.path_merge.specs.MarkFacts.{MarkView}
-use Rattle.path_merge.specs.MarkList.{is_mark_list}
+use Rattle.stream_rules.specs.StreamSpecFacts.{format_of}
+use Rattle.stream_rules.specs.MarkFacts.{MarkView}
+use Rattle.stream_rules.specs.MarkList.{is_mark_list}
 use Rattle.path_merge.proofs.MarkListLemmas.{parts_listed}
 use Rattle.std.proofs.Common.{Bool, false, not}
 use Rattle.std.proofs.lemmas.Bool.{false≢true}

@@ -1,13 +1,13 @@
 -- How far one stream of a run has come.
 use Rattle.std.specs.Prelude.{◌≡◌, ℕ, ◌+◌, ◌-◌, ◌-ℤ◌, ◌<◌, ◌≤◌, true, List, [], ◌∷◌, length, take, drop, ℤ, Option, Some, None, slice_get}
 use Rattle.std.specs.Option.{option_to_list}
-use Rattle.path_merge.specs.StreamSpecFacts.{Stream}
-use Rattle.path_merge.specs.MarkFacts.{MarkView}
+use Rattle.stream_rules.specs.StreamSpecFacts.{Stream}
+use Rattle.stream_rules.specs.MarkFacts.{MarkView}
 use Rattle.path_merge.specs.MergeState.{MergeState}
-use Rattle.path_merge.specs.Marks.{marks_of}
-use Rattle.path_merge.specs.History.{is_well_timed}
+use Rattle.stream_rules.specs.Marks.{marks_of}
+use Rattle.stream_rules.specs.History.{is_well_timed}
 use Rattle.studio_session.specs.Event.{TraceEvent, Arrival}
-use Rattle.path_merge.specs.StreamSpec.{Fits}
+use Rattle.stream_rules.specs.StreamSpec.{Fits}
 use Rattle.studio_session.specs.declared.reception.Reception.{Reception}
 use Rattle.studio_session.specs.declared.reception.Reception.TheVariants.{Sent, Bad, WrongType, WrongLength}
 use Rattle.studio_session.specs.declared.source.Step.{Step}

@@ -8,13 +8,13 @@ pub mod Play
 pub mod Run
 pub mod Report
 pub use Rattle.rtp_wire.specs.Datagram
-pub use Rattle.path_merge.specs.StreamSpecFacts
-pub use Rattle.path_merge.specs.StreamSpec
-pub use Rattle.path_merge.specs.Counts as MergeCounts
-pub use Rattle.path_merge.specs.CountsFacts
-pub use Rattle.path_merge.specs.MarkFacts
-pub use Rattle.path_merge.specs.History
-pub use Rattle.path_merge.specs.Marks
+pub use Rattle.stream_rules.specs.StreamSpecFacts
+pub use Rattle.stream_rules.specs.StreamSpec
+pub use Rattle.stream_rules.specs.Counts as MergeCounts
+pub use Rattle.stream_rules.specs.CountsFacts
+pub use Rattle.stream_rules.specs.MarkFacts
+pub use Rattle.stream_rules.specs.History
+pub use Rattle.stream_rules.specs.Marks
 pub use Rattle.path_merge.specs.Merge
 pub use Rattle.path_merge.specs.MergeState
 pub use Rattle.path_merge.specs.Steps

@@ -1,8 +1,8 @@
 -- What a run comes to.
 use Rattle.std.specs.Prelude.{◌≡◌, ℕ, List, [], length, take, drop, map, slice_get, ℤ, Some}
-use Rattle.path_merge.specs.StreamSpecFacts.{Stream}
-use Rattle.path_merge.specs.CountsFacts.{Tally}
-use Rattle.path_merge.specs.Counts.{counts_of, tally_of}
+use Rattle.stream_rules.specs.StreamSpecFacts.{Stream}
+use Rattle.stream_rules.specs.CountsFacts.{Tally}
+use Rattle.stream_rules.specs.Counts.{counts_of, tally_of}
 use Rattle.studio_spec.specs.Studio.{Studio}
 use Rattle.studio_session.specs.declared.report.StreamCounts.{StreamCounts}
 use Rattle.studio_session.specs.Event.{TraceEvent}

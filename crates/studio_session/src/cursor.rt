@@ -1,11 +1,11 @@
 //! One stream of a run: its merge, and how far it has come in the events.
 ghost use Rattle.std.specs.Prelude.{◌≡◌, ℕ, ◌+◌, ◌<◌, ◌≤◌, ◌^◌, ◌++◌, List, [], ℤ, pos, ◌≤ℤ◌, length, take, drop, slice_get, true, false, None, Some, IfOk, IfSome};
 ghost use Rattle.std.specs.Option.{option_to_list};
-ghost use Rattle.path_merge.specs.StreamSpecFacts.{Stream};
-ghost use Rattle.path_merge.specs.declared.event.Event.{Event};
-ghost use Rattle.path_merge.specs.Marks.{marks_of};
-ghost use Rattle.path_merge.specs.Counts.{tally_of};
-ghost use Rattle.path_merge.specs.Marks as slots;
+ghost use Rattle.stream_rules.specs.StreamSpecFacts.{Stream};
+ghost use Rattle.stream_rules.specs.declared.event.Event.{Event};
+ghost use Rattle.stream_rules.specs.Marks.{marks_of};
+ghost use Rattle.stream_rules.specs.Counts.{tally_of};
+ghost use Rattle.stream_rules.specs.Marks as slots;
 ghost use Rattle.path_merge.specs.Merge.{HasHistory};
 ghost use Rattle.path_merge.specs.Steps.{marks_left, Moves};
 ghost use Rattle.studio_session.specs.declared.source.Step.TheVariants.{Datagram};
@@ -36,7 +36,7 @@ impl Model for Cursor {
     ghost use Rattle.std.specs.FinMap as map;
     ghost use Rattle.std.specs.Coded.{codes, coded_ℕ};
     ghost use Rattle.std.specs.Ordering.{nat_cmp};
-    ghost use Rattle.path_merge.specs.contracts.packet.Packet as packet;
+    ghost use Rattle.stream_rules.specs.contracts.packet.Packet as packet;
 
     ghost Value = { CursorState };
 

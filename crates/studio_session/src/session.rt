@@ -35,7 +35,7 @@ impl Model for Session {
     ghost use Rattle.std.specs.FinMap as map;
     ghost use Rattle.std.specs.Coded.{codes, coded_ℕ};
     ghost use Rattle.std.specs.Ordering.{nat_cmp};
-    ghost use Rattle.path_merge.specs.contracts.packet.Packet as packet;
+    ghost use Rattle.stream_rules.specs.contracts.packet.Packet as packet;
 
     ghost Value = { SessionState };
 

@@ -1,6 +1,6 @@
 //! The counts of a run: of each path, and of each merge.
 ghost use Rattle.std.specs.Prelude.{◌≡◌, ◌<◌, ℕ, ℤ, map, All, IfOk};
-ghost use Rattle.path_merge.specs.StreamSpecFacts.{Stream};
+ghost use Rattle.stream_rules.specs.StreamSpecFacts.{Stream};
 ghost use Rattle.studio_spec.specs.Studio.{Studio};
 ghost use Rattle.studio_session.specs.Counts.{path_counts_of, path_tallies, path_tally_of, with_step};
 ghost use Rattle.studio_session.specs.Cursor.{IsReadyFor, IsRunnable};

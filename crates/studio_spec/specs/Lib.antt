@@ -6,7 +6,7 @@ pub mod Rows
 pub mod StreamTable
 pub mod OutputTable
 pub mod Config
-pub use Rattle.path_merge.specs.StreamSpecFacts
+pub use Rattle.stream_rules.specs.StreamSpecFacts
 pub use Rattle.gain_mix.specs.Gain
 pub use Rattle.gain_mix.specs.Changes
 pub use Rattle.mix_packets.specs.OutSpec

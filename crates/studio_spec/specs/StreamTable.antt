@@ -1,8 +1,8 @@
 -- The table of a stream: its rows, what they say, and the first fault.
 use Rattle.std.specs.Prelude.{ℕ, List, [], ◌∷◌, ◌++◌, Option, option_map, if◌then◌else◌}
-use Rattle.path_merge.specs.StreamSpecFacts.{Stream, spec_fault_of}
-use Rattle.path_merge.specs.declared.stream_spec.StreamClock.{StreamClock}
-use Rattle.path_merge.specs.declared.stream_spec.StreamClock.TheVariants.{Media, Arrival}
+use Rattle.stream_rules.specs.StreamSpecFacts.{Stream, spec_fault_of}
+use Rattle.stream_rules.specs.declared.stream_spec.StreamClock.{StreamClock}
+use Rattle.stream_rules.specs.declared.stream_spec.StreamClock.TheVariants.{Media, Arrival}
 use Rattle.toml.specs.Data.{Members}
 use Rattle.studio_spec.specs.Values.{number_at, number_or, text_at, encoding_at, is_media}
 use Rattle.studio_spec.specs.Rows.{Row, required, optional, whole, one_of, encodings, clocks, first_of, at_table, table_fault}

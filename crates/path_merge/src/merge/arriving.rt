@@ -1,32 +1,31 @@
 //! Arrivals at a merge.
 ghost use Rattle.std.specs.Prelude.{◌≡◌, ℕ, ◌+◌, ◌^◌, ◌<◌, ◌∷◌, ◌++◌, [], List, ℤ, Some, None, true, false};
-ghost use Rattle.path_merge.specs.declared.anchor.Anchor.{Anchor};
-ghost use Rattle.path_merge.specs.declared.event.Event.{Event};
-ghost use Rattle.path_merge.specs.declared.fate.Fate.TheVariants.{Restarted};
-ghost use Rattle.path_merge.specs.declared.packet.Packet.{Packet};
-ghost use Rattle.path_merge.specs.Anchor.{is_restart_in_reach, media_time_of, restart_media_time};
-ghost use Rattle.path_merge.specs.PacketRef.{packet_of};
-ghost use Rattle.path_merge.specs.Counts.{is_counted_fate, is_taken_fate};
-ghost use Rattle.path_merge.specs.Probation.{is_off as off_grid};
-ghost use Rattle.path_merge.specs.StreamSpecFacts.{Stream};
+ghost use Rattle.stream_rules.specs.declared.anchor.Anchor.{Anchor};
+ghost use Rattle.stream_rules.specs.declared.event.Event.{Event};
+ghost use Rattle.stream_rules.specs.declared.fate.Fate.TheVariants.{Restarted};
+ghost use Rattle.stream_rules.specs.declared.packet.Packet.{Packet};
+ghost use Rattle.stream_rules.specs.Anchor.{is_restart_in_reach, media_time_of, restart_media_time};
+ghost use Rattle.stream_rules.specs.PacketRef.{packet_of};
+ghost use Rattle.stream_rules.specs.Counts.{is_counted_fate, is_taken_fate};
+ghost use Rattle.stream_rules.specs.Probation.{is_off as off_grid};
+ghost use Rattle.stream_rules.specs.StreamSpecFacts.{Stream};
 
 use super::Merge;
-use crate::anchor::{Anchor, media_of_first, media_of_restart, number_of};
 use crate::arrival::{fate_of, fate_of_first, goes_on, is_off, is_taken, place_fault};
-use crate::fate::Fate;
-use crate::packet::{Packet, PacketRef};
-use crate::path::Path;
-use crate::probation::{Probation, hear_on};
-use crate::window::Window;
+use reorder_window::Window;
+use stream_rules::{
+    Anchor, Fate, Packet, PacketRef, Path, Probation, hear_on, media_of_first, media_of_restart,
+    number_of,
+};
 
 /// So many arrivals are counted: 2^62.
 const MOST_ARRIVALS: u64 = 4_611_686_018_427_387_904;
 
 impl<V: Window> Merge<V> {
-    ghost use Rattle.path_merge.specs.StreamSpec.{Fits};
+    ghost use Rattle.stream_rules.specs.StreamSpec.{Fits};
     ghost use Rattle.path_merge.specs.MergeState.{MergeState};
     ghost use Rattle.path_merge.specs.Merge.{HasHistory};
-    ghost use Rattle.path_merge.specs.Window.{IsEmpty};
+    ghost use Rattle.reorder_window.specs.Window.{IsEmpty};
     ghost use Rattle.path_merge.specs.Steps.{IsFirstStep, IsHeardStep, IsNextStep, IsPutStep, IsRefusal, IsRestartStep, Offers, epoch_media, opening_of, opens_epoch, place_fault_of};
 
     /// Takes a packet of the stream's length that came in on one of its paths.

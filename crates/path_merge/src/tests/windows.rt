@@ -1,6 +1,6 @@
 //! The rules of a reorder window, each tried at every window.
 ghost use Rattle.std.specs.Prelude.{◌≡◌};
-ghost use Rattle.path_merge.specs.Window.{IsEmpty};
+ghost use Rattle.reorder_window.specs.Window.{IsEmpty};
 
 use super::*;
 use std::test::Fail;

@@ -1,7 +1,7 @@
 use Rattle.std.proofs.Common.{◌≡◌, List, [], ◌∷◌, ◌++◌, ℤ, ◌-ℤ◌, None, unsigned_abs}
-use Rattle.path_merge.specs.StreamSpecFacts.{Stream}
-use Rattle.path_merge.specs.declared.event.Event.{Event}
-use Rattle.path_merge.specs.declared.event.Event.TheVariants.{Tick}
+use Rattle.stream_rules.specs.StreamSpecFacts.{Stream}
+use Rattle.stream_rules.specs.declared.event.Event.{Event}
+use Rattle.stream_rules.specs.declared.event.Event.TheVariants.{Tick}
 use Rattle.path_merge.specs.Runs.{HasGiven}
 use Rattle.path_merge.specs.Steps.{IsAlike, clock_fault_of}
 use Rattle.path_merge.proofs.history.advance_to.Given as goal

@@ -1,7 +1,7 @@
 use Rattle.std.proofs.Common.{◌≡◌, ℕ, List, ℤ, take}
-use Rattle.path_merge.specs.StreamSpecFacts.{Stream}
-use Rattle.path_merge.specs.declared.event.Event.{Event}
-use Rattle.path_merge.specs.Marks.{marks_of}
+use Rattle.stream_rules.specs.StreamSpecFacts.{Stream}
+use Rattle.stream_rules.specs.declared.event.Event.{Event}
+use Rattle.stream_rules.specs.Marks.{marks_of}
 use Rattle.path_merge.specs.Merge.{HasHistory}
 use Rattle.path_merge.specs.Steps.{marks_left}
 use Rattle.path_merge.proofs.history.drain_to.Given as goal

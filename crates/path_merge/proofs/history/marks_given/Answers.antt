@@ -1,6 +1,6 @@
 use Rattle.std.proofs.Common.{◌≡◌, length, arith, ap, ◌∙◌, w64}
 use Rattle.std.proofs.lemmas.Int.{to_z-of_z}
-use Rattle.path_merge.specs.Marks.{marks_of}
+use Rattle.stream_rules.specs.Marks.{marks_of}
 use Rattle.path_merge.proofs.StepLemmas.{take_all}
 use Rattle.path_merge.proofs.RunLemmas.{next_in_order, given_more, given_at_start, of_stream_at}
 use Rattle.path_merge.proofs.history.marks_given.Goals as goal

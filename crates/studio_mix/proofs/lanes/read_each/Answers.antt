@@ -1,6 +1,6 @@
 use Rattle.std.proofs.Common.{◌≡◌, ◌<◌, ◌≤◌, ◌*◌, pos, ◌+ℤ◌, length, take, drop, get_or, sym, ap, ◌∙◌, arith}
 use Rattle.std.proofs.lemmas.List.Sums.{sum_by_more_le}
-use Rattle.path_merge.specs.declared.mark.Format.{Format}
+use Rattle.stream_rules.specs.declared.mark.Format.{Format}
 use Rattle.lane_align.specs.Lane.{LaneState}
 use Rattle.studio_mix.proofs.BlockLemmas.{read_start, read_more, were_read}
 use Rattle.studio_mix.proofs.lanes.read_each.Goals as goal

@@ -1,5 +1,5 @@
 use Rattle.std.proofs.Common.{◌≡◌, ℕ, ◌<◌, Some, slice_get}
-use Rattle.path_merge.specs.StreamSpecFacts.{IsStream, Stream}
+use Rattle.stream_rules.specs.StreamSpecFacts.{IsStream, Stream}
 use Rattle.studio_session.proofs.fault.are_streams.Given as goal
 
 -- the first ones are

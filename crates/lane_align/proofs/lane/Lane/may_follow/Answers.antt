@@ -1,7 +1,7 @@
 use Rattle.std.proofs.Common.{◌≡◌, ◌∙◌, ap, sym, arith, to_z, of_z, w64}
 use Rattle.std.proofs.lemmas.Int.{ints}
-use Rattle.path_merge.specs.MarkList.{can_follow}
-use Rattle.path_merge.specs.declared.mark.MarkKind.TheVariants.{Slot}
+use Rattle.stream_rules.specs.MarkList.{can_follow}
+use Rattle.stream_rules.specs.declared.mark.MarkKind.TheVariants.{Slot}
 use Rattle.lane_align.specs.Lane.{last_kind}
 use Rattle.lane_align.proofs.lane.Lane.may_follow.Goals as goal
 

@@ -1,6 +1,6 @@
 use Rattle.std.proofs.Common.{◌≡◌, ◌≤◌, ◌<◌, ◌+◌, ◌-◌, ◌*◌, ◌^◌, pos, ◌+ℤ◌, Some, true, length, ap, sym, subst, ◌∙◌, refl, arith, to_z, of_z, w64}
 use Rattle.std.proofs.lemmas.Int.{ints}
-use Rattle.path_merge.specs.MarkFacts.{HasLength, payload_length}
+use Rattle.stream_rules.specs.MarkFacts.{HasLength, payload_length}
 use Rattle.lane_align.specs.Held.{Held}
 use Rattle.lane_align.specs.Lane.{LaneState, IsAfter, is_wanting, frames_between, frames_left, with_slot}
 use Rattle.lane_align.proofs.LaneLemmas.{lane_of}

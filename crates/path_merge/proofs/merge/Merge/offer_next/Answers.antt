@@ -1,11 +1,11 @@
 use Rattle.std.proofs.Common.{◌≡◌, FitsSigned, to_z, of_z, w64, rules, arith, ap, sym, subst, true, ◌∙◌}
 use Rattle.std.proofs.lemmas.Int.{ints, to_z-of_z}
-use Rattle.path_merge.specs.PacketRef.{packet_of}
-use Rattle.path_merge.specs.Anchor.{is_restart_in_reach, media_time_of, restart_media_time}
+use Rattle.stream_rules.specs.PacketRef.{packet_of}
+use Rattle.stream_rules.specs.Anchor.{is_restart_in_reach, media_time_of, restart_media_time}
 use Rattle.path_merge.specs.MergeState.{IsSound, MergeState}
 use Rattle.path_merge.specs.Steps.{IsRestartStep, place_fault_of}
-use Rattle.path_merge.specs.Window.{IsEmpty}
-use Rattle.path_merge.specs.declared.fate.Fate.TheVariants.{Restarted}
+use Rattle.reorder_window.specs.Window.{IsEmpty}
+use Rattle.stream_rules.specs.declared.fate.Fate.TheVariants.{Restarted}
 use Rattle.path_merge.proofs.EmptyLemmas.{Opens, nothing_held, opening_is}
 use Rattle.path_merge.proofs.RestartLemmas.{restart_heard}
 use Rattle.path_merge.proofs.SoundLemmas.{due_times}

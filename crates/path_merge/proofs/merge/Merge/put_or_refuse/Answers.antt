@@ -1,11 +1,11 @@
 use Rattle.std.proofs.Common.{◌≡◌, ◌^◌, ◌<◌, Some, None, arith, ap, sym, subst, ◌∙◌}
-use Rattle.path_merge.specs.PacketRef.{packet_of}
+use Rattle.stream_rules.specs.PacketRef.{packet_of}
 use Rattle.path_merge.specs.MergeState.{MergeState}
-use Rattle.path_merge.specs.StreamSpec.{Fits}
+use Rattle.stream_rules.specs.StreamSpec.{Fits}
 use Rattle.path_merge.specs.Steps.{place_fault_of}
-use Rattle.path_merge.specs.Grid.{extended_number}
-use Rattle.path_merge.specs.CountsFacts.{with_fate}
-use Rattle.path_merge.specs.Counts.{tally_of}
+use Rattle.stream_rules.specs.Grid.{extended_number}
+use Rattle.stream_rules.specs.CountsFacts.{with_fate}
+use Rattle.stream_rules.specs.Counts.{tally_of}
 use Rattle.path_merge.proofs.SoundLemmas.{base_small}
 use Rattle.path_merge.proofs.FateLemmas.{in_window, fault_untaken}
 use Rattle.path_merge.proofs.PutLemmas.{put_step_fault, put_step_put, sound_put}

@@ -1,5 +1,5 @@
 use Rattle.std.proofs.Common.{◌≡◌, ◌<◌, length, Some, slice_get, sym, subst, ap, ◌∙◌, arith}
-use Rattle.path_merge.specs.StreamSpecFacts.{Stream}
+use Rattle.stream_rules.specs.StreamSpecFacts.{Stream}
 use Rattle.studio_session.specs.Session.{step_of}
 use Rattle.studio_session.specs.Cursor.{CursorState, FitsStep, HasPaths}
 use Rattle.studio_session.proofs.CursorLemmas.{fits_step, event_here}

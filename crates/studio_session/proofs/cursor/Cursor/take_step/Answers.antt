@@ -2,7 +2,7 @@ use Rattle.std.proofs.Common.{◌≡◌, [], ◌∷◌, ◌++◌, Some, refl, sy
 use Rattle.std.proofs.Common.{to_z, of_z, w64}
 use Rattle.std.proofs.lemmas.Int.{ints}
 use Rattle.path_merge.specs.Merge.{HasHistory}
-use Rattle.path_merge.specs.declared.event.Event.TheVariants.{Tick}
+use Rattle.stream_rules.specs.declared.event.Event.TheVariants.{Tick}
 use Rattle.studio_session.specs.Event.{Reading}
 use Rattle.studio_session.specs.declared.source.Step.TheVariants.{Other, Datagram, Clock, End}
 use Rattle.studio_session.specs.Session.{stream_history}

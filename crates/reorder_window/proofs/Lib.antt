@@ -1,0 +1,3 @@
+pub mod SortedLemmas
+pub mod RingLemmas
+pub mod SlotWindowLemmas

@@ -1,0 +1,21 @@
+use Rattle.std.proofs.Common.{◌≡◌, ◌<◌, ◌%◌, ℕ, None, length, arith, sym, ap, ◌∙◌}
+use Rattle.std.proofs.Math.Nat.{mod-lt}
+use Rattle.std.specs.Ordering.{nat_cmp}
+use Rattle.std.specs.FinMap.{get, from_entries}
+use Rattle.reorder_window.specs.SlotWindow.{SlotRing, packets_in}
+use Rattle.reorder_window.proofs.SlotWindowLemmas.{held_is, moved_ring, moved_slot, slot_of}
+use Rattle.reorder_window.proofs.slots.SlotWindowWindow.begin_at.Goals as goal
+
+pub invariant_of-self : goal.invariant_of-self
+invariant_of-self c =
+    let ring : SlotRing = record { base = c.self.inside.base; front = c.self.inside.front; span = c.self.inside.span; slots = c.self.inside.slots.items } in
+    let none : (n : ℕ) → slot_of ring n ≡ None = λ n. sym (held_is ring n) ∙ ap (λ x. get (from_entries {R = nat_cmp} (packets_in x)) n) c.self.view_is ∙ c.requires.empty n in
+    let size : c.len.result ≡ length c.self.inside.slots.items = omega (arith, c.len.ensures, c.self.inside.slots.ok.0) in
+    let some : 0 < c.len.result = omega (arith, size, c.self.invariant.broad) in
+    moved_ring ring c.self.invariant none c.args.number (c.args.number % c.len.result) (omega (arith, mod-lt c.args.number some, size)) (omega (arith, c.requires.small))
+
+pub returns-clause-held : goal.returns-clause-held
+returns-clause-held c n =
+    let ring : SlotRing = record { base = c.self.inside.base; front = c.self.inside.front; span = c.self.inside.span; slots = c.self.inside.slots.items } in
+    let none : (n : ℕ) → slot_of ring n ≡ None = λ n. sym (held_is ring n) ∙ ap (λ x. get (from_entries {R = nat_cmp} (packets_in x)) n) c.self.view_is ∙ c.requires.empty n in
+    held_is (record ring { base = c.args.number; front = c.args.number % c.len.result }) n ∙ moved_slot ring c.self.invariant none c.args.number (c.args.number % c.len.result) n

@@ -1,0 +1,3 @@
+pub mod Window
+pub mod SortedWindow
+pub mod SlotWindow

@@ -1,0 +1,7 @@
+pub mod CountsLemmas
+pub mod NearestLemmas
+pub mod StreamSpecLemmas
+pub mod WorkedCases
+pub mod RestartCases
+pub mod ProbationLemmas
+pub mod SentCases

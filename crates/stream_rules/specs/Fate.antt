@@ -1,0 +1,55 @@
+-- What becomes of an arrival.
+use Rattle.std.specs.Prelude.{ℕ, Bool, false, ◌+◌, ◌*◌, ◌^◌, not, nat_lt, nat_eq, int_le, List, Option, Some, None, if◌then◌else◌, ℤ, pos, ◌+ℤ◌, ◌-ℤ◌}
+use Rattle.stream_rules.specs.StreamSpecFacts.{Stream}
+use Rattle.stream_rules.specs.declared.anchor.Anchor.{Anchor}
+use Rattle.stream_rules.specs.declared.packet.Packet.{Packet}
+use Rattle.stream_rules.specs.declared.event.Event.{Event}
+use Rattle.stream_rules.specs.declared.put.Put.{Put}
+use Rattle.stream_rules.specs.declared.put.Put.TheVariants.{Taken as PutTaken, Double as PutDouble, Unlike as PutUnlike}
+use Rattle.stream_rules.specs.declared.fate.Fate.{Fate}
+use Rattle.stream_rules.specs.declared.fate.Fate.TheVariants.{Closed, CountersFull, WrongSource, OffGrid, Late, Ahead, Taken, Double, Unlike, Restarted}
+use Rattle.stream_rules.specs.History.{time_of, is_closed, arrival_count}
+use Rattle.stream_rules.specs.Anchor.{is_source_wanted, base_media_time, next_number}
+use Rattle.stream_rules.specs.Grid.{first_with, extended_number, is_on_grid}
+use Rattle.stream_rules.specs.Epochs.{anchor_of, anchors_of, can_restart, last_of}
+use Rattle.stream_rules.specs.Copies.{copies_of}
+use Rattle.stream_rules.specs.Put.{put_answer}
+
+abbrev pub fate_of_put : Put → Fate
+fate_of_put PutTaken = Taken
+fate_of_put PutDouble = Double
+fate_of_put PutUnlike = Unlike
+
+-- of a packet that would be the first, at this time
+abbrev pub first_fate : Stream → ℤ → Packet → Fate
+first_fate stream time packet =
+    if not (is_source_wanted stream.ssrc packet.ssrc) then WrongSource
+    else if int_le (base_media_time stream.clock packet.ts time) (time -ℤ pos stream.latency) then Late
+    else if int_le (time -ℤ pos stream.latency +ℤ pos (stream.window * stream.frames)) (base_media_time stream.clock packet.ts time) then Ahead
+    else Taken
+
+-- of a later one, where this number is due next and these copies came before
+abbrev pub next_fate : Stream → Anchor → ℕ → List (ℕ × Packet) → Packet → Fate
+next_fate stream anchor next copies packet =
+    if not (nat_eq packet.ssrc anchor.source) then WrongSource
+    else if not (is_on_grid stream anchor (extended_number packet next) packet.ts) then OffGrid
+    else if nat_lt (extended_number packet next) next then Late
+    else if not (nat_lt (extended_number packet next) (next + stream.window)) then Ahead
+    else fate_of_put (put_answer (first_with (extended_number packet next) copies) packet)
+
+abbrev pub counted_fate : Stream → ℤ → Option Anchor → List (ℕ × Packet) → Packet → Fate
+counted_fate stream time None copies packet = first_fate stream time packet
+counted_fate stream time (Some anchor) copies packet = next_fate stream anchor (next_number stream anchor time) copies packet
+
+-- the arrival opens the next epoch, where this anchor is in force since its place
+abbrev pub is_restart : Stream → ℤ → Option (ℕ × Anchor) → List Event → ℕ → Packet → Bool
+is_restart stream opening None events path packet = false
+is_restart stream opening (Some (place, anchor)) events path packet = can_restart stream opening place anchor events path packet
+
+-- the fate of an arrival after a history
+abbrev pub fate_of : Stream → ℤ → List Event → ℕ → Packet → Fate
+fate_of stream opening events path packet =
+    if is_closed events then Closed
+    else if not (nat_lt (arrival_count events) (2 ^ 62)) then CountersFull
+    else if is_restart stream opening (last_of (anchors_of stream opening events)) events path packet then Restarted
+    else counted_fate stream (time_of opening events) (anchor_of stream opening events) (copies_of stream opening events) packet

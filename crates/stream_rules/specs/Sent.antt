@@ -1,0 +1,99 @@
+-- What a sender sent, under its full sequence numbers, and what comes of it with 16 and 32 bits (RFC 3550, 5.1).
+use Rattle.std.specs.Prelude.{◌≡◌, ℕ, ◌+◌, ◌^◌, ◌≤◌, true, ◌&&◌, List, [], ◌∷◌, ◌++◌, length, ℤ, pos, ◌+ℤ◌, ◌-ℤ◌, ◌*ℤ◌, ◌≤ℤ◌, ◌<ℤ◌, int_le, int_lt, Some, if◌then◌else◌, unsigned_abs}
+use Rattle.std.specs.Int.{int_rem_euclid}
+use Rattle.stream_rules.specs.StreamSpecFacts.{Stream}
+use Rattle.stream_rules.specs.MarkFacts.{MarkView}
+use Rattle.stream_rules.specs.declared.anchor.Anchor.{Anchor}
+use Rattle.stream_rules.specs.declared.packet.Packet.{Packet}
+use Rattle.stream_rules.specs.declared.event.Event.{Event}
+use Rattle.stream_rules.specs.declared.event.Event.TheVariants.{Arrive, Tick, Close}
+use Rattle.stream_rules.specs.History.{time_of, is_counting}
+use Rattle.stream_rules.specs.Anchor.{anchor_from, can_anchor, next_number}
+use Rattle.stream_rules.specs.Epochs.{anchors_of}
+use Rattle.stream_rules.specs.Copies.{with_epoch}
+use Rattle.stream_rules.specs.Marks.{marks_from}
+
+-- a packet as it was sent: its full number is a whole number, below 0 where it was sent long before the first that is received
+pub record SentPacket : Type 0 where
+  pub number : ℤ
+  pub payload : List ℕ
+
+-- a packet that was sent comes in on a path, the clock is read, or the stream is closed
+pub data SentEvent : Type 0 where
+  Arrives : ℕ → SentPacket → SentEvent
+  Ticks : ℤ → SentEvent
+  Closes : SentEvent
+
+-- the timestamp that is in step with a number of any sign
+abbrev pub timestamp_in_step : Stream → Anchor → ℤ → ℕ
+timestamp_in_step stream base number = unsigned_abs (int_rem_euclid (pos base.timestamp +ℤ (number -ℤ pos base.number) *ℤ pos stream.frames) (pos (2 ^ 32)))
+
+-- as it is received, a packet has its number's low 16 bits, the timestamp in step with the number, and the base's source
+abbrev pub wire_packet : Stream → Anchor → SentPacket → Packet
+wire_packet stream base packet = record {
+  seq = unsigned_abs (int_rem_euclid packet.number (pos 65536));
+  ts = timestamp_in_step stream base packet.number;
+  ssrc = base.source;
+  payload = record { items = packet.payload };
+}
+
+abbrev pub wire_event : Stream → Anchor → SentEvent → Event
+wire_event stream base (Arrives path packet) = Arrive path (wire_packet stream base packet)
+wire_event stream base (Ticks u) = Tick u
+wire_event stream base Closes = Close
+
+-- the history that is received
+abbrev pub wire_history : Stream → Anchor → List SentEvent → List Event
+wire_history stream base [] = []
+wire_history stream base (event ∷ sent) = wire_event stream base event ∷ wire_history stream base sent
+
+-- the first arrival before a close is the base's own packet, and the stream's first
+abbrev pub BeginsWith : Stream → Anchor → ℤ → List SentEvent → Type 0
+BeginsWith stream base time [] = Unit {0}
+BeginsWith stream base time (Arrives path packet ∷ sent) =
+    (packet.number ≡ pos base.number) × (base ≡ anchor_from stream time (wire_packet stream base packet)) × (can_anchor stream time (wire_packet stream base packet) ≡ true)
+BeginsWith stream base time (Ticks u ∷ sent) = BeginsWith stream base u sent
+BeginsWith stream base time (Closes ∷ sent) = Unit {0}
+
+-- a number lies from so many below another one to just below so many above it
+abbrev pub IsNear : ℕ → ℕ → ℤ → Type 0
+IsNear reach next number = ((pos next -ℤ pos reach) ≤ℤ number) × (number <ℤ (pos next +ℤ pos reach))
+
+-- each arrival before a close is of a number that lies within this reach of the one next due
+abbrev pub IsWithinReach : Stream → Anchor → ℕ → ℤ → List SentEvent → Type 0
+IsWithinReach stream base reach time [] = Unit {0}
+IsWithinReach stream base reach time (Arrives path packet ∷ sent) = IsNear reach (next_number stream base time) packet.number × IsWithinReach stream base reach time sent
+IsWithinReach stream base reach time (Ticks u ∷ sent) = IsWithinReach stream base reach u sent
+IsWithinReach stream base reach time (Closes ∷ sent) = Unit {0}
+
+-- the received history has one epoch at most: what comes of it is never taken for a restart of the sender
+abbrev pub IsOneEpoch : Stream → ℤ → List Event → Type 0
+IsOneEpoch stream opening events = length (anchors_of stream opening events) ≤ 1
+
+-- an arrival is a copy of its own number, where that is from the one next due to the window's end: nothing is extended, and no timestamp is looked at
+abbrev pub sent_copies_at : Stream → Anchor → ℤ → List Event → SentEvent → List (ℕ × Packet)
+sent_copies_at stream base opening before (Arrives path packet) =
+    if is_counting before && (int_le (pos (next_number stream base (time_of opening before))) packet.number && int_lt packet.number (pos (next_number stream base (time_of opening before) + stream.window)))
+    then (unsigned_abs packet.number, wire_packet stream base packet) ∷ [] else []
+sent_copies_at stream base opening before (Ticks u) = []
+sent_copies_at stream base opening before Closes = []
+
+-- the copies of what was sent, after these events were received
+unfoldable pub sent_copies_after : Stream → Anchor → ℤ → List Event → List SentEvent → List (ℕ × Packet)
+sent_copies_after stream base opening before [] = []
+sent_copies_after stream base opening before (event ∷ sent) =
+    sent_copies_at stream base opening before event ++ sent_copies_after stream base opening (before ++ wire_event stream base event ∷ []) sent
+
+abbrev pub sent_copies : Stream → Anchor → ℤ → List SentEvent → List (ℕ × Packet)
+sent_copies stream base opening sent = sent_copies_after stream base opening [] sent
+
+-- the marks of what was sent, by the full numbers
+abbrev pub marks_by_number : Stream → Anchor → ℤ → List SentEvent → List MarkView
+marks_by_number stream base opening sent = marks_from stream opening (with_epoch (Some base) (sent_copies stream base opening sent)) [] [] (wire_history stream base sent)
+
+-- all packets of this number have one payload
+abbrev pub HasEqualCopies : ℕ → List ℕ → List SentEvent → Type 0
+HasEqualCopies number payload [] = Unit {0}
+HasEqualCopies number payload (Arrives path packet ∷ sent) = (packet.number ≡ pos number → packet.payload ≡ payload) × HasEqualCopies number payload sent
+HasEqualCopies number payload (Ticks u ∷ sent) = HasEqualCopies number payload sent
+HasEqualCopies number payload (Closes ∷ sent) = HasEqualCopies number payload sent

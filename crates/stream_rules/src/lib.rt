@@ -1,0 +1,36 @@
+//! One stream: its packets, paths, marks and counts, and the rules of reception as definitions.
+//!
+//! `StreamSpec::new` fixes a stream. `admit` and `admit_ref` make packets of its datagrams' views. What a
+//! list of `Event`s comes to is said in `specs`, over whole lists and unbounded numbers: the anchors and
+//! epochs (`Epochs`), the copies of each number (`Copies`), the fate of an arrival (`Fate`), the counts
+//! (`Counts`) and the marks (`Marks`). No definition mentions a window or a queue.
+//!
+//! The functions beside them decide about one packet: where it belongs (`number_of`, `is_in_step`),
+//! and whether it completes its path's probation (`hear_on`). Merges are made of them.
+#![tactic(auto)]
+
+mod anchor;
+mod counts;
+mod event;
+mod fate;
+mod mark;
+mod mark_ref;
+mod nearest;
+mod packet;
+mod path;
+mod probation;
+mod put;
+mod stream_spec;
+
+pub use anchor::{Anchor, is_in_step, is_wanted, media_of_first, media_of_restart, number_of};
+pub use counts::Counts;
+pub use event::Event;
+pub use fate::Fate;
+pub use mark::{Body, Format, Mark, MarkKind};
+pub use mark_ref::{MarkKindRef, MarkRef};
+pub use nearest::{near16, near32};
+pub use packet::{Packet, PacketRef};
+pub use path::Path;
+pub use probation::{Probation, hear_on};
+pub use put::Put;
+pub use stream_spec::{AdmitFault, SpecFault, StreamClock, StreamSpec};

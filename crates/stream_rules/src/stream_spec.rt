@@ -1,0 +1,311 @@
+//! What is fixed of a stream before its first packet.
+ghost use Rattle.std.specs.Prelude.{◌≡◌, ◌≤◌, ◌↔◌, IsTrue, None, Some, OnOk, IfOk, IfErr, length};
+ghost use Rattle.stream_rules.specs.StreamSpecFacts as spec;
+ghost use Rattle.stream_rules.specs.StreamSpecFacts.{Stream, IsStream, spec_fault_of, format_of};
+ghost use Rattle.stream_rules.specs.MarkFacts.{payload_length};
+ghost use Rattle.stream_rules.specs.PacketRef.{packet_of};
+
+use crate::mark::Format;
+use crate::packet::{Packet, PacketRef};
+use rtp_wire::{Enc, RtpView, is_packet_time};
+use std::marker::Model;
+use thiserror::Error;
+
+/// Which clock a stream's media times follow.
+#[derive(Clone, Copy, Debug, PartialEq, Eq)]
+pub enum StreamClock {
+    /// The media clock, from which the sender's timestamps are `offset` ahead, modulo 2^32 (AES67).
+    Media { offset: u32 },
+    /// The receiver's clock at the first packet: for a sender that isn't locked to the media clock.
+    Arrival,
+}
+
+/// Why there is no such stream: the first of these, in this order.
+#[derive(Clone, Copy, Debug, PartialEq, Eq, Error)]
+pub enum SpecFault {
+    /// Not 1 to 64 channels.
+    #[error("channels are not from 1 to 64")]
+    Channels,
+    /// Not 6, 12, 16, 48 or 192 sampling instants per packet, or more than 8 channels in others than 6.
+    #[error("frames per packet are not allowed")]
+    Frames,
+    /// Not a dynamic payload type, 96 to 127 (RFC 3551).
+    #[error("the payload type is not from 96 to 127")]
+    PayloadType,
+    /// A packet's samples take more than 1,440 octets.
+    #[error("a payload would have more than 1440 octets")]
+    TooLong,
+    /// Not a power of two from 8 to 16,384.
+    #[error("the window is not a power of two from 8 to 16384")]
+    Window,
+    /// None at all, or a window that is less than the latency and two packets.
+    #[error("the latency is 0 or does not fit the window")]
+    Latency,
+    /// Not 1 to 4 paths.
+    #[error("paths are not from 1 to 4")]
+    Paths,
+}
+
+/// Why a packet isn't the stream's: the first of these, in this order.
+#[derive(Clone, Copy, Debug, PartialEq, Eq, Error)]
+pub enum AdmitFault {
+    /// It has another payload type.
+    #[error("another payload type")]
+    WrongType,
+    /// Its payload is shorter or longer than the stream's.
+    #[error("another payload length")]
+    WrongLength,
+}
+
+/// A stream: its encoding and packets, its source and clock, its latency, window and paths.
+#[derive(Clone, Copy, Debug)]
+pub struct StreamSpec {
+    enc: Enc,
+    channels: u8,
+    frames: u16,
+    pt: u8,
+    ssrc: Option<u32>,
+    clock: StreamClock,
+    latency: u32,
+    window: u16,
+    paths: u8,
+}
+
+impl Model for StreamSpec {
+    ghost use Rattle.stream_rules.specs.StreamSpecFacts.{Stream, IsStream};
+
+    ghost Value = { Stream };
+
+    ghost view = { λ s. record { enc = s.enc; channels = s.channels; frames = s.frames; pt = s.pt; ssrc = s.ssrc; clock = s.clock; latency = s.latency; window = s.window; paths = s.paths } };
+
+    ghost invariant = { λ s. IsStream (record { enc = s.enc; channels = s.channels; frames = s.frames; pt = s.pt; ssrc = s.ssrc; clock = s.clock; latency = s.latency; window = s.window; paths = s.paths }) };
+
+    ghost inverse = { λ s. record { enc = s.enc; channels = s.channels; frames = s.frames; pt = s.pt; ssrc = s.ssrc; clock = s.clock; latency = s.latency; window = s.window; paths = s.paths } };
+}
+
+/// Whether a reorder window may have this many packets: a power of two from 8 to 16,384.
+fn is_window(packets: u16) -> bool
+    ensures { result ≡ spec.is_window packets }
+{
+    let small = packets == 8 || packets == 16 || packets == 32 || packets == 64;
+    let middle = packets == 128 || packets == 256 || packets == 512 || packets == 1024;
+    let large = packets == 2048 || packets == 4096 || packets == 8192 || packets == 16384;
+    small || middle || large
+}
+
+/// The first fault of a stream's packets.
+fn check_packets(format: Format, pt: u8) -> Result<(), SpecFault>
+    ensures ok { OnOk result (spec.packets_fault_of format pt ≡ None) }
+    ensures fault { IfErr result (λ e. spec.packets_fault_of format pt ≡ Some e) }
+{
+    if format.channels < 1 || format.channels > 64 {
+        return Err(SpecFault::Channels);
+    }
+    if !is_packet_time(format.frames) || (format.channels > 8 && format.frames != 6) {
+        return Err(SpecFault::Frames);
+    }
+    if pt < 96 || pt > 127 {
+        return Err(SpecFault::PayloadType);
+    }
+    if format.payload_len() > 1440 {
+        return Err(SpecFault::TooLong);
+    }
+    Ok(())
+}
+
+/// The first fault of a stream's window, latency and paths.
+fn check_times(frames: u16, latency: u32, window: u16, paths: u8) -> Result<(), SpecFault>
+    ensures ok { OnOk result (spec.times_fault_of frames latency window paths ≡ None) }
+    ensures fault { IfErr result (λ e. spec.times_fault_of frames latency window paths ≡ Some e) }
+{
+    if !is_window(window) {
+        return Err(SpecFault::Window);
+    }
+    let held = u64::from(window) * u64::from(frames);
+    if latency < 1 || held < u64::from(latency) + 2 * u64::from(frames) {
+        return Err(SpecFault::Latency);
+    }
+    if paths < 1 || paths > 4 {
+        return Err(SpecFault::Paths);
+    }
+    Ok(())
+}
+
+impl StreamSpec {
+    ghost use Rattle.stream_rules.specs.StreamSpec.{Fits, admit_fault_of};
+
+    /// A stream of `channels` in packets of `frames` sampling instants, with RTP payload type `pt`.
+    ///
+    /// Without an `ssrc` the first acceptable packet says it. `latency` is the link offset in
+    /// sampling instants: a packet is handed on so long after its media time. `window` is how many
+    /// packets may be held, and `paths` how many copies of each are sent.
+    pub fn new(
+        enc: Enc,
+        channels: u8,
+        frames: u16,
+        pt: u8,
+        ssrc: Option<u32>,
+        clock: StreamClock,
+        latency: u32,
+        window: u16,
+        paths: u8,
+    ) -> Result<StreamSpec, SpecFault>
+        ensures ok { IfOk result (λ s. s ≡ record { enc = enc; channels = channels; frames = frames; pt = pt; ssrc = ssrc; clock = clock; latency = latency; window = window; paths = paths }) }
+        ensures fine { IfOk result (λ s. spec_fault_of s ≡ None) }
+        ensures fault { IfErr result (λ e. spec_fault_of (record { enc = enc; channels = channels; frames = frames; pt = pt; ssrc = ssrc; clock = clock; latency = latency; window = window; paths = paths }) ≡ Some e) }
+    {
+        let format = Format {
+            enc,
+            channels,
+            frames,
+        };
+        check_packets(format, pt)?;
+        check_times(frames, latency, window, paths)?;
+        Ok(StreamSpec {
+            enc,
+            channels,
+            frames,
+            pt,
+            ssrc,
+            clock,
+            latency,
+            window,
+            paths,
+        })
+    }
+
+    /// How the samples of its packets lie.
+    pub fn format(&self) -> Format
+        ensures value { result ≡ format_of self.now }
+        ensures sound { IsStream self.now }
+    {
+        Format {
+            enc: self.enc,
+            channels: self.channels,
+            frames: self.frames,
+        }
+    }
+
+    /// How each sample is written.
+    pub fn enc(&self) -> Enc
+        ensures { result ≡ self.now.enc }
+    {
+        self.enc
+    }
+
+    /// Channels, 1 to 64.
+    pub fn channels(&self) -> u8
+        ensures value { result ≡ self.now.channels }
+        ensures sound { IsStream self.now }
+    {
+        self.channels
+    }
+
+    /// Sampling instants per packet.
+    pub fn frames(&self) -> u16
+        ensures value { result ≡ self.now.frames }
+        ensures sound { IsStream self.now }
+    {
+        self.frames
+    }
+
+    /// The RTP payload type, 96 to 127 (RFC 3551).
+    pub fn pt(&self) -> u8
+        ensures { result ≡ self.now.pt }
+    {
+        self.pt
+    }
+
+    /// The synchronization source that the first packet has to have (RFC 3550, 5.1); `None` takes any.
+    pub fn ssrc(&self) -> Option<u32>
+        ensures { result ≡ self.now.ssrc }
+    {
+        self.ssrc
+    }
+
+    /// The clock that its media times follow.
+    pub fn clock(&self) -> StreamClock
+        ensures { result ≡ self.now.clock }
+    {
+        self.clock
+    }
+
+    /// How long after its media time a packet is handed on, in sampling instants (AES67, link offset).
+    pub fn latency(&self) -> u32
+        ensures value { result ≡ self.now.latency }
+        ensures sound { IsStream self.now }
+    {
+        self.latency
+    }
+
+    /// How many numbers the reorder window spans.
+    pub fn window(&self) -> u16
+        ensures value { result ≡ self.now.window }
+        ensures sound { IsStream self.now }
+    {
+        self.window
+    }
+
+    /// How many paths carry it, 1 to 4.
+    pub fn paths(&self) -> u8
+        ensures value { result ≡ self.now.paths }
+        ensures sound { IsStream self.now }
+    {
+        self.paths
+    }
+
+    /// The octets of each packet's samples.
+    pub fn payload_len(&self) -> usize
+        ensures value { result ≡ payload_length (format_of self.now) }
+        ensures short { result ≤ 1440 }
+    {
+        self.format().payload_len()
+    }
+
+    /// Takes an RTP packet of the stream's type and length.
+    pub fn admit(&self, view: &RtpView) -> Result<Packet, AdmitFault>
+        ensures seq { IfOk result (λ p. p.seq ≡ view.now.seq) }
+        ensures ts { IfOk result (λ p. p.ts ≡ view.now.ts) }
+        ensures ssrc { IfOk result (λ p. p.ssrc ≡ view.now.ssrc) }
+        ensures payload { IfOk result (λ p. p.payload.items ≡ view.now.payload.now) }
+        ensures fine { OnOk result (admit_fault_of self.now view.now.pt (length view.now.payload.now) ≡ None) }
+        ensures fits { IfOk result (λ p. Fits self.now p) }
+        ensures fault { IfErr result (λ e. admit_fault_of self.now view.now.pt (length view.now.payload.now) ≡ Some e) }
+    {
+        let packet = self.admit_ref(view)?;
+        Ok(packet.to_packet())
+    }
+
+    /// As `admit`, with the samples lent by the datagram.
+    #[inline]
+    pub fn admit_ref<'a>(&self, view: &RtpView<'a>) -> Result<PacketRef<'a>, AdmitFault>
+        ensures seq { IfOk result (λ p. p.seq ≡ view.now.seq) }
+        ensures ts { IfOk result (λ p. p.ts ≡ view.now.ts) }
+        ensures ssrc { IfOk result (λ p. p.ssrc ≡ view.now.ssrc) }
+        ensures payload { IfOk result (λ p. p.payload.now ≡ view.now.payload.now) }
+        ensures fine { OnOk result (admit_fault_of self.now view.now.pt (length view.now.payload.now) ≡ None) }
+        ensures fits { IfOk result (λ p. Fits self.now (packet_of p)) }
+        ensures short { IfOk result (λ p. length p.payload.now ≤ 1440) }
+        ensures fault { IfErr result (λ e. admit_fault_of self.now view.now.pt (length view.now.payload.now) ≡ Some e) }
+    {
+        if view.pt != self.pt {
+            return Err(AdmitFault::WrongType);
+        }
+        if view.payload.len() != self.payload_len() {
+            return Err(AdmitFault::WrongLength);
+        }
+        Ok(PacketRef {
+            seq: view.seq,
+            ts: view.ts,
+            ssrc: view.ssrc,
+            payload: view.payload,
+        })
+    }
+
+    /// Whether a packet has the stream's length.
+    pub fn fits(&self, packet: &Packet) -> bool
+        ensures { IsTrue result ↔ Fits self.now packet.now }
+    {
+        packet.payload.len() == self.payload_len()
+    }
+}
