@@ -17,7 +17,6 @@ mod order;
 mod probation;
 mod restarts;
 mod streams;
-mod windows;
 
 /// The media clock, with which the sender's timestamps agree.
 const MEDIA: StreamClock = StreamClock::Media { offset: 0 };

@@ -34,3 +34,6 @@ pub use path::Path;
 pub use probation::{Probation, hear_on};
 pub use put::Put;
 pub use stream_spec::{AdmitFault, SpecFault, StreamClock, StreamSpec};
+
+#[cfg(test)]
+mod tests;

@@ -3,17 +3,6 @@ use super::*;
 use std::test::Fail;
 
 #[test]
-fn path_numbers(rt: HostRuntime) {
-    for number in 0..4u8 {
-        let path = Path::new(number).expect(&rt, "a path");
-        assert_eq!(rt; path.number(), number);
-    }
-    for number in [4, 5, 255] {
-        assert!(rt; Path::new(number).is_none(), "path {number}");
-    }
-}
-
-#[test]
 fn the_first_of_several_copies_counts(rt: HostRuntime) -> Result<(), Fail> {
     let case = Case {
         spec: stream()?,

@@ -10,12 +10,6 @@ use std::test::Fail;
 #[test]
 fn each_refused_allocation_is_answered(rt: HostRuntime) -> Result<(), Fail> {
     let spec = stream()?;
-    let first = SlotWindow::new(rt.alloc(), &spec).is_ok();
-    let second = SlotWindow::new(rt.alloc(), &spec).is_ok();
-    assert!(rt; first || second, "a window of slots");
-    let first = SortedWindow::new(rt.alloc(), &spec).is_ok();
-    let second = SortedWindow::new(rt.alloc(), &spec).is_ok();
-    assert!(rt; first || second, "a sorted window");
     let first = Merge::new(rt.alloc(), spec, 0).is_ok();
     let second = Merge::new(rt.alloc(), spec, 0).is_ok();
     assert!(rt; first || second, "a merge");

@@ -5,27 +5,6 @@ use super::*;
 use std::test::Fail;
 
 #[test]
-fn nearest_numbers(rt: HostRuntime) {
-    for (low, near, want) in [
-        (0, 131_071, 131_072),
-        (65_535, 131_072, 131_071),
-        (0, 98_304, 65_536),
-        (0, 98_303, 65_536),
-        (32_768, 65_536, 32_768),
-        (32_767, 65_536, 98_303),
-    ] {
-        assert_eq!(rt; near16(low, near), want, "{low} near {near}");
-    }
-    for (low, near, want) in [
-        (4_294_967_290, 0, -6),
-        (0, 4_294_967_290, 4_294_967_296),
-        (2_147_483_648, 0, -2_147_483_648),
-    ] {
-        assert_eq!(rt; near32(low, near), want, "{low} near {near}");
-    }
-}
-
-#[test]
 fn wraps_from_65535_to_0(rt: HostRuntime) -> Result<(), Fail> {
     let case = Case {
         spec: stream()?,

@@ -1,0 +1,3 @@
+//! Values of the rules for one stream and one packet.
+mod numbers;
+mod streams;

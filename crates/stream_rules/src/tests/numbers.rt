@@ -1,0 +1,34 @@
+//! Full numbers from their low bits, and numbers of paths.
+use crate::{Path, near16, near32};
+
+#[test]
+fn nearest_numbers(rt: HostRuntime) {
+    for (low, near, want) in [
+        (0, 131_071, 131_072),
+        (65_535, 131_072, 131_071),
+        (0, 98_304, 65_536),
+        (0, 98_303, 65_536),
+        (32_768, 65_536, 32_768),
+        (32_767, 65_536, 98_303),
+    ] {
+        assert_eq!(rt; near16(low, near), want, "{low} near {near}");
+    }
+    for (low, near, want) in [
+        (4_294_967_290, 0, -6),
+        (0, 4_294_967_290, 4_294_967_296),
+        (2_147_483_648, 0, -2_147_483_648),
+    ] {
+        assert_eq!(rt; near32(low, near), want, "{low} near {near}");
+    }
+}
+
+#[test]
+fn path_numbers(rt: HostRuntime) {
+    for number in 0..4u8 {
+        let path = Path::new(number).expect(&rt, "a path");
+        assert_eq!(rt; path.number(), number);
+    }
+    for number in [4, 5, 255] {
+        assert!(rt; Path::new(number).is_none(), "path {number}");
+    }
+}
