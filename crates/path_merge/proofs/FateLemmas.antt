@@ -12,7 +12,7 @@ use Rattle.std.specs.Prelude.{bytes_eq}
 use Rattle.stream_rules.specs.Anchor.{base_media_time, is_source_wanted, media_time_of}
 use Rattle.stream_rules.specs.Counts.{is_counted_fate, is_taken_fate}
 use Rattle.stream_rules.specs.Fate.{fate_of_put, first_fate, next_fate}
-use Rattle.path_merge.specs.Steps.{fault_or, place_fault_of}
+use Rattle.path_merge.specs.Steps.{fault_or, place_fault_of, reach_fault_of}
 use Rattle.stream_rules.specs.StreamSpecFacts.{Stream}
 use Rattle.stream_rules.specs.Put.{is_taken, put_answer}
 use Rattle.stream_rules.specs.declared.anchor.Anchor.{Anchor}
@@ -48,13 +48,20 @@ place_is spec a next packet number t g l h is et eg el eh =
     let h_is : nat_lt (extended_number packet next) (next + spec.window) ≡ h = subst (λ n. nat_lt n (next + spec.window) ≡ h) is eh in
     rw (et, g_is, l_is, h_is) refl
 
--- the fate of what would be the first, told by the tests
-pub first_fate_is : (spec : Stream) (packet : Packet) (source : ℕ) (time media : ℤ) (l h : Bool) → packet.ssrc ≡ source → media ≡ base_media_time spec.clock packet.ts time → is_source_wanted spec.ssrc source ≡ true → int_le media (time -ℤ pos spec.latency) ≡ l → int_le (time -ℤ pos spec.latency +ℤ pos (spec.window * spec.frames)) media ≡ h → (if l then Late else if h then Ahead else Taken) ≡ first_fate spec time packet
-first_fate_is spec packet source time media l h same is_media wanted el eh =
+-- why it is none, told by the tests
+pub reach_fault_is : (spec : Stream) (time media : ℤ) (late ahead : Bool) → int_le media (time -ℤ pos spec.latency) ≡ late → int_le (time -ℤ pos spec.latency +ℤ pos (spec.window * spec.frames)) media ≡ ahead → (if late then Some Late else if ahead then Some Ahead else None) ≡ reach_fault_of spec time media
+reach_fault_is spec time media late ahead is_late is_ahead = rw (is_late, is_ahead) refl
+
+-- the fate of what would be the first, where its source is wanted
+pub first_fate_is : (spec : Stream) (packet : Packet) (source : ℕ) (time media : ℤ) → packet.ssrc ≡ source → media ≡ base_media_time spec.clock packet.ts time → is_source_wanted spec.ssrc source ≡ true → fault_or (reach_fault_of spec time media) Taken ≡ first_fate spec time packet
+first_fate_is spec packet source time media same is_media wanted =
     let w : is_source_wanted spec.ssrc packet.ssrc ≡ true = ap (is_source_wanted spec.ssrc) same ∙ wanted in
-    let l_is : int_le (base_media_time spec.clock packet.ts time) (time -ℤ pos spec.latency) ≡ l = subst (λ z. int_le z (time -ℤ pos spec.latency) ≡ l) is_media el in
-    let h_is : int_le (time -ℤ pos spec.latency +ℤ pos (spec.window * spec.frames)) (base_media_time spec.clock packet.ts time) ≡ h = subst (λ z. int_le (time -ℤ pos spec.latency +ℤ pos (spec.window * spec.frames)) z ≡ h) is_media eh in
-    rw (w, l_is, h_is) refl
+    rw (w, ← is_media) (by_tests (int_le media (time -ℤ pos spec.latency)) (int_le (time -ℤ pos spec.latency +ℤ pos (spec.window * spec.frames)) media))
+  where
+    by_tests : (late ahead : Bool) → fault_or (if late then Some Late else if ahead then Some Ahead else None) Taken ≡ (if late then Late else if ahead then Ahead else Taken)
+    by_tests true ahead = refl
+    by_tests false true = refl
+    by_tests false false = refl
 
 -- the fate of an anchored stream's arrival, by its parts
 pub fate_parts : (a b l h : Bool) (other : Fate) → (if not a then WrongSource else if not b then OffGrid else if l then Late else if not h then Ahead else other) ≡ fault_or (if not a then Some WrongSource else if not b then Some OffGrid else if l then Some Late else if not h then Some Ahead else None) other

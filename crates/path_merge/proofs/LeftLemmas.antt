@@ -276,22 +276,22 @@ module _ (stream : Stream) (open_at : ℤ) (m : MergeState) (media : ℤ) (s : I
       record {
         given = sym (ap (take 1) next.1);
         stands = record {
-          spec = step.spec ∙ at.spec;
+          spec = ap (λ (s : MergeState). s.spec) step.changed ∙ at.spec;
           well_timed = at.well_timed;
-          time = step.time ∙ at.time;
-          anchor = step.anchor ∙ at.anchor;
-          closed = step.closed ∙ at.closed;
-          counts = step.counts ∙ ap (λ t. with_body t (body_of (get m.held m.base))) at.counts ∙ sym (tally-slot (fates_of stream open_at events) (take k (marks_of stream open_at events)) (slot_mark m.spec a m.base (body_of (get m.held m.base))) (body_of (get m.held m.base)) refl refl) ∙ rw one.0 refl;
+          time = ap (λ (s : MergeState). s.time) step.changed ∙ at.time;
+          anchor = ap (λ (s : MergeState). s.anchor) step.changed ∙ at.anchor;
+          closed = ap (λ (s : MergeState). s.closed) step.changed ∙ at.closed;
+          counts = ap (λ (s : MergeState). s.counts) step.changed ∙ ap (λ t. with_body t (body_of (get m.held m.base))) at.counts ∙ sym (tally-slot (fates_of stream open_at events) (take k (marks_of stream open_at events)) (slot_mark m.spec a m.base (body_of (get m.held m.base))) (body_of (get m.held m.base)) refl refl) ∙ rw one.0 refl;
           given = one.1;
           all_given = λ o. absurd (let c = shut_now in cc);
           before_close = omega (arith, at.before_close);
-          base = rw (one.0, step.anchor, is_a)
+          base = rw (one.0, ap (λ (s : MergeState). s.anchor) step.changed, is_a)
               (let based : m.base ≡ a.number + slot_count a.epoch (take k (marks_of stream open_at events)) = rw is_a at at.base in
-              omega (arith, step.base, based, ap (λ b. (if b then 1 else 0) + 0) (itself_eq a.epoch), slot_count-append a.epoch (take k (marks_of stream open_at events)) (slot_mark m.spec a m.base (body_of (get m.held m.base)) ∷ [])));
-          held = λ n. step.held n ∙ without n m.base (first_copy stream open_at events n) (get m.held n) (at.held n) ∙ rw step.base;
-          probation = λ path few. rw step.probations (at.probation path few);
-          quiet = step.quiet ∙ at.quiet ∙ rw (one.0, last_quiet-append (open_at -ℤ pos stream.latency) (take k (marks_of stream open_at events)) (slot_mark m.spec a m.base (body_of (get m.held m.base)) ∷ []));
-          ended = step.ended ∙ at.ended ∙ rw (one.0, has_end-append (take k (marks_of stream open_at events)) (slot_mark m.spec a m.base (body_of (get m.held m.base)) ∷ []), or_none);
+              omega (arith, ap (λ (s : MergeState). s.base) step.changed, based, ap (λ b. (if b then 1 else 0) + 0) (itself_eq a.epoch), slot_count-append a.epoch (take k (marks_of stream open_at events)) (slot_mark m.spec a m.base (body_of (get m.held m.base)) ∷ [])));
+          held = λ n. step.held n ∙ without n m.base (first_copy stream open_at events n) (get m.held n) (at.held n) ∙ rw (ap (λ (s : MergeState). s.base) step.changed);
+          probation = λ path few. rw (ap (λ (s : MergeState). s.probations) step.changed) (at.probation path few);
+          quiet = ap (λ (s : MergeState). s.quiet) step.changed ∙ at.quiet ∙ rw (one.0, last_quiet-append (open_at -ℤ pos stream.latency) (take k (marks_of stream open_at events)) (slot_mark m.spec a m.base (body_of (get m.held m.base)) ∷ []));
+          ended = ap (λ (s : MergeState). s.ended) step.changed ∙ at.ended ∙ rw (one.0, has_end-append (take k (marks_of stream open_at events)) (slot_mark m.spec a m.base (body_of (get m.held m.base)) ∷ []), or_none);
         };
       }
 

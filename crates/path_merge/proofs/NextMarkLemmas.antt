@@ -156,7 +156,7 @@ pub fewer_left : (m new : MergeState) (media : ℤ) (a : Anchor) → IsSound m m
 fewer_left m new media a s is_a more step =
     let an = anchored_at m media m.anchor a is_a s.anchored in
     let below : m.base < next_number m.spec a m.time + m.spec.window = omega (arith, more.from_base, an.held_high more.last more.is_held) in
-    rw (step.ended, step.spec, step.anchor, step.time, step.base, is_a) (omega (arith, below))
+    rw (ap (λ (s : MergeState). s.ended) step.changed, ap (λ (s : MergeState). s.spec) step.changed, ap (λ (s : MergeState). s.anchor) step.changed, ap (λ (s : MergeState). s.time) step.changed, ap (λ (s : MergeState). s.base) step.changed, is_a) (omega (arith, below))
 
 -- the end is left alone
 pub drains_end_left : (stream : Stream) (open_at : ℤ) (m : MergeState) (media : ℤ) → IsSound m media → (events : List Event) (k : ℕ) → HasHistory stream open_at m events k → m.closed ≡ true → m.ended ≡ false → anchor_left m ≡ None → Drains stream open_at (record m { ended = true }) events k (next_left m)

@@ -72,10 +72,6 @@ own_copy stream time packet epoch media some wide seq ts after =
     let high : nat_lt (65536 + packet.seq) (65536 + packet.seq + stream.window) ≡ true = grind (arith, nat_tests, wide) in
     rw (number, next, itself_eq packet.ssrc, own_timestamp stream packet epoch media ts, low, high) refl
 
--- whether it goes on, by its three tests
-pub in_reach_is : (stream : Stream) (time due media : ℤ) (a b c : Bool) → int_lt (time -ℤ pos stream.latency) media ≡ a → int_lt media (time -ℤ pos stream.latency +ℤ pos (stream.window * stream.frames)) ≡ b → int_le due media ≡ c → ((a && b) && c) ≡ is_restart_in_reach stream time due media
-in_reach_is stream time due media a b c after before not_back = rw (after, before, not_back) refl
-
 -- where media time goes on
 pub record GoesOn (stream : Stream) (time : ℤ) (due media : ℤ) : Type 0 where
   pub after : (time -ℤ pos stream.latency) <ℤ media

@@ -1,5 +1,5 @@
 -- What each call of a merge does to it.
-use Rattle.std.specs.Prelude.{◌≡◌, ℕ, ◌+◌, ◌-◌, ◌^◌, Bool, true, false, not, ◌&&◌, nat_eq, nat_lt, List, [], ◌∷◌, ◌++◌, length, ℤ, pos, ◌-ℤ◌, ◌≤ℤ◌, ◌<ℤ◌, int_lt, int_le, Option, Some, None, IsSome, is_some, take, drop, ◌≤◌, if◌then◌else◌, option_to_list}
+use Rattle.std.specs.Prelude.{◌≡◌, ℕ, ◌+◌, ◌-◌, ◌^◌, Bool, true, false, not, ◌&&◌, nat_eq, nat_lt, List, [], ◌∷◌, ◌++◌, length, ℤ, pos, ◌+ℤ◌, ◌-ℤ◌, ◌*◌, ◌≤ℤ◌, ◌<ℤ◌, int_lt, int_le, Option, Some, None, IsSome, is_some, take, drop, ◌≤◌, if◌then◌else◌, option_to_list}
 use Rattle.std.specs.FinMap.{get}
 use Rattle.std.specs.Option.{option_map}
 use Rattle.stream_rules.specs.StreamSpecFacts.{Stream}
@@ -35,6 +35,13 @@ place_fault_of stream anchor next packet =
     else if not (is_on_grid stream anchor (extended_number packet next) packet.ts) then Some OffGrid
     else if nat_lt (extended_number packet next) next then Some Late
     else if not (nat_lt (extended_number packet next) (next + stream.window)) then Some Ahead
+    else None
+
+-- why a packet of this media time may be no first one of an epoch
+abbrev pub reach_fault_of : Stream → ℤ → ℤ → Option Fate
+reach_fault_of stream time media =
+    if int_le media (time -ℤ pos stream.latency) then Some Late
+    else if int_le (time -ℤ pos stream.latency +ℤ pos (stream.window * stream.frames)) media then Some Ahead
     else None
 
 abbrev pub fault_or : Option Fate → Fate → Fate
@@ -98,16 +105,8 @@ pub record IsRefusal (old new : MergeState) (path : ℕ) (fate : Fate) : Type 0 
 
 -- the slot of the base is given, at its deadline
 pub record IsSlotStep (stream : Stream) (old new : MergeState) (a : Anchor) : Type 0 where
-  pub spec : new.spec ≡ old.spec
-  pub time : new.time ≡ deadline_of stream a old.base
-  pub anchor : new.anchor ≡ old.anchor
-  pub base : new.base ≡ old.base + 1
   pub held : (n : ℕ) → get new.held n ≡ (if nat_eq n old.base then None else get old.held n)
-  pub quiet : new.quiet ≡ old.quiet
-  pub counts : new.counts ≡ with_body old.counts (body_of (get old.held old.base))
-  pub closed : new.closed ≡ old.closed
-  pub ended : new.ended ≡ old.ended
-  pub probations : new.probations ≡ old.probations
+  pub changed : new ≡ record old { time = deadline_of stream a old.base; base = old.base + 1; held = new.held; counts = with_body old.counts (body_of (get old.held old.base)) }
 
 -- no slot was ever given, and the last Quiet was earlier
 abbrev pub is_quiet_due : Bool → ℤ → ℤ → Bool
@@ -158,16 +157,8 @@ pub record Advances (stream : Stream) (open_at : ℤ) (old new : MergeState) (ev
 
 -- a slot that was left at the close is given
 pub record IsLeftStep (old new : MergeState) : Type 0 where
-  pub spec : new.spec ≡ old.spec
-  pub time : new.time ≡ old.time
-  pub anchor : new.anchor ≡ old.anchor
-  pub base : new.base ≡ old.base + 1
   pub held : (n : ℕ) → get new.held n ≡ (if nat_eq n old.base then None else get old.held n)
-  pub quiet : new.quiet ≡ old.quiet
-  pub counts : new.counts ≡ with_body old.counts (body_of (get old.held old.base))
-  pub closed : new.closed ≡ old.closed
-  pub ended : new.ended ≡ old.ended
-  pub probations : new.probations ≡ old.probations
+  pub changed : new ≡ record old { base = old.base + 1; held = new.held; counts = with_body old.counts (body_of (get old.held old.base)) }
 
 -- a packet is held at the base or after it
 pub record HoldsMore (m : MergeState) : Type 0 where

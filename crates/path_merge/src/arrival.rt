@@ -3,9 +3,10 @@ ghost use Rattle.std.specs.Prelude.{◌≡◌, ◌^◌, ◌≤◌, ℕ, ℤ, pos
 ghost use Rattle.stream_rules.specs.PacketRef.{packet_of};
 ghost use Rattle.stream_rules.specs.Anchor.{base_media_time, is_restart_in_reach, media_time_of};
 ghost use Rattle.stream_rules.specs.Counts.{is_taken_fate};
-ghost use Rattle.stream_rules.specs.Fate.{fate_of_put, first_fate};
+ghost use Rattle.stream_rules.specs.Fate as spec;
+ghost use Rattle.stream_rules.specs.Fate.{first_fate};
 ghost use Rattle.stream_rules.specs.Probation.{is_off as off_grid};
-ghost use Rattle.path_merge.specs.Steps.{place_fault_of};
+ghost use Rattle.path_merge.specs.Steps.{place_fault_of, reach_fault_of};
 ghost use Rattle.stream_rules.specs.StreamSpecFacts.{Stream};
 ghost use Rattle.stream_rules.specs.declared.anchor.Anchor.{Anchor};
 ghost use Rattle.stream_rules.specs.declared.packet.Packet.{Packet};
@@ -13,8 +14,8 @@ ghost use Rattle.stream_rules.specs.declared.packet.Packet.{Packet};
 use stream_rules::{Anchor, Fate, PacketRef, Put, StreamSpec, is_in_step, is_wanted, number_of};
 
 /// The fate of a packet that was put.
-pub fn fate_of(put: Put) -> Fate
-    ensures { result ≡ fate_of_put put }
+pub fn fate_of_put(put: Put) -> Fate
+    ensures { result ≡ spec.fate_of_put put }
 {
     match put {
         Put::Taken => Fate::Taken,
@@ -71,20 +72,32 @@ pub fn is_off(fault: Option<Fate>) -> bool
     matches!(fault, Some(Fate::WrongSource | Fate::OffGrid))
 }
 
+/// Why a packet at `media` may be no first one of an epoch: its deadline has come, or it is beyond the window.
+fn reach_fault(spec: &StreamSpec, time: i64, media: i64) -> Option<Fate>
+    requires low { pos 0 ≤ℤ time }
+    requires high { time ≤ℤ pos (2 ^ 60) }
+    ensures { result ≡ reach_fault_of spec.now time media }
+{
+    let earliest = time - i64::from(spec.latency());
+    if media <= earliest {
+        return Some(Fate::Late);
+    }
+    if media >= earliest + i64::from(spec.window()) * i64::from(spec.frames()) {
+        return Some(Fate::Ahead);
+    }
+    None
+}
+
 /// Whether media time goes on with a packet at `media`, where `due` is that of the number due next.
 pub fn goes_on(spec: &StreamSpec, time: i64, due: i64, media: i64) -> bool
     requires low { pos 0 ≤ℤ time }
     requires high { time ≤ℤ pos (2 ^ 60) }
     ensures { result ≡ is_restart_in_reach spec.now time due media }
 {
-    let earliest = time - i64::from(spec.latency());
-    if media <= earliest {
-        return false;
+    match reach_fault(spec, time, media) {
+        Some(_) => false,
+        None => due <= media,
     }
-    if media >= earliest + i64::from(spec.window()) * i64::from(spec.frames()) {
-        return false;
-    }
-    due <= media
 }
 
 /// The fate of a packet that would be the first, at `media`.
@@ -96,12 +109,8 @@ pub fn fate_of_first(spec: &StreamSpec, time: i64, media: i64, source: u32) -> F
     if !is_wanted(spec.ssrc(), source) {
         return Fate::WrongSource;
     }
-    let earliest = time - i64::from(spec.latency());
-    if media <= earliest {
-        return Fate::Late;
+    match reach_fault(spec, time, media) {
+        Some(fault) => fault,
+        None => Fate::Taken,
     }
-    if media >= earliest + i64::from(spec.window()) * i64::from(spec.frames()) {
-        return Fate::Ahead;
-    }
-    Fate::Taken
 }

@@ -1,6 +1,6 @@
 -- What a ring of slots holds, and what a put, a take and a move leave of it.
 use Rattle.stream_rules.specs.Grid.{first_with}
-use Rattle.std.proofs.Common.{◌≡◌, ℕ, zero, suc, ◌+◌, ◌-◌, ◌^◌, ◌<◌, ◌≤◌, max, Bool, true, false, ◌&&◌, List, ◌++◌, length, replicate, if◌then◌else◌, Option, Some, None, IsSome, refl, sym, ap, subst, ◌∙◌, arith}
+use Rattle.std.proofs.Common.{◌≡◌, ℕ, zero, suc, ◌+◌, ◌-◌, ◌*◌, ◌^◌, ◌<◌, ◌≤◌, max, Bool, true, false, ◌&&◌, List, ◌++◌, length, replicate, if◌then◌else◌, Option, Some, None, IsSome, refl, sym, ap, subst, ◌∙◌, arith}
 use Rattle.std.specs.Prelude.{nat_eq, nat_lt, nat_le, slice_index_or, slice_set}
 use Rattle.std.proofs.lemmas.Bool.Decides.{nat_tests}
 use Rattle.std.proofs.lemmas.List.{length-replicate, length-set}
@@ -89,6 +89,8 @@ module _ (ring : SlotRing) (r : IsRing ring) where
     pub put_ring : IsRing (record ring { slots = slice_set ring.slots (place_at ring.front (length ring.slots) distance) (Some packet); span = max ring.span (distance + 1) })
     put_ring = record {
       front = rw same r.front;
+      rounds = r.rounds;
+      remainder = rw same r.remainder;
       within = rw same (omega (arith, r.within, lt));
       past = λ d after inside. rw same (put_past d after (rw same at inside));
       reached = λ some. rw same (put_reached some);
@@ -155,6 +157,8 @@ module _ (ring : SlotRing) (r : IsRing ring) where
   pub take_ring : ring.base < 2 ^ 62 → IsRing (record ring { base = ring.base + 1; front = place_at ring.front (length ring.slots) 1; span = ring.span - 1; slots = slice_set ring.slots ring.front None })
   take_ring few = record {
     front = rw same (place_inside ring.front (length ring.slots) 1 r.front r.broad);
+    rounds = rounds_after;
+    remainder = rw same (next_remainder (nat_lt (ring.front + 1) (length ring.slots)) refl);
     within = rw same (omega (arith, r.within));
     past = λ d after inside. rw same (take_past d after (rw same at inside));
     reached = λ some. rw same (take_reached some);
@@ -165,6 +169,17 @@ module _ (ring : SlotRing) (r : IsRing ring) where
     where
       same : length (slice_set ring.slots ring.front None) ≡ length ring.slots
       same = length-set ring.slots ring.front None
+
+      rounds_after : ℕ
+      rounds_after = if nat_lt (ring.front + 1) (length ring.slots) then r.rounds else suc r.rounds
+
+      next_remainder : (b : Bool) → nat_lt (ring.front + 1) (length ring.slots) ≡ b → (if b then ring.front + 1 else ring.front + 1 - length ring.slots) + (if b then r.rounds else suc r.rounds) * length ring.slots ≡ ring.base + 1
+      next_remainder true is = omega (arith, r.remainder)
+      next_remainder false is =
+          let last : ring.front + 1 ≡ length ring.slots = grind (arith, nat_tests, is, r.front) in
+          let none : ring.front + 1 - length ring.slots ≡ 0 = omega (arith, last) in
+          let more : suc r.rounds * length ring.slots ≡ length ring.slots + r.rounds * length ring.slots = omega arith in
+          omega (arith, none, more, last, r.remainder)
 
       take_past : (d : ℕ) → ring.span - 1 ≤ d → d < length ring.slots → slot_at (slice_set ring.slots ring.front None) (place_at (place_at ring.front (length ring.slots) 1) (length ring.slots) d) ≡ None
       take_past d after inside = next_slot d inside ∙ by_test (nat_lt (d + 1) (length ring.slots)) refl
@@ -253,9 +268,11 @@ module _ (ring : SlotRing) (r : IsRing ring) where
             sym (slot_here (ring.base + back.0) (omega arith) (omega (arith, back.1)) ∙ ap (λ d. slot_at ring.slots (place_at ring.front (length ring.slots) d)) here ∙ ap (slot_at ring.slots) back.2) ∙ none (ring.base + back.0)
         by_test false is = slot_outside ring.slots i (grind (arith, nat_tests, is))
 
-    pub moved_ring : (base front : ℕ) → front < length ring.slots → base ≤ 2 ^ 62 → IsRing (record ring { base = base; front = front })
-    moved_ring base front inside few = record {
+    pub moved_ring : (base front rounds : ℕ) → front < length ring.slots → front + rounds * length ring.slots ≡ base → base ≤ 2 ^ 62 → IsRing (record ring { base = base; front = front })
+    moved_ring base front rounds inside remainder few = record {
       front = inside;
+      rounds = rounds;
+      remainder = remainder;
       within = r.within;
       past = λ d after lt. all_free (place_at front (length ring.slots) d);
       reached = λ some. absurd (not_some (all_free (place_at ring.front (length ring.slots) (ring.span - 1))) (r.reached some));
@@ -278,6 +295,8 @@ module _ (ring : SlotRing) (r : IsRing ring) where
 pub made_ring : (width : ℕ) → 8 ≤ width → width ≤ 16384 → IsRing (record { base = 0; front = 0; span = 0; slots = replicate width None })
 made_ring width broad narrow = record {
   front = rw (length-replicate width (the_none)) (omega (arith, broad));
+  rounds = 0;
+  remainder = omega arith;
   within = omega arith;
   past = λ d after inside. slot_none width _;
   reached = λ some. absurd (omega (arith, some));

@@ -1,5 +1,5 @@
 -- Packets in a ring of slots: a slot holds a packet and no number.
-use Rattle.std.specs.Prelude.{◌≡◌, ◌<◌, ◌≤◌, ◌^◌, IsSome, ℕ, zero, suc, ◌+◌, ◌-◌, List, [], ◌∷◌, ◌++◌, length, Option, Some, None, nat_lt, if◌then◌else◌}
+use Rattle.std.specs.Prelude.{◌≡◌, ◌<◌, ◌≤◌, ◌^◌, IsSome, ℕ, zero, suc, ◌+◌, ◌-◌, ◌*◌, List, [], ◌∷◌, ◌++◌, length, Option, Some, None, nat_lt, if◌then◌else◌}
 use Rattle.stream_rules.specs.declared.packet.Packet.{Packet}
 
 -- what a window holds: the slot of the base, and how far past it the end is
@@ -32,9 +32,11 @@ packets_from slots front base distance (suc count) =
 abbrev pub packets_in : SlotRing → List (ℕ × Packet)
 packets_in ring = packets_from ring.slots ring.front ring.base 0 (length ring.slots)
 
--- the front is a slot, and the end is one past the last packet
+-- the front is the slot of the base by its remainder, so each number's slot is; the end is one past the last packet
 pub record IsRing (ring : SlotRing) : Type 0 where
   pub front : ring.front < length ring.slots
+  pub rounds : ℕ
+  pub remainder : ring.front + rounds * length ring.slots ≡ ring.base
   pub within : ring.span ≤ length ring.slots
   pub past : (distance : ℕ) → ring.span ≤ distance → distance < length ring.slots → slot_at ring.slots (place_at ring.front (length ring.slots) distance) ≡ None
   pub reached : 0 < ring.span → IsSome (slot_at ring.slots (place_at ring.front (length ring.slots) (ring.span - 1)))

@@ -1,10 +1,10 @@
 -- What follows of a specification with no fault.
-use Rattle.std.proofs.Common.{◌≡◌, ℕ, ◌+◌, ◌*◌, ◌^◌, ◌<◌, ◌≤◌, Bool, true, false, not, ◌&&◌, ◌||◌, Some, None, refl, arith, if◌then◌else◌}
+use Rattle.std.proofs.Common.{◌≡◌, ℕ, ◌+◌, ◌*◌, ◌^◌, ◌<◌, ◌≤◌, Bool, true, false, not, ◌&&◌, ◌||◌, Some, None, refl, ap, ◌∙◌, arith, if◌then◌else◌}
 use Rattle.std.specs.Prelude.{nat_eq, nat_lt, nat_le}
 use Rattle.std.proofs.lemmas.Bool.Decides.{nat_tests}
 use Rattle.stream_rules.specs.declared.stream_spec.SpecFault.TheVariants.{Channels, Frames, PayloadType, TooLong, Window, Latency, Paths}
 use Rattle.stream_rules.specs.MarkFacts.{payload_length}
-use Rattle.stream_rules.specs.StreamSpecFacts.{Stream, IsStream, format_of, is_window, packets_fault_of, times_fault_of}
+use Rattle.stream_rules.specs.StreamSpecFacts.{Stream, IsStream, HasNoFault, first_fault, format_of, is_window, packets_fault_of, times_fault_of}
 use Rattle.rtp_wire.specs.PacketTime.{is_packet_time}
 
 -- where a chain of tests finds nothing, each test fails
@@ -40,7 +40,7 @@ packet_time_bounds f e = (grind (arith, nat_tests, e), grind (arith, nat_tests, 
 window_bounds : (w : ℕ) → is_window w ≡ true → (8 ≤ w) × (w ≤ 16384)
 window_bounds w e = (grind (arith, nat_tests, e), grind (arith, nat_tests, e))
 
-pub IsStream-of : (s : Stream) → packets_fault_of (format_of s) s.pt ≡ None → times_fault_of s.frames s.latency s.window s.paths ≡ None → s.latency < 2 ^ 32 → IsStream s
+IsStream-of : (s : Stream) → packets_fault_of (format_of s) s.pt ≡ None → times_fault_of s.frames s.latency s.window s.paths ≡ None → s.latency < 2 ^ 32 → IsStream s
 IsStream-of s packets times small =
     let p = none_of_four (not (nat_le 1 s.channels && nat_le s.channels 64)) (not (is_packet_time s.frames && (nat_le s.channels 8 || nat_eq s.frames 6))) (not (nat_le 96 s.pt && nat_le s.pt 127)) (nat_lt 1440 (payload_length (format_of s))) Channels Frames PayloadType TooLong packets in
     let t = none_of_three (not (is_window s.window)) (nat_lt s.latency 1 || nat_lt (s.window * s.frames) (s.latency + 2 * s.frames)) (not (nat_le 1 s.paths && nat_le s.paths 4)) Window Latency Paths times in
@@ -64,3 +64,9 @@ IsStream-of s packets times small =
       narrow = window.1;
       few_paths = grind (arith, nat_tests, paths.1);
     }
+
+pub HasNoFault-of : (s : Stream) → packets_fault_of (format_of s) s.pt ≡ None → times_fault_of s.frames s.latency s.window s.paths ≡ None → s.latency < 2 ^ 32 → HasNoFault s
+HasNoFault-of s packets times small = record {
+  bounds = IsStream-of s packets times small;
+  none = ap (λ fault. first_fault fault (times_fault_of s.frames s.latency s.window s.paths)) packets ∙ times;
+}

@@ -66,3 +66,8 @@ pub record IsStream (s : Stream) : Type 0 where
   pub broad : 8 ≤ s.window
   pub narrow : s.window ≤ 16384
   pub few_paths : s.paths ≤ 4
+
+-- what is true of every specification; bounds stand apart, since most of what is proved needs no more
+pub record HasNoFault (s : Stream) : Type 0 where
+  pub bounds : IsStream s
+  pub none : spec_fault_of s ≡ None

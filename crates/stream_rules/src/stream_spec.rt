@@ -1,7 +1,7 @@
 //! What is fixed of a stream before its first packet.
 ghost use Rattle.std.specs.Prelude.{◌≡◌, ◌≤◌, ◌↔◌, IsTrue, None, Some, OnOk, IfOk, IfErr, length};
 ghost use Rattle.stream_rules.specs.StreamSpecFacts as spec;
-ghost use Rattle.stream_rules.specs.StreamSpecFacts.{Stream, IsStream, spec_fault_of, format_of};
+ghost use Rattle.stream_rules.specs.StreamSpecFacts.{Stream, IsStream, HasNoFault, spec_fault_of, format_of};
 ghost use Rattle.stream_rules.specs.MarkFacts.{payload_length};
 ghost use Rattle.stream_rules.specs.PacketRef.{packet_of};
 
@@ -72,13 +72,13 @@ pub struct StreamSpec {
 }
 
 impl Model for StreamSpec {
-    ghost use Rattle.stream_rules.specs.StreamSpecFacts.{Stream, IsStream};
+    ghost use Rattle.stream_rules.specs.StreamSpecFacts.{Stream, HasNoFault};
 
     ghost Value = { Stream };
 
     ghost view = { λ s. record { enc = s.enc; channels = s.channels; frames = s.frames; pt = s.pt; ssrc = s.ssrc; clock = s.clock; latency = s.latency; window = s.window; paths = s.paths } };
 
-    ghost invariant = { λ s. IsStream (record { enc = s.enc; channels = s.channels; frames = s.frames; pt = s.pt; ssrc = s.ssrc; clock = s.clock; latency = s.latency; window = s.window; paths = s.paths }) };
+    ghost invariant = { λ s. HasNoFault (record { enc = s.enc; channels = s.channels; frames = s.frames; pt = s.pt; ssrc = s.ssrc; clock = s.clock; latency = s.latency; window = s.window; paths = s.paths }) };
 
     ghost inverse = { λ s. record { enc = s.enc; channels = s.channels; frames = s.frames; pt = s.pt; ssrc = s.ssrc; clock = s.clock; latency = s.latency; window = s.window; paths = s.paths } };
 }
@@ -211,7 +211,8 @@ impl StreamSpec {
 
     /// The RTP payload type, 96 to 127 (RFC 3551).
     pub fn pt(&self) -> u8
-        ensures { result ≡ self.now.pt }
+        ensures value { result ≡ self.now.pt }
+        ensures fine { HasNoFault self.now }
     {
         self.pt
     }
@@ -250,6 +251,7 @@ impl StreamSpec {
     pub fn paths(&self) -> u8
         ensures value { result ≡ self.now.paths }
         ensures sound { IsStream self.now }
+        ensures fine { HasNoFault self.now }
     {
         self.paths
     }

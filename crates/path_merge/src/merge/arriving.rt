@@ -11,7 +11,7 @@ ghost use Rattle.stream_rules.specs.Probation.{is_off as off_grid};
 ghost use Rattle.stream_rules.specs.StreamSpecFacts.{Stream};
 
 use super::Merge;
-use crate::arrival::{fate_of, fate_of_first, goes_on, is_off, is_taken, place_fault};
+use crate::arrival::{fate_of_first, fate_of_put, goes_on, is_off, is_taken, place_fault};
 use reorder_window::Window;
 use stream_rules::{
     Anchor, Fate, Packet, PacketRef, Path, Probation, hear_on, media_of_first, media_of_restart,
@@ -128,7 +128,7 @@ impl<V: Window> Merge<V> {
             }
             None => {
                 let number = number_of(packet, self.window.base());
-                let fate = fate_of(self.window.put_ref(number, *packet));
+                let fate = fate_of_put(self.window.put_ref(number, *packet));
                 self.counts.add_fate(path, fate);
                 fate
             }

@@ -8,8 +8,24 @@ use Rattle.reorder_window.specs.Window.{IsEmpty}
 use Rattle.stream_rules.specs.declared.fate.Fate.TheVariants.{Restarted}
 use Rattle.path_merge.proofs.EmptyLemmas.{Opens, nothing_held, opening_is}
 use Rattle.path_merge.proofs.RestartLemmas.{restart_heard}
-use Rattle.path_merge.proofs.SoundLemmas.{due_times}
+use Rattle.path_merge.proofs.SoundLemmas.{anchored_at, base_small, due_times, media_small}
 use Rattle.path_merge.proofs.merge.Merge.offer_next.Goals as goal
+
+pub place_fault-fault-requires-clause-high : goal.place_fault-fault-requires-clause-high
+place_fault-fault-requires-clause-high g c =
+    let is_a = ap (λ (m : MergeState). m.anchor) c.self.view_is ∙ c.requires.anchored in
+    omega (arith, c.base-next.ensures, (base_small _ c.self.inside.next_media c.args.anchor c.self.invariant is_a).1)
+
+pub place_fault-fault-requires-clause-media_low : goal.place_fault-fault-requires-clause-media_low
+place_fault-fault-requires-clause-media_low g c =
+    let is_a = ap (λ (m : MergeState). m.anchor) c.self.view_is ∙ c.requires.anchored in
+    let t = media_small _ c.self.inside.next_media c.args.anchor c.self.invariant is_a in
+    omega (arith, ints, t.1, t.2)
+
+pub place_fault-fault-requires-clause-anchor_low : goal.place_fault-fault-requires-clause-anchor_low
+place_fault-fault-requires-clause-anchor_low g c =
+    let is_a = ap (λ (m : MergeState). m.anchor) c.self.view_is ∙ c.requires.anchored in
+    omega (arith, ints, (anchored_at _ c.self.inside.next_media _ c.args.anchor is_a c.self.invariant.anchored).media_low)
 
 pub place_fault-fault-requires-clause-media_high : goal.place_fault-fault-requires-clause-media_high
 place_fault-fault-requires-clause-media_high g c =

@@ -5,6 +5,7 @@ use Rattle.path_merge.specs.Steps.{Advances, Moves}
 use Rattle.path_merge.proofs.SoundLemmas.{due_times}
 use Rattle.path_merge.proofs.AdvanceLemmas.{IsAtReading, at_reading, advance_slot, advance_time}
 use Rattle.path_merge.proofs.NextMarkLemmas.{due, next_is, not_due}
+use Rattle.path_merge.specs.MergeState.{MergeState}
 use Rattle.path_merge.proofs.merge.Merge.pass.Goals as goal
 
 pub pass_due_slot-requires-clause-soon : goal.pass_due_slot-requires-clause-soon
@@ -31,8 +32,9 @@ returns-in-Some-anchor_due-clause-moved g c =
     let is : anchor_due c.args.self.now c.args.now ≡ Some c.in-Some-anchor_due.anchor = sym (ap (anchor_due c.args.self.now) (to_z-of_z w64 c.args.now c.ranges.now)) ∙ sym c.anchor_due.ensures ∙ c.in-Some-anchor_due.is in
     let d = due c.args.self.now c.args.now c.in-Some-anchor_due.anchor is in
     let t = due_times c.args.self.now c.self.inside.next_media c.in-Some-anchor_due.anchor r.sound d.0 r.open_yet in
+    let time_is = ap (λ (m : MergeState). m.time) c.pass_due_slot.ensures.changed in
     subst (λ o. Moves c.args.self.now c.pass_due_slot.new.self c.args.now o) (sym (next_is c.args.self.now c.args.now (Some c.in-Some-anchor_due.anchor) is))
-    (omega (arith, ints, c.pass_due_slot.ensures.time, t.later), omega (arith, ints, c.pass_due_slot.ensures.time, d.1), c.pass_due_slot.ensures.closed)
+    (omega (arith, ints, time_is, t.later), omega (arith, ints, time_is, d.1), ap (λ (m : MergeState). m.closed) c.pass_due_slot.ensures.changed)
 
 pub pass_time-requires-clause-not_back : goal.pass_time-requires-clause-not_back
 pass_time-requires-clause-not_back g c =

@@ -1,8 +1,21 @@
 use Rattle.std.proofs.Common.{arith, ap, refl, ◌∙◌}
 use Rattle.std.proofs.lemmas.Int.{ints}
 use Rattle.path_merge.specs.MergeState.{MergeState}
-use Rattle.path_merge.proofs.SoundLemmas.{base_small, room_for_got, due_times, sound_slot_is}
+use Rattle.path_merge.proofs.SoundLemmas.{base_small, few_lost, room_for_got, due_times, sound_slot_is}
+use Rattle.path_merge.proofs.StepLemmas.{slot_step_is}
 use Rattle.path_merge.proofs.merge.Merge.pass_due_slot.Goals as goal
+
+pub overflow_add-self : goal.overflow_add-self
+overflow_add-self g c =
+    let is_a = ap (λ (m : MergeState). m.anchor) c.self.view_is ∙ c.requires.anchored in
+    let open_yet = ap (λ (m : MergeState). m.closed) c.self.view_is ∙ c.requires.open_yet in
+    let t = due_times _ c.self.inside.next_media c.args.anchor c.self.invariant is_a open_yet in
+    omega (arith, ints, t.media_low, t.media_high, t.small_latency, c.from.ensures, c.latency.ensures.value)
+
+pub drop_slot-requires-clause-few : goal.drop_slot-requires-clause-few
+drop_slot-requires-clause-few g c =
+    let is_a = ap (λ (m : MergeState). m.anchor) c.self.view_is ∙ c.requires.anchored in
+    few_lost _ c.self.inside.next_media c.args.anchor c.self.invariant is_a
 
 pub overflow_add-self-2 : goal.overflow_add-self-2
 overflow_add-self-2 g c =
@@ -40,15 +53,9 @@ returns g c =
     let is_a = ap (λ (m : MergeState). m.anchor) c.self.view_is ∙ c.requires.anchored in
     let open_yet = ap (λ (m : MergeState). m.closed) c.self.view_is ∙ c.requires.open_yet in
     let t = due_times _ c.self.inside.next_media c.args.anchor c.self.invariant is_a open_yet in
-    rw (← c.self.view_is) (record {
-      spec = refl;
-      time = omega (arith, ints, t.media_low, t.media_high, t.deadline, t.small_latency, c.from.ensures, c.latency.ensures.value);
-      anchor = refl;
-      base = c.drop_slot.ensures.base;
-      held = c.drop_slot.ensures.held;
-      quiet = refl;
-      counts = c.drop_slot.ensures.counted;
-      closed = refl;
-      ended = refl;
-      probations = refl;
-    })
+    rw (← c.self.view_is) (slot_step_is _ _ c.args.anchor _ _ _ _ _
+    c.drop_slot.ensures.held
+    (omega (arith, ints, t.media_low, t.media_high, t.deadline, t.small_latency, c.from.ensures, c.latency.ensures.value))
+    c.drop_slot.ensures.base
+    c.drop_slot.ensures.size
+    c.drop_slot.ensures.counted)

@@ -42,14 +42,6 @@ drop_slot-requires-clause-held g c =
 pub returns : goal.returns
 returns g c =
     rw (← c.self.view_is) (record {
-      spec = refl;
-      time = refl;
-      anchor = refl;
-      base = c.drop_slot.ensures.base;
       held = c.drop_slot.ensures.held;
-      quiet = refl;
-      counts = c.drop_slot.ensures.counted;
-      closed = refl;
-      ended = refl;
-      probations = refl;
+      changed = rw (c.drop_slot.ensures.base, c.drop_slot.ensures.size, c.drop_slot.ensures.counted) refl;
     })

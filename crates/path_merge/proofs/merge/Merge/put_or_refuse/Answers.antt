@@ -39,7 +39,7 @@ invariant_of-self-in-None g c =
     sound_put _ c.self.inside.next_media c.args.anchor c.args.path (packet_of c.args.packet.now) _ _ _ c.number_of-number.result _ c.put_ref.result _ c.self.invariant is_a open_yet room
     (subst (λ (m : MergeState). Fits m.spec (packet_of c.args.packet.now)) (sym c.self.view_is) c.requires.fits)
     (omega (arith, inside.0, number)) (omega (arith, inside.1, number)) c.put_ref.ensures.answer c.put_ref.ensures.held c.put_ref.ensures.base c.put_ref.ensures.size
-    (c.add_fate-in-None.ensures ∙ ap (with_fate (tally_of c.self.inside.counts) c.args.path) c.fate_of-fate.ensures)
+    (c.add_fate-in-None.ensures ∙ ap (with_fate (tally_of c.self.inside.counts) c.args.path) c.fate_of_put-fate.ensures)
 
 pub returns-in-Some : goal.returns-in-Some
 returns-in-Some g c =
@@ -51,4 +51,4 @@ returns-in-None g c =
     let none : place_fault_of c.self.inside.spec c.args.anchor (g.V.Window.base c.self.inside.window) (packet_of c.args.packet.now) ≡ None = sym (subst (λ (m : MergeState). c.args.fault ≡ place_fault_of m.spec c.args.anchor m.base (packet_of c.args.packet.now)) (sym c.self.view_is) c.requires.fault) ∙ c.in-None.is in
     let number : c.number_of-number.result ≡ extended_number (packet_of c.args.packet.now) (g.V.Window.base c.self.inside.window) = c.number_of-number.ensures.value ∙ ap (extended_number (packet_of c.args.packet.now)) c.base.ensures in
     let inside = in_window c.self.inside.spec (g.V.Window.base c.self.inside.window) c.args.anchor (packet_of c.args.packet.now) none in
-    rw (← c.self.view_is) (put_step_put _ c.args.anchor c.args.path (packet_of c.args.packet.now) _ _ _ c.number_of-number.result _ c.put_ref.result c.fate_of-fate.result none c.fate_of-fate.ensures number c.put_ref.ensures.answer c.put_ref.ensures.held c.put_ref.ensures.base c.put_ref.ensures.size c.add_fate-in-None.ensures)
+    rw (← c.self.view_is) (put_step_put _ c.args.anchor c.args.path (packet_of c.args.packet.now) _ _ _ c.number_of-number.result _ c.put_ref.result c.fate_of_put-fate.result none c.fate_of_put-fate.ensures number c.put_ref.ensures.answer c.put_ref.ensures.held c.put_ref.ensures.base c.put_ref.ensures.size c.add_fate-in-None.ensures)
