@@ -1,5 +1,5 @@
 //! Sequence numbers that wrap, and packets of other cycles.
-ghost use Rattle.std.specs.Prelude.{◌≡◌};
+ghost use Rattle.std.specs.Prelude.{◌≡◌, ◌<◌, OnOk};
 
 use super::*;
 use std::test::Fail;
@@ -66,6 +66,28 @@ fn three_cycles_with_every_thousandth_lost(rt: HostRuntime) -> Result<(), Fail> 
     Ok(())
 }
 
+/// The reading at a packet's media time, and the packet, but for every thousandth.
+fn tick_and_offer<W: Window>(
+    rt: &impl Abort,
+    merge: &mut Merge<W>,
+    spec: &StreamSpec,
+    step: u32,
+    marks: &mut Vec<Seen>,
+) -> Result<(), AllocError>
+    requires same { merge.old.spec ≡ spec.now }
+    requires few { step < 200000 }
+    ensures { OnOk result (merge.new.spec ≡ merge.old.spec) }
+{
+    tick(rt, merge, spec, i64::from(step) * 6, marks)?;
+    let number = 65_537 + step;
+    if number % 1000 != 0 {
+        let sent = packet((number % 65_536) as u16, step * 6);
+        let fate = offer(rt, merge, spec, 0, sent);
+        assert_eq!(rt; fate, Fate::Taken, "number {number}");
+    }
+    Ok(())
+}
+
 fn loses_every_thousandth<W: Window>(
     rt: &impl Abort,
     alloc: Global,
@@ -76,13 +98,7 @@ fn loses_every_thousandth<W: Window>(
 {
     let mut marks = Vec::new(alloc);
     for step in 0..200_000u32 {
-        tick(rt, &mut merge, spec, i64::from(step) * 6, &mut marks)?;
-        let number = 65_537 + step;
-        if number % 1000 != 0 {
-            let sent = packet((number % 65_536) as u16, step * 6);
-            let fate = offer(rt, &mut merge, spec, 0, sent);
-            assert_eq!(rt; fate, Fate::Taken, "number {number}");
-        }
+        tick_and_offer(rt, &mut merge, spec, step, &mut marks)?;
     }
     close(rt, &mut merge, spec, &mut marks)?;
     assert_eq!(rt; marks.len(), 200_002);
