@@ -251,7 +251,6 @@ impl StreamSpec {
     pub fn paths(&self) -> u8
         ensures value { result ≡ self.now.paths }
         ensures sound { IsStream self.now }
-        ensures fine { HasNoFault self.now }
     {
         self.paths
     }
