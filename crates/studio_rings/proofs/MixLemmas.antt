@@ -1,14 +1,13 @@
 -- What a turn of the mixer's end comes to.
-use Rattle.std.proofs.Common.{◌≡◌, ℕ, ◌+◌, List, ◌++◌, drop, Option, Some, None, is_some, IfSome, refl, sym, ap, subst, arith}
+use Rattle.std.proofs.Common.{◌≡◌, ℕ, ◌+◌, List, ◌++◌, drop, Option, Some, None, is_some, IfSome, refl, sym, subst, arith}
 use Rattle.mix_packets.specs.OutSpec.{datagram_length}
-use Rattle.mix_packets.specs.Block.{block_start}
 use Rattle.studio_spec.specs.Studio.{Studio}
 use Rattle.studio_mix.specs.Feed.{Feed}
 use Rattle.studio_mix.specs.Mixer.{HasFeeds, MixerState}
 use Rattle.studio_mix.specs.Ready.{is_ready}
 use Rattle.studio_mix.specs.Output.{datagram_of}
-use Rattle.studio_rings.specs.AcceptedFeeds.{accepted_feeds, accepted_total}
-use Rattle.studio_rings.specs.Mixes.{AllStopTaking, TakesAllMarks}
+use Rattle.studio_rings.specs.AcceptedFeeds.{accepted_feeds}
+use Rattle.studio_rings.specs.Mixes.{TakesAllMarks}
 use Rattle.studio_rings.specs.MixEnds.{MixHasFeeds, MixesBlock, given}
 use Rattle.studio_rings.specs.declared.mix.MixNote.{MixNote}
 use Rattle.studio_rings.specs.declared.mix_end.MixEnd.{MixEnd}

@@ -1,5 +1,5 @@
 -- The marks of all streams, one stream more.
-use Rattle.std.proofs.Common.{◌≡◌, ℕ, zero, suc, ◌+◌, ◌≤◌, ◌<◌, List, [], ◌∷◌, ◌++◌, length, take, drop, get_or, set, ℤ, Some, slice_get, slice_set, refl, sym, ap, subst, ◌∙◌, arith, append-nil, length-append}
+use Rattle.std.proofs.Common.{◌≡◌, ℕ, zero, suc, ◌+◌, ◌≤◌, ◌<◌, List, [], ◌∷◌, ◌++◌, length, take, drop, get_or, set, ℤ, Some, slice_get, slice_set, refl, sym, ap, subst, ◌∙◌, arith, length-append}
 use Rattle.std.proofs.Math.Seq.{take-length}
 use Rattle.std.proofs.lemmas.List.{drop-drop, drop-set-lt, get_or-drop, length-set, take_more, take_more_set}
 use Rattle.std.proofs.lemmas.List.Sums.{sum_by-set}
@@ -7,13 +7,13 @@ use Rattle.std.proofs.lemmas.Option.{get_or_from_slice_get, slice_get_within}
 use Rattle.rtrb.specs.Ring.{received}
 use Rattle.stream_rules.specs.StreamSpecFacts.{Stream, format_of}
 use Rattle.stream_rules.specs.MarkFacts.{MarkView}
-use Rattle.lane_align.specs.Accepted.{accepted_after, accepted_marks}
+use Rattle.lane_align.specs.Accepted.{accepted_marks}
 use Rattle.mix_packets.specs.Block.{block_start}
 use Rattle.studio_spec.specs.Studio.{Studio}
 use Rattle.studio_mix.specs.Feed.{Feed}
 use Rattle.studio_mix.specs.Mixer.{MixerState, HasFeeds}
 use Rattle.studio_rings.specs.AcceptedFeeds.{accepted_feeds, accepted_total, received_total}
-use Rattle.studio_rings.specs.Mixes.{AllStopTaking, AllTakeSome, StopsTaking, TakesAllMarks, TakesMarks, TakesSome, TakesWanted, fed_more}
+use Rattle.studio_rings.specs.Mixes.{AllStopTaking, AllTakeSome, StopsTaking, TakesAllMarks, TakesSome, TakesWanted, fed_more}
 use Rattle.studio_rings.specs.declared.side.Side.{Side}
 use Rattle.studio_rings.proofs.AcceptedLemmas.{accepted_after-append}
 

@@ -1,15 +1,13 @@
 -- The parts of a turn, one step longer.
-use Rattle.std.proofs.Common.{◌≡◌, ◌≢◌, ℕ, zero, suc, take, drop, get_or, set, inl, inr, ◌+◌, ◌≤◌, ◌<◌, Bool, true, false, nat_eq, List, [], ◌∷◌, ◌++◌, length, ℤ, if◌then◌else◌, refl, sym, ap, subst, ◌∙◌, arith, append_assoc, append-nil, length-append}
-use Rattle.std.proofs.lemmas.Bool.Decides.{nat_tests}
+use Rattle.std.proofs.Common.{◌≡◌, ◌≢◌, ℕ, zero, suc, take, drop, get_or, set, inl, inr, ◌+◌, ◌≤◌, ◌<◌, List, [], ◌∷◌, ◌++◌, length, ℤ, refl, sym, ap, subst, ◌∙◌, arith, append_assoc, append-nil, length-append}
 use Rattle.std.proofs.lemmas.Bool.{cases_eq}
 use Rattle.std.proofs.lemmas.List.{take_more, take_more_set, length-set, drop-set-lt, drop-drop, get_or-drop, get_or-set_same, get_or-set_other}
 use Rattle.rtrb.specs.Ring.{received, known_items, SameConsumer, SameProducer}
 use mathlib.Core.List.{IsPrefix}
 use Rattle.rtrb.specs.declared.consumer.Consumer.{Consumer}
 use Rattle.rtrb.specs.declared.producer.Producer.{Producer}
-use Rattle.stream_rules.specs.StreamSpecFacts.{Stream, format_of}
+use Rattle.stream_rules.specs.StreamSpecFacts.{Stream}
 use Rattle.stream_rules.specs.StreamSpec.{Fits}
-use Rattle.stream_rules.specs.MarkFacts.{payload_length}
 use Rattle.stream_rules.specs.Marks.{marks_of}
 use Rattle.path_merge.specs.MergeState.{MergeState}
 use Rattle.path_merge.specs.Merge.{HasHistory}

@@ -1,4 +1,3 @@
-pub mod Reception
 pub mod Fitting
 pub mod Side
 pub mod Paths
@@ -28,3 +27,5 @@ pub use Rattle.studio_mix.specs.Mixer
 pub use Rattle.studio_mix.specs.Feed
 pub use Rattle.studio_mix.specs.Ready
 pub use Rattle.studio_mix.specs.Output
+pub use Rattle.studio_session.specs.Counts
+pub use Rattle.studio_session.specs.Session

@@ -1,5 +1,5 @@
 -- What the parts of a stream's turn do.
-use Rattle.std.specs.Prelude.{◌≡◌, ℕ, suc, ◌+◌, ◌≤◌, ◌<◌, false, nat_eq, List, [], ◌∷◌, ◌++◌, length, map, take, ℤ, ◌≤ℤ◌, if◌then◌else◌}
+use Rattle.std.specs.Prelude.{◌≡◌, ℕ, suc, ◌+◌, ◌≤◌, ◌<◌, false, List, [], ◌∷◌, ◌++◌, length, map, take, ℤ, ◌≤ℤ◌}
 use Rattle.rtrb.specs.Ring.{sent, received, known_items, SameConsumer, SameProducer}
 use Rattle.rtrb.specs.declared.producer.Producer.{Producer}
 use Rattle.stream_rules.specs.StreamSpecFacts.{Stream}

@@ -1,7 +1,6 @@
 //! The ends of a studio's rings: each path, each stream and the mixer in a thread of its own.
 #![tactic(auto)]
 
-mod counts;
 mod drain;
 mod ends;
 mod look;
@@ -11,7 +10,6 @@ mod monitor_end;
 mod opening;
 mod path;
 mod path_end;
-mod reception;
 mod side;
 mod stream;
 mod stream_end;
@@ -21,7 +19,6 @@ mod take_marks;
 mod tests;
 mod turn;
 
-pub use counts::PathCounts;
 pub use ends::{Ends, OpenFault};
 pub use mix::MixNote;
 pub use mix_end::MixEnd;
@@ -31,4 +28,5 @@ pub use path::{Offer, PathDone};
 pub use path_end::PathEnd;
 pub use stream::{PathsOpen, StreamDone};
 pub use stream_end::StreamEnd;
+pub use studio_session::PathCounts;
 pub use turn::{StopReason, TurnNote};

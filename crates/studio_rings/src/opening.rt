@@ -6,7 +6,6 @@ ghost use Rattle.studio_rings.specs.MixEnds.{MixHasFeeds};
 ghost use Rattle.studio_rings.specs.Opened.{AllFreshPaths, AreFreshRings, AreOpened, IsFreshPath, IsFreshStream, open_fault_of};
 ghost use Rattle.studio_rings.specs.Opening.{AddsStream, AllUnread, AreFreshEnds};
 
-use crate::counts::PathCounts;
 use crate::ends::{Ends, OpenFault};
 use crate::mix_end::MixEnd;
 use crate::monitor_end::MonitorEnd;
@@ -17,6 +16,7 @@ use path_merge::{Mark, Merge, Packet, StreamSpec};
 use rtrb::RingBuffer;
 use std::alloc::{AllocError, Global};
 use studio_mix::Mixer;
+use studio_session::PathCounts;
 use studio_spec::StudioSpec;
 
 /// The ends of some streams, and of their marks' rings.
@@ -37,18 +37,10 @@ fn open_path(
     ensures { IfOk result (λ r. IsFreshPath spec.now ring_len r.0 r.1) }
 {
     let (ring, pop) = RingBuffer::new(alloc, ring_len)?;
-    let counts = PathCounts {
-        offered: 0,
-        sent: 0,
-        bad: 0,
-        wrong_type: 0,
-        wrong_length: 0,
-        full: 0,
-    };
     let end = PathEnd {
         spec: *spec,
         ring,
-        counts,
+        counts: PathCounts::new(),
     };
     Ok((end, Side::new(pop)))
 }

@@ -1,17 +1,16 @@
 //! The end of a path.
-ghost use Rattle.std.specs.Prelude.{◌≡◌, ◌<◌, ◌^◌, IfSome};
-ghost use Rattle.rtrb.specs.Ring.{sent, known_free, Finishes, SameProducer};
+ghost use Rattle.std.specs.Prelude.{◌≡◌, ◌<◌, ◌^◌, IfSome, false, true};
+ghost use Rattle.rtrb.specs.Ring.{sent, known_free, Finishes, ProducerLooked, SameProducer};
 ghost use Rattle.stream_rules.specs.declared.packet.Packet.{Packet};
-ghost use Rattle.studio_rings.specs.Reception.{reception_of};
-ghost use Rattle.studio_rings.specs.declared.reception.Reception.TheVariants.{Sent as Received};
+ghost use Rattle.studio_session.specs.Session.{reception_of};
+ghost use Rattle.studio_session.specs.declared.reception.Reception.TheVariants.{Sent as Received};
 ghost use Rattle.studio_rings.specs.Paths.{Offers};
 ghost use Rattle.studio_rings.specs.declared.path.Offer.TheVariants as offer;
 
-use crate::counts::PathCounts;
 use crate::path_end::PathEnd;
-use crate::reception::{Reception, receive};
 use path_merge::Packet;
-use rtrb::Finished;
+use rtrb::{Finished, Producer};
+use studio_session::{PathCounts, Reception, receive};
 
 /// What became of a datagram: the first of these that holds.
 #[derive(Clone, Copy, PartialEq, Eq, Debug)]
@@ -35,6 +34,20 @@ pub struct PathDone {
     pub(crate) token: Finished<Packet>,
 }
 
+/// Whether this is a packet, and no free place is seen for it.
+fn lacks_room(ring: &mut Producer<Packet>, reception: &Reception) -> bool
+    ensures ring { ProducerLooked ring.old ring.new }
+    ensures full { result ≡ true → ((packet : Packet) × (reception.now ≡ Received packet)) × (known_free ring.new ≡ 0) }
+    ensures room { result ≡ false → (packet : Packet) → reception.now ≡ Received packet → 0 < known_free ring.new }
+{
+    match reception {
+        Reception::Sent(_) => ring.is_full(),
+        Reception::Bad => false,
+        Reception::WrongType => false,
+        Reception::WrongLength => false,
+    }
+}
+
 impl PathEnd {
     /// Sends the packet of a datagram to its stream, if it is one of the stream.
     pub fn offer(&mut self, datagram: &[u8]) -> Offer
@@ -47,39 +60,20 @@ impl PathEnd {
         if self.counts.offered == 1 << 62 {
             return Offer::CountersFull;
         }
-        match receive(&self.spec, datagram) {
-            Reception::Bad => {
-                let counts = &mut self.counts;
-                counts.offered += 1;
-                counts.bad += 1;
-                Offer::Bad
+        let reception = receive(&self.spec, datagram);
+        if lacks_room(&mut self.ring, &reception) {
+            self.counts.add_full();
+            return Offer::Full;
+        }
+        self.counts.add(&reception);
+        match reception {
+            Reception::Sent(packet) => {
+                self.ring.push_reserved(packet);
+                Offer::Sent
             }
-            Reception::WrongType => {
-                let counts = &mut self.counts;
-                counts.offered += 1;
-                counts.wrong_type += 1;
-                Offer::WrongType
-            }
-            Reception::WrongLength => {
-                let counts = &mut self.counts;
-                counts.offered += 1;
-                counts.wrong_length += 1;
-                Offer::WrongLength
-            }
-            Reception::Sent(packet) => match self.ring.push(packet) {
-                Ok(()) => {
-                    let counts = &mut self.counts;
-                    counts.offered += 1;
-                    counts.sent += 1;
-                    Offer::Sent
-                }
-                Err(_) => {
-                    let counts = &mut self.counts;
-                    counts.offered += 1;
-                    counts.full += 1;
-                    Offer::Full
-                }
-            },
+            Reception::Bad => Offer::Bad,
+            Reception::WrongType => Offer::WrongType,
+            Reception::WrongLength => Offer::WrongLength,
         }
     }
 

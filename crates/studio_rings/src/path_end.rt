@@ -1,11 +1,11 @@
 //! What the end of a path consists of.
-ghost use Rattle.std.specs.Prelude.{◌≡◌, length};
+ghost use Rattle.std.specs.Prelude.{◌≡◌, ◌≤◌, ◌^◌, length};
 ghost use Rattle.rtrb.specs.Ring.{sent};
 ghost use Rattle.studio_rings.specs.Fitting.{fitting};
 
-use crate::counts::PathCounts;
 use path_merge::{Packet, StreamSpec};
 use rtrb::Producer;
+use studio_session::PathCounts;
 
 /// The end of a path: its datagrams go in.
 ///
@@ -15,6 +15,7 @@ pub struct PathEnd {
     pub(crate) spec: StreamSpec,
     pub(crate) ring: Producer<Packet>,
     pub(crate) counts: PathCounts,
+    ghost few: { counts.offered ≤ 2 ^ 62 },
     ghost all_counted: { counts.sent ≡ length (sent ring) },
     ghost all_fit: { fitting spec (sent ring) ≡ sent ring },
 }

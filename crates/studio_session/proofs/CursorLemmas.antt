@@ -32,8 +32,8 @@ use Rattle.stream_rules.specs.declared.stream_spec.AdmitFault.TheVariants.{Wrong
 use Rattle.studio_session.specs.declared.source.Step.{Step}
 use Rattle.studio_session.specs.declared.source.Step.TheVariants.{Other, Datagram, Clock, End}
 use Rattle.studio_session.specs.Event.{TraceEvent, Arrival, Reading, Closing}
-use Rattle.studio_session.specs.Session.{step_of, event_in, stream_history, reception_by, reception_of}
-use Rattle.studio_session.specs.Cursor.{CursorState, HasPaths, HasPulled, IsDue, FitsReception, FitsStep}
+use Rattle.studio_session.specs.Session.{step_of, event_in, stream_history, reception_by, reception_of, FitsReception}
+use Rattle.studio_session.specs.Cursor.{CursorState, HasPaths, HasPulled, IsDue, FitsStep}
 
 -- one event more
 pub history_more : (stream : Stream) (number : ℕ) (events : List TraceEvent) (i : ℕ) (event : TraceEvent) → slice_get events i ≡ Some event

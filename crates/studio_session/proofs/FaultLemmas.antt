@@ -16,7 +16,7 @@ use Rattle.studio_session.specs.declared.reception.Reception.{Reception}
 use Rattle.studio_session.specs.declared.reception.Reception.TheVariants.{Sent, Bad, WrongType, WrongLength}
 use Rattle.studio_session.specs.declared.source.Step.TheVariants.{Datagram, Other}
 use Rattle.studio_session.specs.Fault.{IsRunFault, clock_fault, event_fault, or_later, path_fault, session_fault_from, session_fault_of, time_after, closed_after}
-use Rattle.studio_session.specs.Session.{event_in, reception_of, step_of, stream_history}
+use Rattle.studio_session.specs.Session.{event_in, reception_of, stream_history}
 
 first_none : (here later : Option StudioFault) → or_later here later ≡ None → here ≡ None
 first_none None later e = refl

@@ -1,13 +1,11 @@
 -- The counts of a run.
-use Rattle.std.proofs.Common.{◌≡◌, inl, inr, ◌<◌, ◌≤◌, ◌+◌, ◌-◌, ℕ, zero, suc, Bool, true, false, nat_eq, ◌&&◌, if◌then◌else◌, List, [], ◌∷◌, ◌++◌, length, take, drop, set, get_or, ℤ, Option, Some, None, is_some, slice_get, refl, sym, ap, subst, ◌∙◌, arith}
-use Rattle.std.specs.Option.{option_to_list}
+use Rattle.std.proofs.Common.{◌≡◌, inl, inr, ◌<◌, ◌≤◌, ◌+◌, ◌-◌, ℕ, zero, suc, Bool, true, false, nat_eq, ◌&&◌, if◌then◌else◌, List, [], ◌∷◌, ◌++◌, length, take, drop, get_or, ℤ, Option, Some, None, slice_get, refl, sym, ap, subst, ◌∙◌, arith}
 use Rattle.std.specs.Prelude.{count_by}
 use Rattle.std.proofs.lemmas.Bool.{cases_Bool, cases_lt}
 use Rattle.std.proofs.lemmas.List.{length-map, length_push, take_all, get_or_append_left, get_or-append_right}
 use Rattle.std.proofs.lemmas.List.Sums.{count_by-le-length, count_by_more_no, count_by_more_yes}
 use Rattle.std.proofs.lemmas.Option.{slice_get_read, slice_get_within, get_or_from_slice_get}
 use Rattle.stream_rules.specs.StreamSpecFacts.{Stream}
-use Rattle.stream_rules.specs.MarkFacts.{MarkView}
 use Rattle.path_merge.specs.MergeState.{MergeState}
 use Rattle.path_merge.specs.Merge.{HasHistory}
 use Rattle.stream_rules.specs.Counts.{counts_of}
@@ -25,8 +23,8 @@ use Rattle.studio_spec.specs.Studio.{Studio}
 use Rattle.studio_mix.specs.Feed.{Feed}
 use Rattle.studio_mix.proofs.BlockLemmas.{feed_at}
 use Rattle.studio_session.proofs.PlayLemmas.{stream_at}
-use Rattle.studio_session.specs.Play.{HasPlayed, SessionState, stream_marks}
-use Rattle.studio_session.specs.Report.{ArePulled, HasPulledAll, HasPulledSome, merge_tally_of}
+use Rattle.studio_session.specs.Play.{HasPlayed, SessionState}
+use Rattle.studio_session.specs.Report.{ArePulled, HasPulledAll, merge_tally_of}
 use Rattle.studio_session.specs.Way.{IsOnWay}
 
 -- none after the first k is none more

@@ -18,7 +18,8 @@ use Rattle.studio_mix.specs.Ready.{are_covered, have_ended, block_count, is_read
 use Rattle.studio_mix.proofs.LawLemmas.{covered_before}
 use Rattle.studio_session.specs.Event.{TraceEvent}
 use Rattle.studio_session.specs.Play.{HasPlayed, SessionState, feeds_of}
-use Rattle.studio_session.specs.Run.{AreDatagrams, HasGivenBlocks, blocks_left}
+use Rattle.studio_session.specs.Blocks.{AreBlocks, AreFirstBlocks}
+use Rattle.studio_session.specs.Run.{HasGivenBlocks, blocks_left}
 
 or_less : (a : Bool) (m n c : ℕ) → m ≤ n → (a || nat_lt n c) ≡ true → (a || nat_lt m c) ≡ true
 or_less true m n c h e = refl
@@ -34,15 +35,12 @@ ready_before out feeds m n h e =
     ∙ or_less (not (have_ended feeds)) m n (block_count out feeds) h (both_right (are_covered feeds (block_start out (n + 1))) (not (have_ended feeds) || nat_lt n (block_count out feeds)) e)
 
 -- one block more
-pub blocks_more : (studio : Studio) (events : List TraceEvent) (old new : SessionState) (datagrams : List (List ℕ)) (datagram : List ℕ)
-    → HasGivenBlocks studio events old datagrams → is_ready studio.output (feeds_of studio events) (length datagrams) ≡ true
-    → datagram ≡ datagram_of studio (feeds_of studio events) (length datagrams) → HasPlayed studio events new (length datagrams + 1)
-    → HasGivenBlocks studio events new (datagrams ++ datagram ∷ [])
-blocks_more studio events old new datagrams datagram before ready is played =
+pub first_more : (studio : Studio) (feeds : List Feed) (datagrams : List (List ℕ)) (datagram : List ℕ) → AreFirstBlocks studio feeds datagrams → is_ready studio.output feeds (length datagrams) ≡ true
+    → datagram ≡ datagram_of studio feeds (length datagrams) → AreFirstBlocks studio feeds (datagrams ++ datagram ∷ [])
+first_more studio feeds datagrams datagram before ready is =
     let long : length (datagrams ++ datagram ∷ []) ≡ length datagrams + 1 = length_push datagrams datagram in
     record {
-      played = subst (HasPlayed studio events new) (sym long) played;
-      ready = λ n h. ready_before studio.output (feeds_of studio events) n (length datagrams) (let b : n < length (datagrams ++ datagram ∷ []) = grind (arith, nat_tests, h) in omega (arith, b, long)) ready;
+      ready = λ n h. ready_before studio.output feeds n (length datagrams) (let b : n < length (datagrams ++ datagram ∷ []) = grind (arith, nat_tests, h) in omega (arith, b, long)) ready;
       each = λ n d at.
           let within : n < length (datagrams ++ datagram ∷ []) = slice_get_within (datagrams ++ datagram ∷ []) n d at in
           let read = get_or_from_slice_get (datagrams ++ datagram ∷ []) n d d at in
@@ -52,20 +50,29 @@ blocks_more studio events old new datagrams datagram before ready is played =
                 let here : n ≡ length datagrams = omega (arith, within, long, past) in
                 let zero_at : n - length datagrams ≡ 0 = omega (arith, here) in
                 let d' : datagram ≡ d = ap (λ j. get_or (datagram ∷ []) j d) (sym zero_at) ∙ sym (get_or-append_right datagrams (datagram ∷ []) (length datagrams) n d refl past) ∙ read in
-                sym d' ∙ is ∙ ap (datagram_of studio (feeds_of studio events)) (sym here)
+                sym d' ∙ is ∙ ap (datagram_of studio feeds) (sym here)
           ];
     }
 
+pub blocks_more : (studio : Studio) (events : List TraceEvent) (old new : SessionState) (datagrams : List (List ℕ)) (datagram : List ℕ)
+    → HasGivenBlocks studio events old datagrams → is_ready studio.output (feeds_of studio events) (length datagrams) ≡ true
+    → datagram ≡ datagram_of studio (feeds_of studio events) (length datagrams) → HasPlayed studio events new (length datagrams + 1)
+    → HasGivenBlocks studio events new (datagrams ++ datagram ∷ [])
+blocks_more studio events old new datagrams datagram before ready is played = record {
+  played = subst (HasPlayed studio events new) (sym (length_push datagrams datagram)) played;
+  first = first_more studio (feeds_of studio events) datagrams datagram before.first ready is;
+}
+
 -- where the next block is not ready, those are all
-pub blocks_all : (studio : Studio) (events : List TraceEvent) (session : SessionState) (datagrams : List (List ℕ)) → HasGivenBlocks studio events session datagrams
-    → is_ready studio.output (feeds_of studio events) (length datagrams) ≡ false → AreDatagrams studio events datagrams
-blocks_all studio events session datagrams given last = record {
+pub first_all : (studio : Studio) (feeds : List Feed) (datagrams : List (List ℕ)) → AreFirstBlocks studio feeds datagrams → is_ready studio.output feeds (length datagrams) ≡ false
+    → AreBlocks studio feeds datagrams
+first_all studio feeds datagrams given last = record {
   ready = λ n. elim (cases_Bool (nat_lt n (length datagrams))) [
     | inl below ↦ below ∙ sym (given.ready n below)
-    | inr past ↦ elim (cases_Bool (is_ready studio.output (feeds_of studio events) n)) [
+    | inr past ↦ elim (cases_Bool (is_ready studio.output feeds n)) [
       | inl is ↦
           let after : length datagrams ≤ n = grind (arith, nat_tests, past) in
-          absurd (false≢true (sym last ∙ ready_before studio.output (feeds_of studio events) (length datagrams) n after is))
+          absurd (false≢true (sym last ∙ ready_before studio.output feeds (length datagrams) n after is))
       | inr not_is ↦ past ∙ sym not_is
     ]
   ];

@@ -31,6 +31,10 @@ with_reception t Bad = record t { offered = t.offered + 1; bad = t.bad + 1 }
 with_reception t WrongType = record t { offered = t.offered + 1; wrong_type = t.wrong_type + 1 }
 with_reception t WrongLength = record t { offered = t.offered + 1; wrong_length = t.wrong_length + 1 }
 
+-- with one more packet that found no room
+abbrev pub with_full : PathTally → PathTally
+with_full t = record t { offered = t.offered + 1; full = t.full + 1 }
+
 abbrev pub is_any : Reception → Bool
 is_any reception = true
 

@@ -7,13 +7,10 @@ use Rattle.path_merge.specs.MergeState.{MergeState}
 use Rattle.stream_rules.specs.Marks.{marks_of}
 use Rattle.stream_rules.specs.History.{is_well_timed}
 use Rattle.studio_session.specs.Event.{TraceEvent, Arrival}
-use Rattle.stream_rules.specs.StreamSpec.{Fits}
-use Rattle.studio_session.specs.declared.reception.Reception.{Reception}
-use Rattle.studio_session.specs.declared.reception.Reception.TheVariants.{Sent, Bad, WrongType, WrongLength}
 use Rattle.studio_session.specs.declared.source.Step.{Step}
 use Rattle.studio_session.specs.declared.source.Step.TheVariants.{Other, Datagram, Clock, End}
 use Rattle.lane_align.specs.Lane.{natural}
-use Rattle.studio_session.specs.Session.{stream_history}
+use Rattle.studio_session.specs.Session.{FitsReception, stream_history}
 use Rattle.studio_session.specs.Way.{IsOnWay}
 
 pub record CursorState : Type 0 where
@@ -74,14 +71,7 @@ pub record IsDue (stream : Stream) (number : ℕ) (open_at : ℤ) (events : List
   pub mark : option_to_list given ≡ take 1 (drop k (marks_of stream open_at (stream_history stream number (take cursor.place events))))
   pub stands : HasPulled stream number open_at events cursor (k + length (option_to_list given))
 
--- a packet that was received has the stream's length
-abbrev pub FitsReception : Stream → Reception → Type 0
-FitsReception stream (Sent packet) = Fits stream packet
-FitsReception stream Bad = Unit {0}
-FitsReception stream WrongType = Unit {0}
-FitsReception stream WrongLength = Unit {0}
-
--- and came in on one of its paths
+-- what a merge can take: a packet that was received has the stream's length, and came in on one of its paths
 abbrev pub FitsStep : Stream → Step → Type 0
 FitsStep stream Other = Unit {0}
 FitsStep stream (Datagram path reception) = (path < stream.paths) × FitsReception stream reception

@@ -1,5 +1,5 @@
 -- The first event of a studio that is at fault.
-use Rattle.std.specs.Prelude.{◌≡◌, ℕ, suc, ◌<◌, Bool, true, false, nat_lt, List, [], ◌∷◌, slice_get, ℤ, Option, Some, None, if◌then◌else◌}
+use Rattle.std.specs.Prelude.{◌≡◌, ℕ, suc, Bool, true, false, nat_lt, List, [], ◌∷◌, slice_get, ℤ, Option, Some, None, if◌then◌else◌}
 use Rattle.stream_rules.specs.StreamSpecFacts.{Stream}
 use Rattle.stream_rules.specs.History.{is_tick_in_order}
 use Rattle.studio_spec.specs.Studio.{Studio}

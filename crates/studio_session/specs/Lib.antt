@@ -5,6 +5,7 @@ pub mod Fault
 pub mod Way
 pub mod Cursor
 pub mod Play
+pub mod Blocks
 pub mod Run
 pub mod Report
 pub use Rattle.rtp_wire.specs.Datagram

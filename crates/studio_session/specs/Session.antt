@@ -1,9 +1,9 @@
 -- What the events of a studio are to one of its streams.
-use Rattle.std.specs.Prelude.{ℕ, Bool, true, false, ◌&&◌, nat_eq, List, [], ◌∷◌, length, flat_map, count_by, ℤ, Option, Some, None, if◌then◌else◌}
+use Rattle.std.specs.Prelude.{ℕ, Bool, false, ◌&&◌, nat_eq, List, [], ◌∷◌, length, flat_map, count_by, Option, Some, None, if◌then◌else◌}
 use Rattle.rtp_wire.specs.Datagram.{wire_fault_of, head_at, payload_at}
 use Rattle.rtp_wire.specs.declared.fault.WireFault.{WireFault}
 use Rattle.stream_rules.specs.StreamSpecFacts.{Stream}
-use Rattle.stream_rules.specs.StreamSpec.{admit_fault_of}
+use Rattle.stream_rules.specs.StreamSpec.{Fits, admit_fault_of}
 use Rattle.stream_rules.specs.declared.stream_spec.AdmitFault.{AdmitFault}
 use Rattle.stream_rules.specs.declared.stream_spec.AdmitFault.TheVariants.{WrongType as TypeFault, WrongLength as LengthFault}
 use Rattle.stream_rules.specs.declared.packet.Packet.{Packet}
@@ -28,6 +28,13 @@ reception_by octets None None = Sent (packet_at octets)
 -- what a stream makes of a datagram: the first thing that is wrong with it, else its packet
 abbrev pub reception_of : Stream → List ℕ → Reception
 reception_of stream octets = reception_by octets (wire_fault_of octets) (admit_fault_of stream (head_at octets).pt (length (payload_at octets)))
+
+-- a packet that was received has the stream's length
+abbrev pub FitsReception : Stream → Reception → Type 0
+FitsReception stream (Sent packet) = Fits stream packet
+FitsReception stream Bad = Unit {0}
+FitsReception stream WrongType = Unit {0}
+FitsReception stream WrongLength = Unit {0}
 
 -- what an event is to one stream: another's datagram, or its own, or a reading of the clock, or the close
 abbrev pub step_of : Stream → ℕ → TraceEvent → Step

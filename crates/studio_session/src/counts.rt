@@ -20,7 +20,7 @@ pub struct PathCounts {
 }
 
 impl PathCounts {
-    ghost use Rattle.studio_session.specs.Counts.{empty_path_tally, path_tally_of, with_reception};
+    ghost use Rattle.studio_session.specs.Counts.{empty_path_tally, path_tally_of, with_full, with_reception};
 
     /// Nothing was offered.
     pub fn new() -> PathCounts
@@ -47,6 +47,15 @@ impl PathCounts {
             Reception::WrongType => self.wrong_type += 1,
             Reception::WrongLength => self.wrong_length += 1,
         }
+        self.offered += 1;
+    }
+
+    /// Counts a packet that found no room.
+    pub fn add_full(&mut self)
+        requires { self.old.offered < u64.MAX }
+        ensures { path_tally_of self.new ≡ with_full (path_tally_of self.old) }
+    {
+        self.full += 1;
         self.offered += 1;
     }
 }

@@ -10,9 +10,9 @@ ghost use Rattle.path_merge.specs.Merge.{HasHistory};
 ghost use Rattle.path_merge.specs.Steps.{marks_left, Moves};
 ghost use Rattle.studio_session.specs.declared.source.Step.TheVariants.{Datagram};
 ghost use Rattle.studio_session.specs.Event.{TraceEvent};
-ghost use Rattle.studio_session.specs.Session.{stream_history, step_of, event_in};
+ghost use Rattle.studio_session.specs.Session.{stream_history, step_of, event_in, FitsReception};
 ghost use Rattle.studio_session.specs.Way.{IsOnWay, WentOn, on_way_after};
-ghost use Rattle.studio_session.specs.Cursor.{HasPulled, IsReadyFor, IsSameCursor, IsRunnable, IsDue, IsOnTheWay, FitsReception, FitsStep, way_left, events_left};
+ghost use Rattle.studio_session.specs.Cursor.{HasPulled, IsReadyFor, IsSameCursor, IsRunnable, IsDue, IsOnTheWay, FitsStep, way_left, events_left};
 
 use crate::reception::Reception;
 use crate::source::{EventSource, Step};

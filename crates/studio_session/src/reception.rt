@@ -1,6 +1,6 @@
 //! What a stream makes of a datagram.
 ghost use Rattle.std.specs.Prelude.{◌≡◌};
-ghost use Rattle.studio_session.specs.Session.{reception_of};
+ghost use Rattle.studio_session.specs.Session.{FitsReception, reception_of};
 
 use path_merge::{AdmitFault, Packet, StreamSpec};
 
@@ -19,7 +19,8 @@ pub enum Reception {
 
 /// Takes a packet of the stream out of a datagram.
 pub fn receive(spec: &StreamSpec, datagram: &[u8]) -> Reception
-    ensures { result ≡ reception_of spec.now datagram.now }
+    ensures value { result ≡ reception_of spec.now datagram.now }
+    ensures fits { FitsReception spec.now result }
 {
     let Ok(view) = rtp_wire::read(datagram) else {
         return Reception::Bad;

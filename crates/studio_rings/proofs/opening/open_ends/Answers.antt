@@ -1,4 +1,4 @@
-use Rattle.std.proofs.Common.{rules, ◌≡◌, subst}
+use Rattle.std.proofs.Common.{rules, subst}
 use Rattle.studio_rings.specs.Opening.{AllUnread}
 use Rattle.studio_rings.proofs.OpenLemmas.{fresh_at, unread}
 use Rattle.studio_rings.proofs.opening.open_ends.Goals as goal

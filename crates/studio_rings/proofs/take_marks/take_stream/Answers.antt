@@ -1,5 +1,5 @@
-use Rattle.std.proofs.Common.{rules, arith, ◌≡◌, ◌∙◌, sym, refl, if◌then◌else◌, not}
-use Rattle.studio_rings.proofs.AcceptedLemmas.{at_most_one, stops_empty, stops_final, stops_full, took-more, took-none}
+use Rattle.std.proofs.Common.{rules, arith, ◌≡◌, ◌∙◌, sym, if◌then◌else◌, not}
+use Rattle.studio_rings.proofs.AcceptedLemmas.{at_most_one, stops_final, took-more, took-none}
 use Rattle.studio_rings.proofs.take_marks.take_stream.Goals as goal
 
 pub loop-taken-init : goal.loop-taken-init

@@ -5,7 +5,7 @@ use Rattle.studio_mix.specs.Ready.{is_ready}
 use Rattle.studio_mix.specs.Output.{datagram_of}
 use Rattle.studio_session.specs.Play.{HasPlayed, feeds_of}
 use Rattle.studio_session.specs.Run.{HasGivenBlocks}
-use Rattle.studio_session.proofs.RunLemmas.{blocks_more, blocks_all, written_is}
+use Rattle.studio_session.proofs.RunLemmas.{blocks_more, first_all, written_is}
 use Rattle.studio_session.proofs.run.all_datagrams.Goals as goal
 
 pub slice_bounds-out-end : goal.slice_bounds-out-end
@@ -61,7 +61,7 @@ returns-in-None-clause-datagrams g c = λ studio run played.
     let given = c.rounds.invariant.stands studio run played in
     let datagrams : List (List ℕ) = map (λ d. d.items) c.rounds.datagrams.items in
     let last = c.next_datagram.ensures.given studio (length datagrams) run given.played in
-    blocks_all studio events c.rounds.session datagrams given (sym last ∙ ap is_some c.in-None.is)
+    first_all studio (feeds_of studio events) datagrams given.first (sym last ∙ ap is_some c.in-None.is)
 
 pub returns-in-None-clause-played : goal.returns-in-None-clause-played
 returns-in-None-clause-played g c = λ studio run played.

@@ -1,6 +1,5 @@
 use Rattle.std.proofs.Common.{rules, refl, subst, sym, IsSome, IfSome, ◌≡◌}
 use Rattle.rtrb.specs.Ring.{all_sent}
-use Rattle.studio_rings.specs.Tokens.{HandsIn}
 use Rattle.studio_rings.proofs.TokenLemmas.{hands_in, stands-handed}
 use Rattle.studio_rings.proofs.stream_end.StreamEnd.path_done.Goals as goal
 
