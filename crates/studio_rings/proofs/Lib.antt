@@ -9,4 +9,5 @@ pub mod TokenLemmas
 pub mod AcceptedLemmas
 pub mod MixTurnLemmas
 pub mod MixLemmas
+pub mod GivenLemmas
 pub mod OpenLemmas

@@ -8,6 +8,7 @@ pub mod Streams
 pub mod AcceptedFeeds
 pub mod Mixes
 pub mod MixEnds
+pub mod Given
 pub mod Tokens
 pub mod Opened
 pub mod Opening
@@ -27,5 +28,6 @@ pub use Rattle.studio_mix.specs.Mixer
 pub use Rattle.studio_mix.specs.Feed
 pub use Rattle.studio_mix.specs.Ready
 pub use Rattle.studio_mix.specs.Output
+pub use Rattle.studio_session.specs.Blocks
 pub use Rattle.studio_session.specs.Counts
 pub use Rattle.studio_session.specs.Session

@@ -6,7 +6,7 @@ use Rattle.stream_rules.specs.MarkFacts.{MarkView}
 use Rattle.stream_rules.specs.declared.packet.Packet.{Packet}
 use Rattle.studio_spec.specs.Studio.{Studio}
 use Rattle.studio_rings.specs.Streams.{StreamHasHistory}
-use Rattle.studio_rings.specs.MixEnds.{MixHasFeeds}
+use Rattle.studio_rings.specs.Given.{HasGiven}
 use Rattle.studio_rings.specs.declared.side.Side.{Side}
 use Rattle.studio_rings.specs.declared.path_end.PathEnd.{PathEnd}
 use Rattle.studio_rings.specs.declared.stream_end.StreamEnd.{StreamEnd}
@@ -75,4 +75,4 @@ AllFreshRings places (s ∷ ss) (monitor ∷ monitors) [] = ⊥
 pub record AreOpened (studio : Studio) (places : ℕ) (ends : Ends) : Type 0 where
   pub streams : AllFreshStreams studio.open_at places studio.streams ends.paths.items ends.streams.items
   pub rings : AllFreshRings places ends.streams.items ends.monitors.items ends.mix.sides.items
-  pub mix : MixHasFeeds studio ends.mix 0
+  pub mix : HasGiven studio ends.mix []

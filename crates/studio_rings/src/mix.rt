@@ -1,14 +1,17 @@
 //! The end of the mixer.
-ghost use Rattle.std.specs.Prelude.{◌≡◌, ◌↔◌, ◌<◌, ◌≤◌, ◌+◌, ℕ, length, IsTrue, None, slice_get, Some, vec_len};
+ghost use Rattle.std.specs.Prelude.{◌≡◌, ◌↔◌, ◌<◌, ◌≤◌, ◌+◌, ℕ, List, length, IsTrue, None, slice_get, Some, true, vec_len};
 ghost use Rattle.mix_packets.specs.OutSpec.{datagram_length};
 ghost use Rattle.rtrb.specs.Ring.{all_sent, IsFinishedOf};
 ghost use Rattle.stream_rules.specs.MarkFacts.{MarkView};
 ghost use Rattle.studio_spec.specs.Studio.{Studio};
+ghost use Rattle.studio_mix.specs.Feed.{Feed};
+ghost use Rattle.studio_session.specs.Blocks.{AreBlocks};
 ghost use Rattle.studio_rings.specs.declared.side.Side.{Side};
-ghost use Rattle.studio_rings.specs.AcceptedFeeds.{received_total};
+ghost use Rattle.studio_rings.specs.AcceptedFeeds.{accepted_feeds, received_total};
 ghost use Rattle.studio_rings.specs.Looks.{AllDrained, AllLookAt};
 ghost use Rattle.studio_rings.specs.Mixes.{AllTakeSome};
 ghost use Rattle.studio_rings.specs.MixEnds.{MixHasFeeds, MixesBlock};
+ghost use Rattle.studio_rings.specs.Given.{AreAllGiven, AreAllTold, HasGiven, given_after};
 ghost use Rattle.studio_rings.specs.Tokens.{HandsIn};
 
 use crate::look::look_at;
@@ -36,6 +39,10 @@ impl MixEnd {
         ensures total { received_total self.new.sides.items ≡ received_total self.old.sides.items + result.taken }
         ensures mixes { (studio : Studio) (number : ℕ) → MixHasFeeds studio self.old number
             → MixesBlock studio self.old result self.new number out.old out.new }
+        ensures given { (studio : Studio) (datagrams : List (List ℕ)) → HasGiven studio self.old datagrams
+            → HasGiven studio self.new (given_after datagrams result.len out.new) }
+        ensures all { result.len ≡ None → (studio : Studio) (datagrams : List (List ℕ)) → HasGiven studio self.old datagrams
+            → AreAllGiven studio self.new datagrams }
         ensures none { result.len ≡ None → out.new ≡ out.old }
         ensures spec { self.new.mixer.packer.spec ≡ self.old.mixer.packer.spec }
     {
@@ -55,16 +62,23 @@ impl MixEnd {
         ensures sides { HandsIn self.old.sides.items stream (all_sent done.token) self.new.sides.items }
         ensures mixer { self.new.mixer ≡ self.old.mixer }
         ensures stands { (studio : Studio) (number : ℕ) → MixHasFeeds studio self.old number → MixHasFeeds studio self.new number }
+        ensures given { (studio : Studio) (datagrams : List (List ℕ)) → HasGiven studio self.old datagrams → HasGiven studio self.new datagrams }
     {
         self.sides[stream].hand_in(done.token);
     }
 
-    /// Whether every stream has finished, and all its marks were taken.
+    /// Whether every stream has finished, and all its marks were taken. If so, all marks that the
+    /// tokens tell were accepted, and where the turn before gave no datagram, all blocks were given.
     pub fn settled(&mut self) -> bool
         ensures value { IsTrue result ↔ AllDrained self.new.sides.items }
         ensures rings { AllLookAt self.old.sides.items self.new.sides.items }
         ensures mixer { self.new.mixer ≡ self.old.mixer }
         ensures stands { (studio : Studio) (number : ℕ) → MixHasFeeds studio self.old number → MixHasFeeds studio self.new number }
+        ensures given { (studio : Studio) (datagrams : List (List ℕ)) → HasGiven studio self.old datagrams → HasGiven studio self.new datagrams }
+        ensures accepted { result ≡ true → (studio : Studio) (feeds : List Feed) → AreAllTold studio self.new feeds
+            → accepted_feeds studio.streams self.new.sides.items ≡ feeds }
+        ensures all { result ≡ true → (studio : Studio) (feeds : List Feed) (datagrams : List (List ℕ)) → AreAllTold studio self.new feeds
+            → AreAllGiven studio self.old datagrams → AreBlocks studio feeds datagrams }
     {
         let mut open_yet = [false; 16];
         !look_at(&mut self.sides, &mut open_yet)

@@ -2,7 +2,7 @@
 ghost use Rattle.std.specs.Prelude.{◌≡◌, ◌<◌, ◌≤◌, [], List, ◌++◌, IfOk, IfErr, OnOk, length, vec_len, None, ℤ, pos, ◌≤ℤ◌, ◌^◌};
 ghost use Rattle.studio_spec.specs.Studio.{Studio, IsStudio};
 ghost use Rattle.studio_rings.specs.declared.path_end.PathEnd.{PathEnd};
-ghost use Rattle.studio_rings.specs.MixEnds.{MixHasFeeds};
+ghost use Rattle.studio_rings.specs.Given.{HasGiven};
 ghost use Rattle.studio_rings.specs.Opened.{AllFreshPaths, AreFreshRings, AreOpened, IsFreshPath, IsFreshStream, open_fault_of};
 ghost use Rattle.studio_rings.specs.Opening.{AddsStream, AllUnread, AreFreshEnds};
 
@@ -144,9 +144,10 @@ fn open_mix(
 ) -> Result<MixEnd, AllocError>
     requires sound { IsStudio studio.now }
     requires unread { AllUnread studio.now.streams sides.items }
-    ensures { IfOk result (λ mix. (mix.sides ≡ sides) × MixHasFeeds studio.now mix 0) }
+    ensures { IfOk result (λ mix. (mix.sides ≡ sides) × HasGiven studio.now mix []) }
 {
     let mixer = Mixer::new(alloc, studio)?;
+    let _frames = studio.output().frames();
     Ok(MixEnd { sides, mixer })
 }
 

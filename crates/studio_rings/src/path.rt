@@ -1,9 +1,10 @@
 //! The end of a path.
-ghost use Rattle.std.specs.Prelude.{◌≡◌, ◌<◌, ◌^◌, IfSome, false, true};
-ghost use Rattle.rtrb.specs.Ring.{sent, known_free, Finishes, ProducerLooked, SameProducer};
+ghost use Rattle.std.specs.Prelude.{◌≡◌, ◌<◌, ◌^◌, IfSome, false, length, true};
+ghost use Rattle.rtrb.specs.Ring.{all_sent, known_free, Finishes, ProducerLooked, SameProducer};
 ghost use Rattle.stream_rules.specs.declared.packet.Packet.{Packet};
 ghost use Rattle.studio_session.specs.Session.{reception_of};
 ghost use Rattle.studio_session.specs.declared.reception.Reception.TheVariants.{Sent as Received};
+ghost use Rattle.studio_rings.specs.Fitting.{fitting};
 ghost use Rattle.studio_rings.specs.Paths.{Offers};
 ghost use Rattle.studio_rings.specs.declared.path.Offer.TheVariants as offer;
 
@@ -81,6 +82,8 @@ impl PathEnd {
     /// end is gone.
     pub fn finish(self) -> (Option<PathDone>, PathCounts)
         ensures token { IfSome result.0 (λ done. Finishes self.ring done.token) }
+        ensures fit { IfSome result.0 (λ done. fitting self.spec (all_sent done.token) ≡ all_sent done.token) }
+        ensures count { IfSome result.0 (λ done. self.counts.sent ≡ length (all_sent done.token)) }
         ensures counts { result.1 ≡ self.counts }
     {
         let PathEnd {

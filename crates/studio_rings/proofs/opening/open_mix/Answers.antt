@@ -1,4 +1,6 @@
-use Rattle.std.proofs.Common.{rules, ◌≡◌, ◌∙◌, arith, length, vec_len, refl}
+use Rattle.std.proofs.Common.{rules, ◌≡◌, ◌∙◌, ◌<◌, arith, length, vec_len, refl, subst}
+use Rattle.mix_packets.specs.OutSpec.{Output}
+use Rattle.studio_rings.proofs.GivenLemmas.{given-fresh}
 use Rattle.studio_rings.proofs.OpenLemmas.{feeds-unread, lanes_count, unread_count}
 use Rattle.studio_rings.proofs.opening.open_mix.Goals as goal
 
@@ -13,4 +15,7 @@ invariant_of-result c =
     }
 
 pub returns : goal.returns
-returns c = (refl, feeds-unread c.args.studio.now c.args.sides.items c.in_ok-mixer.mixer c.requires.unread c.in_ok-mixer.ensures)
+returns c =
+    let studio = c.args.studio.now in
+    let e : c.output.result.now ≡ studio.output = c.output.ensures in
+    (refl, given-fresh studio _ (subst (λ (o : Output). 0 < o.frames) e c.frames-frames.ensures.sound.some_frames) (feeds-unread studio c.args.sides.items c.in_ok-mixer.mixer c.requires.unread c.in_ok-mixer.ensures))

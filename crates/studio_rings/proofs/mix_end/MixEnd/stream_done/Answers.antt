@@ -1,6 +1,7 @@
 use Rattle.std.proofs.Common.{rules, refl, subst, sym, IsSome, IfSome, ◌≡◌}
 use Rattle.rtrb.specs.Ring.{all_sent}
 use Rattle.studio_mix.specs.Mixer.{HasFeeds}
+use Rattle.studio_rings.proofs.GivenLemmas.{given-same}
 use Rattle.studio_rings.proofs.TokenLemmas.{feeds-handed, hands_in}
 use Rattle.studio_rings.proofs.mix_end.MixEnd.stream_done.Goals as goal
 
@@ -14,3 +15,7 @@ pub returns-clause-stands : goal.returns-clause-stands
 returns-clause-stands c = λ studio number h.
     subst (λ feeds. HasFeeds studio c.args.self.now.mixer feeds number)
     (sym (feeds-handed studio.streams c.args.stream c.args.self.now.sides.items _ (all_sent c.args.done.token) (returns-clause-sides c))) h
+
+pub returns-clause-given : goal.returns-clause-given
+returns-clause-given c = λ studio datagrams h.
+    given-same studio c.args.self.now _ datagrams refl (feeds-handed studio.streams c.args.stream c.args.self.now.sides.items _ (all_sent c.args.done.token) (returns-clause-sides c)) h

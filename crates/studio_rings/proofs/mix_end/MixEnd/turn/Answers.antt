@@ -1,3 +1,5 @@
+use Rattle.std.proofs.Common.{length}
+use Rattle.studio_rings.proofs.GivenLemmas.{given-all, given-turn}
 use Rattle.studio_rings.proofs.MixLemmas.{mixes}
 use Rattle.studio_rings.proofs.mix_end.MixEnd.turn.Goals as goal
 
@@ -5,3 +7,11 @@ pub returns-clause-mixes : goal.returns-clause-mixes
 returns-clause-mixes c = λ studio number h.
     let n = c.next_block-len.ensures in
     mixes studio c.args.self.now _ _ number _ _ c.take_streams-taken.new.mixer h c.take_streams-taken.ensures.took n.ready (λ e. (n.none e).0) n.some
+
+pub returns-clause-given : goal.returns-clause-given
+returns-clause-given c = λ studio datagrams h.
+    given-turn studio c.args.self.now _ _ datagrams _ _ c.next_block-len.auto.out c.requires.room c.take_streams-taken.ensures.took.all (returns-clause-mixes c studio (length datagrams) h.feeds) h
+
+pub returns-clause-all : goal.returns-clause-all
+returns-clause-all c none = λ studio datagrams h.
+    given-all studio c.args.self.now _ _ datagrams _ _ c.next_block-len.auto.out c.requires.room c.take_streams-taken.ensures.took.all (returns-clause-mixes c studio (length datagrams) h.feeds) none h
