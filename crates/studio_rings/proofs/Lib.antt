@@ -11,3 +11,4 @@ pub mod MixTurnLemmas
 pub mod MixLemmas
 pub mod GivenLemmas
 pub mod OpenLemmas
+pub mod PairLemmas

@@ -1,4 +1,8 @@
 //! One stream through its rings, by worked examples.
+ghost use Rattle.std.specs.Prelude.{IfOk};
+ghost use Rattle.rtrb.specs.Ring.{SameProducer};
+ghost use Rattle.studio_rings.specs.Paired.{ArePaired};
+
 use super::*;
 use gain_mix::{Matrix, Schedule};
 use mix_packets::OutSpec;
@@ -42,7 +46,9 @@ struct OneStream {
     mix: MixEnd,
 }
 
-fn one_stream(rt: &impl Abort, alloc: Global, ring_len: usize) -> Result<OneStream, Fail> {
+fn one_stream(rt: &impl Abort, alloc: Global, ring_len: usize) -> Result<OneStream, Fail>
+    ensures { IfOk result (λ ends. ArePaired ends.first ends.second ends.stream ends.mix) }
+{
     let studio = studio(rt, alloc)?;
     let Ends {
         mut paths,
@@ -50,7 +56,8 @@ fn one_stream(rt: &impl Abort, alloc: Global, ring_len: usize) -> Result<OneStre
         mut monitors,
         mix,
     } = open(alloc, &studio, ring_len)?;
-    assert_eq!(rt; (paths.len(), streams.len(), monitors.len()), (2, 1, 1));
+    assert!(rt; paths.len() == 2);
+    assert!(rt; streams.len() == 1);
     let (Some(second), Some(first)) = (paths.pop(), paths.pop()) else {
         panic!(rt; "two paths")
     };
@@ -67,7 +74,9 @@ fn one_stream(rt: &impl Abort, alloc: Global, ring_len: usize) -> Result<OneStre
 }
 
 /// What a turn took of the first two paths, how many marks it handed on, where it stopped, and why.
-fn turn(rt: &impl Abort, stream: &mut StreamEnd, now: i64) -> (u32, u32, u32, i64, StopReason) {
+fn turn(rt: &impl Abort, stream: &mut StreamEnd, now: i64) -> (u32, u32, u32, i64, StopReason)
+    ensures { SameProducer stream.old.marks stream.new.marks }
+{
     match stream.turn(now) {
         Ok(note) => {
             let [first, second, _, _] = note.from;
@@ -154,6 +163,47 @@ fn an_open_path_holds_up_the_close(rt: HostRuntime) -> Result<(), Fail> {
     );
     let (done, _) = ends.second.finish();
     assert!(rt; done.is_some());
+    Ok(())
+}
+
+/// Both packets are sent, and the ends finish one after the other.
+#[test]
+fn tokens_carry_the_end_to_the_mixer(rt: HostRuntime) -> Result<(), Fail> {
+    let OneStream {
+        mut first,
+        mut second,
+        mut stream,
+        monitor: _,
+        mut mix,
+    } = one_stream(&rt, rt.alloc(), 64)?;
+    assert_eq!(rt; first.offer(&FIRST), Offer::Sent);
+    assert_eq!(rt; second.offer(&SECOND), Offer::Sent);
+    let (first_done, _) = first.finish();
+    let (second_done, _) = second.finish();
+    let (Some(first_done), Some(second_done)) = (first_done, second_done) else {
+        panic!(rt; "the stream's end is there")
+    };
+    stream.path_done(0, first_done);
+    stream.path_done(1, second_done);
+    let Err(open) = stream.close() else {
+        panic!(rt; "no packet was taken")
+    };
+    assert_eq!(rt; open.still_open, [true, true, false, false]);
+    let took = turn(&rt, &mut stream, 0);
+    assert_eq!(rt; took, (1, 1, 0, 0, StopReason::CaughtUp));
+    assert!(rt; stream.close().is_ok(), "both paths are drained");
+    assert!(rt; stream.drain_turn(), "two slots and the end");
+    let (done, counts) = stream.finish();
+    let Some(done) = done else {
+        panic!(rt; "the mixer's end is there")
+    };
+    assert_eq!(rt; (counts.arrived, counts.taken, counts.got), (2, 2, 2));
+    mix.stream_done(0, done);
+    assert!(rt; !mix.settled(), "three marks are to be taken");
+    mixes(&rt, &mut mix, 1, Some(&FIRST[12..]));
+    mixes(&rt, &mut mix, 1, Some(&SECOND[12..]));
+    mixes(&rt, &mut mix, 1, None);
+    assert!(rt; mix.settled());
     Ok(())
 }
 
