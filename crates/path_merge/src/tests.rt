@@ -286,6 +286,20 @@ fn opened(alloc: Global, spec: StreamSpec, open_at: i64) -> Result<Merge<SlotWin
     Merge::new(alloc, spec, open_at)
 }
 
+/// The same over a sorted window.
+fn opened_sorted(
+    alloc: Global,
+    spec: StreamSpec,
+    open_at: i64,
+) -> Result<Merge<SortedWindow>, AllocError>
+    requires not_low { pos 0 ≤ℤ open_at }
+    requires not_high { open_at ≤ℤ pos (2 ^ 60) }
+    ensures { IfOk result (λ merge. merge.spec ≡ spec) }
+{
+    let window = SortedWindow::new(alloc, &spec)?;
+    Ok(Merge::with_window(window, spec, open_at))
+}
+
 /// Offers a packet, full to the stream's length.
 fn offer<W: Window>(
     rt: &impl Abort,

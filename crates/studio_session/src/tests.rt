@@ -2,7 +2,7 @@
 use super::*;
 use gain_mix::{Matrix, Schedule};
 use mix_packets::OutSpec;
-use path_merge::{Path, StreamClock, StreamSpec};
+use path_merge::{Path, SpecFault, StreamClock, StreamSpec};
 use rtp_wire::Enc;
 use std::alloc::{AllocError, Global};
 use std::process::Abort;
@@ -10,22 +10,27 @@ use std::test::Fail;
 use studio_spec::StudioSpec;
 
 /// A stream of one channel of L24.
-fn stream(rt: &impl Abort, frames: u16, latency: u32) -> StreamSpec {
+fn stream(frames: u16, latency: u32, window: u16, paths: u8) -> Result<StreamSpec, SpecFault> {
     let clock = StreamClock::Media { offset: 0 };
-    match StreamSpec::new(Enc::L24, 1, frames, 96, None, clock, latency, 8, 2) {
-        Ok(spec) => spec,
-        Err(_) => { panic!(rt; "a stream without a fault") }
-    }
+    StreamSpec::new(Enc::L24, 1, frames, 96, None, clock, latency, window, paths)
 }
 
 /// The streams of six and of 48 sampling instants a packet, added into packets of 48.
 fn six_and_forty_eight(rt: &impl Abort, alloc: Global) -> Result<StudioSpec, Fail> {
+    sum_of(rt, alloc, stream(6, 12, 8, 2)?, stream(48, 48, 8, 2)?)
+}
+
+/// Two streams, added into packets of 48.
+fn sum_of(
+    rt: &impl Abort,
+    alloc: Global,
+    first: StreamSpec,
+    second: StreamSpec,
+) -> Result<StudioSpec, Fail> {
     let output = OutSpec::new(Enc::L24, 1, 48, 97, 2, 65_535, 0, 0)?;
     let gains = Matrix::new(alloc, 1, 2, &[65_536, 65_536])?;
     let schedule = Schedule::new(gains, Vec::new(alloc))?;
     assert!(rt; schedule.outs() == usize::from(output.channels()));
-    let first = stream(rt, 6, 12);
-    let second = stream(rt, 48, 48);
     assert!(rt; schedule.ins() == usize::from(first.channels()) + usize::from(second.channels()));
     let mut both = Vec::new(alloc);
     both.push(first)?;
@@ -77,6 +82,8 @@ fn push_eight_thousands(
 const FIRST: [u8; 12] = [0x80, 0x61, 0xff, 0xff, 0, 0, 0, 0, 0, 0, 0, 2];
 
 const NEXT: [u8; 12] = [0x80, 0x61, 0, 0, 0, 0, 0, 48, 0, 0, 0, 2];
+
+const FOURTH: [u8; 12] = [0x80, 0x61, 0, 2, 0, 0, 0, 144, 0, 0, 0, 2];
 
 #[test]
 fn two_streams_are_mixed_from_datagrams_to_datagrams(rt: HostRuntime) -> Result<(), Fail> {
@@ -173,5 +180,141 @@ fn the_first_fault_is_answered_by_its_place(rt: HostRuntime) -> Result<(), Fail>
             Err(StudioFault::Path(0))
         )
     );
+    Ok(())
+}
+
+/// A packet of the first stream, of one sample throughout.
+fn six_of(
+    alloc: Global,
+    path: Path,
+    seq: u16,
+    ts: u32,
+    sample: [u8; 3],
+) -> Result<StudioEvent, AllocError> {
+    let [s, t] = seq.to_be_bytes();
+    let [a, b, c, d] = ts.to_be_bytes();
+    let octets = datagram(
+        alloc,
+        [0x80, 0x60, s, t, a, b, c, d, 0, 0, 0, 1],
+        &[(6, sample)],
+    )?;
+    Ok(StudioEvent::Arrive {
+        stream: 0,
+        path,
+        octets,
+    })
+}
+
+/// At 60 the second stream is final nowhere; at 100,000 its one packet is, to 192.
+#[test]
+fn a_long_latency_delays_blocks_and_loses_nothing(rt: HostRuntime) -> Result<(), Fail> {
+    let alloc = rt.alloc();
+    let spec = sum_of(
+        &rt,
+        alloc,
+        stream(6, 12, 8, 2)?,
+        stream(192, 100_000, 1024, 2)?,
+    )?;
+    let Some(path) = Path::new(0) else {
+        panic!(rt; "a path")
+    };
+    let mut events = Vec::new(alloc);
+    push_eight_thousands(alloc, path, &mut events)?;
+    let head = [0x80, 0x60, 0, 1, 0, 0, 0, 0, 0, 0, 0, 1];
+    let octets = datagram(alloc, head, &[(192, [0, 0, 1])])?;
+    events.push(StudioEvent::Arrive {
+        stream: 1,
+        path,
+        octets,
+    })?;
+    events.push(StudioEvent::Tick(60))?;
+    let Ok(early) = run_studio(alloc, &spec, events.as_slice()) else {
+        panic!(rt; "a report")
+    };
+    assert_eq!(rt; early.datagrams.len(), 0);
+    events.push(StudioEvent::Tick(100_000))?;
+    let Ok(report) = run_studio(alloc, &spec, events.as_slice()) else {
+        panic!(rt; "a report")
+    };
+    assert_eq!(rt; report.datagrams.len(), 4);
+    let sums = [(48, [0, 3, 0xe9])];
+    assert_eq!(rt; report.datagrams[0], datagram(alloc, FIRST, &sums)?);
+    let ones = [(48, [0, 0, 1])];
+    assert_eq!(rt; report.datagrams[3], datagram(alloc, FOURTH, &ones)?);
+    let Some(counts) = report.streams.first() else {
+        panic!(rt; "two streams")
+    };
+    assert_eq!(rt;
+        (counts.merge.got, counts.merge.lost),
+        (8, 16_657),
+        "the slots from 0 to 99,984"
+    );
+    Ok(())
+}
+
+/// The packet comes first on the fourth path; each path counts its own copy.
+#[test]
+fn four_paths_are_counted_apart(rt: HostRuntime) -> Result<(), Fail> {
+    let alloc = rt.alloc();
+    let spec = sum_of(&rt, alloc, stream(6, 12, 8, 4)?, stream(48, 48, 8, 1)?)?;
+    let mut events = Vec::new(alloc);
+    for number in [3u8, 0, 2, 1] {
+        let Some(path) = Path::new(number) else {
+            panic!(rt; "a path")
+        };
+        events.push(six_of(alloc, path, 1, 0, [0, 0, 7])?)?;
+    }
+    events.push(StudioEvent::Close)?;
+    let Ok(report) = run_studio(alloc, &spec, events.as_slice()) else {
+        panic!(rt; "a report")
+    };
+    assert_eq!(rt; report.datagrams.len(), 1);
+    let rest = [(6, [0, 0, 7]), (42, [0, 0, 0])];
+    assert_eq!(rt; report.datagrams[0], datagram(alloc, FIRST, &rest)?);
+    let (Some(counts), Some(other)) = (report.streams.first(), report.streams.last()) else {
+        panic!(rt; "two streams")
+    };
+    assert_eq!(rt; counts.merge.taken_by, [0, 0, 0, 1]);
+    assert_eq!(rt; counts.merge.double, 3);
+    assert_eq!(rt; counts.paths.len(), 4);
+    for path in counts.paths.iter() {
+        assert_eq!(rt; (path.offered, path.sent), (1, 1));
+    }
+    assert_eq!(rt; other.paths.len(), 1);
+    Ok(())
+}
+
+/// Number 1 at 0; then nine packets in sequence off its grid, of which the eighth is at 20.
+#[test]
+fn silence_stands_between_two_epochs(rt: HostRuntime) -> Result<(), Fail> {
+    let alloc = rt.alloc();
+    let spec = six_and_forty_eight(&rt, alloc)?;
+    let Some(path) = Path::new(0) else {
+        panic!(rt; "a path")
+    };
+    let mut events = Vec::new(alloc);
+    events.push(six_of(alloc, path, 1, 0, [0, 0, 7])?)?;
+    events.push(StudioEvent::Tick(12))?;
+    for i in 0..9u16 {
+        let ts = (u32::from(i) * 6).wrapping_sub(22);
+        events.push(six_of(alloc, path, 500 + i, ts, [0, 0, 9])?)?;
+    }
+    events.push(StudioEvent::Close)?;
+    let Ok(report) = run_studio(alloc, &spec, events.as_slice()) else {
+        panic!(rt; "a report")
+    };
+    assert_eq!(rt; report.datagrams.len(), 1);
+    let values = [
+        (6, [0, 0, 7]),
+        (14, [0, 0, 0]),
+        (12, [0, 0, 9]),
+        (16, [0, 0, 0]),
+    ];
+    assert_eq!(rt; report.datagrams[0], datagram(alloc, FIRST, &values)?);
+    let Some(counts) = report.streams.first() else {
+        panic!(rt; "two streams")
+    };
+    let merge = counts.merge;
+    assert_eq!(rt; (merge.taken, merge.off_grid, merge.restarts), (3, 7, 1));
     Ok(())
 }

@@ -11,7 +11,12 @@ const LAST: i64 = 1_152_921_504_606_846_976;
 #[test]
 fn clock_readings_are_checked_in_order(rt: HostRuntime) -> Result<(), Fail> {
     let spec = stream()?;
-    let mut merge = opened(rt.alloc(), spec, 0)?;
+    checks_readings(&rt, &spec, opened(rt.alloc(), spec, 0)?);
+    checks_readings(&rt, &spec, opened_sorted(rt.alloc(), spec, 0)?);
+    Ok(())
+}
+
+fn checks_readings<W: Window>(rt: &impl Abort, spec: &StreamSpec, mut merge: Merge<W>) {
     for (now, want) in [
         (5, Ok(Some(Seen::Quiet(-7)))),
         (5, Ok(None)),
@@ -24,7 +29,7 @@ fn clock_readings_are_checked_in_order(rt: HostRuntime) -> Result<(), Fail> {
         let time = merge.time();
         let answer = merge
             .advance(now)
-            .map(|mark| mark.map(|mark| seen_in(&rt, &spec, &mark)));
+            .map(|mark| mark.map(|mark| seen_in(rt, spec, &mark)));
         assert_eq!(rt; answer, want, "at {now}");
         let reached = if want.is_ok() { now } else { time };
         assert_eq!(rt; merge.time(), reached, "after {now}");
@@ -37,7 +42,6 @@ fn clock_readings_are_checked_in_order(rt: HostRuntime) -> Result<(), Fail> {
     ] {
         assert_eq!(rt; merge.advance(now).err(), Some(want), "at {now}, closed");
     }
-    Ok(())
 }
 
 #[test]

@@ -1,4 +1,6 @@
 //! What a close hands on, and what comes after it.
+ghost use Rattle.std.specs.Prelude.{◌≡◌};
+
 use super::*;
 use std::test::Fail;
 
@@ -75,17 +77,28 @@ fn closing_with_nothing_held_gives_the_end(rt: HostRuntime) -> Result<(), Fail> 
 #[test]
 fn a_close_between_due_slots_gives_what_is_held(rt: HostRuntime) -> Result<(), Fail> {
     let spec = stream()?;
-    let mut merge = opened(rt.alloc(), spec, 0)?;
-    assert_eq!(rt; offer(&rt, &mut merge, &spec, 0, packet(1, 0)), Fate::Taken);
-    assert_eq!(rt;
-        offer(&rt, &mut merge, &spec, 1, packet(3, 12)),
-        Fate::Taken
-    );
-    let first = merge.advance(100)?.map(|mark| seen_in(&rt, &spec, &mark));
-    assert_eq!(rt; first, Some(Seen::Got(65_537, 0, 7)));
+    closes_between_slots(&rt, rt.alloc(), &spec, opened(rt.alloc(), spec, 0)?)?;
+    closes_between_slots(&rt, rt.alloc(), &spec, opened_sorted(rt.alloc(), spec, 0)?)?;
+    Ok(())
+}
+
+fn closes_between_slots<W: Window>(
+    rt: &impl Abort,
+    alloc: Global,
+    spec: &StreamSpec,
+    mut merge: Merge<W>,
+) -> Result<(), AllocError>
+    requires { merge.spec ≡ spec.now }
+{
+    assert_eq!(rt; offer(rt, &mut merge, spec, 0, packet(1, 0)), Fate::Taken);
+    assert_eq!(rt; offer(rt, &mut merge, spec, 1, packet(3, 12)), Fate::Taken);
+    let first = merge
+        .advance(100)
+        .map(|mark| mark.map(|mark| seen_in(rt, spec, &mark)));
+    assert_eq!(rt; first, Ok(Some(Seen::Got(65_537, 0, 7))));
     assert_eq!(rt; merge.time(), 12);
-    let mut marks = Vec::new(rt.alloc());
-    close(&rt, &mut merge, &spec, &mut marks)?;
+    let mut marks = Vec::new(alloc);
+    close(rt, &mut merge, spec, &mut marks)?;
     let want = [Seen::Lost(65_538, 6), Seen::Got(65_539, 12, 7), Seen::End];
     assert_eq!(rt; marks.as_slice(), want.as_slice());
     assert_eq!(rt; merge.time(), 12, "a drain moves no time");

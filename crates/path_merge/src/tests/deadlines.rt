@@ -1,4 +1,6 @@
 //! Deadlines and the reorder window, at each boundary.
+ghost use Rattle.std.specs.Prelude.{◌≡◌};
+
 use super::*;
 use std::test::Fail;
 
@@ -89,7 +91,7 @@ fn every_boundary_of_a_deadline_and_of_the_window(rt: HostRuntime) -> Result<(),
     Ok(())
 }
 
-/// The fate of a packet at this time, after packet 1 at 0.
+/// The fate of a packet at this time, after packet 1 at 0, by each window.
 fn fate_at(
     rt: &impl Abort,
     alloc: Global,
@@ -97,11 +99,26 @@ fn fate_at(
     time: i64,
     sent: Sent,
 ) -> Result<Fate, AllocError> {
-    let mut merge = opened(alloc, spec, 0)?;
-    assert_eq!(rt; offer(rt, &mut merge, &spec, 0, packet(1, 0)), Fate::Taken);
+    let fate = fate_in(rt, alloc, &spec, time, sent, opened(alloc, spec, 0)?)?;
+    let sorted = fate_in(rt, alloc, &spec, time, sent, opened_sorted(alloc, spec, 0)?)?;
+    assert_eq!(rt; fate, sorted, "both windows");
+    Ok(fate)
+}
+
+fn fate_in<W: Window>(
+    rt: &impl Abort,
+    alloc: Global,
+    spec: &StreamSpec,
+    time: i64,
+    sent: Sent,
+    mut merge: Merge<W>,
+) -> Result<Fate, AllocError>
+    requires { merge.spec ≡ spec.now }
+{
+    assert_eq!(rt; offer(rt, &mut merge, spec, 0, packet(1, 0)), Fate::Taken);
     let mut marks = Vec::new(alloc);
-    tick(rt, &mut merge, &spec, time, &mut marks)?;
-    Ok(offer(rt, &mut merge, &spec, 1, sent))
+    tick(rt, &mut merge, spec, time, &mut marks)?;
+    Ok(offer(rt, &mut merge, spec, 1, sent))
 }
 
 /// At 100 a first packet has to be due after 100, and within eight packets of 6 from then on.
@@ -123,9 +140,12 @@ fn every_boundary_of_a_first_packet(rt: HostRuntime) -> Result<(), Fail> {
         (StreamClock::Arrival, 4_294_967_295, Fate::Taken),
     ] {
         let spec = stream_with(None, clock, 2)?;
-        let mut merge = opened(rt.alloc(), spec, 100)?;
-        let fate = offer(&rt, &mut merge, &spec, 0, packet(1, ts));
+        let mut slots = opened(rt.alloc(), spec, 100)?;
+        let fate = offer(&rt, &mut slots, &spec, 0, packet(1, ts));
         assert_eq!(rt; fate, want, "timestamp {ts} by {clock:?}");
+        let mut sorted = opened_sorted(rt.alloc(), spec, 100)?;
+        let fate = offer(&rt, &mut sorted, &spec, 0, packet(1, ts));
+        assert_eq!(rt; fate, want, "timestamp {ts} by {clock:?}, sorted");
     }
     Ok(())
 }
