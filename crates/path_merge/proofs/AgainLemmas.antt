@@ -1,4 +1,4 @@
--- A tick at the current time changes nothing.
+-- A reading at the current time changes nothing.
 use Rattle.std.proofs.Common.{◌≡◌, ℕ, zero, suc, ◌-◌, ◌<◌, Bool, true, false, not, ◌&&◌, List, [], ◌∷◌, ◌++◌, Option, Some, None, ℤ, pos, ◌-ℤ◌, refl, ap, ◌∙◌, arith, append-nil, if◌then◌else◌}
 use Rattle.std.specs.Prelude.{int_lt}
 use Rattle.std.proofs.lemmas.Int.{ints}
@@ -34,7 +34,7 @@ past_no_self until mark (first ∷ given) e = rw (past_no_self until mark given 
     and_false false = refl
     and_false true = refl
 
--- after a tick, no Quiet at its time is new
+-- after a reading, no Quiet at its time is new
 module _ (stream : Stream) (open_at u : ℤ) (given : List MarkView) where
   silent : is_quiet_new stream open_at (given ++ slots_or_quiet stream open_at given u []) (u -ℤ pos stream.latency) ≡ false
   silent = by_test (is_quiet_new stream open_at given (u -ℤ pos stream.latency)) refl
@@ -70,7 +70,7 @@ silence_told stream open_at some = by_open_event stream open_at some (λ events.
         let x : int_lt (open_at -ℤ pos stream.latency) (open_at -ℤ pos stream.latency) ≡ false = grind (arith, ints) in
         rw x refl
 
--- a tick at the current time
+-- a reading at the current time
 module _ (stream : Stream) (open_at : ℤ) (some : 0 < stream.frames) (events : List Event) (still : IsOpen open_at events) where
   none_between : (o : Option Anchor) (time : ℤ) (copies : List (ℕ × Packet)) → slots_between stream copies o time time ≡ []
   none_between None time copies = refl

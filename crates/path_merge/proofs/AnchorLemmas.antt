@@ -101,48 +101,48 @@ complete_small stream heard off packet completes = by_off off (sym (complete_is 
     by_off true e = by_tests (probation_of stream heard) (nat_eq packet.ssrc (probation_of stream heard).source) _ _ refl refl (probation_small stream heard) _ e
 
 -- what an anchor has that a packet makes after another one
-pub record Restarts (stream : Stream) (opening : ℤ) (events : List Event) (path : ℕ) (packet : Packet) (place : ℕ) (a b : Anchor) : Type 0 where
-  pub not_back : media_time_of stream a (next_number stream a (time_of opening events)) ≤ℤ b.media
-  pub all_given : end_of_copies (copies_since stream opening place a events) ≤ next_number stream a (time_of opening events)
-  pub own : copies_under_at stream b opening events (Arrive path packet) ≡ (b.number, packet) ∷ []
+pub record Restarts (stream : Stream) (open_at : ℤ) (events : List Event) (path : ℕ) (packet : Packet) (place : ℕ) (a b : Anchor) : Type 0 where
+  pub not_back : media_time_of stream a (next_number stream a (time_of open_at events)) ≤ℤ b.media
+  pub all_given : end_of_copies (copies_since stream open_at place a events) ≤ next_number stream a (time_of open_at events)
+  pub own : copies_under_at stream b open_at events (Arrive path packet) ≡ (b.number, packet) ∷ []
 
 abbrev pub Follows : Stream → ℤ → List Event → ℕ → Packet → Option (ℕ × Anchor) → Anchor → Type 0
-Follows stream opening events path packet None b = Unit {0}
-Follows stream opening events path packet (Some (place, a)) b = Restarts stream opening events path packet place a b
+Follows stream open_at events path packet None b = Unit {0}
+Follows stream open_at events path packet (Some (place, a)) b = Restarts stream open_at events path packet place a b
 
 -- what an anchor has that a packet makes
-pub record IsMade (stream : Stream) (opening : ℤ) (events : List Event) (path : ℕ) (packet : Packet) (old : Option (ℕ × Anchor)) (b : Anchor) : Type 0 where
-  pub early : (time_of opening events -ℤ pos stream.latency) <ℤ b.media
-  pub next : IsNextEpoch stream opening (anchor_in old) (Some b)
-  pub follows : Follows stream opening events path packet old b
+pub record IsMade (stream : Stream) (open_at : ℤ) (events : List Event) (path : ℕ) (packet : Packet) (old : Option (ℕ × Anchor)) (b : Anchor) : Type 0 where
+  pub early : (time_of open_at events -ℤ pos stream.latency) <ℤ b.media
+  pub next : IsNextEpoch stream open_at (anchor_in old) (Some b)
+  pub follows : Follows stream open_at events path packet old b
 
-module _ (stream : Stream) (opening : ℤ) (some : 0 < stream.frames) where
-  restarts : (events : List Event) (path : ℕ) (packet : Packet) (place : ℕ) (a : Anchor) → place < length events → is_counting events ≡ true → can_restart stream opening place a events path packet ≡ true → IsMade stream opening events path packet (Some (place, a)) (restart_from stream (time_of opening events) a (next_number stream a (time_of opening events)) packet)
-  restarts events path packet place a within counts can = by_tests (goes_on stream (time_of opening events) a packet) (is_all_given stream opening place a events) (is_source_wanted stream.ssrc packet.ssrc) refl refl refl can
+module _ (stream : Stream) (open_at : ℤ) (some : 0 < stream.frames) where
+  restarts : (events : List Event) (path : ℕ) (packet : Packet) (place : ℕ) (a : Anchor) → place < length events → is_counting events ≡ true → can_restart stream open_at place a events path packet ≡ true → IsMade stream open_at events path packet (Some (place, a)) (restart_from stream (time_of open_at events) a (next_number stream a (time_of open_at events)) packet)
+  restarts events path packet place a within counts can = by_tests (goes_on stream (time_of open_at events) a packet) (is_all_given stream open_at place a events) (is_source_wanted stream.ssrc packet.ssrc) refl refl refl can
     where
       media : ℤ
-      media = restart_media_time stream.clock packet.ts (time_of opening events) (media_time_of stream a (next_number stream a (time_of opening events)))
+      media = restart_media_time stream.clock packet.ts (time_of open_at events) (media_time_of stream a (next_number stream a (time_of open_at events)))
 
-      here : is_source_wanted stream.ssrc packet.ssrc ≡ true → heard_since stream opening place a (events ++ Arrive path packet ∷ []) path ≡ heard_since stream opening place a events path ++ (is_off stream a (next_number stream a (time_of opening events)) packet, packet) ∷ []
+      here : is_source_wanted stream.ssrc packet.ssrc ≡ true → heard_since stream open_at place a (events ++ Arrive path packet ∷ []) path ≡ heard_since stream open_at place a events path ++ (is_off stream a (next_number stream a (time_of open_at events)) packet, packet) ∷ []
       here wanted =
-          heard_of-push stream opening (Some (place, a)) events (Arrive path packet) path within
-          ∙ ap (λ l. heard_since stream opening place a events path ++ l) (rw (counts, itself_eq path, wanted) refl)
+          heard_of-push stream open_at (Some (place, a)) events (Arrive path packet) path within
+          ∙ ap (λ l. heard_since stream open_at place a events path ++ l) (rw (counts, itself_eq path, wanted) refl)
 
       wide : (w f : ℕ) (low high : ℤ) → low <ℤ high → high <ℤ (low +ℤ pos (w * f)) → 0 < w
       wide zero f low high after before = absurd (omega (arith, ints, after, before))
       wide (suc w) f low high after before = omega arith
 
-      by_tests : (b c w : Bool) → goes_on stream (time_of opening events) a packet ≡ b → is_all_given stream opening place a events ≡ c → is_source_wanted stream.ssrc packet.ssrc ≡ w → (b && (c && (w && completes_probation stream (heard_since stream opening place a (events ++ Arrive path packet ∷ []) path)))) ≡ true → IsMade stream opening events path packet (Some (place, a)) (restart_from stream (time_of opening events) a (next_number stream a (time_of opening events)) packet)
+      by_tests : (b c w : Bool) → goes_on stream (time_of open_at events) a packet ≡ b → is_all_given stream open_at place a events ≡ c → is_source_wanted stream.ssrc packet.ssrc ≡ w → (b && (c && (w && completes_probation stream (heard_since stream open_at place a (events ++ Arrive path packet ∷ []) path)))) ≡ true → IsMade stream open_at events path packet (Some (place, a)) (restart_from stream (time_of open_at events) a (next_number stream a (time_of open_at events)) packet)
       by_tests true true true go given wanted completes =
-          let on : GoesOn stream (time_of opening events) (media_time_of stream a (next_number stream a (time_of opening events))) (restart_media_time stream.clock packet.ts (time_of opening events) (media_time_of stream a (next_number stream a (time_of opening events)))) = in_reach stream (time_of opening events) (media_time_of stream a (next_number stream a (time_of opening events))) (restart_media_time stream.clock packet.ts (time_of opening events) (media_time_of stream a (next_number stream a (time_of opening events)))) go in
-          let small = complete_small stream (heard_since stream opening place a events path) (is_off stream a (next_number stream a (time_of opening events)) packet) packet (ap (completes_probation stream) (sym (here wanted)) ∙ completes) in
+          let on : GoesOn stream (time_of open_at events) (media_time_of stream a (next_number stream a (time_of open_at events))) (restart_media_time stream.clock packet.ts (time_of open_at events) (media_time_of stream a (next_number stream a (time_of open_at events)))) = in_reach stream (time_of open_at events) (media_time_of stream a (next_number stream a (time_of open_at events))) (restart_media_time stream.clock packet.ts (time_of open_at events) (media_time_of stream a (next_number stream a (time_of open_at events)))) go in
+          let small = complete_small stream (heard_since stream open_at place a events path) (is_off stream a (next_number stream a (time_of open_at events)) packet) packet (ap (completes_probation stream) (sym (here wanted)) ∙ completes) in
           record {
             early = on.after;
             next = refl;
             follows = record {
               not_back = on.not_back;
               all_given = grind (arith, nat_tests, given);
-              own = rw counts (own_copy stream (time_of opening events) packet (a.epoch + 1) (restart_media_time stream.clock packet.ts (time_of opening events) (media_time_of stream a (next_number stream a (time_of opening events)))) some (wide stream.window stream.frames _ _ on.after on.before) small.0 small.1 on.after);
+              own = rw counts (own_copy stream (time_of open_at events) packet (a.epoch + 1) (restart_media_time stream.clock packet.ts (time_of open_at events) (media_time_of stream a (next_number stream a (time_of open_at events)))) some (wide stream.window stream.frames _ _ on.after on.before) small.0 small.1 on.after);
             };
           }
       by_tests false c w go given wanted e = cc
@@ -150,37 +150,37 @@ module _ (stream : Stream) (opening : ℤ) (some : 0 < stream.frames) where
       by_tests true true false go given wanted e = cc
 
   -- an arrival makes no anchor, or one
-  pub by_anchor_made : (events : List Event) (path : ℕ) (packet : Packet) (P : List (ℕ × Anchor) → Type 0) → P [] → ((b : Anchor) → IsMade stream opening events path packet (last_of (anchors_of stream opening events)) b → P ((length events, b) ∷ [])) → P (anchors_at stream opening (anchors_of stream opening events) events (Arrive path packet))
-  by_anchor_made events path packet P none = by_counting (is_counting events) refl (last_of (anchors_of stream opening events)) (place_within stream opening events)
+  pub by_anchor_made : (events : List Event) (path : ℕ) (packet : Packet) (P : List (ℕ × Anchor) → Type 0) → P [] → ((b : Anchor) → IsMade stream open_at events path packet (last_of (anchors_of stream open_at events)) b → P ((length events, b) ∷ [])) → P (anchors_at stream open_at (anchors_of stream open_at events) events (Arrive path packet))
+  by_anchor_made events path packet P none = by_counting (is_counting events) refl (last_of (anchors_of stream open_at events)) (place_within stream open_at events)
     where
-      by_first : (c : Bool) → can_anchor stream (time_of opening events) packet ≡ c → ((b : Anchor) → IsMade stream opening events path packet None b → P ((length events, b) ∷ [])) → P (placed (length events) (if c then anchor_from stream (time_of opening events) packet ∷ [] else []))
+      by_first : (c : Bool) → can_anchor stream (time_of open_at events) packet ≡ c → ((b : Anchor) → IsMade stream open_at events path packet None b → P ((length events, b) ∷ [])) → P (placed (length events) (if c then anchor_from stream (time_of open_at events) packet ∷ [] else []))
       by_first false can made = none
-      by_first true can made = made (anchor_from stream (time_of opening events) packet) (record { early = (is_first stream (time_of opening events) packet can).after; next = refl; follows = tt })
+      by_first true can made = made (anchor_from stream (time_of open_at events) packet) (record { early = (is_first stream (time_of open_at events) packet can).after; next = refl; follows = tt })
 
-      by_next : (place : ℕ) (a : Anchor) → place < length events → is_counting events ≡ true → (c : Bool) → can_restart stream opening place a events path packet ≡ c → ((b : Anchor) → IsMade stream opening events path packet (Some (place, a)) b → P ((length events, b) ∷ [])) → P (placed (length events) (if c then restart_from stream (time_of opening events) a (next_number stream a (time_of opening events)) packet ∷ [] else []))
+      by_next : (place : ℕ) (a : Anchor) → place < length events → is_counting events ≡ true → (c : Bool) → can_restart stream open_at place a events path packet ≡ c → ((b : Anchor) → IsMade stream open_at events path packet (Some (place, a)) b → P ((length events, b) ∷ [])) → P (placed (length events) (if c then restart_from stream (time_of open_at events) a (next_number stream a (time_of open_at events)) packet ∷ [] else []))
       by_next place a within counts false can made = none
-      by_next place a within counts true can made = made (restart_from stream (time_of opening events) a (next_number stream a (time_of opening events)) packet) (restarts events path packet place a within counts can)
+      by_next place a within counts true can made = made (restart_from stream (time_of open_at events) a (next_number stream a (time_of open_at events)) packet) (restarts events path packet place a within counts can)
 
-      by_counting : (c : Bool) → is_counting events ≡ c → (o : Option (ℕ × Anchor)) → WithinLength (length events) o → ((b : Anchor) → IsMade stream opening events path packet o b → P ((length events, b) ∷ [])) → P (if c then placed (length events) (anchors_after stream opening o events path packet) else [])
+      by_counting : (c : Bool) → is_counting events ≡ c → (o : Option (ℕ × Anchor)) → WithinLength (length events) o → ((b : Anchor) → IsMade stream open_at events path packet o b → P ((length events, b) ∷ [])) → P (if c then placed (length events) (anchors_after stream open_at o events path packet) else [])
       by_counting false counts o within made = none
-      by_counting true counts None within made = by_first (can_anchor stream (time_of opening events) packet) refl made
-      by_counting true counts (Some (place, a)) within made = by_next place a within counts (can_restart stream opening place a events path packet) refl made
+      by_counting true counts None within made = by_first (can_anchor stream (time_of open_at events) packet) refl made
+      by_counting true counts (Some (place, a)) within made = by_next place a within counts (can_restart stream open_at place a events path packet) refl made
 
   -- every anchor has its place in the history
-  pub all_within : (events : List Event) → AllWithin (length events) (anchors_of stream opening events)
-  all_within = by_last_event (λ events. AllWithin (length events) (anchors_of stream opening events)) (rw (no_anchors stream opening) tt) (λ events event before.
-      rw (anchors_of-push stream opening events event)
-      (AllWithin-append (length (events ++ event ∷ [])) (anchors_of stream opening events) (anchors_at stream opening (anchors_of stream opening events) events event)
-      (AllWithin-raise (length events) (length (events ++ event ∷ [])) (anchors_of stream opening events) (omega (arith, length-append events (event ∷ []))) before)
+  pub all_within : (events : List Event) → AllWithin (length events) (anchors_of stream open_at events)
+  all_within = by_last_event (λ events. AllWithin (length events) (anchors_of stream open_at events)) (rw (no_anchors stream open_at) tt) (λ events event before.
+      rw (anchors_of-push stream open_at events event)
+      (AllWithin-append (length (events ++ event ∷ [])) (anchors_of stream open_at events) (anchors_at stream open_at (anchors_of stream open_at events) events event)
+      (AllWithin-raise (length events) (length (events ++ event ∷ [])) (anchors_of stream open_at events) (omega (arith, length-append events (event ∷ []))) before)
       (here events event)))
     where
-      here : (events : List Event) (event : Event) → AllWithin (length (events ++ event ∷ [])) (anchors_at stream opening (anchors_of stream opening events) events event)
+      here : (events : List Event) (event : Event) → AllWithin (length (events ++ event ∷ [])) (anchors_at stream open_at (anchors_of stream open_at events) events event)
       here events (Tick u) = tt
       here events Close = tt
       here events (Arrive path packet) = by_anchor_made events path packet (AllWithin (length (events ++ Arrive path packet ∷ []))) tt (λ b made. (omega (arith, length-append events (Arrive path packet ∷ [])), tt))
 
   -- one more anchor, of the next epoch
-  one_epoch_more : (n : ℕ) (anchors : List (ℕ × Anchor)) (b : Anchor) → IsNextEpoch stream opening (anchor_in (last_of anchors)) (Some b) → HasEpochs stream anchors → HasEpochs stream (anchors ++ (n, b) ∷ [])
+  one_epoch_more : (n : ℕ) (anchors : List (ℕ × Anchor)) (b : Anchor) → IsNextEpoch stream open_at (anchor_in (last_of anchors)) (Some b) → HasEpochs stream anchors → HasEpochs stream (anchors ++ (n, b) ∷ [])
   one_epoch_more n anchors b next has = record {
     count = rw (last_of-push anchors (n, b)) (omega (arith, own_epoch, longer));
     epochs =
@@ -194,7 +194,7 @@ module _ (stream : Stream) (opening : ℤ) (some : 0 < stream.frames) where
         anchor_with-append epoch anchors ((n, b) ∷ []) ∙ rw (has.later epoch (omega (arith, before (anchor_in (last_of anchors)) next, above)), another epoch above) refl;
   }
     where
-      before : (o : Option Anchor) → IsNextEpoch stream opening o (Some b) → limit_of stream o ≡ b.epoch
+      before : (o : Option Anchor) → IsNextEpoch stream open_at o (Some b) → limit_of stream o ≡ b.epoch
       before None next = sym next
       before (Some a) next = sym next
 
@@ -211,12 +211,12 @@ module _ (stream : Stream) (opening : ℤ) (some : 0 < stream.frames) where
       another epoch le = grind (arith, nat_tests, le)
 
   -- each epoch has one anchor
-  pub has_epochs : (events : List Event) → HasEpochs stream (anchors_of stream opening events)
-  has_epochs = by_last_event (λ events. HasEpochs stream (anchors_of stream opening events)) (rw (no_anchors stream opening) (record { count = refl; epochs = refl; own = tt; later = λ epoch le. refl })) step
+  pub has_epochs : (events : List Event) → HasEpochs stream (anchors_of stream open_at events)
+  has_epochs = by_last_event (λ events. HasEpochs stream (anchors_of stream open_at events)) (rw (no_anchors stream open_at) (record { count = refl; epochs = refl; own = tt; later = λ epoch le. refl })) step
     where
-      step : (events : List Event) (event : Event) → HasEpochs stream (anchors_of stream opening events) → HasEpochs stream (anchors_of stream opening (events ++ event ∷ []))
-      step events (Tick u) before = rw (anchors_of-push stream opening events (Tick u), append-nil) before
-      step events Close before = rw (anchors_of-push stream opening events Close, append-nil) before
+      step : (events : List Event) (event : Event) → HasEpochs stream (anchors_of stream open_at events) → HasEpochs stream (anchors_of stream open_at (events ++ event ∷ []))
+      step events (Tick u) before = rw (anchors_of-push stream open_at events (Tick u), append-nil) before
+      step events Close before = rw (anchors_of-push stream open_at events Close, append-nil) before
       step events (Arrive path packet) before =
-          rw (anchors_of-push stream opening events (Arrive path packet))
-          (by_anchor_made events path packet (λ made. HasEpochs stream (anchors_of stream opening events ++ made)) (rw append-nil before) (λ b made. one_epoch_more (length events) (anchors_of stream opening events) b made.next before))
+          rw (anchors_of-push stream open_at events (Arrive path packet))
+          (by_anchor_made events path packet (λ made. HasEpochs stream (anchors_of stream open_at events ++ made)) (rw append-nil before) (λ b made. one_epoch_more (length events) (anchors_of stream open_at events) b made.next before))

@@ -25,37 +25,37 @@ closed_before events event kept shut = either (is_closed events) (is_closed (eve
     either true b e h = refl
     either false b e h = sym e ∙ h
 
-module _ (stream : Stream) (opening : ℤ) where
+module _ (stream : Stream) (open_at : ℤ) where
   -- one more event after a close
-  pub marks_of-closed : (events : List Event) (event : Event) → is_closed events ≡ true → marks_of stream opening (events ++ event ∷ []) ≡ marks_of stream opening events
-  marks_of-closed events (Arrive path packet) shut = marks_of-unheard stream opening events path packet (rw shut refl)
+  pub marks_of-closed : (events : List Event) (event : Event) → is_closed events ≡ true → marks_of stream open_at (events ++ event ∷ []) ≡ marks_of stream open_at events
+  marks_of-closed events (Arrive path packet) shut = marks_of-unheard stream open_at events path packet (rw shut refl)
   marks_of-closed events (Tick u) shut =
-      marks_of-in stream opening (events ++ Tick u ∷ [])
-      ∙ ap (λ c. marks_in stream opening c (events ++ Tick u ∷ [])) (copies_of_all-tick stream opening events u)
-      ∙ marks_in-push stream opening (copies_of_all stream opening events) events (Tick u)
-      ∙ rw shut (append-nil (marks_in stream opening (copies_of_all stream opening events) events))
-      ∙ sym (marks_of-in stream opening events)
-  marks_of-closed events Close shut = marks_of-close stream opening events ∙ rw shut (append-nil (marks_of stream opening events))
+      marks_of-in stream open_at (events ++ Tick u ∷ [])
+      ∙ ap (λ c. marks_in stream open_at c (events ++ Tick u ∷ [])) (copies_of_all-tick stream open_at events u)
+      ∙ marks_in-push stream open_at (copies_of_all stream open_at events) events (Tick u)
+      ∙ rw shut (append-nil (marks_in stream open_at (copies_of_all stream open_at events) events))
+      ∙ sym (marks_of-in stream open_at events)
+  marks_of-closed events Close shut = marks_of-close stream open_at events ∙ rw shut (append-nil (marks_of stream open_at events))
 
   -- and any more
-  pub nothing_more : (events more : List Event) → is_closed events ≡ true → marks_of stream opening (events ++ more) ≡ marks_of stream opening events
-  nothing_more events more shut = by_last_event (λ more. marks_of stream opening (events ++ more) ≡ marks_of stream opening events) (ap (marks_of stream opening) (append-nil events)) (λ more event before.
-      ap (marks_of stream opening) (sym (append_assoc events more (event ∷ [])))
+  pub nothing_more : (events more : List Event) → is_closed events ≡ true → marks_of stream open_at (events ++ more) ≡ marks_of stream open_at events
+  nothing_more events more shut = by_last_event (λ more. marks_of stream open_at (events ++ more) ≡ marks_of stream open_at events) (ap (marks_of stream open_at) (append-nil events)) (λ more event before.
+      ap (marks_of stream open_at) (sym (append_assoc events more (event ∷ [])))
       ∙ marks_of-closed (events ++ more) event (closed_stays events more shut)
       ∙ before) more
 
   -- the last mark of a closed history is the end
-  pub ends : (events : List Event) → is_closed events ≡ true → last_of (marks_of stream opening events) ≡ Some (end_mark stream)
-  ends = by_last_event (λ events. is_closed events ≡ true → last_of (marks_of stream opening events) ≡ Some (end_mark stream)) (λ shut. cc) step
+  pub ends : (events : List Event) → is_closed events ≡ true → last_of (marks_of stream open_at events) ≡ Some (end_mark stream)
+  ends = by_last_event (λ events. is_closed events ≡ true → last_of (marks_of stream open_at events) ≡ Some (end_mark stream)) (λ shut. cc) step
     where
       last_end : (marks slots : List MarkView) → last_of (marks ++ (slots ++ end_mark stream ∷ [])) ≡ Some (end_mark stream)
       last_end marks slots = ap last_of (sym (append_assoc marks slots (end_mark stream ∷ []))) ∙ last_of-push (marks ++ slots) (end_mark stream)
 
-      step : (events : List Event) (event : Event) → (is_closed events ≡ true → last_of (marks_of stream opening events) ≡ Some (end_mark stream)) → is_closed (events ++ event ∷ []) ≡ true → last_of (marks_of stream opening (events ++ event ∷ [])) ≡ Some (end_mark stream)
+      step : (events : List Event) (event : Event) → (is_closed events ≡ true → last_of (marks_of stream open_at events) ≡ Some (end_mark stream)) → is_closed (events ++ event ∷ []) ≡ true → last_of (marks_of stream open_at (events ++ event ∷ [])) ≡ Some (end_mark stream)
       step events (Arrive path packet) before shut = let was = closed_before events (Arrive path packet) refl shut in ap last_of (marks_of-closed events (Arrive path packet) was) ∙ before was
       step events (Tick u) before shut = let was = closed_before events (Tick u) refl shut in ap last_of (marks_of-closed events (Tick u) was) ∙ before was
       step events Close before shut = by_test (is_closed events) refl
         where
-          by_test : (b : Bool) → is_closed events ≡ b → last_of (marks_of stream opening (events ++ Close ∷ [])) ≡ Some (end_mark stream)
+          by_test : (b : Bool) → is_closed events ≡ b → last_of (marks_of stream open_at (events ++ Close ∷ [])) ≡ Some (end_mark stream)
           by_test true is = ap last_of (marks_of-closed events Close is) ∙ before is
-          by_test false is = ap last_of (marks_of-close stream opening events) ∙ rw is (last_end (marks_of stream opening events) (slots_at_close stream (copies_with (anchor_of stream opening events) (copies_of_all stream opening events)) (anchor_of stream opening events) (time_of opening events)))
+          by_test false is = ap last_of (marks_of-close stream open_at events) ∙ rw is (last_end (marks_of stream open_at events) (slots_at_close stream (copies_with (anchor_of stream open_at events) (copies_of_all stream open_at events)) (anchor_of stream open_at events) (time_of open_at events)))

@@ -1,4 +1,4 @@
--- A tick to a deadline on the way to a later tick changes nothing.
+-- A reading to a deadline on the way to a later reading changes nothing.
 use Rattle.path_merge.proofs.EpochLemmas.{heard_of-tick}
 use Rattle.stream_rules.specs.PathProbation.{probation_of}
 use Rattle.stream_rules.specs.Epochs.{anchor_of}
@@ -69,7 +69,7 @@ pub slots_or_quiet-slotted : (stream : Stream) (open_at : ℤ) (given : List Mar
 slots_or_quiet-slotted stream open_at given u [] slotted = rw slotted
 slots_or_quiet-slotted stream open_at given u (mark ∷ marks) slotted = refl
 
--- a tick to the next deadline, and then one to a later time
+-- a reading to the next deadline, and then one to a later time
 module _ (stream : Stream) (open_at : ℤ) (some : 0 < stream.frames) (events : List Event) (a : Anchor) (is_a : anchor_of stream open_at events ≡ Some a) (u v : ℤ) (tick : IsTickAt open_at events u) (later : u ≤ℤ v) (far : v ≤ℤ pos (2 ^ 60)) (n : ℕ) (next : next_number stream a (time_of open_at events) ≡ n) (after : next_number stream a u ≡ suc n) where
   abbrev first_mark : MarkView
   first_mark = slot_mark stream a n (body_of (first_with n (copies_of stream open_at events)))

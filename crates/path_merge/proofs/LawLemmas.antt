@@ -42,7 +42,7 @@ slots_from-split stream a copies n (suc i) j =
     let next : suc n + i ≡ n + suc i = omega arith in
     ap (slots_from stream a copies n) up ∙ ap (λ l. slot_mark stream a n (body_of (first_with n copies)) ∷ l) (slots_from-split stream a copies (suc n) i j ∙ ap (λ b. slots_from stream a copies (suc n) i ++ slots_from stream a copies b j) next)
 
--- a tick at a deadline on the way
+-- a reading at a deadline on the way
 module _ (stream : Stream) (open_at : ℤ) (some : 0 < stream.frames) (events : List Event) (still : IsOpen open_at events) (a : Anchor) (n : ℕ) (v : ℤ) (way : IsDeadlineOnTheWay stream open_at events a n v) where
   u : ℤ
   u = deadline_of stream a n

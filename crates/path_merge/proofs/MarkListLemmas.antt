@@ -42,22 +42,22 @@ closed_listed stream o time held copies marks some shaped =
     slots_no_end (Some a) = run_no_end stream a copies (next_number stream a time) (end_of_copies copies - next_number stream a time)
 
 -- the marks of a history, and each first part of them
-module _ (stream : Stream) (opening : ℤ) (events : List Event) (some : 0 < stream.frames) (well_timed : is_well_timed opening events ≡ true) where
-  shaped_before : (before : List Event) → is_well_timed opening before ≡ true → is_closed before ≡ false → IsShapedAt stream opening some before (marks_of stream opening before)
-  shaped_before before timed still = rw (marks_of-in stream opening before) (shaped_open stream opening some (copies_of_all stream opening before) before timed still)
+module _ (stream : Stream) (open_at : ℤ) (events : List Event) (some : 0 < stream.frames) (well_timed : is_well_timed open_at events ≡ true) where
+  shaped_before : (before : List Event) → is_well_timed open_at before ≡ true → is_closed before ≡ false → IsShapedAt stream open_at some before (marks_of stream open_at before)
+  shaped_before before timed still = rw (marks_of-in stream open_at before) (shaped_open stream open_at some (copies_of_all stream open_at before) before timed still)
 
-  pub listed : is_mark_list (format_of stream) (marks_of stream opening events) ≡ true
+  pub listed : is_mark_list (format_of stream) (marks_of stream open_at events) ≡ true
   listed = by_test (is_closed events) refl
     where
-      by_test : (b : Bool) → is_closed events ≡ b → is_mark_list (format_of stream) (marks_of stream opening events) ≡ true
+      by_test : (b : Bool) → is_closed events ≡ b → is_mark_list (format_of stream) (marks_of stream open_at events) ≡ true
       by_test false still = (shaped_before events well_timed still).listed
       by_test true shut =
-          let c = closed_at stream opening events well_timed shut in
+          let c = closed_at stream open_at events well_timed shut in
           ap (is_mark_list (format_of stream)) c.marks
-          ∙ closed_listed stream (anchor_of stream opening (events_until_close events)) (time_of opening (events_until_close events)) (end_of_copies (copies_of stream opening (events_until_close events))) (copies_of stream opening (events_until_close events)) (marks_of stream opening (events_until_close events)) some (shaped_before (events_until_close events) c.well_timed c.open_yet)
+          ∙ closed_listed stream (anchor_of stream open_at (events_until_close events)) (time_of open_at (events_until_close events)) (end_of_copies (copies_of stream open_at (events_until_close events))) (copies_of stream open_at (events_until_close events)) (marks_of stream open_at (events_until_close events)) some (shaped_before (events_until_close events) c.well_timed c.open_yet)
 
-  pub parts_listed : (k : ℕ) → is_mark_list (format_of stream) (take k (marks_of stream opening events)) ≡ true
-  parts_listed k = and_left _ _ (sym (is_mark_list_after-append (format_of stream) None (take k (marks_of stream opening events)) (drop k (marks_of stream opening events))) ∙ ap (is_mark_list (format_of stream)) (take-append-drop k (marks_of stream opening events)) ∙ listed)
+  pub parts_listed : (k : ℕ) → is_mark_list (format_of stream) (take k (marks_of stream open_at events)) ≡ true
+  parts_listed k = and_left _ _ (sym (is_mark_list_after-append (format_of stream) None (take k (marks_of stream open_at events)) (drop k (marks_of stream open_at events))) ∙ ap (is_mark_list (format_of stream)) (take-append-drop k (marks_of stream open_at events)) ∙ listed)
 
 -- the slots that follow a slot begin at its end, or later
 abbrev FollowsLast : ℕ → Option MarkKind → List ℤ → Type 0
@@ -129,5 +129,5 @@ in_order format last (mark ∷ marks) e = by_kind mark.kind last ((both _ _ (bot
     by_kind End (Some (Quiet until)) follows rest listed = record { after = tt; order = rest.order }
     by_kind End (Some End) follows rest listed = cc
 
-pub times_in_order : (stream : Stream) (opening : ℤ) (events : List Event) → 0 < stream.frames → is_well_timed opening events ≡ true → AreInOrder stream.frames (slot_times (marks_of stream opening events))
-times_in_order stream opening events some well_timed = (in_order (format_of stream) None (marks_of stream opening events) (listed stream opening events some well_timed)).order
+pub times_in_order : (stream : Stream) (open_at : ℤ) (events : List Event) → 0 < stream.frames → is_well_timed open_at events ≡ true → AreInOrder stream.frames (slot_times (marks_of stream open_at events))
+times_in_order stream open_at events some well_timed = (in_order (format_of stream) None (marks_of stream open_at events) (listed stream open_at events some well_timed)).order

@@ -201,7 +201,7 @@ same_next : Stream → Option Anchor → ℤ → ℤ → Type 0
 same_next stream None t u = Unit {0}
 same_next stream (Some a) t u = next_number stream a u ≡ next_number stream a t
 
-module _ (stream : Stream) (opening : ℤ) where
+module _ (stream : Stream) (open_at : ℤ) where
   stands_later : (o : Option Anchor) (t u : ℤ) (held : ℕ) (last : Option MarkKind) → t ≤ℤ u → same_next stream o t u → StandsLast stream o t held last → StandsLast stream o u held last
   unfolding same_next
   stands_later o t u held None le same stands = tt
@@ -213,9 +213,9 @@ module _ (stream : Stream) (opening : ℤ) where
   stands_later None t u held (Some End) le same stands = stands
   stands_later (Some a) t u held (Some End) le same stands = stands
 
-  -- a tick with no slot
-  quiet_shaped : (o : Option Anchor) (t u : ℤ) (held : ℕ) (marks : List MarkView) → t ≤ℤ u → same_next stream o t u → IsShaped stream o t held marks → IsShaped stream o u held (marks ++ slots_or_quiet stream opening marks u [])
-  quiet_shaped o t u held marks le same shaped = by_test (is_quiet_new stream opening marks (u -ℤ pos stream.latency)) refl
+  -- a reading with no slot
+  quiet_shaped : (o : Option Anchor) (t u : ℤ) (held : ℕ) (marks : List MarkView) → t ≤ℤ u → same_next stream o t u → IsShaped stream o t held marks → IsShaped stream o u held (marks ++ slots_or_quiet stream open_at marks u [])
+  quiet_shaped o t u held marks le same shaped = by_test (is_quiet_new stream open_at marks (u -ℤ pos stream.latency)) refl
     where
       later : StandsLast stream o u held (last_after None marks)
       later = stands_later o t u held (last_after None marks) le same shaped.last
@@ -224,11 +224,11 @@ module _ (stream : Stream) (opening : ℤ) where
       stands_quiet None = omega (arith, ints)
       stands_quiet (Some a) = omega (arith, ints)
 
-      by_test : (c : Bool) → is_quiet_new stream opening marks (u -ℤ pos stream.latency) ≡ c → IsShaped stream o u held (marks ++ (if c then quiet_mark stream (u -ℤ pos stream.latency) ∷ [] else []))
+      by_test : (c : Bool) → is_quiet_new stream open_at marks (u -ℤ pos stream.latency) ≡ c → IsShaped stream o u held (marks ++ (if c then quiet_mark stream (u -ℤ pos stream.latency) ∷ [] else []))
       by_test false is = rw append-nil (record { listed = shaped.listed; last = later })
       by_test true is =
-          let new = both_true (not (has_slot marks)) (int_lt (opening -ℤ pos stream.latency) (u -ℤ pos stream.latency) && is_past_quiets (u -ℤ pos stream.latency) marks) is in
-          let past = both_true (int_lt (opening -ℤ pos stream.latency) (u -ℤ pos stream.latency)) (is_past_quiets (u -ℤ pos stream.latency) marks) new.1 in
+          let new = both_true (not (has_slot marks)) (int_lt (open_at -ℤ pos stream.latency) (u -ℤ pos stream.latency) && is_past_quiets (u -ℤ pos stream.latency) marks) is in
+          let past = both_true (int_lt (open_at -ℤ pos stream.latency) (u -ℤ pos stream.latency)) (is_past_quiets (u -ℤ pos stream.latency) marks) new.1 in
           let earlier = of_last (IsEarlierQuiet (u -ℤ pos stream.latency)) None marks tt (earlier_quiets (u -ℤ pos stream.latency) marks new.0 past.1) in
           let follows = quiet_follows stream o u (u -ℤ pos stream.latency) held (last_after None marks) later earlier in
           record {
@@ -236,7 +236,7 @@ module _ (stream : Stream) (opening : ℤ) where
             last = subst (StandsLast stream o u held) (sym (last_after-append None marks (quiet_mark stream (u -ℤ pos stream.latency) ∷ []))) (stands_quiet o);
           }
 
-  -- a tick with slots
+  -- a reading with slots
   slots_shaped : (a : Anchor) (t u : ℤ) (held : ℕ) (copies : List (ℕ × Packet)) (marks : List MarkView) (count : ℕ) → 0 < stream.frames → suc (next_number stream a t + count) ≡ next_number stream a u → IsShaped stream (Some a) t held marks → IsShaped stream (Some a) u held (marks ++ slots_from stream a copies (next_number stream a t) (suc count))
   slots_shaped a t u held copies marks count some is shaped =
       let first : a.number ≤ next_number stream a t = omega arith in
@@ -247,7 +247,7 @@ module _ (stream : Stream) (opening : ℤ) where
         last = subst (StandsLast stream (Some a) u held) (sym (last_after-append None marks (slots_from stream a copies (next_number stream a t) (suc count)))) (run_last stream a u held copies (last_after None marks) (next_number stream a t) count first is);
       }
 
-  tick_shaped : (o : Option Anchor) (t u : ℤ) (held : ℕ) (copies : List (ℕ × Packet)) (marks : List MarkView) → 0 < stream.frames → t ≤ℤ u → IsShaped stream o t held marks → IsShaped stream o u held (marks ++ slots_or_quiet stream opening marks u (slots_between stream copies o t u))
+  tick_shaped : (o : Option Anchor) (t u : ℤ) (held : ℕ) (copies : List (ℕ × Packet)) (marks : List MarkView) → 0 < stream.frames → t ≤ℤ u → IsShaped stream o t held marks → IsShaped stream o u held (marks ++ slots_or_quiet stream open_at marks u (slots_between stream copies o t u))
   unfolding same_next
   tick_shaped None t u held copies marks some le shaped = quiet_shaped None t u held marks le tt shaped
   tick_shaped (Some a) t u held copies marks some le shaped = by_count (next_number stream a u - next_number stream a t) refl
@@ -255,7 +255,7 @@ module _ (stream : Stream) (opening : ℤ) where
       rises : next_number stream a t ≤ next_number stream a u
       rises = next_number-rises stream a t u some le
 
-      by_count : (c : ℕ) → next_number stream a u - next_number stream a t ≡ c → IsShaped stream (Some a) u held (marks ++ slots_or_quiet stream opening marks u (slots_from stream a copies (next_number stream a t) c))
+      by_count : (c : ℕ) → next_number stream a u - next_number stream a t ≡ c → IsShaped stream (Some a) u held (marks ++ slots_or_quiet stream open_at marks u (slots_from stream a copies (next_number stream a t) c))
       by_count zero is = quiet_shaped (Some a) t u held marks le (omega (arith, is, rises)) shaped
       by_count (suc c) is = slots_shaped a t u held copies marks c some (omega (arith, is, rises)) shaped
 
@@ -271,16 +271,16 @@ module _ (stream : Stream) (opening : ℤ) where
   stands_held (Some a) time held more (Some End) le stands = stands
 
   -- a new anchor, where nothing is held that had no slot
-  stands_opened : 0 < stream.frames → (events : List Event) (path : ℕ) (packet : Packet) (old : Option (ℕ × Anchor)) (b : Anchor) (last : Option MarkKind) → IsMade stream opening events path packet old b → StandsLast stream (anchor_in old) (time_of opening events) (end_of_copies (since_of stream opening old events)) last → StandsLast stream (Some b) (time_of opening events) (end_of_copies (copies_since stream opening (length events) b (events ++ Arrive path packet ∷ []))) last
+  stands_opened : 0 < stream.frames → (events : List Event) (path : ℕ) (packet : Packet) (old : Option (ℕ × Anchor)) (b : Anchor) (last : Option MarkKind) → IsMade stream open_at events path packet old b → StandsLast stream (anchor_in old) (time_of open_at events) (end_of_copies (since_of stream open_at old events)) last → StandsLast stream (Some b) (time_of open_at events) (end_of_copies (copies_since stream open_at (length events) b (events ++ Arrive path packet ∷ []))) last
   stands_opened some events path packet old b None made stands = tt
   stands_opened some events path packet None b (Some (Slot e n m body)) made stands = absurd stands
   stands_opened some events path packet (Some (place, a)) b (Some (Slot e n m body)) made (inl stands) =
-      let copies : end_of_copies (copies_since stream opening (length events) b (events ++ Arrive path packet ∷ [])) ≡ max (suc b.number) 0 = ap end_of_copies (copies_since-made stream opening events (Arrive path packet) b ∙ made.follows.own) in
+      let copies : end_of_copies (copies_since stream open_at (length events) b (events ++ Arrive path packet ∷ [])) ≡ max (suc b.number) 0 = ap end_of_copies (copies_since-made stream open_at events (Arrive path packet) b ∙ made.follows.own) in
       let next = ap (media_time_of stream a) stands.next in
       let ends = ap (λ z. z +ℤ pos stream.frames) stands.media_is ∙ sym (media_time_of-suc stream a n stands.from_anchor) ∙ next in
       inr (record {
         epoch_is = omega (arith, made.next, stands.epoch_is);
-        next = next_number-fresh stream b (time_of opening events) some made.early;
+        next = next_number-fresh stream b (time_of open_at events) some made.early;
         not_back = omega (arith, ints, ends, made.follows.not_back);
         own_held = omega (arith, copies);
       })
@@ -294,40 +294,40 @@ end_of_copies-append : (xs ys : List (ℕ × Packet)) → end_of_copies xs ≤ e
 end_of_copies-append [] ys = omega arith
 end_of_copies-append ((n, packet) ∷ xs) ys = omega (arith, end_of_copies-append xs ys)
 
-pub no_anchor_yet : (stream : Stream) (opening : ℤ) → anchor_of stream opening [] ≡ None
-no_anchor_yet stream opening = anchor_is stream opening [] ∙ rw (no_anchors stream opening) refl
+pub no_anchor_yet : (stream : Stream) (open_at : ℤ) → anchor_of stream open_at [] ≡ None
+no_anchor_yet stream open_at = anchor_is stream open_at [] ∙ rw (no_anchors stream open_at) refl
 
-module _ (stream : Stream) (opening : ℤ) (some : 0 < stream.frames) where
+module _ (stream : Stream) (open_at : ℤ) (some : 0 < stream.frames) where
   abbrev pub IsShapedAt : List Event → List MarkView → Type 0
-  IsShapedAt events marks = IsShaped stream (anchor_of stream opening events) (time_of opening events) (end_of_copies (copies_of stream opening events)) marks
+  IsShapedAt events marks = IsShaped stream (anchor_of stream open_at events) (time_of open_at events) (end_of_copies (copies_of stream open_at events)) marks
 
   arrived_shaped : (events : List Event) (path : ℕ) (packet : Packet) (marks : List MarkView) → IsShapedAt events marks → IsShapedAt (events ++ Arrive path packet ∷ []) marks
-  arrived_shaped events path packet marks shaped = by_anchor_made stream opening some events path packet (λ made. anchors_at stream opening (anchors_of stream opening events) events (Arrive path packet) ≡ made → IsShapedAt (events ++ Arrive path packet ∷ []) marks) none one refl
+  arrived_shaped events path packet marks shaped = by_anchor_made stream open_at some events path packet (λ made. anchors_at stream open_at (anchors_of stream open_at events) events (Arrive path packet) ≡ made → IsShapedAt (events ++ Arrive path packet ∷ []) marks) none one refl
     where
-      time : time_of opening (events ++ Arrive path packet ∷ []) ≡ time_of opening events
-      time = time_of-append opening events (Arrive path packet ∷ [])
+      time : time_of open_at (events ++ Arrive path packet ∷ []) ≡ time_of open_at events
+      time = time_of-append open_at events (Arrive path packet ∷ [])
 
-      none : anchors_at stream opening (anchors_of stream opening events) events (Arrive path packet) ≡ [] → IsShapedAt (events ++ Arrive path packet ∷ []) marks
+      none : anchors_at stream open_at (anchors_of stream open_at events) events (Arrive path packet) ≡ [] → IsShapedAt (events ++ Arrive path packet ∷ []) marks
       none is =
-          let same : anchor_of stream opening (events ++ Arrive path packet ∷ []) ≡ anchor_of stream opening events = anchor_is stream opening (events ++ Arrive path packet ∷ []) ∙ ap (λ l. anchor_in (last_of l)) (anchors_of-push stream opening events (Arrive path packet) ∙ ap (λ l. anchors_of stream opening events ++ l) is ∙ append-nil _) ∙ sym (anchor_is stream opening events) in
-          let copies = copies_of-push stream opening events (Arrive path packet) same in
-          rw (same, time) (record { listed = shaped.listed; last = stands_held stream opening (anchor_of stream opening events) (time_of opening events) (end_of_copies (copies_of stream opening events)) (end_of_copies (copies_of stream opening (events ++ Arrive path packet ∷ []))) (last_after None marks) (omega (arith, ap end_of_copies copies, end_of_copies-append (copies_of stream opening events) (copies_with (anchor_of stream opening events) (copies_at stream opening events (Arrive path packet))))) shaped.last })
+          let same : anchor_of stream open_at (events ++ Arrive path packet ∷ []) ≡ anchor_of stream open_at events = anchor_is stream open_at (events ++ Arrive path packet ∷ []) ∙ ap (λ l. anchor_in (last_of l)) (anchors_of-push stream open_at events (Arrive path packet) ∙ ap (λ l. anchors_of stream open_at events ++ l) is ∙ append-nil _) ∙ sym (anchor_is stream open_at events) in
+          let copies = copies_of-push stream open_at events (Arrive path packet) same in
+          rw (same, time) (record { listed = shaped.listed; last = stands_held stream open_at (anchor_of stream open_at events) (time_of open_at events) (end_of_copies (copies_of stream open_at events)) (end_of_copies (copies_of stream open_at (events ++ Arrive path packet ∷ []))) (last_after None marks) (omega (arith, ap end_of_copies copies, end_of_copies-append (copies_of stream open_at events) (copies_with (anchor_of stream open_at events) (copies_at stream open_at events (Arrive path packet))))) shaped.last })
 
-      one : (b : Anchor) → IsMade stream opening events path packet (last_of (anchors_of stream opening events)) b → anchors_at stream opening (anchors_of stream opening events) events (Arrive path packet) ≡ (length events, b) ∷ [] → IsShapedAt (events ++ Arrive path packet ∷ []) marks
+      one : (b : Anchor) → IsMade stream open_at events path packet (last_of (anchors_of stream open_at events)) b → anchors_at stream open_at (anchors_of stream open_at events) events (Arrive path packet) ≡ (length events, b) ∷ [] → IsShapedAt (events ++ Arrive path packet ∷ []) marks
       one b made is =
-          let last : last_of (anchors_of stream opening (events ++ Arrive path packet ∷ [])) ≡ Some (length events, b) = ap last_of (anchors_of-push stream opening events (Arrive path packet) ∙ ap (λ l. anchors_of stream opening events ++ l) is) ∙ last_of-push (anchors_of stream opening events) (length events, b) in
-          let anchor : anchor_of stream opening (events ++ Arrive path packet ∷ []) ≡ Some b = anchor_is stream opening (events ++ Arrive path packet ∷ []) ∙ ap anchor_in last in
-          let copies : copies_of stream opening (events ++ Arrive path packet ∷ []) ≡ copies_since stream opening (length events) b (events ++ Arrive path packet ∷ []) = copies_of-since stream opening (events ++ Arrive path packet ∷ []) ∙ ap (λ o. since_of stream opening o (events ++ Arrive path packet ∷ [])) last in
-          let before : StandsLast stream (anchor_in (last_of (anchors_of stream opening events))) (time_of opening events) (end_of_copies (since_of stream opening (last_of (anchors_of stream opening events)) events)) (last_after None marks) = subst (λ o. StandsLast stream o (time_of opening events) (end_of_copies (since_of stream opening (last_of (anchors_of stream opening events)) events)) (last_after None marks)) (anchor_is stream opening events) (subst (λ l. StandsLast stream (anchor_of stream opening events) (time_of opening events) (end_of_copies l) (last_after None marks)) (copies_of-since stream opening events) shaped.last) in
-          rw (anchor, time, copies) (record { listed = shaped.listed; last = stands_opened stream opening some events path packet (last_of (anchors_of stream opening events)) b (last_after None marks) made before })
+          let last : last_of (anchors_of stream open_at (events ++ Arrive path packet ∷ [])) ≡ Some (length events, b) = ap last_of (anchors_of-push stream open_at events (Arrive path packet) ∙ ap (λ l. anchors_of stream open_at events ++ l) is) ∙ last_of-push (anchors_of stream open_at events) (length events, b) in
+          let anchor : anchor_of stream open_at (events ++ Arrive path packet ∷ []) ≡ Some b = anchor_is stream open_at (events ++ Arrive path packet ∷ []) ∙ ap anchor_in last in
+          let copies : copies_of stream open_at (events ++ Arrive path packet ∷ []) ≡ copies_since stream open_at (length events) b (events ++ Arrive path packet ∷ []) = copies_of-since stream open_at (events ++ Arrive path packet ∷ []) ∙ ap (λ o. since_of stream open_at o (events ++ Arrive path packet ∷ [])) last in
+          let before : StandsLast stream (anchor_in (last_of (anchors_of stream open_at events))) (time_of open_at events) (end_of_copies (since_of stream open_at (last_of (anchors_of stream open_at events)) events)) (last_after None marks) = subst (λ o. StandsLast stream o (time_of open_at events) (end_of_copies (since_of stream open_at (last_of (anchors_of stream open_at events)) events)) (last_after None marks)) (anchor_is stream open_at events) (subst (λ l. StandsLast stream (anchor_of stream open_at events) (time_of open_at events) (end_of_copies l) (last_after None marks)) (copies_of-since stream open_at events) shaped.last) in
+          rw (anchor, time, copies) (record { listed = shaped.listed; last = stands_opened stream open_at some events path packet (last_of (anchors_of stream open_at events)) b (last_after None marks) made before })
 
   -- the marks of an open history are a mark list, and its last mark stands where the next may follow
-  pub shaped_open : (copies : List (ℕ × (ℕ × Packet))) (events : List Event) → is_well_timed opening events ≡ true → is_closed events ≡ false → IsShapedAt events (marks_in stream opening copies events)
-  shaped_open copies = by_open_event stream opening some (λ events. IsShapedAt events (marks_in stream opening copies events))
-      (rw (marks_in-none stream opening copies, no_anchor_yet stream opening) (record { listed = refl; last = tt }))
+  pub shaped_open : (copies : List (ℕ × (ℕ × Packet))) (events : List Event) → is_well_timed open_at events ≡ true → is_closed events ≡ false → IsShapedAt events (marks_in stream open_at copies events)
+  shaped_open copies = by_open_event stream open_at some (λ events. IsShapedAt events (marks_in stream open_at copies events))
+      (rw (marks_in-none stream open_at copies, no_anchor_yet stream open_at) (record { listed = refl; last = tt }))
       (λ events path packet _ _ _ shaped.
-      rw (marks_in-push stream opening copies events (Arrive path packet), append-nil)
-      (arrived_shaped events path packet (marks_in stream opening copies events) shaped))
+      rw (marks_in-push stream open_at copies events (Arrive path packet), append-nil)
+      (arrived_shaped events path packet (marks_in stream open_at copies events) shaped))
       (λ events u t shaped.
-      rw (anchor_of-tick stream opening events u, time_of-append opening events (Tick u ∷ []), copies_of-tick stream opening events u, marks_in-push stream opening copies events (Tick u), t.open_yet)
-      (tick_shaped stream opening (anchor_of stream opening events) (time_of opening events) u (end_of_copies (copies_of stream opening events)) (copies_with (anchor_of stream opening events) copies) (marks_in stream opening copies events) some t.not_back shaped))
+      rw (anchor_of-tick stream open_at events u, time_of-append open_at events (Tick u ∷ []), copies_of-tick stream open_at events u, marks_in-push stream open_at copies events (Tick u), t.open_yet)
+      (tick_shaped stream open_at (anchor_of stream open_at events) (time_of open_at events) u (end_of_copies (copies_of stream open_at events)) (copies_with (anchor_of stream open_at events) copies) (marks_in stream open_at copies events) some t.not_back shaped))

@@ -53,8 +53,8 @@ IsBaseOf (Some anchor) base marks = base ≡ anchor.number + slot_count anchor.e
 
 -- all that was heard on a path since the anchor in force; without one, nothing counts
 abbrev pub heard_of : Stream → ℤ → Option (ℕ × Anchor) → List Event → ℕ → List (Bool × Packet)
-heard_of stream opening None events path = []
-heard_of stream opening (Some (place, anchor)) events path = heard_since stream opening place anchor events path
+heard_of stream open_at None events path = []
+heard_of stream open_at (Some (place, anchor)) events path = heard_since stream open_at place anchor events path
 
 -- the merge is where this history leaves it, with its first k marks handed on; before a close all were, and after it at least those up to the close
 pub record HasHistory (stream : Stream) (open_at : ℤ) (m : MergeState) (events : List Event) (k : ℕ) : Type 0 where

@@ -19,7 +19,7 @@ IsEventOf stream (Arrive path packet) = (path < stream.paths) × Fits stream pac
 IsEventOf stream (Tick u) = Unit {0}
 IsEventOf stream Close = Unit {0}
 
--- an event that a merge takes now: a tick in order, or another
+-- an event that a merge takes now: a reading in order, or another
 abbrev pub IsInOrder : MergeState → Event → Type 0
 IsInOrder m (Arrive path packet) = Unit {0}
 IsInOrder m (Tick u) = clock_fault_of m.time m.closed u ≡ None

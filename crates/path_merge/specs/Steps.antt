@@ -117,7 +117,7 @@ pub record IsTimeStep (stream : Stream) (old new : MergeState) (now : ℤ) (no_s
   pub changed : new ≡ record old { time = now; quiet = if is_quiet_due no_slot old.quiet (now -ℤ pos stream.latency) then now -ℤ pos stream.latency else old.quiet }
   pub mark : given ≡ (if is_quiet_due no_slot old.quiet (now -ℤ pos stream.latency) then Some (quiet_mark stream (now -ℤ pos stream.latency)) else None)
 
--- where a tick to `now` stops: at the next deadline, if it comes before
+-- where a reading to `now` stops: at the next deadline, if it comes before
 abbrev pub stop_at : Stream → Option Anchor → ℕ → ℤ → ℤ
 stop_at stream None base now = now
 stop_at stream (Some anchor) base now = if int_le (deadline_of stream anchor base) now then deadline_of stream anchor base else now
@@ -148,7 +148,7 @@ pub record Offers (stream : Stream) (open_at : ℤ) (new : MergeState) (events :
   pub stands : HasHistory stream open_at new (events ++ Arrive path packet ∷ []) k
   pub kept : marks_of stream open_at (events ++ Arrive path packet ∷ []) ≡ marks_of stream open_at events
 
--- a tick to where it stops gave this mark and no other; after a slot, a tick to `now` gives the rest
+-- a reading to where it stops gave this mark and no other; after a slot, a reading to `now` gives the rest
 pub record Advances (stream : Stream) (open_at : ℤ) (old new : MergeState) (events : List Event) (k : ℕ) (now : ℤ) (mark : Option MarkView) : Type 0 where
   pub time : new.time ≡ stop_at stream old.anchor old.base now
   pub stands : HasHistory stream open_at new (events ++ Tick (stop_at stream old.anchor old.base now) ∷ []) (k + length (option_to_list mark))
@@ -176,7 +176,7 @@ abbrev pub IsBeforeDeadline : Stream → Option Anchor → ℕ → ℤ → Type 
 IsBeforeDeadline stream None base now = Unit {0}
 IsBeforeDeadline stream (Some anchor) base now = now <ℤ deadline_of stream anchor base
 
--- the first fault of a tick
+-- the first fault of a reading
 abbrev pub clock_fault_of : ℤ → Bool → ℤ → Option ClockFault
 clock_fault_of time closed now =
     if int_lt now time then Some WentBack else if int_lt (pos (2 ^ 60)) now then Some TooFar else if closed then Some Closed else None

@@ -25,22 +25,22 @@ ghost use Rattle.stream_rules.specs.Laws.{AreInOrder, IsDeadlineOnTheWay, IsLeas
 /// The slots, by epoch and number, are exactly the spans of the epochs one after the other, rising, each
 /// once: each with the media time of its number under its epoch's anchor, and with the payload of the
 /// earliest copy that came in time in that epoch, on whichever path, or as lost.
-/// A slot is given by the first tick that reaches its deadline, or else by the close; and each one
+/// A slot is given by the first reading that reaches its deadline, or else by the close; and each one
 /// given is counted once, as got or as lost.
 pub fn each_number_is_handed_on_once()
-    ensures spans { (stream : Stream) (opening : ℤ) (events : List Event) →
-        0 < stream.frames → is_well_timed opening events ≡ true → HasSpans stream opening events }
-    ensures by_tick { (stream : Stream) (opening u : ℤ) (events : List Event) → is_closed events ≡ false →
-        slot_names (marks_of stream opening (events ++ Tick u ∷ []))
-        ≡ slot_names (marks_of stream opening events)
-        ++ slots_reached stream (anchor_of stream opening events) (time_of opening events) u }
-    ensures by_close { (stream : Stream) (opening : ℤ) (events : List Event) → is_closed events ≡ false →
-        slot_names (marks_of stream opening (events ++ Close ∷ []))
-        ≡ slot_names (marks_of stream opening events)
-        ++ slots_left stream (anchor_of stream opening events) (time_of opening events)
-        (copies_of stream opening events) }
-    ensures counted { (stream : Stream) (opening : ℤ) (events : List Event) (given : List MarkView) →
-        (counts_of stream opening events given).got + (counts_of stream opening events given).lost
+    ensures spans { (stream : Stream) (open_at : ℤ) (events : List Event) →
+        0 < stream.frames → is_well_timed open_at events ≡ true → HasSpans stream open_at events }
+    ensures by_tick { (stream : Stream) (open_at u : ℤ) (events : List Event) → is_closed events ≡ false →
+        slot_names (marks_of stream open_at (events ++ Tick u ∷ []))
+        ≡ slot_names (marks_of stream open_at events)
+        ++ slots_reached stream (anchor_of stream open_at events) (time_of open_at events) u }
+    ensures by_close { (stream : Stream) (open_at : ℤ) (events : List Event) → is_closed events ≡ false →
+        slot_names (marks_of stream open_at (events ++ Close ∷ []))
+        ≡ slot_names (marks_of stream open_at events)
+        ++ slots_left stream (anchor_of stream open_at events) (time_of open_at events)
+        (copies_of stream open_at events) }
+    ensures counted { (stream : Stream) (open_at : ℤ) (events : List Event) (given : List MarkView) →
+        (counts_of stream open_at events given).got + (counts_of stream open_at events given).lost
         ≡ length (slot_names given) }
 {}
 
@@ -53,61 +53,61 @@ pub fn next_number_is_the_least_due()
         next_number stream anchor from ≤ next_number stream anchor to }
 {}
 
-/// A tick at a deadline on the way to u, and then the tick to u, are as the tick to u alone; and a tick
+/// A reading at a deadline on the way to u, and then the reading to u, are as the reading to u alone; and a reading
 /// at the current time changes nothing.
 pub fn ticks_may_be_split()
-    ensures split { (stream : Stream) (opening : ℤ) (events : List Event) (anchor : Anchor) (n : ℕ) (u : ℤ) →
-        0 < stream.frames → IsOpen opening events → IsDeadlineOnTheWay stream opening events anchor n u →
-        IsAlike stream opening ((events ++ Tick (deadline_of stream anchor n) ∷ []) ++ Tick u ∷ [])
+    ensures split { (stream : Stream) (open_at : ℤ) (events : List Event) (anchor : Anchor) (n : ℕ) (u : ℤ) →
+        0 < stream.frames → IsOpen open_at events → IsDeadlineOnTheWay stream open_at events anchor n u →
+        IsAlike stream open_at ((events ++ Tick (deadline_of stream anchor n) ∷ []) ++ Tick u ∷ [])
         (events ++ Tick u ∷ []) }
-    ensures repeated { (stream : Stream) (opening : ℤ) (events : List Event) →
-        0 < stream.frames → IsOpen opening events →
-        IsAlike stream opening (events ++ Tick (time_of opening events) ∷ []) events }
+    ensures repeated { (stream : Stream) (open_at : ℤ) (events : List Event) →
+        0 < stream.frames → IsOpen open_at events →
+        IsAlike stream open_at (events ++ Tick (time_of open_at events) ∷ []) events }
 {}
 
 /// An arrival adds no mark and changes none, also one that opens an epoch; and no later event changes a
 /// mark that was given.
 pub fn arrivals_change_no_mark()
-    ensures arrival { (stream : Stream) (opening : ℤ) (events : List Event) (path : ℕ) (packet : Packet) →
-        0 < stream.frames → is_well_timed opening events ≡ true →
-        marks_of stream opening (events ++ Arrive path packet ∷ []) ≡ marks_of stream opening events }
-    ensures later { (stream : Stream) (opening : ℤ) (events more : List Event) →
-        0 < stream.frames → is_well_timed opening (events ++ more) ≡ true →
-        take (length (marks_of stream opening events)) (marks_of stream opening (events ++ more))
-        ≡ marks_of stream opening events }
+    ensures arrival { (stream : Stream) (open_at : ℤ) (events : List Event) (path : ℕ) (packet : Packet) →
+        0 < stream.frames → is_well_timed open_at events ≡ true →
+        marks_of stream open_at (events ++ Arrive path packet ∷ []) ≡ marks_of stream open_at events }
+    ensures later { (stream : Stream) (open_at : ℤ) (events more : List Event) →
+        0 < stream.frames → is_well_timed open_at (events ++ more) ≡ true →
+        take (length (marks_of stream open_at events)) (marks_of stream open_at (events ++ more))
+        ≡ marks_of stream open_at events }
 {}
 
 /// The marks of every history, and each first part of them, are a mark list; and media time never goes
 /// back in one, also where an epoch opens.
 pub fn marks_are_a_mark_list()
-    ensures whole { (stream : Stream) (opening : ℤ) (events : List Event) →
-        0 < stream.frames → is_well_timed opening events ≡ true →
-        is_mark_list (format_of stream) (marks_of stream opening events) ≡ true }
-    ensures parts { (stream : Stream) (opening : ℤ) (events : List Event) (k : ℕ) →
-        0 < stream.frames → is_well_timed opening events ≡ true →
-        is_mark_list (format_of stream) (take k (marks_of stream opening events)) ≡ true }
-    ensures times { (stream : Stream) (opening : ℤ) (events : List Event) →
-        0 < stream.frames → is_well_timed opening events ≡ true →
-        AreInOrder stream.frames (slot_times (marks_of stream opening events)) }
+    ensures whole { (stream : Stream) (open_at : ℤ) (events : List Event) →
+        0 < stream.frames → is_well_timed open_at events ≡ true →
+        is_mark_list (format_of stream) (marks_of stream open_at events) ≡ true }
+    ensures parts { (stream : Stream) (open_at : ℤ) (events : List Event) (k : ℕ) →
+        0 < stream.frames → is_well_timed open_at events ≡ true →
+        is_mark_list (format_of stream) (take k (marks_of stream open_at events)) ≡ true }
+    ensures times { (stream : Stream) (open_at : ℤ) (events : List Event) →
+        0 < stream.frames → is_well_timed open_at events ≡ true →
+        AreInOrder stream.frames (slot_times (marks_of stream open_at events)) }
 {}
 
 /// After a close nothing more is handed on, whatever comes: the last mark is the end.
 pub fn nothing_follows_a_close()
-    ensures same { (stream : Stream) (opening : ℤ) (events more : List Event) → is_closed events ≡ true →
-        marks_of stream opening (events ++ more) ≡ marks_of stream opening events }
-    ensures end { (stream : Stream) (opening : ℤ) (events : List Event) → is_closed events ≡ true →
-        last_of (marks_of stream opening events) ≡ Some (end_mark stream) }
+    ensures same { (stream : Stream) (open_at : ℤ) (events more : List Event) → is_closed events ≡ true →
+        marks_of stream open_at (events ++ more) ≡ marks_of stream open_at events }
+    ensures end { (stream : Stream) (open_at : ℤ) (events : List Event) → is_closed events ≡ true →
+        last_of (marks_of stream open_at events) ≡ Some (end_mark stream) }
 {}
 
 /// While a merge is open, all marks of its history were given; and a merge that has one of two
 /// histories that are alike has the other.
 pub fn merges_stand_at_their_histories()
-    ensures all_given { (stream : Stream) (opening : ℤ) (merge : MergeState) (events : List Event) (k : ℕ) →
-        HasHistory stream opening merge events k → is_closed events ≡ false →
-        k ≡ length (marks_of stream opening events) }
-    ensures alike { (stream : Stream) (opening : ℤ) (merge : MergeState) (events others : List Event) (k : ℕ) →
-        IsAlike stream opening events others → HasHistory stream opening merge events k →
-        HasHistory stream opening merge others k }
+    ensures all_given { (stream : Stream) (open_at : ℤ) (merge : MergeState) (events : List Event) (k : ℕ) →
+        HasHistory stream open_at merge events k → is_closed events ≡ false →
+        k ≡ length (marks_of stream open_at events) }
+    ensures alike { (stream : Stream) (open_at : ℤ) (merge : MergeState) (events others : List Event) (k : ℕ) →
+        IsAlike stream open_at events others → HasHistory stream open_at merge events k →
+        HasHistory stream open_at merge others k }
 {}
 
 /// A number of any sign is known by its low 16 bits and its timestamp, among those that are less than
@@ -127,24 +127,24 @@ pub fn aliases_are_off_grid()
 /// lies from 2^25 below the one due next to just below 2^25 above it, what is handed on is what was sent;
 /// and where all packets of a number have one payload, its first copy has it.
 pub fn sent_numbers_are_recovered()
-    ensures marks { (stream : Stream) (base : Anchor) (opening : ℤ) (sent : List SentEvent) →
-        IsStream stream → BeginsWith stream base opening sent → IsWithinReach stream base (2 ^ 25) opening sent →
-        IsOneEpoch stream opening (wire_history stream base sent) →
-        marks_of stream opening (wire_history stream base sent) ≡ marks_by_number stream base opening sent }
-    ensures payload { (stream : Stream) (base : Anchor) (opening : ℤ) (sent : List SentEvent) (number : ℕ) (payload : List ℕ) →
-        IsStream stream → BeginsWith stream base opening sent → IsWithinReach stream base (2 ^ 25) opening sent →
-        IsOneEpoch stream opening (wire_history stream base sent) → HasEqualCopies number payload sent →
-        IfSome (first_copy stream opening (wire_history stream base sent) number) (λ packet. packet.payload.items ≡ payload) }
+    ensures marks { (stream : Stream) (base : Anchor) (open_at : ℤ) (sent : List SentEvent) →
+        IsStream stream → BeginsWith stream base open_at sent → IsWithinReach stream base (2 ^ 25) open_at sent →
+        IsOneEpoch stream open_at (wire_history stream base sent) →
+        marks_of stream open_at (wire_history stream base sent) ≡ marks_by_number stream base open_at sent }
+    ensures payload { (stream : Stream) (base : Anchor) (open_at : ℤ) (sent : List SentEvent) (number : ℕ) (payload : List ℕ) →
+        IsStream stream → BeginsWith stream base open_at sent → IsWithinReach stream base (2 ^ 25) open_at sent →
+        IsOneEpoch stream open_at (wire_history stream base sent) → HasEqualCopies number payload sent →
+        IfSome (first_copy stream open_at (wire_history stream base sent) number) (λ packet. packet.payload.items ≡ payload) }
 {}
 
 /// Where each number lies from 2^15 below the one due next to just below 2^15 above it, the received
 /// history has one epoch: no packet is off the grid, so no probation begins. And what is handed on is
 /// what was sent.
 pub fn near_numbers_open_one_epoch()
-    ensures one { (stream : Stream) (base : Anchor) (opening : ℤ) (sent : List SentEvent) →
-        BeginsWith stream base opening sent → IsWithinReach stream base (2 ^ 15) opening sent →
-        IsOneEpoch stream opening (wire_history stream base sent) }
-    ensures marks { (stream : Stream) (base : Anchor) (opening : ℤ) (sent : List SentEvent) →
-        BeginsWith stream base opening sent → IsWithinReach stream base (2 ^ 15) opening sent →
-        marks_of stream opening (wire_history stream base sent) ≡ marks_by_number stream base opening sent }
+    ensures one { (stream : Stream) (base : Anchor) (open_at : ℤ) (sent : List SentEvent) →
+        BeginsWith stream base open_at sent → IsWithinReach stream base (2 ^ 15) open_at sent →
+        IsOneEpoch stream open_at (wire_history stream base sent) }
+    ensures marks { (stream : Stream) (base : Anchor) (open_at : ℤ) (sent : List SentEvent) →
+        BeginsWith stream base open_at sent → IsWithinReach stream base (2 ^ 15) open_at sent →
+        marks_of stream open_at (wire_history stream base sent) ≡ marks_by_number stream base open_at sent }
 {}

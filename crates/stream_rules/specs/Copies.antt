@@ -20,14 +20,14 @@ copies_under_with stream time counting anchor packet = with_epoch anchor (copies
 
 -- the arrival is an in-time copy of this number, under the anchor in force with it
 abbrev pub copies_at : Stream → ℤ → List Event → Event → List (ℕ × (ℕ × Packet))
-copies_at stream opening before (Arrive path packet) =
-    copies_under_with stream (time_of opening before) (is_counting before) (anchor_of stream opening (before ++ Arrive path packet ∷ [])) packet
-copies_at stream opening before (Tick u) = []
-copies_at stream opening before Close = []
+copies_at stream open_at before (Arrive path packet) =
+    copies_under_with stream (time_of open_at before) (is_counting before) (anchor_of stream open_at (before ++ Arrive path packet ∷ [])) packet
+copies_at stream open_at before (Tick u) = []
+copies_at stream open_at before Close = []
 
 -- all in-time copies of all epochs on whichever path, the earliest first
 unfoldable pub copies_of_all : Stream → ℤ → List Event → List (ℕ × (ℕ × Packet))
-copies_of_all stream opening events = at_places (copies_at stream opening) [] events
+copies_of_all stream open_at events = at_places (copies_at stream open_at) [] events
 
 -- those of an epoch
 abbrev pub copies_in : ℕ → List (ℕ × (ℕ × Packet)) → List (ℕ × Packet)
@@ -41,8 +41,8 @@ copies_with (Some anchor) copies = copies_in anchor.epoch copies
 
 -- those of the epoch in force
 unfoldable pub copies_of : Stream → ℤ → List Event → List (ℕ × Packet)
-copies_of stream opening events = copies_with (anchor_of stream opening events) (copies_of_all stream opening events)
+copies_of stream open_at events = copies_with (anchor_of stream open_at events) (copies_of_all stream open_at events)
 
 -- the first copy that came in time of a number of the epoch in force
 abbrev pub first_copy : Stream → ℤ → List Event → ℕ → Option Packet
-first_copy stream opening events number = first_with number (copies_of stream opening events)
+first_copy stream open_at events number = first_with number (copies_of stream open_at events)

@@ -74,12 +74,12 @@ is_unlike _ = false
 
 -- the path and the fate of an arrival that counts
 abbrev pub fates_at : Stream → ℤ → List Event → Event → List (ℕ × Fate)
-fates_at stream opening before (Arrive path packet) = if is_counting before then (path, fate_of stream opening before path packet) ∷ [] else []
-fates_at stream opening before (Tick u) = []
-fates_at stream opening before Close = []
+fates_at stream open_at before (Arrive path packet) = if is_counting before then (path, fate_of stream open_at before path packet) ∷ [] else []
+fates_at stream open_at before (Tick u) = []
+fates_at stream open_at before Close = []
 
 unfoldable pub fates_of : Stream → ℤ → List Event → List (ℕ × Fate)
-fates_of stream opening events = at_places (fates_at stream opening) [] events
+fates_of stream open_at events = at_places (fates_at stream open_at) [] events
 
 abbrev pub is_got_body : Body → Bool
 is_got_body (Got payload) = true
@@ -126,4 +126,4 @@ tally_of_fates fates given = record {
 
 -- the counts of a history of which these marks were given
 abbrev pub counts_of : Stream → ℤ → List Event → List MarkView → Tally
-counts_of stream opening events given = tally_of_fates (fates_of stream opening events) given
+counts_of stream open_at events given = tally_of_fates (fates_of stream open_at events) given

@@ -18,10 +18,10 @@ use Rattle.stream_rules.specs.Laws.{names_from, numbers_from, slot_names}
 
 -- the spans of these epochs: each up to the number that was due next when the following one opened, the last up to the history's end
 abbrev pub spans_of : Stream → ℤ → List Event → List (ℕ × Anchor) → List (ℕ × ℕ)
-spans_of stream opening events [] = []
-spans_of stream opening events ((place, a) ∷ []) = names_from a.epoch a.number (span_end stream opening events a - a.number)
-spans_of stream opening events ((place, a) ∷ (place', a') ∷ rest) =
-    names_from a.epoch a.number (next_number stream a (time_of opening (take place' events)) - a.number) ++ spans_of stream opening events ((place', a') ∷ rest)
+spans_of stream open_at events [] = []
+spans_of stream open_at events ((place, a) ∷ []) = names_from a.epoch a.number (span_end stream open_at events a - a.number)
+spans_of stream open_at events ((place, a) ∷ (place', a') ∷ rest) =
+    names_from a.epoch a.number (next_number stream a (time_of open_at (take place' events)) - a.number) ++ spans_of stream open_at events ((place', a') ∷ rest)
 
 -- the epochs of these anchors
 abbrev pub epochs_in : List (ℕ × Anchor) → List ℕ
@@ -48,7 +48,7 @@ AllSlotsAmong stream anchors copies [] = Unit {0}
 AllSlotsAmong stream anchors copies (mark ∷ marks) = IsSlotAmong stream anchors copies mark.kind × AllSlotsAmong stream anchors copies marks
 
 -- the epochs count up from 0; the slots are those of their spans, each once, epoch by epoch, rising, each with the first copy of its number in its epoch
-pub record HasSpans (stream : Stream) (opening : ℤ) (events : List Event) : Type 0 where
-  pub epochs : epochs_in (anchors_of stream opening events) ≡ numbers_from 0 (length (anchors_of stream opening events))
-  pub names : slot_names (marks_of stream opening events) ≡ spans_of stream opening events (anchors_of stream opening events)
-  pub slots : AllSlotsAmong stream (anchors_of stream opening events) (copies_of_all stream opening events) (marks_of stream opening events)
+pub record HasSpans (stream : Stream) (open_at : ℤ) (events : List Event) : Type 0 where
+  pub epochs : epochs_in (anchors_of stream open_at events) ≡ numbers_from 0 (length (anchors_of stream open_at events))
+  pub names : slot_names (marks_of stream open_at events) ≡ spans_of stream open_at events (anchors_of stream open_at events)
+  pub slots : AllSlotsAmong stream (anchors_of stream open_at events) (copies_of_all stream open_at events) (marks_of stream open_at events)

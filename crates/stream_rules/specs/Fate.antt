@@ -43,13 +43,13 @@ counted_fate stream time (Some anchor) copies packet = next_fate stream anchor (
 
 -- the arrival opens the next epoch, where this anchor is in force since its place
 abbrev pub is_restart : Stream → ℤ → Option (ℕ × Anchor) → List Event → ℕ → Packet → Bool
-is_restart stream opening None events path packet = false
-is_restart stream opening (Some (place, anchor)) events path packet = can_restart stream opening place anchor events path packet
+is_restart stream open_at None events path packet = false
+is_restart stream open_at (Some (place, anchor)) events path packet = can_restart stream open_at place anchor events path packet
 
 -- the fate of an arrival after a history
 abbrev pub fate_of : Stream → ℤ → List Event → ℕ → Packet → Fate
-fate_of stream opening events path packet =
+fate_of stream open_at events path packet =
     if is_closed events then Closed
     else if not (nat_lt (arrival_count events) (2 ^ 62)) then CountersFull
-    else if is_restart stream opening (last_of (anchors_of stream opening events)) events path packet then Restarted
-    else counted_fate stream (time_of opening events) (anchor_of stream opening events) (copies_of stream opening events) packet
+    else if is_restart stream open_at (last_of (anchors_of stream open_at events)) events path packet then Restarted
+    else counted_fate stream (time_of open_at events) (anchor_of stream open_at events) (copies_of stream open_at events) packet

@@ -35,9 +35,9 @@ copies_under stream time counting (Some anchor) packet =
 
 -- the arrival is an in-time copy of this number under this anchor
 abbrev pub copies_under_at : Stream → Anchor → ℤ → List Event → Event → List (ℕ × Packet)
-copies_under_at stream anchor opening before (Arrive path packet) = copies_under stream (time_of opening before) (is_counting before) (Some anchor) packet
-copies_under_at stream anchor opening before (Tick u) = []
-copies_under_at stream anchor opening before Close = []
+copies_under_at stream anchor open_at before (Arrive path packet) = copies_under stream (time_of open_at before) (is_counting before) (Some anchor) packet
+copies_under_at stream anchor open_at before (Tick u) = []
+copies_under_at stream anchor open_at before Close = []
 
 -- the earliest with a number
 abbrev pub first_with : ℕ → List (ℕ × Packet) → Option Packet

@@ -1,15 +1,15 @@
--- The history of a stream: what arrived, the ticks and the close, the earliest first.
+-- The history of a stream: what arrived, the readings and the close, the earliest first.
 use Rattle.std.specs.Prelude.{ℕ, suc, ◌+◌, ◌^◌, Bool, true, false, not, ◌&&◌, nat_lt, List, [], ◌∷◌, ◌++◌, ℤ, pos, int_le, Option, Some, None, if◌then◌else◌}
 use Rattle.std.specs.Option.{option_map}
 use Rattle.stream_rules.specs.declared.event.Event.{Event}
 use Rattle.stream_rules.specs.declared.event.Event.TheVariants.{Arrive, Tick, Close}
 
--- the value of the last tick, or the opening time
+-- the value of the last reading, or the opening time
 abbrev pub time_of : ℤ → List Event → ℤ
-time_of opening [] = opening
-time_of opening (Arrive path packet ∷ events) = time_of opening events
-time_of opening (Tick u ∷ events) = time_of u events
-time_of opening (Close ∷ events) = time_of opening events
+time_of open_at [] = open_at
+time_of open_at (Arrive path packet ∷ events) = time_of open_at events
+time_of open_at (Tick u ∷ events) = time_of u events
+time_of open_at (Close ∷ events) = time_of open_at events
 
 abbrev pub is_closed : List Event → Bool
 is_closed [] = false
@@ -32,11 +32,11 @@ unfoldable pub at_places : {A : Type 0} → (List Event → Event → List A) �
 at_places f before [] = []
 at_places f before (event ∷ events) = f before event ++ at_places f (before ++ event ∷ []) events
 
--- a tick may follow where nothing is closed, and it neither goes back nor past 2^60
+-- a reading may follow where nothing is closed, and it neither goes back nor past 2^60
 abbrev pub is_tick_in_order : ℤ → Bool → ℤ → Bool
 is_tick_in_order time closed u = not closed && int_le time u && int_le u (pos (2 ^ 60))
 
--- each tick is in order
+-- each reading is in order
 abbrev pub is_well_timed_from : ℤ → Bool → List Event → Bool
 is_well_timed_from time closed [] = true
 is_well_timed_from time closed (Arrive path packet ∷ events) = is_well_timed_from time closed events
@@ -44,15 +44,15 @@ is_well_timed_from time closed (Tick u ∷ events) = is_tick_in_order time close
 is_well_timed_from time closed (Close ∷ events) = is_well_timed_from time true events
 
 abbrev pub is_well_timed : ℤ → List Event → Bool
-is_well_timed opening events = is_well_timed_from opening false events
+is_well_timed open_at events = is_well_timed_from open_at false events
 
--- the time and whether there is a close after an event, unless it is a tick out of order
+-- the time and whether there is a close after an event, unless it is a reading out of order
 abbrev pub clock_after : ℤ → Bool → Event → Option (ℤ × Bool)
 clock_after time closed (Arrive path packet) = Some (time, closed)
 clock_after time closed (Tick u) = if is_tick_in_order time closed u then Some (u, closed) else None
 clock_after time closed Close = Some (time, true)
 
--- the place of the first tick that is out of order
+-- the place of the first reading that is out of order
 abbrev pub first_clock_fault_from : ℤ → Bool → List Event → Option ℕ
 first_clock_fault_from time closed [] = None
 first_clock_fault_from time closed (Arrive path packet ∷ events) = option_map suc (first_clock_fault_from time closed events)
@@ -60,7 +60,7 @@ first_clock_fault_from time closed (Tick u ∷ events) = if is_tick_in_order tim
 first_clock_fault_from time closed (Close ∷ events) = option_map suc (first_clock_fault_from time true events)
 
 abbrev pub first_clock_fault : ℤ → List Event → Option ℕ
-first_clock_fault opening events = first_clock_fault_from opening false events
+first_clock_fault open_at events = first_clock_fault_from open_at false events
 
 -- the events before the first close
 abbrev pub events_until_close : List Event → List Event

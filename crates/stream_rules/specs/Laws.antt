@@ -19,16 +19,16 @@ pub record IsLeastDue (stream : Stream) (anchor : Anchor) (time : ℤ) : Type 0 
   pub before : (n : ℕ) → anchor.number ≤ n → n < next_number stream anchor time → deadline_of stream anchor n ≤ℤ time
 
 -- a deadline that comes after this history and not after u
-pub record IsDeadlineOnTheWay (stream : Stream) (opening : ℤ) (events : List Event) (anchor : Anchor) (n : ℕ) (u : ℤ) : Type 0 where
-  pub anchored : anchor_of stream opening events ≡ Some anchor
+pub record IsDeadlineOnTheWay (stream : Stream) (open_at : ℤ) (events : List Event) (anchor : Anchor) (n : ℕ) (u : ℤ) : Type 0 where
+  pub anchored : anchor_of stream open_at events ≡ Some anchor
   pub from_anchor : anchor.number ≤ n
-  pub after : time_of opening events <ℤ deadline_of stream anchor n
+  pub after : time_of open_at events <ℤ deadline_of stream anchor n
   pub not_after : deadline_of stream anchor n ≤ℤ u
   pub in_range : u ≤ℤ pos (2 ^ 60)
 
--- a history whose ticks are in order, and that is open
-pub record IsOpen (opening : ℤ) (events : List Event) : Type 0 where
-  pub well_timed : is_well_timed opening events ≡ true
+-- a history whose readings are in order, and that is open
+pub record IsOpen (open_at : ℤ) (events : List Event) : Type 0 where
+  pub well_timed : is_well_timed open_at events ≡ true
   pub open_yet : is_closed events ≡ false
 
 -- the slots, each by its epoch and number, in their order
@@ -71,7 +71,7 @@ abbrev pub names_from : ℕ → ℕ → ℕ → List (ℕ × ℕ)
 names_from epoch n zero = []
 names_from epoch n (suc count) = (epoch, n) ∷ names_from epoch (suc n) count
 
--- a tick gives the slots of the epoch in force whose deadlines it reaches: those after the time and not after the tick, rising
+-- a reading gives the slots of the epoch in force whose deadlines it reaches: those after the time and not after the reading, rising
 abbrev pub slots_reached : Stream → Option Anchor → ℤ → ℤ → List (ℕ × ℕ)
 slots_reached stream None time u = []
 slots_reached stream (Some anchor) time u = names_from anchor.epoch (next_number stream anchor time) (next_number stream anchor u - next_number stream anchor time)

@@ -67,35 +67,35 @@ slots_at_close stream copies None time = []
 slots_at_close stream copies (Some anchor) time =
     slots_from stream anchor copies (next_number stream anchor time) (end_of_copies copies - next_number stream anchor time)
 
--- before every slot, a tick may tell silence: past the start, and past every earlier Quiet
+-- before every slot, a reading may tell silence: past the start, and past every earlier Quiet
 abbrev pub is_quiet_new : Stream → ℤ → List MarkView → ℤ → Bool
-is_quiet_new stream opening given until = not (has_slot given) && (int_lt (opening -ℤ pos stream.latency) until && is_past_quiets until given)
+is_quiet_new stream open_at given until = not (has_slot given) && (int_lt (open_at -ℤ pos stream.latency) until && is_past_quiets until given)
 
--- a tick gives its slots, or a Quiet where it has none
+-- a reading gives its slots, or a Quiet where it has none
 abbrev pub slots_or_quiet : Stream → ℤ → List MarkView → ℤ → List MarkView → List MarkView
-slots_or_quiet stream opening given to (mark ∷ marks) = mark ∷ marks
-slots_or_quiet stream opening given to [] =
-    if is_quiet_new stream opening given (to -ℤ pos stream.latency) then quiet_mark stream (to -ℤ pos stream.latency) ∷ [] else []
+slots_or_quiet stream open_at given to (mark ∷ marks) = mark ∷ marks
+slots_or_quiet stream open_at given to [] =
+    if is_quiet_new stream open_at given (to -ℤ pos stream.latency) then quiet_mark stream (to -ℤ pos stream.latency) ∷ [] else []
 
 -- the marks that an event gives, after the events before it and the marks that they gave; `copies` are those of the whole history
 abbrev pub marks_at : Stream → ℤ → List (ℕ × (ℕ × Packet)) → List MarkView → List Event → Event → List MarkView
-marks_at stream opening copies given before (Arrive path packet) = []
-marks_at stream opening copies given before (Tick u) =
-    if is_closed before then [] else slots_or_quiet stream opening given u (slots_between stream (copies_with (anchor_of stream opening before) copies) (anchor_of stream opening before) (time_of opening before) u)
-marks_at stream opening copies given before Close =
-    if is_closed before then [] else slots_at_close stream (copies_with (anchor_of stream opening before) copies) (anchor_of stream opening before) (time_of opening before) ++ end_mark stream ∷ []
+marks_at stream open_at copies given before (Arrive path packet) = []
+marks_at stream open_at copies given before (Tick u) =
+    if is_closed before then [] else slots_or_quiet stream open_at given u (slots_between stream (copies_with (anchor_of stream open_at before) copies) (anchor_of stream open_at before) (time_of open_at before) u)
+marks_at stream open_at copies given before Close =
+    if is_closed before then [] else slots_at_close stream (copies_with (anchor_of stream open_at before) copies) (anchor_of stream open_at before) (time_of open_at before) ++ end_mark stream ∷ []
 
 unfoldable pub marks_from : Stream → ℤ → List (ℕ × (ℕ × Packet)) → List MarkView → List Event → List Event → List MarkView
-marks_from stream opening copies given before [] = given
-marks_from stream opening copies given before (event ∷ events) =
-    marks_from stream opening copies (given ++ marks_at stream opening copies given before event) (before ++ event ∷ []) events
+marks_from stream open_at copies given before [] = given
+marks_from stream open_at copies given before (event ∷ events) =
+    marks_from stream open_at copies (given ++ marks_at stream open_at copies given before event) (before ++ event ∷ []) events
 
 -- the marks of a history
 unfoldable pub marks_of : Stream → ℤ → List Event → List MarkView
-marks_of stream opening events = marks_from stream opening (copies_of_all stream opening events) [] [] events
+marks_of stream open_at events = marks_from stream open_at (copies_of_all stream open_at events) [] [] events
 
 -- the span of numbers that a history owes in the epoch in force: from the anchor's to before this end
 abbrev pub span_end : Stream → ℤ → List Event → Anchor → ℕ
-span_end stream opening events anchor =
-    if is_closed events then max (next_number stream anchor (time_of opening events)) (end_of_copies (copies_of stream opening events))
-    else next_number stream anchor (time_of opening events)
+span_end stream open_at events anchor =
+    if is_closed events then max (next_number stream anchor (time_of open_at events)) (end_of_copies (copies_of stream open_at events))
+    else next_number stream anchor (time_of open_at events)

@@ -38,10 +38,10 @@ completes_probation stream heard = nat_le min_sequential (length heard) && is_se
 
 -- an arrival on this path counts for a probation, unless the stream asks for another source; with it, whether it is off
 abbrev pub heard_at : Stream → Anchor → ℕ → ℤ → List Event → Event → List (Bool × Packet)
-heard_at stream anchor on opening before (Arrive path packet) =
-    if is_counting before && (nat_eq path on && is_source_wanted stream.ssrc packet.ssrc) then (is_off stream anchor (next_number stream anchor (time_of opening before)) packet, packet) ∷ [] else []
-heard_at stream anchor on opening before (Tick u) = []
-heard_at stream anchor on opening before Close = []
+heard_at stream anchor on open_at before (Arrive path packet) =
+    if is_counting before && (nat_eq path on && is_source_wanted stream.ssrc packet.ssrc) then (is_off stream anchor (next_number stream anchor (time_of open_at before)) packet, packet) ∷ [] else []
+heard_at stream anchor on open_at before (Tick u) = []
+heard_at stream anchor on open_at before Close = []
 
 -- what f gives at the places from this one on
 abbrev pub from_place : {A : Type 0} → (List Event → Event → List A) → ℕ → List Event → List A
@@ -49,4 +49,4 @@ from_place f place events = at_places f (take place events) (drop place events)
 
 -- all that was heard on a path after the anchor's arrival
 abbrev pub heard_since : Stream → ℤ → ℕ → Anchor → List Event → ℕ → List (Bool × Packet)
-heard_since stream opening place anchor events path = from_place (heard_at stream anchor path opening) (suc place) events
+heard_since stream open_at place anchor events path = from_place (heard_at stream anchor path open_at) (suc place) events

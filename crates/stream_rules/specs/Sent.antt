@@ -68,28 +68,28 @@ IsWithinReach stream base reach time (Closes ∷ sent) = Unit {0}
 
 -- the received history has one epoch at most: what comes of it is never taken for a restart of the sender
 abbrev pub IsOneEpoch : Stream → ℤ → List Event → Type 0
-IsOneEpoch stream opening events = length (anchors_of stream opening events) ≤ 1
+IsOneEpoch stream open_at events = length (anchors_of stream open_at events) ≤ 1
 
 -- an arrival is a copy of its own number, where that is from the one next due to the window's end: nothing is extended, and no timestamp is looked at
 abbrev pub sent_copies_at : Stream → Anchor → ℤ → List Event → SentEvent → List (ℕ × Packet)
-sent_copies_at stream base opening before (Arrives path packet) =
-    if is_counting before && (int_le (pos (next_number stream base (time_of opening before))) packet.number && int_lt packet.number (pos (next_number stream base (time_of opening before) + stream.window)))
+sent_copies_at stream base open_at before (Arrives path packet) =
+    if is_counting before && (int_le (pos (next_number stream base (time_of open_at before))) packet.number && int_lt packet.number (pos (next_number stream base (time_of open_at before) + stream.window)))
     then (unsigned_abs packet.number, wire_packet stream base packet) ∷ [] else []
-sent_copies_at stream base opening before (Ticks u) = []
-sent_copies_at stream base opening before Closes = []
+sent_copies_at stream base open_at before (Ticks u) = []
+sent_copies_at stream base open_at before Closes = []
 
 -- the copies of what was sent, after these events were received
 unfoldable pub sent_copies_after : Stream → Anchor → ℤ → List Event → List SentEvent → List (ℕ × Packet)
-sent_copies_after stream base opening before [] = []
-sent_copies_after stream base opening before (event ∷ sent) =
-    sent_copies_at stream base opening before event ++ sent_copies_after stream base opening (before ++ wire_event stream base event ∷ []) sent
+sent_copies_after stream base open_at before [] = []
+sent_copies_after stream base open_at before (event ∷ sent) =
+    sent_copies_at stream base open_at before event ++ sent_copies_after stream base open_at (before ++ wire_event stream base event ∷ []) sent
 
 abbrev pub sent_copies : Stream → Anchor → ℤ → List SentEvent → List (ℕ × Packet)
-sent_copies stream base opening sent = sent_copies_after stream base opening [] sent
+sent_copies stream base open_at sent = sent_copies_after stream base open_at [] sent
 
 -- the marks of what was sent, by the full numbers
 abbrev pub marks_by_number : Stream → Anchor → ℤ → List SentEvent → List MarkView
-marks_by_number stream base opening sent = marks_from stream opening (with_epoch (Some base) (sent_copies stream base opening sent)) [] [] (wire_history stream base sent)
+marks_by_number stream base open_at sent = marks_from stream open_at (with_epoch (Some base) (sent_copies stream base open_at sent)) [] [] (wire_history stream base sent)
 
 -- all packets of this number have one payload
 abbrev pub HasEqualCopies : ℕ → List ℕ → List SentEvent → Type 0

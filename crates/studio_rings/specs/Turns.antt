@@ -60,7 +60,7 @@ pub record TakesSoFar (old new : Side Packet) (packets : List Packet) : Type 0 w
   pub received_are : received new.ring ≡ received old.ring ++ packets
   pub left : length (known_items old.ring) ≤ length packets + length (known_items new.ring)
 
--- marks were pushed on the way to a time: those of one tick to the time that was reached
+-- marks were pushed on the way to a time: those of one reading to the time that was reached
 pub record PushesMarks {A P : Type 0} (c : Producer MarkView A P) (m : MergeState) (now : ℤ) (d : Producer MarkView A P) (w : MergeState) (count : ℕ) : Type 0 where
   pub ring : SameProducer c d
   pub more : List MarkView

@@ -6,7 +6,7 @@ use Rattle.path_merge.specs.Runs.{HasGiven}
 use Rattle.path_merge.specs.Steps.{IsAlike, clock_fault_of}
 use Rattle.path_merge.proofs.history.advance_to.Given as goal
 
--- the ticks so far lead to the tick
+-- the readings so far lead to the reading
 abbrev pub invariant-advances : goal.invariant-advances
 invariant-advances g l = record {
   can : clock_fault_of l.merge.time l.merge.closed l.now ≡ None;
