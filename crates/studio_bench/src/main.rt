@@ -3,8 +3,10 @@
 //! The scripts in `bench/` build it for a processor, run it beside C and compare.
 #![tactic(auto)]
 
+mod datagrams;
 mod merge;
 mod mix;
+mod rings;
 mod samples;
 
 use anyhow::bail;
@@ -19,6 +21,7 @@ fn main(rt: HostRuntime) -> anyhow::Result<()> {
     match word.as_str() {
         "merge" => merge::time_merge(&rt, rt.alloc(), &mut words),
         "mix" => mix::time_shapes(&rt, rt.alloc()),
+        "rings" => rings::time_rings(&rt, rt.alloc(), &mut words),
         "samples" => samples::time_samples(&rt),
         _ => bail!("no kernel has this name"),
     }

@@ -3,20 +3,18 @@
 //! `bench/merge.c` does the same, and comes to the same sum.
 ghost use Rattle.std.specs.Prelude.{◌≡◌};
 
+use crate::datagrams::{Datagrams, NUMBERS, make_datagrams, number, stream};
 use anyhow::bail;
-use path_merge::{MarkKindRef, MarkRef, Merge, Path, SlotWindow, StreamClock, StreamSpec};
-use rtp_wire::{Enc, read};
+use path_merge::{MarkKindRef, MarkRef, Merge, Path, SlotWindow, StreamSpec};
+use rtp_wire::read;
 use std::alloc::Global;
 use std::env::Args;
 use std::ops::Range;
 use std::rt::Clock;
 use std::time::Instant;
 
-/// The octets of a fixed header.
-const HEADER: usize = 12;
-
 /// The numbers of each half.
-const HALF: u32 = 6_000;
+const HALF: u32 = NUMBERS / 2;
 
 /// What happens to a merge.
 #[derive(Clone, Copy)]
@@ -25,13 +23,6 @@ enum Step {
     Arrive(Path, u32),
     /// The clock moves on by a packet's time.
     Tick,
-}
-
-/// Datagrams of one length, side by side.
-#[derive(Drop)]
-struct Datagrams {
-    octets: Vec<u8>,
-    len: usize,
 }
 
 /// Merges one shape as the words say: OCTETS WIDTH HALVES.
@@ -49,75 +40,17 @@ pub fn time_merge(
     let spec = stream(octets, width)?;
     let datagrams = make_datagrams(alloc, &spec)?;
     let first = make_steps(alloc, 0..HALF)?;
-    let second = make_steps(alloc, HALF..2 * HALF)?;
+    let second = make_steps(alloc, HALF..NUMBERS)?;
     let mut merge = Merge::new(alloc, spec, 0)?;
     let mut sum = merge_all(&mut merge, &spec, &datagrams, &first);
     let mut picos = 0;
     if halves == 2 {
         let start = Instant::now(rt)?;
         sum = sum.wrapping_add(merge_all(&mut merge, &spec, &datagrams, &second));
-        picos = start.elapsed(rt)?.as_nanos() * 1000 / u128::from(2 * HALF);
+        picos = start.elapsed(rt)?.as_nanos() * 1000 / u128::from(NUMBERS);
     }
     println!(rt; "merge {octets} {width} {picos} {sum}")?;
     Ok(())
-}
-
-/// The number that the next word says.
-fn number(words: &mut Args) -> anyhow::Result<u32> {
-    let Some(word) = words.next() else {
-        bail!("the words are OCTETS WIDTH HALVES");
-    };
-    let Ok(number) = word.parse::<u32>() else {
-        bail!("not a number");
-    };
-    Ok(number)
-}
-
-/// A stream whose packets have so many octets, with the longest latency that the window spans.
-fn stream(octets: u32, width: u32) -> anyhow::Result<StreamSpec> {
-    let (channels, frames) = match octets {
-        18 => (1, 6),
-        144 => (1, 48),
-        288 => (2, 48),
-        1152 => (2, 192),
-        _ => bail!("octets are 18, 144, 288 or 1152"),
-    };
-    let Ok(width) = u16::try_from(width) else {
-        bail!("no such window");
-    };
-    let latency = u32::from(width.saturating_sub(2)) * u32::from(frames);
-    let clock = StreamClock::Media { offset: 0 };
-    let spec = StreamSpec::new(
-        Enc::L24,
-        channels,
-        frames,
-        96,
-        None,
-        clock,
-        latency,
-        width,
-        2,
-    )?;
-    Ok(spec)
-}
-
-/// The datagrams of all numbers.
-fn make_datagrams(alloc: Global, spec: &StreamSpec) -> anyhow::Result<Datagrams> {
-    let len = spec.payload_len();
-    let mut octets = Vec::new(alloc);
-    for number in 0..2 * HALF {
-        octets.extend_from_slice(&[0x80, 96])?;
-        octets.extend_from_slice(&(number as u16).to_be_bytes())?;
-        octets.extend_from_slice(&(number * u32::from(spec.frames())).to_be_bytes())?;
-        octets.extend_from_slice(&7u32.to_be_bytes())?;
-        for place in 0..len {
-            octets.push(((number as usize + place) % 256) as u8)?;
-        }
-    }
-    Ok(Datagrams {
-        octets,
-        len: HEADER + len,
-    })
 }
 
 /// What happens at these numbers: each path loses one packet in a hundred, the first one swaps two in fifty,
@@ -142,15 +75,6 @@ fn make_steps(alloc: Global, numbers: Range<u32>) -> anyhow::Result<Vec<Step>> {
         steps.push(Step::Tick)?;
     }
     Ok(steps)
-}
-
-impl Datagrams {
-    /// The datagram of a number, or no octets.
-    fn of(&self, number: u32) -> &[u8] {
-        let begin = (number as usize).wrapping_mul(self.len);
-        let end = begin.wrapping_add(self.len);
-        self.octets.as_slice().get(begin..end).unwrap_or(b"")
-    }
 }
 
 /// Takes these steps, and sums what the fates and marks say.

@@ -31,6 +31,14 @@ pub struct MixNote {
 }
 
 impl MixEnd {
+    /// How many octets a datagram has, its header among them.
+    pub fn datagram_len(&self) -> usize
+        ensures value { result ≡ datagram_length self.now.mixer.packer.spec }
+        ensures most { result ≤ 1452 }
+    {
+        self.mixer.output().datagram_len()
+    }
+
     /// Takes the marks of all streams that are wanted, and then writes the next datagram to the front
     /// of `out` where its block is final.
     pub fn turn(&mut self, out: &mut [u8]) -> MixNote

@@ -11,13 +11,13 @@ use path_merge::{Merge, Packet, Path, SlotWindow, StreamSpec};
 pub(crate) const BATCH: u32 = 64;
 
 /// Offers a packet to the merge if it has the stream's length.
-fn join_packet(spec: &StreamSpec, merge: &mut Merge<SlotWindow>, path: Path, packet: Packet)
+fn join_packet(spec: &StreamSpec, merge: &mut Merge<SlotWindow>, path: Path, packet: &Packet)
     requires spec { merge.old.spec ≡ spec.now }
     requires path { path < spec.now.paths }
-    ensures { Joins merge.old merge.new (λ stream. arrivals_by path (fitting stream (packet ∷ []))) }
+    ensures { Joins merge.old merge.new (λ stream. arrivals_by path (fitting stream (packet.now ∷ []))) }
 {
-    if spec.fits(&packet) {
-        let _ = merge.offer(path, packet);
+    if spec.fits(packet) {
+        let _ = merge.offer_ref(path, packet.lent());
     }
 }
 
@@ -38,7 +38,7 @@ fn take_path(
         let Some(packet) = side.pop() else {
             return taken;
         };
-        join_packet(spec, merge, path, packet);
+        join_packet(spec, merge, path, &packet);
         taken += 1;
     }
     taken

@@ -89,7 +89,7 @@ fn turn(rt: &impl Abort, stream: &mut StreamEnd, now: i64) -> (u32, u32, u32, i6
 /// A turn of the mixer, which takes this many marks and gives a datagram with these samples, or none.
 fn mixes(rt: &impl Abort, mix: &mut MixEnd, taken: u32, samples: Option<&[u8]>) {
     let mut out = [0u8; 1452];
-    let _short = mix.mixer.output().datagram_len();
+    let _short = mix.datagram_len();
     let note = mix.turn(&mut out);
     assert_eq!(rt; (note.taken, note.strange), (taken, 0));
     assert_eq!(rt; note.len.is_some(), samples.is_some());

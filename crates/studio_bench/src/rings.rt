@@ -1,0 +1,167 @@
+//! Packets from a path's end to the mixer's: ready datagrams in, marks taken, by one thread or by two.
+use crate::datagrams::{Datagrams, NUMBERS, make_datagrams, number, stream};
+use anyhow::bail;
+use gain_mix::{Matrix, Schedule};
+use mix_packets::OutSpec;
+use path_merge::StreamSpec;
+use rtp_wire::Enc;
+use std::alloc::Global;
+use std::env::Args;
+use std::rt::Clock;
+use std::sync::Wait;
+use std::thread::Threads;
+use std::time::Instant;
+use std::{hint, thread};
+use studio_rings::{Ends, MixEnd, Offer, PathEnd, StreamEnd, open};
+use studio_spec::StudioSpec;
+
+/// The places of each ring.
+const PLACES: usize = 64;
+
+/// How many datagrams one thread offers before it takes what came.
+const BATCH: u32 = 32;
+
+/// The window of the stream's merge.
+const WIDTH: u32 = 64;
+
+/// The ends behind that of a path, and what they came to.
+#[derive(Drop)]
+struct Taker {
+    stream: StreamEnd,
+    mix: MixEnd,
+    frames: u16,
+    /// How many packets were taken of the path.
+    came: u32,
+    marks: u32,
+    datagrams: u32,
+}
+
+/// Hands one shape's datagrams through as the words say: OCTETS THREADS.
+///
+/// Prints the shape, the nanoseconds that a packet took from its offer to the mixer's end, and how many
+/// marks and datagrams there were.
+pub fn time_rings(
+    rt: &(impl Clock + Print + Threads + Wait + Sync),
+    alloc: Global,
+    words: &mut Args,
+) -> anyhow::Result<()> {
+    let octets = number(words)?;
+    let threads = number(words)?;
+    let spec = stream(octets, WIDTH)?;
+    let datagrams = make_datagrams(alloc, &spec)?;
+    let studio = studio(alloc, spec)?;
+    let Ends {
+        mut paths,
+        mut streams,
+        monitors: _,
+        mix,
+    } = open(alloc, &studio, PLACES)?;
+    let (Some(path), Some(stream)) = (paths.pop(), streams.pop()) else {
+        bail!("one stream");
+    };
+    let taker = Taker {
+        stream,
+        mix,
+        frames: spec.frames(),
+        came: 0,
+        marks: 0,
+        datagrams: 0,
+    };
+    let start = Instant::now(rt)?;
+    let taker = match threads {
+        1 => by_one(path, &datagrams, taker),
+        2 => by_two(rt, path, &datagrams, taker)?,
+        _ => bail!("threads are 1 or 2"),
+    };
+    let nanos = start.elapsed(rt)?.as_nanos() / u128::from(NUMBERS);
+    println!(rt;
+        "rings {octets} {threads} {nanos} {} {}",
+        taker.marks, taker.datagrams
+    )?;
+    Ok(())
+}
+
+/// One stream, and an output of one channel in the same packets.
+fn studio(alloc: Global, spec: StreamSpec) -> anyhow::Result<StudioSpec> {
+    let output = OutSpec::new(Enc::L24, 1, spec.frames(), 97, 2, 0, 0, 0)?;
+    let ins = usize::from(spec.channels());
+    let mut gains = Vec::new(alloc);
+    gains.resize(ins, 32_768)?;
+    let schedule = Schedule::new(Matrix::new(alloc, 1, ins, &gains)?, Vec::new(alloc))?;
+    if schedule.outs() != usize::from(output.channels()) || schedule.ins() != ins {
+        bail!("the gains do not fit");
+    }
+    let mut streams = Vec::new(alloc);
+    streams.push(spec)?;
+    Ok(StudioSpec::new(0, streams, output, schedule))
+}
+
+impl Taker {
+    /// Takes what came, up to a batch, and all marks and datagrams that are final by then.
+    fn take(&mut self) {
+        let now = i64::from(self.came).wrapping_mul(i64::from(self.frames));
+        if let Ok(note) = self.stream.turn(now) {
+            let [first, second, _, _] = note.from;
+            self.came = self.came.wrapping_add(first).wrapping_add(second);
+        }
+        let mut out = [0u8; 1452];
+        for _ in 0..PLACES {
+            let _len = self.mix.datagram_len();
+            let note = self.mix.turn(&mut out);
+            self.marks = self.marks.wrapping_add(note.taken);
+            if note.len.is_none() {
+                return;
+            }
+            self.datagrams = self.datagrams.wrapping_add(1);
+        }
+    }
+}
+
+/// One thread offers a batch, and takes it.
+fn by_one(mut path: PathEnd, datagrams: &Datagrams, mut taker: Taker) -> Taker {
+    for number in 0..NUMBERS {
+        let _ = path.offer(datagrams.of(number));
+        if number % BATCH == BATCH - 1 {
+            taker.take();
+        }
+    }
+    taker
+}
+
+/// One thread offers, again where there is no room, and another takes until all came.
+fn by_two(
+    rt: &(impl Threads + Wait + Sync),
+    path: PathEnd,
+    datagrams: &Datagrams,
+    taker: Taker,
+) -> anyhow::Result<Taker> {
+    thread::scope(thread::scope_env(), rt, |scope| -> anyhow::Result<Taker> {
+        let Ok(_sender) = scope.spawn(move || offer_all(rt, path, datagrams)) else {
+            bail!("no thread could be made");
+        };
+        Ok(take_all(rt, taker))
+    })
+}
+
+/// Offers each datagram until it isn't refused for want of room.
+fn offer_all(rt: &impl Wait, mut path: PathEnd, datagrams: &Datagrams) {
+    for number in 0..NUMBERS {
+        for _ in rt.forever() {
+            if path.offer(datagrams.of(number)) != Offer::Full {
+                break;
+            }
+            hint::spin_loop();
+        }
+    }
+}
+
+/// Takes until all packets came.
+fn take_all(rt: &impl Wait, mut taker: Taker) -> Taker {
+    for _ in rt.forever() {
+        taker.take();
+        if taker.came >= NUMBERS {
+            return taker;
+        }
+    }
+    taker
+}
