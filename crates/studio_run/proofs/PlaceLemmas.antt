@@ -2,7 +2,8 @@
 use Rattle.std.proofs.Common.{◌≡◌, ℕ, suc, ◌+◌, ◌-◌, ◌<◌, ◌≤◌, List, ◌∷◌, [], ◌++◌, Option, Some, None, length, take, drop, take-append-drop, append_assoc, length-append, length-take, sym, ◌∙◌, ap, subst, refl, arith}
 use Rattle.std.specs.Prelude.{IfSome, IsSome, slice_range}
 use Rattle.std.proofs.Math.Seq.{take-append_seam, drop-append_seam}
-use Rattle.studio_run.specs.Trace.{octets_of, Arrival}
+use Rattle.studio_session.specs.Event.{Arrival}
+use Rattle.studio_run.specs.Trace.{octets_of}
 use Rattle.studio_run.specs.LineEvent.{IsLast, IsLineOf, said_in, octets_by}
 use Rattle.studio_run.specs.Places.{event_at, IsPlace, place_in, digits_in}
 use Rattle.studio_run.specs.declared.line.LineEvent.{LineEvent}

@@ -1,6 +1,7 @@
 -- What is left of a trace, line by line.
 use Rattle.std.proofs.Common.{◌≡◌, ℕ, ◌+◌, ◌<◌, List, [], ◌∷◌, ◌++◌, Result, Ok, Err, length, drop, append-nil, length-append, sym, ◌∙◌, ap, refl, arith}
-use Rattle.studio_run.specs.Trace.{TraceEvent, lines_said, lines_of, prepend, ReadsLine, count_of, HasEvents}
+use Rattle.studio_session.specs.Event.{TraceEvent}
+use Rattle.studio_run.specs.Trace.{lines_said, lines_of, prepend, ReadsLine, count_of, HasEvents}
 use Rattle.studio_run.proofs.ReadLemmas.{prepend-none, prepend-prepend}
 use Rattle.studio_run.specs.declared.trace.TraceFault.{TraceFault}
 

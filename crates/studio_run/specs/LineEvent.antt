@@ -2,7 +2,8 @@
 use Rattle.std.specs.Prelude.{◌≡◌, ℕ, ◌≤◌, List, [], ◌∷◌, ◌++◌, length, Option, Some, None, IsSome, IfSome, Result, Ok, Err, unwrap_or}
 use Rattle.std.specs.Borrow.{Bor}
 use Rattle.studio_run.specs.Fields.{EndsWith}
-use Rattle.studio_run.specs.Trace.{TraceEvent, Arrival, Reading, Closing, octets_of}
+use Rattle.studio_session.specs.Event.{TraceEvent, Arrival, Reading, Closing}
+use Rattle.studio_run.specs.Trace.{octets_of}
 use Rattle.studio_run.specs.declared.line.LineEvent.{LineEvent}
 use Rattle.studio_run.specs.declared.line.LineEvent.TheVariants.{Arrive, Tick, Close}
 use Rattle.studio_run.specs.declared.trace.TraceKind.{TraceKind}

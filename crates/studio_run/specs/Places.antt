@@ -1,11 +1,10 @@
 -- Events of a trace as places of its text.
-use Rattle.std.specs.Prelude.{ℕ, ◌+◌, ◌-◌, ◌≤◌, List, [], ◌∷◌, length, take, slice_range, Option, Some, None, IsSome}
-use Rattle.studio_run.specs.Trace.{TraceEvent, Arrival, Reading, Closing, octets_of}
+use Rattle.std.specs.Prelude.{ℕ, ◌+◌, ◌-◌, ◌≤◌, List, [], ◌∷◌, length, slice_range, Option, Some, None, IsSome}
+use Rattle.studio_session.specs.Event.{TraceEvent, Arrival, Reading, Closing}
+use Rattle.studio_run.specs.Trace.{octets_of}
 use Rattle.studio_run.specs.LineEvent.{octets_by, said_in}
 use Rattle.studio_run.specs.declared.line.LineEvent.{LineEvent}
 use Rattle.studio_run.specs.declared.line.LineEvent.TheVariants.{Arrive as LineArrive, Tick as LineTick, Close as LineClose}
-use Rattle.studio_run.specs.declared.places.TracedEvent.{TracedEvent}
-use Rattle.studio_run.specs.declared.places.TracedEvent.TheVariants.{Arrive as RoomArrive, Tick as RoomTick, Close as RoomClose}
 use Rattle.studio_run.specs.declared.places.Place.{Place}
 use Rattle.studio_run.specs.declared.places.Place.TheVariants.{Arrive, Tick, Close}
 
@@ -42,9 +41,3 @@ said_by_line (Some event) = said_in event ∷ []
 abbrev pub said_at : List ℕ → Option Place → List TraceEvent
 said_at text None = []
 said_at text (Some place) = event_at text place ∷ []
-
--- what an event says, whose octets stand at the front of a room
-abbrev pub said_of : List ℕ → TracedEvent → TraceEvent
-said_of room (RoomArrive stream path count) = Arrival stream path (take count room)
-said_of room (RoomTick time) = Reading time
-said_of room RoomClose = Closing

@@ -1,6 +1,7 @@
 -- What is left of a trace that is being read.
 use Rattle.std.specs.Prelude.{◌+◌, List, drop, Result}
-use Rattle.studio_run.specs.Trace.{TraceEvent, lines_said, lines_of}
+use Rattle.studio_session.specs.Event.{TraceEvent}
+use Rattle.studio_run.specs.Trace.{lines_said, lines_of}
 use Rattle.studio_run.specs.declared.trace.TraceFault.{TraceFault}
 use Rattle.studio_run.specs.declared.reader.TraceReader.{TraceReader}
 

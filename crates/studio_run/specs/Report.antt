@@ -3,7 +3,7 @@ use Rattle.std.specs.Prelude.{ℕ, suc, ◌+◌, ◌++◌, ◌∷◌, [], List, 
 use Rattle.std.specs.Fmt.{decimal}
 use Rattle.hex.specs.Hex.{encode_lower}
 use Rattle.stream_rules.specs.CountsFacts.{Tally}
-use Rattle.studio_run.specs.declared.path_counts.PathCounts.{PathCounts}
+use Rattle.studio_session.specs.Counts.{PathTally}
 
 -- the line of a datagram
 abbrev pub datagram_line : List ℕ → List ℕ
@@ -18,7 +18,7 @@ abbrev pub count_text : List ℕ → ℕ → List ℕ
 count_text word number = codes " " ++ word ++ codes " " ++ decimal number
 
 -- the line of what a path's datagrams came to
-abbrev pub path_line : ℕ → ℕ → PathCounts → List ℕ
+abbrev pub path_line : ℕ → ℕ → PathTally → List ℕ
 path_line stream path counts =
     codes "path " ++ decimal stream ++ codes " " ++ path_letter path
     ++ count_text (codes "offered") counts.offered

@@ -1,14 +1,15 @@
 //! The events of a trace, in memory.
 ghost use Rattle.std.specs.Prelude.{◌≡◌, ◌⊎◌, map, IfOk, IfErr, Ok, Err};
-ghost use Rattle.studio_run.specs.Trace.{trace_events, said_by, fault_in};
+ghost use Rattle.studio_run.specs.Trace.{trace_events, fault_in};
 ghost use Rattle.studio_run.specs.declared.trace.TraceKind.TheVariants.{Memory};
 ghost use Rattle.studio_run.specs.Places.{event_at, IsPlace};
+ghost use Rattle.studio_session.specs.Event.{said_by};
 
-use crate::event::StudioEvent;
 use crate::places::Place;
 use crate::reader::TraceReader;
 use crate::trace::{TraceFault, WANT_OF_MEMORY};
 use std::alloc::{AllocError, Global};
+use studio_session::StudioEvent;
 
 /// Reads the events of a trace. The memory of an event is taken once its line is known to be good.
 pub fn read_trace(alloc: Global, text: &[u8]) -> Result<Vec<StudioEvent>, TraceFault>

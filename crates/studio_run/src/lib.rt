@@ -3,12 +3,10 @@
 
 mod buffer;
 mod device;
-mod event;
 mod events;
 mod field;
 mod line;
 mod listing;
-mod path_counts;
 mod places;
 mod reader;
 mod report;
@@ -20,13 +18,10 @@ mod traced;
 
 pub use buffer::TextBuffer;
 pub use device::{ReadFault, WriteFault, read_text, write_text};
-pub use event::StudioEvent;
 pub use events::read_trace;
-pub use line::DatagramRoom;
 pub use listing::write_mark;
-pub use path_counts::PathCounts;
-pub use places::TracedEvent;
 pub use report::{write_datagram, write_merge_counts, write_path_counts};
+pub use studio_session::{PathCounts, StudioEvent};
 pub use text::push_listing;
 pub use trace::{TraceFault, TraceKind};
 pub use traced::{TracedEvents, checked_trace};

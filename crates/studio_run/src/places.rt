@@ -18,18 +18,6 @@ pub enum Place {
     Close,
 }
 
-/// What happened. The octets of a datagram, so many, stand at the front of a room.
-#[derive(Clone, Copy, Debug, PartialEq, Eq)]
-pub enum TracedEvent {
-    Arrive {
-        stream: u8,
-        path: Path,
-        length: usize,
-    },
-    Tick(i64),
-    Close,
-}
-
 /// The place of a line's event, where the line ends here.
 pub(crate) fn place_in(end: u32, event: &LineEvent<'_>) -> Place
     requires { digits_in event.now ≤ end }

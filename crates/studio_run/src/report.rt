@@ -2,13 +2,14 @@
 ghost use Rattle.std.specs.Prelude.{◌≡◌, ◌+◌, ◌≤◌, ◌<◌, ◌++◌, length, take, OnOk, OnErr};
 ghost use Rattle.stream_rules.specs.Counts.{tally_of};
 ghost use Rattle.studio_run.specs.Buffer.{PassesOn, BreaksOff};
+ghost use Rattle.studio_session.specs.Counts.{path_tally_of};
 ghost use Rattle.studio_run.specs.Report.{datagram_line, path_letter, count_text, path_line, taken_text, refused_text, slots_text, merge_line};
 
 use crate::buffer::TextBuffer;
 use crate::device::WriteFault;
-use crate::path_counts::PathCounts;
 use path_merge::{Counts, Path};
 use std::io::Write;
+use studio_session::PathCounts;
 
 /// Writes the line of a datagram: the 12 octets of its header, and a payload of at most 1,440.
 pub fn write_datagram<W: Write>(
@@ -35,8 +36,8 @@ pub fn write_path_counts<W: Write>(
     path: Path,
     counts: &PathCounts,
 ) -> Result<(), WriteFault>
-    ensures ok { OnOk result (PassesOn (W.contents writer.old) text.old (W.contents writer.new) text.new (path_line stream path counts.now)) }
-    ensures fault { OnErr result (BreaksOff (W.contents writer.old) text.old (W.contents writer.new) (path_line stream path counts.now)) }
+    ensures ok { OnOk result (PassesOn (W.contents writer.old) text.old (W.contents writer.new) text.new (path_line stream path (path_tally_of counts.now))) }
+    ensures fault { OnErr result (BreaksOff (W.contents writer.old) text.old (W.contents writer.new) (path_line stream path (path_tally_of counts.now))) }
 {
     text.make_room(writer)?;
     push_path_line(text, stream, path, counts);
@@ -62,7 +63,7 @@ pub fn write_merge_counts<W: Write>(
 /// Holds the line of a path.
 fn push_path_line(text: &mut TextBuffer, stream: u8, path: Path, counts: &PathCounts)
     requires { length text.old + 4096 ≤ 65536 }
-    ensures { text.new ≡ text.old ++ path_line stream path counts.now }
+    ensures { text.new ≡ text.old ++ path_line stream path (path_tally_of counts.now) }
 {
     text.push("path ");
     text.push_number(stream);

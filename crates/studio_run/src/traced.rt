@@ -1,14 +1,19 @@
 //! The events of a trace, left in its text.
-ghost use Rattle.std.specs.Prelude.{◌≡◌};
-ghost use Rattle.studio_run.specs.Trace.{trace_events, count_of};
-ghost use Rattle.studio_run.specs.Places.{event_at, IsPlace, said_of};
+ghost use Rattle.std.specs.Prelude.{◌≡◌, ◌≤◌, ℕ, List, length, IsSome};
+ghost use Rattle.studio_session.specs.Event.{outline_of};
+ghost use Rattle.studio_session.specs.Session.{reception_of, step_of};
+ghost use Rattle.studio_run.specs.Trace.{trace_events, count_of, octets_of};
+ghost use Rattle.studio_run.specs.LineEvent.{octets_by};
+ghost use Rattle.studio_run.specs.Places.{event_at, IsPlace};
 
 use crate::line::{DatagramRoom, decode_octets};
-use crate::places::{Place, TracedEvent};
+use crate::places::Place;
 use crate::reader::TraceReader;
 use crate::trace::{TraceFault, WANT_OF_MEMORY};
+use path_merge::StreamSpec;
 use std::alloc::Global;
 use std::marker::Model;
+use studio_session::{EventSource, Outline, Reception, Step, receive};
 
 /// How many events a trace has. Takes no memory.
 pub fn checked_trace(text: &[u8]) -> Result<usize, TraceFault>
@@ -29,7 +34,7 @@ pub struct TracedEvents<'a> {
 
 impl<'a> Model for TracedEvents<'a> {
     ghost use Rattle.std.specs.Prelude.{List, map, All};
-    ghost use Rattle.studio_run.specs.Trace.{TraceEvent};
+    ghost use Rattle.studio_session.specs.Event.{TraceEvent};
     ghost use Rattle.studio_run.specs.Places.{event_at, IsPlace};
 
     ghost Value = { List TraceEvent };
@@ -40,7 +45,7 @@ impl<'a> Model for TracedEvents<'a> {
 }
 
 impl<'a> TracedEvents<'a> {
-    ghost use Rattle.std.specs.Prelude.{◌⊎◌, ◌<◌, length, slice_get, IfOk, IfErr, Some, Err};
+    ghost use Rattle.std.specs.Prelude.{◌⊎◌, IfOk, IfErr, Err};
     ghost use Rattle.studio_run.specs.Trace.{fault_in, HasEvents};
     ghost use Rattle.studio_run.specs.declared.trace.TraceKind.TheVariants.{Memory};
 
@@ -60,45 +65,71 @@ impl<'a> TracedEvents<'a> {
         }
         Ok(TracedEvents { text, places })
     }
+}
 
-    /// How many there are.
-    pub fn len(&self) -> usize
-        ensures { result ≡ length self.now }
-    {
+impl<'a> EventSource for TracedEvents<'a> {
+    ghost events = { λ e. e };
+
+    fn count(&self) -> usize {
         self.places.len()
     }
 
-    /// The event of a place, from 0. A datagram is decoded into the room.
-    pub fn event(&self, place: usize, room: &mut DatagramRoom) -> TracedEvent
-        requires { place < length self.now }
-        ensures { slice_get self.now place ≡ Some (said_of room.new result) }
-    {
-        event_in(self.text, self.places[place], room)
+    fn outline(&self, place: usize) -> Outline {
+        outline_of(&self.places[place])
+    }
+
+    fn step(&self, place: usize, number: u8, stream: &StreamSpec) -> Step {
+        step_in(self.text, self.places[place], number, stream)
     }
 }
 
-/// The event of a place of a text.
-fn event_in(text: &[u8], place: Place, room: &mut DatagramRoom) -> TracedEvent
+/// An event without the octets of its datagram.
+fn outline_of(place: &Place) -> Outline
+    ensures { (text : List ℕ) → result ≡ outline_of (event_at text place.now) }
+{
+    match place {
+        Place::Arrive { stream, path, .. } => Outline::Arrive {
+            stream: *stream,
+            path: *path,
+        },
+        Place::Tick(time) => Outline::Tick(*time),
+        Place::Close => Outline::Close,
+    }
+}
+
+/// What the event of a place is to a stream.
+fn step_in(text: &[u8], place: Place, number: u8, stream: &StreamSpec) -> Step
     requires { IsPlace text.now place }
-    ensures { said_of room.new result ≡ event_at text.now place }
+    ensures { result ≡ step_of stream.now number (event_at text.now place) }
 {
     match place {
         Place::Arrive {
-            stream,
+            stream: to,
             path,
             start,
             end,
         } => {
-            let Some(length) = decode_octets(&text[start as usize..end as usize], room) else {
-                unreachable!()
-            };
-            TracedEvent::Arrive {
-                stream,
-                path,
-                length,
+            if to == number {
+                let digits = &text[start as usize..end as usize];
+                Step::Datagram(path, receive_digits(stream, digits))
+            } else {
+                Step::Other
             }
         }
-        Place::Tick(time) => TracedEvent::Tick(time),
-        Place::Close => TracedEvent::Close,
+        Place::Tick(time) => Step::Clock(time),
+        Place::Close => Step::End,
     }
+}
+
+/// What a stream makes of the datagram that digits spell.
+fn receive_digits(stream: &StreamSpec, digits: &[u8]) -> Reception
+    requires short { length digits.now ≤ 4096 }
+    requires good { IsSome (octets_of digits.now) }
+    ensures { result ≡ reception_of stream.now (octets_by digits.now) }
+{
+    let mut room: DatagramRoom = [0; 2048];
+    let Some(length) = decode_octets(digits, &mut room) else {
+        unreachable!()
+    };
+    receive(stream, &room[..length])
 }

@@ -1,5 +1,5 @@
 -- A list of events with no fault.
-use Rattle.std.proofs.Common.{◌≡◌, inl, inr, get_or, ◌<◌, ◌+◌, ℕ, zero, suc, Bool, true, false, nat_eq, nat_lt, ◌&&◌, if◌then◌else◌, List, [], ◌∷◌, ◌++◌, ℤ, Option, Some, None, slice_get, refl, sym, ap, subst, ◌∙◌, arith}
+use Rattle.std.proofs.Common.{◌≡◌, inl, inr, get_or, ◌<◌, ◌+◌, ℕ, zero, suc, Bool, true, false, nat_eq, nat_lt, ◌&&◌, if◌then◌else◌, List, [], ◌∷◌, ◌++◌, drop, ℤ, Option, Some, None, slice_get, refl, sym, ap, subst, ◌∙◌, arith}
 use Rattle.std.proofs.lemmas.Bool.{cases_lt}
 use Rattle.std.proofs.lemmas.Bool.Decides.{nat_tests}
 use Rattle.std.proofs.lemmas.Option.{get_or_from_slice_get}
@@ -9,13 +9,14 @@ use Rattle.stream_rules.specs.History.{is_tick_in_order, is_well_timed_from}
 use Rattle.mix_packets.specs.OutSpec.{IsOutput}
 use Rattle.studio_spec.specs.Studio.{Studio}
 use Rattle.studio_session.specs.Play.{HasPathsBy, IsRunnableBy}
-use Rattle.studio_session.specs.Event.{TraceEvent, Arrival, Reading, Closing}
+use Rattle.studio_session.specs.Event.{TraceEvent, Arrival, Reading, Closing, outline_of}
+use Rattle.studio_session.specs.declared.event.Outline.{Outline}
 use Rattle.studio_session.specs.declared.fault.StudioFault.{StudioFault}
 use Rattle.studio_session.specs.declared.fault.StudioFault.TheVariants.{Clock, Memory, Path as NoPath, Stream as NoStream}
 use Rattle.studio_session.specs.declared.reception.Reception.{Reception}
 use Rattle.studio_session.specs.declared.reception.Reception.TheVariants.{Sent, Bad, WrongType, WrongLength}
 use Rattle.studio_session.specs.declared.source.Step.TheVariants.{Datagram, Other}
-use Rattle.studio_session.specs.Fault.{IsRunFault, clock_fault, event_fault, or_later, path_fault, session_fault_from, session_fault_of, time_after, closed_after}
+use Rattle.studio_session.specs.Fault.{IsRunFault, clock_fault, closed_past, event_fault, or_later, outline_fault, path_fault, session_fault_from, session_fault_of, time_after, time_past, closed_after}
 use Rattle.studio_session.specs.Session.{event_in, reception_of, stream_history}
 
 first_none : (here later : Option StudioFault) → or_later here later ≡ None → here ≡ None
@@ -87,10 +88,36 @@ pub fault_later : (streams : List Stream) (place : ℕ) (time : ℤ) (closed : B
     → session_fault_from streams place time closed (event ∷ events) ≡ session_fault_from streams (suc place) (time_after time event) (closed_after closed event) events
 fault_later streams place time closed event events none = ap (λ o. or_later o (session_fault_from streams (suc place) (time_after time event) (closed_after closed event) events)) none
 
+-- what is left from a place on begins with its event
+drop_here : (events : List TraceEvent) (place : ℕ) (event : TraceEvent) → slice_get events place ≡ Some event → drop place events ≡ event ∷ drop (suc place) events
+drop_here [] place event at = absurd (let f : None ≡ Some event = at in cc)
+drop_here (e ∷ events) zero event at = ap (λ x. x ∷ events) (here e event at)
+  where
+    here : (x y : TraceEvent) → Some x ≡ Some y → x ≡ y
+    here x y e = cc
+drop_here (e ∷ events) (suc place) event at = drop_here events place event at
+
+-- an event with no fault is passed
+pub fault_past : (streams : List Stream) (place : ℕ) (time : ℤ) (closed : Bool) (events : List TraceEvent) (event : TraceEvent) (outline : Outline) → slice_get events place ≡ Some event → outline ≡ outline_of event
+    → outline_fault streams place time closed outline ≡ None
+    → session_fault_from streams place time closed (drop place events) ≡ session_fault_from streams (place + 1) (time_past time outline) (closed_past closed outline) (drop (place + 1) events)
+fault_past streams place time closed events event outline at is none =
+    ap (session_fault_from streams place time closed) (drop_here events place event at)
+    ∙ fault_later streams place time closed event (drop (suc place) events) (ap (outline_fault streams place time closed) (sym is) ∙ none)
+    ∙ ap (λ o. session_fault_from streams (suc place) (time_past time o) (closed_past closed o) (drop (suc place) events)) (sym is)
+    ∙ ap (λ n. session_fault_from streams n (time_past time outline) (closed_past closed outline) (drop n events)) (let e : suc place ≡ place + 1 = omega arith in e)
+
 -- and where it has one
 pub fault_here : (streams : List Stream) (place : ℕ) (time : ℤ) (closed : Bool) (event : TraceEvent) (events : List TraceEvent) (fault : StudioFault) → event_fault streams place time closed event ≡ Some fault
     → session_fault_from streams place time closed (event ∷ events) ≡ Some fault
 fault_here streams place time closed event events fault is = ap (λ o. or_later o (session_fault_from streams (suc place) (time_after time event) (closed_after closed event) events)) is
+
+-- an event at fault is the first
+pub fault_found : (streams : List Stream) (place : ℕ) (time : ℤ) (closed : Bool) (events : List TraceEvent) (event : TraceEvent) (outline : Outline) (fault : StudioFault) → slice_get events place ≡ Some event → outline ≡ outline_of event
+    → outline_fault streams place time closed outline ≡ Some fault → session_fault_from streams place time closed (drop place events) ≡ Some fault
+fault_found streams place time closed events event outline fault at is found =
+    ap (session_fault_from streams place time closed) (drop_here events place event at)
+    ∙ fault_here streams place time closed event (drop (suc place) events) fault (ap (outline_fault streams place time closed) (sym is) ∙ found)
 
 -- what holds of the first streams holds of one more
 pub holds_more : (P : Stream → Type 0) (streams : List Stream) (n : ℕ) (stream : Stream) → stream ≡ get_or streams n stream → P stream

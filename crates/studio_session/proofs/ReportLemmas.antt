@@ -28,7 +28,7 @@ use Rattle.studio_session.specs.Report.{ArePulled, HasPulledAll, merge_tally_of}
 use Rattle.studio_session.specs.Way.{IsOnWay}
 
 -- none after the first k is none more
-all_taken : {X : Type 0} (k : ℕ) (xs : List X) → [] ≡ take 1 (drop k xs) → take k xs ≡ xs
+pub all_taken : {X : Type 0} (k : ℕ) (xs : List X) → [] ≡ take 1 (drop k xs) → take k xs ≡ xs
 all_taken zero [] none = refl
 all_taken zero (x ∷ xs) none = absurd (let e : 0 ≡ 1 = ap length none in omega (arith, e))
 all_taken (suc k) [] none = refl

@@ -3,7 +3,9 @@ use Rattle.std.specs.Prelude.{◌≡◌, ℕ, suc, Bool, true, false, nat_lt, Li
 use Rattle.stream_rules.specs.StreamSpecFacts.{Stream}
 use Rattle.stream_rules.specs.History.{is_tick_in_order}
 use Rattle.studio_spec.specs.Studio.{Studio}
-use Rattle.studio_session.specs.Event.{TraceEvent, Arrival, Reading, Closing}
+use Rattle.studio_session.specs.Event.{TraceEvent, outline_of}
+use Rattle.studio_session.specs.declared.event.Outline.{Outline}
+use Rattle.studio_session.specs.declared.event.Outline.TheVariants.{Arrive, Tick, Close}
 use Rattle.studio_session.specs.declared.fault.StudioFault.{StudioFault}
 use Rattle.studio_session.specs.declared.fault.StudioFault.TheVariants.{Clock, Stream as NoStream, Path as NoPath, Memory}
 
@@ -17,20 +19,30 @@ clock_fault place true = None
 clock_fault place false = Some (Clock place)
 
 -- what is wrong with the event at a place, after which time and close
+abbrev pub outline_fault : List Stream → ℕ → ℤ → Bool → Outline → Option StudioFault
+outline_fault streams place time closed (Arrive stream path) = path_fault place (slice_get streams stream) path
+outline_fault streams place time closed (Tick u) = clock_fault place (is_tick_in_order time closed u)
+outline_fault streams place time closed Close = None
+
+abbrev pub time_past : ℤ → Outline → ℤ
+time_past time (Arrive stream path) = time
+time_past time (Tick u) = u
+time_past time Close = time
+
+abbrev pub closed_past : Bool → Outline → Bool
+closed_past closed (Arrive stream path) = closed
+closed_past closed (Tick u) = closed
+closed_past closed Close = true
+
+-- the same of an event with its octets
 abbrev pub event_fault : List Stream → ℕ → ℤ → Bool → TraceEvent → Option StudioFault
-event_fault streams place time closed (Arrival stream path octets) = path_fault place (slice_get streams stream) path
-event_fault streams place time closed (Reading u) = clock_fault place (is_tick_in_order time closed u)
-event_fault streams place time closed Closing = None
+event_fault streams place time closed event = outline_fault streams place time closed (outline_of event)
 
 abbrev pub time_after : ℤ → TraceEvent → ℤ
-time_after time (Arrival stream path octets) = time
-time_after time (Reading u) = u
-time_after time Closing = time
+time_after time event = time_past time (outline_of event)
 
 abbrev pub closed_after : Bool → TraceEvent → Bool
-closed_after closed (Arrival stream path octets) = closed
-closed_after closed (Reading u) = closed
-closed_after closed Closing = true
+closed_after closed event = closed_past closed (outline_of event)
 
 abbrev pub or_later : Option StudioFault → Option StudioFault → Option StudioFault
 or_later (Some fault) later = Some fault

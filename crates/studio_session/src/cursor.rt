@@ -127,7 +127,7 @@ impl Cursor {
     }
 
     /// The next mark on the way to the reading that was taken last, if it isn't reached.
-    pub(crate) fn next_on_way(&mut self) -> Option<Mark>
+    pub fn next_on_way(&mut self) -> Option<Mark>
         ensures stands { (stream : Stream) (number : ℕ) (open_at : ℤ) (events : List TraceEvent) (k : ℕ)
             → IsRunnable stream number open_at events
             → HasPulled stream number open_at events self.old k
@@ -143,7 +143,7 @@ impl Cursor {
     }
 
     /// The next mark that is left after a close.
-    pub(crate) fn next_left(&mut self) -> Option<Mark>
+    pub fn next_left(&mut self) -> Option<Mark>
         requires settled { self.old.reading ≡ None }
         ensures stands { (stream : Stream) (number : ℕ) (open_at : ℤ) (events : List TraceEvent) (k : ℕ)
             → HasPulled stream number open_at events self.old k
@@ -156,7 +156,7 @@ impl Cursor {
     }
 
     /// Takes the next event; false where none is left.
-    pub(crate) fn take_event<E: EventSource>(&mut self, source: &E) -> bool
+    pub fn take_event<E: EventSource>(&mut self, source: &E) -> bool
         requires settled { self.old.reading ≡ None }
         requires ready { IsReadyFor (E.events source.now) self.old }
         ensures ready { IsReadyFor (E.events source.now) self.new }

@@ -1,14 +1,14 @@
 //! Why a list of events can't be run.
-ghost use Rattle.std.specs.Prelude.{◌≡◌, ℕ, false, map, Some, None, slice_get};
+ghost use Rattle.std.specs.Prelude.{◌≡◌, ℕ, false, Some, None, slice_get};
 ghost use Rattle.stream_rules.specs.StreamSpecFacts.{IsStream, Stream};
 ghost use Rattle.stream_rules.specs.History.{is_tick_in_order};
 ghost use Rattle.mix_packets.specs.OutSpec.{IsOutput};
-ghost use Rattle.studio_session.specs.Event.{said_by};
 ghost use Rattle.studio_session.specs.Fault as spec;
-ghost use Rattle.studio_session.specs.Fault.{session_fault_from, session_fault_of};
+ghost use Rattle.studio_session.specs.Fault.{closed_past, outline_fault, session_fault_from, session_fault_of, time_past};
 ghost use Rattle.studio_session.specs.Play.{HasPathsBy, IsRunnableBy};
 
-use crate::event::StudioEvent;
+use crate::event::Outline;
+use crate::source::EventSource;
 use mix_packets::OutSpec;
 use path_merge::{Path, StreamSpec};
 use std::alloc::AllocError;
@@ -33,14 +33,14 @@ pub enum StudioFault {
 }
 
 /// The first event at fault. It takes no memory, and never answers want of it.
-pub fn first_fault(spec: &StudioSpec, events: &[StudioEvent]) -> Option<StudioFault>
-    ensures fault { result ≡ session_fault_of spec.now (map said_by events.now) }
-    ensures runnable { result ≡ None → IsRunnableBy spec.now (map said_by events.now) }
-    ensures paths { result ≡ None → HasPathsBy spec.now (map said_by events.now) }
+pub fn first_fault<E: EventSource>(spec: &StudioSpec, source: &E) -> Option<StudioFault>
+    ensures fault { result ≡ session_fault_of spec.now (E.events source.now) }
+    ensures runnable { result ≡ None → IsRunnableBy spec.now (E.events source.now) }
+    ensures paths { result ≡ None → HasPathsBy spec.now (E.events source.now) }
 {
     are_streams(spec.streams());
     is_output(spec.output());
-    fault_from(spec.streams(), spec.open_at(), events)
+    fault_from(spec.streams(), spec.open_at(), source)
 }
 
 /// What holds of every output, for the contract above.
@@ -60,17 +60,22 @@ fn are_streams(streams: &[StreamSpec])
 }
 
 /// The first event at fault after an opening.
-fn fault_from(streams: &[StreamSpec], open_at: i64, events: &[StudioEvent]) -> Option<StudioFault>
-    ensures { result ≡ session_fault_from streams.now 0 open_at false (map said_by events.now) }
+fn fault_from<E: EventSource>(
+    streams: &[StreamSpec],
+    open_at: i64,
+    source: &E,
+) -> Option<StudioFault>
+    ensures { result ≡ session_fault_from streams.now 0 open_at false (E.events source.now) }
 {
     let mut time = open_at;
     let mut closed = false;
-    for (place, event) in events.iter().enumerate() {
-        if let Some(fault) = event_fault(streams, place, time, closed, event) {
+    for place in 0..source.count() {
+        let event = source.outline(place);
+        if let Some(fault) = event_fault(streams, place, time, closed, &event) {
             return Some(fault);
         }
-        time = time_after(time, event);
-        closed = closed_after(closed, event);
+        time = time_after(time, &event);
+        closed = closed_after(closed, &event);
     }
     None
 }
@@ -81,23 +86,23 @@ fn event_fault(
     place: usize,
     time: i64,
     closed: bool,
-    event: &StudioEvent,
+    event: &Outline,
 ) -> Option<StudioFault>
-    ensures { result ≡ spec.event_fault streams.now place time closed (said_by event.now) }
+    ensures { result ≡ outline_fault streams.now place time closed event.now }
 {
     match event {
-        StudioEvent::Arrive { stream, path, .. } => match streams.get(*stream as usize) {
+        Outline::Arrive { stream, path } => match streams.get(*stream as usize) {
             Some(stream) => path_fault(place, stream, *path),
             None => Some(StudioFault::Stream(place)),
         },
-        StudioEvent::Tick(now) => {
+        Outline::Tick(now) => {
             if in_order(time, closed, *now) {
                 None
             } else {
                 Some(StudioFault::Clock(place))
             }
         }
-        StudioEvent::Close => None,
+        Outline::Close => None,
     }
 }
 
@@ -119,20 +124,20 @@ fn in_order(time: i64, closed: bool, now: i64) -> bool
     path_merge::clock_fault(time, closed, now).is_none()
 }
 
-fn time_after(time: i64, event: &StudioEvent) -> i64
-    ensures { result ≡ spec.time_after time (said_by event.now) }
+fn time_after(time: i64, event: &Outline) -> i64
+    ensures { result ≡ time_past time event.now }
 {
     match event {
-        StudioEvent::Tick(now) => *now,
+        Outline::Tick(now) => *now,
         _ => time,
     }
 }
 
-fn closed_after(closed: bool, event: &StudioEvent) -> bool
-    ensures { result ≡ spec.closed_after closed (said_by event.now) }
+fn closed_after(closed: bool, event: &Outline) -> bool
+    ensures { result ≡ closed_past closed event.now }
 {
     match event {
-        StudioEvent::Close => true,
+        Outline::Close => true,
         _ => closed,
     }
 }

@@ -39,8 +39,8 @@ fn drop_left(cursor: &mut Cursor)
     }
 }
 
-/// Takes all events, and drops all marks that weren't given.
-pub(crate) fn finish<E: EventSource>(cursor: &mut Cursor, source: &E)
+/// Takes all events, and drops all marks that weren't given, so that the merge's counts are whole.
+pub fn finish_stream<E: EventSource>(cursor: &mut Cursor, source: &E)
     requires ready { IsReadyFor (E.events source.now) cursor.old }
     ensures ready { IsReadyFor (E.events source.now) cursor.new }
     ensures stands { (stream : Stream) (number : ℕ) (open_at : ℤ) → IsRunnable stream number open_at (E.events source.now)

@@ -19,11 +19,13 @@ mod tests;
 
 pub use counts::PathCounts;
 pub use cursor::Cursor;
-pub use event::StudioEvent;
+pub use event::{Outline, StudioEvent};
 pub use fault::{StudioFault, first_fault};
+pub use finish::finish_stream;
 pub use reception::{Reception, receive};
 pub use report::{Report, StreamCounts};
 pub use run::all_datagrams;
-pub use session::Session;
+pub use session::{Session, studio_cursors};
 pub use source::{EventList, EventSource, Step};
 pub use studio::run_studio;
+pub use tally::path_counts;

@@ -7,7 +7,7 @@ ghost use Rattle.studio_mix.specs.Output.{datagram_of};
 ghost use Rattle.studio_mix.specs.Ready.{is_ready};
 ghost use Rattle.studio_session.specs.Event.{TraceEvent};
 ghost use Rattle.studio_session.specs.Cursor.{IsReadyFor};
-ghost use Rattle.studio_session.specs.Report.{AreCounts};
+ghost use Rattle.studio_session.specs.Report.{AreCounts, ArePulled};
 ghost use Rattle.studio_session.specs.Play.{AreNew, HasFilled, HasPathsBy, HasPlayed, IsRunnableBy, feeds_of};
 
 use crate::cursor::Cursor;
@@ -55,7 +55,7 @@ impl Session {
         ensures spec { IfOk result (λ session. session.mixer.packer.spec ≡ spec.now.output) }
     {
         let mixer = Mixer::new(alloc, spec)?;
-        let cursors = new_cursors(alloc, spec.streams(), spec.open_at())?;
+        let cursors = studio_cursors(alloc, spec)?;
         Ok(Session { mixer, cursors })
     }
 
@@ -85,6 +85,16 @@ impl Session {
         self.mixer.next_block(out)
     }
 
+    /// The merges of the streams, to be asked for the marks that are left: once no block is ready any
+    /// more.
+    pub fn into_cursors(self) -> Vec<Cursor>
+        ensures pulled { (studio : Studio) (events : List TraceEvent) (next : ℕ) → HasPlayed studio events self next
+            → ArePulled studio events result.items }
+        ensures ready { (events : List TraceEvent) → All (IsReadyFor events) self.cursors → All (IsReadyFor events) result.items }
+    {
+        self.cursors
+    }
+
     /// The counts of each stream, after all its marks: to be called once no block is ready any more,
     /// since the marks that weren't fed are dropped.
     pub fn counts<E: EventSource>(
@@ -100,6 +110,16 @@ impl Session {
         let counts = all_counts(alloc, self.cursors.as_mut_slice(), source)?;
         Ok(counts)
     }
+}
+
+/// A cursor for each stream of a studio, before the first event.
+pub fn studio_cursors(alloc: Global, spec: &StudioSpec) -> Result<Vec<Cursor>, AllocError>
+    ensures new { IfOk result (λ cursors. AreNew spec.now.streams spec.now.open_at cursors.items (length spec.now.streams)) }
+    ensures ready { IfOk result (λ cursors. (events : List TraceEvent) → HasPathsBy spec.now events
+        → All (IsReadyFor events) cursors.items) }
+{
+    let cursors = new_cursors(alloc, spec.streams(), spec.open_at())?;
+    Ok(cursors)
 }
 
 /// A cursor for each stream, before the first event.

@@ -1,9 +1,9 @@
 //! Where the events of a run come from.
 ghost use Rattle.std.specs.Prelude.{◌≡◌, ◌<◌, ℕ, List, length, slice_get, Some, None, map};
-ghost use Rattle.studio_session.specs.Event.{TraceEvent, said_by};
+ghost use Rattle.studio_session.specs.Event.{TraceEvent, outline_of, said_by};
 ghost use Rattle.studio_session.specs.Session.{step_of};
 
-use crate::event::StudioEvent;
+use crate::event::{Outline, StudioEvent};
 use crate::reception::{Reception, receive};
 use path_merge::{Path, StreamSpec};
 
@@ -29,6 +29,11 @@ pub trait EventSource {
     fn count(&self) -> usize
         ensures { result ≡ length (events self.now) };
 
+    /// An event without the octets of its datagram.
+    fn outline(&self, place: usize) -> Outline
+        requires { place < length (events self.now) }
+        ensures { (event : TraceEvent) → slice_get (events self.now) place ≡ Some event → result ≡ outline_of event };
+
     /// What an event is to a stream.
     fn step(&self, place: usize, number: u8, stream: &StreamSpec) -> Step
         requires { place < length (events self.now) }
@@ -48,8 +53,26 @@ impl<'a> EventSource for EventList<'a> {
         self.events.len()
     }
 
+    fn outline(&self, place: usize) -> Outline {
+        outline_at(&self.events[place])
+    }
+
     fn step(&self, place: usize, number: u8, stream: &StreamSpec) -> Step {
         step_at(&self.events[place], number, stream)
+    }
+}
+
+/// An event without the octets of its datagram.
+fn outline_at(event: &StudioEvent) -> Outline
+    ensures { result ≡ outline_of (said_by event.now) }
+{
+    match event {
+        StudioEvent::Arrive { stream, path, .. } => Outline::Arrive {
+            stream: *stream,
+            path: *path,
+        },
+        StudioEvent::Tick(now) => Outline::Tick(*now),
+        StudioEvent::Close => Outline::Close,
     }
 }
 

@@ -28,7 +28,7 @@ pub fn run_studio(
     ensures lawful { OnOk result (session_fault_of spec.now (map said_by events.now) ≡ None) }
     ensures fault { IfErr result (IsRunFault spec.now (map said_by events.now)) }
 {
-    if let Some(fault) = first_fault(spec, events) {
+    if let Some(fault) = first_fault(spec, &EventList { events }) {
         return Err(fault);
     }
     report_of(alloc, spec, events).map_err(StudioFault::Memory)

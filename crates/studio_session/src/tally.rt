@@ -9,7 +9,7 @@ ghost use Rattle.studio_session.specs.Report.{AreCounts, AreCountsOf, ArePulled,
 
 use crate::counts::PathCounts;
 use crate::cursor::Cursor;
-use crate::finish::finish;
+use crate::finish::finish_stream;
 use crate::report::StreamCounts;
 use crate::source::{EventSource, Step};
 use path_merge::StreamSpec;
@@ -32,8 +32,13 @@ fn count_step(counts: &mut PathCounts, path: u8, step: Step)
     }
 }
 
-/// The counts of one path of a stream.
-fn path_counts<E: EventSource>(source: &E, number: u8, stream: &StreamSpec, path: u8) -> PathCounts
+/// The counts of one path of a stream. Takes no memory.
+pub fn path_counts<E: EventSource>(
+    source: &E,
+    number: u8,
+    stream: &StreamSpec,
+    path: u8,
+) -> PathCounts
     ensures { path_tally_of result ≡ path_counts_of stream.now number path (E.events source.now) }
 {
     let mut counts = PathCounts::new();
@@ -71,7 +76,7 @@ fn stream_counts<E: EventSource>(
         → HasPulledSome stream number open_at (E.events source.now) cursor.old → AreCountsOf stream number open_at (E.events source.now) counts) }
 {
     let paths = all_path_counts(alloc, source, cursor.number(), &cursor.spec())?;
-    finish(cursor, source);
+    finish_stream(cursor, source);
     Ok(StreamCounts {
         paths,
         merge: cursor.counts(),

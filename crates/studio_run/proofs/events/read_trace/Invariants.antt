@@ -1,6 +1,7 @@
 use Rattle.std.proofs.Common.{◌≡◌, ◌-◌, length}
 use Rattle.std.specs.Prelude.{map}
-use Rattle.studio_run.specs.Trace.{trace_events, prepend, said_by}
+use Rattle.studio_session.specs.Event.{said_by}
+use Rattle.studio_run.specs.Trace.{trace_events, prepend}
 use Rattle.studio_run.specs.Reader.{left_in}
 use Rattle.studio_run.proofs.events.read_trace.Given as goal
 

@@ -10,5 +10,5 @@ returns-clause-counts g c = λ stream number open_at run some.
     let same = c.number.ensures ∙ some.pulled.stream_number in
     record {
       paths = c.in_ok-paths.ensures ∙ ap (λ (s : Stream). path_tallies s c.number.result events s.paths) spec ∙ ap (λ n. path_tallies stream n events stream.paths) same;
-      merge = c.counts.ensures ∙ c.finish.ensures.stands stream number open_at run some;
+      merge = c.counts.ensures ∙ c.finish_stream.ensures.stands stream number open_at run some;
     }

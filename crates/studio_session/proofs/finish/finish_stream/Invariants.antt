@@ -2,7 +2,7 @@ use Rattle.std.proofs.Common.{ℕ, ℤ}
 use Rattle.stream_rules.specs.StreamSpecFacts.{Stream}
 use Rattle.studio_session.specs.Cursor.{IsReadyFor, IsRunnable, events_left}
 use Rattle.studio_session.specs.Report.{HasPulledSome}
-use Rattle.studio_session.proofs.finish.finish.Given as goal
+use Rattle.studio_session.proofs.finish.finish_stream.Given as goal
 
 -- some marks were given
 abbrev pub invariant-events : goal.invariant-events

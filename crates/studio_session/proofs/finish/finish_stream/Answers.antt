@@ -2,7 +2,7 @@ use Rattle.std.proofs.Common.{◌≡◌, sym, subst}
 use Rattle.studio_session.specs.Cursor.{CursorState}
 use Rattle.studio_session.specs.Report.{merge_tally_of}
 use Rattle.studio_session.proofs.ReportLemmas.{finished}
-use Rattle.studio_session.proofs.finish.finish.Goals as goal
+use Rattle.studio_session.proofs.finish.finish_stream.Goals as goal
 
 pub events-preserved : goal.events-preserved
 events-preserved g c =
