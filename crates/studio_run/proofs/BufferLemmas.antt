@@ -1,6 +1,6 @@
 -- Text that passes through a buffer, piece by piece.
-use Rattle.std.proofs.Common.{◌≡◌, ℕ, List, [], ◌++◌, Option, length, take, sym, ◌∙◌, ap, refl, arith, append_assoc, length-append, ◌+◌}
-use Rattle.std.proofs.lemmas.List.{take-append-le}
+use Rattle.std.proofs.Common.{◌≡◌, ℕ, List, [], ◌++◌, Option, length, take, sym, ◌∙◌, ap, refl, subst, arith, append_assoc, length-append, ◌+◌, ◌<◌}
+use Rattle.std.proofs.lemmas.List.{append-nil, take-append-le}
 use Rattle.std.proofs.Math.Seq.{take-append-add}
 use Rattle.std.specs.Io.KnownBytes.{Appends}
 use Rattle.std.proofs.KnownBytes.{Appends-nil, Appends-trans}
@@ -9,6 +9,10 @@ use Rattle.studio_run.specs.Buffer.{PassesOn, BreaksOff}
 -- nothing was written, and the octets are held
 pub PassesOn-held : (a : Option (List ℕ)) (held octets : List ℕ) → PassesOn a held a (held ++ octets) octets
 PassesOn-held a held octets = record { front = []; whole = refl; wrote = Appends-nil a }
+
+-- nothing came
+pub PassesOn-none : (a : Option (List ℕ)) (held : List ℕ) → PassesOn a held a held []
+PassesOn-none a held = record { front = []; whole = append-nil held; wrote = Appends-nil a }
 
 -- what was held is written, and nothing is held
 pub PassesOn-written : (a b : Option (List ℕ)) (held : List ℕ) → Appends a b held → PassesOn a held b [] []
@@ -46,3 +50,13 @@ BreaksOff-later a b c h i xs ys passes fault =
       part = omega (arith, fault.part, ap length whole, length-append passes.front (i ++ ys));
       wrote = rw same (Appends-trans a b c passes.front (take fault.count (i ++ ys)) passes.wrote fault.wrote);
     }
+
+-- what was held is written at the end
+pub PassesOn-finished : (a b c : Option (List ℕ)) (h xs : List ℕ) → PassesOn a [] b h xs → Appends b c h → Appends a c xs
+PassesOn-finished a b c h xs passes rest = rw passes.whole (Appends-trans a b c passes.front h passes.wrote rest)
+
+-- or a part of it
+pub BreaksOff-finished : (a b c : Option (List ℕ)) (h xs : List ℕ) → PassesOn a [] b h xs → (n : ℕ) × (n < length h) × Appends b c (take n h) → BreaksOff a [] c xs
+BreaksOff-finished a b c h xs passes part =
+    subst (BreaksOff a [] c) (append-nil xs) (BreaksOff-later a b c [] h xs [] passes
+    (record { count = part.0; part = subst (λ l. part.0 < length l) (sym (append-nil h)) part.1; wrote = subst (λ l. Appends b c (take part.0 l)) (sym (append-nil h)) part.2 }))

@@ -1,9 +1,13 @@
 pub mod BufferLemmas
+pub mod CountedLemmas
 pub mod DecimalLemmas
 pub mod FieldsLemmas
 pub mod LinesLemmas
 pub mod NumberLemmas
 pub mod PlaceLemmas
+pub mod PlayLemmas
 pub mod ReadLemmas
 pub mod ReaderLemmas
+pub mod ReportedLemmas
 pub mod TraceLemmas
+pub mod ListedLemmas

@@ -2,8 +2,12 @@ pub mod Buffer
 pub mod Fields
 pub mod LineEvent
 pub mod Lines
+pub mod Listed
+pub mod Listing
 pub mod Places
+pub mod Play
 pub mod Reader
 pub mod Report
+pub mod Reported
 pub mod Text
 pub mod Trace

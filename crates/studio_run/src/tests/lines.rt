@@ -1,5 +1,5 @@
 //! Lines through a buffer of fixed size, to writers that take all and to writers that fail.
-use super::repeated;
+use super::{Page, repeated};
 use crate::{
     PathCounts, TextBuffer, WriteFault, write_datagram, write_mark, write_merge_counts,
     write_path_counts,
@@ -7,32 +7,8 @@ use crate::{
 use path_merge::{Body, Counts, Format, Mark, Path};
 use rtp_wire::{Enc, Payload};
 use std::alloc::Global;
-use std::io;
-use std::io::{ErrorKind, Write};
+use std::io::Write;
 use std::test::Fail;
-
-/// A writer that takes so many octets, and then fails.
-#[derive(Drop)]
-struct Page {
-    octets: Vec<u8>,
-    room: usize,
-}
-
-impl Write for Page {
-    fn write(&mut self, buf: &[u8]) -> io::Result<usize> {
-        let count = buf.len().min(self.room);
-        if count == 0 {
-            return Err(io::Error::from(ErrorKind::Other));
-        }
-        self.octets.extend_from_slice(&buf[..count])?;
-        self.room -= count;
-        Ok(count)
-    }
-
-    fn flush(&mut self) -> io::Result<()> {
-        Ok(())
-    }
-}
 
 #[test]
 fn each_line_has_its_form(rt: HostRuntime) -> Result<(), Fail> {

@@ -1,0 +1,72 @@
+-- Why the text of a trace is not written.
+use Rattle.std.proofs.Common.{◌≡◌, inl, inr, ◌<◌, ℕ, List, Option, None, Ok, Err, true, nat_lt, length, if◌then◌else◌, refl, sym, ap, subst, arith}
+use Rattle.std.specs.Prelude.{◌⊎◌}
+use Rattle.std.specs.Io.KnownBytes.{Consumes, IsAtEnd}
+use Rattle.std.proofs.lemmas.Bool.Decides.{nat_tests}
+use Rattle.studio_spec.specs.Studio.{Studio}
+use Rattle.studio_session.specs.Event.{TraceEvent}
+use Rattle.studio_session.specs.Fault.{session_fault_of}
+use Rattle.studio_run.specs.Trace.{HasEvents, fault_in, lines_of, lines_said, trace_events}
+use Rattle.studio_run.specs.Play.{FailsOf, FailsOn, FailsWriting, StopsAt, StopsReading, stop_for}
+use Rattle.studio_run.specs.declared.trace.TraceFault.{TraceFault}
+use Rattle.studio_run.specs.declared.trace.TraceKind.{TraceKind}
+use Rattle.studio_run.specs.declared.trace.TraceKind.TheVariants.{TooLong, Cut, Word, Fields, Number, Hex, TooMany, Memory as NoMemory}
+use Rattle.studio_run.specs.declared.player.PlayFault.{PlayFault}
+use Rattle.studio_run.specs.declared.player.PlayFault.TheVariants.{Read, Memory, Trace, Run, Write}
+
+stops_by_kind : (studio : Studio) (trace : List ℕ) (fault : TraceFault) (kind : TraceKind) → trace_events trace ≡ Err fault → StopsAt studio trace (stop_for kind fault)
+stops_by_kind studio trace fault TooLong is = is
+stops_by_kind studio trace fault Cut is = is
+stops_by_kind studio trace fault Word is = is
+stops_by_kind studio trace fault Fields is = is
+stops_by_kind studio trace fault Number is = is
+stops_by_kind studio trace fault Hex is = is
+stops_by_kind studio trace fault TooMany is = is
+stops_by_kind studio trace fault NoMemory is = tt
+
+-- a trace with no events in memory
+pub stops_at_trace : (studio : Studio) (trace : List ℕ) (fault : TraceFault) → ((fault ≡ fault_in 0 NoMemory) × HasEvents (trace_events trace)) ⊎ (trace_events trace ≡ Err fault)
+    → StopsAt studio trace (stop_for fault.kind fault)
+stops_at_trace studio trace fault (inl want) = subst (λ (f : TraceFault). StopsAt studio trace (stop_for f.kind f)) (sym want.0) tt
+stops_at_trace studio trace fault (inr is) = stops_by_kind studio trace fault fault.kind is
+
+-- nothing was written yet
+pub fails_before : (studio : Studio) (IsText : Studio → List TraceEvent → List ℕ → Type 0) (trace : List ℕ) (a : Option (List ℕ)) (fault : PlayFault) → StopsAt studio trace fault → FailsOn studio IsText trace a a fault
+fails_before studio IsText trace a Memory stops = refl
+fails_before studio IsText trace a (Trace fault) stops = (stops, refl)
+fails_before studio IsText trace a (Run fault) stops = (stops, refl)
+fails_before studio IsText trace a Read stops = absurd stops
+fails_before studio IsText trace a Write stops = absurd stops
+
+-- the events run
+pub fails_later : (studio : Studio) (IsText : Studio → List TraceEvent → List ℕ → Type 0) (trace : List ℕ) (events : List TraceEvent) (a b : Option (List ℕ)) (fault : PlayFault)
+    → trace_events trace ≡ Ok events → session_fault_of studio events ≡ None → FailsWriting studio IsText events a b fault → FailsOn studio IsText trace a b fault
+fails_later studio IsText trace events a b Memory said runs fails = fails
+fails_later studio IsText trace events a b Write said runs fails = record { events = events; said = said; runs = runs; part = fails }
+fails_later studio IsText trace events a b Read said runs fails = absurd fails
+fails_later studio IsText trace events a b (Trace fault) said runs fails = absurd fails
+fails_later studio IsText trace events a b (Run fault) said runs fails = absurd fails
+
+-- the input was not read to its end
+pub fails_reading : (studio : Studio) (IsText : Studio → List TraceEvent → List ℕ → Type 0) (left left_then a : Option (List ℕ)) (fault : PlayFault) → StopsReading left left_then fault
+    → FailsOf studio IsText left left_then a a fault
+fails_reading studio IsText left left_then a Read stops = refl
+fails_reading studio IsText left left_then a Memory stops = refl
+fails_reading studio IsText left left_then a (Trace fault) stops = (stops.0, stops.1, stops.2, refl)
+fails_reading studio IsText left left_then a (Run fault) stops = absurd stops
+fails_reading studio IsText left left_then a Write stops = absurd stops
+
+-- it was
+pub fails_read : (studio : Studio) (IsText : Studio → List TraceEvent → List ℕ → Type 0) (left left_then : Option (List ℕ)) (trace : List ℕ) (a b : Option (List ℕ)) (fault : PlayFault)
+    → Consumes left left_then trace → IsAtEnd left_then → FailsOn studio IsText trace a b fault → FailsOf studio IsText left left_then a b fault
+fails_read studio IsText left left_then trace a b Read read end fails = absurd fails
+fails_read studio IsText left left_then trace a b Memory read end fails = fails
+fails_read studio IsText left left_then trace a b (Trace fault) read end fails = (trace, read, fails.0, fails.1)
+fails_read studio IsText left left_then trace a b (Run fault) read end fails = (trace, read, end, fails)
+fails_read studio IsText left left_then trace a b Write read end fails = (trace, read, end, fails)
+
+-- more octets came than a trace may have
+pub too_many : (octets : List ℕ) → 67108864 < length octets → trace_events octets ≡ Err (fault_in 0 TooMany)
+too_many octets more =
+    let test : nat_lt 67108864 (length octets) ≡ true = grind (arith, nat_tests, more) in
+    ap (λ b. if b then Err (fault_in 0 TooMany) else lines_said 1 0 (lines_of octets)) test

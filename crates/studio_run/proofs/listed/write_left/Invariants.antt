@@ -1,0 +1,20 @@
+use Rattle.std.proofs.Common.{◌≡◌, ℕ, ℤ, List, Option, None}
+use Rattle.stream_rules.specs.StreamSpecFacts.{Stream}
+use Rattle.path_merge.specs.Steps.{marks_left}
+use Rattle.studio_session.specs.Event.{TraceEvent}
+use Rattle.studio_session.specs.Cursor.{IsRunnable, IsSameCursor}
+use Rattle.studio_run.specs.Listed.{HasListed}
+use Rattle.studio_run.proofs.listed.write_left.Given as goal
+
+-- the lines of the marks so far were written
+abbrev pub invariant-marks : goal.invariant-marks
+invariant-marks g l = record {
+  stands : (stream : Stream) (number : ℕ) (open_at : ℤ) (events : List TraceEvent) (written : Option (List ℕ)) (held : List ℕ)
+      → IsRunnable stream number open_at events → HasListed stream number open_at events written held l.fn.cursor (g.W.Write.contents l.fn.writer) l.fn.text
+      → HasListed stream number open_at events written held l.cursor (g.W.Write.contents l.writer) l.text;
+  settled : l.cursor.reading ≡ None;
+  kept : IsSameCursor l.fn.cursor l.cursor;
+}
+
+abbrev pub decreases-marks : goal.decreases-marks
+decreases-marks g l = marks_left l.cursor.merge

@@ -1,0 +1,107 @@
+-- What is written of a trace, and why it may not be.
+use Rattle.std.specs.Prelude.{◌≡◌, ℕ, List, [], Option, Some, None, Ok, Err}
+use Rattle.std.specs.Io.KnownBytes.{Appends, Consumes, IsAtEnd}
+use Rattle.studio_spec.specs.Studio.{Studio}
+use Rattle.studio_session.specs.Event.{TraceEvent}
+use Rattle.studio_session.specs.Fault.{session_fault_of}
+use Rattle.studio_run.specs.Buffer.{BreaksOff}
+use Rattle.studio_run.specs.Trace.{trace_events}
+use Rattle.studio_run.specs.Listing.{listing_text}
+use Rattle.studio_run.specs.Reported.{IsReport}
+use Rattle.studio_run.specs.declared.trace.TraceFault.{TraceFault}
+use Rattle.studio_run.specs.declared.trace.TraceKind.{TraceKind}
+use Rattle.studio_run.specs.declared.trace.TraceKind.TheVariants.{TooLong, Cut, Word, Fields, Number, Hex, TooMany, Memory as NoMemory}
+use Rattle.studio_run.specs.declared.player.PlayFault.{PlayFault}
+use Rattle.studio_run.specs.declared.player.PlayFault.TheVariants.{Read, Memory, Trace, Run, Write}
+use Rattle.studio_run.specs.declared.player.TextKind.{TextKind}
+use Rattle.studio_run.specs.declared.player.TextKind.TheVariants.{Listing, Report}
+
+-- the listing of events
+abbrev pub IsListing : Studio → List TraceEvent → List ℕ → Type 0
+IsListing studio events text = text ≡ listing_text studio events
+
+abbrev pub IsTextOf : TextKind → Studio → List TraceEvent → List ℕ → Type 0
+IsTextOf Listing = IsListing
+IsTextOf Report = IsReport
+
+-- the text of these events was written
+pub record WritesEvents (studio : Studio) (IsText : Studio → List TraceEvent → List ℕ → Type 0) (events : List TraceEvent) (written written_then : Option (List ℕ)) : Type 0 where
+  pub text : List ℕ
+  pub is : IsText studio events text
+  pub wrote : Appends written written_then text
+
+-- why it was not: memory was refused before, or a write failed after a part from the front
+abbrev pub FailsWriting : Studio → (Studio → List TraceEvent → List ℕ → Type 0) → List TraceEvent → Option (List ℕ) → Option (List ℕ) → PlayFault → Type 0
+FailsWriting studio IsText events written written_then Read = ⊥
+FailsWriting studio IsText events written written_then Memory = written_then ≡ written
+FailsWriting studio IsText events written written_then (Trace fault) = ⊥
+FailsWriting studio IsText events written written_then (Run fault) = ⊥
+FailsWriting studio IsText events written written_then Write = (text : List ℕ) → IsText studio events text → BreaksOff written [] written_then text
+
+-- a trace has no runnable events: it is at fault, one of its events is, or memory was refused
+abbrev pub StopsAt : Studio → List ℕ → PlayFault → Type 0
+StopsAt studio trace Read = ⊥
+StopsAt studio trace Memory = Unit {0}
+StopsAt studio trace (Trace fault) = trace_events trace ≡ Err fault
+StopsAt studio trace (Run fault) = (events : List TraceEvent) × (trace_events trace ≡ Ok events) × (session_fault_of studio events ≡ Some fault)
+StopsAt studio trace Write = ⊥
+
+-- the fault of a trace, by its kind
+abbrev pub stop_for : TraceKind → TraceFault → PlayFault
+stop_for TooLong fault = Trace fault
+stop_for Cut fault = Trace fault
+stop_for Word fault = Trace fault
+stop_for Fields fault = Trace fault
+stop_for Number fault = Trace fault
+stop_for Hex fault = Trace fault
+stop_for TooMany fault = Trace fault
+stop_for NoMemory fault = Memory
+
+-- the trace's events run, and their text was written
+pub record WritesText (studio : Studio) (IsText : Studio → List TraceEvent → List ℕ → Type 0) (trace : List ℕ) (written written_then : Option (List ℕ)) : Type 0 where
+  pub events : List TraceEvent
+  pub said : trace_events trace ≡ Ok events
+  pub runs : session_fault_of studio events ≡ None
+  pub writes : WritesEvents studio IsText events written written_then
+
+-- they run, and a part from the front of their text was written
+pub record BreaksOffText (studio : Studio) (IsText : Studio → List TraceEvent → List ℕ → Type 0) (trace : List ℕ) (written written_then : Option (List ℕ)) : Type 0 where
+  pub events : List TraceEvent
+  pub said : trace_events trace ≡ Ok events
+  pub runs : session_fault_of studio events ≡ None
+  pub part : (text : List ℕ) → IsText studio events text → BreaksOff written [] written_then text
+
+-- why the text of a trace was not written: nothing was, but where a write failed
+abbrev pub FailsOn : Studio → (Studio → List TraceEvent → List ℕ → Type 0) → List ℕ → Option (List ℕ) → Option (List ℕ) → PlayFault → Type 0
+FailsOn studio IsText trace written written_then Read = ⊥
+FailsOn studio IsText trace written written_then Memory = written_then ≡ written
+FailsOn studio IsText trace written written_then (Trace fault) = (trace_events trace ≡ Err fault) × (written_then ≡ written)
+FailsOn studio IsText trace written written_then (Run fault) =
+    ((events : List TraceEvent) × (trace_events trace ≡ Ok events) × (session_fault_of studio events ≡ Some fault)) × (written_then ≡ written)
+FailsOn studio IsText trace written written_then Write = BreaksOffText studio IsText trace written written_then
+
+-- an input gives no trace: a read failed, memory was refused, or more octets came than a trace may have
+abbrev pub StopsReading : Option (List ℕ) → Option (List ℕ) → PlayFault → Type 0
+StopsReading left left_then Read = Unit {0}
+StopsReading left left_then Memory = Unit {0}
+StopsReading left left_then (Trace fault) = (trace : List ℕ) × Consumes left left_then trace × (trace_events trace ≡ Err fault)
+StopsReading left left_then (Run fault) = ⊥
+StopsReading left left_then Write = ⊥
+
+-- all that was left of an input is the trace whose text was written
+pub record WritesTextOf (studio : Studio) (IsText : Studio → List TraceEvent → List ℕ → Type 0) (left left_then written written_then : Option (List ℕ)) : Type 0 where
+  pub trace : List ℕ
+  pub read : Consumes left left_then trace
+  pub end : IsAtEnd left_then
+  pub writes : WritesText studio IsText trace written written_then
+
+-- why the text of an input was not written: nothing was, but where a write failed
+abbrev pub FailsOf : Studio → (Studio → List TraceEvent → List ℕ → Type 0) → Option (List ℕ) → Option (List ℕ) → Option (List ℕ) → Option (List ℕ) → PlayFault → Type 0
+FailsOf studio IsText left left_then written written_then Read = written_then ≡ written
+FailsOf studio IsText left left_then written written_then Memory = written_then ≡ written
+FailsOf studio IsText left left_then written written_then (Trace fault) =
+    (trace : List ℕ) × Consumes left left_then trace × (trace_events trace ≡ Err fault) × (written_then ≡ written)
+FailsOf studio IsText left left_then written written_then (Run fault) =
+    (trace : List ℕ) × Consumes left left_then trace × IsAtEnd left_then × FailsOn studio IsText trace written written_then (Run fault)
+FailsOf studio IsText left left_then written written_then Write =
+    (trace : List ℕ) × Consumes left left_then trace × IsAtEnd left_then × BreaksOffText studio IsText trace written written_then

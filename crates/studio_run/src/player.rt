@@ -1,0 +1,229 @@
+//! From a trace to the listing of a studio's marks, and to its report.
+ghost use Rattle.std.specs.Prelude.{◌≡◌, List, ℕ, None, Ok, OnOk, OnErr, IfOk, IfErr};
+ghost use Rattle.std.specs.Io.KnownBytes.{Appends, Consumes, IsAtEnd};
+ghost use Rattle.studio_session.specs.Fault.{session_fault_of};
+ghost use Rattle.studio_session.specs.Play.{HasPathsBy, IsRunnableBy};
+ghost use Rattle.studio_run.specs.Trace.{trace_events};
+ghost use Rattle.studio_run.specs.Play.{FailsOf, FailsOn, FailsWriting, IsListing, IsTextOf, StopsAt, StopsReading, WritesEvents, WritesText, WritesTextOf, stop_for};
+ghost use Rattle.studio_run.specs.Reported.{IsReport};
+
+use crate::buffer::TextBuffer;
+use crate::device::{ReadFault, WriteFault, read_text};
+use crate::listed::write_listing;
+use crate::reported::write_report;
+use crate::trace::{TraceFault, TraceKind};
+use crate::traced::TracedEvents;
+use std::alloc::Global;
+use std::io::{Read, Write};
+use studio_session::{Cursor, Session, StudioFault, first_fault, studio_cursors};
+use studio_spec::StudioSpec;
+use thiserror::Error;
+
+/// Why the text of a trace was not written, or only a part of it. They are found in the order Read,
+/// Trace, Run, Write, and Memory where it was refused. Nothing is written before a write fails.
+#[derive(Debug, Drop, Error)]
+pub enum PlayFault {
+    /// A read failed, or 100,000,000 reads did not reach the end.
+    #[error("device: read")]
+    Read,
+    /// A growth was refused.
+    #[error("out of memory")]
+    Memory,
+    /// The trace is at fault.
+    #[error("{0}")]
+    Trace(TraceFault),
+    /// An event of the trace is at fault.
+    #[error("{0}")]
+    Run(StudioFault),
+    /// A write failed, or took no octet. What was written is a beginning of the text.
+    #[error("device: write")]
+    Write,
+}
+
+/// Which text is to be written.
+#[derive(Clone, Copy)]
+pub(crate) enum TextKind {
+    Listing,
+    Report,
+}
+
+/// Reads a trace to its end, and writes the listing of all marks, stream after stream.
+pub fn list_marks<R: Read, W: Write>(
+    alloc: Global,
+    spec: &StudioSpec,
+    reader: &mut R,
+    writer: &mut W,
+) -> Result<(), PlayFault>
+    ensures ok { OnOk result (WritesTextOf spec.now IsListing (R.remaining reader.old) (R.remaining reader.new) (W.contents writer.old) (W.contents writer.new)) }
+    ensures fault { IfErr result (FailsOf spec.now IsListing (R.remaining reader.old) (R.remaining reader.new) (W.contents writer.old) (W.contents writer.new)) }
+{
+    write_trace(alloc, spec, TextKind::Listing, reader, writer)
+}
+
+/// Reads a trace to its end, and writes its report: the datagrams of all blocks that are ready, and
+/// the counts of each stream.
+pub fn play<R: Read, W: Write>(
+    alloc: Global,
+    spec: &StudioSpec,
+    reader: &mut R,
+    writer: &mut W,
+) -> Result<(), PlayFault>
+    ensures ok { OnOk result (WritesTextOf spec.now IsReport (R.remaining reader.old) (R.remaining reader.new) (W.contents writer.old) (W.contents writer.new)) }
+    ensures fault { IfErr result (FailsOf spec.now IsReport (R.remaining reader.old) (R.remaining reader.new) (W.contents writer.old) (W.contents writer.new)) }
+{
+    write_trace(alloc, spec, TextKind::Report, reader, writer)
+}
+
+/// Reads a trace to its end, and writes its text.
+fn write_trace<R: Read, W: Write>(
+    alloc: Global,
+    spec: &StudioSpec,
+    kind: TextKind,
+    reader: &mut R,
+    writer: &mut W,
+) -> Result<(), PlayFault>
+    ensures ok { OnOk result (WritesTextOf spec.now (IsTextOf kind) (R.remaining reader.old) (R.remaining reader.new) (W.contents writer.old) (W.contents writer.new)) }
+    ensures fault { IfErr result (FailsOf spec.now (IsTextOf kind) (R.remaining reader.old) (R.remaining reader.new) (W.contents writer.old) (W.contents writer.new)) }
+{
+    let trace = read_all(alloc, reader)?;
+    write_text_of(alloc, spec, kind, trace.as_slice(), writer)?;
+    Ok(())
+}
+
+/// Reads a trace to its end.
+fn read_all<R: Read>(alloc: Global, reader: &mut R) -> Result<Vec<u8>, PlayFault>
+    ensures ok { IfOk result (λ trace. Consumes (R.remaining reader.old) (R.remaining reader.new) trace.items) }
+    ensures end { OnOk result (IsAtEnd (R.remaining reader.new)) }
+    ensures fault { IfErr result (StopsReading (R.remaining reader.old) (R.remaining reader.new)) }
+{
+    match read_text(alloc, reader) {
+        Ok(trace) => Ok(trace),
+        Err(ReadFault::Device) => Err(PlayFault::Read),
+        Err(ReadFault::Memory) => Err(PlayFault::Memory),
+        Err(ReadFault::TooMany) => Err(PlayFault::Trace(TraceFault {
+            line: 0,
+            kind: TraceKind::TooMany,
+        })),
+    }
+}
+
+/// Writes the text of a trace.
+fn write_text_of<W: Write>(
+    alloc: Global,
+    spec: &StudioSpec,
+    kind: TextKind,
+    trace: &[u8],
+    writer: &mut W,
+) -> Result<(), PlayFault>
+    ensures ok { OnOk result (WritesText spec.now (IsTextOf kind) trace.now (W.contents writer.old) (W.contents writer.new)) }
+    ensures fault { IfErr result (FailsOn spec.now (IsTextOf kind) trace.now (W.contents writer.old) (W.contents writer.new)) }
+{
+    let events = runnable_events(alloc, spec, trace)?;
+    write_events(alloc, spec, kind, &events, writer)?;
+    Ok(())
+}
+
+/// The events of a trace, if none is at fault.
+fn runnable_events<'a>(
+    alloc: Global,
+    spec: &StudioSpec,
+    trace: &'a [u8],
+) -> Result<TracedEvents<'a>, PlayFault>
+    ensures ok { IfOk result (λ events. trace_events trace.now ≡ Ok events) }
+    ensures runs { IfOk result (λ events. session_fault_of spec.now events ≡ None) }
+    ensures runnable { IfOk result (λ events. IsRunnableBy spec.now events) }
+    ensures paths { IfOk result (λ events. HasPathsBy spec.now events) }
+    ensures fault { IfErr result (StopsAt spec.now trace.now) }
+{
+    let events = match TracedEvents::new(alloc, trace) {
+        Ok(events) => events,
+        Err(fault) => return Err(stop_for(fault)),
+    };
+    match first_fault(spec, &events) {
+        None => Ok(events),
+        Some(fault) => Err(PlayFault::Run(fault)),
+    }
+}
+
+/// The fault of a trace, or want of memory.
+fn stop_for(fault: TraceFault) -> PlayFault
+    ensures { result ≡ stop_for fault.kind fault }
+{
+    match fault.kind {
+        TraceKind::Memory => PlayFault::Memory,
+        _ => PlayFault::Trace(fault),
+    }
+}
+
+/// Writes the text of events of which none is at fault. All memory is taken before.
+fn write_events<W: Write>(
+    alloc: Global,
+    spec: &StudioSpec,
+    kind: TextKind,
+    events: &TracedEvents<'_>,
+    writer: &mut W,
+) -> Result<(), PlayFault>
+    requires runnable { IsRunnableBy spec.now events.now }
+    requires paths { HasPathsBy spec.now events.now }
+    ensures ok { OnOk result (WritesEvents spec.now (IsTextOf kind) events.now (W.contents writer.old) (W.contents writer.new)) }
+    ensures fault { IfErr result (FailsWriting spec.now (IsTextOf kind) events.now (W.contents writer.old) (W.contents writer.new)) }
+{
+    match kind {
+        TextKind::Listing => write_events_listing(alloc, spec, events, writer),
+        TextKind::Report => write_events_report(alloc, spec, events, writer),
+    }
+}
+
+/// Writes the listing of events.
+fn write_events_listing<W: Write>(
+    alloc: Global,
+    spec: &StudioSpec,
+    events: &TracedEvents<'_>,
+    writer: &mut W,
+) -> Result<(), PlayFault>
+    requires runnable { IsRunnableBy spec.now events.now }
+    requires paths { HasPathsBy spec.now events.now }
+    ensures ok { OnOk result (WritesEvents spec.now IsListing events.now (W.contents writer.old) (W.contents writer.new)) }
+    ensures fault { IfErr result (FailsWriting spec.now IsListing events.now (W.contents writer.old) (W.contents writer.new)) }
+{
+    let Ok(mut cursors) = studio_cursors(alloc, spec) else {
+        return Err(PlayFault::Memory);
+    };
+    let Ok(mut text) = TextBuffer::new(alloc) else {
+        return Err(PlayFault::Memory);
+    };
+    let Ok(()) = write_listing(&mut text, writer, events, cursors.as_mut_slice()) else {
+        return Err(PlayFault::Write);
+    };
+    let Ok(()) = text.finish(writer) else {
+        return Err(PlayFault::Write);
+    };
+    Ok(())
+}
+
+/// Writes the report of events.
+fn write_events_report<W: Write>(
+    alloc: Global,
+    spec: &StudioSpec,
+    events: &TracedEvents<'_>,
+    writer: &mut W,
+) -> Result<(), PlayFault>
+    requires runnable { IsRunnableBy spec.now events.now }
+    requires paths { HasPathsBy spec.now events.now }
+    ensures ok { OnOk result (WritesEvents spec.now IsReport events.now (W.contents writer.old) (W.contents writer.new)) }
+    ensures fault { IfErr result (FailsWriting spec.now IsReport events.now (W.contents writer.old) (W.contents writer.new)) }
+{
+    let Ok(session) = Session::new(alloc, spec) else {
+        return Err(PlayFault::Memory);
+    };
+    let Ok(mut text) = TextBuffer::new(alloc) else {
+        return Err(PlayFault::Memory);
+    };
+    let Ok(()) = write_report(&mut text, writer, events, session) else {
+        return Err(PlayFault::Write);
+    };
+    let Ok(()) = text.finish(writer) else {
+        return Err(PlayFault::Write);
+    };
+    Ok(())
+}
