@@ -12,7 +12,7 @@ use Rattle.studio_mix.specs.Output.{datagram_of}
 use Rattle.studio_session.specs.Event.{TraceEvent}
 use Rattle.studio_session.specs.Play.{HasPlayed, SessionState, feeds_of}
 use Rattle.studio_session.specs.Run.{AreDatagrams, HasGivenBlocks}
-use Rattle.studio_session.proofs.RunLemmas.{blocks_more, blocks_all}
+use Rattle.studio_session.proofs.RunLemmas.{blocks_more, first_all}
 use Rattle.studio_run.specs.Buffer.{PassesOn, BreaksOff}
 use Rattle.studio_run.specs.Report.{datagram_line}
 use Rattle.studio_run.specs.Listing.{counts_text_of, datagrams_text}
@@ -29,8 +29,10 @@ reporting_none studio events a h session played = record {
   datagrams = [];
   given = record {
     played = played;
-    ready = λ n less. absurd (let b : n < 0 = grind (arith, nat_tests, less) in omega (arith, b));
-    each = λ n datagram at. absurd (let f : None ≡ Some datagram = at in cc);
+    first = record {
+      ready = λ n less. absurd (let b : n < 0 = grind (arith, nat_tests, less) in omega (arith, b));
+      each = λ n datagram at. absurd (let f : None ≡ Some datagram = at in cc);
+    };
   };
   wrote = PassesOn-none a h;
 }
@@ -64,10 +66,10 @@ front_of f xs ys each other short =
 first_blocks : (studio : Studio) (events : List TraceEvent) (session : SessionState) (some all : List (List ℕ)) → HasGivenBlocks studio events session some → AreDatagrams studio events all
     → some ≡ take (length some) all
 first_blocks studio events session some all given are =
-    front_of (datagram_of studio (feeds_of studio events)) some all given.each are.each (elim (cases_lt (length all) (length some)) [
+    front_of (datagram_of studio (feeds_of studio events)) some all given.first.each are.each (elim (cases_lt (length all) (length some)) [
       | inl past ↦
           let less : nat_lt (length all) (length some) ≡ true = grind (arith, nat_tests, past) in
-          let also : nat_lt (length all) (length all) ≡ true = are.ready (length all) ∙ given.ready (length all) less in
+          let also : nat_lt (length all) (length all) ≡ true = are.ready (length all) ∙ given.first.ready (length all) less in
           absurd (let b : length all < length all = grind (arith, nat_tests, also) in omega (arith, b))
       | inr fits ↦ fits
     ])
@@ -108,7 +110,7 @@ pub reported_all : (studio : Studio) (events : List TraceEvent) (a b : Option (L
     → is_ready studio.output (feeds_of studio events) (length r.datagrams) ≡ false → HasPlayed studio events new (length r.datagrams) → HasReported studio events a h new b i
 reported_all studio events a b h i old new r last played = record {
   datagrams = r.datagrams;
-  ready = blocks_all studio events old r.datagrams r.given last;
+  ready = first_all studio (feeds_of studio events) r.datagrams r.given.first last;
   played = played;
   wrote = r.wrote;
 }
