@@ -30,7 +30,7 @@ fn stream_with(ssrc: Option<u32>, clock: StreamClock, paths: u8) -> Result<Strea
     StreamSpec::new(Enc::L24, 1, 6, 96, ssrc, clock, 12, 8, paths)
 }
 
-/// An RTP packet whose payload is full of one octet.
+/// An RTP packet whose payload counts up from 1 and ends in one octet of its own.
 #[derive(Clone, Copy, Debug)]
 struct Sent {
     seq: u16,
@@ -63,14 +63,17 @@ impl Sent {
         }
     }
 
-    fn full_of(self, octet: u8) -> Sent {
+    fn ending_in(self, octet: u8) -> Sent {
         Sent { octet, ..self }
     }
 
     /// The packet with a payload of this length, 1,440 octets at most.
     fn with_len(self, len: usize) -> Packet {
         let mut payload = Payload::new();
-        for _ in 0..len {
+        for place in 1..len {
+            let _ = payload.try_push((place % 256) as u8);
+        }
+        if len > 0 {
             let _ = payload.try_push(self.octet);
         }
         Packet {
@@ -91,7 +94,7 @@ enum Step {
     Close,
 }
 
-/// The marks of a case; a payload is named by the octet that it is full of.
+/// The marks of a case; a payload is named by the octet that it ends in.
 #[derive(Clone, Copy, Debug, PartialEq, Eq)]
 enum Seen {
     Got(u64, i64, u8),
@@ -267,14 +270,15 @@ fn seen_in(rt: &impl Abort, spec: &StreamSpec, mark: &Mark) -> Seen {
     }
 }
 
-/// The octet that a payload is full of.
+/// The octet that a payload ends in, once those before it count up from 1.
 fn octet_of(rt: &impl Abort, payload: &Payload) -> u8 {
     let octets = payload.as_slice();
-    let first = *octets.first().expect(rt, "an empty payload");
-    for octet in octets {
-        assert_eq!(rt; *octet, first, "a payload is not full of one octet");
+    for (place, octet) in octets.iter().enumerate() {
+        if place + 1 < octets.len() {
+            assert_eq!(rt; usize::from(*octet), (place + 1) % 256, "octet {place}");
+        }
     }
-    first
+    *octets.last().expect(rt, "an empty payload")
 }
 
 /// A merge to which nothing has happened.

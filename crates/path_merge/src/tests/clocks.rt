@@ -51,8 +51,8 @@ fn arrival_clock_starts_at_the_first_packet(rt: HostRuntime) -> Result<(), Fail>
         open_at: 0,
         steps: &[
             Step::Tick(1000),
-            Step::On(0, packet(7, 123_456).full_of(1)),
-            Step::On(0, packet(8, 123_462).full_of(2)),
+            Step::On(0, packet(7, 123_456).ending_in(1)),
+            Step::On(0, packet(8, 123_462).ending_in(2)),
             Step::Tick(1012),
             Step::Tick(1018),
         ],

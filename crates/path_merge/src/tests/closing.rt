@@ -10,8 +10,8 @@ fn closing_gives_what_is_held_and_the_end(rt: HostRuntime) -> Result<(), Fail> {
         spec: stream()?,
         open_at: 0,
         steps: &[
-            Step::On(0, packet(1, 0).full_of(1)),
-            Step::On(0, packet(3, 12).full_of(3)),
+            Step::On(0, packet(1, 0).ending_in(1)),
+            Step::On(0, packet(3, 12).ending_in(3)),
             Step::Close,
             Step::On(0, packet(2, 6)),
         ],
@@ -102,5 +102,6 @@ fn closes_between_slots<W: Window>(
     let want = [Seen::Lost(65_538, 6), Seen::Got(65_539, 12, 7), Seen::End];
     assert_eq!(rt; marks.as_slice(), want.as_slice());
     assert_eq!(rt; merge.time(), 12, "a drain moves no time");
+    assert_eq!(rt; merge.advance(100).err(), Some(ClockFault::Closed));
     Ok(())
 }

@@ -10,8 +10,8 @@ fn wraps_from_65535_to_0(rt: HostRuntime) -> Result<(), Fail> {
         spec: stream()?,
         open_at: 0,
         steps: &[
-            Step::On(0, packet(65_535, 0).full_of(1)),
-            Step::On(1, packet(0, 6).full_of(2)),
+            Step::On(0, packet(65_535, 0).ending_in(1)),
+            Step::On(1, packet(0, 6).ending_in(2)),
             Step::Tick(12),
             Step::Tick(18),
         ],

@@ -111,7 +111,7 @@ fn eight_packets_in_sequence_restart(rt: HostRuntime) -> Result<(), Fail> {
 fn a_restart_waits_for_held_packets(rt: HostRuntime) -> Result<(), Fail> {
     let mut steps = Vec::new(rt.alloc());
     then(&mut steps, &BEFORE)?;
-    then(&mut steps, &[Step::On(0, packet(2, 6).full_of(2))])?;
+    then(&mut steps, &[Step::On(0, packet(2, 6).ending_in(2))])?;
     then(&mut steps, &sequence(rt.alloc(), 0, again(0), 8)?)?;
     then(
         &mut steps,
