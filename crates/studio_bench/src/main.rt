@@ -4,6 +4,7 @@
 #![tactic(auto)]
 
 mod datagrams;
+mod lay;
 mod merge;
 mod mix;
 mod rings;
@@ -19,6 +20,7 @@ fn main(rt: HostRuntime) -> anyhow::Result<()> {
         return Ok(());
     };
     match word.as_str() {
+        "lay" => lay::time_laying(&rt, rt.alloc(), &mut words),
         "merge" => merge::time_merge(&rt, rt.alloc(), &mut words),
         "mix" => mix::time_shapes(&rt, rt.alloc()),
         "rings" => rings::time_rings(&rt, rt.alloc(), &mut words),

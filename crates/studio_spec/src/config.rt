@@ -15,3 +15,4 @@ pub use keys::Key;
 pub(crate) use output::read_output;
 #[cfg(test)]
 pub(crate) use stream::read_stream;
+pub use top::channel_total;

@@ -5,7 +5,7 @@ mod config;
 mod ports;
 mod studio;
 
-pub use config::{Key, Kind, Place, SpecError};
+pub use config::{Key, Kind, Place, SpecError, channel_total};
 pub use ports::Ports;
 pub use studio::StudioSpec;
 

@@ -73,8 +73,8 @@ fn read_streams(
     Ok(streams)
 }
 
-/// How many channels all streams have.
-fn channel_total(streams: &[StreamSpec]) -> usize
+/// How many channels streams have together: so many inputs the gains of a studio need.
+pub fn channel_total(streams: &[StreamSpec]) -> usize
     requires few { length streams.now ≤ 16 }
     ensures total { result ≡ channel_total streams.now }
     ensures some { length streams.now ≤ result }

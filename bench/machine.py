@@ -1,0 +1,42 @@
+"""What the scripts here share: the program built, the machine's name and load, and a saved output."""
+import datetime
+import os
+import re
+import shutil
+import subprocess
+import sys
+
+HERE = os.path.dirname(os.path.abspath(__file__))
+CRATE = os.path.join(HERE, "..", "crates", "studio_bench")
+
+
+def build(folder):
+    """Builds studio_bench for the toolchain's default processor, and answers where a copy of it is."""
+    ran = subprocess.run(["rt", "run"], cwd=CRATE, capture_output=True, text=True)
+    if ran.returncode != 0:
+        sys.exit(ran.stdout + ran.stderr)
+    program = os.path.join(folder, "ours")
+    shutil.copy(os.path.join(CRATE, "out", "studio_bench"), program)
+    return program
+
+
+def field(program, words, place):
+    """The number at a place of the line that the program prints for these words."""
+    ran = subprocess.run([program, *map(str, words)], check=True, capture_output=True, text=True)
+    return int(ran.stdout.split()[place])
+
+
+def load():
+    return f"{os.getloadavg()[0]:.1f}"
+
+
+def save(name, words, before, lines):
+    """Prints the lines under a head that names the run and the machine, and saves them by the day."""
+    with open("/proc/cpuinfo") as file:
+        model = re.search(r"model name\s*: (.*)", file.read())
+    day = datetime.date.today().isoformat()
+    machine = f"{os.cpu_count()} processors, {model.group(1) if model else 'unknown'}"
+    text = "\n".join([f"bench/{name} {words}, {day}, {machine}, load {before} to {load()}", "", *lines]) + "\n"
+    print(text, end="")
+    with open(os.path.join(HERE, f"{name}-{day}.txt"), "w") as file:
+        file.write(text)
