@@ -166,6 +166,100 @@ fn an_open_path_holds_up_the_close(rt: HostRuntime) -> Result<(), Fail> {
     Ok(())
 }
 
+/// Streams of six and of 48 sampling instants a packet, added into packets of 48.
+fn six_and_forty_eight(rt: &impl Abort, alloc: Global) -> Result<StudioSpec, Fail> {
+    let clock = StreamClock::Media { offset: 0 };
+    let first = StreamSpec::new(Enc::L24, 1, 6, 96, None, clock, 12, 8, 1)?;
+    let second = StreamSpec::new(Enc::L24, 1, 48, 96, None, clock, 48, 8, 1)?;
+    let output = OutSpec::new(Enc::L24, 1, 48, 97, 2, 65_535, 0, 0)?;
+    let gains = Matrix::new(alloc, 1, 2, &[65_536, 65_536])?;
+    let schedule = Schedule::new(gains, Vec::new(alloc))?;
+    assert!(rt; schedule.outs() == usize::from(output.channels()));
+    assert!(rt; schedule.ins() == usize::from(first.channels()) + usize::from(second.channels()));
+    let mut streams = Vec::new(alloc);
+    streams.push(first)?;
+    streams.push(second)?;
+    Ok(StudioSpec::new(0, streams, output, schedule))
+}
+
+/// A header, and so many times these samples, one after another.
+fn datagram(alloc: Global, head: [u8; 12], runs: &[(u8, [u8; 3])]) -> Result<Vec<u8>, Fail> {
+    let mut octets = Vec::from_slice(alloc, &head)?;
+    for (times, sample) in runs {
+        for _ in 0..*times {
+            octets.extend_from_slice(sample)?;
+        }
+    }
+    Ok(octets)
+}
+
+/// A turn of the mixer that gives this datagram.
+fn gives(rt: &impl Abort, mix: &mut MixEnd, datagram: &[u8]) {
+    let mut out = [0u8; 1452];
+    let _short = mix.datagram_len();
+    let note = mix.turn(&mut out);
+    assert_eq!(rt; (note.strange, note.len), (0, Some(156)));
+    assert!(rt; out.starts_with(datagram), "the datagram of the block");
+}
+
+/// A turn of the mixer that takes this many marks and gives none.
+fn gives_none(rt: &impl Abort, mix: &mut MixEnd, taken: u32) {
+    let mut out = [0u8; 1452];
+    let _short = mix.datagram_len();
+    let note = mix.turn(&mut out);
+    assert_eq!(rt; (note.taken, note.strange, note.len), (taken, 0, None));
+}
+
+/// Eight packets of 1000 from 0 on, and one of 1 from 20 on; one stream gives its marks, then the mixer
+/// takes, then the other gives.
+fn mixes_in_order(rt: &impl Abort, alloc: Global, last_first: bool) -> Result<(), Fail> {
+    let studio = six_and_forty_eight(rt, alloc)?;
+    let Ends {
+        mut paths,
+        mut streams,
+        monitors: _,
+        mut mix,
+    } = open(alloc, &studio, 64)?;
+    let (Some(mut of_second), Some(mut of_first)) = (paths.pop(), paths.pop()) else {
+        panic!(rt; "two paths")
+    };
+    for number in 0..8u8 {
+        let head = [0x80, 0x60, 0, number + 1, 0, 0, 0, number * 6, 0, 0, 0, 1];
+        let octets = datagram(alloc, head, &[(6, [0, 3, 0xe8])])?;
+        assert_eq!(rt; of_first.offer(&octets), Offer::Sent);
+    }
+    let head = [0x80, 0x60, 0, 100, 0, 0, 0, 20, 0, 0, 0, 1];
+    let octets = datagram(alloc, head, &[(48, [0, 0, 1])])?;
+    assert_eq!(rt; of_second.offer(&octets), Offer::Sent);
+    let (Some(second), Some(first)) = (streams.pop(), streams.pop()) else {
+        panic!(rt; "two streams")
+    };
+    let (mut early, mut late) = if last_first {
+        (second, first)
+    } else {
+        (first, second)
+    };
+    assert!(rt; early.turn(0).is_ok() && early.turn(200).is_ok());
+    gives_none(rt, &mut mix, if last_first { 1 } else { 8 });
+    assert!(rt; late.turn(0).is_ok() && late.turn(200).is_ok());
+    let head = [0x80, 0x61, 0xff, 0xff, 0, 0, 0, 0, 0, 0, 0, 2];
+    let sums = [(20, [0, 3, 0xe8]), (28, [0, 3, 0xe9])];
+    gives(rt, &mut mix, &datagram(alloc, head, &sums)?);
+    let head = [0x80, 0x61, 0, 0, 0, 0, 0, 48, 0, 0, 0, 2];
+    let rest = [(20, [0, 0, 1]), (28, [0, 0, 0])];
+    gives(rt, &mut mix, &datagram(alloc, head, &rest)?);
+    let head = [0x80, 0x61, 0, 1, 0, 0, 0, 96, 0, 0, 0, 2];
+    gives(rt, &mut mix, &datagram(alloc, head, &[(48, [0, 0, 0])])?);
+    gives_none(rt, &mut mix, 8);
+    Ok(())
+}
+
+#[test]
+fn the_order_of_the_streams_changes_no_datagram(rt: HostRuntime) -> Result<(), Fail> {
+    mixes_in_order(&rt, rt.alloc(), false)?;
+    mixes_in_order(&rt, rt.alloc(), true)
+}
+
 /// Both packets are sent, and the ends finish one after the other.
 #[test]
 fn tokens_carry_the_end_to_the_mixer(rt: HostRuntime) -> Result<(), Fail> {
