@@ -3,6 +3,8 @@ ghost use Rattle.std.specs.Prelude.{IfOk};
 ghost use Rattle.rtrb.specs.Ring.{SameProducer};
 ghost use Rattle.studio_rings.specs.Paired.{ArePaired};
 
+mod threads;
+
 use super::*;
 use gain_mix::{Matrix, Schedule};
 use mix_packets::OutSpec;
@@ -24,8 +26,13 @@ const SECOND: [u8; 30] = [
 
 /// One stream of L24 on two paths, in packets of six sampling instants, twelve later; its output is alike.
 fn studio(rt: &impl Abort, alloc: Global) -> Result<StudioSpec, Fail> {
+    studio_of(rt, alloc, 8)
+}
+
+/// The same, over a window of so many numbers.
+fn studio_of(rt: &impl Abort, alloc: Global, width: u16) -> Result<StudioSpec, Fail> {
     let clock = StreamClock::Media { offset: 0 };
-    let spec = StreamSpec::new(Enc::L24, 1, 6, 96, None, clock, 12, 8, 2)?;
+    let spec = StreamSpec::new(Enc::L24, 1, 6, 96, None, clock, 12, width, 2)?;
     let output = OutSpec::new(Enc::L24, 1, 6, 97, 2, 65_535, 0, 0)?;
     let gains = Matrix::new(alloc, 1, 1, &[65_536])?;
     let schedule = Schedule::new(gains, Vec::new(alloc))?;
