@@ -24,8 +24,9 @@ bin/darbexum: $(sources)
 run: build
 	bin/darbexum < examples/first/input.trace
 
-test:
+test: build
 	docs/check
+	examples/check
 	rt ci
 
 check:

@@ -1,15 +1,19 @@
 //! The faults of a run: their lines and exit statuses.
-use std::alloc::AllocError;
 use std::io::Write;
-use studio_run::{ReadFault, TraceFault, TraceKind, WriteFault};
+use studio_run::{PlayFault, TraceFault};
+use studio_session::StudioFault;
+use studio_spec::SpecError;
 use thiserror::Error;
 
 /// Why a run gave no text, or only a part of it.
 #[derive(Clone, Copy, Debug, PartialEq, Eq, Error)]
 pub enum Fault {
-    /// The words of the command line are not the program's.
-    #[error("usage: darbexum < TRACE")]
+    /// The words of the command line are no text.
+    #[error("usage: darbexum [marks CONFIG | play CONFIG] < TRACE")]
     Usage,
+    /// The configuration is at fault.
+    #[error("{0}")]
+    Config(ConfigFault),
     /// The input could not be read to its end.
     #[error("device: read")]
     Read,
@@ -25,6 +29,23 @@ pub enum Fault {
     /// The output took only a part of the text.
     #[error("device: write")]
     Write,
+}
+
+/// Why a configuration says no studio.
+#[derive(Clone, Copy, Debug, PartialEq, Eq, Error)]
+pub enum ConfigFault {
+    /// It could not be read.
+    #[error("device: config")]
+    Unread,
+    /// It has more than 1,048,576 octets.
+    #[error("config: too long")]
+    TooLong,
+    /// It is no TOML, or no text.
+    #[error("config: not TOML")]
+    NotToml,
+    /// Its first fault as a studio.
+    #[error("config {0}")]
+    Studio(SpecError),
 }
 
 /// Why an event may not follow those before it, or is for no stream or path. Its number is the
@@ -48,6 +69,8 @@ impl Fault {
         match self {
             Fault::Trace(_) | Fault::Event(_) => 1,
             Fault::Usage => 2,
+            Fault::Config(ConfigFault::Unread) => 5,
+            Fault::Config(_) => 3,
             Fault::Memory => 4,
             Fault::Read | Fault::Write => 5,
         }
@@ -60,36 +83,25 @@ impl Fault {
     }
 }
 
-impl From<ReadFault> for Fault {
-    fn from(fault: ReadFault) -> Fault {
+impl From<PlayFault> for Fault {
+    fn from(fault: PlayFault) -> Fault {
         match fault {
-            ReadFault::Device => Fault::Read,
-            ReadFault::TooMany => Fault::Trace(TraceFault {
-                line: 0,
-                kind: TraceKind::TooMany,
-            }),
-            ReadFault::Memory => Fault::Memory,
+            PlayFault::Read => Fault::Read,
+            PlayFault::Memory => Fault::Memory,
+            PlayFault::Trace(fault) => Fault::Trace(fault),
+            PlayFault::Run(fault) => Fault::from(fault),
+            PlayFault::Write => Fault::Write,
         }
     }
 }
 
-impl From<TraceFault> for Fault {
-    fn from(fault: TraceFault) -> Fault {
-        match fault.kind {
-            TraceKind::Memory => Fault::Memory,
-            _ => Fault::Trace(fault),
+impl From<StudioFault> for Fault {
+    fn from(fault: StudioFault) -> Fault {
+        match fault {
+            StudioFault::Clock(place) => Fault::Event(EventFault::Clock(place)),
+            StudioFault::Stream(place) => Fault::Event(EventFault::Stream(place)),
+            StudioFault::Path(place) => Fault::Event(EventFault::Path(place)),
+            StudioFault::Memory(_) => Fault::Memory,
         }
-    }
-}
-
-impl From<WriteFault> for Fault {
-    fn from(_fault: WriteFault) -> Fault {
-        Fault::Write
-    }
-}
-
-impl From<AllocError> for Fault {
-    fn from(_fault: AllocError) -> Fault {
-        Fault::Memory
     }
 }

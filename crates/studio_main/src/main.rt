@@ -1,25 +1,28 @@
-//! The program: reads a trace and lists the marks of its stream.
+//! The program: reads a trace, and lists its marks or plays it to its report.
 #![tactic(auto)]
 
+mod config;
 mod fault;
-mod marks;
 #[cfg(test)]
 mod tests;
+mod words;
 
+use crate::config::{Configs, HostConfigs, standard_studio, studio_of};
 use crate::fault::Fault;
-use crate::marks::{list_marks, standard_stream};
+use crate::words::{Asked, asked_for, told};
 use std::alloc::Global;
 use std::env;
 use std::io::{ErrorKind, Read, Write};
 use std::process::ExitCode;
 use std::rt::Env;
+use studio_run::{list_marks, play};
 
 fn main(rt: HostRuntime) -> ExitCode {
     let alloc = rt.alloc();
     let mut faults = rt.stderr();
     let status = match words_of(&rt) {
         Ok(words) => run(
-            &rt,
+            &HostConfigs { rt: &rt },
             alloc,
             words.as_slice(),
             &mut rt.stdin(),
@@ -46,21 +49,44 @@ fn words_of(rt: &(impl Env + AllocGlobal)) -> Result<Vec<String>, Fault> {
 
 /// Runs the program: its text goes to `output`, and the line of a fault to `faults`. Answers the
 /// exit status.
-pub fn run<H, R: Read, W: Write, E: Write>(
-    _rt: &H,
+pub fn run<C: Configs, R: Read, W: Write, E: Write>(
+    configs: &C,
     alloc: Global,
     words: &[String],
     input: &mut R,
     output: &mut W,
     faults: &mut E,
 ) -> u8 {
-    let answer = if words.is_empty() {
-        list_marks(alloc, standard_stream(), 0, input, output)
-    } else {
-        Err(Fault::Usage)
+    let asked = match asked_for(alloc, words) {
+        Ok(asked) => asked,
+        Err(error) => return told(&error, output, faults),
     };
-    match answer {
+    match answer(configs, alloc, asked, input, output) {
         Ok(()) => 0,
         Err(fault) => fault.tell(faults),
+    }
+}
+
+/// Does what the words ask for.
+fn answer<C: Configs, R: Read, W: Write>(
+    configs: &C,
+    alloc: Global,
+    asked: Asked<'_>,
+    input: &mut R,
+    output: &mut W,
+) -> Result<(), Fault> {
+    match asked {
+        Asked::Standard => {
+            let studio = standard_studio(alloc)?;
+            list_marks(alloc, &studio, input, output).map_err(Fault::from)
+        }
+        Asked::Marks(path) => {
+            let studio = studio_of(configs, alloc, path)?;
+            list_marks(alloc, &studio, input, output).map_err(Fault::from)
+        }
+        Asked::Play(path) => {
+            let studio = studio_of(configs, alloc, path)?;
+            play(alloc, &studio, input, output).map_err(Fault::from)
+        }
     }
 }

@@ -1,11 +1,14 @@
 //! Tests, and what they share.
+mod commands;
 mod fakes;
 mod statuses;
 
 use self::fakes::Page;
+use crate::config::Configs;
 use crate::run;
-use std::alloc::Global;
+use std::alloc::{AllocError, Global};
 use std::io::Read;
+use studio_run::ReadFault;
 
 /// The trace of the stored run.
 const STORED_TRACE: &str = "tick 0\n\
@@ -17,6 +20,21 @@ const STORED_TRACE: &str = "tick 0\n\
 const STORED_LISTING: &str = "0 slot 65537 0 got 000001000002000003000004000005000006\n\
     0 slot 65538 6 got 00000700000800000900000a00000b00000c\n\
     0 end\n";
+
+/// A configuration's text for every path but `none`.
+#[derive(Clone, Copy)]
+struct OneConfig<'a> {
+    text: &'a [u8],
+}
+
+impl Configs for OneConfig<'_> {
+    fn octets(&self, alloc: Global, path: &str) -> Result<Vec<u8>, ReadFault> {
+        if path == "none" {
+            return Err(ReadFault::Device);
+        }
+        self.text.to_vec(alloc).map_err(|_| ReadFault::Memory)
+    }
+}
 
 /// What a run did: its exit status, and the texts on its output and for its faults.
 #[derive(Drop)]
@@ -30,10 +48,36 @@ struct Outcome {
 fn outcome_of<R: Read + Drop>(alloc: Global, mut input: R) -> Outcome {
     let mut output = Page::new(usize::MAX);
     let mut faults = Page::new(usize::MAX);
-    let status = run(&(), alloc, &[], &mut input, &mut output, &mut faults);
+    let configs = OneConfig { text: b"" };
+    let status = run(&configs, alloc, &[], &mut input, &mut output, &mut faults);
     Outcome {
         status,
         output,
         faults,
     }
+}
+
+/// Runs the program with words, over the stored trace and a configuration.
+fn outcome_with(alloc: Global, words: &[&str], config: &[u8]) -> Result<Outcome, AllocError> {
+    let mut owned = Vec::new(alloc);
+    for word in words {
+        owned.push(String::from_str(alloc, word)?)?;
+    }
+    let mut input = STORED_TRACE.as_bytes();
+    let mut output = Page::new(usize::MAX);
+    let mut faults = Page::new(usize::MAX);
+    let configs = OneConfig { text: config };
+    let status = run(
+        &configs,
+        alloc,
+        owned.as_slice(),
+        &mut input,
+        &mut output,
+        &mut faults,
+    );
+    Ok(Outcome {
+        status,
+        output,
+        faults,
+    })
 }

@@ -1,11 +1,18 @@
 //! Texts, fault lines and exit statuses of whole runs.
 use super::fakes::{FailingReader, FullPage, LineFeeds, Page};
-use super::{Outcome, STORED_LISTING, STORED_TRACE, outcome_of};
+use super::{OneConfig, Outcome, STORED_LISTING, STORED_TRACE, outcome_of};
 use crate::run;
 use std::process::Abort;
 use std::test::Fail;
 
-fn expect(rt: &impl Abort, outcome: &Outcome, status: u8, output: &str, faults: &str, of: &str) {
+pub(super) fn expect(
+    rt: &impl Abort,
+    outcome: &Outcome,
+    status: u8,
+    output: &str,
+    faults: &str,
+    of: &str,
+) {
     assert_eq!(rt; outcome.status, status, "the status of {of:?}");
     assert_eq!(rt; outcome.output.text(), output, "the output of {of:?}");
     assert_eq!(rt; outcome.faults.text(), faults, "the faults of {of:?}");
@@ -94,20 +101,6 @@ fn trace_limits(rt: HostRuntime) -> Result<(), Fail> {
 }
 
 #[test]
-fn a_word_is_a_usage_fault(rt: HostRuntime) -> Result<(), Fail> {
-    let alloc = rt.alloc();
-    let word = String::from_str(alloc, "marks")?;
-    let mut output = Page::new(512);
-    let mut faults = Page::new(512);
-    let mut input = STORED_TRACE.as_bytes();
-    let status = run(&rt, alloc, &[word], &mut input, &mut output, &mut faults);
-    assert_eq!(rt; status, 2, "the status");
-    assert_eq!(rt; output.text(), "", "the output");
-    assert_eq!(rt; faults.text(), "usage: darbexum < TRACE\n", "the faults");
-    Ok(())
-}
-
-#[test]
 fn a_failed_read_writes_nothing(rt: HostRuntime) {
     let octets_a_call = STORED_TRACE.len() / 3 + 1;
     for good_calls in 0..4 {
@@ -140,7 +133,14 @@ fn a_failed_write_leaves_a_prefix(rt: HostRuntime) {
         let mut input = STORED_TRACE.as_bytes();
         let mut output = Page::new(room);
         let mut faults = Page::new(512);
-        let status = run(&rt, rt.alloc(), &[], &mut input, &mut output, &mut faults);
+        let status = run(
+            &OneConfig { text: b"" },
+            rt.alloc(),
+            &[],
+            &mut input,
+            &mut output,
+            &mut faults,
+        );
         let front = STORED_LISTING.get(..room);
         assert_eq!(rt; status, 5, "the status with room for {room}");
         assert_eq!(rt;
@@ -160,7 +160,14 @@ fn a_failed_write_leaves_a_prefix(rt: HostRuntime) {
 fn a_write_of_nothing_is_a_fault(rt: HostRuntime) {
     let mut input = STORED_TRACE.as_bytes();
     let mut faults = Page::new(512);
-    let status = run(&rt, rt.alloc(), &[], &mut input, &mut FullPage, &mut faults);
+    let status = run(
+        &OneConfig { text: b"" },
+        rt.alloc(),
+        &[],
+        &mut input,
+        &mut FullPage,
+        &mut faults,
+    );
     assert_eq!(rt; status, 5, "the status");
     assert_eq!(rt; faults.text(), "device: write\n", "the faults");
 }

@@ -1,0 +1,121 @@
+//! Commands with a configuration, and words that are none.
+use super::statuses::expect;
+use super::{STORED_LISTING, outcome_with};
+use std::alloc::{AllocError, Global};
+use std::test::Fail;
+
+/// One stream of L24, mono, in packets of six sampling instants, handed on at gain 1.
+const CONFIG: &str =
+    "open_at = 0\n[[stream]]\nencoding = \"L24\"\nchannels = 1\nframes = 6\npt = 96\n\
+    clock = \"media\"\nlatency = 12\nwindow = 8\n[output]\nencoding = \"L24\"\nchannels = 1\nframes = 6\n\
+    pt = 97\nssrc = 2\nseq = 0\nstart = 0\n";
+
+const REPORT: &str = "out 806100000000000000000002000001000002000003000004000005000006\n\
+    out 80610001000000060000000200000700000800000900000a00000b00000c\n\
+    path 0 a offered 2 sent 2 bad 0 type 0 length 0 full 0\n\
+    path 0 b offered 0 sent 0 bad 0 type 0 length 0 full 0\n\
+    merge 0 arrived 2 taken 2 from_a 2 from_b 0 double 0 unlike 0 off_grid 0 late 0 ahead 0 source 0 \
+    got 2 lost 0 restarts 0\n";
+
+/// The configuration, and a line after it.
+fn config_with(alloc: Global, line: &str) -> Result<String, AllocError> {
+    let mut text = String::from_str(alloc, CONFIG)?;
+    text.push_str(line)?;
+    text.push_str("\n")?;
+    Ok(text)
+}
+
+#[test]
+fn commands_take_a_configuration(rt: HostRuntime) -> Result<(), Fail> {
+    let alloc = rt.alloc();
+    let config = config_with(alloc, "gains = [[65536]]")?;
+    let marks = outcome_with(alloc, &["marks", "studio.toml"], config.as_bytes())?;
+    expect(&rt, &marks, 0, STORED_LISTING, "", "marks");
+    let report = outcome_with(alloc, &["play", "studio.toml"], config.as_bytes())?;
+    assert_eq!(rt; report.status, 0, "play");
+    assert_eq!(rt; report.output.text(), REPORT, "play");
+    Ok(())
+}
+
+#[test]
+fn configuration_faults_have_their_lines(rt: HostRuntime) -> Result<(), Fail> {
+    let alloc = rt.alloc();
+    let table = [
+        ("gains = [[65536, 0]]", "config output.gains: gains 1\n"),
+        ("gains = [[1048577]]", "config output.gains: gains 2\n"),
+        ("", "config output.gains: missing\n"),
+        ("gains = [[65536]]\nvolume = 1", "config output: unknown\n"),
+        ("gains = [[65536]", "config: not TOML\n"),
+    ];
+    for (line, wanted) in table {
+        let config = config_with(alloc, line)?;
+        let outcome = outcome_with(alloc, &["play", "studio.toml"], config.as_bytes())?;
+        expect(&rt, &outcome, 3, "", wanted, line);
+    }
+    let outcome = outcome_with(alloc, &["marks", "studio.toml"], &[0xff])?;
+    expect(&rt, &outcome, 3, "", "config: not TOML\n", "no text");
+    let outcome = outcome_with(alloc, &["marks", "none"], b"")?;
+    expect(&rt, &outcome, 5, "", "device: config\n", "no file");
+    Ok(())
+}
+
+#[test]
+fn a_configuration_that_is_too_long_is_not_read(rt: HostRuntime) -> Result<(), Fail> {
+    let alloc = rt.alloc();
+    let mut config = Vec::new(alloc);
+    config.resize(1_048_577, b'#')?;
+    let outcome = outcome_with(alloc, &["marks", "studio.toml"], config.as_slice())?;
+    expect(
+        &rt,
+        &outcome,
+        3,
+        "",
+        "config: too long\n",
+        "1,048,577 octets",
+    );
+    config.truncate(1_048_576);
+    let outcome = outcome_with(alloc, &["marks", "studio.toml"], config.as_slice())?;
+    expect(
+        &rt,
+        &outcome,
+        3,
+        "",
+        "config open_at: missing\n",
+        "1,048,576 octets",
+    );
+    Ok(())
+}
+
+#[test]
+fn other_words_are_usage_faults(rt: HostRuntime) -> Result<(), Fail> {
+    let alloc = rt.alloc();
+    let table: [&[&str]; 5] = [
+        &["live", "studio.toml"],
+        &["studio.toml"],
+        &["marks"],
+        &["play", "one", "two"],
+        &["--loud"],
+    ];
+    for words in table {
+        let outcome = outcome_with(alloc, words, b"")?;
+        assert_eq!(rt; outcome.status, 2, "the status of {words:?}");
+        assert_eq!(rt; outcome.output.text(), "", "the output of {words:?}");
+        assert!(rt;
+            outcome.faults.text().starts_with("error: "),
+            "the fault of {words:?}"
+        );
+    }
+    Ok(())
+}
+
+#[test]
+fn help_and_version_go_to_the_output(rt: HostRuntime) -> Result<(), Fail> {
+    let alloc = rt.alloc();
+    let version = outcome_with(alloc, &["--version"], b"")?;
+    expect(&rt, &version, 0, "darbexum 0.1.0\n", "", "the version");
+    let help = outcome_with(alloc, &["--help"], b"")?;
+    assert_eq!(rt; help.status, 0, "help");
+    assert!(rt; help.output.text().contains("play"), "help");
+    assert_eq!(rt; help.faults.text(), "", "help");
+    Ok(())
+}
