@@ -24,10 +24,11 @@ bin/darbexum: $(sources)
 run: build
 	bin/darbexum < examples/first/input.trace
 
-test: build
+# The examples are played by the program that the gate has built.
+test:
 	docs/check
-	examples/check
 	rt ci
+	examples/check crates/studio_main/out/studio_main
 
 check:
 	rt all check
