@@ -36,7 +36,7 @@ def save(name, words, before, lines):
         model = re.search(r"model name\s*: (.*)", file.read())
     day = datetime.date.today().isoformat()
     machine = f"{os.cpu_count()} processors, {model.group(1) if model else 'unknown'}"
-    text = "\n".join([f"bench/{name} {words}, {day}, {machine}, load {before} to {load()}", "", *lines]) + "\n"
+    text = "\n".join([f"bench/{name} {words}".strip() + f", {day}, {machine}, load {before} to {load()}", "", *lines]) + "\n"
     print(text, end="")
     with open(os.path.join(HERE, f"{name}-{day}.txt"), "w") as file:
         file.write(text)
