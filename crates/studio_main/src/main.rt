@@ -1,14 +1,16 @@
-//! The program: reads a trace, and lists its marks or plays it to its report.
+//! The program: reads a trace, and lists its marks or plays it to its report, or says what a configuration means.
 #![tactic(auto)]
 
 mod config;
 mod fault;
+mod summary;
 #[cfg(test)]
 mod tests;
 mod words;
 
 use crate::config::{Configs, HostConfigs, standard_studio, studio_of};
 use crate::fault::Fault;
+use crate::summary::write_summary;
 use crate::words::{Asked, asked_for, told};
 use std::alloc::Global;
 use std::env;
@@ -87,6 +89,10 @@ fn answer<C: Configs, R: Read, W: Write>(
         Asked::Play(path) => {
             let studio = studio_of(configs, alloc, path)?;
             play(alloc, &studio, input, output).map_err(Fault::from)
+        }
+        Asked::Check(path) => {
+            let studio = studio_of(configs, alloc, path)?;
+            write_summary(&studio, output)
         }
     }
 }

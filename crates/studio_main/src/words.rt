@@ -13,6 +13,8 @@ pub enum Asked<'a> {
     Marks(&'a str),
     /// The report of a configuration's studio.
     Play(&'a str),
+    /// What a configuration means.
+    Check(&'a str),
 }
 
 /// What the words ask for. Help and the version are errors too, with their texts.
@@ -23,6 +25,7 @@ pub fn asked_for<'a>(alloc: Global, words: &'a [String]) -> Result<Asked<'a>, Er
     };
     match inner.get_str("CONFIG") {
         Some(path) if name == "play" => Ok(Asked::Play(path)),
+        Some(path) if name == "check" => Ok(Asked::Check(path)),
         Some(path) => Ok(Asked::Marks(path)),
         None => Ok(Asked::Standard),
     }
@@ -36,12 +39,14 @@ fn command<'a>(alloc: Global) -> Result<Command<'a>, Error> {
         "Lists the marks of a trace, stream by stream",
     )?;
     let play = with_config(alloc, "play", "Plays a trace to its datagrams and counts")?;
+    let check = with_config(alloc, "check", "Says what a configuration means")?;
     let command = Command::new(alloc, "darbexum")
         .about("Receives studio audio over IP from a trace on standard input")
         .version("0.1.0")
         .no_binary_name(true)
         .subcommand(marks)?
-        .subcommand(play)?;
+        .subcommand(play)?
+        .subcommand(check)?;
     Ok(command)
 }
 

@@ -55,16 +55,16 @@ impl Read for LineFeeds {
 /// A writer that takes so many octets, and then fails.
 #[derive(Drop)]
 pub struct Page {
-    octets: [u8; 512],
+    octets: [u8; 1024],
     len: usize,
     room: usize,
-    ghost within: { len ≤ 512 },
+    ghost within: { len ≤ 1024 },
 }
 
 impl Page {
     pub fn new(room: usize) -> Self {
         Page {
-            octets: [0; 512],
+            octets: [0; 1024],
             len: 0,
             room,
         }
@@ -78,7 +78,7 @@ impl Page {
 
 impl Write for Page {
     fn write(&mut self, buf: &[u8]) -> io::Result<usize> {
-        let free = self.room.min(512);
+        let free = self.room.min(1024);
         if free <= self.len {
             return Err(io::Error::from(ErrorKind::Other));
         }

@@ -1,0 +1,119 @@
+//! What a configuration means, in lines for people.
+use crate::fault::Fault;
+use gain_mix::Matrix;
+use mix_packets::OutSpec;
+use path_merge::{Path, StreamClock, StreamSpec};
+use rtp_wire::Enc;
+use std::io::Write;
+use studio_spec::{Ports, StudioSpec};
+
+/// Writes a line for each stream and its paths, one for the output, and the gains by time.
+pub fn write_summary<W: Write>(studio: &StudioSpec, output: &mut W) -> Result<(), Fault> {
+    for (number, stream) in studio.streams().iter().enumerate() {
+        write_stream(number, stream, output)?;
+        write_ports(number, stream.paths(), studio.ports(), output)?;
+    }
+    write_output(studio.output(), studio.ports(), output)?;
+    line(writeln!(output, "gains from the start"))?;
+    write_gains(studio.schedule().first(), output)?;
+    for (time, gains) in studio.schedule().later() {
+        line(writeln!(output, "gains from {time}"))?;
+        write_gains(gains, output)?;
+    }
+    Ok(())
+}
+
+/// A write that failed is the fault of the run.
+fn line<E: Drop>(written: Result<(), E>) -> Result<(), Fault> {
+    written.map_err(|_| Fault::Write)
+}
+
+/// Sampling instants at 48 kHz as milliseconds, and thousandths of one.
+fn millis(instants: u64) -> (u64, u64) {
+    let micros = instants.saturating_mul(125) / 6;
+    (micros / 1000, micros % 1000)
+}
+
+fn write_stream<W: Write>(number: usize, stream: &StreamSpec, output: &mut W) -> Result<(), Fault> {
+    let enc = name_of(stream.enc());
+    let (channels, frames, pt) = (stream.channels(), stream.frames(), stream.pt());
+    let (ms, us) = millis(u64::from(frames));
+    line(write!(
+        output,
+        "stream {number}: {enc}, channels {channels}, packets of {frames} ({ms}.{us:03} ms), type {pt}"
+    ))?;
+    match stream.ssrc() {
+        Some(ssrc) => line(write!(output, ", source {ssrc}"))?,
+        None => line(write!(output, ", any source"))?,
+    }
+    match stream.clock() {
+        StreamClock::Media { offset } => line(write!(output, ", media clock, offset {offset}"))?,
+        StreamClock::Arrival => line(write!(output, ", arrival clock"))?,
+    }
+    let (latency, window) = (stream.latency(), stream.window());
+    let (ms, us) = millis(u64::from(latency));
+    line(write!(output, ", latency {latency} ({ms}.{us:03} ms)"))?;
+    let (ms, us) = millis(u64::from(window) * u64::from(frames));
+    line(writeln!(output, ", window of {window} packets ({ms}.{us:03} ms)"))
+}
+
+/// The ports of a stream's paths, each in a line.
+fn write_ports<W: Write>(
+    number: usize,
+    paths: u8,
+    ports: &Ports,
+    output: &mut W,
+) -> Result<(), Fault> {
+    for (place, name) in ["a", "b", "c", "d"]
+        .iter()
+        .enumerate()
+        .take(usize::from(paths))
+    {
+        let Some(path) = Path::new(place as u8) else {
+            return Ok(());
+        };
+        match ports.port(number, path) {
+            Some(port) => line(writeln!(output, "  path {name}: port {port}"))?,
+            None => line(writeln!(output, "  path {name}: no port"))?,
+        }
+    }
+    Ok(())
+}
+
+fn write_output<W: Write>(spec: &OutSpec, ports: &Ports, output: &mut W) -> Result<(), Fault> {
+    let enc = name_of(spec.enc());
+    let (channels, frames, pt) = (spec.channels(), spec.frames(), spec.pt());
+    let (ms, us) = millis(u64::from(frames));
+    let (ssrc, seq, start) = (spec.ssrc(), spec.seq0(), spec.start());
+    line(writeln!(
+        output,
+        "output: {enc}, channels {channels}, packets of {frames} ({ms}.{us:03} ms), type {pt}, source {ssrc}, \
+        first number {seq}, from {start}"
+    ))?;
+    for (name, port) in [("a", ports.to_a), ("b", ports.to_b)] {
+        if let Some(port) = port {
+            line(writeln!(output, "  to {name}: port {port}"))?;
+        }
+    }
+    Ok(())
+}
+
+/// A line for each output channel, with a gain for each input channel; 65536 is one.
+fn write_gains<W: Write>(matrix: &Matrix, output: &mut W) -> Result<(), Fault> {
+    for (place, gain) in matrix.gains().iter().enumerate() {
+        let first = place % matrix.ins().max(1) == 0;
+        if first && place > 0 {
+            line(writeln!(output))?;
+        }
+        let space = if first { "  " } else { " " };
+        line(write!(output, "{space}{gain}"))?;
+    }
+    line(writeln!(output))
+}
+
+fn name_of(enc: Enc) -> &'static str {
+    match enc {
+        Enc::L16 => "L16",
+        Enc::L24 => "L24",
+    }
+}
