@@ -14,6 +14,7 @@ use studio_spec::{StudioSpec, channel_total};
 
 /// The sampling instants of a block, and those of a stream's packets.
 const BLOCK: u16 = 48;
+
 const PACKET: u16 = 6;
 
 /// The outputs.
@@ -101,11 +102,5 @@ fn slot(spec: &StreamSpec, number: u64) -> anyhow::Result<Mark> {
         bail!("no such packet");
     }
     let media = number as i64 * i64::from(PACKET);
-    Ok(Mark::slot(
-        spec.format(),
-        0,
-        65_536 + number,
-        media,
-        Body::Got(payload),
-    ))
+    Ok(Mark::slot(spec.format(), 0, 65_536 + number, media, Body::Got(payload)))
 }
