@@ -11,6 +11,11 @@ use Rattle.studio_rings.proofs.tests.tokens_carry_the_end_to_the_mixer.Goals as 
 same : {T A P : Type 0} (c : Consumer T A P) → SameConsumer c c
 same c = ((refl, refl, refl, refl), refl)
 
+pub path_done-requires-clause-token : goal.path_done-requires-clause-token
+path_done-requires-clause-token g c = λ side at.
+    let fin = subst (λ o. IfSome o (λ (done : PathDone). Finishes c.offer.new.self.ring done.token)) c.in-Some-Some.is-0 c.finish-first_done.ensures.token in
+    token_of c.in_ok-first.field-0.first.ring c.offer.new.self.ring c.in-Some-Some.first_done.token side.ring side.ring (c.in_ok-first.ensures.first_is side at) c.offer.ensures.ring (same side.ring) fin
+
 pub path_done-requires-2-clause-token : goal.path_done-requires-2-clause-token
 path_done-requires-2-clause-token g c = λ side at.
     let paired = c.in_ok-first.ensures in
