@@ -18,7 +18,8 @@ use Rattle.stream_rules.specs.MarkFacts.{MarkView}
 use Rattle.stream_rules.specs.Marks.{quiet_mark}
 use Rattle.path_merge.specs.Merge.{HasHistory}
 use Rattle.path_merge.specs.Next.{anchor_due, anchor_if_due, anchor_if_held, anchor_left, next_left, next_mark, quiet_next, slot_or_end, slot_or_quiet}
-use Rattle.path_merge.specs.Steps.{Drains, HoldsMore, IsBeforeDeadline, IsLeftStep, IsTimeStep, clock_fault_of, is_quiet_due, marks_left}
+use Rattle.path_merge.specs.Clock.{clock_fault_of}
+use Rattle.path_merge.specs.Steps.{Drains, HoldsMore, IsBeforeDeadline, IsLeftStep, IsTimeStep, is_quiet_due, marks_left}
 use Rattle.stream_rules.specs.StreamSpecFacts.{Stream}
 use Rattle.path_merge.proofs.AdvanceLemmas.{IsAtReading, at_reading, no_slot_of}
 use Rattle.path_merge.proofs.LeftLemmas.{drains_end, end_mark_is}

@@ -18,8 +18,9 @@ use Rattle.stream_rules.specs.MarkFacts.{MarkView}
 use Rattle.stream_rules.specs.Marks.{is_slot, marks_at, marks_of}
 use Rattle.path_merge.specs.Merge.{HasHistory}
 use Rattle.path_merge.specs.MergeState.{MergeState}
-use Rattle.path_merge.specs.Runs.{HasGiven, IsEventOf, IsInOrder}
-use Rattle.path_merge.specs.Steps.{Advances, Drains, IsAlike, Moves, MovesBy, Offers, clock_fault_of, is_slot_mark, stop_at}
+use Rattle.path_merge.specs.Run.{HasGiven, IsEventOf, IsInOrder}
+use Rattle.path_merge.specs.Clock.{clock_fault_of}
+use Rattle.path_merge.specs.Steps.{Advances, Drains, IsAlike, Moves, MovesBy, Offers, is_slot_mark, stop_at}
 use Rattle.stream_rules.specs.StreamSpecFacts.{Stream}
 use Rattle.stream_rules.specs.declared.event.Event.{Event}
 use Rattle.stream_rules.specs.declared.event.Event.TheVariants.{Arrive, Close, Tick}

@@ -21,9 +21,10 @@ pub use Rattle.stream_rules.specs.Sent
 pub use Rattle.stream_rules.specs.Laws
 pub use Rattle.stream_rules.specs.EpochLaws
 pub use Rattle.reorder_window.specs.Window
+pub mod Clock
 pub mod MergeState
 pub mod Merge
 pub mod Steps
 pub mod Next
 pub mod Way
-pub mod Runs
+pub mod Run

@@ -11,8 +11,6 @@ use Rattle.stream_rules.specs.declared.fate.Fate.TheVariants.{WrongSource, OffGr
 use Rattle.stream_rules.specs.declared.probation.Probation.{Probation}
 use Rattle.stream_rules.specs.declared.event.Event.{Event}
 use Rattle.stream_rules.specs.declared.event.Event.TheVariants.{Arrive, Tick}
-use Rattle.path_merge.specs.declared.clock.ClockFault.{ClockFault}
-use Rattle.path_merge.specs.declared.clock.ClockFault.TheVariants.{WentBack, TooFar, Closed}
 use Rattle.stream_rules.specs.History.{time_of, is_closed, is_well_timed, events_until_close}
 use Rattle.stream_rules.specs.Anchor.{anchor_from, deadline_of, is_source_wanted, is_restart_in_reach, media_time_of, next_number, restart_from, restart_media_time}
 use Rattle.stream_rules.specs.Grid.{extended_number, is_on_grid}
@@ -175,11 +173,6 @@ pub record Drains (stream : Stream) (open_at : ℤ) (new : MergeState) (events :
 abbrev pub IsBeforeDeadline : Stream → Option Anchor → ℕ → ℤ → Type 0
 IsBeforeDeadline stream None base now = Unit {0}
 IsBeforeDeadline stream (Some anchor) base now = now <ℤ deadline_of stream anchor base
-
--- the first fault of a reading
-abbrev pub clock_fault_of : ℤ → Bool → ℤ → Option ClockFault
-clock_fault_of time closed now =
-    if int_lt now time then Some WentBack else if int_lt (pos (2 ^ 60)) now then Some TooFar else if closed then Some Closed else None
 
 -- with a slot the time rises, and is not past `now`; else it is `now`
 abbrev pub MovesBy : MergeState → MergeState → ℤ → Bool → Type 0

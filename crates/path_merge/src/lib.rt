@@ -16,12 +16,11 @@
 
 mod arrival;
 mod clock;
-mod history;
 mod laws;
 mod merge;
+mod run;
 
 pub use clock::{ClockFault, clock_fault};
-pub use history::{RunFault, run_merge};
 pub use laws::{
     aliases_are_off_grid, arrivals_change_no_mark, each_number_is_handed_on_once,
     marks_are_a_mark_list, merges_stand_at_their_histories, near_numbers_open_one_epoch,
@@ -30,6 +29,7 @@ pub use laws::{
 };
 pub use merge::Merge;
 pub use reorder_window::{SlotWindow, SortedWindow, Window};
+pub use run::{RunFault, run_merge};
 pub use stream_rules::{
     AdmitFault, Body, Counts, Event, Fate, Format, Mark, MarkKind, MarkKindRef, MarkRef, Packet,
     PacketRef, Path, Probation, Put, SpecFault, StreamClock, StreamSpec, near16, near32,

@@ -1,6 +1,6 @@
 //! Builders of the tests: a stream's packets, what happens to it, and what is to come of that.
 ghost use Rattle.std.specs.Prelude.{◌≡◌, ◌^◌, ℤ, pos, ◌≤ℤ◌, IfOk, OnOk};
-ghost use Rattle.path_merge.specs.Runs.{IsEventOf};
+ghost use Rattle.path_merge.specs.Run.{IsEventOf};
 
 use super::*;
 use rtp_wire::{Enc, Payload};

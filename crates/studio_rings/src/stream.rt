@@ -9,7 +9,7 @@ ghost use Rattle.stream_rules.specs.declared.event.Event.{Event};
 ghost use Rattle.stream_rules.specs.declared.event.Event.TheVariants.{Close};
 ghost use Rattle.studio_rings.specs.Looks.{AllDrained, AllLookAt, AreOpen};
 ghost use Rattle.stream_rules.specs.Counts.{tally_of};
-ghost use Rattle.path_merge.specs.Steps.{clock_fault_of};
+ghost use Rattle.path_merge.specs.Clock.{clock_fault_of};
 ghost use Rattle.studio_rings.specs.Streams.{ShowsCounts, StreamHasHistory, TakesTurn};
 ghost use Rattle.studio_rings.specs.Tokens.{HandsIn};
 

@@ -14,7 +14,8 @@ use Rattle.stream_rules.specs.History.{time_of, is_closed, is_well_timed}
 use Rattle.stream_rules.specs.Marks.{marks_of, is_slot}
 use Rattle.path_merge.specs.MergeState.{MergeState}
 use Rattle.path_merge.specs.Merge.{HasHistory}
-use Rattle.path_merge.specs.Steps.{Advances, IsAlike, Moves, clock_fault_of, stop_at}
+use Rattle.path_merge.specs.Clock.{clock_fault_of}
+use Rattle.path_merge.specs.Steps.{Advances, IsAlike, Moves, stop_at}
 use Rattle.path_merge.proofs.HistoryLemmas.{is_well_timed_from-append}
 use Rattle.path_merge.proofs.LawLemmas.{marks_stay}
 use Rattle.path_merge.proofs.JoinLemmas.{stands_alike, alike-trans}

@@ -8,7 +8,8 @@ use Rattle.stream_rules.specs.declared.event.Event.TheVariants.{Tick}
 use Rattle.path_merge.specs.MergeState.{MergeState}
 use Rattle.path_merge.specs.Merge.{HasHistory}
 use Rattle.stream_rules.specs.Marks.{marks_of, is_slot}
-use Rattle.path_merge.specs.Steps.{IsAlike, clock_fault_of}
+use Rattle.path_merge.specs.Clock.{clock_fault_of}
+use Rattle.path_merge.specs.Steps.{IsAlike}
 
 -- the merge has this history, or is on its way to the reading at its end
 abbrev pub IsOnWay : Stream → ℤ → MergeState → Option ℤ → List Event → ℕ → Type 0

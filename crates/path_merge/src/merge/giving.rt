@@ -68,7 +68,8 @@ fn drop_slot<V: Window>(window: &mut V, counts: &mut Counts)
 impl<V: Window> Merge<V> {
     ghost use Rattle.path_merge.specs.Merge.{HasHistory};
     ghost use Rattle.path_merge.specs.Next.{anchor_due, anchor_left, next_mark, next_left, quiet_next};
-    ghost use Rattle.path_merge.specs.Steps.{IsSlotStep, IsTimeStep, IsLeftStep, HoldsMore, IsBeforeDeadline, clock_fault_of, is_slot_mark, Moves, Advances, Drains, marks_left};
+    ghost use Rattle.path_merge.specs.Clock.{clock_fault_of};
+    ghost use Rattle.path_merge.specs.Steps.{IsSlotStep, IsTimeStep, IsLeftStep, HoldsMore, IsBeforeDeadline, is_slot_mark, Moves, Advances, Drains, marks_left};
 
     /// Moves the time to `now`, or to the next deadline if that comes first, and gives the mark there.
     ///

@@ -1,6 +1,6 @@
 //! Readings of the receiver's clock, and the two clocks of a stream.
 ghost use Rattle.std.specs.Prelude.{◌^◌, pos, ◌≤ℤ◌, All};
-ghost use Rattle.path_merge.specs.Runs.{IsEventOf};
+ghost use Rattle.path_merge.specs.Run.{IsEventOf};
 
 use super::*;
 use std::test::Fail;

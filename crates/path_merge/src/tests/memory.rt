@@ -2,7 +2,7 @@
 //!
 //! The tests of this file pass for every N: of two like calls one at most is refused, and answers so.
 ghost use Rattle.std.specs.Prelude.{All};
-ghost use Rattle.path_merge.specs.Runs.{IsEventOf};
+ghost use Rattle.path_merge.specs.Run.{IsEventOf};
 
 use super::*;
 use std::test::Fail;

@@ -1,5 +1,5 @@
 use Rattle.std.proofs.Common.{All}
-use Rattle.path_merge.specs.Runs.{IsEventOf}
+use Rattle.path_merge.specs.Run.{IsEventOf}
 use Rattle.path_merge.proofs.tests.Case.check_run.Given as goal
 
 abbrev pub invariant-loop-step : goal.invariant-loop-step

@@ -1,7 +1,7 @@
 use Rattle.std.proofs.Common.{◌≡◌, false, drop}
 use Rattle.stream_rules.specs.History.{first_clock_fault_from}
 use Rattle.path_merge.proofs.RunLemmas.{shifted_by}
-use Rattle.path_merge.proofs.history.first_fault.Given as goal
+use Rattle.path_merge.proofs.run.first_fault.Given as goal
 
 -- the first fault is that of the events that are left
 abbrev pub invariant-loop-place : goal.invariant-loop-place

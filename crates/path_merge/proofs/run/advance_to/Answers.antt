@@ -2,10 +2,10 @@ use Rattle.std.proofs.Common.{◌≡◌, [], ◌∷◌, ◌++◌, None, Some, ar
 use Rattle.std.proofs.lemmas.Int.{ints, to_z-of_z}
 use Rattle.stream_rules.specs.declared.event.Event.TheVariants.{Tick}
 use Rattle.stream_rules.specs.Marks.{is_slot}
-use Rattle.path_merge.specs.Runs.{HasGiven}
+use Rattle.path_merge.specs.Run.{HasGiven}
 use Rattle.path_merge.proofs.JoinLemmas.{alike-refl}
 use Rattle.path_merge.proofs.RunLemmas.{no_fault, still_no_fault, moves_by_slot, moves_by_other, one_more, last_step}
-use Rattle.path_merge.proofs.history.advance_to.Goals as goal
+use Rattle.path_merge.proofs.run.advance_to.Goals as goal
 
 pub advances-init : goal.advances-init
 advances-init g c =

@@ -1,6 +1,6 @@
 use Rattle.std.proofs.Common.{◌+◌}
 use Rattle.path_merge.proofs.RunLemmas.{drained_more, drained_all}
-use Rattle.path_merge.proofs.history.drain_to.Goals as goal
+use Rattle.path_merge.proofs.run.drain_to.Goals as goal
 
 pub drains-preserved : goal.drains-preserved
 drains-preserved g c = λ stream open_at events k at all.

@@ -5,13 +5,13 @@ use Rattle.stream_rules.specs.StreamSpec.{Fits}
 use Rattle.stream_rules.specs.MarkFacts.{MarkView}
 use Rattle.stream_rules.specs.declared.event.Event.{Event}
 use Rattle.stream_rules.specs.declared.event.Event.TheVariants.{Arrive, Tick, Close}
-use Rattle.path_merge.specs.declared.history.RunFault.{RunFault}
-use Rattle.path_merge.specs.declared.history.RunFault.TheVariants.{Clock, Memory}
+use Rattle.path_merge.specs.declared.run.RunFault.{RunFault}
+use Rattle.path_merge.specs.declared.run.RunFault.TheVariants.{Clock, Memory}
 use Rattle.stream_rules.specs.History.{first_clock_fault}
 use Rattle.stream_rules.specs.Marks.{marks_of}
 use Rattle.path_merge.specs.MergeState.{MergeState}
 use Rattle.path_merge.specs.Merge.{HasHistory}
-use Rattle.path_merge.specs.Steps.{clock_fault_of}
+use Rattle.path_merge.specs.Clock.{clock_fault_of}
 
 -- an event that a stream can have: its packets have the stream's length, and come in on a path that it has
 abbrev pub IsEventOf : Stream → Event → Type 0

@@ -4,7 +4,7 @@ use Rattle.stream_rules.specs.declared.event.Event.{Event}
 use Rattle.stream_rules.specs.Marks.{marks_of}
 use Rattle.path_merge.specs.Merge.{HasHistory}
 use Rattle.path_merge.specs.Steps.{marks_left}
-use Rattle.path_merge.proofs.history.drain_to.Given as goal
+use Rattle.path_merge.proofs.run.drain_to.Given as goal
 
 -- what was appended are the marks given
 abbrev pub invariant-drains : goal.invariant-drains

@@ -7,8 +7,8 @@ ghost use Rattle.stream_rules.specs.History.{first_clock_fault, is_well_timed};
 ghost use Rattle.stream_rules.specs.Marks.{marks_of};
 ghost use Rattle.stream_rules.specs.Marks as slots;
 ghost use Rattle.path_merge.specs.Merge.{HasHistory};
-ghost use Rattle.path_merge.specs.Runs.{HasGiven, IsEventOf, IsInOrder, IsRunFault};
-ghost use Rattle.path_merge.specs.Steps.{clock_fault_of};
+ghost use Rattle.path_merge.specs.Run.{HasGiven, IsEventOf, IsInOrder, IsRunFault};
+ghost use Rattle.path_merge.specs.Clock.{clock_fault_of};
 ghost use Rattle.stream_rules.specs.StreamSpecFacts.{Stream};
 
 use crate::clock::clock_fault;

@@ -3,7 +3,7 @@ use Rattle.std.proofs.lemmas.Int.{to_z-of_z}
 use Rattle.stream_rules.specs.Marks.{marks_of}
 use Rattle.path_merge.proofs.StepLemmas.{take_all}
 use Rattle.path_merge.proofs.RunLemmas.{next_in_order, given_more, given_at_start, of_stream_at}
-use Rattle.path_merge.proofs.history.marks_given.Goals as goal
+use Rattle.path_merge.proofs.run.marks_given.Goals as goal
 
 pub loop-event-init : goal.loop-event-init
 loop-event-init c = given_at_start c.args.spec _ c.in_ok-merge.merge _ c.in_ok-merge.ensures.stands c.new-marks.ensures.items

@@ -2,9 +2,10 @@ use Rattle.std.proofs.Common.{◌≡◌, List, [], ◌∷◌, ◌++◌, ℤ, ◌
 use Rattle.stream_rules.specs.StreamSpecFacts.{Stream}
 use Rattle.stream_rules.specs.declared.event.Event.{Event}
 use Rattle.stream_rules.specs.declared.event.Event.TheVariants.{Tick}
-use Rattle.path_merge.specs.Runs.{HasGiven}
-use Rattle.path_merge.specs.Steps.{IsAlike, clock_fault_of}
-use Rattle.path_merge.proofs.history.advance_to.Given as goal
+use Rattle.path_merge.specs.Run.{HasGiven}
+use Rattle.path_merge.specs.Clock.{clock_fault_of}
+use Rattle.path_merge.specs.Steps.{IsAlike}
+use Rattle.path_merge.proofs.run.advance_to.Given as goal
 
 -- the readings so far lead to the reading
 abbrev pub invariant-advances : goal.invariant-advances

@@ -1,6 +1,6 @@
 use Rattle.std.proofs.Common.{take}
-use Rattle.path_merge.specs.Runs.{HasGiven}
-use Rattle.path_merge.proofs.history.marks_given.Given as goal
+use Rattle.path_merge.specs.Run.{HasGiven}
+use Rattle.path_merge.proofs.run.marks_given.Given as goal
 
 -- the events so far gave the marks so far
 abbrev pub invariant-loop-event : goal.invariant-loop-event

@@ -1,7 +1,7 @@
 use Rattle.std.proofs.Common.{false, Result, Ok, Err, OnOk, sym, ◌∙◌, w64}
 use Rattle.std.proofs.lemmas.Int.{to_z-of_z}
 use Rattle.path_merge.proofs.RunLemmas.{no_fault-well_timed}
-use Rattle.path_merge.proofs.history.run_merge.Goals as goal
+use Rattle.path_merge.proofs.run.run_merge.Goals as goal
 
 pub marks_given-requires-clause-well_timed : goal.marks_given-requires-clause-well_timed
 marks_given-requires-clause-well_timed c = no_fault-well_timed _ false c.args.events.now (sym c.first_fault.ensures ∙ c.in_default.is)

@@ -2,10 +2,10 @@ use Rattle.std.proofs.Common.{[], ◌∷◌, ◌++◌, length, sym, subst}
 use Rattle.stream_rules.specs.declared.event.Event.{Event}
 use Rattle.stream_rules.specs.declared.event.Event.TheVariants.{Close}
 use Rattle.stream_rules.specs.declared.packet.Packet.{Packet}
-use Rattle.path_merge.specs.Runs.{HasGiven}
+use Rattle.path_merge.specs.Run.{HasGiven}
 use Rattle.path_merge.specs.Steps.{Offers}
 use Rattle.path_merge.proofs.RunLemmas.{given_offered, given_closed}
-use Rattle.path_merge.proofs.history.take_event.Goals as goal
+use Rattle.path_merge.proofs.run.take_event.Goals as goal
 
 pub returns-in-Arrive : goal.returns-in-Arrive
 returns-in-Arrive g c = λ stream open_at events given.
