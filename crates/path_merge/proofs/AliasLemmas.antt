@@ -60,21 +60,21 @@ pub size_is : (z : ℤ) → pos 0 ≤ℤ z → pos (unsigned_abs z) ≡ z
 size_is z h = omega (arith, ints, h)
 
 -- less than 1,024 cycles apart, a number is known by its low 16 bits and its timestamp
-pub one_number : (stream : Stream) (base : Anchor) (m n : ℤ) → is_packet_time stream.frames ≡ true → int_rem_euclid m (pos 65536) ≡ int_rem_euclid n (pos 65536) → m <ℤ (n +ℤ pos 67108864) → n <ℤ (m +ℤ pos 67108864) → timestamp_in_step stream base m ≡ timestamp_in_step stream base n → m ≡ n
-one_number stream base m n time same less more stamps =
-    let a = rem_apart 4294967296 (pos base.timestamp +ℤ (m -ℤ pos base.number) *ℤ pos stream.frames) (omega arith) in
-    let b = rem_apart 4294967296 (pos base.timestamp +ℤ (n -ℤ pos base.number) *ℤ pos stream.frames) (omega arith) in
+pub one_number : (stream : Stream) (anchor : Anchor) (m n : ℤ) → is_packet_time stream.frames ≡ true → int_rem_euclid m (pos 65536) ≡ int_rem_euclid n (pos 65536) → m <ℤ (n +ℤ pos 67108864) → n <ℤ (m +ℤ pos 67108864) → timestamp_in_step stream anchor m ≡ timestamp_in_step stream anchor n → m ≡ n
+one_number stream anchor m n time same less more stamps =
+    let a = rem_apart 4294967296 (pos anchor.timestamp +ℤ (m -ℤ pos anchor.number) *ℤ pos stream.frames) (omega arith) in
+    let b = rem_apart 4294967296 (pos anchor.timestamp +ℤ (n -ℤ pos anchor.number) *ℤ pos stream.frames) (omega arith) in
     let low_m = rem_apart 65536 m (omega arith) in
     let low_n = rem_apart 65536 n (omega arith) in
-    let rest : int_rem_euclid (pos base.timestamp +ℤ (m -ℤ pos base.number) *ℤ pos stream.frames) (pos 4294967296) ≡ int_rem_euclid (pos base.timestamp +ℤ (n -ℤ pos base.number) *ℤ pos stream.frames) (pos 4294967296) = sym (size_is _ (rem_bounds 4294967296 _ (omega arith)).0) ∙ ap pos stamps ∙ size_is _ (rem_bounds 4294967296 _ (omega arith)).0 in
-    packet_time_cases IsOneNumber one_6 one_12 one_16 one_48 one_192 stream.frames time m n base.timestamp base.number (a.1 + b.0) (b.1 + a.0) (low_m.1 + low_n.0) (low_n.1 + low_m.0) (omega (arith, ints, a.2, b.2, rest)) (omega (arith, ints, low_m.2, low_n.2, same)) less more
+    let rest : int_rem_euclid (pos anchor.timestamp +ℤ (m -ℤ pos anchor.number) *ℤ pos stream.frames) (pos 4294967296) ≡ int_rem_euclid (pos anchor.timestamp +ℤ (n -ℤ pos anchor.number) *ℤ pos stream.frames) (pos 4294967296) = sym (size_is _ (rem_bounds 4294967296 _ (omega arith)).0) ∙ ap pos stamps ∙ size_is _ (rem_bounds 4294967296 _ (omega arith)).0 in
+    packet_time_cases IsOneNumber one_6 one_12 one_16 one_48 one_192 stream.frames time m n anchor.timestamp anchor.number (a.1 + b.0) (b.1 + a.0) (low_m.1 + low_n.0) (low_n.1 + low_m.0) (omega (arith, ints, a.2, b.2, rest)) (omega (arith, ints, low_m.2, low_n.2, same)) less more
 
 -- so another number is off the grid
-pub off_grid : (stream : Stream) (base : Anchor) (m : ℕ) (n : ℤ) → is_packet_time stream.frames ≡ true → int_rem_euclid (pos m) (pos 65536) ≡ int_rem_euclid n (pos 65536) → pos m <ℤ (n +ℤ pos 67108864) → n <ℤ (pos m +ℤ pos 67108864) → (pos m ≡ n → ⊥) → is_on_grid stream base m (timestamp_in_step stream base n) ≡ false
-off_grid stream base m n time same less more other = by_stamp (nat_eq (timestamp_in_step stream base n) (timestamp_in_step stream base (pos m))) refl
+pub off_grid : (stream : Stream) (anchor : Anchor) (m : ℕ) (n : ℤ) → is_packet_time stream.frames ≡ true → int_rem_euclid (pos m) (pos 65536) ≡ int_rem_euclid n (pos 65536) → pos m <ℤ (n +ℤ pos 67108864) → n <ℤ (pos m +ℤ pos 67108864) → (pos m ≡ n → ⊥) → is_on_grid stream anchor m (timestamp_in_step stream anchor n) ≡ false
+off_grid stream anchor m n time same less more other = by_stamp (nat_eq (timestamp_in_step stream anchor n) (timestamp_in_step stream anchor (pos m))) refl
   where
-    by_stamp : (b : Bool) → nat_eq (timestamp_in_step stream base n) (timestamp_in_step stream base (pos m)) ≡ b → b ≡ false
+    by_stamp : (b : Bool) → nat_eq (timestamp_in_step stream anchor n) (timestamp_in_step stream anchor (pos m)) ≡ b → b ≡ false
     by_stamp false e = refl
     by_stamp true e =
-        let stamps : timestamp_in_step stream base (pos m) ≡ timestamp_in_step stream base n = grind (arith, nat_tests, e) in
-        absurd (other (one_number stream base (pos m) n time same less more stamps))
+        let stamps : timestamp_in_step stream anchor (pos m) ≡ timestamp_in_step stream anchor n = grind (arith, nat_tests, e) in
+        absurd (other (one_number stream anchor (pos m) n time same less more stamps))

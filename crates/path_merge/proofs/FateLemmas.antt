@@ -9,7 +9,7 @@ use borrow.Author.Differences.{up, down}
 use Rattle.std.proofs.lemmas.Nat.{mul-le}
 use Rattle.std.specs.Prelude.{◌*ℤ◌, neg_ℤ}
 use Rattle.std.specs.Prelude.{bytes_eq}
-use Rattle.stream_rules.specs.Anchor.{base_media_time, is_source_wanted, media_time_of}
+use Rattle.stream_rules.specs.Anchor.{first_media_time, is_source_wanted, media_time_of}
 use Rattle.stream_rules.specs.Counts.{is_counted_fate, is_taken_fate}
 use Rattle.stream_rules.specs.Fate.{fate_of_put, first_fate, next_fate}
 use Rattle.path_merge.specs.Steps.{fault_or, place_fault_of, reach_fault_of}
@@ -53,7 +53,7 @@ pub reach_fault_is : (spec : Stream) (time media : ℤ) (late ahead : Bool) → 
 reach_fault_is spec time media late ahead is_late is_ahead = rw (is_late, is_ahead) refl
 
 -- the fate of what would be the first, where its source is wanted
-pub first_fate_is : (spec : Stream) (packet : Packet) (source : ℕ) (time media : ℤ) → packet.ssrc ≡ source → media ≡ base_media_time spec.clock packet.ts time → is_source_wanted spec.ssrc source ≡ true → fault_or (reach_fault_of spec time media) Taken ≡ first_fate spec time packet
+pub first_fate_is : (spec : Stream) (packet : Packet) (source : ℕ) (time media : ℤ) → packet.ssrc ≡ source → media ≡ first_media_time spec.clock packet.ts time → is_source_wanted spec.ssrc source ≡ true → fault_or (reach_fault_of spec time media) Taken ≡ first_fate spec time packet
 first_fate_is spec packet source time media same is_media wanted =
     let w : is_source_wanted spec.ssrc packet.ssrc ≡ true = ap (is_source_wanted spec.ssrc) same ∙ wanted in
     rw (w, ← is_media) (by_tests (int_le media (time -ℤ pos spec.latency)) (int_le (time -ℤ pos spec.latency +ℤ pos (spec.window * spec.frames)) media))
@@ -125,7 +125,7 @@ in_window spec base a packet none = by_tests (nat_eq packet.ssrc a.source) (is_o
 
 -- the fates of arrivals that are looked at count
 pub first_counts : (stream : Stream) (time : ℤ) (packet : Packet) → is_counted_fate (first_fate stream time packet) ≡ true
-first_counts stream time packet = by_tests (not (is_source_wanted stream.ssrc packet.ssrc)) (int_le (base_media_time stream.clock packet.ts time) (time -ℤ pos stream.latency)) (int_le (time -ℤ pos stream.latency +ℤ pos (stream.window * stream.frames)) (base_media_time stream.clock packet.ts time))
+first_counts stream time packet = by_tests (not (is_source_wanted stream.ssrc packet.ssrc)) (int_le (first_media_time stream.clock packet.ts time) (time -ℤ pos stream.latency)) (int_le (time -ℤ pos stream.latency +ℤ pos (stream.window * stream.frames)) (first_media_time stream.clock packet.ts time))
   where
     by_tests : (a b c : Bool) → is_counted_fate (if a then WrongSource else if b then Late else if c then Ahead else Taken) ≡ true
     by_tests true b c = refl

@@ -21,7 +21,7 @@ use Rattle.path_merge.proofs.NextLemmas.{media_time_of-from}
 use Rattle.path_merge.proofs.RestartLemmas.{itself_eq, next_number-fresh, own_copy}
 use Rattle.path_merge.proofs.RestartOfferLemmas.{all, counts_heard, few, hears, none_above, one_held}
 use Rattle.path_merge.proofs.SoundLemmas.{some_window}
-use Rattle.stream_rules.specs.Anchor.{anchor_from, base_media_time, can_anchor, is_source_wanted, media_time_of, next_number}
+use Rattle.stream_rules.specs.Anchor.{anchor_from, first_media_time, can_anchor, is_source_wanted, media_time_of, next_number}
 use Rattle.stream_rules.specs.Copies.{copies_of, copies_of_all, first_copy}
 use Rattle.stream_rules.specs.PathProbation.{no_probation, probation_at, probation_of}
 use Rattle.stream_rules.specs.declared.probation.Probation.{Probation}
@@ -57,10 +57,10 @@ lt-not_le a b = by_test (int_le b a) refl
 -- a packet is taken as the first exactly where it may be one
 pub taken-can_anchor : (stream : Stream) (time : ℤ) (packet : Packet) → is_taken_fate (first_fate stream time packet) ≡ can_anchor stream time packet
 taken-can_anchor stream time packet =
-    let low = lt-not_le (time -ℤ pos stream.latency) (base_media_time stream.clock packet.ts time) in
-    let high = lt-not_le (base_media_time stream.clock packet.ts time) (time -ℤ pos stream.latency +ℤ pos (stream.window * stream.frames)) in
-    by_tests (is_source_wanted stream.ssrc packet.ssrc) (int_le (base_media_time stream.clock packet.ts time) (time -ℤ pos stream.latency)) (int_le (time -ℤ pos stream.latency +ℤ pos (stream.window * stream.frames)) (base_media_time stream.clock packet.ts time))
-    ∙ sym (ap (λ b. is_source_wanted stream.ssrc packet.ssrc && (b && int_lt (base_media_time stream.clock packet.ts time) (time -ℤ pos stream.latency +ℤ pos (stream.window * stream.frames)))) low ∙ ap (λ b. is_source_wanted stream.ssrc packet.ssrc && (not (int_le (base_media_time stream.clock packet.ts time) (time -ℤ pos stream.latency)) && b)) high)
+    let low = lt-not_le (time -ℤ pos stream.latency) (first_media_time stream.clock packet.ts time) in
+    let high = lt-not_le (first_media_time stream.clock packet.ts time) (time -ℤ pos stream.latency +ℤ pos (stream.window * stream.frames)) in
+    by_tests (is_source_wanted stream.ssrc packet.ssrc) (int_le (first_media_time stream.clock packet.ts time) (time -ℤ pos stream.latency)) (int_le (time -ℤ pos stream.latency +ℤ pos (stream.window * stream.frames)) (first_media_time stream.clock packet.ts time))
+    ∙ sym (ap (λ b. is_source_wanted stream.ssrc packet.ssrc && (b && int_lt (first_media_time stream.clock packet.ts time) (time -ℤ pos stream.latency +ℤ pos (stream.window * stream.frames)))) low ∙ ap (λ b. is_source_wanted stream.ssrc packet.ssrc && (not (int_le (first_media_time stream.clock packet.ts time) (time -ℤ pos stream.latency)) && b)) high)
   where
     by_tests : (w l h : Bool) → is_taken_fate (if not w then WrongSource else if l then Late else if h then Ahead else Taken) ≡ (w && (not l && not h))
     by_tests false l h = refl
@@ -69,13 +69,13 @@ taken-can_anchor stream time packet =
     by_tests true false false = refl
 
 pub record IsFirst (stream : Stream) (time : ℤ) (packet : Packet) : Type 0 where
-  pub after : (time -ℤ pos stream.latency) <ℤ base_media_time stream.clock packet.ts time
-  pub before : base_media_time stream.clock packet.ts time <ℤ (time -ℤ pos stream.latency +ℤ pos (stream.window * stream.frames))
+  pub after : (time -ℤ pos stream.latency) <ℤ first_media_time stream.clock packet.ts time
+  pub before : first_media_time stream.clock packet.ts time <ℤ (time -ℤ pos stream.latency +ℤ pos (stream.window * stream.frames))
 
 pub is_first : (stream : Stream) (time : ℤ) (packet : Packet) → can_anchor stream time packet ≡ true → IsFirst stream time packet
-is_first stream time packet can = by_tests (is_source_wanted stream.ssrc packet.ssrc) (int_lt (time -ℤ pos stream.latency) (base_media_time stream.clock packet.ts time)) (int_lt (base_media_time stream.clock packet.ts time) (time -ℤ pos stream.latency +ℤ pos (stream.window * stream.frames))) refl refl can
+is_first stream time packet can = by_tests (is_source_wanted stream.ssrc packet.ssrc) (int_lt (time -ℤ pos stream.latency) (first_media_time stream.clock packet.ts time)) (int_lt (first_media_time stream.clock packet.ts time) (time -ℤ pos stream.latency +ℤ pos (stream.window * stream.frames))) refl refl can
   where
-    by_tests : (w a b : Bool) → int_lt (time -ℤ pos stream.latency) (base_media_time stream.clock packet.ts time) ≡ a → int_lt (base_media_time stream.clock packet.ts time) (time -ℤ pos stream.latency +ℤ pos (stream.window * stream.frames)) ≡ b → (w && (a && b)) ≡ true → IsFirst stream time packet
+    by_tests : (w a b : Bool) → int_lt (time -ℤ pos stream.latency) (first_media_time stream.clock packet.ts time) ≡ a → int_lt (first_media_time stream.clock packet.ts time) (time -ℤ pos stream.latency +ℤ pos (stream.window * stream.frames)) ≡ b → (w && (a && b)) ≡ true → IsFirst stream time packet
     by_tests true true true ea eb e = record { after = grind (arith, ints, ea); before = grind (arith, ints, eb) }
     by_tests false a b ea eb e = cc
     by_tests true false b ea eb e = cc
@@ -134,7 +134,7 @@ module _ (stream : Stream) (open_at : ℤ) (m : MergeState) (media : ℤ) (s : I
     where
       by_test : (b : Bool) → can_anchor stream m.time packet ≡ b → since_of stream open_at (if b then Some (length events, anchor_from stream m.time packet) else None) (events ++ Arrive path packet ∷ []) ≡ (if b then (65536 + packet.seq, packet) ∷ [] else [])
       by_test false e = refl
-      by_test true e = copies_since-made stream open_at events (Arrive path packet) (anchor_from stream m.time packet) ∙ rw (← at.time, hearing) (own_copy stream m.time packet 0 (base_media_time stream.clock packet.ts m.time) frames_some window_some seq ts (is_first stream m.time packet e).after)
+      by_test true e = copies_since-made stream open_at events (Arrive path packet) (anchor_from stream m.time packet) ∙ rw (← at.time, hearing) (own_copy stream m.time packet 0 (first_media_time stream.clock packet.ts m.time) frames_some window_some seq ts (is_first stream m.time packet e).after)
 
   heard_after : (on : ℕ) → heard_of stream open_at (last_of (anchors_of stream open_at (events ++ Arrive path packet ∷ []))) (events ++ Arrive path packet ∷ []) on ≡ []
   heard_after on = ap (λ o. heard_of stream open_at o (events ++ Arrive path packet ∷ []) on) last_after ∙ by_test (can_anchor stream m.time packet)
@@ -288,7 +288,7 @@ sound_first m media media' path packet a g h base' size' counts' s is_none open_
     next : next_number m.spec (anchor_from m.spec m.time packet) m.time ≡ 65536 + packet.seq
     next = next_number-fresh m.spec (anchor_from m.spec m.time packet) m.time s.spec_ok.some_frames first.after
 
-    at_base : media_time_of m.spec (anchor_from m.spec m.time packet) (65536 + packet.seq) ≡ base_media_time m.spec.clock packet.ts m.time
+    at_base : media_time_of m.spec (anchor_from m.spec m.time packet) (65536 + packet.seq) ≡ first_media_time m.spec.clock packet.ts m.time
     at_base =
         let zero : 65536 + packet.seq - (65536 + packet.seq) ≡ 0 = omega arith in
         let from = media_time_of-from m.spec (anchor_from m.spec m.time packet) (65536 + packet.seq) (omega arith) in
@@ -310,7 +310,7 @@ sound_first m media media' path packet a g h base' size' counts' s is_none open_
 
 -- the steps that the code makes
 taken_alone : (stream : Stream) (time : ℤ) (packet : Packet) → is_taken_fate (first_fate stream time packet) ≡ true → first_fate stream time packet ≡ Taken
-taken_alone stream time packet = by_tests (not (is_source_wanted stream.ssrc packet.ssrc)) (int_le (base_media_time stream.clock packet.ts time) (time -ℤ pos stream.latency)) (int_le (time -ℤ pos stream.latency +ℤ pos (stream.window * stream.frames)) (base_media_time stream.clock packet.ts time))
+taken_alone stream time packet = by_tests (not (is_source_wanted stream.ssrc packet.ssrc)) (int_le (first_media_time stream.clock packet.ts time) (time -ℤ pos stream.latency)) (int_le (time -ℤ pos stream.latency +ℤ pos (stream.window * stream.frames)) (first_media_time stream.clock packet.ts time))
   where
     by_tests : (a b c : Bool) → is_taken_fate (if a then WrongSource else if b then Late else if c then Ahead else Taken) ≡ true → (if a then WrongSource else if b then Late else if c then Ahead else Taken) ≡ Taken
     by_tests true b c e = cc

@@ -12,7 +12,7 @@ use Rattle.path_merge.proofs.HeldLemmas.{FateCounts, held_count-none, held_count
 use Rattle.stream_rules.proofs.NearestLemmas.{nearest_number-only, rem_same, rem_small}
 use Rattle.path_merge.proofs.NextLemmas.{before_next_number, media_time_of-from}
 use Rattle.path_merge.proofs.SoundLemmas.{anchored_at, some_window}
-use Rattle.stream_rules.specs.Anchor.{base_media_time, is_base_in_reach, is_restart_in_reach, media_time_of, next_number, restart_from, restart_media_time}
+use Rattle.stream_rules.specs.Anchor.{first_media_time, is_first_in_reach, is_restart_in_reach, media_time_of, next_number, restart_from, restart_media_time}
 use Rattle.stream_rules.specs.CountsFacts.{Tally, with_fate}
 use Rattle.stream_rules.specs.Epochs.{goes_on}
 use Rattle.stream_rules.specs.Grid.{copies_under, expected_timestamp, extended_number, is_on_grid}

@@ -79,124 +79,124 @@ module _ (stream : Stream) (open_at : ℤ) where
       either true = refl
       either false = refl
 
-module _ (stream : Stream) (base : Anchor) (open_at : ℤ) where
+module _ (stream : Stream) (anchor : Anchor) (open_at : ℤ) where
   -- after these events, what is received of the rest is what was sent
   abbrev IsRecovered : List Event → List SentEvent → Type 0
-  IsRecovered before after = at_places (copies_at stream open_at) before (wire_history stream base after) ≡ with_epoch (Some base) (sent_copies_after stream base open_at before after)
+  IsRecovered before after = at_places (copies_at stream open_at) before (wire_history stream anchor after) ≡ with_epoch (Some anchor) (sent_copies_after stream anchor open_at before after)
 
   none_left : (before : List Event) → IsRecovered before []
   unfolding at_places sent_copies_after
   none_left before = refl
 
-  recovered_next : (before : List Event) (event : SentEvent) (after : List SentEvent) → copies_at stream open_at before (wire_event stream base event) ≡ with_epoch (Some base) (sent_copies_at stream base open_at before event) → IsRecovered (before ++ wire_event stream base event ∷ []) after → IsRecovered before (event ∷ after)
+  recovered_next : (before : List Event) (event : SentEvent) (after : List SentEvent) → copies_at stream open_at before (wire_event stream anchor event) ≡ with_epoch (Some anchor) (sent_copies_at stream anchor open_at before event) → IsRecovered (before ++ wire_event stream anchor event ∷ []) after → IsRecovered before (event ∷ after)
   unfolding at_places sent_copies_after
   recovered_next before event after first rest =
-      ap (λ l. l ++ at_places (copies_at stream open_at) (before ++ wire_event stream base event ∷ []) (wire_history stream base after)) first
-      ∙ ap (λ l. with_epoch (Some base) (sent_copies_at stream base open_at before event) ++ l) rest
-      ∙ sym (with_epoch-append base (sent_copies_at stream base open_at before event) (sent_copies_after stream base open_at (before ++ wire_event stream base event ∷ []) after))
+      ap (λ l. l ++ at_places (copies_at stream open_at) (before ++ wire_event stream anchor event ∷ []) (wire_history stream anchor after)) first
+      ∙ ap (λ l. with_epoch (Some anchor) (sent_copies_at stream anchor open_at before event) ++ l) rest
+      ∙ sym (with_epoch-append anchor (sent_copies_at stream anchor open_at before event) (sent_copies_after stream anchor open_at (before ++ wire_event stream anchor event ∷ []) after))
 
   -- nothing is heard after a close
-  closed_first : (before : List Event) (event : SentEvent) → is_closed before ≡ true → copies_at stream open_at before (wire_event stream base event) ≡ with_epoch (Some base) (sent_copies_at stream base open_at before event)
+  closed_first : (before : List Event) (event : SentEvent) → is_closed before ≡ true → copies_at stream open_at before (wire_event stream anchor event) ≡ with_epoch (Some anchor) (sent_copies_at stream anchor open_at before event)
   closed_first before (Ticks u) shut = refl
   closed_first before Closes shut = refl
   closed_first before (Arrives path packet) shut =
       let deaf : is_counting before ≡ false = rw shut refl in
-      rw deaf (by_anchor (anchor_of stream open_at (before ++ Arrive path (wire_packet stream base packet) ∷ [])))
+      rw deaf (by_anchor (anchor_of stream open_at (before ++ Arrive path (wire_packet stream anchor packet) ∷ [])))
     where
-      by_anchor : (o : Option Anchor) → with_epoch o (copies_under stream (time_of open_at before) false o (wire_packet stream base packet)) ≡ []
+      by_anchor : (o : Option Anchor) → with_epoch o (copies_under stream (time_of open_at before) false o (wire_packet stream anchor packet)) ≡ []
       by_anchor None = refl
       by_anchor (Some a) = refl
 
   after_close : (before : List Event) (after : List SentEvent) → is_closed before ≡ true → IsRecovered before after
   after_close before [] shut = none_left before
-  after_close before (event ∷ after) shut = recovered_next before event after (closed_first before event shut) (after_close (before ++ wire_event stream base event ∷ []) after (closed_stays before (wire_event stream base event ∷ []) shut))
+  after_close before (event ∷ after) shut = recovered_next before event after (closed_first before event shut) (after_close (before ++ wire_event stream anchor event ∷ []) after (closed_stays before (wire_event stream anchor event ∷ []) shut))
 
-  -- the base's own packet is the first
-  pub base_first : (before : List Event) (path : ℕ) (packet : SentPacket) (after : List SentEvent) → anchors_of stream open_at before ≡ [] → is_closed before ≡ false → arrival_count before ≡ 0 → BeginsWith stream base (time_of open_at before) (Arrives path packet ∷ after) → anchors_of stream open_at (before ++ Arrive path (wire_packet stream base packet) ∷ []) ≡ (length before, base) ∷ []
+  -- the anchor's own packet is the first
+  pub base_first : (before : List Event) (path : ℕ) (packet : SentPacket) (after : List SentEvent) → anchors_of stream open_at before ≡ [] → is_closed before ≡ false → arrival_count before ≡ 0 → BeginsWith stream anchor (time_of open_at before) (Arrives path packet ∷ after) → anchors_of stream open_at (before ++ Arrive path (wire_packet stream anchor packet) ∷ []) ≡ (length before, anchor) ∷ []
   base_first before path packet after is still none begins =
       let counting : is_counting before ≡ true = rw (still, none) refl in
-      anchors_of-push stream open_at before (Arrive path (wire_packet stream base packet))
+      anchors_of-push stream open_at before (Arrive path (wire_packet stream anchor packet))
       ∙ rw (is, counting, begins.2) (ap (λ a. (length before, a) ∷ []) (sym begins.1))
 
-  pub base_high : (time : ℤ) (packet : Packet) → base ≡ anchor_from stream time packet → (at : ℤ) → 65536 ≤ next_number stream base at
+  pub base_high : (time : ℤ) (packet : Packet) → anchor ≡ anchor_from stream time packet → (at : ℤ) → 65536 ≤ next_number stream anchor at
   base_high time packet is at = let own = ap (λ (a : Anchor). a.number) is in omega (arith, own)
 
-  -- the base stays in force where the received history has one epoch
-  base_stays : (before : List Event) (event : Event) (rest : List Event) (place : ℕ) → anchors_of stream open_at before ≡ (place, base) ∷ [] → IsOneEpoch stream open_at ((before ++ event ∷ []) ++ rest) → anchors_of stream open_at (before ++ event ∷ []) ≡ (place, base) ∷ []
+  -- the anchor stays in force where the received history has one epoch
+  base_stays : (before : List Event) (event : Event) (rest : List Event) (place : ℕ) → anchors_of stream open_at before ≡ (place, anchor) ∷ [] → IsOneEpoch stream open_at ((before ++ event ∷ []) ++ rest) → anchors_of stream open_at (before ++ event ∷ []) ≡ (place, anchor) ∷ []
   base_stays before event rest place is one =
-      let push : anchors_of stream open_at (before ++ event ∷ []) ≡ (place, base) ∷ anchors_at stream open_at (anchors_of stream open_at before) before event = anchors_of-push stream open_at before event ∙ ap (λ l. l ++ anchors_at stream open_at (anchors_of stream open_at before) before event) is in
-      push ∙ ap (λ l. (place, base) ∷ l) (nil_of_length (anchors_at stream open_at (anchors_of stream open_at before) before event) (omega (arith, ap length push, anchors_grow stream open_at (before ++ event ∷ []) rest, one)))
+      let push : anchors_of stream open_at (before ++ event ∷ []) ≡ (place, anchor) ∷ anchors_at stream open_at (anchors_of stream open_at before) before event = anchors_of-push stream open_at before event ∙ ap (λ l. l ++ anchors_at stream open_at (anchors_of stream open_at before) before event) is in
+      push ∙ ap (λ l. (place, anchor) ∷ l) (nil_of_length (anchors_at stream open_at (anchors_of stream open_at before) before event) (omega (arith, ap length push, anchors_grow stream open_at (before ++ event ∷ []) rest, one)))
 
   -- within a reach at which arrivals count as they were sent
-  module _ (reach : ℕ) (counts : (next : ℕ) (packet : SentPacket) → 65536 ≤ next → IsNear reach next packet.number → CountsAsSent stream base next packet) where
-    arrived : (before : List Event) (path : ℕ) (packet : SentPacket) (place : ℕ) → ((at : ℤ) → 65536 ≤ next_number stream base at) → anchors_of stream open_at (before ++ Arrive path (wire_packet stream base packet) ∷ []) ≡ (place, base) ∷ [] → IsNear reach (next_number stream base (time_of open_at before)) packet.number → copies_at stream open_at before (Arrive path (wire_packet stream base packet)) ≡ with_epoch (Some base) (sent_copies_at stream base open_at before (Arrives path packet))
-    arrived before path packet place high is near = rw (anchor_alone stream open_at (before ++ Arrive path (wire_packet stream base packet) ∷ []) place base is) (ap (with_epoch (Some base)) (by_counting (is_counting before)))
+  module _ (reach : ℕ) (counts : (next : ℕ) (packet : SentPacket) → 65536 ≤ next → IsNear reach next packet.number → CountsAsSent stream anchor next packet) where
+    arrived : (before : List Event) (path : ℕ) (packet : SentPacket) (place : ℕ) → ((at : ℤ) → 65536 ≤ next_number stream anchor at) → anchors_of stream open_at (before ++ Arrive path (wire_packet stream anchor packet) ∷ []) ≡ (place, anchor) ∷ [] → IsNear reach (next_number stream anchor (time_of open_at before)) packet.number → copies_at stream open_at before (Arrive path (wire_packet stream anchor packet)) ≡ with_epoch (Some anchor) (sent_copies_at stream anchor open_at before (Arrives path packet))
+    arrived before path packet place high is near = rw (anchor_alone stream open_at (before ++ Arrive path (wire_packet stream anchor packet) ∷ []) place anchor is) (ap (with_epoch (Some anchor)) (by_counting (is_counting before)))
       where
-        by_counting : (b : Bool) → one_copy (b && is_in_time stream base (next_number stream base (time_of open_at before)) (wire_packet stream base packet)) (extended_number (wire_packet stream base packet) (next_number stream base (time_of open_at before))) (wire_packet stream base packet) ≡ one_copy (b && (int_le (pos (next_number stream base (time_of open_at before))) packet.number && int_lt packet.number (pos (next_number stream base (time_of open_at before) + stream.window)))) (unsigned_abs packet.number) (wire_packet stream base packet)
+        by_counting : (b : Bool) → one_copy (b && is_in_time stream anchor (next_number stream anchor (time_of open_at before)) (wire_packet stream anchor packet)) (extended_number (wire_packet stream anchor packet) (next_number stream anchor (time_of open_at before))) (wire_packet stream anchor packet) ≡ one_copy (b && (int_le (pos (next_number stream anchor (time_of open_at before))) packet.number && int_lt packet.number (pos (next_number stream anchor (time_of open_at before) + stream.window)))) (unsigned_abs packet.number) (wire_packet stream anchor packet)
         by_counting false = refl
-        by_counting true = counts (next_number stream base (time_of open_at before)) packet (high (time_of open_at before)) near
+        by_counting true = counts (next_number stream anchor (time_of open_at before)) packet (high (time_of open_at before)) near
 
-    -- from the base on
-    after_base : (before : List Event) (after : List SentEvent) (place : ℕ) → ((at : ℤ) → 65536 ≤ next_number stream base at) → anchors_of stream open_at before ≡ (place, base) ∷ [] → is_closed before ≡ false → IsWithinReach stream base reach (time_of open_at before) after → IsOneEpoch stream open_at (before ++ wire_history stream base after) → IsRecovered before after
+    -- from the anchor on
+    after_base : (before : List Event) (after : List SentEvent) (place : ℕ) → ((at : ℤ) → 65536 ≤ next_number stream anchor at) → anchors_of stream open_at before ≡ (place, anchor) ∷ [] → is_closed before ≡ false → IsWithinReach stream anchor reach (time_of open_at before) after → IsOneEpoch stream open_at (before ++ wire_history stream anchor after) → IsRecovered before after
     after_base before [] place high is still within one = none_left before
     after_base before (Arrives path packet ∷ after) place high is still within one =
-        let one' = next_of stream open_at before (Arrive path (wire_packet stream base packet)) (wire_history stream base after) (IsOneEpoch stream open_at) one in
-        let is' = base_stays before (Arrive path (wire_packet stream base packet)) (wire_history stream base after) place is one' in
+        let one' = next_of stream open_at before (Arrive path (wire_packet stream anchor packet)) (wire_history stream anchor after) (IsOneEpoch stream open_at) one in
+        let is' = base_stays before (Arrive path (wire_packet stream anchor packet)) (wire_history stream anchor after) place is one' in
         recovered_next before (Arrives path packet) after (arrived before path packet place high is' within.0)
-        (after_base (before ++ Arrive path (wire_packet stream base packet) ∷ []) after place high is' (open_next stream open_at before (Arrive path (wire_packet stream base packet)) still refl) (subst (λ t. IsWithinReach stream base reach t after) (sym (time_of-append open_at before (Arrive path (wire_packet stream base packet) ∷ []))) within.1) one')
+        (after_base (before ++ Arrive path (wire_packet stream anchor packet) ∷ []) after place high is' (open_next stream open_at before (Arrive path (wire_packet stream anchor packet)) still refl) (subst (λ t. IsWithinReach stream anchor reach t after) (sym (time_of-append open_at before (Arrive path (wire_packet stream anchor packet) ∷ []))) within.1) one')
     after_base before (Ticks u ∷ after) place high is still within one =
-        let one' = next_of stream open_at before (Tick u) (wire_history stream base after) (IsOneEpoch stream open_at) one in
+        let one' = next_of stream open_at before (Tick u) (wire_history stream anchor after) (IsOneEpoch stream open_at) one in
         recovered_next before (Ticks u) after refl
-        (after_base (before ++ Tick u ∷ []) after place high (base_stays before (Tick u) (wire_history stream base after) place is one') (open_next stream open_at before (Tick u) still refl) (subst (λ t. IsWithinReach stream base reach t after) (sym (time_of-append open_at before (Tick u ∷ []))) within) one')
+        (after_base (before ++ Tick u ∷ []) after place high (base_stays before (Tick u) (wire_history stream anchor after) place is one') (open_next stream open_at before (Tick u) still refl) (subst (λ t. IsWithinReach stream anchor reach t after) (sym (time_of-append open_at before (Tick u ∷ []))) within) one')
     after_base before (Closes ∷ after) place high is still within one = recovered_next before Closes after refl (after_close (before ++ Close ∷ []) after (close_shuts stream open_at before))
 
-    -- up to the base, and from there
-    before_base : (before : List Event) (after : List SentEvent) → anchors_of stream open_at before ≡ [] → is_closed before ≡ false → arrival_count before ≡ 0 → BeginsWith stream base (time_of open_at before) after → IsWithinReach stream base reach (time_of open_at before) after → IsOneEpoch stream open_at (before ++ wire_history stream base after) → IsRecovered before after
+    -- up to the anchor, and from there
+    before_base : (before : List Event) (after : List SentEvent) → anchors_of stream open_at before ≡ [] → is_closed before ≡ false → arrival_count before ≡ 0 → BeginsWith stream anchor (time_of open_at before) after → IsWithinReach stream anchor reach (time_of open_at before) after → IsOneEpoch stream open_at (before ++ wire_history stream anchor after) → IsRecovered before after
     before_base before [] is still none begins within one = none_left before
     before_base before (Arrives path packet ∷ after) is still none begins within one =
-        let one' = next_of stream open_at before (Arrive path (wire_packet stream base packet)) (wire_history stream base after) (IsOneEpoch stream open_at) one in
+        let one' = next_of stream open_at before (Arrive path (wire_packet stream anchor packet)) (wire_history stream anchor after) (IsOneEpoch stream open_at) one in
         let is' = base_first before path packet after is still none begins in
-        let high = base_high (time_of open_at before) (wire_packet stream base packet) begins.1 in
+        let high = base_high (time_of open_at before) (wire_packet stream anchor packet) begins.1 in
         recovered_next before (Arrives path packet) after (arrived before path packet (length before) high is' within.0)
-        (after_base (before ++ Arrive path (wire_packet stream base packet) ∷ []) after (length before) high is' (open_next stream open_at before (Arrive path (wire_packet stream base packet)) still refl) (subst (λ t. IsWithinReach stream base reach t after) (sym (time_of-append open_at before (Arrive path (wire_packet stream base packet) ∷ []))) within.1) one')
+        (after_base (before ++ Arrive path (wire_packet stream anchor packet) ∷ []) after (length before) high is' (open_next stream open_at before (Arrive path (wire_packet stream anchor packet)) still refl) (subst (λ t. IsWithinReach stream anchor reach t after) (sym (time_of-append open_at before (Arrive path (wire_packet stream anchor packet) ∷ []))) within.1) one')
     before_base before (Ticks u ∷ after) is still none begins within one =
-        let one' = next_of stream open_at before (Tick u) (wire_history stream base after) (IsOneEpoch stream open_at) one in
+        let one' = next_of stream open_at before (Tick u) (wire_history stream anchor after) (IsOneEpoch stream open_at) one in
         let time = sym (time_of-append open_at before (Tick u ∷ [])) in
         let none_yet : arrival_count (before ++ Tick u ∷ []) ≡ 0 = omega (arith, arrival_count-append before (Tick u ∷ []), none) in
         recovered_next before (Ticks u) after refl
-        (before_base (before ++ Tick u ∷ []) after (anchors_of-push stream open_at before (Tick u) ∙ append-nil _ ∙ is) (open_next stream open_at before (Tick u) still refl) none_yet (subst (λ t. BeginsWith stream base t after) time begins) (subst (λ t. IsWithinReach stream base reach t after) time within) one')
+        (before_base (before ++ Tick u ∷ []) after (anchors_of-push stream open_at before (Tick u) ∙ append-nil _ ∙ is) (open_next stream open_at before (Tick u) still refl) none_yet (subst (λ t. BeginsWith stream anchor t after) time begins) (subst (λ t. IsWithinReach stream anchor reach t after) time within) one')
     before_base before (Closes ∷ after) is still none begins within one = recovered_next before Closes after refl (after_close (before ++ Close ∷ []) after (close_shuts stream open_at before))
 
     -- so all copies and marks are those that were sent
-    copies_within : (sent : List SentEvent) → BeginsWith stream base open_at sent → IsWithinReach stream base reach open_at sent → IsOneEpoch stream open_at (wire_history stream base sent) → copies_of_all stream open_at (wire_history stream base sent) ≡ with_epoch (Some base) (sent_copies stream base open_at sent)
+    copies_within : (sent : List SentEvent) → BeginsWith stream anchor open_at sent → IsWithinReach stream anchor reach open_at sent → IsOneEpoch stream open_at (wire_history stream anchor sent) → copies_of_all stream open_at (wire_history stream anchor sent) ≡ with_epoch (Some anchor) (sent_copies stream anchor open_at sent)
     unfolding copies_of_all
     copies_within sent begins within one = before_base [] sent (no_anchors stream open_at) refl refl begins within one
 
-    marks_within : (sent : List SentEvent) → BeginsWith stream base open_at sent → IsWithinReach stream base reach open_at sent → IsOneEpoch stream open_at (wire_history stream base sent) → marks_of stream open_at (wire_history stream base sent) ≡ marks_by_number stream base open_at sent
+    marks_within : (sent : List SentEvent) → BeginsWith stream anchor open_at sent → IsWithinReach stream anchor reach open_at sent → IsOneEpoch stream open_at (wire_history stream anchor sent) → marks_of stream open_at (wire_history stream anchor sent) ≡ marks_by_number stream anchor open_at sent
     unfolding marks_of
-    marks_within sent begins within one = ap (λ copies. marks_from stream open_at copies [] [] (wire_history stream base sent)) (copies_within sent begins within one)
+    marks_within sent begins within one = ap (λ copies. marks_from stream open_at copies [] [] (wire_history stream anchor sent)) (copies_within sent begins within one)
 
-  pub marks_near : (sent : List SentEvent) → BeginsWith stream base open_at sent → IsWithinReach stream base 32768 open_at sent → IsOneEpoch stream open_at (wire_history stream base sent) → marks_of stream open_at (wire_history stream base sent) ≡ marks_by_number stream base open_at sent
-  marks_near = marks_within 32768 (near_counts stream base)
+  pub marks_near : (sent : List SentEvent) → BeginsWith stream anchor open_at sent → IsWithinReach stream anchor 32768 open_at sent → IsOneEpoch stream open_at (wire_history stream anchor sent) → marks_of stream open_at (wire_history stream anchor sent) ≡ marks_by_number stream anchor open_at sent
+  marks_near = marks_within 32768 (near_counts stream anchor)
 
-  pub marks_recovered : IsStream stream → (sent : List SentEvent) → BeginsWith stream base open_at sent → IsWithinReach stream base 33554432 open_at sent → IsOneEpoch stream open_at (wire_history stream base sent) → marks_of stream open_at (wire_history stream base sent) ≡ marks_by_number stream base open_at sent
-  marks_recovered ok = marks_within 33554432 (far_counts stream base ok.packet_time ok.narrow)
+  pub marks_recovered : IsStream stream → (sent : List SentEvent) → BeginsWith stream anchor open_at sent → IsWithinReach stream anchor 33554432 open_at sent → IsOneEpoch stream open_at (wire_history stream anchor sent) → marks_of stream open_at (wire_history stream anchor sent) ≡ marks_by_number stream anchor open_at sent
+  marks_recovered ok = marks_within 33554432 (far_counts stream anchor ok.packet_time ok.narrow)
 
   -- the payload of a number whose packets all have one
-  sent_payload : (number : ℕ) (payload : List ℕ) (before : List Event) (after : List SentEvent) → HasEqualCopies number payload after → IfSome (first_with number (sent_copies_after stream base open_at before after)) (λ packet. packet.payload.items ≡ payload)
+  sent_payload : (number : ℕ) (payload : List ℕ) (before : List Event) (after : List SentEvent) → HasEqualCopies number payload after → IfSome (first_with number (sent_copies_after stream anchor open_at before after)) (λ packet. packet.payload.items ≡ payload)
   unfolding sent_copies_after
   sent_payload number payload before [] equal = tt
   sent_payload number payload before (Arrives path packet ∷ after) equal =
-      subst (λ o. IfSome o (λ packet. packet.payload.items ≡ payload)) (sym (first_with-append number (sent_copies_at stream base open_at before (Arrives path packet)) (sent_copies_after stream base open_at (before ++ Arrive path (wire_packet stream base packet) ∷ []) after)))
-      (by_copy (is_counting before) (int_le (pos (next_number stream base (time_of open_at before))) packet.number) (int_lt packet.number (pos (next_number stream base (time_of open_at before) + stream.window))) refl (first_with number (sent_copies_after stream base open_at (before ++ Arrive path (wire_packet stream base packet) ∷ []) after)) (sent_payload number payload (before ++ Arrive path (wire_packet stream base packet) ∷ []) after equal.1))
+      subst (λ o. IfSome o (λ packet. packet.payload.items ≡ payload)) (sym (first_with-append number (sent_copies_at stream anchor open_at before (Arrives path packet)) (sent_copies_after stream anchor open_at (before ++ Arrive path (wire_packet stream anchor packet) ∷ []) after)))
+      (by_copy (is_counting before) (int_le (pos (next_number stream anchor (time_of open_at before))) packet.number) (int_lt packet.number (pos (next_number stream anchor (time_of open_at before) + stream.window))) refl (first_with number (sent_copies_after stream anchor open_at (before ++ Arrive path (wire_packet stream anchor packet) ∷ []) after)) (sent_payload number payload (before ++ Arrive path (wire_packet stream anchor packet) ∷ []) after equal.1))
     where
-      by_number : (b : Bool) → nat_eq (unsigned_abs packet.number) number ≡ b → pos (unsigned_abs packet.number) ≡ packet.number → (o : Option Packet) → IfSome o (λ packet. packet.payload.items ≡ payload) → IfSome (or_else (if b then Some (wire_packet stream base packet) else None) o) (λ packet. packet.payload.items ≡ payload)
+      by_number : (b : Bool) → nat_eq (unsigned_abs packet.number) number ≡ b → pos (unsigned_abs packet.number) ≡ packet.number → (o : Option Packet) → IfSome o (λ packet. packet.payload.items ≡ payload) → IfSome (or_else (if b then Some (wire_packet stream anchor packet) else None) o) (λ packet. packet.payload.items ≡ payload)
       by_number true is size o rest = let same : unsigned_abs packet.number ≡ number = grind (arith, nat_tests, is) in equal.0 (sym size ∙ ap pos same)
       by_number false is size o rest = rest
 
-      by_copy : (c l h : Bool) → int_le (pos (next_number stream base (time_of open_at before))) packet.number ≡ l → (o : Option Packet) → IfSome o (λ packet. packet.payload.items ≡ payload) → IfSome (or_else (first_with number (if c && (l && h) then (unsigned_abs packet.number, wire_packet stream base packet) ∷ [] else [])) o) (λ packet. packet.payload.items ≡ payload)
+      by_copy : (c l h : Bool) → int_le (pos (next_number stream anchor (time_of open_at before))) packet.number ≡ l → (o : Option Packet) → IfSome o (λ packet. packet.payload.items ≡ payload) → IfSome (or_else (first_with number (if c && (l && h) then (unsigned_abs packet.number, wire_packet stream anchor packet) ∷ [] else [])) o) (λ packet. packet.payload.items ≡ payload)
       by_copy true true true low o rest =
-          let above : pos (next_number stream base (time_of open_at before)) ≤ℤ packet.number = grind (arith, ints, low) in
+          let above : pos (next_number stream anchor (time_of open_at before)) ≤ℤ packet.number = grind (arith, ints, low) in
           by_number (nat_eq (unsigned_abs packet.number) number) refl (size_is packet.number (omega (arith, ints, above))) o rest
       by_copy true true false low o rest = rest
       by_copy true false h low o rest = rest
@@ -204,17 +204,17 @@ module _ (stream : Stream) (base : Anchor) (open_at : ℤ) where
   sent_payload number payload before (Ticks u ∷ after) equal = sent_payload number payload (before ++ Tick u ∷ []) after equal
   sent_payload number payload before (Closes ∷ after) equal = sent_payload number payload (before ++ Close ∷ []) after equal
 
-  pub payload_recovered : IsStream stream → (sent : List SentEvent) (number : ℕ) (payload : List ℕ) → BeginsWith stream base open_at sent → IsWithinReach stream base 33554432 open_at sent → IsOneEpoch stream open_at (wire_history stream base sent) → HasEqualCopies number payload sent → IfSome (first_copy stream open_at (wire_history stream base sent) number) (λ packet. packet.payload.items ≡ payload)
+  pub payload_recovered : IsStream stream → (sent : List SentEvent) (number : ℕ) (payload : List ℕ) → BeginsWith stream anchor open_at sent → IsWithinReach stream anchor 33554432 open_at sent → IsOneEpoch stream open_at (wire_history stream anchor sent) → HasEqualCopies number payload sent → IfSome (first_copy stream open_at (wire_history stream anchor sent) number) (λ packet. packet.payload.items ≡ payload)
   unfolding copies_of
-  payload_recovered ok sent number payload begins within one equal = by_anchor (anchor_of stream open_at (wire_history stream base sent))
+  payload_recovered ok sent number payload begins within one equal = by_anchor (anchor_of stream open_at (wire_history stream anchor sent))
     where
-      all : IfSome (first_with number (sent_copies stream base open_at sent)) (λ packet. packet.payload.items ≡ payload)
+      all : IfSome (first_with number (sent_copies stream anchor open_at sent)) (λ packet. packet.payload.items ≡ payload)
       all = sent_payload number payload [] sent equal
 
-      by_epoch : (b : Bool) → IfSome (first_with number (if b then sent_copies stream base open_at sent else [])) (λ packet. packet.payload.items ≡ payload)
+      by_epoch : (b : Bool) → IfSome (first_with number (if b then sent_copies stream anchor open_at sent else [])) (λ packet. packet.payload.items ≡ payload)
       by_epoch true = all
       by_epoch false = tt
 
-      by_anchor : (o : Option Anchor) → IfSome (first_with number (copies_with o (copies_of_all stream open_at (wire_history stream base sent)))) (λ packet. packet.payload.items ≡ payload)
+      by_anchor : (o : Option Anchor) → IfSome (first_with number (copies_with o (copies_of_all stream open_at (wire_history stream anchor sent)))) (λ packet. packet.payload.items ≡ payload)
       by_anchor None = tt
-      by_anchor (Some a) = rw (copies_within 33554432 (far_counts stream base ok.packet_time ok.narrow) sent begins within one, copies_in-tags a.epoch base (sent_copies stream base open_at sent)) (by_epoch (nat_eq base.epoch a.epoch))
+      by_anchor (Some a) = rw (copies_within 33554432 (far_counts stream anchor ok.packet_time ok.narrow) sent begins within one, copies_in-tags a.epoch anchor (sent_copies stream anchor open_at sent)) (by_epoch (nat_eq anchor.epoch a.epoch))

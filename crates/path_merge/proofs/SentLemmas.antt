@@ -55,52 +55,52 @@ is_within stream next number = int_le (pos next) number && int_lt number (pos (n
 
 -- what is received counts exactly as what was sent
 abbrev pub CountsAsSent : Stream → Anchor → ℕ → SentPacket → Type 0
-CountsAsSent stream base next packet =
-    one_copy (is_in_time stream base next (wire_packet stream base packet)) (extended_number (wire_packet stream base packet) next) (wire_packet stream base packet)
-    ≡ one_copy (is_within stream next packet.number) (unsigned_abs packet.number) (wire_packet stream base packet)
+CountsAsSent stream anchor next packet =
+    one_copy (is_in_time stream anchor next (wire_packet stream anchor packet)) (extended_number (wire_packet stream anchor packet) next) (wire_packet stream anchor packet)
+    ≡ one_copy (is_within stream next packet.number) (unsigned_abs packet.number) (wire_packet stream anchor packet)
 
-module _ (stream : Stream) (base : Anchor) where
+module _ (stream : Stream) (anchor : Anchor) where
   -- within half a cycle, a received packet is on the grid, and has the number that it was sent as
-  pub near_number : (next : ℕ) (packet : SentPacket) → IsNear 32768 next packet.number → extended_number (wire_packet stream base packet) next ≡ unsigned_abs packet.number
+  pub near_number : (next : ℕ) (packet : SentPacket) → IsNear 32768 next packet.number → extended_number (wire_packet stream anchor packet) next ≡ unsigned_abs packet.number
   near_number next packet near = ap unsigned_abs (number_recovered next packet.number near)
 
-  pub near_on_grid : (next : ℕ) (packet : SentPacket) → 65536 ≤ next → IsNear 32768 next packet.number → is_on_grid stream base (extended_number (wire_packet stream base packet) next) (timestamp_in_step stream base packet.number) ≡ true
+  pub near_on_grid : (next : ℕ) (packet : SentPacket) → 65536 ≤ next → IsNear 32768 next packet.number → is_on_grid stream anchor (extended_number (wire_packet stream anchor packet) next) (timestamp_in_step stream anchor packet.number) ≡ true
   near_on_grid next packet some near =
       let size = size_is packet.number (omega (arith, ints, near.0, some)) in
-      ap (λ n. is_on_grid stream base n (timestamp_in_step stream base packet.number)) (near_number next packet near)
-      ∙ ap (λ z. nat_eq (timestamp_in_step stream base packet.number) (timestamp_in_step stream base z)) size
-      ∙ itself_eq (timestamp_in_step stream base packet.number)
+      ap (λ n. is_on_grid stream anchor n (timestamp_in_step stream anchor packet.number)) (near_number next packet near)
+      ∙ ap (λ z. nat_eq (timestamp_in_step stream anchor packet.number) (timestamp_in_step stream anchor z)) size
+      ∙ itself_eq (timestamp_in_step stream anchor packet.number)
 
-  pub near_counts : (next : ℕ) (packet : SentPacket) → 65536 ≤ next → IsNear 32768 next packet.number → CountsAsSent stream base next packet
+  pub near_counts : (next : ℕ) (packet : SentPacket) → 65536 ≤ next → IsNear 32768 next packet.number → CountsAsSent stream anchor next packet
   near_counts next packet some near =
       let number = near_number next packet near in
       let size = size_is packet.number (omega (arith, ints, near.0, some)) in
       let low : nat_le next (unsigned_abs packet.number) ≡ int_le (pos next) packet.number = le_same next (unsigned_abs packet.number) ∙ ap (int_le (pos next)) size in
       let high : nat_lt (unsigned_abs packet.number) (next + stream.window) ≡ int_lt packet.number (pos (next + stream.window)) = lt_same (unsigned_abs packet.number) (next + stream.window) ∙ ap (λ z. int_lt z (pos (next + stream.window))) size in
-      let within : (nat_le next (extended_number (wire_packet stream base packet) next) && nat_lt (extended_number (wire_packet stream base packet) next) (next + stream.window)) ≡ is_within stream next packet.number =
+      let within : (nat_le next (extended_number (wire_packet stream anchor packet) next) && nat_lt (extended_number (wire_packet stream anchor packet) next) (next + stream.window)) ≡ is_within stream next packet.number =
       ap (λ n. nat_le next n && nat_lt n (next + stream.window)) number ∙ ap (λ b. b && nat_lt (unsigned_abs packet.number) (next + stream.window)) low ∙ ap (λ b. int_le (pos next) packet.number && b) high in
-      let in_time : is_in_time stream base next (wire_packet stream base packet) ≡ is_within stream next packet.number =
-      ap (λ b. b && (is_on_grid stream base (extended_number (wire_packet stream base packet) next) (timestamp_in_step stream base packet.number) && (nat_le next (extended_number (wire_packet stream base packet) next) && nat_lt (extended_number (wire_packet stream base packet) next) (next + stream.window)))) (itself_eq base.source)
-      ∙ ap (λ b. b && (nat_le next (extended_number (wire_packet stream base packet) next) && nat_lt (extended_number (wire_packet stream base packet) next) (next + stream.window))) (near_on_grid next packet some near)
+      let in_time : is_in_time stream anchor next (wire_packet stream anchor packet) ≡ is_within stream next packet.number =
+      ap (λ b. b && (is_on_grid stream anchor (extended_number (wire_packet stream anchor packet) next) (timestamp_in_step stream anchor packet.number) && (nat_le next (extended_number (wire_packet stream anchor packet) next) && nat_lt (extended_number (wire_packet stream anchor packet) next) (next + stream.window)))) (itself_eq anchor.source)
+      ∙ ap (λ b. b && (nat_le next (extended_number (wire_packet stream anchor packet) next) && nat_lt (extended_number (wire_packet stream anchor packet) next) (next + stream.window))) (near_on_grid next packet some near)
       ∙ within in
-      ap (λ b. one_copy b (extended_number (wire_packet stream base packet) next) (wire_packet stream base packet)) in_time
-      ∙ ap (λ n. one_copy (is_within stream next packet.number) n (wire_packet stream base packet)) number
+      ap (λ b. one_copy b (extended_number (wire_packet stream anchor packet) next) (wire_packet stream anchor packet)) in_time
+      ∙ ap (λ n. one_copy (is_within stream next packet.number) n (wire_packet stream anchor packet)) number
 
   -- farther away it is no copy in time, neither as sent nor as received: its timestamp is that of another number
-  pub far_counts : is_packet_time stream.frames ≡ true → stream.window ≤ 16384 → (next : ℕ) (packet : SentPacket) → 65536 ≤ next → IsNear 33554432 next packet.number → CountsAsSent stream base next packet
+  pub far_counts : is_packet_time stream.frames ≡ true → stream.window ≤ 16384 → (next : ℕ) (packet : SentPacket) → 65536 ≤ next → IsNear 33554432 next packet.number → CountsAsSent stream anchor next packet
   far_counts time narrow next packet some far = by_reach (int_le (pos next -ℤ pos 32768) packet.number) (int_lt packet.number (pos next +ℤ pos 32768)) refl refl
     where
-      beyond : ((packet.number <ℤ (pos next -ℤ pos 32768)) ⊎ ((pos next +ℤ pos 32768) ≤ℤ packet.number)) → CountsAsSent stream base next packet
+      beyond : ((packet.number <ℤ (pos next -ℤ pos 32768)) ⊎ ((pos next +ℤ pos 32768) ≤ℤ packet.number)) → CountsAsSent stream anchor next packet
       beyond out =
           let near = IsNearest-nearest_number 32768 (low_bits_of packet.number) (pos next) (low_bits_small packet.number) in
           let size = size_is (nearest_number 32768 (low_bits_of packet.number) (pos next)) (omega (arith, ints, near.not_below, some)) in
-          let same : int_rem_euclid (pos (extended_number (wire_packet stream base packet) next)) (pos 65536) ≡ int_rem_euclid packet.number (pos 65536) = ap (λ z. int_rem_euclid z (pos 65536)) size ∙ near.low_bits ∙ sym (low_bits_are packet.number) in
-          let other : (pos (extended_number (wire_packet stream base packet) next) ≡ packet.number) → ⊥ = λ e. ⊎_elim (λ below. omega (arith, ints, e, size, below, near.not_below)) (λ above. omega (arith, ints, e, size, above, near.below)) out in
-          let off : is_on_grid stream base (extended_number (wire_packet stream base packet) next) (timestamp_in_step stream base packet.number) ≡ false = off_grid stream base (extended_number (wire_packet stream base packet) next) packet.number time same (omega (arith, ints, size, near.below, far.0)) (omega (arith, ints, size, near.not_below, far.1)) other in
+          let same : int_rem_euclid (pos (extended_number (wire_packet stream anchor packet) next)) (pos 65536) ≡ int_rem_euclid packet.number (pos 65536) = ap (λ z. int_rem_euclid z (pos 65536)) size ∙ near.low_bits ∙ sym (low_bits_are packet.number) in
+          let other : (pos (extended_number (wire_packet stream anchor packet) next) ≡ packet.number) → ⊥ = λ e. ⊎_elim (λ below. omega (arith, ints, e, size, below, near.not_below)) (λ above. omega (arith, ints, e, size, above, near.below)) out in
+          let off : is_on_grid stream anchor (extended_number (wire_packet stream anchor packet) next) (timestamp_in_step stream anchor packet.number) ≡ false = off_grid stream anchor (extended_number (wire_packet stream anchor packet) next) packet.number time same (omega (arith, ints, size, near.below, far.0)) (omega (arith, ints, size, near.not_below, far.1)) other in
           let not_within : is_within stream next packet.number ≡ false = ⊎_elim (λ below. too_low below) (λ above. too_high above) out in
-          let not_in_time : is_in_time stream base next (wire_packet stream base packet) ≡ false = rw (itself_eq base.source, off) refl in
-          ap (λ b. one_copy b (extended_number (wire_packet stream base packet) next) (wire_packet stream base packet)) not_in_time
-          ∙ ap (λ b. one_copy b (unsigned_abs packet.number) (wire_packet stream base packet)) (sym not_within)
+          let not_in_time : is_in_time stream anchor next (wire_packet stream anchor packet) ≡ false = rw (itself_eq anchor.source, off) refl in
+          ap (λ b. one_copy b (extended_number (wire_packet stream anchor packet) next) (wire_packet stream anchor packet)) not_in_time
+          ∙ ap (λ b. one_copy b (unsigned_abs packet.number) (wire_packet stream anchor packet)) (sym not_within)
         where
           too_low : packet.number <ℤ (pos next -ℤ pos 32768) → is_within stream next packet.number ≡ false
           too_low below = let no : int_le (pos next) packet.number ≡ false = grind (arith, ints, below) in rw no refl
@@ -112,7 +112,7 @@ module _ (stream : Stream) (base : Anchor) where
           too_high : (pos next +ℤ pos 32768) ≤ℤ packet.number → is_within stream next packet.number ≡ false
           too_high above = let no : int_lt packet.number (pos (next + stream.window)) ≡ false = grind (arith, ints, above, narrow) in rw no (and_false (int_le (pos next) packet.number))
 
-      by_reach : (b c : Bool) → int_le (pos next -ℤ pos 32768) packet.number ≡ b → int_lt packet.number (pos next +ℤ pos 32768) ≡ c → CountsAsSent stream base next packet
+      by_reach : (b c : Bool) → int_le (pos next -ℤ pos 32768) packet.number ≡ b → int_lt packet.number (pos next +ℤ pos 32768) ≡ c → CountsAsSent stream anchor next packet
       by_reach true true e f = near_counts next packet some (grind (arith, ints, e), grind (arith, ints, f))
       by_reach false c e f = beyond (inl (grind (arith, ints, e)))
       by_reach true false e f = beyond (inr (grind (arith, ints, f)))

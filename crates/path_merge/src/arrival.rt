@@ -1,7 +1,7 @@
 //! What becomes of an arrival, test by test.
 ghost use Rattle.std.specs.Prelude.{◌≡◌, ◌^◌, ◌≤◌, ℕ, ℤ, pos, ◌≤ℤ◌, neg_ℤ};
 ghost use Rattle.stream_rules.specs.PacketRef.{packet_of};
-ghost use Rattle.stream_rules.specs.Anchor.{base_media_time, is_restart_in_reach, media_time_of};
+ghost use Rattle.stream_rules.specs.Anchor.{first_media_time, is_restart_in_reach, media_time_of};
 ghost use Rattle.stream_rules.specs.Counts.{is_taken_fate};
 ghost use Rattle.stream_rules.specs.Fate as spec;
 ghost use Rattle.stream_rules.specs.Fate.{first_fate};
@@ -104,7 +104,7 @@ pub fn goes_on(spec: &StreamSpec, time: i64, due: i64, media: i64) -> bool
 pub fn fate_of_first(spec: &StreamSpec, time: i64, media: i64, source: u32) -> Fate
     requires low { pos 0 ≤ℤ time }
     requires high { time ≤ℤ pos (2 ^ 60) }
-    ensures { (packet : Packet) → packet.ssrc ≡ source → media ≡ base_media_time spec.now.clock packet.ts time → result ≡ first_fate spec.now time packet }
+    ensures { (packet : Packet) → packet.ssrc ≡ source → media ≡ first_media_time spec.now.clock packet.ts time → result ≡ first_fate spec.now time packet }
 {
     if !is_wanted(spec.ssrc(), source) {
         return Fate::WrongSource;

@@ -113,38 +113,38 @@ pub fn merges_stand_at_their_histories()
 /// A number of any sign is known by its low 16 bits and its timestamp, among those that are less than
 /// 1,024 cycles of sequence numbers away: another one with the same low bits is off its grid.
 pub fn aliases_are_off_grid()
-    ensures known { (stream : Stream) (base : Anchor) (m n : ℤ) →
+    ensures known { (stream : Stream) (anchor : Anchor) (m n : ℤ) →
         IsStream stream → int_rem_euclid m (pos 65536) ≡ int_rem_euclid n (pos 65536) →
         m <ℤ (n +ℤ pos (2 ^ 26)) → n <ℤ (m +ℤ pos (2 ^ 26)) →
-        timestamp_in_step stream base m ≡ timestamp_in_step stream base n → m ≡ n }
-    ensures off_grid { (stream : Stream) (base : Anchor) (m : ℕ) (n : ℤ) →
+        timestamp_in_step stream anchor m ≡ timestamp_in_step stream anchor n → m ≡ n }
+    ensures off_grid { (stream : Stream) (anchor : Anchor) (m : ℕ) (n : ℤ) →
         IsStream stream → int_rem_euclid (pos m) (pos 65536) ≡ int_rem_euclid n (pos 65536) →
         pos m <ℤ (n +ℤ pos (2 ^ 26)) → n <ℤ (pos m +ℤ pos (2 ^ 26)) → (pos m ≡ n → ⊥) →
-        is_on_grid stream base m (timestamp_in_step stream base n) ≡ false }
+        is_on_grid stream anchor m (timestamp_in_step stream anchor n) ≡ false }
 {}
 
 /// Full numbers are whole numbers of any sign. Where the received history has one epoch, and each number
 /// lies from 2^25 below the one due next to just below 2^25 above it, what is handed on is what was sent;
 /// and where all packets of a number have one payload, its first copy has it.
 pub fn sent_numbers_are_recovered()
-    ensures marks { (stream : Stream) (base : Anchor) (open_at : ℤ) (sent : List SentEvent) →
-        IsStream stream → BeginsWith stream base open_at sent → IsWithinReach stream base (2 ^ 25) open_at sent →
-        IsOneEpoch stream open_at (wire_history stream base sent) →
-        marks_of stream open_at (wire_history stream base sent) ≡ marks_by_number stream base open_at sent }
-    ensures payload { (stream : Stream) (base : Anchor) (open_at : ℤ) (sent : List SentEvent) (number : ℕ) (payload : List ℕ) →
-        IsStream stream → BeginsWith stream base open_at sent → IsWithinReach stream base (2 ^ 25) open_at sent →
-        IsOneEpoch stream open_at (wire_history stream base sent) → HasEqualCopies number payload sent →
-        IfSome (first_copy stream open_at (wire_history stream base sent) number) (λ packet. packet.payload.items ≡ payload) }
+    ensures marks { (stream : Stream) (anchor : Anchor) (open_at : ℤ) (sent : List SentEvent) →
+        IsStream stream → BeginsWith stream anchor open_at sent → IsWithinReach stream anchor (2 ^ 25) open_at sent →
+        IsOneEpoch stream open_at (wire_history stream anchor sent) →
+        marks_of stream open_at (wire_history stream anchor sent) ≡ marks_by_number stream anchor open_at sent }
+    ensures payload { (stream : Stream) (anchor : Anchor) (open_at : ℤ) (sent : List SentEvent) (number : ℕ) (payload : List ℕ) →
+        IsStream stream → BeginsWith stream anchor open_at sent → IsWithinReach stream anchor (2 ^ 25) open_at sent →
+        IsOneEpoch stream open_at (wire_history stream anchor sent) → HasEqualCopies number payload sent →
+        IfSome (first_copy stream open_at (wire_history stream anchor sent) number) (λ packet. packet.payload.items ≡ payload) }
 {}
 
 /// Where each number lies from 2^15 below the one due next to just below 2^15 above it, the received
 /// history has one epoch: no packet is off the grid, so no probation begins. And what is handed on is
 /// what was sent.
 pub fn near_numbers_open_one_epoch()
-    ensures one { (stream : Stream) (base : Anchor) (open_at : ℤ) (sent : List SentEvent) →
-        BeginsWith stream base open_at sent → IsWithinReach stream base (2 ^ 15) open_at sent →
-        IsOneEpoch stream open_at (wire_history stream base sent) }
-    ensures marks { (stream : Stream) (base : Anchor) (open_at : ℤ) (sent : List SentEvent) →
-        BeginsWith stream base open_at sent → IsWithinReach stream base (2 ^ 15) open_at sent →
-        marks_of stream open_at (wire_history stream base sent) ≡ marks_by_number stream base open_at sent }
+    ensures one { (stream : Stream) (anchor : Anchor) (open_at : ℤ) (sent : List SentEvent) →
+        BeginsWith stream anchor open_at sent → IsWithinReach stream anchor (2 ^ 15) open_at sent →
+        IsOneEpoch stream open_at (wire_history stream anchor sent) }
+    ensures marks { (stream : Stream) (anchor : Anchor) (open_at : ℤ) (sent : List SentEvent) →
+        BeginsWith stream anchor open_at sent → IsWithinReach stream anchor (2 ^ 15) open_at sent →
+        marks_of stream open_at (wire_history stream anchor sent) ≡ marks_by_number stream anchor open_at sent }
 {}

@@ -29,26 +29,26 @@ abbrev got : ℕ → ℤ → ℕ → MarkView
 got n media octet = record { format = format_of stream; kind = Slot 0 n media (Got (record { items = octet ∷ [] })) }
 
 -- two packets, and one of 65,536 numbers before: its low 16 bits are those of 131072
-abbrev base : Anchor
-base = record { epoch = 0; number = 131071; timestamp = 0; media = pos 0; source = 1 }
+abbrev anchor : Anchor
+anchor = record { epoch = 0; number = 131071; timestamp = 0; media = pos 0; source = 1 }
 
 abbrev sent : List SentEvent
 sent = Arrives 0 (number (pos 131071) 1) ∷ Arrives 1 (number (pos 131072) 2) ∷ Arrives 0 (number (pos 65536) 9) ∷ Ticks (pos 12) ∷ Ticks (pos 18) ∷ []
 
-sent_begins_with_its_base : BeginsWith stream base (pos 0) sent
+sent_begins_with_its_base : BeginsWith stream anchor (pos 0) sent
 sent_begins_with_its_base = (refl, refl, refl)
 
-sent_is_within_reach : IsWithinReach stream base (2 ^ 25) (pos 0) sent
+sent_is_within_reach : IsWithinReach stream anchor (2 ^ 25) (pos 0) sent
 sent_is_within_reach = ((omega (arith, ints), omega (arith, ints)), ((omega (arith, ints), omega (arith, ints)), ((omega (arith, ints), omega (arith, ints)), tt)))
 
-sent_is_one_epoch : IsOneEpoch stream (pos 0) (wire_history stream base sent)
+sent_is_one_epoch : IsOneEpoch stream (pos 0) (wire_history stream anchor sent)
 unfolding anchors_of anchors_from at_places
 sent_is_one_epoch = omega arith
 
-sent_with_16_and_32_bits : wire_history stream base sent ≡ Arrive 0 (packet 65535 0 1) ∷ Arrive 1 (packet 0 6 2) ∷ Arrive 0 (packet 0 4294574086 9) ∷ Tick (pos 12) ∷ Tick (pos 18) ∷ []
+sent_with_16_and_32_bits : wire_history stream anchor sent ≡ Arrive 0 (packet 65535 0 1) ∷ Arrive 1 (packet 0 6 2) ∷ Arrive 0 (packet 0 4294574086 9) ∷ Tick (pos 12) ∷ Tick (pos 18) ∷ []
 sent_with_16_and_32_bits = refl
 
-marks_by_full_numbers : marks_by_number stream base (pos 0) sent ≡ got 131071 (pos 0) 1 ∷ got 131072 (pos 6) 2 ∷ []
+marks_by_full_numbers : marks_by_number stream anchor (pos 0) sent ≡ got 131071 (pos 0) 1 ∷ got 131072 (pos 6) 2 ∷ []
 unfolding sent_copies_after marks_from anchor_of anchors_of anchors_from at_places
 marks_by_full_numbers = refl
 

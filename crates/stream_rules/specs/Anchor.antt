@@ -14,17 +14,17 @@ is_source_wanted None source = true
 is_source_wanted (Some wanted) source = nat_eq source wanted
 
 -- the media time of a packet that would be the first, at this time
-abbrev pub base_media_time : StreamClock → ℕ → ℤ → ℤ
-base_media_time (Media offset) ts time = nearest_number 2147483648 (unsigned_abs (int_rem_euclid (pos ts -ℤ pos offset) (pos (2 ^ 32)))) time
-base_media_time Arrival ts time = time
+abbrev pub first_media_time : StreamClock → ℕ → ℤ → ℤ
+first_media_time (Media offset) ts time = nearest_number 2147483648 (unsigned_abs (int_rem_euclid (pos ts -ℤ pos offset) (pos (2 ^ 32)))) time
+first_media_time Arrival ts time = time
 
 -- its deadline is still to come, and it lies within the window
-abbrev pub is_base_in_reach : Stream → ℤ → ℤ → Bool
-is_base_in_reach stream time media = int_lt (time -ℤ pos stream.latency) media && int_lt media (time -ℤ pos stream.latency +ℤ pos (stream.window * stream.frames))
+abbrev pub is_first_in_reach : Stream → ℤ → ℤ → Bool
+is_first_in_reach stream time media = int_lt (time -ℤ pos stream.latency) media && int_lt media (time -ℤ pos stream.latency +ℤ pos (stream.window * stream.frames))
 
 -- the packet may be the first, at this time
 abbrev pub can_anchor : Stream → ℤ → Packet → Bool
-can_anchor stream time packet = is_source_wanted stream.ssrc packet.ssrc && is_base_in_reach stream time (base_media_time stream.clock packet.ts time)
+can_anchor stream time packet = is_source_wanted stream.ssrc packet.ssrc && is_first_in_reach stream time (first_media_time stream.clock packet.ts time)
 
 -- the anchor that it makes; the extended numbers of a stream start in the second cycle, so that none is below 0
 abbrev pub anchor_from : Stream → ℤ → Packet → Anchor
@@ -32,7 +32,7 @@ anchor_from stream time packet = record {
   epoch = 0;
   number = 65536 + packet.seq;
   timestamp = packet.ts;
-  media = base_media_time stream.clock packet.ts time;
+  media = first_media_time stream.clock packet.ts time;
   source = packet.ssrc;
 }
 
@@ -54,12 +54,12 @@ next_number stream anchor time = anchor.number + steps_until (time -ℤ (anchor.
 
 -- the media time of a packet that would restart the stream: by the arrival clock not before the slots that were given
 abbrev pub restart_media_time : StreamClock → ℕ → ℤ → ℤ → ℤ
-restart_media_time (Media offset) ts time due = base_media_time (Media offset) ts time
+restart_media_time (Media offset) ts time due = first_media_time (Media offset) ts time
 restart_media_time Arrival ts time due = if int_lt due time then time else due
 
 -- its deadline is still to come, it lies within the window, and media time doesn't go back
 abbrev pub is_restart_in_reach : Stream → ℤ → ℤ → ℤ → Bool
-is_restart_in_reach stream time due media = is_base_in_reach stream time media && int_le due media
+is_restart_in_reach stream time due media = is_first_in_reach stream time media && int_le due media
 
 -- the anchor of the next epoch, where this number is due next in the old one
 abbrev pub restart_from : Stream → ℤ → Anchor → ℕ → Packet → Anchor

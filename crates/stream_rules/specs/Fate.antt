@@ -9,7 +9,7 @@ use Rattle.stream_rules.specs.declared.put.Put.TheVariants.{Taken as PutTaken, D
 use Rattle.stream_rules.specs.declared.fate.Fate.{Fate}
 use Rattle.stream_rules.specs.declared.fate.Fate.TheVariants.{Closed, CountersFull, WrongSource, OffGrid, Late, Ahead, Taken, Double, Unlike, Restarted}
 use Rattle.stream_rules.specs.History.{time_of, is_closed, arrival_count}
-use Rattle.stream_rules.specs.Anchor.{is_source_wanted, base_media_time, next_number}
+use Rattle.stream_rules.specs.Anchor.{is_source_wanted, first_media_time, next_number}
 use Rattle.stream_rules.specs.Grid.{first_with, extended_number, is_on_grid}
 use Rattle.stream_rules.specs.Epochs.{anchor_of, anchors_of, can_restart, last_of}
 use Rattle.stream_rules.specs.Copies.{copies_of}
@@ -24,8 +24,8 @@ fate_of_put PutUnlike = Unlike
 abbrev pub first_fate : Stream → ℤ → Packet → Fate
 first_fate stream time packet =
     if not (is_source_wanted stream.ssrc packet.ssrc) then WrongSource
-    else if int_le (base_media_time stream.clock packet.ts time) (time -ℤ pos stream.latency) then Late
-    else if int_le (time -ℤ pos stream.latency +ℤ pos (stream.window * stream.frames)) (base_media_time stream.clock packet.ts time) then Ahead
+    else if int_le (first_media_time stream.clock packet.ts time) (time -ℤ pos stream.latency) then Late
+    else if int_le (time -ℤ pos stream.latency +ℤ pos (stream.window * stream.frames)) (first_media_time stream.clock packet.ts time) then Ahead
     else Taken
 
 -- of a later one, where this number is due next and these copies came before

@@ -26,34 +26,34 @@ pub data SentEvent : Type 0 where
 
 -- the timestamp that is in step with a number of any sign
 abbrev pub timestamp_in_step : Stream → Anchor → ℤ → ℕ
-timestamp_in_step stream base number = unsigned_abs (int_rem_euclid (pos base.timestamp +ℤ (number -ℤ pos base.number) *ℤ pos stream.frames) (pos (2 ^ 32)))
+timestamp_in_step stream anchor number = unsigned_abs (int_rem_euclid (pos anchor.timestamp +ℤ (number -ℤ pos anchor.number) *ℤ pos stream.frames) (pos (2 ^ 32)))
 
--- as it is received, a packet has its number's low 16 bits, the timestamp in step with the number, and the base's source
+-- as it is received, a packet has its number's low 16 bits, the timestamp in step with the number, and the anchor's source
 abbrev pub wire_packet : Stream → Anchor → SentPacket → Packet
-wire_packet stream base packet = record {
+wire_packet stream anchor packet = record {
   seq = unsigned_abs (int_rem_euclid packet.number (pos 65536));
-  ts = timestamp_in_step stream base packet.number;
-  ssrc = base.source;
+  ts = timestamp_in_step stream anchor packet.number;
+  ssrc = anchor.source;
   payload = record { items = packet.payload };
 }
 
 abbrev pub wire_event : Stream → Anchor → SentEvent → Event
-wire_event stream base (Arrives path packet) = Arrive path (wire_packet stream base packet)
-wire_event stream base (Ticks u) = Tick u
-wire_event stream base Closes = Close
+wire_event stream anchor (Arrives path packet) = Arrive path (wire_packet stream anchor packet)
+wire_event stream anchor (Ticks u) = Tick u
+wire_event stream anchor Closes = Close
 
 -- the history that is received
 abbrev pub wire_history : Stream → Anchor → List SentEvent → List Event
-wire_history stream base [] = []
-wire_history stream base (event ∷ sent) = wire_event stream base event ∷ wire_history stream base sent
+wire_history stream anchor [] = []
+wire_history stream anchor (event ∷ sent) = wire_event stream anchor event ∷ wire_history stream anchor sent
 
--- the first arrival before a close is the base's own packet, and the stream's first
+-- the first arrival before a close is the anchor's own packet, and the stream's first
 abbrev pub BeginsWith : Stream → Anchor → ℤ → List SentEvent → Type 0
-BeginsWith stream base time [] = Unit {0}
-BeginsWith stream base time (Arrives path packet ∷ sent) =
-    (packet.number ≡ pos base.number) × (base ≡ anchor_from stream time (wire_packet stream base packet)) × (can_anchor stream time (wire_packet stream base packet) ≡ true)
-BeginsWith stream base time (Ticks u ∷ sent) = BeginsWith stream base u sent
-BeginsWith stream base time (Closes ∷ sent) = Unit {0}
+BeginsWith stream anchor time [] = Unit {0}
+BeginsWith stream anchor time (Arrives path packet ∷ sent) =
+    (packet.number ≡ pos anchor.number) × (anchor ≡ anchor_from stream time (wire_packet stream anchor packet)) × (can_anchor stream time (wire_packet stream anchor packet) ≡ true)
+BeginsWith stream anchor time (Ticks u ∷ sent) = BeginsWith stream anchor u sent
+BeginsWith stream anchor time (Closes ∷ sent) = Unit {0}
 
 -- a number lies from so many below another one to just below so many above it
 abbrev pub IsNear : ℕ → ℕ → ℤ → Type 0
@@ -61,10 +61,10 @@ IsNear reach next number = ((pos next -ℤ pos reach) ≤ℤ number) × (number 
 
 -- each arrival before a close is of a number that lies within this reach of the one next due
 abbrev pub IsWithinReach : Stream → Anchor → ℕ → ℤ → List SentEvent → Type 0
-IsWithinReach stream base reach time [] = Unit {0}
-IsWithinReach stream base reach time (Arrives path packet ∷ sent) = IsNear reach (next_number stream base time) packet.number × IsWithinReach stream base reach time sent
-IsWithinReach stream base reach time (Ticks u ∷ sent) = IsWithinReach stream base reach u sent
-IsWithinReach stream base reach time (Closes ∷ sent) = Unit {0}
+IsWithinReach stream anchor reach time [] = Unit {0}
+IsWithinReach stream anchor reach time (Arrives path packet ∷ sent) = IsNear reach (next_number stream anchor time) packet.number × IsWithinReach stream anchor reach time sent
+IsWithinReach stream anchor reach time (Ticks u ∷ sent) = IsWithinReach stream anchor reach u sent
+IsWithinReach stream anchor reach time (Closes ∷ sent) = Unit {0}
 
 -- the received history has one epoch at most: what comes of it is never taken for a restart of the sender
 abbrev pub IsOneEpoch : Stream → ℤ → List Event → Type 0
@@ -72,24 +72,24 @@ IsOneEpoch stream open_at events = length (anchors_of stream open_at events) ≤
 
 -- an arrival is a copy of its own number, where that is from the one next due to the window's end: nothing is extended, and no timestamp is looked at
 abbrev pub sent_copies_at : Stream → Anchor → ℤ → List Event → SentEvent → List (ℕ × Packet)
-sent_copies_at stream base open_at before (Arrives path packet) =
-    if is_counting before && (int_le (pos (next_number stream base (time_of open_at before))) packet.number && int_lt packet.number (pos (next_number stream base (time_of open_at before) + stream.window)))
-    then (unsigned_abs packet.number, wire_packet stream base packet) ∷ [] else []
-sent_copies_at stream base open_at before (Ticks u) = []
-sent_copies_at stream base open_at before Closes = []
+sent_copies_at stream anchor open_at before (Arrives path packet) =
+    if is_counting before && (int_le (pos (next_number stream anchor (time_of open_at before))) packet.number && int_lt packet.number (pos (next_number stream anchor (time_of open_at before) + stream.window)))
+    then (unsigned_abs packet.number, wire_packet stream anchor packet) ∷ [] else []
+sent_copies_at stream anchor open_at before (Ticks u) = []
+sent_copies_at stream anchor open_at before Closes = []
 
 -- the copies of what was sent, after these events were received
 unfoldable pub sent_copies_after : Stream → Anchor → ℤ → List Event → List SentEvent → List (ℕ × Packet)
-sent_copies_after stream base open_at before [] = []
-sent_copies_after stream base open_at before (event ∷ sent) =
-    sent_copies_at stream base open_at before event ++ sent_copies_after stream base open_at (before ++ wire_event stream base event ∷ []) sent
+sent_copies_after stream anchor open_at before [] = []
+sent_copies_after stream anchor open_at before (event ∷ sent) =
+    sent_copies_at stream anchor open_at before event ++ sent_copies_after stream anchor open_at (before ++ wire_event stream anchor event ∷ []) sent
 
 abbrev pub sent_copies : Stream → Anchor → ℤ → List SentEvent → List (ℕ × Packet)
-sent_copies stream base open_at sent = sent_copies_after stream base open_at [] sent
+sent_copies stream anchor open_at sent = sent_copies_after stream anchor open_at [] sent
 
 -- the marks of what was sent, by the full numbers
 abbrev pub marks_by_number : Stream → Anchor → ℤ → List SentEvent → List MarkView
-marks_by_number stream base open_at sent = marks_from stream open_at (with_epoch (Some base) (sent_copies stream base open_at sent)) [] [] (wire_history stream base sent)
+marks_by_number stream anchor open_at sent = marks_from stream open_at (with_epoch (Some anchor) (sent_copies stream anchor open_at sent)) [] [] (wire_history stream anchor sent)
 
 -- all packets of this number have one payload
 abbrev pub HasEqualCopies : ℕ → List ℕ → List SentEvent → Type 0

@@ -2,7 +2,7 @@
 ghost use Rattle.std.specs.Prelude.{◌≡◌, ◌+◌, ◌<◌, ◌≤◌, ◌^◌, ℤ, pos, ◌≤ℤ◌, neg_ℤ, ◌<ℤ◌};
 ghost use Rattle.stream_rules.specs.PacketRef.{packet_of};
 ghost use Rattle.stream_rules.specs.StreamSpecFacts.{Stream};
-ghost use Rattle.stream_rules.specs.Anchor.{media_time_of, base_media_time, is_source_wanted, restart_media_time};
+ghost use Rattle.stream_rules.specs.Anchor.{media_time_of, first_media_time, is_source_wanted, restart_media_time};
 ghost use Rattle.stream_rules.specs.Grid.{extended_number, is_on_grid};
 ghost use Rattle.stream_rules.specs.declared.anchor.Anchor.{Anchor};
 
@@ -10,7 +10,7 @@ use crate::nearest::{near16, near32};
 use crate::packet::PacketRef;
 use crate::stream_spec::StreamClock;
 
-/// The stream's base: the extended sequence number, timestamp, media time and source of its first
+/// A stream's anchor: the extended sequence number, timestamp, media time and source of its first
 /// packet (RFC 3550, A.1, `base_seq`).
 #[derive(Clone, Copy, Debug)]
 pub struct Anchor {
@@ -100,7 +100,7 @@ pub fn is_wanted(wanted: Option<u32>, source: u32) -> bool
 pub fn media_of_first(clock: StreamClock, ts: u32, time: i64) -> i64
     requires low { pos 0 ≤ℤ time }
     requires high { time ≤ℤ pos (2 ^ 60) }
-    ensures { result ≡ base_media_time clock ts time }
+    ensures { result ≡ first_media_time clock ts time }
 {
     match clock {
         StreamClock::Media { offset } => near32(ts.wrapping_sub(offset), time),

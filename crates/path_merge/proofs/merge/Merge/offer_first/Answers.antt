@@ -5,7 +5,7 @@ use Rattle.stream_rules.specs.declared.anchor.Anchor.{Anchor}
 use Rattle.stream_rules.specs.declared.packet.Packet.{Packet}
 use Rattle.stream_rules.specs.StreamSpec.{Fits}
 use Rattle.path_merge.specs.MergeState.{MergeState}
-use Rattle.stream_rules.specs.Anchor.{anchor_from, base_media_time, can_anchor}
+use Rattle.stream_rules.specs.Anchor.{anchor_from, first_media_time, can_anchor}
 use Rattle.stream_rules.specs.Counts.{is_taken_fate}
 use Rattle.stream_rules.specs.Fate.{first_fate}
 use Rattle.path_merge.proofs.FirstLemmas.{taken-can_anchor, first_put, first_step_refused, first_step_taken, sound_first, sound_refused}
@@ -21,8 +21,8 @@ invariant_of-self g c =
     let room = subst (λ (m : MergeState). m.counts.arrived < 2 ^ 62) (sym c.self.view_is) c.requires.room in
     let time_fits : FitsSigned w64 c.self.inside.time = search rules in
     let time_is : to_z w64 (of_z w64 c.self.inside.time) ≡ c.self.inside.time = omega (arith, ints) in
-    let media : c.media_of_first-media.result ≡ base_media_time c.self.inside.spec.clock (packet_of c.args.packet.now).ts (to_z w64 (of_z w64 c.self.inside.time)) = c.media_of_first-media.ensures ∙ ap (λ k. base_media_time k (packet_of c.args.packet.now).ts (to_z w64 (of_z w64 c.self.inside.time))) c.clock.ensures in
-    let media_is : c.media_of_first-media.result ≡ base_media_time c.self.inside.spec.clock (packet_of c.args.packet.now).ts c.self.inside.time = media ∙ ap (base_media_time c.self.inside.spec.clock (packet_of c.args.packet.now).ts) time_is in
+    let media : c.media_of_first-media.result ≡ first_media_time c.self.inside.spec.clock (packet_of c.args.packet.now).ts (to_z w64 (of_z w64 c.self.inside.time)) = c.media_of_first-media.ensures ∙ ap (λ k. first_media_time k (packet_of c.args.packet.now).ts (to_z w64 (of_z w64 c.self.inside.time))) c.clock.ensures in
+    let media_is : c.media_of_first-media.result ≡ first_media_time c.self.inside.spec.clock (packet_of c.args.packet.now).ts c.self.inside.time = media ∙ ap (first_media_time c.self.inside.spec.clock (packet_of c.args.packet.now).ts) time_is in
     let answer : c.fate_of_first-fate.result ≡ first_fate c.self.inside.spec c.self.inside.time (packet_of c.args.packet.now) = c.fate_of_first-fate.ensures (packet_of c.args.packet.now) refl (omega (arith, ints, media)) ∙ ap (λ t. first_fate c.self.inside.spec t (packet_of c.args.packet.now)) time_is in
     let untaken : is_taken_fate c.fate_of_first-fate.result ≡ false = sym c.is_taken.ensures ∙ c.if-not-is_taken.true in
     sound_refused _ c.self.inside.next_media c.args.path c.fate_of_first-fate.result _ _ c.self.invariant room untaken c.add_fate.ensures
@@ -34,8 +34,8 @@ returns-then-not-is_taken-clause-step g c =
     let room = subst (λ (m : MergeState). m.counts.arrived < 2 ^ 62) (sym c.self.view_is) c.requires.room in
     let time_fits : FitsSigned w64 c.self.inside.time = search rules in
     let time_is : to_z w64 (of_z w64 c.self.inside.time) ≡ c.self.inside.time = omega (arith, ints) in
-    let media : c.media_of_first-media.result ≡ base_media_time c.self.inside.spec.clock (packet_of c.args.packet.now).ts (to_z w64 (of_z w64 c.self.inside.time)) = c.media_of_first-media.ensures ∙ ap (λ k. base_media_time k (packet_of c.args.packet.now).ts (to_z w64 (of_z w64 c.self.inside.time))) c.clock.ensures in
-    let media_is : c.media_of_first-media.result ≡ base_media_time c.self.inside.spec.clock (packet_of c.args.packet.now).ts c.self.inside.time = media ∙ ap (base_media_time c.self.inside.spec.clock (packet_of c.args.packet.now).ts) time_is in
+    let media : c.media_of_first-media.result ≡ first_media_time c.self.inside.spec.clock (packet_of c.args.packet.now).ts (to_z w64 (of_z w64 c.self.inside.time)) = c.media_of_first-media.ensures ∙ ap (λ k. first_media_time k (packet_of c.args.packet.now).ts (to_z w64 (of_z w64 c.self.inside.time))) c.clock.ensures in
+    let media_is : c.media_of_first-media.result ≡ first_media_time c.self.inside.spec.clock (packet_of c.args.packet.now).ts c.self.inside.time = media ∙ ap (first_media_time c.self.inside.spec.clock (packet_of c.args.packet.now).ts) time_is in
     let answer : c.fate_of_first-fate.result ≡ first_fate c.self.inside.spec c.self.inside.time (packet_of c.args.packet.now) = c.fate_of_first-fate.ensures (packet_of c.args.packet.now) refl (omega (arith, ints, media)) ∙ ap (λ t. first_fate c.self.inside.spec t (packet_of c.args.packet.now)) time_is in
     let untaken : is_taken_fate c.fate_of_first-fate.result ≡ false = sym c.is_taken.ensures ∙ c.if-not-is_taken.true in
     rw (← c.self.view_is) (first_step_refused _ c.self.inside.next_media c.args.path (packet_of c.args.packet.now) c.fate_of_first-fate.result _ c.self.invariant is_none answer untaken c.add_fate.ensures)
@@ -47,12 +47,12 @@ invariant_of-self-2 g c =
     let room = subst (λ (m : MergeState). m.counts.arrived < 2 ^ 62) (sym c.self.view_is) c.requires.room in
     let time_fits : FitsSigned w64 c.self.inside.time = search rules in
     let time_is : to_z w64 (of_z w64 c.self.inside.time) ≡ c.self.inside.time = omega (arith, ints) in
-    let media : c.media_of_first-media.result ≡ base_media_time c.self.inside.spec.clock (packet_of c.args.packet.now).ts (to_z w64 (of_z w64 c.self.inside.time)) = c.media_of_first-media.ensures ∙ ap (λ k. base_media_time k (packet_of c.args.packet.now).ts (to_z w64 (of_z w64 c.self.inside.time))) c.clock.ensures in
-    let media_is : c.media_of_first-media.result ≡ base_media_time c.self.inside.spec.clock (packet_of c.args.packet.now).ts c.self.inside.time = media ∙ ap (base_media_time c.self.inside.spec.clock (packet_of c.args.packet.now).ts) time_is in
+    let media : c.media_of_first-media.result ≡ first_media_time c.self.inside.spec.clock (packet_of c.args.packet.now).ts (to_z w64 (of_z w64 c.self.inside.time)) = c.media_of_first-media.ensures ∙ ap (λ k. first_media_time k (packet_of c.args.packet.now).ts (to_z w64 (of_z w64 c.self.inside.time))) c.clock.ensures in
+    let media_is : c.media_of_first-media.result ≡ first_media_time c.self.inside.spec.clock (packet_of c.args.packet.now).ts c.self.inside.time = media ∙ ap (first_media_time c.self.inside.spec.clock (packet_of c.args.packet.now).ts) time_is in
     let answer : c.fate_of_first-fate.result ≡ first_fate c.self.inside.spec c.self.inside.time (packet_of c.args.packet.now) = c.fate_of_first-fate.ensures (packet_of c.args.packet.now) refl (omega (arith, ints, media)) ∙ ap (λ t. first_fate c.self.inside.spec t (packet_of c.args.packet.now)) time_is in
     let taken : is_taken_fate (first_fate c.self.inside.spec c.self.inside.time (packet_of c.args.packet.now)) ≡ true = ap is_taken_fate (sym answer) ∙ sym c.is_taken.ensures ∙ c.if-not-is_taken.false in
     let can : can_anchor c.self.inside.spec c.self.inside.time (packet_of c.args.packet.now) ≡ true = sym (taken-can_anchor c.self.inside.spec c.self.inside.time (packet_of c.args.packet.now)) ∙ taken in
-    let there : to_z w64 (of_z w64 c.media_of_first-media.result) ≡ base_media_time c.self.inside.spec.clock (packet_of c.args.packet.now).ts c.self.inside.time = omega (arith, ints, media_is) in
+    let there : to_z w64 (of_z w64 c.media_of_first-media.result) ≡ first_media_time c.self.inside.spec.clock (packet_of c.args.packet.now).ts c.self.inside.time = omega (arith, ints, media_is) in
     let anchor : c.first-anchor.result ≡ anchor_from c.self.inside.spec c.self.inside.time (packet_of c.args.packet.now) = c.first-anchor.ensures.value ∙ ap (λ z. first_anchor (packet_of c.args.packet.now) z) there in
     let number : c.first-anchor.result.number ≡ 65536 + (packet_of c.args.packet.now).seq = ap (λ (a : Anchor). a.number) anchor in
     let put = first_put (packet_of c.args.packet.now) c.first-anchor.result.number (g.V.Window.held c.begin_at.new.self) (g.V.Window.held c.put_ref.new.self) c.put_ref.result number c.begin_at.ensures.held c.put_ref.ensures.answer c.put_ref.ensures.held in
@@ -69,12 +69,12 @@ returns-clause-step g c =
     let room = subst (λ (m : MergeState). m.counts.arrived < 2 ^ 62) (sym c.self.view_is) c.requires.room in
     let time_fits : FitsSigned w64 c.self.inside.time = search rules in
     let time_is : to_z w64 (of_z w64 c.self.inside.time) ≡ c.self.inside.time = omega (arith, ints) in
-    let media : c.media_of_first-media.result ≡ base_media_time c.self.inside.spec.clock (packet_of c.args.packet.now).ts (to_z w64 (of_z w64 c.self.inside.time)) = c.media_of_first-media.ensures ∙ ap (λ k. base_media_time k (packet_of c.args.packet.now).ts (to_z w64 (of_z w64 c.self.inside.time))) c.clock.ensures in
-    let media_is : c.media_of_first-media.result ≡ base_media_time c.self.inside.spec.clock (packet_of c.args.packet.now).ts c.self.inside.time = media ∙ ap (base_media_time c.self.inside.spec.clock (packet_of c.args.packet.now).ts) time_is in
+    let media : c.media_of_first-media.result ≡ first_media_time c.self.inside.spec.clock (packet_of c.args.packet.now).ts (to_z w64 (of_z w64 c.self.inside.time)) = c.media_of_first-media.ensures ∙ ap (λ k. first_media_time k (packet_of c.args.packet.now).ts (to_z w64 (of_z w64 c.self.inside.time))) c.clock.ensures in
+    let media_is : c.media_of_first-media.result ≡ first_media_time c.self.inside.spec.clock (packet_of c.args.packet.now).ts c.self.inside.time = media ∙ ap (first_media_time c.self.inside.spec.clock (packet_of c.args.packet.now).ts) time_is in
     let answer : c.fate_of_first-fate.result ≡ first_fate c.self.inside.spec c.self.inside.time (packet_of c.args.packet.now) = c.fate_of_first-fate.ensures (packet_of c.args.packet.now) refl (omega (arith, ints, media)) ∙ ap (λ t. first_fate c.self.inside.spec t (packet_of c.args.packet.now)) time_is in
     let taken : is_taken_fate (first_fate c.self.inside.spec c.self.inside.time (packet_of c.args.packet.now)) ≡ true = ap is_taken_fate (sym answer) ∙ sym c.is_taken.ensures ∙ c.if-not-is_taken.false in
     let can : can_anchor c.self.inside.spec c.self.inside.time (packet_of c.args.packet.now) ≡ true = sym (taken-can_anchor c.self.inside.spec c.self.inside.time (packet_of c.args.packet.now)) ∙ taken in
-    let there : to_z w64 (of_z w64 c.media_of_first-media.result) ≡ base_media_time c.self.inside.spec.clock (packet_of c.args.packet.now).ts c.self.inside.time = omega (arith, ints, media_is) in
+    let there : to_z w64 (of_z w64 c.media_of_first-media.result) ≡ first_media_time c.self.inside.spec.clock (packet_of c.args.packet.now).ts c.self.inside.time = omega (arith, ints, media_is) in
     let anchor : c.first-anchor.result ≡ anchor_from c.self.inside.spec c.self.inside.time (packet_of c.args.packet.now) = c.first-anchor.ensures.value ∙ ap (λ z. first_anchor (packet_of c.args.packet.now) z) there in
     let number : c.first-anchor.result.number ≡ 65536 + (packet_of c.args.packet.now).seq = ap (λ (a : Anchor). a.number) anchor in
     let put = first_put (packet_of c.args.packet.now) c.first-anchor.result.number (g.V.Window.held c.begin_at.new.self) (g.V.Window.held c.put_ref.new.self) c.put_ref.result number c.begin_at.ensures.held c.put_ref.ensures.answer c.put_ref.ensures.held in
