@@ -1,0 +1,7 @@
+-- How the counts of datagrams balance.
+use Rattle.std.specs.Prelude.{◌≡◌, ◌+◌, ℕ}
+
+-- each datagram was sent to an address, or failed there
+pub record Balances (blocks sent_a fault_a sent_b fault_b : ℕ) : Type 0 where
+  pub a : sent_a + fault_a ≡ blocks
+  pub b : sent_b + fault_b ≡ blocks

@@ -1,0 +1,13 @@
+pub mod Answers
+pub mod Runs
+pub mod Balances
+pub use Rattle.stream_rules.specs.StreamSpecFacts
+pub use Rattle.stream_rules.specs.History
+pub use Rattle.stream_rules.specs.Marks
+pub use Rattle.stream_rules.specs.Counts
+pub use Rattle.studio_spec.specs.Studio
+pub use Rattle.studio_mix.specs.Feed
+pub use Rattle.studio_session.specs.Session
+pub use Rattle.studio_session.specs.Blocks
+pub use Rattle.studio_rings.specs.Streams
+pub use Rattle.studio_rings.specs.Opened

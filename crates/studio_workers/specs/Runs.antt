@@ -1,0 +1,65 @@
+-- What a run's report says of the streams' histories and of the datagrams.
+use Rattle.std.specs.Prelude.{◌≡◌, ℕ, suc, ◌+◌, ◌<◌, ◌≤◌, ◌^◌, true, List, [], ◌∷◌, ◌++◌, length, sum_by, ℤ, Option, Some, IfSome}
+use Rattle.stream_rules.specs.StreamSpecFacts.{Stream}
+use Rattle.stream_rules.specs.History.{is_closed, is_well_timed}
+use Rattle.stream_rules.specs.Marks.{marks_of}
+use Rattle.stream_rules.specs.Counts.{counts_of, tally_of}
+use Rattle.stream_rules.specs.declared.event.Event.{Event}
+use Rattle.studio_spec.specs.Studio.{Studio}
+use Rattle.studio_mix.specs.Feed.{Feed}
+use Rattle.studio_session.specs.Blocks.{AreBlocks}
+use Rattle.studio_session.specs.declared.counts.PathCounts.{PathCounts}
+use Rattle.studio_session.specs.declared.report.StreamCounts.{StreamCounts}
+use Rattle.studio_rings.specs.Streams.{packets_by}
+use Rattle.studio_workers.specs.Answers.{Answer, IsPartOf, reaches_end, told_packets}
+use Rattle.studio_workers.specs.declared.report.WorkReport.{WorkReport}
+
+-- the arrivals of a path are packets of its feed's datagrams, in order, each at most once; and all of them where no offer was given up
+pub record HasPathHistory (stream : Stream) (path : ℕ) (told : List Answer) (counts : PathCounts) (events : List Event) : Type 0 where
+  pub some : reaches_end 0 told ≡ true → IsPartOf (packets_by path events) (told_packets stream 0 told)
+  pub all : reaches_end 0 told ≡ true → counts.full ≤ 1000 → counts.offered < 2 ^ 62 → packets_by path events ≡ told_packets stream 0 told
+
+-- so it is of each path, from this one on
+abbrev pub HavePathHistories : Stream → ℕ → List (List Answer) → List PathCounts → List Event → Type 0
+HavePathHistories stream path [] [] events = Unit {0}
+HavePathHistories stream path (told ∷ more) (counts ∷ rest) events = HasPathHistory stream path told counts events × HavePathHistories stream (suc path) more rest events
+HavePathHistories stream path [] (counts ∷ rest) events = ⊥
+HavePathHistories stream path (told ∷ more) [] events = ⊥
+
+-- how many packets its paths sent
+abbrev pub sent_total : List PathCounts → ℕ
+sent_total paths = sum_by (λ (counts : PathCounts). counts.sent) paths
+
+-- a stream had this history, and came to its end
+pub record HasStreamHistory (open_at : ℤ) (stream : Stream) (told : List (List Answer)) (counts : StreamCounts) (events : List Event) : Type 0 where
+  pub well_timed : is_well_timed open_at events ≡ true
+  pub closed : is_closed events ≡ true
+  pub merge : tally_of counts.merge ≡ counts_of stream open_at events (marks_of stream open_at events)
+  pub arrived : sent_total counts.paths.items ≤ 2 ^ 62 → counts.merge.arrived ≡ sent_total counts.paths.items
+  pub paths : HavePathHistories stream 0 told counts.paths.items events
+
+-- so it is of each stream; the feeds stand stream by stream, as many as the stream has paths
+abbrev pub HaveStreamHistories : ℤ → List Stream → List (List Answer) → List StreamCounts → List (List Event) → Type 0
+HaveStreamHistories open_at [] told [] [] = told ≡ []
+HaveStreamHistories open_at (stream ∷ streams) told (counts ∷ rest) (events ∷ histories) =
+    (own : List (List Answer)) × (others : List (List Answer)) × (told ≡ own ++ others) × (length own ≡ stream.paths)
+    × HasStreamHistory open_at stream own counts events × HaveStreamHistories open_at streams others rest histories
+HaveStreamHistories open_at [] told (counts ∷ rest) histories = ⊥
+HaveStreamHistories open_at [] told [] (events ∷ histories) = ⊥
+HaveStreamHistories open_at (stream ∷ streams) told [] histories = ⊥
+HaveStreamHistories open_at (stream ∷ streams) told (counts ∷ rest) [] = ⊥
+
+-- each stream, with all marks of its history
+abbrev pub feeds_of : ℤ → List Stream → List (List Event) → List Feed
+feeds_of open_at [] histories = []
+feeds_of open_at (stream ∷ streams) [] = []
+feeds_of open_at (stream ∷ streams) (events ∷ histories) = record { stream = stream; marks = marks_of stream open_at events } ∷ feeds_of open_at streams histories
+
+-- what a settled run came to: each stream has a whole history, and the sink was handed the datagrams of exactly the ready blocks of their marks, in order
+pub record IsSettledRun (studio : Studio) (told : List (List Answer)) (report : WorkReport) (before after : Option (List (List ℕ))) : Type 0 where
+  pub histories : List (List Event)
+  pub streams : HaveStreamHistories studio.open_at studio.streams told report.streams.items histories
+  pub datagrams : List (List ℕ)
+  pub blocks : AreBlocks studio (feeds_of studio.open_at studio.streams histories) datagrams
+  pub count : report.blocks ≡ length datagrams
+  pub handed : IfSome before (λ sent. after ≡ Some (sent ++ datagrams))

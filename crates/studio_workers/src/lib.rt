@@ -1,0 +1,12 @@
+//! The workers of a studio: a thread for each path, each stream and the mixer.
+#![tactic(auto)]
+
+mod clock;
+mod feed;
+mod report;
+mod sink;
+
+pub use clock::Clock;
+pub use feed::{Feed, FeedAnswer};
+pub use report::{WorkFault, WorkReport};
+pub use sink::{SendAnswer, Sink};

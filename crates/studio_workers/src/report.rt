@@ -1,0 +1,31 @@
+//! What came of a run.
+
+use studio_session::StreamCounts;
+use thiserror::Error;
+
+/// What came of a run: the counts of each stream, the faults of each feed, and the datagrams by what
+/// the sink answered.
+#[derive(Debug, Drop)]
+pub struct WorkReport {
+    pub streams: Vec<StreamCounts>,
+    /// How often each feed answered a fault, stream by stream and path by path. A number stays at
+    /// the greatest of its type.
+    pub feed_faults: Vec<u64>,
+    /// How many datagrams were sent.
+    pub blocks: u64,
+    pub sent_a: u64,
+    pub sent_b: u64,
+    pub fault_a: u64,
+    pub fault_b: u64,
+    /// Every ring was finished and drained.
+    pub settled: bool,
+}
+
+/// Why a run didn't begin.
+#[derive(Clone, Copy, Debug, PartialEq, Eq, Error)]
+pub enum WorkFault {
+    #[error("out of memory")]
+    Memory,
+    #[error("a worker couldn't be started")]
+    Start,
+}
