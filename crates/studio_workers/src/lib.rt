@@ -3,6 +3,7 @@
 
 mod clock;
 mod feed;
+mod pause;
 mod report;
 mod sink;
 

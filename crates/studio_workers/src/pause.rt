@@ -1,0 +1,39 @@
+//! How a worker waits that has nothing to do.
+
+use std::sync::Wait;
+use std::thread::Parker;
+use std::time::Duration;
+
+/// The first pause, in microseconds.
+const SHORTEST: u64 = 200;
+
+/// Pauses that grow while nothing comes: each is twice the one before, up to a longest.
+#[derive(Drop)]
+pub(crate) struct Pause {
+    parker: Parker,
+    next: u64,
+    longest: u64,
+}
+
+impl Pause {
+    /// Pauses of at most so many microseconds.
+    pub(crate) fn up_to(longest: u64) -> Pause {
+        Pause {
+            parker: Parker::new(),
+            next: SHORTEST.min(longest),
+            longest,
+        }
+    }
+
+    /// Waits. It may end early.
+    pub(crate) fn rest<R: Wait>(&mut self, rt: &R) {
+        let pause = Duration::from_micros(self.next);
+        self.parker.park_timeout(rt, pause);
+        self.next = self.next.saturating_mul(2).min(self.longest);
+    }
+
+    /// Something came: the next pause is the first again.
+    pub(crate) fn restart(&mut self) {
+        self.next = SHORTEST.min(self.longest);
+    }
+}
