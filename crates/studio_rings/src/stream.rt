@@ -19,7 +19,7 @@ use crate::path::PathDone;
 use crate::stream_end::StreamEnd;
 use crate::take::take_all;
 use crate::turn::{TurnNote, push_marks};
-use path_merge::{ClockFault, Counts, Mark, clock_fault};
+use path_merge::{ClockFault, Counts, Mark, StreamSpec, clock_fault};
 use rtrb::{Finished, Producer};
 
 /// Which paths haven't finished, or have sent packets that were not taken.
@@ -72,6 +72,13 @@ impl StreamEnd {
         ensures { result ≡ self.now.merge.time }
     {
         self.merge.time()
+    }
+
+    /// What is fixed of the stream.
+    pub fn spec(&self) -> &StreamSpec
+        ensures { result.now ≡ self.now.spec }
+    {
+        &self.spec
     }
 
     /// Takes the proof that a path has finished.
