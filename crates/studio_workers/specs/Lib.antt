@@ -1,4 +1,5 @@
 pub mod Answers
+pub mod Paths
 pub mod Runs
 pub mod Balances
 pub use Rattle.stream_rules.specs.StreamSpecFacts

@@ -3,6 +3,8 @@
 
 mod clock;
 mod feed;
+mod path_job;
+mod path_worker;
 mod pause;
 mod report;
 mod sink;

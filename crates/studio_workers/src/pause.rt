@@ -5,7 +5,7 @@ use std::thread::Parker;
 use std::time::Duration;
 
 /// The first pause, in microseconds.
-const SHORTEST: u64 = 200;
+const FIRST: u64 = 1_000;
 
 /// Pauses that grow while nothing comes: each is twice the one before, up to a longest.
 #[derive(Drop)]
@@ -20,7 +20,7 @@ impl Pause {
     pub(crate) fn up_to(longest: u64) -> Pause {
         Pause {
             parker: Parker::new(),
-            next: SHORTEST.min(longest),
+            next: FIRST.min(longest),
             longest,
         }
     }
@@ -34,6 +34,6 @@ impl Pause {
 
     /// Something came: the next pause is the first again.
     pub(crate) fn restart(&mut self) {
-        self.next = SHORTEST.min(self.longest);
+        self.next = FIRST.min(self.longest);
     }
 }
