@@ -1,1 +1,3 @@
 pub mod FeedLemmas
+pub mod StreamTurnLemmas
+pub mod ZipLemmas

@@ -1,5 +1,6 @@
 pub mod Answers
 pub mod Paths
+pub mod Turns
 pub mod Runs
 pub mod Balances
 pub use Rattle.stream_rules.specs.StreamSpecFacts

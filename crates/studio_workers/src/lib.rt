@@ -4,10 +4,13 @@
 mod clock;
 mod feed;
 mod path_job;
+mod path_nest;
 mod path_worker;
 mod pause;
 mod report;
 mod sink;
+mod stream_job;
+mod timed_stream;
 
 pub use clock::Clock;
 pub use feed::{Feed, FeedAnswer};

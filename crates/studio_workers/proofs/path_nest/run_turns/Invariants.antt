@@ -1,0 +1,5 @@
+use Rattle.studio_workers.specs.Turns.{GoesOn}
+use Rattle.studio_workers.proofs.path_nest.run_turns.Given as goal
+
+abbrev pub invariant-loop : goal.invariant-loop
+invariant-loop g l = GoesOn l.initial.stream.end l.stream.end
