@@ -1,3 +1,4 @@
 pub mod FeedLemmas
 pub mod StreamTurnLemmas
 pub mod ZipLemmas
+pub mod MixingLemmas

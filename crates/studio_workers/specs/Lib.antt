@@ -3,6 +3,7 @@ pub mod Paths
 pub mod Turns
 pub mod Runs
 pub mod Balances
+pub mod Mixing
 pub use Rattle.stream_rules.specs.StreamSpecFacts
 pub use Rattle.stream_rules.specs.History
 pub use Rattle.stream_rules.specs.Marks

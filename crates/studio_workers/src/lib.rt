@@ -3,11 +3,13 @@
 
 mod clock;
 mod feed;
+mod mix_worker;
 mod path_job;
 mod path_nest;
 mod path_worker;
 mod pause;
 mod report;
+mod send_counts;
 mod sink;
 mod stream_job;
 mod timed_stream;

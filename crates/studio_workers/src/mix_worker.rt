@@ -1,0 +1,72 @@
+//! The worker of the mixer.
+ghost use Rattle.std.specs.Prelude.{◌≡◌, ◌+◌, ◌<◌, ◌≤◌, true};
+ghost use Rattle.studio_workers.specs.Mixing.{Mixes};
+
+use crate::pause::Pause;
+use crate::send_counts::SendCounts;
+use crate::sink::Sink;
+use std::sync::Wait;
+use std::sync::atomic::{AtomicBool, Ordering};
+use studio_rings::MixEnd;
+
+/// The longest pause after a turn that found nothing, in microseconds.
+const MIX_PAUSE: u64 = 4_000;
+
+/// What is left of the mixer's worker.
+#[derive(Drop)]
+pub(crate) struct MixResult<K> {
+    pub(crate) end: MixEnd,
+    pub(crate) sink: K,
+    pub(crate) counts: SendCounts,
+}
+
+/// One turn of the mixer. The datagram that it gives goes to the sink, once. It answers whether
+/// nothing was taken and nothing given.
+fn mix_once<K: Sink>(end: &mut MixEnd, sink: &mut K, counts: &mut SendCounts) -> bool
+    requires { counts.old.blocks < u64.MAX }
+    ensures few { counts.new.blocks ≤ counts.old.blocks + 1 }
+    ensures mixes { Mixes K.handed end.old sink.old counts.old.blocks result end.new sink.new counts.new.blocks }
+{
+    let mut out = [0u8; 1452];
+    let len = end.datagram_len();
+    let note = end.turn(&mut out);
+    if note.len.is_none() {
+        return note.taken == 0;
+    }
+    let answer = sink.send(&out[..len]);
+    counts.add(answer);
+    false
+}
+
+/// Mixes until each stream has ended, or the workers are to stop, and a turn after that found nothing.
+pub(crate) fn run_mixer<R: Wait, K: Sink>(
+    rt: &R,
+    end: MixEnd,
+    sink: K,
+    ended: &[AtomicBool],
+    stop: &AtomicBool,
+) -> MixResult<K>
+    ensures { Mixes K.handed end sink 0 true result.end result.sink result.counts.blocks }
+{
+    let mut end = end;
+    let mut sink = sink;
+    let mut counts = SendCounts::new();
+    let mut pause = Pause::up_to(MIX_PAUSE);
+    for _ in 0..u64::MAX {
+        let last = stop.load(Ordering::SeqCst)
+            || ended.iter().all(|flag| flag.load(Ordering::SeqCst));
+        if !mix_once(&mut end, &mut sink, &mut counts) {
+            pause.restart();
+            continue;
+        }
+        if last {
+            return MixResult { end, sink, counts };
+        }
+        pause.rest(rt);
+    }
+    // No run makes so many turns.
+    for _ in rt.forever() {
+        pause.rest(rt);
+    }
+    unreachable!()
+}

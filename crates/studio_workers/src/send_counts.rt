@@ -1,0 +1,50 @@
+//! Datagrams by what became of them at a sink's two addresses.
+ghost use Rattle.std.specs.Prelude.{◌≡◌, ◌+◌, ◌<◌};
+
+use crate::sink::SendAnswer;
+
+/// The datagrams that a sink was handed. At each address they balance in every value.
+#[derive(Clone, Copy, Debug)]
+pub(crate) struct SendCounts {
+    /// All of them.
+    pub(crate) blocks: u64,
+    pub(crate) sent_a: u64,
+    pub(crate) sent_b: u64,
+    pub(crate) fault_a: u64,
+    pub(crate) fault_b: u64,
+    ghost balanced_a: { sent_a + fault_a ≡ blocks },
+    ghost balanced_b: { sent_b + fault_b ≡ blocks },
+}
+
+impl SendCounts {
+    /// None was handed yet.
+    pub(crate) fn new() -> SendCounts
+        ensures { result.blocks ≡ 0 }
+    {
+        SendCounts {
+            blocks: 0,
+            sent_a: 0,
+            sent_b: 0,
+            fault_a: 0,
+            fault_b: 0,
+        }
+    }
+
+    /// Counts one more.
+    pub(crate) fn add(&mut self, answer: SendAnswer)
+        requires { self.old.blocks < u64.MAX }
+        ensures { self.new.blocks ≡ self.old.blocks + 1 }
+    {
+        if answer.a {
+            self.sent_a += 1;
+        } else {
+            self.fault_a += 1;
+        }
+        if answer.b {
+            self.sent_b += 1;
+        } else {
+            self.fault_b += 1;
+        }
+        self.blocks += 1;
+    }
+}
