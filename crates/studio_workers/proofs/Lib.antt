@@ -2,3 +2,4 @@ pub mod FeedLemmas
 pub mod StreamTurnLemmas
 pub mod ZipLemmas
 pub mod MixingLemmas
+pub mod SettlingLemmas

@@ -4,6 +4,7 @@ pub mod Turns
 pub mod Runs
 pub mod Balances
 pub mod Mixing
+pub mod Settling
 pub use Rattle.stream_rules.specs.StreamSpecFacts
 pub use Rattle.stream_rules.specs.History
 pub use Rattle.stream_rules.specs.Marks

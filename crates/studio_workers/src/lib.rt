@@ -10,6 +10,7 @@ mod path_worker;
 mod pause;
 mod report;
 mod send_counts;
+mod settle;
 mod sink;
 mod stream_job;
 mod timed_stream;

@@ -1,0 +1,14 @@
+use Rattle.std.proofs.Common.{sym, subst}
+use Rattle.studio_session.specs.Blocks.{AreBlocks}
+use Rattle.studio_workers.proofs.SettlingLemmas.{all-gave, all-tell, feeds-settled}
+use Rattle.studio_workers.proofs.settle.settle.Goals as goal
+
+pub returns-clause-tokens : goal.returns-clause-tokens
+returns-clause-tokens c = λ e. all-gave _ _ _ _ c.requires c.hand_in_all.ensures.sides c.settled.ensures.rings (c.settled.ensures.value.0 e)
+
+pub returns-clause-blocks : goal.returns-clause-blocks
+returns-clause-blocks c = λ e studio feeds datagrams told given.
+    let sides = c.hand_in_all.ensures.sides in
+    let tell = all-tell _ feeds _ _ _ c.requires sides c.settled.ensures.rings (c.settled.ensures.value.0 e) told.1 in
+    c.settled.ensures.all e studio feeds datagrams (told.0, tell)
+    (subst (λ fs. AreBlocks studio fs datagrams) (sym (feeds-settled studio.streams _ _ _ sides)) given)

@@ -1,0 +1,47 @@
+-- The tokens of the streams at the mixer's end, and what follows once it is settled.
+use Rattle.std.specs.Prelude.{◌≡◌, ℕ, true, List, [], ◌∷◌, map, Option, Some, None, IfSome, IsSome}
+use Rattle.rtrb.specs.Ring.{all_sent, IsFinishedOf}
+use Rattle.stream_rules.specs.StreamSpecFacts.{format_of}
+use Rattle.stream_rules.specs.MarkFacts.{MarkView}
+use Rattle.stream_rules.specs.MarkList.{is_mark_list}
+use Rattle.studio_spec.specs.Studio.{Studio}
+use Rattle.studio_mix.specs.Feed.{Feed}
+use Rattle.studio_rings.specs.Tokens.{HasToken}
+use Rattle.studio_rings.specs.declared.side.Side.{Side}
+use Rattle.studio_rings.specs.declared.stream.StreamDone.{StreamDone}
+
+-- each token is of the ring at its place, and no ring has one yet
+abbrev pub AreTokensOf : List (Option StreamDone) → List (Side MarkView) → Type 0
+AreTokensOf [] [] = Unit {0}
+AreTokensOf (one ∷ dones) (side ∷ sides) = (IfSome one (λ d. IsFinishedOf d.token side.ring) × (side.done ≡ None)) × AreTokensOf dones sides
+AreTokensOf [] (side ∷ sides) = ⊥
+AreTokensOf (one ∷ dones) [] = ⊥
+
+-- a ring's end has the token, if there is one
+abbrev pub HasTokenOf : Option StreamDone → Side MarkView → Side MarkView → Type 0
+HasTokenOf None old new = new ≡ old
+HasTokenOf (Some done) old new = HasToken old (all_sent done.token) new
+
+-- the first ends have the tokens, and the others are as they were
+abbrev pub HaveTokens : List (Option StreamDone) → List (Side MarkView) → List (Side MarkView) → Type 0
+HaveTokens [] olds news = news ≡ olds
+HaveTokens (one ∷ dones) (old ∷ olds) (new ∷ news) = HasTokenOf one old new × HaveTokens dones olds news
+HaveTokens (one ∷ dones) [] news = ⊥
+HaveTokens (one ∷ dones) (old ∷ olds) [] = ⊥
+
+-- each stream gave a token
+abbrev pub AllGiveTokens : List (Option StreamDone) → Type 0
+AllGiveTokens [] = Unit {0}
+AllGiveTokens (one ∷ dones) = IsSome one × AllGiveTokens dones
+
+-- each token tells the marks of its feed, and they are a mark list
+abbrev pub AllTellMarks : List (Option StreamDone) → List Feed → Type 0
+AllTellMarks [] [] = Unit {0}
+AllTellMarks (one ∷ dones) (feed ∷ feeds) =
+    (IfSome one (λ d. all_sent d.token ≡ feed.marks) × (is_mark_list (format_of feed.stream) feed.marks ≡ true)) × AllTellMarks dones feeds
+AllTellMarks [] (feed ∷ feeds) = ⊥
+AllTellMarks (one ∷ dones) [] = ⊥
+
+-- so it is of every stream of the studio
+abbrev pub AreTold : Studio → List (Option StreamDone) → List Feed → Type 0
+AreTold studio dones feeds = (map (λ (feed : Feed). feed.stream) feeds ≡ studio.streams) × AllTellMarks dones feeds
