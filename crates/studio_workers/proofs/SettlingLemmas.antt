@@ -1,6 +1,7 @@
 -- Tokens handed in one by one, and what a settled end tells.
 use Rattle.std.proofs.Common.{◌≡◌, ℕ, zero, suc, ◌+◌, ◌<◌, true, List, [], ◌∷◌, ◌++◌, length, Option, Some, None, IfSome, IsSome, MatchOption, slice_get, refl, sym, ap, subst, ◌∙◌, arith}
-use Rattle.rtrb.specs.Ring.{all_sent, received, IsFinishedOf}
+use Rattle.rtrb.specs.Ends.{SameRing}
+use Rattle.rtrb.specs.Ring.{all_sent, received, IsFinishedOf, IsPair, SameConsumer}
 use Rattle.rtrb.specs.declared.consumer.Consumer.{Consumer}
 use Rattle.rtrb.specs.declared.finished.Finished.{Finished}
 use Rattle.stream_rules.specs.StreamSpecFacts.{Stream, format_of}
@@ -14,8 +15,12 @@ use Rattle.studio_rings.specs.Looks.{AllDrained, AllLookAt, LooksAt}
 use Rattle.studio_rings.specs.Tokens.{HandsIn, HasToken}
 use Rattle.studio_rings.specs.AcceptedFeeds.{accepted_feeds}
 use Rattle.studio_rings.specs.Given.{AllTell}
+use Rattle.studio_rings.specs.Opened.{AllFreshRings}
 use Rattle.studio_rings.specs.declared.side.Side.{Side}
+use Rattle.studio_rings.specs.declared.monitor_end.MonitorEnd.{MonitorEnd}
+use Rattle.studio_rings.specs.declared.stream_end.StreamEnd.{StreamEnd}
 use Rattle.studio_rings.specs.declared.stream.StreamDone.{StreamDone}
+use Rattle.studio_workers.specs.Mixing.{AreSameRings}
 use Rattle.studio_workers.specs.Settling.{AllGiveTokens, AllTellMarks, AreTokensOf, HasTokenOf, HaveTokens}
 
 -- one token is handed in at a place, if there is one
@@ -133,3 +138,31 @@ all-tell (d ∷ ds) (f ∷ fs) (o ∷ os) [] news t h looked drained told = absu
 all-tell (d ∷ ds) (f ∷ fs) (o ∷ os) (m ∷ ms) [] t h looked drained told = absurd looked
 all-tell (d ∷ ds) (f ∷ fs) (o ∷ os) (m ∷ ms) (n ∷ ns) t h looked drained told =
     ((one_tells d o m n f.marks t.0.1 h.0 looked.0 drained.0 told.0.0, told.0.1), all-tell ds fs os ms ns t.1 h.1 looked.1 drained.1 told.1)
+
+-- each token is that of its stream's ring of marks
+abbrev pub AreTokensFor : List StreamEnd → List (Option StreamDone) → Type 0
+AreTokensFor [] [] = Unit {0}
+AreTokensFor (s ∷ ss) (one ∷ dones) = IfSome one (λ d. SameRing s.marks.end d.token.end) × AreTokensFor ss dones
+AreTokensFor [] (one ∷ dones) = ⊥
+AreTokensFor (s ∷ ss) [] = ⊥
+
+one_of : (s : StreamEnd) (one : Option StreamDone) (o n : Side MarkView) → IsPair s.marks o.ring → SameConsumer o.ring n.ring → IfSome one (λ d. SameRing s.marks.end d.token.end) → IfSome one (λ d. IsFinishedOf d.token n.ring)
+one_of s None o n pair same token = tt
+one_of s (Some d) o n pair same token =
+    let r = same.0 in
+    (r.0 ∙ (pair.0 ∙ sym token.0), r.1 ∙ (pair.1 ∙ sym token.1), r.2 ∙ (pair.2 ∙ sym token.2), r.3 ∙ (pair.3 ∙ sym token.3))
+
+-- where the ends were opened together, each token is that of the mixer's ring at its place
+pub tokens-opened : (places : ℕ) (ss : List StreamEnd) (monitors : List MonitorEnd) (olds news : List (Side MarkView)) (dones : List (Option StreamDone))
+    → AllFreshRings places ss monitors olds → AreSameRings olds news → AreTokensFor ss dones → AreTokensOf dones news
+tokens-opened places [] [] [] [] [] fresh same tokens = tt
+tokens-opened places [] [] [] [] (d ∷ ds) fresh same tokens = absurd tokens
+tokens-opened places [] [] [] (n ∷ ns) dones fresh same tokens = absurd same
+tokens-opened places [] [] (o ∷ os) news dones fresh same tokens = absurd fresh
+tokens-opened places [] (m ∷ ms) olds news dones fresh same tokens = absurd fresh
+tokens-opened places (s ∷ ss) [] olds news dones fresh same tokens = absurd fresh
+tokens-opened places (s ∷ ss) (m ∷ ms) [] news dones fresh same tokens = absurd fresh
+tokens-opened places (s ∷ ss) (m ∷ ms) (o ∷ os) [] dones fresh same tokens = absurd same
+tokens-opened places (s ∷ ss) (m ∷ ms) (o ∷ os) (n ∷ ns) [] fresh same tokens = absurd tokens
+tokens-opened places (s ∷ ss) (m ∷ ms) (o ∷ os) (n ∷ ns) (d ∷ ds) fresh same tokens =
+    ((one_of s d o n fresh.0.marks same.0.0 tokens.0, same.0.1 ∙ fresh.0.not_done), tokens-opened places ss ms os ns ds fresh.1 same.1 tokens.1)
