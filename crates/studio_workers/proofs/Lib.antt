@@ -3,3 +3,5 @@ pub mod StreamTurnLemmas
 pub mod ZipLemmas
 pub mod MixingLemmas
 pub mod SettlingLemmas
+pub mod HandLemmas
+pub mod EndLemmas

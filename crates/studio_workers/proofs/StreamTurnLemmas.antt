@@ -21,7 +21,7 @@ use Rattle.studio_rings.specs.declared.stream_end.StreamEnd.{StreamEnd}
 use Rattle.studio_rings.specs.declared.turn.TurnNote.{TurnNote}
 use Rattle.studio_rings.proofs.CloseLemmas.{delivered-looked}
 use Rattle.studio_rings.proofs.TurnLemmas.{producers}
-use Rattle.studio_workers.specs.Turns.{AreSameRings, Closes, GoesOn, HaveArrived, HaveTold, KeepsTokens}
+use Rattle.studio_workers.specs.Turns.{AreSameRings, Closes, ClosesLater, GoesOn, HaveArrived, HaveTold, KeepsTokens}
 
 -- rings that are the same as ones that are the same
 pub consumers : {T A P : Type 0} (a b c : Consumer T A P) → SameConsumer a b → SameConsumer b c → SameConsumer a c
@@ -172,3 +172,17 @@ same_marks s t same = rw same (((refl, refl, refl, refl), refl))
 
 pub is_closed_by : (m w : MergeState) → w ≡ record m { closed = true } → w.closed ≡ true
 is_closed_by m w same = ap (λ (x : MergeState). x.closed) same
+
+-- an end that went on and was closed
+pub closes-later : (s t u : StreamEnd) → GoesOn s t → KeepsTokens s.sides.items t.sides.items → t.merge.closed ≡ false → Closes t u → ClosesLater s u
+closes-later s t u goes tokens shut closes = record {
+  marks = producers s.marks t.marks u.marks goes.marks closes.marks;
+  history = λ stream open_at events lists told h.
+      let now = goes.stands stream open_at events h in
+      record {
+        before = events ++ goes.more stream;
+        open_before = sym now.merge.closed ∙ shut;
+        stands = closes.stands stream open_at (events ++ goes.more stream) now;
+        arrived = closes.arrived stream open_at (events ++ goes.more stream) lists (tokens lists told) now;
+      };
+}

@@ -2,6 +2,7 @@ pub mod Answers
 pub mod Paths
 pub mod Turns
 pub mod Runs
+pub mod Streams
 pub mod Balances
 pub mod Mixing
 pub mod Settling

@@ -53,10 +53,21 @@ pub record Closes (s t : StreamEnd) : Type 0 where
   pub arrived : (stream : Stream) (open_at : ℤ) (events : List Event) (lists : List (List Packet)) → HaveTold s.sides.items lists
       → StreamHasHistory stream open_at s events → HaveArrived stream 0 lists events
 
--- a history that was closed: its events before the close, of which these packets arrived, and all its marks were sent
+-- an end has a history that was closed, and before the close these packets arrived
 pub record HasClosedHistory (stream : Stream) (open_at : ℤ) (t : StreamEnd) (lists : List (List Packet)) : Type 0 where
   pub before : List Event
   pub open_before : is_closed before ≡ false
   pub stands : StreamHasHistory stream open_at t (before ++ Close ∷ [])
   pub arrived : HaveArrived stream 0 lists before
-  pub marks : sent t.marks ≡ marks_of stream open_at (before ++ Close ∷ [])
+
+-- an end went on, and was closed once all that the tokens tell had arrived
+pub record ClosesLater (s t : StreamEnd) : Type 0 where
+  pub marks : SameProducer s.marks t.marks
+  pub history : (stream : Stream) (open_at : ℤ) (events : List Event) (lists : List (List Packet)) → HaveTold s.sides.items lists
+      → StreamHasHistory stream open_at s events → HasClosedHistory stream open_at t lists
+
+-- an end handed on all marks that its history has
+pub record Drains (s t : StreamEnd) : Type 0 where
+  pub marks : SameProducer s.marks t.marks
+  pub stands : (stream : Stream) (open_at : ℤ) (events : List Event) → StreamHasHistory stream open_at s events → StreamHasHistory stream open_at t events
+  pub all : (stream : Stream) (open_at : ℤ) (events : List Event) → StreamHasHistory stream open_at t events → sent t.marks ≡ marks_of stream open_at events

@@ -13,6 +13,7 @@ mod send_counts;
 mod settle;
 mod sink;
 mod stream_job;
+mod stream_worker;
 mod timed_stream;
 
 pub use clock::Clock;

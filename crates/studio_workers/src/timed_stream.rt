@@ -5,9 +5,9 @@ ghost use Rattle.studio_workers.specs.Turns.{Closes, GoesOn, KeepsTokens};
 
 use crate::clock::Clock;
 use crate::pause::Pause;
-use path_merge::StreamSpec;
+use path_merge::{Counts, StreamSpec};
 use std::sync::Wait;
-use studio_rings::{StopReason, StreamEnd, TurnNote};
+use studio_rings::{StopReason, StreamDone, StreamEnd, TurnNote};
 
 /// The longest pause after a turn, in microseconds.
 const TURN_PAUSE: u64 = 5_000;
@@ -108,5 +108,16 @@ impl<C: Clock> TimedStream<C> {
                 pause,
             }),
         }
+    }
+
+    /// Gives up the end as it is.
+    pub(crate) fn finish(self) -> (Option<StreamDone>, Counts) {
+        let TimedStream {
+            end,
+            clock: _,
+            now: _,
+            pause: _,
+        } = self;
+        end.finish()
     }
 }

@@ -7,7 +7,7 @@ returns-in-Ok-clause-closed g c =
     let looked = looked-either s c.close.new.self c.in-Ok.ensures.rings in
     record {
       marks = same_marks s c.close.new.self c.in-Ok.ensures.others.0;
-      closed = is_closed_by _ _ c.in-Ok.ensures.closed;
+      closed = is_closed_by s.merge c.close.new.self.merge c.in-Ok.ensures.closed;
       stands = c.in-Ok.ensures.stands c.args.self.open_yet;
       arrived = arrived-drained s c.close.new.self looked (c.in-Ok.ensures.ok c.args.self.open_yet);
     }

@@ -1,0 +1,30 @@
+use Rattle.std.proofs.Common.{rules, ◌≡◌, List, [], ◌++◌, sym, ap, subst, ◌∙◌, arith}
+use Rattle.std.proofs.lemmas.Result.{IfOk-weaker}
+use Rattle.std.specs.List.{AllZip}
+use Rattle.studio_rings.specs.declared.stream_end.StreamEnd.{StreamEnd}
+use Rattle.studio_workers.specs.Paths.{IsPathResult}
+use Rattle.studio_workers.specs.Turns.{GoesOn}
+use Rattle.studio_workers.specs.Streams.{AllTokensFit, EndsStream}
+use Rattle.studio_workers.specs.declared.path_job.PathResult.{PathResult}
+use Rattle.studio_workers.specs.declared.stream_job.StreamResult.{StreamResult}
+use Rattle.studio_workers.proofs.HandLemmas.{no_items, own_results, tokens-fit}
+use Rattle.studio_workers.proofs.EndLemmas.{is-stream-result}
+use Rattle.studio_workers.proofs.stream_worker.run_parts.Goals as goal
+
+pub end_stream-requires-clause-tokens : goal.end_stream-requires-clause-tokens
+end_stream-requires-clause-tokens g c =
+    let job = c.args.job in
+    let r = c.in_ok-results.ensures.results in
+    let none : job.results.items ≡ [] = no_items job.results.items (let e = c.requires.no_results in let k = job.results.ok.0 in omega (arith, e, k)) in
+    let zip : AllZip (IsPathResult g.F.Feed.told) job.paths.items c.in_ok-results.results.items = own_results _ job.paths.items job.results.items r.0 c.in_ok-results.results.items none r.1 r.2 in
+    let goes : GoesOn job.end c.in_ok-results.stream.end = subst (λ (e : StreamEnd). GoesOn e c.in_ok-results.stream.end) c.new-stream.ensures c.in_ok-results.ensures.stream in
+    tokens-fit g.F.Feed.told job.paths.items c.in_ok-results.results.items job.end.sides.items c.in_ok-results.stream.end.sides.items c.requires.pairs goes.rings zip
+
+pub returns : goal.returns
+returns g c =
+    let job = c.args.job in
+    let r = c.in_ok-results.ensures.results in
+    let none : job.results.items ≡ [] = no_items job.results.items (let e = c.requires.no_results in let k = job.results.ok.0 in omega (arith, e, k)) in
+    let zip : AllZip (IsPathResult g.F.Feed.told) job.paths.items c.in_ok-results.results.items = own_results _ job.paths.items job.results.items r.0 c.in_ok-results.results.items none r.1 r.2 in
+    let goes : GoesOn job.end c.in_ok-results.stream.end = subst (λ (e : StreamEnd). GoesOn e c.in_ok-results.stream.end) c.new-stream.ensures c.in_ok-results.ensures.stream in
+    IfOk-weaker c.end_stream.result _ _ (λ (result : StreamResult) ends. is-stream-result g.F.Feed.told job c.in_ok-results.stream.end c.in_ok-results.results.items result zip goes ends) c.end_stream.ensures

@@ -1,0 +1,114 @@
+-- What a stream's worker starts from, and what it comes to.
+use Rattle.std.specs.Prelude.{◌≡◌, ℕ, ◌<◌, ◌≤◌, ◌^◌, Bool, true, false, List, [], ◌∷◌, ◌++◌, length, map, slice_get, ℤ, pos, ◌≤ℤ◌, vec_len, vec_capacity, Option, Some, None, IsSome, IfSome}
+use Rattle.rtrb.specs.Ends.{SameRing}
+use Rattle.rtrb.specs.Ring.{all_sent, IsFinishedOf, IsPair}
+use Rattle.stream_rules.specs.StreamSpecFacts.{Stream}
+use Rattle.stream_rules.specs.Counts.{tally_of}
+use Rattle.stream_rules.specs.Marks.{marks_of}
+use Rattle.stream_rules.specs.MarkFacts.{MarkView}
+use Rattle.stream_rules.specs.Counts.{counts_of}
+use Rattle.stream_rules.specs.declared.packet.Packet.{Packet}
+use Rattle.stream_rules.specs.declared.event.Event.{Event}
+use Rattle.stream_rules.specs.declared.event.Event.TheVariants.{Close}
+use Rattle.stream_rules.specs.History.{is_closed, is_well_timed}
+use Rattle.studio_rings.specs.Opened.{IsFreshStream}
+use Rattle.studio_rings.specs.Streams.{StreamHasHistory}
+use Rattle.studio_rings.specs.Tokens.{HandsIn}
+use Rattle.studio_rings.specs.declared.path.PathDone.{PathDone}
+use Rattle.studio_rings.specs.declared.path_end.PathEnd.{PathEnd}
+use Rattle.studio_rings.specs.declared.side.Side.{Side}
+use Rattle.studio_rings.specs.declared.stream_end.StreamEnd.{StreamEnd}
+use Rattle.studio_workers.specs.Answers.{Answer}
+use Rattle.studio_workers.specs.Runs.{HasStreamHistory}
+use Rattle.studio_workers.specs.Turns.{HaveArrived, HaveTold}
+use Rattle.studio_workers.specs.declared.path_job.PathJob.{PathJob}
+use Rattle.studio_workers.specs.declared.path_job.PathResult.{PathResult}
+use Rattle.studio_workers.specs.declared.stream_job.StreamJob.{StreamJob}
+use Rattle.studio_workers.specs.declared.stream_job.StreamResult.{StreamResult}
+
+abbrev pub all_told : Option PathDone → List Packet
+all_told None = []
+all_told (Some done) = all_sent done.token
+
+-- what a path's token tells
+abbrev pub told_by : PathResult → List Packet
+told_by result = all_told result.done
+
+-- each path gave its token
+abbrev pub HaveTokens : List PathResult → Type 0
+HaveTokens [] = Unit {0}
+HaveTokens (result ∷ results) = IsSome result.done × HaveTokens results
+
+-- each token is that of the ring at its place
+abbrev pub AllTokensFit : List PathResult → List (Side Packet) → Type 0
+AllTokensFit [] [] = Unit {0}
+AllTokensFit (result ∷ results) (side ∷ sides) = IfSome result.done (λ done. IsFinishedOf done.token side.ring) × AllTokensFit results sides
+AllTokensFit [] (side ∷ sides) = ⊥
+AllTokensFit (result ∷ results) [] = ⊥
+
+-- a token that there is, is that of the ring at this place
+abbrev pub FitsAt : Option PathDone → ℕ → List (Side Packet) → Type 0
+FitsAt None place sides = Unit {0}
+FitsAt (Some done) place sides = (place < length sides) × ((side : Side Packet) → slice_get sides place ≡ Some side → IsFinishedOf done.token side.ring)
+
+-- it is handed in where there is one
+abbrev pub HandsOne : Option PathDone → ℕ → List (Side Packet) → Bool → List (Side Packet) → Type 0
+HandsOne None place olds given news = (given ≡ false) × (news ≡ olds)
+HandsOne (Some done) place olds given news = (given ≡ true) × HandsIn olds place (all_sent done.token) news
+
+-- a stream had a history that was closed, of which these packets arrived and these marks were sent
+pub record HasEnded (stream : Stream) (open_at : ℤ) (lists : List (List Packet)) (result : StreamResult) (marks : List MarkView) : Type 0 where
+  pub before : List Event
+  pub open_before : is_closed before ≡ false
+  pub well_timed : is_well_timed open_at (before ++ Close ∷ []) ≡ true
+  pub arrived : HaveArrived stream 0 lists before
+  pub marks_are : marks ≡ marks_of stream open_at (before ++ Close ∷ [])
+  pub counts : tally_of result.counts.merge ≡ counts_of stream open_at (before ++ Close ∷ []) (marks_of stream open_at (before ++ Close ∷ []))
+
+-- a stream came to its end, where its paths came to these results; without a token nothing is said
+pub record EndsStream (s : StreamEnd) (results : List PathResult) (result : StreamResult) : Type 0 where
+  pub paths : result.counts.paths.items ≡ map (λ (r : PathResult). r.counts) results
+  pub token : IfSome result.done (λ done. SameRing s.marks.end done.token.end)
+  pub given : IfSome result.done (λ done. HaveTokens results)
+  pub ended : IfSome result.done (λ done. (stream : Stream) (open_at : ℤ) (events : List Event) → StreamHasHistory stream open_at s events
+      → HasEnded stream open_at (map told_by results) result (all_sent done.token))
+
+-- a stream's whole history, of which these are all marks
+pub record HasMarks (open_at : ℤ) (stream : Stream) (told : List (List Answer)) (result : StreamResult) (marks : List MarkView) : Type 0 where
+  pub events : List Event
+  pub history : HasStreamHistory open_at stream told result.counts events
+  pub marks_are : marks ≡ marks_of stream open_at events
+
+module _ {F : Type 0} where
+  -- each path's end is that of the ring at its place
+  abbrev pub ArePairs : List (PathJob F) → List (Side Packet) → Type 0
+  ArePairs [] [] = Unit {0}
+  ArePairs (path ∷ paths) (side ∷ sides) = IsPair path.end.ring side.ring × ArePairs paths sides
+  ArePairs [] (side ∷ sides) = ⊥
+  ArePairs (path ∷ paths) [] = ⊥
+
+  abbrev pub ends_of : List (PathJob F) → List PathEnd
+  ends_of paths = map (λ (path : PathJob F). path.end) paths
+
+  abbrev pub told_of : (F → List Answer) → List (PathJob F) → List (List Answer)
+  told_of told paths = map (λ (path : PathJob F). told path.feed) paths
+
+module _ {F C : Type 0} where
+  -- the stream is not closed, its paths are those of its rings, and there is room for what they come to
+  pub record IsReady (job : StreamJob F C) : Type 0 where
+    pub open_yet : job.end.merge.closed ≡ false
+    pub in_time : job.end.merge.time ≤ℤ pos (2 ^ 60)
+    pub pairs : ArePairs job.paths.items job.end.sides.items
+    pub ended : vec_len job.paths ≤ vec_len job.ended
+    pub no_results : vec_len job.results ≡ 0
+    pub results : vec_len job.paths ≤ vec_capacity job.results
+    pub no_counts : vec_len job.counts ≡ 0
+    pub counts : vec_len job.paths ≤ vec_capacity job.counts
+    pub no_faults : vec_len job.faults ≡ 0
+    pub faults : vec_len job.paths ≤ vec_capacity job.faults
+
+  -- what a stream's worker came to: the token of its end, which tells all marks of a whole history
+  pub record IsStreamResult (told : F → List Answer) (job : StreamJob F C) (result : StreamResult) : Type 0 where
+    pub token : IfSome result.done (λ done. SameRing job.end.marks.end done.token.end)
+    pub history : IfSome result.done (λ done. (stream : Stream) (open_at : ℤ) (places : ℕ) → IsFreshStream open_at places stream (ends_of job.paths.items) job.end
+        → HasMarks open_at stream (told_of told job.paths.items) result (all_sent done.token))
