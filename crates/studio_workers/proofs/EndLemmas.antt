@@ -119,7 +119,7 @@ count_none path (Arrive p packet ∷ events) none =
 count_none path (Tick u ∷ events) none = count_none path events none
 count_none path (Close ∷ events) none = count_none path events none
 
-some_of : {A : Type 0} (P : A → Type 0) (o : Option A) → IsSome o → IfSome o P → (x : A) × (o ≡ Some x) × P x
+pub some_of : {A : Type 0} (P : A → Type 0) (o : Option A) → IsSome o → IfSome o P → (x : A) × (o ≡ Some x) × P x
 some_of P None some h = let e : false ≡ true = some in absurd (cc)
 some_of P (Some x) some h = (x, refl, h)
 

@@ -5,3 +5,6 @@ pub mod MixingLemmas
 pub mod SettlingLemmas
 pub mod HandLemmas
 pub mod EndLemmas
+pub mod NestLemmas
+pub mod JobLemmas
+pub mod RunLemmas

@@ -3,9 +3,11 @@ pub mod Paths
 pub mod Turns
 pub mod Runs
 pub mod Streams
+pub mod Jobs
 pub mod Balances
 pub mod Mixing
 pub mod Settling
+pub mod Settled
 pub use Rattle.stream_rules.specs.StreamSpecFacts
 pub use Rattle.stream_rules.specs.History
 pub use Rattle.stream_rules.specs.Marks

@@ -107,6 +107,11 @@ module _ {F C : Type 0} where
     pub no_faults : vec_len job.faults ≡ 0
     pub faults : vec_len job.paths ≤ vec_capacity job.faults
 
+  -- so it is of each
+  abbrev pub AllReady : List (StreamJob F C) → Type 0
+  AllReady [] = Unit {0}
+  AllReady (job ∷ jobs) = IsReady job × AllReady jobs
+
   -- what a stream's worker came to: the token of its end, which tells all marks of a whole history
   pub record IsStreamResult (told : F → List Answer) (job : StreamJob F C) (result : StreamResult) : Type 0 where
     pub token : IfSome result.done (λ done. SameRing job.end.marks.end done.token.end)

@@ -3,7 +3,9 @@
 
 mod clock;
 mod feed;
+mod jobs;
 mod mix_worker;
+mod parts;
 mod path_job;
 mod path_nest;
 mod path_worker;
@@ -13,6 +15,7 @@ mod send_counts;
 mod settle;
 mod sink;
 mod stream_job;
+mod stream_nest;
 mod stream_worker;
 mod timed_stream;
 

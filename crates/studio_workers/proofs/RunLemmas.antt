@@ -1,0 +1,155 @@
+-- What a settled run comes to, of what its workers came to.
+use Rattle.std.proofs.Common.{◌≡◌, ℕ, ◌≤◌, ◌^◌, ◌+◌, true, List, [], ◌∷◌, ◌++◌, length, map, ℤ, pos, ◌≤ℤ◌, Option, Some, None, IsSome, IfSome, refl, sym, ap, subst, ◌∙◌, arith}
+use Rattle.std.specs.List.{AllZip}
+use Rattle.rtrb.specs.Ends.{SameRing}
+use Rattle.rtrb.specs.Ring.{all_sent}
+use Rattle.stream_rules.specs.StreamSpecFacts.{Stream, format_of}
+use Rattle.stream_rules.specs.MarkList.{is_mark_list}
+use Rattle.stream_rules.specs.Marks.{marks_of}
+use Rattle.stream_rules.specs.declared.packet.Packet.{Packet}
+use Rattle.stream_rules.specs.declared.event.Event.{Event}
+use Rattle.path_merge.proofs.MarkListLemmas.{listed}
+use Rattle.studio_spec.specs.Studio.{Studio}
+use Rattle.studio_mix.specs.Feed.{Feed}
+use Rattle.studio_session.specs.declared.report.StreamCounts.{StreamCounts}
+use Rattle.studio_session.specs.Blocks.{AreBlocks}
+use Rattle.studio_rings.specs.Given.{AreAllGiven, HasGiven}
+use Rattle.studio_rings.specs.Opened.{AllFreshPaths, AllFreshStreams, IsFreshStream}
+use Rattle.studio_rings.specs.declared.path_end.PathEnd.{PathEnd}
+use Rattle.studio_rings.specs.declared.side.Side.{Side}
+use Rattle.studio_rings.specs.declared.stream.StreamDone.{StreamDone}
+use Rattle.studio_rings.specs.declared.stream_end.StreamEnd.{StreamEnd}
+use Rattle.studio_rings.specs.declared.mix_end.MixEnd.{MixEnd}
+use Rattle.studio_workers.specs.Answers.{Answer}
+use Rattle.studio_workers.specs.Jobs.{AreJobsOf, HasRoom, HaveRoom, feeds_in}
+use Rattle.studio_workers.specs.Mixing.{Mixes}
+use Rattle.studio_workers.specs.Runs.{HasStreamHistory, HaveStreamHistories, IsSettledRun, feeds_of}
+use Rattle.studio_workers.specs.Settled.{AreOpenedTogether, counts_in, dones_in}
+use Rattle.studio_workers.specs.Settling.{AllGiveTokens, AllTellMarks, AreTokensOf, AreTold}
+use Rattle.studio_workers.specs.Streams.{AllReady, ArePairs, HasMarks, IsReady, IsStreamResult, ends_of, told_of}
+use Rattle.studio_workers.specs.declared.path_job.PathJob.{PathJob}
+use Rattle.studio_workers.specs.declared.stream_job.StreamJob.{StreamJob}
+use Rattle.studio_workers.specs.declared.stream_job.StreamResult.{StreamResult}
+use Rattle.studio_workers.specs.declared.report.WorkReport.{WorkReport}
+use Rattle.studio_workers.proofs.EndLemmas.{some_of}
+use Rattle.studio_workers.proofs.JobLemmas.{cut_once, map_length, next_stream, own_count}
+use Rattle.studio_workers.proofs.SettlingLemmas.{AreTokensFor, tokens-opened}
+
+module _ {F : Type 0} where
+  pairs_of : (stream : Stream) (places : ℕ) (paths : List (PathJob F)) (sides : List (Side Packet)) → AllFreshPaths stream places (ends_of paths) sides → ArePairs paths sides
+  pairs_of stream places [] [] h = tt
+  pairs_of stream places [] (side ∷ sides) h = absurd h
+  pairs_of stream places (p ∷ ps) [] h = absurd h
+  pairs_of stream places (p ∷ ps) (side ∷ sides) h = (h.0.pair, pairs_of stream places ps sides h.1)
+
+  told_fed : (told : F → List Answer) (paths : List (PathJob F)) → map told (feeds_in paths) ≡ told_of told paths
+  told_fed told [] = refl
+  told_fed told (p ∷ ps) = ap (λ l. told p.feed ∷ l) (told_fed told ps)
+
+map_joined : {A B : Type 0} (f : A → B) (xs ys : List A) → map f (xs ++ ys) ≡ map f xs ++ map f ys
+map_joined f [] ys = refl
+map_joined f (x ∷ xs) ys = ap (λ l. f x ∷ l) (map_joined f xs ys)
+
+module _ {F C : Type 0} where
+  -- each stream's job has the ends of that stream
+  abbrev AreFreshJobs : ℤ → ℕ → List Stream → List (StreamJob F C) → Type 0
+  AreFreshJobs open_at places [] [] = Unit {0}
+  AreFreshJobs open_at places (stream ∷ specs) (job ∷ jobs) = IsFreshStream open_at places stream (ends_of job.paths.items) job.end × AreFreshJobs open_at places specs jobs
+  AreFreshJobs open_at places [] (job ∷ jobs) = ⊥
+  AreFreshJobs open_at places (stream ∷ specs) [] = ⊥
+
+  fresh_jobs : (open_at : ℤ) (places : ℕ) (specs : List Stream) (paths : List PathEnd) (feeds : List F) (ends : List StreamEnd) (jobs : List (StreamJob F C)) → AllFreshStreams open_at places specs paths ends → AreJobsOf paths feeds ends jobs → AreFreshJobs open_at places specs jobs
+  fresh_jobs open_at places [] paths feeds [] [] fresh h = tt
+  fresh_jobs open_at places [] paths feeds [] (job ∷ jobs) fresh h = absurd h
+  fresh_jobs open_at places [] paths feeds (end ∷ ends) jobs fresh h = absurd fresh
+  fresh_jobs open_at places (stream ∷ specs) paths feeds [] jobs fresh h = absurd fresh
+  fresh_jobs open_at places (stream ∷ specs) paths feeds (end ∷ ends) [] fresh h = absurd h
+  fresh_jobs open_at places (stream ∷ specs) paths feeds (end ∷ ends) (job ∷ jobs) fresh h =
+      let count : length fresh.0 ≡ end.spec.paths = fresh.3.count ∙ ap (λ (s : Stream). s.paths) (sym fresh.3.spec) in
+      let same : length fresh.0 ≡ length (ends_of job.paths.items) = count ∙ (sym h.5 ∙ sym (map_length (λ (p : PathJob F). p.end) job.paths.items)) in
+      let cut = cut_once fresh.0 (ends_of job.paths.items) fresh.1 h.0 (sym fresh.2 ∙ h.2) same in
+      let here : IsFreshStream open_at places stream (ends_of job.paths.items) job.end =
+              subst (λ (e : StreamEnd). IsFreshStream open_at places stream (ends_of job.paths.items) e) (sym h.4) (subst (λ (l : List PathEnd). IsFreshStream open_at places stream l end) cut.0 fresh.3) in
+      (here, fresh_jobs open_at places specs h.0 h.1 ends jobs (subst (λ (l : List PathEnd). AllFreshStreams open_at places specs l ends) cut.1 fresh.4) h.6)
+
+  ready_jobs : (open_at : ℤ) (places : ℕ) (specs : List Stream) (jobs : List (StreamJob F C)) → open_at ≤ℤ pos (2 ^ 60) → AreFreshJobs open_at places specs jobs → HaveRoom jobs → AllReady jobs
+  ready_jobs open_at places specs [] le fresh room = tt
+  ready_jobs open_at places [] (job ∷ jobs) le fresh room = absurd fresh
+  ready_jobs open_at places (stream ∷ specs) (job ∷ jobs) le fresh room = (
+    record {
+      open_yet = fresh.0.open_yet;
+      in_time = subst (λ t. t ≤ℤ pos (2 ^ 60)) (sym fresh.0.time) le;
+      pairs = pairs_of stream places job.paths.items job.end.sides.items fresh.0.paths;
+      ended = room.0.ended;
+      no_results = room.0.no_results;
+      results = room.0.results;
+      no_counts = room.0.no_counts;
+      counts = room.0.counts;
+      no_faults = room.0.no_faults;
+      faults = room.0.faults;
+    },
+    ready_jobs open_at places specs jobs le fresh.1 room.1,
+  )
+
+  -- the jobs are ready
+  pub jobs-ready : (open_at : ℤ) (places : ℕ) (specs : List Stream) (paths : List PathEnd) (feeds : List F) (ends : List StreamEnd) (jobs : List (StreamJob F C)) → open_at ≤ℤ pos (2 ^ 60) → AllFreshStreams open_at places specs paths ends → AreJobsOf paths feeds ends jobs → HaveRoom jobs → AllReady jobs
+  jobs-ready open_at places specs paths feeds ends jobs le fresh h room = ready_jobs open_at places specs jobs le (fresh_jobs open_at places specs paths feeds ends jobs fresh h) room
+
+  -- each token is that of its stream's ring of marks
+  pub tokens-for : (told : F → List Answer) (paths : List PathEnd) (feeds : List F) (ends : List StreamEnd) (jobs : List (StreamJob F C)) (results : List StreamResult) → AreJobsOf paths feeds ends jobs → AllZip (IsStreamResult told) jobs results → AreTokensFor ends (dones_in results)
+  tokens-for told paths feeds [] [] [] h zip = tt
+  tokens-for told paths feeds [] [] (r ∷ rs) h zip = absurd zip
+  tokens-for told paths feeds [] (job ∷ jobs) results h zip = absurd h
+  tokens-for told paths feeds (end ∷ ends) [] results h zip = absurd h
+  tokens-for told paths feeds (end ∷ ends) (job ∷ jobs) [] h zip = absurd zip
+  tokens-for told paths feeds (end ∷ ends) (job ∷ jobs) (r ∷ rs) h zip =
+      (subst (λ (e : StreamEnd). IfSome r.done (λ (d : StreamDone). SameRing e.marks.end d.token.end)) h.4 zip.0.token, tokens-for told h.0 h.1 ends jobs rs h.6 zip.1)
+
+  -- all streams have whole histories, whose marks the tokens tell
+  pub record HaveAll (open_at : ℤ) (specs : List Stream) (told : List (List Answer)) (results : List StreamResult) : Type 0 where
+    pub histories : List (List Event)
+    pub streams : HaveStreamHistories open_at specs told (counts_in results) histories
+    pub tells : AllTellMarks (dones_in results) (feeds_of open_at specs histories)
+    pub of_these : map (λ (feed : Feed). feed.stream) (feeds_of open_at specs histories) ≡ specs
+
+  have_all : (told : F → List Answer) (open_at : ℤ) (places : ℕ) (specs : List Stream) (paths : List PathEnd) (feeds : List F) (ends : List StreamEnd) (jobs : List (StreamJob F C)) (results : List StreamResult)
+      → AreFreshJobs open_at places specs jobs → AreJobsOf paths feeds ends jobs → AllZip (IsStreamResult told) jobs results → AllGiveTokens (dones_in results) → HaveAll open_at specs (map told feeds) results
+  have_all told open_at places [] paths feeds [] [] [] fresh h zip given = record { histories = []; streams = ap (map told) h.1; tells = tt; of_these = refl }
+  have_all told open_at places [] paths feeds (end ∷ ends) [] results fresh h zip given = absurd h
+  have_all told open_at places [] paths feeds [] [] (r ∷ rs) fresh h zip given = absurd zip
+  have_all told open_at places [] paths feeds ends (job ∷ jobs) results fresh h zip given = absurd fresh
+  have_all told open_at places (stream ∷ specs) paths feeds ends [] results fresh h zip given = absurd fresh
+  have_all told open_at places (stream ∷ specs) paths feeds [] (job ∷ jobs) results fresh h zip given = absurd h
+  have_all told open_at places (stream ∷ specs) paths feeds (end ∷ ends) (job ∷ jobs) [] fresh h zip given = absurd zip
+  have_all told open_at places (stream ∷ specs) paths feeds (end ∷ ends) (job ∷ jobs) (r ∷ rs) fresh h zip given =
+      let rest = have_all told open_at places specs h.0 h.1 ends jobs rs fresh.1 h.6 zip.1 given.1 in
+      let one = some_of _ r.done given.0 zip.0.history in
+      let m : HasMarks open_at stream (told_of told job.paths.items) r (all_sent (one.0).token) = one.2 stream open_at places fresh.0 in
+      let split : map told feeds ≡ told_of told job.paths.items ++ map told h.1 =
+              ap (map told) h.3 ∙ (map_joined told (feeds_in job.paths.items) h.1 ∙ ap (λ l. l ++ map told h.1) (told_fed told job.paths.items)) in
+      let count : length (told_of told job.paths.items) ≡ stream.paths =
+              map_length (λ (p : PathJob F). told p.feed) job.paths.items ∙ (h.5 ∙ (ap (λ (e : StreamEnd). e.spec.paths) (sym h.4) ∙ ap (λ (s : Stream). s.paths) fresh.0.spec)) in
+      let tells : IfSome r.done (λ (d : StreamDone). all_sent d.token ≡ marks_of stream open_at m.events) = subst (λ (o : Option StreamDone). IfSome o (λ (d : StreamDone). all_sent d.token ≡ marks_of stream open_at m.events)) (sym one.1) m.marks_are in
+      record {
+        histories = m.events ∷ rest.histories;
+        streams = (told_of told job.paths.items, map told h.1, split, count, m.history, rest.streams);
+        tells = ((tells, listed stream open_at m.events fresh.0.stands.some_frames m.history.well_timed), rest.tells);
+        of_these = ap (λ (l : List Stream). stream ∷ l) rest.of_these;
+      }
+
+  -- a settled run
+  pub settled-run : {K : Type 0} (told : F → List Answer) (handed : K → Option (List (List ℕ))) (studio : Studio) (places : ℕ) (paths : List PathEnd) (feeds : List F) (ends : List StreamEnd) (jobs : List (StreamJob F C)) (results : List StreamResult) (mix end : MixEnd) (sink new_sink : K) (report : WorkReport)
+      → AllFreshStreams studio.open_at places studio.streams paths ends → HasGiven studio mix [] → AreJobsOf paths feeds ends jobs → AllZip (IsStreamResult told) jobs results
+      → report.streams.items ≡ counts_in results → Mixes handed mix sink 0 true end new_sink report.blocks → AllGiveTokens (dones_in results)
+      → ((studio : Studio) (feeds : List Feed) (datagrams : List (List ℕ)) → AreTold studio (dones_in results) feeds → AreAllGiven studio end datagrams → AreBlocks studio feeds datagrams)
+      → IsSettledRun studio (map told feeds) report (handed sink) (handed new_sink)
+  settled-run told handed studio places paths feeds ends jobs results mix end sink new_sink report fresh given h zip streams mixes tokens settles =
+      let all = have_all told studio.open_at places studio.streams paths feeds ends jobs results (fresh_jobs studio.open_at places studio.streams paths feeds ends jobs fresh h) h zip tokens in
+      record {
+        histories = all.histories;
+        streams = subst (λ (l : List StreamCounts). HaveStreamHistories studio.open_at studio.streams (map told feeds) l all.histories) (sym streams) all.streams;
+        datagrams = mixes.datagrams;
+        blocks = settles studio (feeds_of studio.open_at studio.streams all.histories) mixes.datagrams (all.of_these, all.tells) (mixes.all refl studio [] given);
+        count = mixes.count;
+        handed = mixes.hands;
+      }

@@ -1,0 +1,25 @@
+-- What the results of all streams come to.
+use Rattle.std.specs.Prelude.{◌≡◌, ℕ, List, [], ◌∷◌, map, ℤ, Option, IfSome}
+use Rattle.rtrb.specs.Ring.{all_sent}
+use Rattle.stream_rules.specs.declared.event.Event.{Event}
+use Rattle.studio_spec.specs.Studio.{Studio}
+use Rattle.studio_rings.specs.Given.{HasGiven}
+use Rattle.studio_rings.specs.Opened.{AllFreshRings, AllFreshStreams}
+use Rattle.studio_rings.specs.declared.ends.Ends.{Ends}
+use Rattle.studio_rings.specs.declared.monitor_end.MonitorEnd.{MonitorEnd}
+use Rattle.studio_rings.specs.declared.stream.StreamDone.{StreamDone}
+use Rattle.studio_session.specs.declared.report.StreamCounts.{StreamCounts}
+use Rattle.studio_workers.specs.declared.stream_job.StreamResult.{StreamResult}
+
+-- the ends were opened together, and nothing was done with them; the monitors' may be elsewhere
+pub record AreOpenedTogether (studio : Studio) (places : ℕ) (ends : Ends) : Type 0 where
+  pub streams : AllFreshStreams studio.open_at places studio.streams ends.paths.items ends.streams.items
+  pub monitors : List MonitorEnd
+  pub rings : AllFreshRings places ends.streams.items monitors ends.mix.sides.items
+  pub mix : HasGiven studio ends.mix []
+
+abbrev pub dones_in : List StreamResult → List (Option StreamDone)
+dones_in results = map (λ (result : StreamResult). result.done) results
+
+abbrev pub counts_in : List StreamResult → List StreamCounts
+counts_in results = map (λ (result : StreamResult). result.counts) results
