@@ -50,6 +50,13 @@ map_joined : {A B : Type 0} (f : A → B) (xs ys : List A) → map f (xs ++ ys) 
 map_joined f [] ys = refl
 map_joined f (x ∷ xs) ys = ap (λ l. f x ∷ l) (map_joined f xs ys)
 
+-- all streams have whole histories, whose marks the tokens tell
+pub record HaveAll (open_at : ℤ) (specs : List Stream) (told : List (List Answer)) (results : List StreamResult) : Type 0 where
+  pub histories : List (List Event)
+  pub streams : HaveStreamHistories open_at specs told (counts_in results) histories
+  pub tells : AllTellMarks (dones_in results) (feeds_of open_at specs histories)
+  pub of_these : map (λ (feed : Feed). feed.stream) (feeds_of open_at specs histories) ≡ specs
+
 module _ {F C : Type 0} where
   -- each stream's job has the ends of that stream
   abbrev AreFreshJobs : ℤ → ℕ → List Stream → List (StreamJob F C) → Type 0
@@ -69,7 +76,7 @@ module _ {F C : Type 0} where
       let same : length fresh.0 ≡ length (ends_of job.paths.items) = count ∙ (sym h.5 ∙ sym (map_length (λ (p : PathJob F). p.end) job.paths.items)) in
       let cut = cut_once fresh.0 (ends_of job.paths.items) fresh.1 h.0 (sym fresh.2 ∙ h.2) same in
       let here : IsFreshStream open_at places stream (ends_of job.paths.items) job.end =
-              subst (λ (e : StreamEnd). IsFreshStream open_at places stream (ends_of job.paths.items) e) (sym h.4) (subst (λ (l : List PathEnd). IsFreshStream open_at places stream l end) cut.0 fresh.3) in
+      subst (λ (e : StreamEnd). IsFreshStream open_at places stream (ends_of job.paths.items) e) (sym h.4) (subst (λ (l : List PathEnd). IsFreshStream open_at places stream l end) cut.0 fresh.3) in
       (here, fresh_jobs open_at places specs h.0 h.1 ends jobs (subst (λ (l : List PathEnd). AllFreshStreams open_at places specs l ends) cut.1 fresh.4) h.6)
 
   ready_jobs : (open_at : ℤ) (places : ℕ) (specs : List Stream) (jobs : List (StreamJob F C)) → open_at ≤ℤ pos (2 ^ 60) → AreFreshJobs open_at places specs jobs → HaveRoom jobs → AllReady jobs
@@ -105,13 +112,6 @@ module _ {F C : Type 0} where
   tokens-for told paths feeds (end ∷ ends) (job ∷ jobs) (r ∷ rs) h zip =
       (subst (λ (e : StreamEnd). IfSome r.done (λ (d : StreamDone). SameRing e.marks.end d.token.end)) h.4 zip.0.token, tokens-for told h.0 h.1 ends jobs rs h.6 zip.1)
 
-  -- all streams have whole histories, whose marks the tokens tell
-  pub record HaveAll (open_at : ℤ) (specs : List Stream) (told : List (List Answer)) (results : List StreamResult) : Type 0 where
-    pub histories : List (List Event)
-    pub streams : HaveStreamHistories open_at specs told (counts_in results) histories
-    pub tells : AllTellMarks (dones_in results) (feeds_of open_at specs histories)
-    pub of_these : map (λ (feed : Feed). feed.stream) (feeds_of open_at specs histories) ≡ specs
-
   have_all : (told : F → List Answer) (open_at : ℤ) (places : ℕ) (specs : List Stream) (paths : List PathEnd) (feeds : List F) (ends : List StreamEnd) (jobs : List (StreamJob F C)) (results : List StreamResult)
       → AreFreshJobs open_at places specs jobs → AreJobsOf paths feeds ends jobs → AllZip (IsStreamResult told) jobs results → AllGiveTokens (dones_in results) → HaveAll open_at specs (map told feeds) results
   have_all told open_at places [] paths feeds [] [] [] fresh h zip given = record { histories = []; streams = ap (map told) h.1; tells = tt; of_these = refl }
@@ -126,9 +126,9 @@ module _ {F C : Type 0} where
       let one = some_of _ r.done given.0 zip.0.history in
       let m : HasMarks open_at stream (told_of told job.paths.items) r (all_sent (one.0).token) = one.2 stream open_at places fresh.0 in
       let split : map told feeds ≡ told_of told job.paths.items ++ map told h.1 =
-              ap (map told) h.3 ∙ (map_joined told (feeds_in job.paths.items) h.1 ∙ ap (λ l. l ++ map told h.1) (told_fed told job.paths.items)) in
+      ap (map told) h.3 ∙ (map_joined told (feeds_in job.paths.items) h.1 ∙ ap (λ l. l ++ map told h.1) (told_fed told job.paths.items)) in
       let count : length (told_of told job.paths.items) ≡ stream.paths =
-              map_length (λ (p : PathJob F). told p.feed) job.paths.items ∙ (h.5 ∙ (ap (λ (e : StreamEnd). e.spec.paths) (sym h.4) ∙ ap (λ (s : Stream). s.paths) fresh.0.spec)) in
+      map_length (λ (p : PathJob F). told p.feed) job.paths.items ∙ (h.5 ∙ (ap (λ (e : StreamEnd). e.spec.paths) (sym h.4) ∙ ap (λ (s : Stream). s.paths) fresh.0.spec)) in
       let tells : IfSome r.done (λ (d : StreamDone). all_sent d.token ≡ marks_of stream open_at m.events) = subst (λ (o : Option StreamDone). IfSome o (λ (d : StreamDone). all_sent d.token ≡ marks_of stream open_at m.events)) (sym one.1) m.marks_are in
       record {
         histories = m.events ∷ rest.histories;
@@ -150,6 +150,10 @@ module _ {F C : Type 0} where
         streams = subst (λ (l : List StreamCounts). HaveStreamHistories studio.open_at studio.streams (map told feeds) l all.histories) (sym streams) all.streams;
         datagrams = mixes.datagrams;
         blocks = settles studio (feeds_of studio.open_at studio.streams all.histories) mixes.datagrams (all.of_these, all.tells) (mixes.all refl studio [] given);
-        count = mixes.count;
+        count = let n = mixes.count in omega (arith, n);
         handed = mixes.hands;
       }
+
+-- where there were no results before
+pub zip_after : {A B : Type 0} (R : A → B → Type 0) (xs : List A) (before own all : List B) → before ≡ [] → all ≡ before ++ own → AllZip R xs own → AllZip R xs all
+zip_after R xs before own all none is zip = subst (λ l. AllZip R xs l) (sym (is ∙ ap (λ l. l ++ own) none)) zip

@@ -35,10 +35,7 @@ pub(crate) fn room_for_parts(
 }
 
 /// Takes the results apart. The room for all was taken before, so nothing grows.
-pub(crate) fn take_apart(
-    results: Vec<StreamResult>,
-    parts: Parts,
-) -> Result<Parts, AllocError>
+pub(crate) fn take_apart(results: Vec<StreamResult>, parts: Parts) -> Result<Parts, AllocError>
     requires dones { (vec_len parts.dones ≡ 0) × (vec_len results ≤ vec_capacity parts.dones) }
     requires streams { (vec_len parts.streams ≡ 0) × (vec_len results ≤ vec_capacity parts.streams) }
     ensures dones { IfOk result (λ r. r.dones.items ≡ dones_in results.items) }

@@ -43,12 +43,7 @@ fn last_job<F: Drop, C: Drop>(jobs: &mut Vec<StreamJob<F, C>>) -> Option<StreamJ
 
 /// Runs each stream beside those before it, and the first beside the mixer. The results join those
 /// that there are, in the order of the streams.
-pub(crate) fn run_streams<
-    R: Threads + Wait + Sync,
-    F: Feed + Send,
-    C: Clock + Send,
-    K: Sink,
->(
+pub(crate) fn run_streams<R: Threads + Wait + Sync, F: Feed + Send, C: Clock + Send, K: Sink>(
     rt: &R,
     jobs: Vec<StreamJob<F, C>>,
     results: Vec<StreamResult>,
@@ -89,11 +84,14 @@ pub(crate) fn run_streams<
             ensures len { IfOk result (λ r. vec_len r.0 ≡ vec_len results + vec_len jobs + 1) }
             ensures capacity { IfOk result (λ r. vec_capacity r.0 ≡ vec_capacity results) }
         {
-            let Ok(child) = scope.spawn_with(promise, move || -> Result<StreamResult, Stopped>
-                requires sync { IsSync R.row }
-                requires own { IsReady job }
-                ensures { IfOk result (λ r. IsStreamResult F.told job r) }
-            { run_stream(rt, job, flag, stop) }) else {
+            let Ok(child) = scope.spawn_with(
+                promise,
+                move || -> Result<StreamResult, Stopped>
+                    requires sync { IsSync R.row }
+                    requires own { IsReady job }
+                    ensures { IfOk result (λ r. IsStreamResult F.told job r) }
+                { run_stream(rt, job, flag, stop) },
+            ) else {
                 stop.store(true, Ordering::SeqCst);
                 return Err(Stopped);
             };

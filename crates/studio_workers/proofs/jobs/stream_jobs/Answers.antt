@@ -92,5 +92,5 @@ returns-clause-jobs g c =
     let zero = ap length no_paths in
     let no_feeds : into_iter_items at.feeds ≡ [] = no_items _ (omega (arith, zero, feeds_len, feeds_too, paths_len)) in
     let made : MakesJobs c.args.paths.items c.args.feeds.items c.args.streams.items at.jobs.items (into_iter_items at.paths) (into_iter_items at.feeds) (into_iter_items at.end-iterator) =
-            rw (← c.into_iter-paths.ensures.rest, ← c.into_iter-feeds.ensures.rest, ← c.into_iter-end-iterator.ensures.into_iter_gives.0) at.invariant.made in
+    rw (← c.into_iter-paths.ensures.rest, ← c.into_iter-feeds.ensures.rest, ← c.into_iter-end-iterator.ensures.into_iter_gives.0) at.invariant.made in
     makes-all _ _ _ at.jobs.items _ _ _ made no_paths no_feeds no_ends
