@@ -14,7 +14,8 @@ use Rattle.studio_mix.specs.Feed.{Feed}
 use Rattle.studio_session.specs.declared.report.StreamCounts.{StreamCounts}
 use Rattle.studio_session.specs.Blocks.{AreBlocks}
 use Rattle.studio_rings.specs.Given.{AreAllGiven, HasGiven}
-use Rattle.studio_rings.specs.Opened.{AllFreshPaths, AllFreshStreams, IsFreshStream}
+use Rattle.studio_rings.specs.Opened.{AllFreshPaths, AllFreshStreams, AreOpened, IsFreshStream}
+use Rattle.studio_rings.specs.declared.ends.Ends.{Ends}
 use Rattle.studio_rings.specs.declared.path_end.PathEnd.{PathEnd}
 use Rattle.studio_rings.specs.declared.side.Side.{Side}
 use Rattle.studio_rings.specs.declared.stream.StreamDone.{StreamDone}
@@ -157,3 +158,7 @@ module _ {F C : Type 0} where
 -- where there were no results before
 pub zip_after : {A B : Type 0} (R : A → B → Type 0) (xs : List A) (before own all : List B) → before ≡ [] → all ≡ before ++ own → AllZip R xs own → AllZip R xs all
 zip_after R xs before own all none is zip = subst (λ l. AllZip R xs l) (sym (is ∙ ap (λ l. l ++ own) none)) zip
+
+-- ends that one `open` gave, with their monitors
+pub opened-together : (studio : Studio) (places : ℕ) (ends : Ends) → AreOpened studio places ends → AreOpenedTogether studio places ends
+opened-together studio places ends h = record { streams = h.streams; monitors = ends.monitors.items; rings = h.rings; mix = h.mix }

@@ -16,5 +16,4 @@ pub use Rattle.studio_spec.specs.Studio
 pub use Rattle.studio_mix.specs.Feed
 pub use Rattle.studio_session.specs.Session
 pub use Rattle.studio_session.specs.Blocks
-pub use Rattle.studio_rings.specs.Streams
 pub use Rattle.studio_rings.specs.Opened
