@@ -130,11 +130,18 @@ fn datagram(
 
 /// The streams of six and of 48 sampling instants a packet, added into packets of 48.
 fn six_and_forty_eight(rt: &impl Abort, alloc: Global) -> Result<StudioSpec, Fail> {
+    Ok(six_and_forty_eight_in(rt, alloc).ok_or("want of memory")?)
+}
+
+/// The same; none where memory is refused.
+fn six_and_forty_eight_in(rt: &impl Abort, alloc: Global) -> Option<StudioSpec> {
     let streams = [stream(rt, 1, 6, 12), stream(rt, 1, 48, 48)];
-    let output = OutSpec::new(Enc::L24, 1, 48, 97, 2, 65_535, 0, 0)?;
-    let gains = Matrix::new(alloc, 1, 2, &[65_536, 65_536])?;
-    let schedule = Schedule::new(gains, Vec::new(alloc))?;
-    Ok(studio(rt, alloc, streams, output, schedule)?)
+    let Ok(output) = OutSpec::new(Enc::L24, 1, 48, 97, 2, 65_535, 0, 0) else {
+        panic!(rt; "an output")
+    };
+    let gains = Matrix::new(alloc, 1, 2, &[65_536, 65_536]).ok()?;
+    let schedule = Schedule::new(gains, Vec::new(alloc)).ok()?;
+    studio(rt, alloc, streams, output, schedule).ok()
 }
 
 /// Eight packets from 0 on, of 1000 throughout.
@@ -273,7 +280,9 @@ fn streams_of_unlike_channels_and_an_epoch_apart(rt: HostRuntime) -> Result<(), 
 #[test]
 fn each_refused_allocation_is_answered(rt: HostRuntime) -> Result<(), Fail> {
     let alloc = rt.alloc();
-    let spec = six_and_forty_eight(&rt, alloc)?;
+    let spec = six_and_forty_eight_in(&rt, alloc)
+        .or_else(|| six_and_forty_eight_in(&rt, alloc))
+        .ok_or("with memory again")?;
     for _ in 0..2 {
         match Mixer::new(alloc, &spec) {
             Ok(mixer) => assert_eq!(rt; mixer.streams(), 2),

@@ -31,16 +31,25 @@ fn studio(rt: &impl Abort, alloc: Global) -> Result<StudioSpec, Fail> {
 
 /// The same, over a window of so many numbers.
 fn studio_of(rt: &impl Abort, alloc: Global, width: u16) -> Result<StudioSpec, Fail> {
+    Ok(studio_in(rt, alloc, width).ok_or("want of memory")?)
+}
+
+/// The same; none where memory is refused.
+fn studio_in(rt: &impl Abort, alloc: Global, width: u16) -> Option<StudioSpec> {
     let clock = StreamClock::Media { offset: 0 };
-    let spec = StreamSpec::new(Enc::L24, 1, 6, 96, None, clock, 12, width, 2)?;
-    let output = OutSpec::new(Enc::L24, 1, 6, 97, 2, 65_535, 0, 0)?;
-    let gains = Matrix::new(alloc, 1, 1, &[65_536])?;
-    let schedule = Schedule::new(gains, Vec::new(alloc))?;
+    let Ok(spec) = StreamSpec::new(Enc::L24, 1, 6, 96, None, clock, 12, width, 2) else {
+        panic!(rt; "a stream")
+    };
+    let Ok(output) = OutSpec::new(Enc::L24, 1, 6, 97, 2, 65_535, 0, 0) else {
+        panic!(rt; "an output")
+    };
+    let gains = Matrix::new(alloc, 1, 1, &[65_536]).ok()?;
+    let schedule = Schedule::new(gains, Vec::new(alloc)).ok()?;
     assert!(rt; schedule.outs() == usize::from(output.channels()));
     assert!(rt; schedule.ins() == usize::from(spec.channels()));
     let mut streams = Vec::new(alloc);
-    streams.push(spec)?;
-    Ok(StudioSpec::new(0, streams, output, schedule))
+    streams.push(spec).ok()?;
+    Some(StudioSpec::new(0, streams, output, schedule))
 }
 
 /// The ends of that studio.
@@ -337,8 +346,11 @@ fn a_turn_stops_after_64_marks(rt: HostRuntime) -> Result<(), Fail> {
 /// `rt try --test --fail-alloc N` refuses the Nth allocation: the call that meets it says so, and the next succeeds.
 #[test]
 fn each_refused_allocation_is_answered(rt: HostRuntime) -> Result<(), Fail> {
-    let studio = studio(&rt, rt.alloc())?;
-    match open(rt.alloc(), &studio, 3) {
+    let alloc = rt.alloc();
+    let studio = studio_in(&rt, alloc, 8)
+        .or_else(|| studio_in(&rt, alloc, 8))
+        .ok_or("with memory again")?;
+    match open(alloc, &studio, 3) {
         Ok(ends) => assert_eq!(rt; ends.paths.len(), 2),
         Err(fault) => {
             assert_eq!(rt; fault, OpenFault::Memory);

@@ -27,15 +27,27 @@ fn sum_of(
     first: StreamSpec,
     second: StreamSpec,
 ) -> Result<StudioSpec, Fail> {
-    let output = OutSpec::new(Enc::L24, 1, 48, 97, 2, 65_535, 0, 0)?;
-    let gains = Matrix::new(alloc, 1, 2, &[65_536, 65_536])?;
-    let schedule = Schedule::new(gains, Vec::new(alloc))?;
+    Ok(sum_in(rt, alloc, first, second).ok_or("want of memory")?)
+}
+
+/// The same; none where memory is refused.
+fn sum_in(
+    rt: &impl Abort,
+    alloc: Global,
+    first: StreamSpec,
+    second: StreamSpec,
+) -> Option<StudioSpec> {
+    let Ok(output) = OutSpec::new(Enc::L24, 1, 48, 97, 2, 65_535, 0, 0) else {
+        panic!(rt; "an output")
+    };
+    let gains = Matrix::new(alloc, 1, 2, &[65_536, 65_536]).ok()?;
+    let schedule = Schedule::new(gains, Vec::new(alloc)).ok()?;
     assert!(rt; schedule.outs() == usize::from(output.channels()));
     assert!(rt; schedule.ins() == usize::from(first.channels()) + usize::from(second.channels()));
     let mut both = Vec::new(alloc);
-    both.push(first)?;
-    both.push(second)?;
-    Ok(StudioSpec::new(0, both, output, schedule))
+    both.push(first).ok()?;
+    both.push(second).ok()?;
+    Some(StudioSpec::new(0, both, output, schedule))
 }
 
 /// A header, and so many times these samples, one after another.
@@ -146,11 +158,27 @@ fn a_silent_stream_does_not_hold_up_a_session(rt: HostRuntime) -> Result<(), Fai
 
 #[test]
 fn each_refused_allocation_is_answered(rt: HostRuntime) -> Result<(), Fail> {
-    let spec = six_and_forty_eight(&rt, rt.alloc())?;
+    let alloc = rt.alloc();
+    let (six, forty_eight) = (stream(6, 12, 8, 2)?, stream(48, 48, 8, 2)?);
+    let spec = sum_in(&rt, alloc, six, forty_eight)
+        .or_else(|| sum_in(&rt, alloc, six, forty_eight))
+        .ok_or("with memory again")?;
     let events = [StudioEvent::Tick(96), StudioEvent::Close];
-    let first = run_studio(rt.alloc(), &spec, &events).is_ok();
-    let second = run_studio(rt.alloc(), &spec, &events).is_ok();
-    assert!(rt; first || second, "one of two like runs succeeds");
+    for _ in 0..2 {
+        match run_studio(alloc, &spec, &events) {
+            Ok(report) => assert_eq!(rt; report.datagrams.len(), 2),
+            Err(fault) => {
+                assert!(rt;
+                    matches!(fault, StudioFault::Memory(_)),
+                    "only memory can lack"
+                );
+                assert!(rt;
+                    run_studio(alloc, &spec, &events).is_ok(),
+                    "with memory again"
+                );
+            }
+        }
+    }
     Ok(())
 }
 
