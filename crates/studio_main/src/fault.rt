@@ -9,7 +9,7 @@ use thiserror::Error;
 #[derive(Clone, Copy, Debug, PartialEq, Eq, Error)]
 pub enum Fault {
     /// The words of the command line are no text.
-    #[error("usage: darbexum [marks CONFIG | play CONFIG | check CONFIG] < TRACE")]
+    #[error("usage: darbexum [marks CONFIG [--counts] | play CONFIG | check CONFIG] < TRACE")]
     Usage,
     /// The configuration is at fault.
     #[error("{0}")]

@@ -17,7 +17,7 @@ use std::env;
 use std::io::{ErrorKind, Read, Write};
 use std::process::ExitCode;
 use std::rt::Env;
-use studio_run::{list_marks, play};
+use studio_run::{list_marks, list_marks_and_counts, play};
 
 fn main(rt: HostRuntime) -> ExitCode {
     let alloc = rt.alloc();
@@ -63,19 +63,20 @@ pub fn run<C: Configs, R: Read, W: Write, E: Write>(
         Ok(asked) => asked,
         Err(error) => return told(&error, output, faults),
     };
-    match answer(configs, alloc, asked, input, output) {
+    match answer(configs, alloc, asked, input, output, faults) {
         Ok(()) => 0,
         Err(fault) => fault.tell(faults),
     }
 }
 
-/// Does what the words ask for.
-fn answer<C: Configs, R: Read, W: Write>(
+/// Does what the words ask for. Counts that are told beside a listing go where faults go.
+fn answer<C: Configs, R: Read, W: Write, E: Write>(
     configs: &C,
     alloc: Global,
     asked: Asked<'_>,
     input: &mut R,
     output: &mut W,
+    faults: &mut E,
 ) -> Result<(), Fault> {
     match asked {
         Asked::Standard => {
@@ -85,6 +86,10 @@ fn answer<C: Configs, R: Read, W: Write>(
         Asked::Marks(path) => {
             let studio = studio_of(configs, alloc, path)?;
             list_marks(alloc, &studio, input, output).map_err(Fault::from)
+        }
+        Asked::MarksAndCounts(path) => {
+            let studio = studio_of(configs, alloc, path)?;
+            list_marks_and_counts(alloc, &studio, input, output, faults).map_err(Fault::from)
         }
         Asked::Play(path) => {
             let studio = studio_of(configs, alloc, path)?;

@@ -1,7 +1,7 @@
 //! The words of the command line.
 use crate::fault::Fault;
 use clap::error::ErrorKind;
-use clap::{Arg, Command, Error};
+use clap::{Arg, ArgAction, Command, Error};
 use std::alloc::Global;
 use std::io::Write;
 
@@ -11,6 +11,8 @@ pub enum Asked<'a> {
     Standard,
     /// The marks of a configuration's streams.
     Marks(&'a str),
+    /// The same, with the counts beside them.
+    MarksAndCounts(&'a str),
     /// The report of a configuration's studio.
     Play(&'a str),
     /// What a configuration means.
@@ -26,6 +28,7 @@ pub fn asked_for<'a>(alloc: Global, words: &'a [String]) -> Result<Asked<'a>, Er
     match inner.get_str("CONFIG") {
         Some(path) if name == "play" => Ok(Asked::Play(path)),
         Some(path) if name == "check" => Ok(Asked::Check(path)),
+        Some(path) if inner.get_flag("counts") => Ok(Asked::MarksAndCounts(path)),
         Some(path) => Ok(Asked::Marks(path)),
         None => Ok(Asked::Standard),
     }
@@ -37,6 +40,12 @@ fn command<'a>(alloc: Global) -> Result<Command<'a>, Error> {
         alloc,
         "marks",
         "Lists the marks of a trace, stream by stream",
+    )?
+    .arg(
+        Arg::new(alloc, "counts")
+            .long("counts")
+            .help("Tell the counts of all paths and merges on standard error")
+            .action(ArgAction::SetTrue),
     )?;
     let play = with_config(alloc, "play", "Plays a trace to its datagrams and counts")?;
     let check = with_config(alloc, "check", "Says what a configuration means")?;

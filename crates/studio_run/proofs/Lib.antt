@@ -1,5 +1,6 @@
 pub mod BufferLemmas
 pub mod CountedLemmas
+pub mod CountedListingLemmas
 pub mod DecimalLemmas
 pub mod FieldsLemmas
 pub mod LinesLemmas

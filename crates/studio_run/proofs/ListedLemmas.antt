@@ -1,5 +1,6 @@
 -- The lines of a studio's marks, one after another.
-use Rattle.std.proofs.Common.{◌≡◌, ◌<◌, ◌≤◌, ◌+◌, ℕ, zero, suc, ℤ, List, [], ◌∷◌, ◌++◌, length, take, drop, get_or, Option, Some, None, slice_get, refl, sym, ap, subst, ◌∙◌, arith, append_assoc, take-append-drop}
+use Rattle.std.proofs.Common.{◌≡◌, inl, inr, ◌<◌, ◌≤◌, ◌+◌, ℕ, zero, suc, ℤ, List, [], ◌∷◌, ◌++◌, length, take, drop, get_or, Option, Some, None, set, slice_get, refl, sym, ap, subst, ◌∙◌, arith, append_assoc, take-append-drop}
+use Rattle.std.proofs.lemmas.Bool.{cases_lt}
 use Rattle.std.proofs.lemmas.List.{append-nil, take_all}
 use Rattle.std.proofs.lemmas.Option.{slice_get-get_or, slice_get_within}
 use Rattle.std.proofs.Math.Seq.{take-add}
@@ -7,7 +8,10 @@ use Rattle.stream_rules.specs.StreamSpecFacts.{Stream}
 use Rattle.stream_rules.specs.MarkFacts.{MarkView}
 use Rattle.studio_session.specs.Event.{TraceEvent}
 use Rattle.studio_session.specs.Cursor.{CursorState, HasPulled}
+use Rattle.studio_spec.specs.Studio.{Studio}
 use Rattle.studio_session.specs.Play.{AreNew, stream_marks}
+use Rattle.studio_session.specs.Report.{ArePulled, HasPulledSome}
+use Rattle.studio_mix.proofs.MixerLemmas.{set_other_at, set_same_at}
 use Rattle.studio_session.proofs.ReportLemmas.{all_taken}
 use Rattle.studio_run.specs.Buffer.{PassesOn, BreaksOff}
 use Rattle.studio_run.specs.Text.{mark_line, marks_text}
@@ -141,3 +145,41 @@ new_at streams open_at cursors i cursor new at =
 pub texts_all : (text : Stream → ℕ → List ℕ) (streams : List Stream) (n : ℕ) → length streams ≤ n
     → (a b : Option (List ℕ)) (h j : List ℕ) → PassesOn a h b j (texts_from text 0 (take n streams)) → PassesOn a h b j (texts_from text 0 streams)
 texts_all text streams n all a b h j wrote = subst (λ (l : List Stream). PassesOn a h b j (texts_from text 0 l)) (take_all n streams all) wrote
+
+-- the cursors of the first streams have given some marks
+pub record AreFirstPulled (studio : Studio) (events : List TraceEvent) (cursors : List CursorState) (n : ℕ) : Type 0 where
+  pub each : (i : ℕ) (stream : Stream) (cursor : CursorState) → i < n → slice_get studio.streams i ≡ Some stream → slice_get cursors i ≡ Some cursor
+      → HasPulledSome stream i studio.open_at events cursor
+
+pub none_pulled : (studio : Studio) (events : List TraceEvent) (cursors : List CursorState) → AreFirstPulled studio events cursors 0
+none_pulled studio events cursors = record { each = λ i stream cursor less. absurd (let h : i < 0 = less in omega (arith, h)) }
+
+pub one_more_pulled : (studio : Studio) (events : List TraceEvent) (cursors : List CursorState) (n : ℕ) (new : CursorState) (own : Stream) → slice_get studio.streams n ≡ Some own → n < length cursors
+    → AreFirstPulled studio events cursors n → HasPulledSome own n studio.open_at events new → AreFirstPulled studio events (set cursors n new) (n + 1)
+one_more_pulled studio events cursors n new own is within first pulled = record {
+  each = λ i stream cursor less there at. elim (cases_lt i n) [
+    | inl before ↦ first.each i stream cursor before there (set_other_at cursors n i new cursor (λ e. absurd (omega (arith, e, before))) at)
+    | inr past ↦
+        let here : i ≡ n = omega (arith, past, less) in
+        here_is i stream cursor here there at
+  ];
+}
+  where
+    same_stream : (x y : Stream) → Some x ≡ Some y → x ≡ y
+    same_stream x y e = cc
+
+    here_is : (i : ℕ) (stream : Stream) (cursor : CursorState) → i ≡ n → slice_get studio.streams i ≡ Some stream → slice_get (set cursors n new) i ≡ Some cursor
+        → HasPulledSome stream i studio.open_at events cursor
+    here_is i stream cursor here there at =
+        let s : own ≡ stream = same_stream own stream (sym is ∙ ap (slice_get studio.streams) (sym here) ∙ there) in
+        let c : new ≡ cursor = sym (set_same_at cursors n new cursor within (ap (slice_get (set cursors n new)) (sym here) ∙ at)) in
+        rw (here, ← s, ← c) pulled
+
+pub all_pulled : (studio : Studio) (events : List TraceEvent) (cursors : List CursorState) (n : ℕ) → length cursors ≡ length studio.streams → length studio.streams ≤ n
+    → AreFirstPulled studio events cursors n → ArePulled studio events cursors
+all_pulled studio events cursors n count all first = record {
+  count = count;
+  each = λ i stream cursor is at.
+      let within : i < length studio.streams = slice_get_within studio.streams i stream is in
+      first.each i stream cursor (omega (arith, within, all)) is at;
+}

@@ -1,4 +1,5 @@
 pub mod Buffer
+pub mod CountedListing
 pub mod Fields
 pub mod LineEvent
 pub mod Lines

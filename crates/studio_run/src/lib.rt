@@ -3,9 +3,11 @@
 
 mod buffer;
 mod counted;
+mod counted_listing;
 mod device;
 mod events;
 mod field;
+mod laws;
 mod line;
 mod listed;
 mod listing;
@@ -16,17 +18,17 @@ mod report;
 mod reported;
 #[cfg(test)]
 mod tests;
-mod text;
 mod trace;
 mod traced;
 
 pub use buffer::TextBuffer;
+pub use counted_listing::list_marks_and_counts;
 pub use device::{ReadFault, WriteFault, read_text, write_text};
 pub use events::read_trace;
+pub use laws::a_report_is_the_only_one;
 pub use listing::write_mark;
 pub use player::{PlayFault, list_marks, play};
 pub use report::{write_datagram, write_merge_counts, write_path_counts};
 pub use studio_session::{PathCounts, StudioEvent};
-pub use text::push_listing;
 pub use trace::{TraceFault, TraceKind};
 pub use traced::{TracedEvents, checked_trace};

@@ -1,10 +1,12 @@
 //! The listing of a studio: the lines of its marks, stream after stream.
+ghost use Rattle.std.specs.Io.KnownBytes.{Appends};
 ghost use Rattle.std.specs.Prelude.{◌≡◌, ℕ, ℤ, List, [], Option, length, None, All, OnOk, OnErr};
 ghost use Rattle.stream_rules.specs.StreamSpecFacts.{Stream};
 ghost use Rattle.studio_spec.specs.Studio.{Studio};
 ghost use Rattle.studio_session.specs.Event.{TraceEvent};
 ghost use Rattle.studio_session.specs.Cursor.{HasPulled, IsReadyFor, IsRunnable, IsSameCursor};
 ghost use Rattle.studio_session.specs.Play.{AreNew, IsRunnableBy};
+ghost use Rattle.studio_session.specs.Report.{ArePulled, HasPulledSome};
 ghost use Rattle.studio_run.specs.Buffer.{PassesOn, BreaksOff};
 ghost use Rattle.studio_run.specs.Listing.{listing_text, stream_listing};
 ghost use Rattle.studio_run.specs.Listed.{HasListed, HasListedAll};
@@ -77,6 +79,9 @@ fn write_marks<E: EventSource, W: Write>(
     ensures fault { OnErr result ((stream : Stream) (number : ℕ) (open_at : ℤ)
         → IsRunnable stream number open_at (E.events source.now) → HasPulled stream number open_at (E.events source.now) cursor.old 0
         → BreaksOff (W.contents writer.old) text.old (W.contents writer.new) (stream_listing open_at (E.events source.now) stream number)) }
+    ensures pulled { OnOk result ((stream : Stream) (number : ℕ) (open_at : ℤ)
+        → IsRunnable stream number open_at (E.events source.now) → HasPulled stream number open_at (E.events source.now) cursor.old 0
+        → HasPulledSome stream number open_at (E.events source.now) cursor.new) }
 {
     'events: loop {
         write_on_way(text, writer, cursor)?;
@@ -88,7 +93,7 @@ fn write_marks<E: EventSource, W: Write>(
 }
 
 /// Writes the lines of all marks of all streams, before whose first events the cursors are.
-pub(crate) fn write_listing<E: EventSource, W: Write>(
+fn write_listing<E: EventSource, W: Write>(
     text: &mut TextBuffer,
     writer: &mut W,
     source: &E,
@@ -99,9 +104,35 @@ pub(crate) fn write_listing<E: EventSource, W: Write>(
         → PassesOn (W.contents writer.old) text.old (W.contents writer.new) text.new (listing_text studio (E.events source.now))) }
     ensures fault { OnErr result ((studio : Studio) → IsRunnableBy studio (E.events source.now) → AreNew studio.streams studio.open_at cursors.old (length studio.streams)
         → BreaksOff (W.contents writer.old) text.old (W.contents writer.new) (listing_text studio (E.events source.now))) }
+    ensures ready { OnOk result (All (IsReadyFor (E.events source.now)) cursors.new) }
+    ensures pulled { OnOk result ((studio : Studio) → IsRunnableBy studio (E.events source.now) → AreNew studio.streams studio.open_at cursors.old (length studio.streams)
+        → ArePulled studio (E.events source.now) cursors.new) }
 {
     for number in 0..cursors.len() {
         write_marks(text, writer, source, &mut cursors[number])?;
     }
+    Ok(())
+}
+
+/// Writes them through an empty buffer, which is empty again.
+pub(crate) fn write_whole_listing<E: EventSource, W: Write>(
+    text: &mut TextBuffer,
+    writer: &mut W,
+    source: &E,
+    cursors: &mut [Cursor],
+) -> Result<(), WriteFault>
+    requires empty { text.old ≡ [] }
+    requires ready { All (IsReadyFor (E.events source.now)) cursors.old }
+    ensures ok { OnOk result ((studio : Studio) → IsRunnableBy studio (E.events source.now) → AreNew studio.streams studio.open_at cursors.old (length studio.streams)
+        → Appends (W.contents writer.old) (W.contents writer.new) (listing_text studio (E.events source.now))) }
+    ensures fault { OnErr result ((studio : Studio) → IsRunnableBy studio (E.events source.now) → AreNew studio.streams studio.open_at cursors.old (length studio.streams)
+        → BreaksOff (W.contents writer.old) [] (W.contents writer.new) (listing_text studio (E.events source.now))) }
+    ensures empty { OnOk result (text.new ≡ []) }
+    ensures ready { OnOk result (All (IsReadyFor (E.events source.now)) cursors.new) }
+    ensures pulled { OnOk result ((studio : Studio) → IsRunnableBy studio (E.events source.now) → AreNew studio.streams studio.open_at cursors.old (length studio.streams)
+        → ArePulled studio (E.events source.now) cursors.new) }
+{
+    write_listing(text, writer, source, cursors)?;
+    text.finish(writer)?;
     Ok(())
 }

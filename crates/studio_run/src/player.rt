@@ -9,7 +9,7 @@ ghost use Rattle.studio_run.specs.Reported.{IsReport};
 
 use crate::buffer::TextBuffer;
 use crate::device::{ReadFault, WriteFault, read_text};
-use crate::listed::write_listing;
+use crate::listed::write_whole_listing;
 use crate::reported::write_report;
 use crate::trace::{TraceFault, TraceKind};
 use crate::traced::TracedEvents;
@@ -91,7 +91,7 @@ fn write_trace<R: Read, W: Write>(
 }
 
 /// Reads a trace to its end.
-fn read_all<R: Read>(alloc: Global, reader: &mut R) -> Result<Vec<u8>, PlayFault>
+pub(crate) fn read_all<R: Read>(alloc: Global, reader: &mut R) -> Result<Vec<u8>, PlayFault>
     ensures ok { IfOk result (λ trace. Consumes (R.remaining reader.old) (R.remaining reader.new) trace.items) }
     ensures end { OnOk result (IsAtEnd (R.remaining reader.new)) }
     ensures fault { IfErr result (StopsReading (R.remaining reader.old) (R.remaining reader.new)) }
@@ -124,7 +124,7 @@ fn write_text_of<W: Write>(
 }
 
 /// The events of a trace, if none is at fault.
-fn runnable_events<'a>(
+pub(crate) fn runnable_events<'a>(
     alloc: Global,
     spec: &StudioSpec,
     trace: &'a [u8],
@@ -192,10 +192,7 @@ fn write_events_listing<W: Write>(
     let Ok(mut text) = TextBuffer::new(alloc) else {
         return Err(PlayFault::Memory);
     };
-    let Ok(()) = write_listing(&mut text, writer, events, cursors.as_mut_slice()) else {
-        return Err(PlayFault::Write);
-    };
-    let Ok(()) = text.finish(writer) else {
+    let Ok(()) = write_whole_listing(&mut text, writer, events, cursors.as_mut_slice()) else {
         return Err(PlayFault::Write);
     };
     Ok(())

@@ -17,6 +17,12 @@ const REPORT: &str = "out 806100000000000000000002000001000002000003000004000005
     merge 0 arrived 2 taken 2 from_a 2 from_b 0 double 0 unlike 0 off_grid 0 late 0 ahead 0 source 0 \
     got 2 lost 0 restarts 0\n";
 
+/// The counts of the report.
+const COUNTS: &str = "path 0 a offered 2 sent 2 bad 0 type 0 length 0 full 0\n\
+    path 0 b offered 0 sent 0 bad 0 type 0 length 0 full 0\n\
+    merge 0 arrived 2 taken 2 from_a 2 from_b 0 double 0 unlike 0 off_grid 0 late 0 ahead 0 source 0 \
+    got 2 lost 0 restarts 0\n";
+
 /// The configuration, and a line after it.
 fn config_with(alloc: Global, line: &str) -> Result<String, AllocError> {
     let mut text = String::from_str(alloc, CONFIG)?;
@@ -31,6 +37,9 @@ fn commands_take_a_configuration(rt: HostRuntime) -> Result<(), Fail> {
     let config = config_with(alloc, "gains = [[65536]]")?;
     let marks = outcome_with(alloc, &["marks", "studio.toml"], config.as_bytes())?;
     expect(&rt, &marks, 0, STORED_LISTING, "", "marks");
+    let words = ["marks", "studio.toml", "--counts"];
+    let counted = outcome_with(alloc, &words, config.as_bytes())?;
+    expect(&rt, &counted, 0, STORED_LISTING, COUNTS, "counts");
     let report = outcome_with(alloc, &["play", "studio.toml"], config.as_bytes())?;
     assert_eq!(rt; report.status, 0, "play");
     assert_eq!(rt; report.output.text(), REPORT, "play");
@@ -115,8 +124,9 @@ fn a_configuration_that_is_too_long_is_not_read(rt: HostRuntime) -> Result<(), F
 #[test]
 fn other_words_are_usage_faults(rt: HostRuntime) -> Result<(), Fail> {
     let alloc = rt.alloc();
-    let table: [&[&str]; 5] = [
+    let table: [&[&str]; 6] = [
         &["live", "studio.toml"],
+        &["play", "studio.toml", "--counts"],
         &["studio.toml"],
         &["marks"],
         &["play", "one", "two"],

@@ -21,6 +21,7 @@ fn each_line_has_its_form(rt: HostRuntime) -> Result<(), Fail> {
     assert_eq!(rt; payload.len(), 4);
     let marks = [
         Mark::quiet(format, -7),
+        Mark::quiet(format, 0),
         Mark::slot(format, 0, 65_537, -6, Body::Lost),
         Mark::slot(format, 3, 65_538, 6, Body::Got(payload)),
         Mark::end(format),
@@ -59,7 +60,8 @@ fn each_line_has_its_form(rt: HostRuntime) -> Result<(), Fail> {
     write_merge_counts(&mut text, &mut page, 4, 4, &counts)?;
     assert!(rt; page.is_empty(), "a short text is held");
     text.finish(&mut page)?;
-    let wanted = "15 quiet -7\n15 slot 65537 -6 lost\n15 slot 3:65538 6 got 000fa0ff\n15 end\n\
+    let wanted =
+        "15 quiet -7\n15 quiet 0\n15 slot 65537 -6 lost\n15 slot 3:65538 6 got 000fa0ff\n15 end\n\
         out 8060ff\n\
         path 0 c offered 21 sent 15 bad 1 type 2 length 3 full 0\n\
         merge 4 arrived 36 taken 8 from_a 5 double 3 unlike 4 off_grid 5 late 6 ahead 9 source 1 \

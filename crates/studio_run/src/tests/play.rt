@@ -1,6 +1,6 @@
 //! Whole traces to their listings and reports, and readers and writers that fail on the way.
 use super::{Page, repeated};
-use crate::{PlayFault, TraceFault, TraceKind, list_marks, play};
+use crate::{PlayFault, TraceFault, TraceKind, list_marks, list_marks_and_counts, play};
 use gain_mix::{Matrix, Schedule};
 use mix_packets::OutSpec;
 use path_merge::{StreamClock, StreamSpec};
@@ -26,6 +26,12 @@ const LISTING: &str = "0 slot 65537 0 got 000001000002000003000004000005000006\n
 const REPORT: &str = "out 806100000000000000000002000001000002000003000004000005000006\n\
     out 80610001000000060000000200000700000800000900000a00000b00000c\n\
     path 0 a offered 2 sent 2 bad 0 type 0 length 0 full 0\n\
+    path 0 b offered 0 sent 0 bad 0 type 0 length 0 full 0\n\
+    merge 0 arrived 2 taken 2 from_a 2 from_b 0 double 0 unlike 0 off_grid 0 late 0 ahead 0 source 0 \
+    got 2 lost 0 restarts 0\n";
+
+/// The counts of the report.
+const COUNTS: &str = "path 0 a offered 2 sent 2 bad 0 type 0 length 0 full 0\n\
     path 0 b offered 0 sent 0 bad 0 type 0 length 0 full 0\n\
     merge 0 arrived 2 taken 2 from_a 2 from_b 0 double 0 unlike 0 off_grid 0 late 0 ahead 0 source 0 \
     got 2 lost 0 restarts 0\n";
@@ -80,6 +86,43 @@ fn lists_the_marks_of_a_trace(rt: HostRuntime) -> Result<(), Fail> {
         "a listing"
     );
     assert_eq!(rt; str::from_utf8(page.as_slice()), Ok(LISTING));
+    Ok(())
+}
+
+#[test]
+fn counts_are_told_beside_the_listing(rt: HostRuntime) -> Result<(), Fail> {
+    let alloc = rt.alloc();
+    let studio = studio(&rt, alloc)?;
+    let mut page = Vec::new(alloc);
+    let mut counts = Vec::new(alloc);
+    let trace = TRACE.as_bytes();
+    assert!(rt;
+        list_marks_and_counts(alloc, &studio, &mut &trace[..], &mut page, &mut counts).is_ok(),
+        "a listing"
+    );
+    assert_eq!(rt; str::from_utf8(page.as_slice()), Ok(LISTING));
+    assert_eq!(rt; str::from_utf8(counts.as_slice()), Ok(COUNTS));
+    Ok(())
+}
+
+#[test]
+fn a_listing_that_breaks_off_has_no_counts(rt: HostRuntime) -> Result<(), Fail> {
+    let alloc = rt.alloc();
+    let studio = studio(&rt, alloc)?;
+    let mut page = Page {
+        octets: Vec::new(alloc),
+        room: LISTING.len() - 1,
+    };
+    let mut counts = Vec::new(alloc);
+    let answer = list_marks_and_counts(
+        alloc,
+        &studio,
+        &mut TRACE.as_bytes(),
+        &mut page,
+        &mut counts,
+    );
+    assert!(rt; matches!(answer, Err(PlayFault::Write)), "no room");
+    assert!(rt; counts.is_empty(), "nothing was counted");
     Ok(())
 }
 

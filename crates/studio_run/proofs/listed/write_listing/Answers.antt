@@ -5,7 +5,7 @@ use Rattle.studio_mix.proofs.MixerLemmas.{set_other_at}
 use Rattle.studio_session.specs.Cursor.{IsReadyFor}
 use Rattle.studio_run.specs.Listing.{stream_listing}
 use Rattle.studio_run.proofs.BufferLemmas.{PassesOn-none}
-use Rattle.studio_run.proofs.ListedLemmas.{new_at, texts_after, texts_all, texts_broken}
+use Rattle.studio_run.proofs.ListedLemmas.{all_pulled, new_at, none_pulled, one_more_pulled, texts_after, texts_all, texts_broken}
 use Rattle.studio_run.proofs.listed.write_listing.Goals as goal
 
 pub loop-number-init : goal.loop-number-init
@@ -13,6 +13,7 @@ loop-number-init g c = record {
   ready = c.requires.ready;
   rest = λ j cursor h at. at;
   wrote = λ studio run new. PassesOn-none _ _;
+  pulled = λ studio run new. none_pulled studio (g.E.EventSource.events c.args.source.now) c.args.cursors.now;
 }
 
 pub loop-number-preserved : goal.loop-number-preserved
@@ -31,6 +32,10 @@ loop-number-preserved g c =
           let own = new_at studio.streams studio.open_at c.args.cursors.now i (get_or cursors i item) new (inv.rest i (get_or cursors i item) (omega arith) at) in
           texts_after (stream_listing studio.open_at events) studio.streams i own.stream own.is _ _ _ _ _ _ (inv.wrote studio run new)
           (c.in_ok-write_marks.ensures.ok own.stream i studio.open_at (run.each i own.stream own.is) (own.pulled events));
+      pulled = λ studio run new.
+          let own = new_at studio.streams studio.open_at c.args.cursors.now i (get_or cursors i item) new (inv.rest i (get_or cursors i item) (omega arith) at) in
+          one_more_pulled studio events cursors i c.write_marks.new.cursor own.stream own.is within (inv.pulled studio run new)
+          (c.in_ok-write_marks.ensures.pulled own.stream i studio.open_at (run.each i own.stream own.is) (own.pulled events));
     }
 
 pub returns-in_err-write_marks-clause-fault : goal.returns-in_err-write_marks-clause-fault
@@ -47,6 +52,14 @@ returns-in_err-write_marks-clause-fault g c =
     let own = new_at studio.streams studio.open_at c.args.cursors.now i (get_or cursors i item) new (inv.rest i (get_or cursors i item) (omega arith) at) in
     texts_broken (stream_listing studio.open_at events) studio.streams i own.stream own.is _ _ _ _ _ (inv.wrote studio run new)
     (c.in_err-write_marks.ensures.fault own.stream i studio.open_at (run.each i own.stream own.is) (own.pulled events)))
+
+pub returns-clause-pulled : goal.returns-clause-pulled
+returns-clause-pulled g c = λ studio run new.
+    let end : c.loop-number.number ≡ length c.args.cursors.now = omega (arith, c.loop-number-test.false, c.loop-number.auto.number-end) in
+    let count = new.count_is in
+    let kept = c.loop-number.auto.cursors in
+    all_pulled studio (g.E.EventSource.events c.args.source.now) c.loop-number.cursors c.loop-number.number (omega (arith, end, count, kept)) (omega (arith, end, count))
+    (c.loop-number.invariant.pulled studio run new)
 
 pub returns-clause-ok : goal.returns-clause-ok
 returns-clause-ok g c = λ studio run new.

@@ -1,4 +1,5 @@
 use Rattle.std.proofs.Common.{◌≡◌, ◌≤◌, ℕ, length, take, All, Some, slice_get}
+use Rattle.studio_run.proofs.ListedLemmas.{AreFirstPulled}
 use Rattle.studio_spec.specs.Studio.{Studio}
 use Rattle.studio_session.specs.Cursor.{CursorState, IsReadyFor}
 use Rattle.studio_session.specs.Play.{IsRunnableBy, AreNew}
@@ -13,4 +14,6 @@ invariant-loop-number g l = record {
   rest : (j : ℕ) (cursor : CursorState) → l.number ≤ j → slice_get l.cursors j ≡ Some cursor → slice_get l.fn.cursors j ≡ Some cursor;
   wrote : (studio : Studio) → IsRunnableBy studio (g.E.EventSource.events l.source) → AreNew studio.streams studio.open_at l.fn.cursors (length studio.streams)
       → PassesOn (g.W.Write.contents l.fn.writer) l.fn.text (g.W.Write.contents l.writer) l.text (texts_from (stream_listing studio.open_at (g.E.EventSource.events l.source)) 0 (take l.number studio.streams));
+  pulled : (studio : Studio) → IsRunnableBy studio (g.E.EventSource.events l.source) → AreNew studio.streams studio.open_at l.fn.cursors (length studio.streams)
+      → AreFirstPulled studio (g.E.EventSource.events l.source) l.cursors l.number;
 }

@@ -40,3 +40,10 @@ returns-then-not-take_event-clause-ok g c = λ stream number open_at run pulled.
     let on = c.in_ok-write_on_way.ensures.ok stream number open_at events _ _ run (c.events.invariant.stands stream number open_at run pulled) in
     let left = c.in_ok-write_left.ensures.ok stream number open_at events _ _ run on in
     listed_all stream number open_at events _ _ _ _ c.write_left.new.cursor (c.take_event.ensures.all c.if-not-take_event.true).1 left
+
+pub returns-then-not-take_event-clause-pulled : goal.returns-then-not-take_event-clause-pulled
+returns-then-not-take_event-clause-pulled g c = λ stream number open_at run pulled.
+    let events = g.E.EventSource.events c.args.source.now in
+    let on = c.in_ok-write_on_way.ensures.ok stream number open_at events _ _ run (c.events.invariant.stands stream number open_at run pulled) in
+    let left = c.in_ok-write_left.ensures.ok stream number open_at events _ _ run on in
+    record { given = left.listed.given; pulled = c.take_event.ensures.stands stream number open_at left.listed.given run left.listed.pulled }
