@@ -24,11 +24,12 @@ bin/darbexum: $(sources)
 run: build
 	bin/darbexum < examples/first/input.trace
 
-# The examples are played by the program that the gate has built.
+# The examples and the faults are tried with the program that the gate has built.
 test:
 	docs/check
 	rt ci
 	examples/check crates/studio_main/out/studio_main
+	examples/statuses crates/studio_main/out/studio_main
 
 check:
 	rt all check
