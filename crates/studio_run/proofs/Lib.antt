@@ -10,5 +10,6 @@ pub mod PlayLemmas
 pub mod ReadLemmas
 pub mod ReaderLemmas
 pub mod ReportedLemmas
+pub mod SearchLemmas
 pub mod TraceLemmas
 pub mod ListedLemmas

@@ -8,12 +8,13 @@ ghost use Rattle.stream_rules.specs.Counts.{tally_of};
 ghost use Rattle.stream_rules.specs.Marks as slots;
 ghost use Rattle.path_merge.specs.Merge.{HasHistory};
 ghost use Rattle.path_merge.specs.Steps.{marks_left, Moves};
-ghost use Rattle.studio_session.specs.declared.source.Step.TheVariants.{Datagram};
-ghost use Rattle.studio_session.specs.Event.{TraceEvent};
+ghost use Rattle.studio_session.specs.declared.source.Step.TheVariants.{Datagram, Other};
+ghost use Rattle.studio_session.specs.Event.{TraceEvent, outline_of};
 ghost use Rattle.studio_session.specs.Session.{stream_history, step_of, event_in, FitsReception};
 ghost use Rattle.studio_session.specs.Way.{IsOnWay, WentOn, on_way_after};
 ghost use Rattle.studio_session.specs.Cursor.{HasPulled, IsReadyFor, IsSameCursor, IsRunnable, IsDue, IsOnTheWay, FitsStep, way_left, events_left};
 
+use crate::event::Outline;
 use crate::reception::Reception;
 use crate::source::{EventSource, Step};
 use path_merge::{Counts, Mark, MarkKind, Merge, Path, SlotWindow, StreamSpec};
@@ -155,7 +156,8 @@ impl Cursor {
         self.merge.drain()
     }
 
-    /// Takes the next event; false where none is left.
+    /// Takes the next event of the stream, and passes over those of others before it; false where no
+    /// event is left.
     pub fn take_event<E: EventSource>(&mut self, source: &E) -> bool
         requires settled { self.old.reading ≡ None }
         requires ready { IsReadyFor (E.events source.now) self.old }
@@ -169,9 +171,58 @@ impl Cursor {
         if self.place >= source.count() {
             return false;
         }
+        self.pass_over_others(source);
+        self.take_one(source);
+        true
+    }
+
+    /// Passes over the events up to the next one of the stream.
+    fn pass_over_others<E: EventSource>(&mut self, source: &E)
+        requires ready { IsReadyFor (E.events source.now) self.old }
+        ensures ready { IsReadyFor (E.events source.now) self.new }
+        ensures reading { self.new.reading ≡ self.old.reading }
+        ensures onward { self.old.place ≤ self.new.place }
+        ensures stands { (stream : Stream) (number : ℕ) (open_at : ℤ) (k : ℕ)
+            → HasPulled stream number open_at (E.events source.now) self.old k → HasPulled stream number open_at (E.events source.now) self.new k }
+    {
+        'others: while self.place < source.count() {
+            if !is_of_another(source.outline(self.place), self.number) {
+                return;
+            }
+            self.pass_over();
+        }
+    }
+
+    /// Passes over an event of another stream.
+    fn pass_over(&mut self)
+        requires place { self.old.place < usize.MAX }
+        ensures place { self.new.place ≡ self.old.place + 1 }
+        ensures spec { self.new.spec ≡ self.old.spec }
+        ensures number { self.new.number ≡ self.old.number }
+        ensures reading { self.new.reading ≡ self.old.reading }
+        ensures stands { (stream : Stream) (number : ℕ) (open_at : ℤ) (events : List TraceEvent) (event : TraceEvent) (k : ℕ)
+            → slice_get events self.old.place ≡ Some event → step_of stream number event ≡ Other
+            → HasPulled stream number open_at events self.old k → HasPulled stream number open_at events self.new k }
+    {
+        self.place += 1;
+    }
+
+    /// Takes the event that comes next, if one is left.
+    fn take_one<E: EventSource>(&mut self, source: &E)
+        requires settled { self.old.reading ≡ None }
+        requires ready { IsReadyFor (E.events source.now) self.old }
+        ensures ready { IsReadyFor (E.events source.now) self.new }
+        ensures stands { (stream : Stream) (number : ℕ) (open_at : ℤ) (k : ℕ)
+            → IsRunnable stream number open_at (E.events source.now)
+            → HasPulled stream number open_at (E.events source.now) self.old k → HasPulled stream number open_at (E.events source.now) self.new k }
+        ensures taken { self.old.place < length (E.events source.now) → self.new.place ≡ self.old.place + 1 }
+        ensures none { length (E.events source.now) ≤ self.old.place → self.new ≡ self.old }
+    {
+        if self.place >= source.count() {
+            return;
+        }
         let step = source.step(self.place, self.number, &self.spec);
         self.take_step(step);
-        true
     }
 
     /// Takes a datagram of the stream.
@@ -230,6 +281,17 @@ fn go_on(merge: &mut Merge<SlotWindow>, now: i64) -> Option<Mark>
     match merge.advance(now) {
         Ok(mark) => mark,
         Err(_) => None,
+    }
+}
+
+/// Whether an event is another stream's datagram.
+fn is_of_another(event: Outline, number: u8) -> bool
+    ensures { result ≡ true → (stream : Stream) (said : TraceEvent) → event ≡ outline_of said → step_of stream number said ≡ Other }
+{
+    match event {
+        Outline::Arrive { stream, .. } => stream != number,
+        Outline::Tick(_) => false,
+        Outline::Close => false,
     }
 }
 

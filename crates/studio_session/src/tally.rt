@@ -1,14 +1,17 @@
 //! The counts of a run: of each path, and of each merge.
-ghost use Rattle.std.specs.Prelude.{◌≡◌, ◌<◌, ℕ, ℤ, map, All, IfOk};
+ghost use Rattle.std.specs.Prelude.{◌≡◌, ◌<◌, ℕ, ℤ, false, length, map, slice_get, All, IfOk, Some};
 ghost use Rattle.stream_rules.specs.StreamSpecFacts.{Stream};
 ghost use Rattle.studio_spec.specs.Studio.{Studio};
-ghost use Rattle.studio_session.specs.Counts.{path_counts_of, path_tallies, path_tally_of, with_step};
+ghost use Rattle.studio_session.specs.Event.{TraceEvent, outline_of};
+ghost use Rattle.studio_session.specs.Session.{step_of};
+ghost use Rattle.studio_session.specs.Counts.{PathTally, path_counts_of, path_tallies, path_tally_of, with_step};
 ghost use Rattle.studio_session.specs.Cursor.{IsReadyFor, IsRunnable};
 ghost use Rattle.studio_session.specs.Play.{IsRunnableBy};
 ghost use Rattle.studio_session.specs.Report.{AreCounts, AreCountsOf, ArePulled, HasPulledSome};
 
 use crate::counts::PathCounts;
 use crate::cursor::Cursor;
+use crate::event::Outline;
 use crate::finish::finish_stream;
 use crate::report::StreamCounts;
 use crate::source::{EventSource, Step};
@@ -32,6 +35,38 @@ fn count_step(counts: &mut PathCounts, path: u8, step: Step)
     }
 }
 
+/// Whether an event is a datagram of a stream on a path.
+fn is_on_path(event: Outline, number: u8, path: u8) -> bool
+    ensures { result ≡ false → (stream : Stream) (said : TraceEvent) (tally : PathTally) → event ≡ outline_of said
+        → with_step tally path (step_of stream number said) ≡ tally }
+{
+    match event {
+        Outline::Arrive { stream, path: on } => stream == number && on.number() == path,
+        Outline::Tick(_) => false,
+        Outline::Close => false,
+    }
+}
+
+/// Counts an event, if it is a datagram of a stream on a path. No other is received.
+fn count_event<E: EventSource>(
+    counts: &mut PathCounts,
+    source: &E,
+    place: usize,
+    number: u8,
+    stream: &StreamSpec,
+    path: u8,
+)
+    requires place { place < length (E.events source.now) }
+    requires few { counts.old.offered < u64.MAX }
+    ensures { (event : TraceEvent) → slice_get (E.events source.now) place ≡ Some event
+        → path_tally_of counts.new ≡ with_step (path_tally_of counts.old) path (step_of stream.now number event) }
+{
+    if !is_on_path(source.outline(place), number, path) {
+        return;
+    }
+    count_step(counts, path, source.step(place, number, stream));
+}
+
 /// The counts of one path of a stream. Takes no memory.
 pub fn path_counts<E: EventSource>(
     source: &E,
@@ -43,7 +78,7 @@ pub fn path_counts<E: EventSource>(
 {
     let mut counts = PathCounts::new();
     for place in 0..source.count() {
-        count_step(&mut counts, path, source.step(place, number, stream));
+        count_event(&mut counts, source, place, number, stream, path);
     }
     counts
 }

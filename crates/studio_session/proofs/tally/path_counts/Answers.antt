@@ -1,4 +1,5 @@
 use Rattle.std.proofs.Common.{◌≡◌, ◌≤◌, ◌<◌, ◌+◌, ◌∙◌, length, take, sym, ap, subst, arith}
+use Rattle.studio_session.specs.Session.{step_of}
 use Rattle.studio_session.specs.Counts.{PathTally, path_counts_of, path_tally_of, with_step}
 use Rattle.studio_session.proofs.CursorLemmas.{event_here}
 use Rattle.studio_session.proofs.ReportLemmas.{counts_all, counts_more, few_offered}
@@ -10,10 +11,9 @@ loop-place-preserved g c =
     let place = c.loop-place.place in
     let within : place < length events = omega (arith, c.loop-place-test.true, c.count-place-end.ensures) in
     let here = event_here events place within in
-    let counted : path_tally_of c.count_step.new.counts ≡ path_counts_of c.args.stream.now c.args.number c.args.path (take (place + 1) events) =
-    c.count_step.ensures
-    ∙ ap (λ t. with_step t c.args.path c.step.result) c.loop-place.invariant.counted
-    ∙ ap (with_step (path_counts_of c.args.stream.now c.args.number c.args.path (take place events)) c.args.path) (c.step.ensures here.0 here.1)
+    let counted : path_tally_of c.count_event.new.counts ≡ path_counts_of c.args.stream.now c.args.number c.args.path (take (place + 1) events) =
+    c.count_event.ensures here.0 here.1
+    ∙ ap (λ t. with_step t c.args.path (step_of c.args.stream.now c.args.number here.0)) c.loop-place.invariant.counted
     ∙ sym (counts_more c.args.stream.now c.args.number c.args.path events place here.0 here.1) in
     record {
       counted = counted;

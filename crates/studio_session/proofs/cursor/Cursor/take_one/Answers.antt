@@ -3,7 +3,7 @@ use Rattle.stream_rules.specs.StreamSpecFacts.{Stream}
 use Rattle.studio_session.specs.Session.{step_of}
 use Rattle.studio_session.specs.Cursor.{CursorState, FitsStep, HasPaths}
 use Rattle.studio_session.proofs.CursorLemmas.{fits_step, event_here}
-use Rattle.studio_session.proofs.cursor.Cursor.take_event.Goals as goal
+use Rattle.studio_session.proofs.cursor.Cursor.take_one.Goals as goal
 
 pub take_step-requires-clause-fits : goal.take_step-requires-clause-fits
 take_step-requires-clause-fits g c =
