@@ -1,5 +1,5 @@
 //! The events of a trace, left in its text.
-ghost use Rattle.std.specs.Prelude.{◌≡◌, ◌≤◌, ℕ, List, length, IsSome};
+ghost use Rattle.std.specs.Prelude.{◌≡◌, ◌≤◌, ◌++◌, ◌∷◌, [], ℕ, List, false, length, IsSome};
 ghost use Rattle.studio_session.specs.Event.{outline_of};
 ghost use Rattle.studio_session.specs.Session.{reception_of, step_of};
 ghost use Rattle.studio_run.specs.Trace.{trace_events, count_of, octets_of};
@@ -55,13 +55,14 @@ impl<'a> TracedEvents<'a> {
         ensures ok { IfOk result (λ events. trace_events text.now ≡ Ok events) }
         ensures fault { IfErr result (λ e. ((e ≡ fault_in 0 Memory) × HasEvents (trace_events text.now)) ⊎ (trace_events text.now ≡ Err e)) }
     {
-        let count = checked_trace(text)?;
-        let mut places = Vec::with_capacity(alloc, count).map_err(|_| WANT_OF_MEMORY)?;
+        let mut places = Vec::new(alloc);
         let mut reader = TraceReader::new(text)?;
+        let mut refused = false;
         while let Some(place) = reader.next()? {
-            let Ok(()) = places.push(place) else {
-                unreachable!()
-            };
+            refused = keep(&mut places, place, refused);
+        }
+        if refused {
+            return Err(WANT_OF_MEMORY);
         }
         Ok(TracedEvents { text, places })
     }
@@ -81,6 +82,14 @@ impl<'a> EventSource for TracedEvents<'a> {
     fn step(&self, place: usize, number: u8, stream: &StreamSpec) -> Step {
         step_in(self.text, self.places[place], number, stream)
     }
+}
+
+/// Keeps a place, unless memory was refused before. Answers whether it was refused by now: a fault of a
+/// later line is still to be found.
+fn keep(places: &mut Vec<Place>, place: Place, refused: bool) -> bool
+    ensures { result ≡ false → (refused ≡ false) × (places.new.items ≡ places.old.items ++ place ∷ []) }
+{
+    refused || places.push(place).is_err()
 }
 
 /// An event without the octets of its datagram.

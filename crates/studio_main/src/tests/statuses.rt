@@ -184,6 +184,8 @@ fn each_refused_allocation_is_answered(rt: HostRuntime) {
             "out of memory\n",
             "a run without memory",
         );
+        let again = outcome_of(rt.alloc(), STORED_TRACE.as_bytes());
+        expect(&rt, &again, 0, STORED_LISTING, "", "with memory again");
     } else {
         expect(&rt, &outcome, 0, STORED_LISTING, "", "a run with memory");
     }

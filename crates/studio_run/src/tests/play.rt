@@ -7,7 +7,7 @@ use path_merge::{StreamClock, StreamSpec};
 use rtp_wire::Enc;
 use std::alloc::Global;
 use std::io;
-use std::io::{ErrorKind, Read};
+use std::io::{ErrorKind, Read, Write};
 use std::process::Abort;
 use std::test::Fail;
 use studio_session::StudioFault;
@@ -38,19 +38,25 @@ const COUNTS: &str = "path 0 a offered 2 sent 2 bad 0 type 0 length 0 full 0\n\
 
 /// A stream of L24 in packets of six sampling instants, handed on at gain 1.
 fn studio(rt: &impl Abort, alloc: Global) -> Result<StudioSpec, Fail> {
+    Ok(studio_in(rt, alloc).ok_or("want of memory")?)
+}
+
+/// The same; none where memory is refused.
+fn studio_in(rt: &impl Abort, alloc: Global) -> Option<StudioSpec> {
     let clock = StreamClock::Media { offset: 0 };
-    let stream = match StreamSpec::new(Enc::L24, 1, 6, 96, None, clock, 12, 8, 2) {
-        Ok(stream) => stream,
-        Err(_) => { panic!(rt; "a stream without a fault") }
+    let Ok(stream) = StreamSpec::new(Enc::L24, 1, 6, 96, None, clock, 12, 8, 2) else {
+        panic!(rt; "a stream without a fault")
     };
-    let output = OutSpec::new(Enc::L24, 1, 6, 97, 2, 0, 0, 0)?;
-    let gains = Matrix::new(alloc, 1, 1, &[65_536])?;
-    let schedule = Schedule::new(gains, Vec::new(alloc))?;
+    let Ok(output) = OutSpec::new(Enc::L24, 1, 6, 97, 2, 0, 0, 0) else {
+        panic!(rt; "an output without a fault")
+    };
+    let gains = Matrix::new(alloc, 1, 1, &[65_536]).ok()?;
+    let schedule = Schedule::new(gains, Vec::new(alloc)).ok()?;
     assert!(rt; schedule.outs() == usize::from(output.channels()));
     assert!(rt; schedule.ins() == usize::from(stream.channels()));
     let mut streams = Vec::new(alloc);
-    streams.push(stream)?;
-    Ok(StudioSpec::new(0, streams, output, schedule))
+    streams.push(stream).ok()?;
+    Some(StudioSpec::new(0, streams, output, schedule))
 }
 
 /// A reader that fails at its first call.
@@ -201,22 +207,65 @@ fn a_reading_far_ahead_is_listed_until_the_writer_fails(rt: HostRuntime) -> Resu
     Ok(())
 }
 
+/// A writer that takes no memory.
+#[derive(Drop)]
+struct Sheet {
+    octets: [u8; 1024],
+    len: usize,
+    ghost within: { len ≤ 1024 },
+}
+
+impl Sheet {
+    fn new() -> Sheet {
+        Sheet {
+            octets: [0; 1024],
+            len: 0,
+        }
+    }
+
+    fn text(&self) -> &[u8] {
+        &self.octets[..self.len]
+    }
+}
+
+impl Write for Sheet {
+    fn write(&mut self, buf: &[u8]) -> io::Result<usize> {
+        let count = buf.len().min(1024 - self.len);
+        let end = self.len + count;
+        self.octets[self.len..end].copy_from_slice(&buf[..count]);
+        self.len = end;
+        Ok(count)
+    }
+
+    fn flush(&mut self) -> io::Result<()> {
+        Ok(())
+    }
+}
+
+/// What was written of the trace: the whole text, or nothing where memory was refused.
+fn is_answered(answer: Result<(), PlayFault>, sheet: &Sheet, text: &str) -> bool {
+    match answer {
+        Ok(()) => sheet.text() == text.as_bytes(),
+        Err(PlayFault::Memory) => sheet.text().is_empty(),
+        Err(_) => false,
+    }
+}
+
 #[test]
-fn want_of_memory_writes_nothing(rt: HostRuntime) -> Result<(), Fail> {
-    let studio = studio(&rt, rt.alloc())?;
-    let mut page = Page {
-        octets: Vec::new(rt.alloc()),
-        room: 0,
-    };
-    let first = list_marks(rt.alloc(), &studio, &mut "".as_bytes(), &mut page);
-    let second = list_marks(rt.alloc(), &studio, &mut "".as_bytes(), &mut page);
-    assert!(rt;
-        first.is_ok() || matches!(first, Err(PlayFault::Memory)),
-        "only memory can lack"
-    );
-    assert!(rt;
-        first.is_ok() || second.is_ok(),
-        "one of two like runs succeeds"
-    );
+fn each_refused_allocation_is_answered(rt: HostRuntime) -> Result<(), Fail> {
+    let alloc = rt.alloc();
+    let studio = studio_in(&rt, alloc)
+        .or_else(|| studio_in(&rt, alloc))
+        .ok_or("with memory again")?;
+    for _ in 0..2 {
+        let mut sheet = Sheet::new();
+        let answer = list_marks(alloc, &studio, &mut TRACE.as_bytes(), &mut sheet);
+        let good = answer.is_ok();
+        assert!(rt; is_answered(answer, &sheet, LISTING), "a listing");
+        let mut sheet = Sheet::new();
+        let answer = play(alloc, &studio, &mut TRACE.as_bytes(), &mut sheet);
+        assert!(rt; good || answer.is_ok(), "one is refused at most");
+        assert!(rt; is_answered(answer, &sheet, REPORT), "a report");
+    }
     Ok(())
 }
