@@ -18,6 +18,8 @@ mod sink;
 mod stream_job;
 mod stream_nest;
 mod stream_worker;
+#[cfg(test)]
+mod tests;
 mod timed_stream;
 
 pub use clock::Clock;

@@ -1,0 +1,275 @@
+//! Whole runs of the workers, over feeds, clocks and a sink in memory.
+mod fakes;
+mod holding;
+mod memory;
+
+use self::fakes::{FaultyFeed, ListClock, ListFeed, MemorySink};
+use crate::{Clock, Feed, Sink, WorkReport, run_workers};
+use gain_mix::{Matrix, Schedule};
+use mix_packets::OutSpec;
+use path_merge::{Counts, SpecFault, StreamClock, StreamSpec};
+use rtp_wire::Enc;
+use std::alloc::{AllocError, Global};
+use std::process::Abort;
+use std::sync::Wait;
+use std::test::Fail;
+use std::thread::Threads;
+use studio_rings::open;
+use studio_spec::StudioSpec;
+
+const FIRST: [u8; 30] = [
+    0x80, 0x60, 0, 1, 0, 0, 0, 0, 0, 0, 0, 1, 0, 0, 1, 0, 0, 2, 0, 0, 3, 0, 0, 4, 0, 0, 5, 0, 0, 6,
+];
+
+const SECOND: [u8; 30] = [
+    0x80, 0x60, 0, 2, 0, 0, 0, 6, 0, 0, 0, 1, 0, 0, 7, 0, 0, 8, 0, 0, 9, 0, 0, 10, 0, 0, 11, 0, 0,
+    12,
+];
+
+/// A stream of one channel of L24, by the media clock.
+fn stream(frames: u16, latency: u32, paths: u8) -> Result<StreamSpec, SpecFault> {
+    let clock = StreamClock::Media { offset: 0 };
+    StreamSpec::new(Enc::L24, 1, frames, 96, None, clock, latency, 8, paths)
+}
+
+/// One stream on two paths, in packets of six sampling instants; its output is alike. None where memory was refused.
+fn one_stream(rt: &impl Abort, alloc: Global) -> Option<StudioSpec> {
+    let spec = stream(6, 12, 2).ok()?;
+    let output = OutSpec::new(Enc::L24, 1, 6, 97, 2, 65_535, 0, 0).ok()?;
+    let gains = Matrix::new(alloc, 1, 1, &[65_536]).ok()?;
+    let schedule = Schedule::new(gains, Vec::new(alloc)).ok()?;
+    assert!(rt; schedule.outs() == usize::from(output.channels()));
+    assert!(rt; schedule.ins() == usize::from(spec.channels()));
+    let mut streams = Vec::new(alloc);
+    streams.push(spec).ok()?;
+    Some(StudioSpec::new(0, streams, output, schedule))
+}
+
+fn studio(rt: &impl Abort, alloc: Global) -> StudioSpec {
+    let Some(studio) = one_stream(rt, alloc) else {
+        panic!(rt; "a studio of one stream")
+    };
+    studio
+}
+
+/// Two streams of six and of 48 sampling instants a packet, on two paths and on one, added into packets of 48.
+fn six_and_forty_eight(rt: &impl Abort, alloc: Global) -> Result<StudioSpec, Fail> {
+    let (first, second) = (stream(6, 12, 2)?, stream(48, 48, 1)?);
+    let output = OutSpec::new(Enc::L24, 1, 48, 97, 2, 65_535, 0, 0)?;
+    let gains = Matrix::new(alloc, 1, 2, &[65_536, 65_536])?;
+    let schedule = Schedule::new(gains, Vec::new(alloc))?;
+    assert!(rt; schedule.outs() == usize::from(output.channels()));
+    assert!(rt; schedule.ins() == usize::from(first.channels()) + usize::from(second.channels()));
+    let mut streams = Vec::new(alloc);
+    streams.push(first)?;
+    streams.push(second)?;
+    Ok(StudioSpec::new(0, streams, output, schedule))
+}
+
+/// Runs the workers of a studio over rings of so many places.
+fn run<R: Threads + Wait + Abort + Sync, F: Feed + Send, C: Clock + Send, K: Sink>(
+    rt: &R,
+    alloc: Global,
+    studio: &StudioSpec,
+    places: usize,
+    feeds: Vec<F>,
+    clocks: Vec<C>,
+    sink: K,
+) -> Result<(WorkReport, K), Fail> {
+    let _sound = studio.streams();
+    let ends = open(alloc, studio, places)?;
+    assert!(rt; feeds.len() == ends.paths.len(), "a feed for each path");
+    assert!(rt;
+        clocks.len() == ends.streams.len(),
+        "a clock for each stream"
+    );
+    Ok(run_workers(rt, alloc, ends, feeds, clocks, sink)?)
+}
+
+/// A clock for each of so many streams, with these readings.
+fn clocks<'a>(
+    alloc: Global,
+    streams: usize,
+    readings: &'a [i64],
+) -> Result<Vec<ListClock<'a>>, AllocError> {
+    let mut clocks = Vec::new(alloc);
+    for _ in 0..streams {
+        clocks.push(ListClock::new(readings))?;
+    }
+    Ok(clocks)
+}
+
+/// The counts of the only stream.
+fn only(rt: &impl Abort, report: &WorkReport) -> Counts {
+    assert!(rt; report.settled, "all rings are finished and drained");
+    assert_eq!(rt; report.streams.len(), 1);
+    report.streams[0].merge
+}
+
+/// Blocks, and how many of them were sent and failed at each address.
+fn sends(report: &WorkReport) -> (u64, [u64; 2], [u64; 2]) {
+    let sent = [report.sent_a, report.sent_b];
+    let faults = [report.fault_a, report.fault_b];
+    (report.blocks, sent, faults)
+}
+
+/// The datagrams of the two packets: the same samples behind headers of the output.
+const OUTPUT: [[u8; 30]; 2] = [
+    [
+        0x80, 0x61, 0xff, 0xff, 0, 0, 0, 0, 0, 0, 0, 2, 0, 0, 1, 0, 0, 2, 0, 0, 3, 0, 0, 4, 0, 0,
+        5, 0, 0, 6,
+    ],
+    [
+        0x80, 0x61, 0, 0, 0, 0, 0, 6, 0, 0, 0, 2, 0, 0, 7, 0, 0, 8, 0, 0, 9, 0, 0, 10, 0, 0, 11, 0,
+        0, 12,
+    ],
+];
+
+/// Both datagrams went to the sink.
+fn gave_both<R: Abort>(rt: &R, sink: &MemorySink<R>) {
+    let handed = sink.handed();
+    assert_eq!(rt; handed.len(), 2);
+    let [first, second] = &OUTPUT;
+    assert!(rt; handed[0].as_slice() == first.as_slice(), "the first");
+    assert!(rt; handed[1].as_slice() == second.as_slice(), "the second");
+}
+
+/// Both packets on both paths, by clocks with these readings, over rings of so many places.
+fn runs_alike<R: Threads + Wait + Abort + Sync>(
+    rt: &R,
+    alloc: Global,
+    readings: &[i64],
+    places: usize,
+) -> Result<(), Fail> {
+    let studio = studio(rt, alloc);
+    let packets = [
+        Vec::from_slice(alloc, &FIRST)?,
+        Vec::from_slice(alloc, &SECOND)?,
+    ];
+    let mut feeds = Vec::new(alloc);
+    for _ in 0..2 {
+        feeds.push(ListFeed::new(&packets))?;
+    }
+    let clocks = clocks(alloc, 1, readings)?;
+    let sink = MemorySink::new(rt, alloc);
+    let (report, sink) = run(rt, alloc, &studio, places, feeds, clocks, sink)?;
+    let counts = only(rt, &report);
+    let arrivals = (counts.arrived, counts.taken, counts.double);
+    assert_eq!(rt; arrivals, (4, 2, 2), "{places} places");
+    assert_eq!(rt; (counts.got, counts.lost), (2, 0), "{places} places");
+    assert_eq!(rt; sends(&report), (2, [2, 2], [0, 0]));
+    assert_eq!(rt; report.feed_faults.as_slice(), [0u64, 0].as_slice());
+    gave_both(rt, &sink);
+    Ok(())
+}
+
+#[test]
+fn both_paths_alike(rt: HostRuntime) -> Result<(), Fail> {
+    runs_alike(&rt, rt.alloc(), &[0], 64)
+}
+
+/// It counts by the greatest answer so far, and from the opening time on.
+#[test]
+fn a_clock_that_goes_back(rt: HostRuntime) -> Result<(), Fail> {
+    for places in [1usize, 2, 64] {
+        runs_alike(&rt, rt.alloc(), &[-5, 11, 5, i64::MIN, 11, 0], places)?;
+    }
+    Ok(())
+}
+
+/// A header, and so many times these samples, one after another.
+fn datagram(alloc: Global, head: [u8; 12], runs: &[(u8, [u8; 3])]) -> Result<Vec<u8>, AllocError> {
+    let mut octets = Vec::from_slice(alloc, &head)?;
+    for (times, sample) in runs {
+        for _ in 0..*times {
+            octets.extend_from_slice(sample)?;
+        }
+    }
+    Ok(octets)
+}
+
+/// Eight packets of 1000 from 0 on, on both paths, and one of 1 from 20 on.
+#[test]
+fn two_streams_by_workers(rt: HostRuntime) -> Result<(), Fail> {
+    let alloc = rt.alloc();
+    let studio = six_and_forty_eight(&rt, alloc)?;
+    let mut thousands = Vec::new(alloc);
+    for number in 0..8u8 {
+        let head = [0x80, 0x60, 0, number + 1, 0, 0, 0, number * 6, 0, 0, 0, 1];
+        thousands.push(datagram(alloc, head, &[(6, [0, 3, 0xe8])])?)?;
+    }
+    let head = [0x80, 0x60, 0, 100, 0, 0, 0, 20, 0, 0, 0, 1];
+    let ones = [datagram(alloc, head, &[(48, [0, 0, 1])])?];
+    let mut feeds = Vec::new(alloc);
+    feeds.push(ListFeed::new(thousands.as_slice()))?;
+    feeds.push(ListFeed::new(thousands.as_slice()))?;
+    feeds.push(ListFeed::new(&ones))?;
+    let clocks = clocks(alloc, 2, &[0])?;
+    let sink = MemorySink::new(&rt, alloc);
+    let (report, sink) = run(&rt, alloc, &studio, 64, feeds, clocks, sink)?;
+    assert!(rt; report.settled);
+    assert_eq!(rt; report.streams.len(), 2);
+    let counts = report.streams[0].merge;
+    let arrivals = (counts.arrived, counts.taken, counts.double);
+    assert_eq!(rt; (arrivals, counts.got), ((16, 8, 8), 8));
+    assert_eq!(rt; report.streams[1].merge.got, 1);
+    assert_eq!(rt; sends(&report), (2, [2, 2], [0, 0]));
+    let handed = sink.handed();
+    assert_eq!(rt; handed.len(), 2);
+    let head = [0x80, 0x61, 0xff, 0xff, 0, 0, 0, 0, 0, 0, 0, 2];
+    let sums = [(20, [0, 3, 0xe8]), (28, [0, 3, 0xe9])];
+    assert_eq!(rt; handed[0], datagram(alloc, head, &sums)?);
+    let head = [0x80, 0x61, 0, 0, 0, 0, 0, 48, 0, 0, 0, 2];
+    let rest = [(20, [0, 0, 1]), (28, [0, 0, 0])];
+    assert_eq!(rt; handed[1], datagram(alloc, head, &rest)?);
+    Ok(())
+}
+
+#[test]
+fn an_address_that_fails(rt: HostRuntime) -> Result<(), Fail> {
+    let alloc = rt.alloc();
+    let studio = studio(&rt, alloc);
+    let packets = [
+        Vec::from_slice(alloc, &FIRST)?,
+        Vec::from_slice(alloc, &SECOND)?,
+    ];
+    let mut feeds = Vec::new(alloc);
+    feeds.push(ListFeed::new(&packets))?;
+    feeds.push(ListFeed::new(&[]))?;
+    let clocks = clocks(alloc, 1, &[0])?;
+    let sink = MemorySink::failing_at_b(&rt, alloc, 1);
+    let (report, sink) = run(&rt, alloc, &studio, 64, feeds, clocks, sink)?;
+    assert_eq!(rt; only(&rt, &report).got, 2);
+    assert_eq!(rt; sends(&report), (2, [2, 1], [0, 1]));
+    gave_both(&rt, &sink);
+    Ok(())
+}
+
+/// Faults before each answer of the first path's feed, the end among them.
+#[test]
+fn a_feed_ends_after_1000_faults(rt: HostRuntime) -> Result<(), Fail> {
+    let alloc = rt.alloc();
+    let studio = studio(&rt, alloc);
+    let packets = [
+        Vec::from_slice(alloc, &FIRST)?,
+        Vec::from_slice(alloc, &SECOND)?,
+    ];
+    for (in_a_row, faults, got) in [(999u32, 2_997u64, 2u64), (1_000, 1_000, 0)] {
+        let mut feeds = Vec::new(alloc);
+        feeds.push(FaultyFeed::new(in_a_row, &packets))?;
+        feeds.push(FaultyFeed::new(0, &[]))?;
+        let clocks = clocks(alloc, 1, &[0])?;
+        let sink = MemorySink::new(&rt, alloc);
+        let (report, sink) = run(&rt, alloc, &studio, 64, feeds, clocks, sink)?;
+        let counts = only(&rt, &report);
+        assert_eq!(rt;
+            (counts.arrived, counts.got),
+            (got, got),
+            "{in_a_row} faults"
+        );
+        assert_eq!(rt; report.feed_faults.as_slice(), [faults, 0].as_slice());
+        assert_eq!(rt; report.blocks, got);
+        assert_eq!(rt; sink.handed().len() as u64, got);
+    }
+    Ok(())
+}
