@@ -1,4 +1,10 @@
 //! The marks of one stream as the values of its channels at media times, block by block.
+//!
+//! `Lane::new` takes all memory. Then, for each block: while the lane `wants` the block's end, take the
+//! stream's next mark and `feed` it, where the lane `accepts` it; a mark that may not follow those before
+//! is the caller's to drop. Once the block's end is covered, `read_block` writes its values, frame by
+//! frame, and the lane stands at the next block. `cover` says how far the values are final, `end` where
+//! the last of them lies.
 #![tactic(auto)]
 
 mod cover;

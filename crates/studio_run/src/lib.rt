@@ -1,4 +1,10 @@
 //! What happens to the streams of a studio, read from a trace, and the texts of what came of it.
+//!
+//! `list_marks` and `play` are the whole: from a reader's octets to a writer's. They read to the end and
+//! find the first fault, and all memory is taken before the first write. `list_marks_and_counts` writes
+//! the counts to a second writer after the listing. Their parts stand beside them: `read_text`,
+//! `TracedEvents` (the events of a text by their places), and the lines through a `TextBuffer`, whose
+//! `finish` writes what is held at the end.
 #![tactic(auto)]
 
 mod buffer;

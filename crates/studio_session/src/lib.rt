@@ -1,4 +1,11 @@
 //! A studio on one thread: the events of a session, and the datagrams and counts that come of them.
+//!
+//! `run_studio` is the whole: from a list of events to all datagrams and counts, in memory. Its parts
+//! serve where there is no room for lists. An `EventSource` gives events by place. `first_fault` says
+//! which of them is at fault, if one is; then `Session::new` takes all memory. `next_datagram` is called
+//! until it answers none, and `into_cursors` gives each stream's cursor for its counts, after
+//! `finish_stream`. For marks in place of datagrams, `studio_cursors` gives a cursor for each stream, and
+//! `Cursor::next_mark` its marks.
 #![tactic(auto)]
 
 mod counts;

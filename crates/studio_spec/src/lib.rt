@@ -1,4 +1,8 @@
 //! What is fixed of a studio before anything happens: its streams, output, gains and ports.
+//!
+//! `StudioSpec::new` joins parts that were made one by one, with all ports absent. `from_table` reads
+//! them from a parsed TOML table, or answers the first fault by its table and key. What either gives
+//! keeps that gains fit streams and output, and the crates above take it by reference.
 #![tactic(auto)]
 
 mod config;
