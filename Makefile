@@ -2,12 +2,13 @@
 PREFIX ?= /usr/local
 sources := $(shell find crates -path '*/out' -prune -o -type f -print) crates.txt
 
-.PHONY: help build run test check fmt install clean
+.PHONY: help build run test test-memory check fmt install clean
 
 help:
 	@echo "make build    prove and build bin/darbexum"
 	@echo "make run      the program on its stored example"
 	@echo "make test     the gate: the pages, every proof from nothing, edits, tests, stored runs"
+	@echo "make test-memory  what the gate has built, with each allocation refused in turn"
 	@echo "make check    every crate's proofs, over what earlier checks kept"
 	@echo "make fmt      lay out every file"
 	@echo "make install  the program into PREFIX/bin (/usr/local)"
@@ -30,6 +31,10 @@ test:
 	rt ci
 	examples/check crates/studio_main/out/studio_main
 	examples/statuses crates/studio_main/out/studio_main
+	memory/check
+
+test-memory:
+	memory/check
 
 check:
 	rt all check
