@@ -1,4 +1,6 @@
 //! Whole traces to their listings and reports, and readers and writers that fail on the way.
+ghost use Rattle.std.specs.Prelude.{◌≤◌};
+
 use super::{Page, repeated};
 use crate::{PlayFault, TraceFault, TraceKind, list_marks, list_marks_and_counts, play};
 use gain_mix::{Matrix, Schedule};
