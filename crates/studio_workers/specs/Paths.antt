@@ -11,7 +11,7 @@ use Rattle.studio_workers.specs.Answers.{Answer, IsPartOf, packets_of, reaches_e
 use Rattle.studio_workers.specs.declared.path_job.PathJob.{PathJob}
 use Rattle.studio_workers.specs.declared.path_job.PathResult.{PathResult}
 
--- a datagram was offered, and again while it found no room, but at most 1,000 times more: its packet was sent at most once, and once where no offer was given up
+-- a datagram was offered, and again while it found no room, but at most 1,000 times more: its packet was sent at most once, and once where at most 1,000 offers found no room
 pub record OffersAgain (octets : List ℕ) (p q : PathEnd) : Type 0 where
   pub ring : SameProducer p.ring q.ring
   pub spec : q.spec ≡ p.spec
@@ -20,7 +20,7 @@ pub record OffersAgain (octets : List ℕ) (p q : PathEnd) : Type 0 where
   pub full : p.counts.full ≤ q.counts.full
   pub offered : p.counts.offered ≤ q.counts.offered
 
--- what was sent in all, of a feed that told its answers: packets of its datagrams, in order, each at most once; and all of them where no offer was given up
+-- what was sent in all, of a feed that told its answers: packets of its datagrams, in order, each at most once; and all of them where at most 1,000 offers found no room
 pub record SendsFeed (told : List Answer) (p : PathEnd) (sent_in_all : List Packet) (counts : PathCounts) : Type 0 where
   pub more : List Packet
   pub sends : sent_in_all ≡ sent p.ring ++ more

@@ -14,7 +14,7 @@ use Rattle.studio_rings.specs.Streams.{packets_by}
 use Rattle.studio_workers.specs.Answers.{Answer, IsPartOf, reaches_end, told_packets}
 use Rattle.studio_workers.specs.declared.report.WorkReport.{WorkReport}
 
--- the arrivals of a path are packets of its feed's datagrams, in order, each at most once; and all of them where no offer was given up
+-- the arrivals of a path are packets of its feed's datagrams, in order, each at most once; and all of them where at most 1,000 offers found no room
 pub record HasPathHistory (stream : Stream) (path : ℕ) (told : List Answer) (counts : PathCounts) (events : List Event) : Type 0 where
   pub some : reaches_end 0 told ≡ true → IsPartOf (packets_by path events) (told_packets stream 0 told)
   pub all : reaches_end 0 told ≡ true → counts.full ≤ 1000 → counts.offered < 2 ^ 62 → packets_by path events ≡ told_packets stream 0 told
