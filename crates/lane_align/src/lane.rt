@@ -1,9 +1,10 @@
 //! One stream's marks as frames at media times.
-ghost use Rattle.std.specs.Prelude.{◌≡◌, ◌+◌, ◌*◌, ◌^◌, ◌<◌, ◌≤◌, [], ◌∷◌, ◌++◌, List, ℤ, ℕ, pos, ◌+ℤ◌, ◌≤ℤ◌, ◌<ℤ◌, true, false, not, Some, length, take, IfOk};
+ghost use Rattle.std.specs.Prelude.{◌≡◌, ◌+◌, ◌*◌, ◌^◌, ◌<◌, ◌≤◌, [], ◌∷◌, ◌++◌, List, ℤ, ℕ, pos, ◌+ℤ◌, ◌≤ℤ◌, ◌<ℤ◌, true, false, not, Some, length, take, option_copied, IfOk};
 ghost use Rattle.stream_rules.specs.StreamSpecFacts.{Stream, format_of};
 ghost use Rattle.rtp_wire.specs.PacketTime.{is_packet_time};
 ghost use Rattle.stream_rules.specs.MarkFacts.{MarkView, HasLength, payload_length};
 ghost use Rattle.stream_rules.specs.MarkList as list;
+ghost use Rattle.stream_rules.specs.MarkRef.{body_from, kind_of};
 ghost use Rattle.stream_rules.specs.declared.mark.Body.{Body};
 ghost use Rattle.stream_rules.specs.declared.mark.MarkKind.TheVariants.{Slot};
 ghost use Rattle.lane_align.specs.Value.{frames_from};
@@ -16,7 +17,7 @@ ghost use Rattle.lane_align.specs.Lane.{IsSlot, IsAfter, body_samples, with_slot
 use crate::cover::Cover;
 use crate::frames::FrameQueue;
 use crate::last_slot::LastSlot;
-use path_merge::{Body, Format, Mark, MarkKind, StreamSpec};
+use path_merge::{Format, Mark, MarkKindRef, MarkRef, StreamSpec};
 use rtp_wire::{Enc, read_samples};
 use std::alloc::{AllocError, Global};
 use std::marker::Model;
@@ -26,8 +27,8 @@ const MOST_SAMPLES: usize = 720;
 
 /// The marks of one stream, taken one by one, and its values, given block by block.
 ///
-/// Inputs: `feed`, with a mark that it `accepts`, while it `wants` one for the next block.
-/// Outputs: `read_block`, once it doesn't. Readers: `cover`, `end`, `position`.
+/// Inputs: `feed`, with a mark that it `accepts`, while it `wants` one for the next block, or `feed_ref`
+/// and `accepts_ref` with one that is lent. Outputs: `read_block`, once it doesn't. Readers: `cover`, `end`, `position`.
 #[derive(Drop)]
 pub struct Lane {
     format: Format,
@@ -114,18 +115,18 @@ fn frames_left(frames: u16, t: i64, slot: Option<LastSlot>) -> u64
 }
 
 /// The samples of a slot, frame by frame, and silence past them.
-fn slot_samples(format: Format, body: &Body) -> [i32; MOST_SAMPLES]
+fn slot_samples(format: Format, payload: Option<&[u8]>) -> [i32; MOST_SAMPLES]
     requires count { format.frames * format.channels ≤ 720 }
-    requires len { HasLength (payload_length format) body.now }
-    ensures samples { take (format.frames * format.channels) result ≡ body_samples format body.now }
-    ensures in_24_bits { All Is24Bits (body_samples format body.now) }
+    requires len { HasLength (payload_length format) (body_from (option_copied payload)) }
+    ensures samples { take (format.frames * format.channels) result ≡ body_samples format (body_from (option_copied payload.entry)) }
+    ensures in_24_bits { All Is24Bits (body_samples format (body_from (option_copied payload.entry))) }
 {
     let mut samples = [0; MOST_SAMPLES];
-    match body {
-        Body::Got(payload) => {
-            read_samples(format.enc, payload.as_slice(), &mut samples);
+    match payload {
+        Some(octets) => {
+            read_samples(format.enc, octets, &mut samples);
         }
-        Body::Lost => {}
+        None => {}
     }
     samples
 }
@@ -218,30 +219,39 @@ impl Lane {
         ensures stands { (stream : Stream) (from : ℤ) (size : ℕ) (marks : List MarkView) (t : ℤ)
             → HasFeed stream from size self.now marks t → result ≡ list.is_mark_list (format_of stream) (marks ++ mark.now ∷ []) }
     {
+        self.accepts_ref(&mark.lent())
+    }
+
+    /// As `accepts`, of a mark that is lent.
+    pub fn accepts_ref(&self, mark: &MarkRef<'_>) -> bool
+        ensures value { result ≡ is_next self.now mark.now }
+        ensures stands { (stream : Stream) (from : ℤ) (size : ℕ) (marks : List MarkView) (t : ℤ)
+            → HasFeed stream from size self.now marks t → result ≡ list.is_mark_list (format_of stream) (marks ++ mark.now ∷ []) }
+    {
         is_same_format(mark.format(), self.format) && self.may_follow(mark.kind())
     }
 
     /// Whether what a mark says may follow the last one.
-    fn may_follow(&self, kind: &MarkKind) -> bool
-        requires { IsMark self.now.format kind.now }
-        ensures { result ≡ list.can_follow self.now.format.frames (last_kind self.now.ended self.now.slot self.now.quiet) kind.now }
+    fn may_follow(&self, kind: MarkKindRef<'_>) -> bool
+        requires { IsMark self.now.format (kind_of kind) }
+        ensures { result ≡ list.can_follow self.now.format.frames (last_kind self.now.ended self.now.slot self.now.quiet) (kind_of kind.entry) }
     {
         if self.ended {
             return false;
         }
         match kind {
-            MarkKind::Slot {
+            MarkKindRef::Slot {
                 epoch,
                 number,
                 media,
                 ..
-            } => self.may_begin(*epoch, *number, *media),
-            MarkKind::Quiet { until } => match (self.slot, self.quiet) {
+            } => self.may_begin(epoch, number, media),
+            MarkKindRef::Quiet { until } => match (self.slot, self.quiet) {
                 (Some(_), _) => false,
-                (None, Some(last)) => last < *until,
+                (None, Some(last)) => last < until,
                 (None, None) => true,
             },
-            MarkKind::End => true,
+            MarkKindRef::End => true,
         }
     }
 
@@ -268,32 +278,44 @@ impl Lane {
         ensures facts { HasSameFacts self.old self.new }
         ensures position { self.new.position ≡ self.old.position }
     {
+        self.feed_ref(&mark.lent());
+    }
+
+    /// As `feed`, of a mark that is lent: its samples are read where they lie.
+    pub fn feed_ref(&mut self, mark: &MarkRef<'_>)
+        requires accepted { is_next self.old mark.now ≡ true }
+        requires wanted { is_wanting self.old (self.old.position +ℤ pos self.old.block) ≡ true }
+        ensures stands { (stream : Stream) (from : ℤ) (size : ℕ) (marks : List MarkView) (t : ℤ)
+            → HasFeed stream from size self.old marks t → HasFeed stream from size self.new (marks ++ mark.now ∷ []) t }
+        ensures facts { HasSameFacts self.old self.new }
+        ensures position { self.new.position ≡ self.old.position }
+    {
         match mark.kind() {
-            MarkKind::Slot {
+            MarkKindRef::Slot {
                 epoch,
                 number,
                 media,
-                body,
+                payload,
             } => {
                 let slot = LastSlot {
-                    epoch: *epoch,
-                    number: *number,
-                    media: *media,
+                    epoch,
+                    number,
+                    media,
                 };
-                self.take_slot(slot, body);
+                self.take_slot(slot, payload);
             }
-            MarkKind::Quiet { until } => self.quiet = Some(*until),
-            MarkKind::End => self.ended = true,
+            MarkKindRef::Quiet { until } => self.quiet = Some(until),
+            MarkKindRef::End => self.ended = true,
         }
     }
 
     /// Takes a slot after the last.
-    fn take_slot(&mut self, slot: LastSlot, body: &Body)
+    fn take_slot(&mut self, slot: LastSlot, payload: Option<&[u8]>)
         requires small { IsSlot (Some slot) }
-        requires len { HasLength (payload_length self.old.format) body.now }
+        requires len { HasLength (payload_length self.old.format) (body_from (option_copied payload)) }
         requires after { IsAfter self.old.format.frames self.old.slot slot.media }
         requires wanted { is_wanting self.old (self.old.position +ℤ pos self.old.block) ≡ true }
-        ensures taken { self.new ≡ with_slot self.old slot body.now }
+        ensures taken { self.new ≡ with_slot self.old slot (body_from (option_copied payload.entry)) }
         ensures left { length self.old.values ≡ state.frames_left self.old.format.frames self.old.position self.old.slot * self.old.format.channels }
     {
         let channels = usize::from(self.format.channels);
@@ -302,7 +324,7 @@ impl Lane {
         let before = frames_between(self.position, slot.media) - held;
         let stored = before.min(u64::from(self.block) - held);
         let skipped = frames_between(slot.media, self.position).min(frames as u64) as usize;
-        let samples = slot_samples(self.format, body);
+        let samples = slot_samples(self.format, payload);
         let rest = &samples[skipped * channels..frames * channels];
         self.values.add(stored as usize, before - stored, rest);
         self.slot = Some(slot);

@@ -16,15 +16,15 @@ use crate::lanes::{are_covered, new_lanes, reach_past, read_lanes};
 use gain_mix::{Schedule, mix_span};
 use lane_align::Lane;
 use mix_packets::{OutSpec, Packer};
-use path_merge::Mark;
+use path_merge::{Mark, MarkRef};
 use std::alloc::{AllocError, Global};
 use std::marker::Model;
 use studio_spec::StudioSpec;
 
 /// The lanes of a studio's streams, and its output, block by block.
 ///
-/// Inputs: `feed`, with a mark that it `accepts`, while it `wants` one of that stream. Outputs:
-/// `next_block`. Readers: `streams`, `output`. No call but `new` takes memory.
+/// Inputs: `feed`, with a mark that it `accepts`, while it `wants` one of that stream, or `feed_ref` and
+/// `accepts_ref` with one that is lent. Outputs: `next_block`. Readers: `streams`, `output`. No call but `new` takes memory.
 #[derive(Drop)]
 pub struct Mixer {
     lanes: Vec<Lane>,
@@ -116,8 +116,19 @@ impl Mixer {
             → HasFeeds studio self.now feeds number → slice_get feeds stream ≡ Some feed
             → result ≡ is_mark_list (format_of feed.stream) (feed.marks ++ mark.now ∷ []) }
     {
+        self.accepts_ref(stream, &mark.lent())
+    }
+
+    /// As `accepts`, of a mark that is lent.
+    pub fn accepts_ref(&self, stream: usize, mark: &MarkRef<'_>) -> bool
+        requires { stream < length self.now.lanes }
+        ensures value { result ≡ is_next_of self.now stream mark.now }
+        ensures stands { (studio : Studio) (feeds : List Feed) (number : ℕ) (feed : Feed)
+            → HasFeeds studio self.now feeds number → slice_get feeds stream ≡ Some feed
+            → result ≡ is_mark_list (format_of feed.stream) (feed.marks ++ mark.now ∷ []) }
+    {
         let lane = &self.lanes[stream];
-        lane.accepts(mark)
+        lane.accepts_ref(mark)
     }
 
     /// Takes the next mark of a stream.
@@ -130,8 +141,21 @@ impl Mixer {
         ensures packer { self.new.packer ≡ self.old.packer }
         ensures streams { length self.new.lanes ≡ length self.old.lanes }
     {
+        self.feed_ref(stream, &mark.lent());
+    }
+
+    /// As `feed`, of a mark that is lent.
+    pub fn feed_ref(&mut self, stream: usize, mark: &MarkRef<'_>)
+        requires accepted { is_next_of self.old stream mark.now ≡ true }
+        requires wanted { is_wanted_by self.old stream ≡ true }
+        ensures stands { (studio : Studio) (feeds : List Feed) (number : ℕ) (feed : Feed)
+            → HasFeeds studio self.old feeds number → slice_get feeds stream ≡ Some feed
+            → HasFeeds studio self.new (slice_set feeds stream (record { stream = feed.stream; marks = feed.marks ++ mark.now ∷ [] })) number }
+        ensures packer { self.new.packer ≡ self.old.packer }
+        ensures streams { length self.new.lanes ≡ length self.old.lanes }
+    {
         let lane = &mut self.lanes[stream];
-        lane.feed(mark);
+        lane.feed_ref(mark);
     }
 
     /// Whether the next block is final.

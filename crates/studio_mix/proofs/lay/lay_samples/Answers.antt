@@ -1,4 +1,4 @@
-use Rattle.std.proofs.Common.{◌≡◌, ◌+◌, ◌*◌, ℤ, pos, get_or, sym, subst, ◌∙◌, arith, All, to_z, of_z, w32}
+use Rattle.std.proofs.Common.{◌≡◌, ◌+◌, ◌*◌, ℤ, pos, get_or, sym, subst, ◌∙◌, arith, to_z, of_z, w32}
 use Rattle.std.proofs.lemmas.List.Elements.{All-set}
 use Rattle.gain_mix.specs.Mix.{Is24Bits}
 use Rattle.studio_mix.proofs.LayLemmas.{laid_sample, laid_samples, sample_in_32}

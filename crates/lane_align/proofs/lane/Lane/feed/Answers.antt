@@ -1,45 +1,7 @@
-use Rattle.std.proofs.Common.{◌≡◌, ◌∙◌, ◌++◌, ◌∷◌, [], Some, sym, ap, subst, arith, rules, to_z, of_z, w64}
-use Rattle.std.proofs.lemmas.Int.{ints}
-use Rattle.stream_rules.specs.MarkFacts.{HasLength, payload_length}
-use Rattle.lane_align.specs.Lane.{HasFeed, IsAfter, with_slot}
-use Rattle.lane_align.proofs.LaneLemmas.{fed_next, lane_of}
-use Rattle.lane_align.proofs.SlotLemmas.{fed_slot, fed_quiet, fed_end, next_after}
+use Rattle.std.proofs.Common.{◌++◌, ◌∷◌, [], subst}
+use Rattle.lane_align.specs.Lane.{HasFeed}
 use Rattle.lane_align.proofs.lane.Lane.feed.Goals as goal
 
-pub take_slot-requires-clause-after : goal.take_slot-requires-clause-after
-take_slot-requires-clause-after c =
-    let now = c.args.self.now in
-    let s = c.in-Slot in
-    let same : to_z w64 (of_z w64 s.media) ≡ s.media = omega (arith, ints) in
-    subst (IsAfter now.format.frames now.slot) (sym same) (next_after now c.args.mark s.epoch s.number s.media s.body c.requires.accepted (sym c.kind.ensures.value ∙ s.is))
-
-pub returns-in-Slot-clause-stands : goal.returns-in-Slot-clause-stands
-returns-in-Slot-clause-stands c = λ stream from size marks t fed.
-    let now = c.args.self.now in
-    let s = c.in-Slot in
-    let is_slot = sym c.kind.ensures.value ∙ s.is in
-    let same : to_z w64 (of_z w64 s.media) ≡ s.media = omega (arith, ints) in
-    let after = next_after now c.args.mark s.epoch s.number s.media s.body c.requires.accepted is_slot in
-    let listed = sym (fed_next stream from size now marks t c.args.mark fed) ∙ c.requires.accepted in
-    let fits : HasLength (payload_length now.format) s.body = search rules in
-    let taken = c.take_slot.ensures.taken ∙ ap (λ m. with_slot now (record { epoch = s.epoch; number = s.number; media = m }) s.body) same in
-    subst (λ l. HasFeed stream from size l (marks ++ c.args.mark ∷ []) t) (sym taken)
-    (fed_slot stream from size now marks t c.args.mark s.epoch s.number s.media s.body fed is_slot fits after c.take_slot.ensures.left listed)
-
-pub returns-in-Quiet-clause-stands : goal.returns-in-Quiet-clause-stands
-returns-in-Quiet-clause-stands c = λ stream from size marks t fed.
-    let i = c.self.inside in
-    let lane = lane_of i.format i.start i.block i.position i.slot i.quiet i.ended i.values.values in
-    let fed' : HasFeed stream from size lane marks t = subst (λ l. HasFeed stream from size l marks t) (sym c.self.view_is) fed in
-    let listed = sym (fed_next stream from size c.args.self.now marks t c.args.mark fed) ∙ c.requires.accepted in
-    let same : to_z w64 (of_z w64 c.in-Quiet.until) ≡ c.in-Quiet.until = omega (arith, ints) in
-    subst (λ u. HasFeed stream from size (lane_of i.format i.start i.block i.position i.slot (Some u) i.ended i.values.values) (marks ++ c.args.mark ∷ []) t) (sym same)
-    (fed_quiet stream from size lane marks t c.args.mark c.in-Quiet.until fed' (sym c.kind.ensures.value ∙ c.in-Quiet.is) listed)
-
-pub returns-in-End-clause-stands : goal.returns-in-End-clause-stands
-returns-in-End-clause-stands c = λ stream from size marks t fed.
-    let i = c.self-in-End.inside in
-    let lane = lane_of i.format i.start i.block i.position i.slot i.quiet i.ended i.values.values in
-    let fed' : HasFeed stream from size lane marks t = subst (λ l. HasFeed stream from size l marks t) (sym c.self-in-End.view_is) fed in
-    let listed = sym (fed_next stream from size c.args.self.now marks t c.args.mark fed) ∙ c.requires.accepted in
-    fed_end stream from size lane marks t c.args.mark fed' (sym c.kind.ensures.value ∙ c.in-End.is) listed
+pub returns-clause-stands : goal.returns-clause-stands
+returns-clause-stands c = λ stream from size marks t fed.
+    subst (λ m. HasFeed stream from size c.feed_ref.new.self (marks ++ m ∷ []) t) c.lent.ensures (c.feed_ref.ensures.stands stream from size marks t fed)

@@ -1,6 +1,8 @@
+use Rattle.std.specs.Prelude.{option_copied}
 use Rattle.std.proofs.Common.{◌≡◌, ◌≤◌, ◌<◌, ◌+◌, ◌-◌, ◌*◌, ◌^◌, pos, ◌+ℤ◌, Some, true, length, ap, sym, subst, ◌∙◌, refl, arith, to_z, of_z, w64}
 use Rattle.std.proofs.lemmas.Int.{ints}
 use Rattle.stream_rules.specs.MarkFacts.{HasLength, payload_length}
+use Rattle.stream_rules.specs.MarkRef.{body_from}
 use Rattle.lane_align.specs.Held.{Held}
 use Rattle.lane_align.specs.Lane.{LaneState, IsAfter, is_wanting, frames_between, frames_left, with_slot}
 use Rattle.lane_align.proofs.LaneLemmas.{lane_of}
@@ -68,12 +70,12 @@ invariant_of-self c =
     let before = c.frames_between.ensures ∙ ap (λ t. frames_between t (to_z w64 (of_z w64 c.args.slot.media))) same ∙ ap (frames_between i.position) same_media in
     let past_by = c.frames_between-2.ensures ∙ ap (λ t. frames_between t (to_z w64 (of_z w64 i.position))) same_media ∙ ap (frames_between c.args.slot.media) same in
     let lane = lane_of i.format i.start i.block i.position i.slot i.quiet i.ended i.values.values in
-    let fits : HasLength (payload_length i.format) c.args.body.now = subst (λ (l : LaneState). HasLength (payload_length l.format) c.args.body.now) (sym c.self.view_is) c.requires.len in
-    let added : c.add.new.self ≡ record i.values { values = (with_slot lane c.args.slot c.args.body.now).values } =
-    slot_added lane i.values c.add.new.self c.args.slot c.args.body.now c.frames_left-held.result c.frames_between.result c.min-stored.result (c.frames_between.result - c.frames_left-held.result - c.min-stored.result) c.from.result c.frames_between-2.result c.min-skipped.result c.from-channels.result c.from-frames.result c.slot_samples-samples.result
+    let fits : HasLength (payload_length i.format) (body_from (option_copied c.args.payload)) = subst (λ (l : LaneState). HasLength (payload_length l.format) (body_from (option_copied c.args.payload))) (sym c.self.view_is) c.requires.len in
+    let added : c.add.new.self ≡ record i.values { values = (with_slot lane c.args.slot (body_from (option_copied c.args.payload))).values } =
+    slot_added lane i.values c.add.new.self c.args.slot (body_from (option_copied c.args.payload)) c.frames_left-held.result c.frames_between.result c.min-stored.result (c.frames_between.result - c.frames_left-held.result - c.min-stored.result) c.from.result c.frames_between-2.result c.min-skipped.result c.from-channels.result c.from-frames.result c.slot_samples-samples.result
     s fits left before past_by c.from-channels.ensures c.from-frames.ensures c.min-stored.ensures refl c.min-skipped.ensures c.slot_samples-samples.ensures.samples c.add.ensures in
     let after : IsAfter i.format.frames i.slot c.args.slot.media = subst (λ (l : LaneState). IsAfter l.format.frames l.slot c.args.slot.media) (sym c.self.view_is) c.requires.after in
-    slot_sound lane i.values c.add.new.self c.args.slot c.args.body.now s c.requires.small fits after added c.slot_samples-samples.ensures.in_24_bits
+    slot_sound lane i.values c.add.new.self c.args.slot (body_from (option_copied c.args.payload)) s c.requires.small fits after added c.slot_samples-samples.ensures.in_24_bits
 
 pub returns-clause-taken : goal.returns-clause-taken
 returns-clause-taken c =
@@ -89,12 +91,12 @@ returns-clause-taken c =
     let before = c.frames_between.ensures ∙ ap (λ t. frames_between t (to_z w64 (of_z w64 c.args.slot.media))) same ∙ ap (frames_between i.position) same_media in
     let past_by = c.frames_between-2.ensures ∙ ap (λ t. frames_between t (to_z w64 (of_z w64 i.position))) same_media ∙ ap (frames_between c.args.slot.media) same in
     let lane = lane_of i.format i.start i.block i.position i.slot i.quiet i.ended i.values.values in
-    let fits : HasLength (payload_length i.format) c.args.body.now = subst (λ (l : LaneState). HasLength (payload_length l.format) c.args.body.now) (sym c.self.view_is) c.requires.len in
-    let added : c.add.new.self ≡ record i.values { values = (with_slot lane c.args.slot c.args.body.now).values } =
-    slot_added lane i.values c.add.new.self c.args.slot c.args.body.now c.frames_left-held.result c.frames_between.result c.min-stored.result (c.frames_between.result - c.frames_left-held.result - c.min-stored.result) c.from.result c.frames_between-2.result c.min-skipped.result c.from-channels.result c.from-frames.result c.slot_samples-samples.result
+    let fits : HasLength (payload_length i.format) (body_from (option_copied c.args.payload)) = subst (λ (l : LaneState). HasLength (payload_length l.format) (body_from (option_copied c.args.payload))) (sym c.self.view_is) c.requires.len in
+    let added : c.add.new.self ≡ record i.values { values = (with_slot lane c.args.slot (body_from (option_copied c.args.payload))).values } =
+    slot_added lane i.values c.add.new.self c.args.slot (body_from (option_copied c.args.payload)) c.frames_left-held.result c.frames_between.result c.min-stored.result (c.frames_between.result - c.frames_left-held.result - c.min-stored.result) c.from.result c.frames_between-2.result c.min-skipped.result c.from-channels.result c.from-frames.result c.slot_samples-samples.result
     s fits left before past_by c.from-channels.ensures c.from-frames.ensures c.min-stored.ensures refl c.min-skipped.ensures c.slot_samples-samples.ensures.samples c.add.ensures in
     ap (λ (h : Held). lane_of i.format i.start i.block i.position (Some c.args.slot) i.quiet i.ended h.values) added
-    ∙ ap (λ (l : LaneState). with_slot l c.args.slot c.args.body.now) c.self.view_is
+    ∙ ap (λ (l : LaneState). with_slot l c.args.slot (body_from (option_copied c.args.payload))) c.self.view_is
 
 pub returns-clause-left : goal.returns-clause-left
 returns-clause-left c = subst (λ (l : LaneState). length l.values ≡ frames_left l.format.frames l.position l.slot * l.format.channels) c.self.view_is c.self.invariant.left

@@ -1,7 +1,7 @@
 use Rattle.std.proofs.Common.{◌≡◌, ◌∙◌, rules}
 use Rattle.lane_align.specs.Lane.{is_next}
 use Rattle.lane_align.proofs.LaneLemmas.{fed_next}
-use Rattle.lane_align.proofs.lane.Lane.accepts.Goals as goal
+use Rattle.lane_align.proofs.lane.Lane.accepts_ref.Goals as goal
 
 pub returns-then-is_same_format-clause-stands : goal.returns-then-is_same_format-clause-stands
 returns-then-is_same_format-clause-stands c = λ stream from size marks t fed.

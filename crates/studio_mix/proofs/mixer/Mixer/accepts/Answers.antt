@@ -1,0 +1,8 @@
+use Rattle.std.proofs.Common.{◌≡◌, ◌++◌, ◌∷◌, [], subst}
+use Rattle.stream_rules.specs.StreamSpecFacts.{format_of}
+use Rattle.stream_rules.specs.MarkList.{is_mark_list}
+use Rattle.studio_mix.proofs.mixer.Mixer.accepts.Goals as goal
+
+pub returns-clause-stands : goal.returns-clause-stands
+returns-clause-stands c = λ studio feeds number feed fed at.
+    subst (λ m. c.accepts_ref.result ≡ is_mark_list (format_of feed.stream) (feed.marks ++ m ∷ [])) c.lent.ensures (c.accepts_ref.ensures.stands studio feeds number feed fed at)
