@@ -49,7 +49,7 @@ impl<'a> Model for MarkRef<'a> {
 
 impl<'a> MarkRef<'a> {
     ghost use Rattle.stream_rules.specs.MarkFacts.{IsTime, HasLength, IsMark};
-    ghost use Rattle.stream_rules.specs.MarkRef.{kind_of};
+    ghost use Rattle.stream_rules.specs.MarkRef.{kind_of, HasShortBody};
     ghost use Rattle.stream_rules.specs.declared.mark.MarkKind.TheVariants.{Slot, Quiet, End};
 
     /// The slot of a number, whose first sampling instant is at `media`.
@@ -109,6 +109,7 @@ impl<'a> MarkRef<'a> {
     pub fn kind(&self) -> MarkKindRef<'a>
         ensures value { kind_of result ≡ self.now.kind }
         ensures sound { IsMark self.now.format self.now.kind }
+        ensures short { HasShortBody (kind_of result) }
     {
         self.kind
     }

@@ -7,9 +7,9 @@ use Rattle.stream_rules.specs.StreamSpecFacts.{Stream}
 use Rattle.stream_rules.specs.CountsFacts.{Tally}
 use Rattle.studio_spec.specs.Studio.{Studio}
 use Rattle.studio_session.specs.Event.{TraceEvent}
-use Rattle.studio_session.specs.Counts.{PathTally, path_counts_of}
+use Rattle.studio_session.specs.Counts.{AreTallies, PathTally, path_counts_of}
 use Rattle.studio_session.specs.Cursor.{CursorState}
-use Rattle.studio_session.specs.Report.{ArePulled, HasPulledSome, merge_tally_of}
+use Rattle.studio_session.specs.Report.{ArePulled, HasCounts, HasPulledSome, merge_tally_of}
 use Rattle.studio_run.specs.Buffer.{PassesOn, BreaksOff}
 use Rattle.studio_run.specs.Report.{merge_line, path_line}
 use Rattle.studio_run.specs.Listing.{paths_text, stream_counts_text}
@@ -83,6 +83,13 @@ pub stream_broken_early : (stream spec : Stream) (number called : ℕ) (open_at 
 stream_broken_early stream spec number called open_at events same call a c h line =
     subst (BreaksOff a h c) (named stream spec number called spec.paths open_at events (merge_tally_of stream number open_at events) same call refl refl)
     (BreaksOff-longer a c h (paths_text spec called events spec.paths) (merge_line called spec.paths (merge_tally_of stream number open_at events)) line)
+
+-- the tallies of a cursor that took all events, by its own names
+pub own_tallies : (stream : Stream) (number : ℕ) (open_at : ℤ) (events : List TraceEvent) (cursor : CursorState) → HasCounts stream number open_at events cursor
+    → AreTallies cursor.spec cursor.number events cursor.tallies
+own_tallies stream number open_at events cursor counts =
+    subst (λ (s : Stream). AreTallies s cursor.number events cursor.tallies) (sym counts.spec)
+    (subst (λ n. AreTallies stream n events cursor.tallies) (sym counts.stream_number) counts.paths)
 
 -- the stream of a cursor
 pub record IsOf (streams : List Stream) (open_at : ℤ) (events : List TraceEvent) (i : ℕ) (cursor : CursorState) : Type 0 where

@@ -7,14 +7,15 @@ use Rattle.std.proofs.Math.Seq.{take-add}
 use Rattle.stream_rules.specs.StreamSpecFacts.{Stream}
 use Rattle.stream_rules.specs.MarkFacts.{MarkView}
 use Rattle.studio_session.specs.Event.{TraceEvent}
-use Rattle.studio_session.specs.Cursor.{CursorState, HasPulled}
+use Rattle.studio_session.specs.Cursor.{CursorState, HasPulled, IsDue, IsOnTheWay, IsRunnable}
+use Rattle.studio_session.proofs.CursorLemmas.{mark_of_whole}
 use Rattle.studio_spec.specs.Studio.{Studio}
 use Rattle.studio_session.specs.Play.{AreNew, stream_marks}
 use Rattle.studio_session.specs.Report.{ArePulled, HasPulledSome}
 use Rattle.studio_mix.proofs.MixerLemmas.{set_other_at, set_same_at}
 use Rattle.studio_session.proofs.ReportLemmas.{all_taken}
 use Rattle.studio_run.specs.Buffer.{PassesOn, BreaksOff}
-use Rattle.studio_run.specs.Text.{mark_line, marks_text}
+use Rattle.studio_run.specs.Text.{mark_line, marks_text, next_line}
 use Rattle.studio_run.specs.Listing.{stream_listing, texts_from}
 use Rattle.studio_run.specs.Listed.{HasListed, HasListedAll}
 use Rattle.studio_run.proofs.BufferLemmas.{PassesOn-none, PassesOn-trans, BreaksOff-longer, BreaksOff-later}
@@ -37,7 +38,7 @@ lines_all : (number k : ℕ) (marks : List MarkView) → marks_text number marks
 lines_all number k marks = ap (marks_text number) (sym (take-append-drop k marks)) ∙ marks_text-append number (take k marks) (drop k marks)
 
 -- one mark more was written
-pub listed_more : (stream : Stream) (number : ℕ) (open_at : ℤ) (events : List TraceEvent) (a b c : Option (List ℕ)) (h i j : List ℕ) (old new : CursorState) (mark : MarkView) (named : ℕ)
+listed_more : (stream : Stream) (number : ℕ) (open_at : ℤ) (events : List TraceEvent) (a b c : Option (List ℕ)) (h i j : List ℕ) (old new : CursorState) (mark : MarkView) (named : ℕ)
     → (l : HasListed stream number open_at events a h old b i) → mark ∷ [] ≡ take 1 (drop l.given (stream_marks stream number open_at events))
     → HasPulled stream number open_at events new (l.given + 1) → named ≡ number → PassesOn b i c j (mark_line named mark.kind)
     → HasListed stream number open_at events a h new c j
@@ -49,17 +50,46 @@ listed_more stream number open_at events a b c h i j old new mark named l is pul
       (subst (λ n. PassesOn b i c j (mark_line n mark.kind)) same line));
 }
 
--- the line of one mark more broke off
-pub listed_fault : (stream : Stream) (number : ℕ) (open_at : ℤ) (events : List TraceEvent) (a b c : Option (List ℕ)) (h i : List ℕ) (old : CursorState) (mark : MarkView) (named : ℕ)
-    → (l : HasListed stream number open_at events a h old b i) → mark ∷ [] ≡ take 1 (drop l.given (stream_marks stream number open_at events))
-    → named ≡ number → BreaksOff b i c (mark_line named mark.kind)
-    → BreaksOff a h c (stream_listing open_at events stream number)
-listed_fault stream number open_at events a b c h i old mark named l is same line =
+-- the line of the next mark was written, if there is one
+pub listed_given : (stream : Stream) (number : ℕ) (open_at : ℤ) (events : List TraceEvent) (a b c : Option (List ℕ)) (h i j : List ℕ) (old new : CursorState) (mark : Option MarkView) (named : ℕ)
+    → IsRunnable stream number open_at events → (l : HasListed stream number open_at events a h old b i) → IsOnTheWay stream number open_at events new l.given mark
+    → named ≡ number → PassesOn b i c j (next_line named mark) → HasListed stream number open_at events a h new c j
+listed_given stream number open_at events a b c h i j old new (Some mark) named run l given same line =
+    listed_more stream number open_at events a b c h i j old new mark named l
+    (mark_of_whole stream number open_at events new.place l.given mark run (given.mark mark refl)) given.stands same line
+listed_given stream number open_at events a b c h i j old new None named run l given same line =
+    let none : l.given + 0 ≡ l.given = omega arith in
+    let marks = marks_text number (take l.given (stream_marks stream number open_at events)) in
+    record {
+      given = l.given;
+      pulled = subst (HasPulled stream number open_at events new) none given.stands;
+      wrote = subst (PassesOn a h c j) (append-nil marks) (PassesOn-trans a b c h i j marks [] l.wrote line);
+    }
+
+-- no line is left
+pub listed_end : (stream : Stream) (number : ℕ) (open_at : ℤ) (events : List TraceEvent) (a b c : Option (List ℕ)) (h i j : List ℕ) (old new : CursorState)
+    → (l : HasListed stream number open_at events a h old b i) → IsDue stream number open_at events new l.given None → PassesOn b i c j []
+    → HasListedAll stream number open_at events a h new c j
+listed_end stream number open_at events a b c h i j old new l due line =
+    let none : l.given + 0 ≡ l.given = omega arith in
+    let marks = marks_text number (take l.given (stream_marks stream number open_at events)) in
+    record {
+      listed = record {
+        given = l.given;
+        pulled = subst (HasPulled stream number open_at events new) none due.stands;
+        wrote = subst (PassesOn a h c j) (append-nil marks) (PassesOn-trans a b c h i j marks [] l.wrote line);
+      };
+      none = due.mark;
+    }
+
+-- no further line was written
+pub listed_fault : (stream : Stream) (number : ℕ) (open_at : ℤ) (events : List TraceEvent) (a b c : Option (List ℕ)) (h i : List ℕ) (old : CursorState)
+    → HasListed stream number open_at events a h old b i → BreaksOff b i c [] → BreaksOff a h c (stream_listing open_at events stream number)
+listed_fault stream number open_at events a b c h i old l fault =
     let marks = stream_marks stream number open_at events in
-    subst (BreaksOff a h c) (sym (lines_all number (l.given + 1) marks ∙ ap (λ t. t ++ marks_text number (drop (l.given + 1) marks)) (lines_more number l.given marks mark is)))
-    (BreaksOff-longer a c h (marks_text number (take l.given marks) ++ mark_line number mark.kind) (marks_text number (drop (l.given + 1) marks))
-    (BreaksOff-later a b c h i (marks_text number (take l.given marks)) (mark_line number mark.kind) l.wrote
-    (subst (λ n. BreaksOff b i c (mark_line n mark.kind)) same line)))
+    let first = marks_text number (take l.given marks) in
+    subst (BreaksOff a h c) (sym (lines_all number l.given marks))
+    (BreaksOff-longer a c h first (marks_text number (drop l.given marks)) (subst (BreaksOff a h c) (append-nil first) (BreaksOff-later a b c h i first [] l.wrote fault)))
 
 -- nothing is left
 pub listed_all : (stream : Stream) (number : ℕ) (open_at : ℤ) (events : List TraceEvent) (a b : Option (List ℕ)) (h i : List ℕ) (cursor : CursorState) → length events ≤ cursor.place

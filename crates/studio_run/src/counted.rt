@@ -1,7 +1,9 @@
 //! The lines of a studio's counts, stream after stream.
-ghost use Rattle.std.specs.Prelude.{◌≡◌, ℕ, ℤ, length, All, OnOk, OnErr};
+ghost use Rattle.std.specs.Prelude.{◌≡◌, ℕ, ℤ, List, length, All, OnOk, OnErr};
 ghost use Rattle.stream_rules.specs.StreamSpecFacts.{Stream};
 ghost use Rattle.studio_spec.specs.Studio.{Studio};
+ghost use Rattle.studio_session.specs.Event.{TraceEvent};
+ghost use Rattle.studio_session.specs.Counts.{AreTallies};
 ghost use Rattle.studio_session.specs.Cursor.{IsReadyFor, IsRunnable};
 ghost use Rattle.studio_session.specs.Play.{IsRunnableBy};
 ghost use Rattle.studio_session.specs.Report.{ArePulled, HasPulledSome};
@@ -11,27 +13,32 @@ ghost use Rattle.studio_run.specs.Listing.{counts_text_of, paths_text, stream_co
 use crate::buffer::TextBuffer;
 use crate::device::WriteFault;
 use crate::report::{write_merge_counts, write_path_counts};
-use path_merge::{Path, StreamSpec};
+use path_merge::Path;
 use std::io::Write;
-use studio_session::{Cursor, EventSource, finish_stream, path_counts};
+use studio_session::{Cursor, EventSource, finish_stream};
 
 /// Writes the line of each path of a stream.
-fn write_paths<E: EventSource, W: Write>(
+fn write_paths<W: Write>(
     text: &mut TextBuffer,
     writer: &mut W,
-    source: &E,
-    number: u8,
-    stream: &StreamSpec,
+    cursor: &Cursor,
 ) -> Result<(), WriteFault>
-    ensures ok { OnOk result (PassesOn (W.contents writer.old) text.old (W.contents writer.new) text.new (paths_text stream.now number (E.events source.now) stream.now.paths)) }
-    ensures fault { OnErr result (BreaksOff (W.contents writer.old) text.old (W.contents writer.new) (paths_text stream.now number (E.events source.now) stream.now.paths)) }
+    ensures ok { OnOk result ((events : List TraceEvent) → AreTallies cursor.now.spec cursor.now.number events cursor.now.tallies
+        → PassesOn (W.contents writer.old) text.old (W.contents writer.new) text.new (paths_text cursor.now.spec cursor.now.number events cursor.now.spec.paths)) }
+    ensures fault { OnErr result ((events : List TraceEvent) → AreTallies cursor.now.spec cursor.now.number events cursor.now.tallies
+        → BreaksOff (W.contents writer.old) text.old (W.contents writer.new) (paths_text cursor.now.spec cursor.now.number events cursor.now.spec.paths)) }
 {
-    for place in 0..stream.paths() {
+    for place in 0..cursor.spec().paths() {
         let Some(path) = Path::new(place) else {
             unreachable!()
         };
-        let counts = path_counts(source, number, stream, place);
-        write_path_counts(text, writer, number, path, &counts)?;
+        write_path_counts(
+            text,
+            writer,
+            cursor.number(),
+            path,
+            &cursor.path_counts(path),
+        )?;
     }
     Ok(())
 }
@@ -52,11 +59,10 @@ fn write_stream_counts<E: EventSource, W: Write>(
         → IsRunnable stream number open_at (E.events source.now) → HasPulledSome stream number open_at (E.events source.now) cursor.old
         → BreaksOff (W.contents writer.old) text.old (W.contents writer.new) (stream_counts_text open_at (E.events source.now) stream number)) }
 {
-    let stream = cursor.spec();
-    let number = cursor.number();
-    write_paths(text, writer, source, number, &stream)?;
     finish_stream(cursor, source);
-    write_merge_counts(text, writer, number, stream.paths(), &cursor.counts())?;
+    write_paths(text, writer, cursor)?;
+    let paths = cursor.spec().paths();
+    write_merge_counts(text, writer, cursor.number(), paths, &cursor.counts())?;
     Ok(())
 }
 

@@ -37,4 +37,4 @@ pub use player::{PlayFault, list_marks, play};
 pub use report::{write_datagram, write_merge_counts, write_path_counts};
 pub use studio_session::{PathCounts, StudioEvent};
 pub use trace::{TraceFault, TraceKind};
-pub use traced::{TracedEvents, checked_trace};
+pub use traced::TracedEvents;

@@ -13,7 +13,7 @@ ghost use Rattle.studio_run.specs.Listed.{HasListed, HasListedAll};
 
 use crate::buffer::TextBuffer;
 use crate::device::WriteFault;
-use crate::listing::write_mark;
+use crate::listing::write_next;
 use std::io::Write;
 use studio_session::{Cursor, EventSource};
 
@@ -33,9 +33,9 @@ fn write_on_way<W: Write>(
     ensures kept { IsSameCursor cursor.old cursor.new }
 {
     'marks: loop {
-        match cursor.next_on_way() {
-            Some(mark) => write_mark(text, writer, cursor.number(), &mark)?,
-            None => return Ok(()),
+        write_next(text, writer, cursor.number(), cursor.mark_on_way())?;
+        if !cursor.pass_on_way() {
+            return Ok(());
         }
     }
 }
@@ -57,9 +57,9 @@ fn write_left<W: Write>(
     ensures kept { IsSameCursor cursor.old cursor.new }
 {
     'marks: loop {
-        match cursor.next_left() {
-            Some(mark) => write_mark(text, writer, cursor.number(), &mark)?,
-            None => return Ok(()),
+        write_next(text, writer, cursor.number(), cursor.mark_left())?;
+        if !cursor.pass_left() {
+            return Ok(());
         }
     }
 }

@@ -1,11 +1,12 @@
 //! The lines of a listing.
-ghost use Rattle.std.specs.Prelude.{◌≡◌, ◌+◌, ◌≤◌, ◌++◌, length, OnOk, OnErr};
+ghost use Rattle.std.specs.Prelude.{◌≡◌, ◌+◌, ◌≤◌, [], ◌++◌, length, option_copied, OnOk, OnErr};
+ghost use Rattle.stream_rules.specs.MarkRef.{body_from, kind_of, HasShortBody, IsShort};
 ghost use Rattle.studio_run.specs.Buffer.{PassesOn, BreaksOff};
-ghost use Rattle.studio_run.specs.Text.{number_text, body_text, mark_text, mark_line};
+ghost use Rattle.studio_run.specs.Text.{number_text, body_text, mark_text, mark_line, next_line};
 
 use crate::buffer::TextBuffer;
 use crate::device::WriteFault;
-use path_merge::{Body, Mark, MarkKind};
+use path_merge::{MarkKindRef, MarkRef};
 use std::io::Write;
 
 /// Writes the line of a stream's mark.
@@ -13,20 +14,37 @@ pub fn write_mark<W: Write>(
     text: &mut TextBuffer,
     writer: &mut W,
     stream: u8,
-    mark: &Mark,
+    mark: &MarkRef<'_>,
 ) -> Result<(), WriteFault>
     ensures ok { OnOk result (PassesOn (W.contents writer.old) text.old (W.contents writer.new) text.new (mark_line stream mark.now.kind)) }
-    ensures fault { OnErr result (BreaksOff (W.contents writer.old) text.old (W.contents writer.new) (mark_line stream mark.now.kind)) }
+    ensures fault { OnErr result (BreaksOff (W.contents writer.old) text.old (W.contents writer.new) []) }
 {
     text.make_room(writer)?;
     push_line(text, stream, mark.kind());
     Ok(())
 }
 
+/// Writes the line of a stream's next mark, if there is one.
+pub(crate) fn write_next<W: Write>(
+    text: &mut TextBuffer,
+    writer: &mut W,
+    stream: u8,
+    mark: Option<MarkRef<'_>>,
+) -> Result<(), WriteFault>
+    ensures ok { OnOk result (PassesOn (W.contents writer.old) text.old (W.contents writer.new) text.new (next_line stream mark.entry)) }
+    ensures fault { OnErr result (BreaksOff (W.contents writer.old) text.old (W.contents writer.new) []) }
+{
+    match mark {
+        Some(mark) => write_mark(text, writer, stream, &mark),
+        None => Ok(()),
+    }
+}
+
 /// Holds the line of a mark.
-fn push_line(text: &mut TextBuffer, stream: u8, kind: &MarkKind)
-    requires { length text.old + 4096 ≤ 65536 }
-    ensures { text.new ≡ text.old ++ mark_line stream kind.now }
+fn push_line(text: &mut TextBuffer, stream: u8, kind: MarkKindRef<'_>)
+    requires room { length text.old + 4096 ≤ 65536 }
+    requires short { HasShortBody (kind_of kind) }
+    ensures { text.new ≡ text.old ++ mark_line stream (kind_of kind.entry) }
 {
     text.push_number(stream);
     text.push(" ");
@@ -35,30 +53,31 @@ fn push_line(text: &mut TextBuffer, stream: u8, kind: &MarkKind)
 }
 
 /// Holds what a mark says.
-fn push_mark(text: &mut TextBuffer, kind: &MarkKind)
-    requires { length text.old + 4000 ≤ 65536 }
-    ensures text { text.new ≡ text.old ++ mark_text kind.now }
+fn push_mark(text: &mut TextBuffer, kind: MarkKindRef<'_>)
+    requires room { length text.old + 4000 ≤ 65536 }
+    requires short { HasShortBody (kind_of kind) }
+    ensures text { text.new ≡ text.old ++ mark_text (kind_of kind.entry) }
     ensures few { length text.new ≤ length text.old + 4000 }
 {
     match kind {
-        MarkKind::Slot {
+        MarkKindRef::Slot {
             epoch,
             number,
             media,
-            body,
+            payload,
         } => {
             text.push("slot ");
-            push_extended(text, *epoch, *number);
+            push_extended(text, epoch, number);
             text.push(" ");
-            text.push_number(*media);
+            text.push_number(media);
             text.push(" ");
-            push_body(text, body);
+            push_body(text, payload);
         }
-        MarkKind::Quiet { until } => {
+        MarkKindRef::Quiet { until } => {
             text.push("quiet ");
-            text.push_number(*until);
+            text.push_number(until);
         }
-        MarkKind::End => text.push("end"),
+        MarkKindRef::End => text.push("end"),
     }
 }
 
@@ -76,16 +95,17 @@ fn push_extended(text: &mut TextBuffer, epoch: u64, number: u64)
 }
 
 /// Holds what a slot got.
-fn push_body(text: &mut TextBuffer, body: &Body)
-    requires { length text.old + 3000 ≤ 65536 }
-    ensures text { text.new ≡ text.old ++ body_text body.now }
+fn push_body(text: &mut TextBuffer, payload: Option<&[u8]>)
+    requires room { length text.old + 3000 ≤ 65536 }
+    requires short { IsShort (body_from (option_copied payload)) }
+    ensures text { text.new ≡ text.old ++ body_text (body_from (option_copied payload.entry)) }
     ensures few { length text.new ≤ length text.old + 3000 }
 {
-    match body {
-        Body::Got(payload) => {
+    match payload {
+        Some(octets) => {
             text.push("got ");
-            text.push_octets(payload.as_slice());
+            text.push_octets(octets);
         }
-        Body::Lost => text.push("lost"),
+        None => text.push("lost"),
     }
 }

@@ -2,9 +2,9 @@
 ghost use Rattle.std.specs.Prelude.{◌≡◌, ◌+◌, ◌<◌, ◌≤◌, [], length, IfOk, IfErr, IfSome, OnOk, Ok, Err, None};
 ghost use Rattle.studio_run.specs.Trace.{trace_events, prepend};
 
-use crate::line::DatagramRoom;
 use crate::places::{Place, place_in};
 use crate::trace::{TraceFault, TraceKind, read_line};
+use studio_session::DatagramRoom;
 
 /// The most octets of a trace.
 pub(crate) const MOST_OCTETS: usize = 67_108_864;

@@ -1,28 +1,17 @@
 //! The events of a trace, left in its text.
 ghost use Rattle.std.specs.Prelude.{◌≡◌, ◌≤◌, ◌++◌, ◌∷◌, [], ℕ, List, false, length, IsSome};
-ghost use Rattle.studio_session.specs.Event.{outline_of};
-ghost use Rattle.studio_session.specs.Session.{reception_of, step_of};
-ghost use Rattle.studio_run.specs.Trace.{trace_events, count_of, octets_of};
+ghost use Rattle.studio_session.specs.Event.{Arrival, outline_of};
+ghost use Rattle.studio_run.specs.Trace.{trace_events, octets_of};
 ghost use Rattle.studio_run.specs.LineEvent.{octets_by};
 ghost use Rattle.studio_run.specs.Places.{event_at, IsPlace};
 
-use crate::line::{DatagramRoom, decode_octets};
+use crate::line::decode_octets;
 use crate::places::Place;
 use crate::reader::TraceReader;
 use crate::trace::{TraceFault, WANT_OF_MEMORY};
-use path_merge::StreamSpec;
 use std::alloc::Global;
 use std::marker::Model;
-use studio_session::{EventSource, Outline, Reception, Step, receive};
-
-/// How many events a trace has. Takes no memory.
-pub fn checked_trace(text: &[u8]) -> Result<usize, TraceFault>
-    ensures { result ≡ count_of (trace_events text.now) }
-{
-    let mut reader = TraceReader::new(text)?;
-    while reader.next()?.is_some() {}
-    Ok(reader.events)
-}
+use studio_session::{DatagramRoom, EventSource, Outline};
 
 /// The events of a trace: 16 octets each, beside the text. Their memory is taken when they are made,
 /// and no later call takes any.
@@ -79,8 +68,8 @@ impl<'a> EventSource for TracedEvents<'a> {
         outline_of(&self.places[place])
     }
 
-    fn step(&self, place: usize, number: u8, stream: &StreamSpec) -> Step {
-        step_in(self.text, self.places[place], number, stream)
+    fn octets<'b>(&'b self, place: usize, room: &'b mut DatagramRoom) -> &'b [u8] {
+        octets_in(self.text, self.places[place], room)
     }
 }
 
@@ -106,39 +95,29 @@ fn outline_of(place: &Place) -> Outline
     }
 }
 
-/// What the event of a place is to a stream.
-fn step_in(text: &[u8], place: Place, number: u8, stream: &StreamSpec) -> Step
+/// The octets of a place's datagram, laid out in the room; none of a place without one.
+fn octets_in<'a>(text: &[u8], place: Place, room: &'a mut DatagramRoom) -> &'a [u8]
     requires { IsPlace text.now place }
-    ensures { result ≡ step_of stream.now number (event_at text.now place) }
+    ensures { (stream path : ℕ) (octets : List ℕ) → event_at text.now place ≡ Arrival stream path octets → result.now ≡ octets }
 {
     match place {
-        Place::Arrive {
-            stream: to,
-            path,
-            start,
-            end,
-        } => {
-            if to == number {
-                let digits = &text[start as usize..end as usize];
-                Step::Datagram(path, receive_digits(stream, digits))
-            } else {
-                Step::Other
-            }
+        Place::Arrive { start, end, .. } => {
+            let digits = &text[start as usize..end as usize];
+            decoded(digits, room)
         }
-        Place::Tick(time) => Step::Clock(time),
-        Place::Close => Step::End,
+        Place::Tick(_) => &[],
+        Place::Close => &[],
     }
 }
 
-/// What a stream makes of the datagram that digits spell.
-fn receive_digits(stream: &StreamSpec, digits: &[u8]) -> Reception
+/// The octets that digits spell, laid out in the room.
+fn decoded<'a>(digits: &[u8], room: &'a mut DatagramRoom) -> &'a [u8]
     requires short { length digits.now ≤ 4096 }
     requires good { IsSome (octets_of digits.now) }
-    ensures { result ≡ reception_of stream.now (octets_by digits.now) }
+    ensures { result.now ≡ octets_by digits.now }
 {
-    let mut room: DatagramRoom = [0; 2048];
-    let Some(length) = decode_octets(digits, &mut room) else {
+    let Some(length) = decode_octets(digits, room) else {
         unreachable!()
     };
-    receive(stream, &room[..length])
+    &room[..length]
 }

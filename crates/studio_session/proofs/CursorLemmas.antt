@@ -1,17 +1,18 @@
 -- A stream of a run, event by event.
-use Rattle.std.proofs.Common.{◌≡◌, ◌<◌, ◌≤◌, ◌+◌, ℕ, zero, suc, Bool, true, false, not, nat_eq, if◌then◌else◌, List, [], ◌∷◌, ◌++◌, length, take, drop, ℤ, Option, Some, None, is_some, slice_get, refl, sym, ap, subst, ◌∙◌, arith}
+use Rattle.std.proofs.Common.{◌≡◌, ◌≢◌, ◌<◌, ◌≤◌, ◌+◌, ℕ, zero, suc, Bool, true, false, nat_eq, if◌then◌else◌, List, [], ◌∷◌, ◌++◌, length, take, drop, ℤ, Option, Some, None, is_some, slice_get, refl, sym, ap, subst, ◌∙◌, arith}
 use Rattle.std.specs.Option.{option_to_list}
 use Rattle.std.proofs.lemmas.Grind.{flat_map-append}
 use Rattle.std.proofs.lemmas.List.{take_more, take_all, append-nil}
 use Rattle.std.proofs.lemmas.Option.{slice_get_within, get_or_from_slice_get}
 use Rattle.stream_rules.specs.StreamSpecFacts.{Stream}
 use Rattle.stream_rules.specs.declared.event.Event.{Event}
-use Rattle.stream_rules.specs.Marks.{marks_of}
+use Rattle.std.specs.Bool.{then_some}
+use Rattle.stream_rules.specs.Marks.{marks_of, is_slot}
 use Rattle.stream_rules.specs.MarkFacts.{MarkView}
 use Rattle.path_merge.proofs.LawLemmas.{marks_stay}
 use Rattle.path_merge.proofs.JoinLemmas.{alike-refl}
 use Rattle.lane_align.proofs.MarkListLemmas.{both_left}
-use Rattle.path_merge.specs.Steps.{Drains}
+use Rattle.path_merge.specs.Steps.{Drains, is_slot_mark}
 use Rattle.std.proofs.lemmas.Bool.{false≢true}
 use Rattle.studio_session.proofs.WayLemmas.{in_time, next_in_whole}
 use Rattle.path_merge.proofs.HistoryLemmas.{is_well_timed_from-append}
@@ -22,18 +23,14 @@ use Rattle.studio_session.specs.Way.{IsOnWay, WentOn, on_way_after}
 use Rattle.std.proofs.lemmas.List.{take-append-drop}
 use Rattle.studio_session.specs.Cursor.{IsRunnable}
 use Rattle.std.proofs.lemmas.Bool.Decides.{nat_tests}
-use Rattle.rtp_wire.specs.Datagram.{wire_fault_of, head_at, payload_at}
-use Rattle.rtp_wire.specs.declared.fault.WireFault.{WireFault}
-use Rattle.stream_rules.specs.StreamSpecFacts.{format_of}
-use Rattle.stream_rules.specs.MarkFacts.{payload_length}
-use Rattle.stream_rules.specs.StreamSpec.{admit_fault_of}
 use Rattle.stream_rules.specs.History.{is_well_timed}
-use Rattle.stream_rules.specs.declared.stream_spec.AdmitFault.TheVariants.{WrongType as TypeFault, WrongLength as LengthFault}
-use Rattle.studio_session.specs.declared.source.Step.{Step}
-use Rattle.studio_session.specs.declared.source.Step.TheVariants.{Other, Datagram, Clock, End}
-use Rattle.studio_session.specs.Event.{TraceEvent, Arrival, Reading, Closing}
-use Rattle.studio_session.specs.Session.{step_of, event_in, stream_history, reception_by, reception_of, FitsReception}
-use Rattle.studio_session.specs.Cursor.{CursorState, HasPaths, HasPulled, IsDue, FitsStep}
+use Rattle.studio_session.specs.Event.{TraceEvent, Arrival, Reading, Closing, outline_of}
+use Rattle.studio_session.specs.declared.event.Outline.{Outline}
+use Rattle.studio_session.specs.declared.event.Outline.TheVariants.{Arrive as ArriveOf, Tick as TickOf, Close as CloseOf}
+use Rattle.studio_session.specs.Session.{Other, Datagram, step_of, event_in, stream_history, reception_of}
+use Rattle.studio_session.specs.Counts.{AreTallies, HasCounted}
+use Rattle.studio_session.specs.Cursor.{CursorState, HasPulled, IsDue}
+use Rattle.studio_session.proofs.CountsLemmas.{counted_more}
 
 -- one event more
 pub history_more : (stream : Stream) (number : ℕ) (events : List TraceEvent) (i : ℕ) (event : TraceEvent) → slice_get events i ≡ Some event
@@ -50,29 +47,6 @@ pub all_pulled : (stream : Stream) (number : ℕ) (open_at : ℤ) (events : List
     → option_to_list None ≡ take 1 (drop k (marks_of stream open_at (stream_history stream number events)))
 all_pulled stream number open_at events cursor k all due =
     due.mark ∙ ap (λ l. take 1 (drop k (marks_of stream open_at (stream_history stream number l)))) (take_all cursor.place events all)
-
-admitted_fits : (stream : Stream) (octets : List ℕ) (w : Option WireFault) (pt len : ℕ) → len ≡ length (payload_at octets) → FitsReception stream (reception_by octets w (admit_fault_of stream pt len))
-admitted_fits stream octets (Some fault) pt len e = tt
-admitted_fits stream octets None pt len e = by_tests (nat_eq pt stream.pt) (nat_eq len (payload_length (format_of stream))) refl
-  where
-    by_tests : (a b : Bool) → nat_eq len (payload_length (format_of stream)) ≡ b
-        → FitsReception stream (reception_by octets None (if not a then Some TypeFault else if not b then Some LengthFault else None))
-    by_tests false b f = tt
-    by_tests true false f = tt
-    by_tests true true f = sym e ∙ (let same : len ≡ payload_length (format_of stream) = grind (arith, nat_tests) in same)
-
--- what a stream makes of an event, a merge can take
-pub fits_step : (stream : Stream) (number : ℕ) (events : List TraceEvent) (place : ℕ) (event : TraceEvent) → HasPaths stream number events → slice_get events place ≡ Some event
-    → FitsStep stream (step_of stream number event)
-fits_step stream number events place (Reading time) has at = tt
-fits_step stream number events place Closing has at = tt
-fits_step stream number events place (Arrival s path octets) has at = by_test (nat_eq s number) refl
-  where
-    by_test : (b : Bool) → nat_eq s number ≡ b → FitsStep stream (if b then Datagram path (reception_of stream octets) else Other)
-    by_test false e = tt
-    by_test true e =
-        let same : s ≡ number = grind (arith, nat_tests) in
-        (has.paths place path octets (at ∙ ap (λ n. Some (Arrival n path octets)) same), admitted_fits stream octets (wire_fault_of octets) (head_at octets).pt (length (payload_at octets)) refl)
 
 pub event_here : (events : List TraceEvent) (i : ℕ) → i < length events → (event : TraceEvent) × (slice_get events i ≡ Some event)
 event_here [] i h = absurd (omega arith)
@@ -95,12 +69,14 @@ mark_of_whole stream number open_at events i k m run is =
 pub pulled_more : (stream : Stream) (number : ℕ) (open_at : ℤ) (events : List TraceEvent) (event : TraceEvent) (k : ℕ) (old new : CursorState)
     → HasPulled stream number open_at events old k → slice_get events old.place ≡ Some event
     → new.spec ≡ old.spec → new.number ≡ old.number → new.place ≡ old.place + 1
+    → HasCounted (step_of stream number event) old.tallies new.tallies
     → IsOnWay stream open_at new.merge new.reading (stream_history stream number (take old.place events) ++ event_in (step_of stream number event)) k
     → HasPulled stream number open_at events new k
-pulled_more stream number open_at events event k old new pulled at spec same place stands = record {
+pulled_more stream number open_at events event k old new pulled at spec same place counts stands = record {
   spec = spec ∙ pulled.spec;
   stream_number = same ∙ pulled.stream_number;
   within = let h : old.place < length events = slice_get_within events old.place event at in omega (arith, h, place);
+  counted = subst (λ p. AreTallies stream number (take p events) new.tallies) (sym place) (counted_more stream number events old.place event old.tallies new.tallies at pulled.counted counts);
   stands = subst (λ h. IsOnWay stream open_at new.merge new.reading h k) (sym (ap (λ p. stream_history stream number (take p events)) place ∙ history_more stream number events old.place event at)) stands;
 }
 
@@ -129,34 +105,6 @@ way_of stream open_at merge reading events k e stands = subst (λ r. IsOnWay str
 pub way_settled : (stream : Stream) (open_at : ℤ) (merge : MergeState) (reading : Option ℤ) (events : List Event) (k : ℕ) → reading ≡ None → HasHistory stream open_at merge events k → IsOnWay stream open_at merge reading events k
 way_settled = way_of
 
-abbrev clock_value : Step → ℤ → ℤ
-clock_value Other d = d
-clock_value (Datagram path reception) d = d
-clock_value (Clock u) d = u
-clock_value End d = d
-
--- an event that is a reading to a stream is that reading
-pub reading_of : (stream : Stream) (number : ℕ) (event : TraceEvent) (u : ℤ) → Clock u ≡ step_of stream number event → event ≡ Reading u
-reading_of stream number (Reading t) u e = ap Reading (sym (ap (λ s. clock_value s u) e))
-reading_of stream number Closing u e = absurd (let f : Clock u ≡ End = e in cc)
-reading_of stream number (Arrival s path octets) u e = by_test (nat_eq s number) e
-  where
-    by_test : (b : Bool) → Clock u ≡ (if b then Datagram path (reception_of stream octets) else Other) → Arrival s path octets ≡ Reading u
-    by_test true f = absurd (let g : Clock u ≡ Datagram path (reception_of stream octets) = f in cc)
-    by_test false f = absurd (let g : Clock u ≡ Other = f in cc)
-
--- the state after a step's arm, with the place moved on
-pub arm : (stream : Stream) (number : ℕ) (open_at : ℤ) (events : List TraceEvent) (event : TraceEvent) (step : Step) (k : ℕ) (old x inside : CursorState)
-    → HasPulled stream number open_at events old k → slice_get events old.place ≡ Some event → step ≡ step_of stream number event
-    → inside ≡ x → x.spec ≡ old.spec → x.number ≡ old.number → x.place ≡ old.place
-    → IsOnWay stream open_at x.merge x.reading (stream_history stream number (take old.place events) ++ event_in step) k
-    → HasPulled stream number open_at events (record inside { place = inside.place + 1 }) k
-arm stream number open_at events event step k old x inside pulled at is e spec same place way =
-    pulled_more stream number open_at events event k old (record inside { place = inside.place + 1 }) pulled at
-    (ap (λ (s : CursorState). s.spec) e ∙ spec) (ap (λ (s : CursorState). s.number) e ∙ same) (ap (λ (s : CursorState). s.place + 1) e ∙ ap (λ p. p + 1) place)
-    (subst (λ st. IsOnWay stream open_at inside.merge inside.reading (stream_history stream number (take old.place events) ++ event_in st) k) is
-    (subst (λ (s : CursorState). IsOnWay stream open_at s.merge s.reading (stream_history stream number (take old.place events) ++ event_in step) k) (sym e) way))
-
 -- a mark on the way to a reading is the next of what was taken
 pub due_on_way : (stream : Stream) (number : ℕ) (open_at : ℤ) (events : List TraceEvent) (k : ℕ) (x : CursorState) (new : MergeState) (u : ℤ) (mark : Option MarkView) (reading : Option ℤ)
     → HasPulled stream number open_at events x k → reading ≡ on_way_after mark u
@@ -166,22 +114,9 @@ due_on_way stream number open_at events k x new u mark reading pulled after went
   spec = pulled.spec;
   stream_number = pulled.stream_number;
   within = pulled.within;
+  counted = pulled.counted;
   stands = subst (λ r. IsOnWay stream open_at new r (stream_history stream number (take x.place events)) (k + length (option_to_list mark))) (sym after) went.stands;
 }
-
-pub mark_on_way : (stream : Stream) (open_at : ℤ) (events : List Event) (k : ℕ) (new : MergeState) (u : ℤ) (mark : Option MarkView) → is_some mark ≡ true → WentOn stream open_at new u events k mark
-    → option_to_list mark ≡ take 1 (drop k (marks_of stream open_at events))
-mark_on_way stream open_at events k new u None some went = absurd (false≢true some)
-mark_on_way stream open_at events k new u (Some m) some went = went.given m refl
-
--- where there is none, the reading is reached
-pub none_on_way : (stream : Stream) (number : ℕ) (open_at : ℤ) (events : List TraceEvent) (k : ℕ) (x : CursorState) (new : MergeState) (u : ℤ) (mark : Option MarkView) (reading : Option ℤ)
-    → HasPulled stream number open_at events x k → reading ≡ on_way_after mark u → is_some mark ≡ false
-    → WentOn stream open_at new u (stream_history stream number (take x.place events)) k mark
-    → HasPulled stream number open_at events (record x { merge = new; reading = reading }) k × (reading ≡ None)
-none_on_way stream number open_at events k x new u None reading pulled after none went =
-    (subst (HasPulled stream number open_at events (record x { merge = new; reading = reading })) (let e : k + 0 ≡ k = omega arith in e) (due_on_way stream number open_at events k x new u None reading pulled after went), after)
-none_on_way stream number open_at events k x new u (Some m) reading pulled after none went = absurd (false≢true (sym none))
 
 -- a mark that is left is the next of what was taken
 pub due_left : (stream : Stream) (number : ℕ) (open_at : ℤ) (events : List TraceEvent) (k : ℕ) (x : CursorState) (new : MergeState) (mark : Option MarkView)
@@ -197,6 +132,68 @@ due_left stream number open_at events k x new mark pulled none drains =
         spec = pulled.spec;
         stream_number = pulled.stream_number;
         within = pulled.within;
+        counted = pulled.counted;
         stands = way_settled stream open_at new x.reading h (k + length (option_to_list mark)) none left.stands;
       };
     }
+
+-- the reading that is still to be reached, by whether the mark was a slot
+pub still_on_way : (mark : Option MarkView) (u : ℤ) → then_some (is_slot_mark mark) u ≡ on_way_after mark u
+still_on_way None u = refl
+still_on_way (Some mark) u = by_test (is_slot mark.kind)
+  where
+    by_test : (b : Bool) → then_some b u ≡ (if b then Some u else None)
+    by_test true = refl
+    by_test false = refl
+
+-- an event by its outline
+abbrev stream_in : Outline → ℕ
+stream_in (ArriveOf s p) = s
+stream_in (TickOf u) = 0
+stream_in CloseOf = 0
+
+abbrev path_in : Outline → ℕ
+path_in (ArriveOf s p) = p
+path_in (TickOf u) = 0
+path_in CloseOf = 0
+
+abbrev reading_in : Outline → ℤ → ℤ
+reading_in (ArriveOf s p) d = d
+reading_in (TickOf u) d = u
+reading_in CloseOf d = d
+
+pub arrival_of : (event : TraceEvent) (s p : ℕ) → ArriveOf s p ≡ outline_of event → (octets : List ℕ) × (event ≡ Arrival s p octets)
+arrival_of (Arrival s' p' octets) s p e = (octets, ap (λ n. Arrival n p' octets) (sym (ap stream_in e)) ∙ ap (λ n. Arrival s n octets) (sym (ap path_in e)))
+arrival_of (Reading u) s p e = absurd (let f : ArriveOf s p ≡ TickOf u = e in cc)
+arrival_of Closing s p e = absurd (let f : ArriveOf s p ≡ CloseOf = e in cc)
+
+pub reading_of : (event : TraceEvent) (u : ℤ) → TickOf u ≡ outline_of event → event ≡ Reading u
+reading_of (Arrival s p octets) u e = absurd (let f : TickOf u ≡ ArriveOf s p = e in cc)
+reading_of (Reading t) u e = ap Reading (sym (ap (λ o. reading_in o u) e))
+reading_of Closing u e = absurd (let f : TickOf u ≡ CloseOf = e in cc)
+
+pub closing_of : (event : TraceEvent) → CloseOf ≡ outline_of event → event ≡ Closing
+closing_of (Arrival s p octets) e = absurd (let f : CloseOf ≡ ArriveOf s p = e in cc)
+closing_of (Reading u) e = absurd (let f : CloseOf ≡ TickOf u = e in cc)
+closing_of Closing e = refl
+
+-- what an arrival is to its own stream
+pub own_arrival : (stream : Stream) (number path : ℕ) (octets : List ℕ) → step_of stream number (Arrival number path octets) ≡ Datagram path (reception_of stream octets)
+own_arrival stream number path octets = by_test (nat_eq number number) refl
+  where
+    by_test : (b : Bool) → nat_eq number number ≡ b → (if b then Datagram path (reception_of stream octets) else Other) ≡ Datagram path (reception_of stream octets)
+    by_test true e = refl
+    by_test false e = absurd (grind (arith, nat_tests))
+
+-- and what it is to another
+pub others_arrival : (stream : Stream) (s number path : ℕ) (octets : List ℕ) → s ≢ number → step_of stream number (Arrival s path octets) ≡ Other
+others_arrival stream s number path octets other = by_test (nat_eq s number) refl
+  where
+    by_test : (b : Bool) → nat_eq s number ≡ b → (if b then Datagram path (reception_of stream octets) else Other) ≡ Other
+    by_test true e = absurd (other (grind (arith, nat_tests)))
+    by_test false e = refl
+
+-- what is none where it isn't some
+pub none_of : {X : Type 0} (o : Option X) → is_some o ≡ false → o ≡ None
+none_of None e = refl
+none_of (Some x) e = absurd (false≢true (sym e))

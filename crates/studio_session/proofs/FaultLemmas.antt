@@ -15,9 +15,8 @@ use Rattle.studio_session.specs.declared.fault.StudioFault.{StudioFault}
 use Rattle.studio_session.specs.declared.fault.StudioFault.TheVariants.{Clock, Memory, Path as NoPath, Stream as NoStream}
 use Rattle.studio_session.specs.declared.reception.Reception.{Reception}
 use Rattle.studio_session.specs.declared.reception.Reception.TheVariants.{Sent, Bad, WrongType, WrongLength}
-use Rattle.studio_session.specs.declared.source.Step.TheVariants.{Datagram, Other}
 use Rattle.studio_session.specs.Fault.{IsRunFault, clock_fault, closed_past, event_fault, or_later, outline_fault, path_fault, session_fault_from, session_fault_of, time_after, time_past, closed_after}
-use Rattle.studio_session.specs.Session.{event_in, reception_of, stream_history}
+use Rattle.studio_session.specs.Session.{Datagram, Other, event_in, reception_of, stream_history}
 
 first_none : (here later : Option StudioFault) → or_later here later ≡ None → here ≡ None
 first_none None later e = refl

@@ -1,4 +1,5 @@
 pub mod WayLemmas
+pub mod CountsLemmas
 pub mod CursorLemmas
 pub mod PlayLemmas
 pub mod SessionLemmas

@@ -1,9 +1,10 @@
 -- Marks of one stream after another, handed to the mixer.
-use Rattle.std.proofs.Common.{◌≡◌, inl, inr, ◌<◌, ◌≤◌, ◌+◌, ℕ, zero, suc, true, List, [], ◌∷◌, ◌++◌, length, take, drop, set, Some, slice_get, refl, sym, ap, subst, ◌∙◌, arith}
-use Rattle.std.specs.Option.{option_map}
+use Rattle.std.proofs.Common.{◌≡◌, inl, inr, ◌<◌, ◌≤◌, ◌+◌, ℕ, zero, suc, true, List, [], ◌∷◌, ◌++◌, length, take, drop, set, ℤ, Option, Some, None, slice_get, refl, sym, ap, subst, ◌∙◌, arith}
+use Rattle.std.specs.Option.{option_map, option_to_list}
+use Rattle.std.specs.Prelude.{IfSome}
 use Rattle.std.proofs.lemmas.List.{length_push, take_all}
 use Rattle.std.proofs.lemmas.Option.{slice_get-map}
-use Rattle.stream_rules.specs.StreamSpecFacts.{format_of}
+use Rattle.stream_rules.specs.StreamSpecFacts.{Stream, format_of}
 use Rattle.stream_rules.specs.MarkFacts.{MarkView}
 use Rattle.stream_rules.specs.MarkList.{is_mark_list}
 use Rattle.path_merge.proofs.MarkListLemmas.{parts_listed}
@@ -16,8 +17,8 @@ use Rattle.studio_mix.specs.Feed.{Feed}
 use Rattle.studio_mix.specs.Mixer.{MixerState, HasFeeds}
 use Rattle.studio_session.specs.Event.{TraceEvent}
 use Rattle.studio_session.specs.Session.{stream_history}
-use Rattle.studio_session.specs.Cursor.{CursorState, HasPulled, IsRunnable}
-use Rattle.studio_session.specs.Play.{IsRunnableBy, Plays, PlaysOut, PlaysFinal, stream_marks}
+use Rattle.studio_session.specs.Cursor.{CursorState, HasPulled, IsDue, IsOnTheWay, IsRunnable}
+use Rattle.studio_session.specs.Play.{IsRunnableBy, TakesMark, Plays, PlaysOut, PlaysFinal, stream_marks}
 use Rattle.studio_session.proofs.CursorLemmas.{mark_of_whole}
 
 -- the first marks and the one after them
@@ -93,6 +94,24 @@ plays_on studio events feeds next number mixer cursor moved p pulled = record {
   fed = p.fed;
   given = record { pulled = pulled; first = p.given.first };
 }
+
+-- one mark more, if there is one
+pub plays_given : (studio : Studio) (events : List TraceEvent) (feeds : List Feed) (next number : ℕ) (mixer new : MixerState) (cursor moved : CursorState) (mark : Option MarkView)
+    → IsRunnableBy studio events → number < length feeds → (p : Plays studio events feeds next number mixer cursor)
+    → IsOnTheWay p.feed.stream number studio.open_at events moved (length p.feed.marks) mark
+    → IfSome mark (TakesMark mixer new number) → (mark ≡ None → new ≡ mixer)
+    → Plays studio events feeds next number new moved
+plays_given studio events feeds next number mixer new cursor moved (Some m) run within p given takes none =
+    plays_more studio events feeds next number mixer new cursor moved m run within p (given.mark m refl) given.stands (λ fs f fed at list. takes studio fs next f fed at list)
+plays_given studio events feeds next number mixer new cursor moved None run within p given takes none =
+    let same : length p.feed.marks + 0 ≡ length p.feed.marks = omega arith in
+    subst (λ (m : MixerState). Plays studio events feeds next number m moved) (sym (none refl))
+    (plays_on studio events feeds next number mixer cursor moved p (subst (HasPulled p.feed.stream number studio.open_at events moved) same given.stands))
+
+-- what is due is on the way
+pub on_the_way : (stream : Stream) (number : ℕ) (open_at : ℤ) (events : List TraceEvent) (cursor : CursorState) (k : ℕ) (mark : Option MarkView)
+    → IsDue stream number open_at events cursor k mark → IsOnTheWay stream number open_at events cursor k mark
+on_the_way stream number open_at events cursor k mark due = record { mark = λ m e. sym (ap option_to_list e) ∙ due.mark; stands = due.stands }
 
 pub plays_out : (studio : Studio) (events : List TraceEvent) (feeds : List Feed) (next number : ℕ) (mixer : MixerState) (cursor moved : CursorState)
     → (p : Plays studio events feeds next number mixer cursor) → HasPulled p.feed.stream number studio.open_at events moved (length p.feed.marks)

@@ -1,13 +1,11 @@
 -- What became of a path's datagrams before the merge.
-use Rattle.std.specs.Prelude.{ℕ, zero, suc, ◌+◌, Bool, true, false, nat_eq, List, [], ◌∷◌, ◌++◌, if◌then◌else◌}
+use Rattle.std.specs.Prelude.{◌≡◌, ℕ, zero, suc, ◌+◌, Bool, true, false, nat_eq, List, [], ◌∷◌, ◌++◌, map, Some, slice_get, if◌then◌else◌}
 use Rattle.stream_rules.specs.StreamSpecFacts.{Stream}
 use Rattle.studio_session.specs.declared.counts.PathCounts.{PathCounts}
 use Rattle.studio_session.specs.declared.reception.Reception.{Reception}
 use Rattle.studio_session.specs.declared.reception.Reception.TheVariants.{Sent, Bad, WrongType, WrongLength}
-use Rattle.studio_session.specs.declared.source.Step.{Step}
-use Rattle.studio_session.specs.declared.source.Step.TheVariants.{Other, Datagram, Clock, End}
 use Rattle.studio_session.specs.Event.{TraceEvent}
-use Rattle.studio_session.specs.Session.{received_on}
+use Rattle.studio_session.specs.Session.{Step, Other, Datagram, Clock, End, received_on}
 
 pub record PathTally : Type 0 where
   pub offered : ℕ
@@ -20,6 +18,9 @@ pub record PathTally : Type 0 where
 -- the numbers in a PathCounts
 abbrev pub path_tally_of : PathCounts → PathTally
 path_tally_of c = record { offered = c.offered; sent = c.sent; bad = c.bad; wrong_type = c.wrong_type; wrong_length = c.wrong_length; full = c.full }
+
+abbrev pub tallies_of : List PathCounts → List PathTally
+tallies_of counts = map path_tally_of counts
 
 abbrev pub empty_path_tally : PathTally
 empty_path_tally = record { offered = 0; sent = 0; bad = 0; wrong_type = 0; wrong_length = 0; full = 0 }
@@ -84,3 +85,12 @@ with_step t path End = t
 abbrev pub path_tallies : Stream → ℕ → List TraceEvent → ℕ → List PathTally
 path_tallies stream number events zero = []
 path_tallies stream number events (suc count) = path_tallies stream number events count ++ path_counts_of stream number count events ∷ []
+
+-- each path's tally is the one before, with what an event is to the stream
+abbrev pub HasCounted : Step → List PathTally → List PathTally → Type 0
+HasCounted step old new = (path : ℕ) (tally : PathTally) → slice_get new path ≡ Some tally
+    → (before : PathTally) × (slice_get old path ≡ Some before) × (tally ≡ with_step before path step)
+
+-- the tallies by paths are those of what the stream received
+abbrev pub AreTallies : Stream → ℕ → List TraceEvent → List PathTally → Type 0
+AreTallies stream number events tallies = (path : ℕ) (tally : PathTally) → slice_get tallies path ≡ Some tally → tally ≡ path_counts_of stream number path events

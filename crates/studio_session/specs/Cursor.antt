@@ -4,30 +4,40 @@ use Rattle.std.specs.Option.{option_to_list}
 use Rattle.stream_rules.specs.StreamSpecFacts.{Stream}
 use Rattle.stream_rules.specs.MarkFacts.{MarkView}
 use Rattle.path_merge.specs.MergeState.{MergeState}
+use Rattle.path_merge.specs.Clock.{clock_fault_of}
+use Rattle.path_merge.specs.Next.{next_mark}
+use Rattle.path_merge.specs.declared.clock.ClockFault.{ClockFault}
 use Rattle.stream_rules.specs.Marks.{marks_of}
 use Rattle.stream_rules.specs.History.{is_well_timed}
 use Rattle.studio_session.specs.Event.{TraceEvent, Arrival}
-use Rattle.studio_session.specs.declared.source.Step.{Step}
-use Rattle.studio_session.specs.declared.source.Step.TheVariants.{Other, Datagram, Clock, End}
 use Rattle.lane_align.specs.Lane.{natural}
-use Rattle.studio_session.specs.Session.{FitsReception, stream_history}
+use Rattle.studio_session.specs.Session.{stream_history}
+use Rattle.studio_session.specs.Counts.{PathTally, AreTallies}
 use Rattle.studio_session.specs.Way.{IsOnWay}
 
 pub record CursorState : Type 0 where
   pub spec : Stream
   pub number : ℕ
   pub merge : MergeState
+  pub tallies : List PathTally
   pub place : ℕ
   pub reading : Option ℤ
 
+-- no path was offered more than there were events
+abbrev pub HaveFew : ℕ → List PathTally → Type 0
+HaveFew place tallies = (path : ℕ) (tally : PathTally) → slice_get tallies path ≡ Some tally → tally.offered ≤ place
+
 pub record IsCursor (cursor : CursorState) : Type 0 where
   pub spec : cursor.merge.spec ≡ cursor.spec
+  pub four : length cursor.tallies ≡ 4
+  pub few : HaveFew cursor.place cursor.tallies
 
--- so many events were taken, and the first k marks of all of them were given
+-- so many events were taken and counted, and the first k marks of all of them were given
 pub record HasPulled (stream : Stream) (number : ℕ) (open_at : ℤ) (events : List TraceEvent) (cursor : CursorState) (k : ℕ) : Type 0 where
   pub spec : cursor.spec ≡ stream
   pub stream_number : cursor.number ≡ number
   pub within : cursor.place ≤ length events
+  pub counted : AreTallies stream number (take cursor.place events) cursor.tallies
   pub stands : IsOnWay stream open_at cursor.merge cursor.reading (stream_history stream number (take cursor.place events)) k
 
 -- the readings of a stream's events are in order
@@ -44,10 +54,11 @@ pub record IsReadyFor (events : List TraceEvent) (cursor : CursorState) : Type 0
   pub within : cursor.place ≤ length events
   pub paths : HasPaths cursor.spec cursor.number events
 
--- the same stream, at the same place
+-- the same stream, at the same place, with the same tallies
 pub record IsSameCursor (old new : CursorState) : Type 0 where
   pub spec : new.spec ≡ old.spec
   pub number : new.number ≡ old.number
+  pub tallies : new.tallies ≡ old.tallies
   pub place : new.place ≡ old.place
 
 -- how far it is from a reading, and from the end of the events
@@ -61,6 +72,18 @@ way_left cursor = way_to cursor.merge cursor.reading
 abbrev pub events_left : List TraceEvent → CursorState → ℕ
 events_left events cursor = length events - cursor.place
 
+-- the next mark on the way to a reading, unless the clock refuses it
+abbrev pub mark_unless : Option ClockFault → Option MarkView → Option MarkView
+mark_unless None mark = mark
+mark_unless (Some fault) mark = None
+
+abbrev pub next_to : MergeState → Option ℤ → Option MarkView
+next_to merge None = None
+next_to merge (Some u) = mark_unless (clock_fault_of merge.time merge.closed u) (next_mark merge u)
+
+abbrev pub next_on_way : CursorState → Option MarkView
+next_on_way cursor = next_to cursor.merge cursor.reading
+
 -- a mark that was given on the way is the next of what was taken
 pub record IsOnTheWay (stream : Stream) (number : ℕ) (open_at : ℤ) (events : List TraceEvent) (cursor : CursorState) (k : ℕ) (given : Option MarkView) : Type 0 where
   pub mark : (m : MarkView) → given ≡ Some m → m ∷ [] ≡ take 1 (drop k (marks_of stream open_at (stream_history stream number (take cursor.place events))))
@@ -70,10 +93,3 @@ pub record IsOnTheWay (stream : Stream) (number : ℕ) (open_at : ℤ) (events :
 pub record IsDue (stream : Stream) (number : ℕ) (open_at : ℤ) (events : List TraceEvent) (cursor : CursorState) (k : ℕ) (given : Option MarkView) : Type 0 where
   pub mark : option_to_list given ≡ take 1 (drop k (marks_of stream open_at (stream_history stream number (take cursor.place events))))
   pub stands : HasPulled stream number open_at events cursor (k + length (option_to_list given))
-
--- what a merge can take: a packet that was received has the stream's length, and came in on one of its paths
-abbrev pub FitsStep : Stream → Step → Type 0
-FitsStep stream Other = Unit {0}
-FitsStep stream (Datagram path reception) = (path < stream.paths) × FitsReception stream reception
-FitsStep stream (Clock time) = Unit {0}
-FitsStep stream End = Unit {0}

@@ -1,7 +1,8 @@
 -- A session: its streams' merges, and the mixer that takes their marks.
-use Rattle.std.specs.Prelude.{◌≡◌, ◌⊎◌, ℕ, suc, ◌+◌, ◌<◌, true, List, [], ◌∷◌, length, take, drop, slice_get, slice_set, ℤ, Some}
+use Rattle.std.specs.Prelude.{◌≡◌, ◌⊎◌, ℕ, suc, ◌+◌, ◌<◌, true, List, [], ◌∷◌, ◌++◌, length, take, drop, slice_get, slice_set, ℤ, Some}
 use Rattle.stream_rules.specs.StreamSpecFacts.{Stream, format_of}
 use Rattle.stream_rules.specs.MarkFacts.{MarkView}
+use Rattle.stream_rules.specs.MarkList.{is_mark_list}
 use Rattle.stream_rules.specs.Marks.{marks_of}
 use Rattle.lane_align.specs.Cover.{covers, cover_of}
 use Rattle.mix_packets.specs.Block.{block_start}
@@ -62,6 +63,12 @@ pub record HasPlayed (studio : Studio) (events : List TraceEvent) (session : Ses
   pub count : length session.cursors ≡ length feeds
   pub given : (i : ℕ) (cursor : CursorState) (feed : Feed) → slice_get session.cursors i ≡ Some cursor → slice_get feeds i ≡ Some feed
       → IsGiven i studio.open_at events cursor feed
+
+-- the mixer took a mark that may follow those of its stream
+abbrev pub TakesMark : MixerState → MixerState → ℕ → MarkView → Type 0
+TakesMark old new number mark = (studio : Studio) (feeds : List Feed) (next : ℕ) (feed : Feed)
+    → HasFeeds studio old feeds next → slice_get feeds number ≡ Some feed → is_mark_list (format_of feed.stream) (feed.marks ++ mark ∷ []) ≡ true
+    → HasFeeds studio new (slice_set feeds number (record { stream = feed.stream; marks = feed.marks ++ mark ∷ [] })) next
 
 -- the same of one stream, where the others have given these marks
 pub record Plays (studio : Studio) (events : List TraceEvent) (feeds : List Feed) (next number : ℕ) (mixer : MixerState) (cursor : CursorState) : Type 0 where

@@ -7,7 +7,7 @@ use Rattle.studio_spec.specs.Studio.{Studio}
 use Rattle.studio_session.specs.declared.report.StreamCounts.{StreamCounts}
 use Rattle.studio_session.specs.Event.{TraceEvent}
 use Rattle.studio_session.specs.Session.{stream_history}
-use Rattle.studio_session.specs.Counts.{path_tallies, path_tally_of}
+use Rattle.studio_session.specs.Counts.{AreTallies, path_tallies, path_tally_of}
 use Rattle.studio_session.specs.Cursor.{CursorState, HasPulled}
 use Rattle.studio_session.specs.Play.{stream_marks}
 
@@ -24,6 +24,13 @@ pub record AreCountsOf (stream : Stream) (number : ℕ) (open_at : ℤ) (events 
 pub record AreCounts (studio : Studio) (events : List TraceEvent) (counts : List StreamCounts) : Type 0 where
   pub count : length counts ≡ length studio.streams
   pub each : (i : ℕ) (stream : Stream) (c : StreamCounts) → slice_get studio.streams i ≡ Some stream → slice_get counts i ≡ Some c → AreCountsOf stream i studio.open_at events c
+
+-- the counts of a cursor are those of all events, and of all marks
+pub record HasCounts (stream : Stream) (number : ℕ) (open_at : ℤ) (events : List TraceEvent) (cursor : CursorState) : Type 0 where
+  pub spec : cursor.spec ≡ stream
+  pub stream_number : cursor.number ≡ number
+  pub paths : AreTallies stream number events cursor.tallies
+  pub merge : cursor.merge.counts ≡ merge_tally_of stream number open_at events
 
 -- so many events were taken, and some marks of all of them were given
 pub record HasPulledSome (stream : Stream) (number : ℕ) (open_at : ℤ) (events : List TraceEvent) (cursor : CursorState) : Type 0 where

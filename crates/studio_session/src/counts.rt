@@ -1,7 +1,8 @@
 //! What became of a path's datagrams before the merge.
 ghost use Rattle.std.specs.Prelude.{◌≡◌, ◌+◌, ◌<◌};
+ghost use Rattle.studio_session.specs.Session.{reception_from};
 
-use crate::reception::Reception;
+use crate::reception::{Reception, ReceptionRef};
 
 /// The datagrams of a path by what became of them. They balance in every value.
 #[derive(Clone, Copy, Debug, PartialEq, Eq)]
@@ -46,6 +47,20 @@ impl PathCounts {
             Reception::Bad => self.bad += 1,
             Reception::WrongType => self.wrong_type += 1,
             Reception::WrongLength => self.wrong_length += 1,
+        }
+        self.offered += 1;
+    }
+
+    /// Counts a datagram whose packet is lent.
+    pub fn add_ref(&mut self, reception: ReceptionRef<'_>)
+        requires { self.old.offered < u64.MAX }
+        ensures { path_tally_of self.new ≡ with_reception (path_tally_of self.old) (reception_from reception.entry) }
+    {
+        match reception {
+            ReceptionRef::Sent(_) => self.sent += 1,
+            ReceptionRef::Bad => self.bad += 1,
+            ReceptionRef::WrongType => self.wrong_type += 1,
+            ReceptionRef::WrongLength => self.wrong_length += 1,
         }
         self.offered += 1;
     }

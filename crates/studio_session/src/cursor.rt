@@ -1,32 +1,38 @@
 //! One stream of a run: its merge, and how far it has come in the events.
-ghost use Rattle.std.specs.Prelude.{◌≡◌, ℕ, ◌+◌, ◌<◌, ◌≤◌, ◌^◌, ◌++◌, List, [], ℤ, pos, ◌≤ℤ◌, length, take, drop, slice_get, true, false, None, Some, IfOk, IfSome};
+ghost use Rattle.std.specs.Prelude.{◌≡◌, ℕ, ◌+◌, ◌<◌, ◌≤◌, ◌^◌, ◌++◌, List, [], ℤ, pos, ◌≤ℤ◌, length, take, drop, slice_get, is_some, true, false, None, Some, IfOk, IfSome};
 ghost use Rattle.std.specs.Option.{option_to_list};
 ghost use Rattle.stream_rules.specs.StreamSpecFacts.{Stream};
 ghost use Rattle.stream_rules.specs.declared.event.Event.{Event};
-ghost use Rattle.stream_rules.specs.Marks.{marks_of};
 ghost use Rattle.stream_rules.specs.Counts.{tally_of};
-ghost use Rattle.stream_rules.specs.Marks as slots;
 ghost use Rattle.path_merge.specs.Merge.{HasHistory};
-ghost use Rattle.path_merge.specs.Steps.{marks_left, Moves};
-ghost use Rattle.studio_session.specs.declared.source.Step.TheVariants.{Datagram, Other};
-ghost use Rattle.studio_session.specs.Event.{TraceEvent, outline_of};
-ghost use Rattle.studio_session.specs.Session.{stream_history, step_of, event_in, FitsReception};
-ghost use Rattle.studio_session.specs.Way.{IsOnWay, WentOn, on_way_after};
-ghost use Rattle.studio_session.specs.Cursor.{HasPulled, IsReadyFor, IsSameCursor, IsRunnable, IsDue, IsOnTheWay, FitsStep, way_left, events_left};
+ghost use Rattle.path_merge.specs.Next.{next_left};
+ghost use Rattle.path_merge.specs.Steps.{is_slot_mark, marks_left, Moves};
+ghost use Rattle.studio_session.specs.Event.{TraceEvent, Arrival, Reading, Closing, outline_of};
+ghost use Rattle.studio_session.specs.Session.{Datagram, Other, step_of, event_in, reception_from, FitsReception};
+ghost use Rattle.studio_session.specs.Counts.{HasCounted, path_tally_of, tallies_of};
+ghost use Rattle.studio_session.specs.Way.{IsOnWay, WentOn};
+ghost use Rattle.studio_session.specs.Cursor.{HasPulled, HaveFew, IsReadyFor, IsSameCursor, IsRunnable, IsDue, IsOnTheWay, next_on_way, next_to, way_left, events_left};
 
+use crate::counts::PathCounts;
 use crate::event::Outline;
-use crate::reception::Reception;
-use crate::source::{EventSource, Step};
-use path_merge::{Counts, Mark, MarkKind, Merge, Path, SlotWindow, StreamSpec};
+use crate::reception::{ReceptionRef, receive_ref};
+use crate::source::{EventSource, MOST_OCTETS};
+use path_merge::{Counts, MarkRef, Merge, Path, SlotWindow, StreamSpec};
 use std::alloc::{AllocError, Global};
 use std::marker::Model;
 
-/// A stream of a run. Its marks are pulled one by one.
+/// A stream of a run.
+///
+/// `take_event` goes on in the events. What an event gives is lent mark by mark: by `mark_on_way` until
+/// `pass_on_way` answers that no more is on the way to a reading, and by `mark_left` until `pass_left`
+/// answers that no more is left after a close.
 #[derive(Drop)]
 pub struct Cursor {
     spec: StreamSpec,
     number: u8,
     merge: Merge<SlotWindow>,
+    /// What became of each path's datagrams.
+    paths: [PathCounts; 4],
     place: usize,
     /// The reading that the merge is on its way to.
     reading: Option<i64>,
@@ -34,6 +40,7 @@ pub struct Cursor {
 
 impl Model for Cursor {
     ghost use Rattle.studio_session.specs.Cursor.{CursorState, IsCursor};
+    ghost use Rattle.studio_session.specs.Counts.{tallies_of};
     ghost use Rattle.std.specs.FinMap as map;
     ghost use Rattle.std.specs.Coded.{codes, coded_ℕ};
     ghost use Rattle.std.specs.Ordering.{nat_cmp};
@@ -43,9 +50,9 @@ impl Model for Cursor {
 
     ghost coded = { Prim.hlevel (codes, map.code {R = nat_cmp} coded_ℕ packet.the_row.coded) };
 
-    ghost view = { λ c. record { spec = c.spec; number = c.number; merge = c.merge; place = c.place; reading = c.reading } };
+    ghost view = { λ c. record { spec = c.spec; number = c.number; merge = c.merge; tallies = tallies_of c.paths; place = c.place; reading = c.reading } };
 
-    ghost invariant = { λ c. IsCursor (record { spec = c.spec; number = c.number; merge = c.merge; place = c.place; reading = c.reading }) };
+    ghost invariant = { λ c. IsCursor (record { spec = c.spec; number = c.number; merge = c.merge; tallies = tallies_of c.paths; place = c.place; reading = c.reading }) };
 }
 
 impl Cursor {
@@ -66,6 +73,7 @@ impl Cursor {
             spec,
             number,
             merge,
+            paths: [PathCounts::new(); 4],
             place: 0,
             reading: None,
         })
@@ -92,68 +100,62 @@ impl Cursor {
         self.merge.counts()
     }
 
-    /// The next mark; none where all were given.
-    pub fn next_mark<E: EventSource>(&mut self, source: &E) -> Option<Mark>
-        requires ready { IsReadyFor (E.events source.now) self.old }
-        ensures ready { IsReadyFor (E.events source.now) self.new }
-        ensures stands { (stream : Stream) (number : ℕ) (open_at : ℤ) (k : ℕ)
-            → IsRunnable stream number open_at (E.events source.now)
-            → HasPulled stream number open_at (E.events source.now) self.old k
-            → (option_to_list result ≡ take 1 (drop k (marks_of stream open_at (stream_history stream number (E.events source.now)))))
-            × HasPulled stream number open_at (E.events source.now) self.new (k + length (option_to_list result)) }
+    /// What became of a path's datagrams so far.
+    pub fn path_counts(&self, path: Path) -> PathCounts
+        ensures { slice_get self.now.tallies path ≡ Some (path_tally_of result) }
     {
-        'events: loop {
-            if let Some(mark) = self.next_due() {
-                return Some(mark);
-            }
-            if !self.take_event(source) {
-                return None;
-            }
+        self.paths[usize::from(path.number())]
+    }
+
+    /// The next mark on the way to the reading that was taken last, if one is before it is reached.
+    pub fn mark_on_way(&self) -> Option<MarkRef<'_>>
+        ensures { result ≡ next_on_way self.now }
+    {
+        match self.merge.mark_at(self.reading?) {
+            Ok(mark) => mark,
+            Err(_) => None,
         }
     }
 
-    /// The next mark of what has happened so far.
-    fn next_due(&mut self) -> Option<Mark>
+    /// Lets that mark go. Answers whether there may be more on the way.
+    pub fn pass_on_way(&mut self) -> bool
         ensures stands { (stream : Stream) (number : ℕ) (open_at : ℤ) (events : List TraceEvent) (k : ℕ)
             → IsRunnable stream number open_at events
             → HasPulled stream number open_at events self.old k
-            → IsDue stream number open_at events self.new k result }
+            → IsOnTheWay stream number open_at events self.new k (next_on_way self.old) }
         ensures kept { IsSameCursor self.old self.new }
-        ensures none { result ≡ None → self.new.reading ≡ None }
+        ensures settled { result ≡ false → self.new.reading ≡ None }
+        ensures fewer { result ≡ true → way_left self.new < way_left self.old }
     {
-        match self.next_on_way() {
-            Some(mark) => Some(mark),
-            None => self.next_left(),
-        }
-    }
-
-    /// The next mark on the way to the reading that was taken last, if it isn't reached.
-    pub fn next_on_way(&mut self) -> Option<Mark>
-        ensures stands { (stream : Stream) (number : ℕ) (open_at : ℤ) (events : List TraceEvent) (k : ℕ)
-            → IsRunnable stream number open_at events
-            → HasPulled stream number open_at events self.old k
-            → IsOnTheWay stream number open_at events self.new k result }
-        ensures kept { IsSameCursor self.old self.new }
-        ensures none { result ≡ None → self.new.reading ≡ None }
-        ensures fewer { IfSome result (λ mark. way_left self.new < way_left self.old) }
-    {
-        let now = self.reading?;
-        let mark = go_on(&mut self.merge, now);
-        self.reading = still_on_way(&mark, now);
-        mark
+        let Some(now) = self.reading else {
+            return false;
+        };
+        let more = go_on(&mut self.merge, now);
+        self.reading = more.then_some(now);
+        more
     }
 
     /// The next mark that is left after a close.
-    pub fn next_left(&mut self) -> Option<Mark>
+    pub fn mark_left(&self) -> Option<MarkRef<'_>>
+        ensures { result ≡ next_left self.now.merge }
+    {
+        self.merge.mark_left()
+    }
+
+    /// Lets that mark go. Answers whether there was one.
+    pub fn pass_left(&mut self) -> bool
         requires settled { self.old.reading ≡ None }
         ensures stands { (stream : Stream) (number : ℕ) (open_at : ℤ) (events : List TraceEvent) (k : ℕ)
             → HasPulled stream number open_at events self.old k
-            → IsDue stream number open_at events self.new k result }
+            → IsDue stream number open_at events self.new k (next_left self.old.merge) }
+        ensures some { result ≡ is_some (next_left self.old.merge) }
         ensures kept { IsSameCursor self.old self.new }
         ensures settled { self.new.reading ≡ None }
-        ensures fewer { IfSome result (λ mark. marks_left self.new.merge < marks_left self.old.merge) }
+        ensures fewer { result ≡ true → marks_left self.new.merge < marks_left self.old.merge }
     {
-        self.merge.drain()
+        let some = self.merge.mark_left().is_some();
+        self.merge.pass_left();
+        some
     }
 
     /// Takes the next event of the stream, and passes over those of others before it; false where no
@@ -221,66 +223,111 @@ impl Cursor {
         if self.place >= source.count() {
             return;
         }
-        let step = source.step(self.place, self.number, &self.spec);
-        self.take_step(step);
+        match source.outline(self.place) {
+            Outline::Arrive { stream, path } => {
+                if stream == self.number {
+                    let mut room = [0; MOST_OCTETS];
+                    self.take_datagram(path, source.octets(self.place, &mut room));
+                } else {
+                    self.pass_over();
+                }
+            }
+            Outline::Tick(now) => self.set_out(now),
+            Outline::Close => self.close(),
+        }
     }
 
     /// Takes a datagram of the stream.
-    fn take_datagram(&mut self, path: Path, reception: Reception)
-        requires settled { self.old.reading ≡ None }
-        requires path { path < self.old.spec.paths }
-        requires fits { FitsReception self.old.spec reception }
-        ensures place { self.new.place ≡ self.old.place }
-        ensures spec { self.new.spec ≡ self.old.spec }
-        ensures number { self.new.number ≡ self.old.number }
-        ensures reading { self.new.reading ≡ None }
-        ensures stands { (stream : Stream) (open_at : ℤ) (events : List Event) (k : ℕ)
-            → HasHistory stream open_at self.old.merge events k
-            → HasHistory stream open_at self.new.merge (events ++ event_in (Datagram path reception)) k }
-    {
-        match reception {
-            Reception::Sent(packet) => {
-                let _ = self.merge.offer(path, packet);
-            }
-            Reception::Bad => {}
-            Reception::WrongType => {}
-            Reception::WrongLength => {}
-        }
-    }
-
-    /// Takes one event.
-    fn take_step(&mut self, step: Step)
+    fn take_datagram(&mut self, path: Path, octets: &[u8])
         requires settled { self.old.reading ≡ None }
         requires place { self.old.place < usize.MAX }
-        requires fits { FitsStep self.old.spec step }
+        requires path { path < self.old.spec.paths }
         ensures place { self.new.place ≡ self.old.place + 1 }
         ensures spec { self.new.spec ≡ self.old.spec }
         ensures number { self.new.number ≡ self.old.number }
-        ensures stands { (stream : Stream) (number : ℕ) (open_at : ℤ) (events : List TraceEvent) (event : TraceEvent) (k : ℕ)
-            → IsRunnable stream number open_at events
-            → slice_get events self.old.place ≡ Some event → step ≡ step_of stream number event
+        ensures stands { (stream : Stream) (number : ℕ) (open_at : ℤ) (events : List TraceEvent) (k : ℕ)
+            → slice_get events self.old.place ≡ Some (Arrival number path octets.now)
             → HasPulled stream number open_at events self.old k → HasPulled stream number open_at events self.new k }
     {
-        match step {
-            Step::Datagram(path, reception) => self.take_datagram(path, reception),
-            Step::Clock(now) => self.reading = Some(now),
-            Step::End => self.merge.close(),
-            Step::Other => {}
-        }
+        let reception = receive_ref(&self.spec, octets);
+        count_on(&mut self.paths, path, reception);
+        offer_received(&mut self.merge, path, reception);
+        self.place += 1;
+    }
+
+    /// Sets out for a reading of the clock.
+    fn set_out(&mut self, now: i64)
+        requires settled { self.old.reading ≡ None }
+        requires place { self.old.place < usize.MAX }
+        ensures place { self.new.place ≡ self.old.place + 1 }
+        ensures spec { self.new.spec ≡ self.old.spec }
+        ensures number { self.new.number ≡ self.old.number }
+        ensures stands { (stream : Stream) (number : ℕ) (open_at : ℤ) (events : List TraceEvent) (k : ℕ)
+            → IsRunnable stream number open_at events → slice_get events self.old.place ≡ Some (Reading now)
+            → HasPulled stream number open_at events self.old k → HasPulled stream number open_at events self.new k }
+    {
+        self.reading = Some(now);
+        self.place += 1;
+    }
+
+    /// Takes the close.
+    fn close(&mut self)
+        requires settled { self.old.reading ≡ None }
+        requires place { self.old.place < usize.MAX }
+        ensures place { self.new.place ≡ self.old.place + 1 }
+        ensures spec { self.new.spec ≡ self.old.spec }
+        ensures number { self.new.number ≡ self.old.number }
+        ensures stands { (stream : Stream) (number : ℕ) (open_at : ℤ) (events : List TraceEvent) (k : ℕ)
+            → slice_get events self.old.place ≡ Some Closing
+            → HasPulled stream number open_at events self.old k → HasPulled stream number open_at events self.new k }
+    {
+        self.merge.close();
         self.place += 1;
     }
 }
 
-/// The next mark on the way to a reading.
-fn go_on(merge: &mut Merge<SlotWindow>, now: i64) -> Option<Mark>
-    ensures stands { (stream : Stream) (open_at : ℤ) (events : List Event) (k : ℕ) → 0 < stream.frames
-        → IsOnWay stream open_at merge.old (Some now) events k → WentOn stream open_at merge.new now events k result }
-    ensures spec { merge.new.spec ≡ merge.old.spec }
-    ensures moved { IfSome result (λ mark. Moves merge.old merge.new now (Some mark)) }
+/// Counts a datagram on its path.
+fn count_on(paths: &mut [PathCounts; 4], path: Path, reception: ReceptionRef<'_>)
+    requires { (place : ℕ) × (place < usize.MAX) × HaveFew place (tallies_of paths.old) }
+    ensures counted { HasCounted (Datagram path (reception_from reception.entry)) (tallies_of paths.old) (tallies_of paths.new) }
+    ensures four { length (tallies_of paths.new) ≡ 4 }
 {
-    match merge.advance(now) {
-        Ok(mark) => mark,
-        Err(_) => None,
+    let place = usize::from(path.number());
+    let mut counts = paths[place];
+    counts.add_ref(reception);
+    paths[place] = counts;
+}
+
+/// Offers the packet of a datagram to the merge, if it is one.
+fn offer_received(merge: &mut Merge<SlotWindow>, path: Path, reception: ReceptionRef<'_>)
+    requires path { path < merge.old.spec.paths }
+    requires fits { FitsReception merge.old.spec (reception_from reception) }
+    ensures spec { merge.new.spec ≡ merge.old.spec }
+    ensures stands { (stream : Stream) (open_at : ℤ) (events : List Event) (k : ℕ)
+        → HasHistory stream open_at merge.old events k
+        → HasHistory stream open_at merge.new (events ++ event_in (Datagram path (reception_from reception.entry))) k }
+{
+    match reception {
+        ReceptionRef::Sent(packet) => {
+            let _ = merge.offer_ref(path, packet);
+        }
+        ReceptionRef::Bad => {}
+        ReceptionRef::WrongType => {}
+        ReceptionRef::WrongLength => {}
+    }
+}
+
+/// Lets the next mark on the way to a reading go. Answers whether it was a slot: then more may follow.
+fn go_on(merge: &mut Merge<SlotWindow>, now: i64) -> bool
+    ensures stands { (stream : Stream) (open_at : ℤ) (events : List Event) (k : ℕ) → 0 < stream.frames
+        → IsOnWay stream open_at merge.old (Some now) events k → WentOn stream open_at merge.new now events k (next_to merge.old (Some now)) }
+    ensures slot { result ≡ is_slot_mark (next_to merge.old (Some now)) }
+    ensures spec { merge.new.spec ≡ merge.old.spec }
+    ensures moved { result ≡ true → Moves merge.old merge.new now (next_to merge.old (Some now)) }
+{
+    match merge.pass(now) {
+        Ok(slot) => slot,
+        Err(_) => false,
     }
 }
 
@@ -293,21 +340,4 @@ fn is_of_another(event: Outline, number: u8) -> bool
         Outline::Tick(_) => false,
         Outline::Close => false,
     }
-}
-
-/// The reading is not reached yet where the mark on the way to it is a slot.
-fn still_on_way(mark: &Option<Mark>, now: i64) -> Option<i64>
-    ensures { result ≡ on_way_after mark.now now }
-{
-    match mark {
-        Some(mark) => { if is_slot(mark) { Some(now) } else { None } }
-        None => None,
-    }
-}
-
-/// Whether a mark is a slot.
-fn is_slot(mark: &Mark) -> bool
-    ensures { result ≡ slots.is_slot mark.now.kind }
-{
-    matches!(mark.kind(), MarkKind::Slot { .. })
 }

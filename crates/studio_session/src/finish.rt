@@ -1,9 +1,9 @@
 //! One stream's marks to the last of them, for its counts.
-ghost use Rattle.std.specs.Prelude.{◌≡◌, ℕ, List, ℤ, None};
+ghost use Rattle.std.specs.Prelude.{◌≡◌, ℕ, List, ℤ, None, true, false};
 ghost use Rattle.stream_rules.specs.StreamSpecFacts.{Stream};
 ghost use Rattle.studio_session.specs.Event.{TraceEvent};
 ghost use Rattle.studio_session.specs.Cursor.{IsReadyFor, IsRunnable, IsSameCursor};
-ghost use Rattle.studio_session.specs.Report.{HasPulledAll, HasPulledSome, merge_tally_of};
+ghost use Rattle.studio_session.specs.Report.{HasCounts, HasPulledAll, HasPulledSome};
 
 use crate::cursor::Cursor;
 use crate::source::EventSource;
@@ -15,12 +15,7 @@ fn drop_on_way(cursor: &mut Cursor)
     ensures settled { cursor.new.reading ≡ None }
     ensures kept { IsSameCursor cursor.old cursor.new }
 {
-    'marks: loop {
-        match cursor.next_on_way() {
-            Some(_) => {}
-            None => return,
-        }
-    }
+    'marks: while cursor.pass_on_way() {}
 }
 
 /// Drops the marks that are left after a close.
@@ -31,21 +26,16 @@ fn drop_left(cursor: &mut Cursor)
     ensures settled { cursor.new.reading ≡ None }
     ensures kept { IsSameCursor cursor.old cursor.new }
 {
-    'marks: loop {
-        match cursor.next_left() {
-            Some(_) => {}
-            None => return,
-        }
-    }
+    'marks: while cursor.pass_left() {}
 }
 
-/// Takes all events, and drops all marks that weren't given, so that the merge's counts are whole.
+/// Takes all events, and drops all marks that weren't given, so that the cursor's counts are whole.
 pub fn finish_stream<E: EventSource>(cursor: &mut Cursor, source: &E)
     requires ready { IsReadyFor (E.events source.now) cursor.old }
     ensures ready { IsReadyFor (E.events source.now) cursor.new }
     ensures stands { (stream : Stream) (number : ℕ) (open_at : ℤ) → IsRunnable stream number open_at (E.events source.now)
         → HasPulledSome stream number open_at (E.events source.now) cursor.old
-        → cursor.new.merge.counts ≡ merge_tally_of stream number open_at (E.events source.now) }
+        → HasCounts stream number open_at (E.events source.now) cursor.new }
 {
     'events: loop {
         drop_on_way(cursor);

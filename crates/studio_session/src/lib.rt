@@ -4,8 +4,8 @@
 //! serve where there is no room for lists. An `EventSource` gives events by place. `first_fault` says
 //! which of them is at fault, if one is; then `Session::new` takes all memory. `next_datagram` is called
 //! until it answers none, and `into_cursors` gives each stream's cursor for its counts, after
-//! `finish_stream`. For marks in place of datagrams, `studio_cursors` gives a cursor for each stream, and
-//! `Cursor::next_mark` its marks.
+//! `finish_stream`. For marks in place of datagrams, `studio_cursors` gives a cursor for each stream, which
+//! lends its marks.
 #![tactic(auto)]
 
 mod counts;
@@ -29,10 +29,9 @@ pub use cursor::Cursor;
 pub use event::{Outline, StudioEvent};
 pub use fault::{StudioFault, first_fault};
 pub use finish::finish_stream;
-pub use reception::{Reception, receive};
+pub use reception::{Reception, ReceptionRef, receive, receive_ref};
 pub use report::{Report, StreamCounts};
 pub use run::all_datagrams;
 pub use session::{Session, studio_cursors};
-pub use source::{EventList, EventSource, Step};
+pub use source::{DatagramRoom, EventList, EventSource, MOST_OCTETS};
 pub use studio::run_studio;
-pub use tally::path_counts;

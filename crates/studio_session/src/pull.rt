@@ -1,5 +1,5 @@
 //! One stream's marks, handed to the mixer while it wants them.
-ghost use Rattle.std.specs.Prelude.{◌≡◌, ℕ, ◌<◌, ◌++◌, ◌∷◌, [], List, length, slice_get, slice_set, true, false, Some, None};
+ghost use Rattle.std.specs.Prelude.{◌≡◌, ℕ, ◌<◌, ◌++◌, ◌∷◌, [], List, length, slice_get, slice_set, true, false, Some, None, IfSome};
 ghost use Rattle.stream_rules.specs.StreamSpecFacts.{Stream, format_of};
 ghost use Rattle.stream_rules.specs.MarkList.{is_mark_list};
 ghost use Rattle.studio_spec.specs.Studio.{Studio};
@@ -7,26 +7,27 @@ ghost use Rattle.studio_mix.specs.Feed.{Feed};
 ghost use Rattle.studio_mix.specs.Mixer.{HasFeeds, is_wanted_by};
 ghost use Rattle.studio_session.specs.Event.{TraceEvent};
 ghost use Rattle.studio_session.specs.Cursor.{IsReadyFor, IsSameCursor};
-ghost use Rattle.studio_session.specs.Play.{IsRunnableBy, Plays, PlaysOut, PlaysFinal};
+ghost use Rattle.studio_session.specs.Play.{IsRunnableBy, TakesMark, Plays, PlaysOut, PlaysFinal};
 
 use crate::cursor::Cursor;
 use crate::source::EventSource;
-use path_merge::Mark;
+use path_merge::MarkRef;
 use studio_mix::Mixer;
 
-/// Hands a mark of a stream to the mixer.
-fn hand_on(mixer: &mut Mixer, stream: usize, mark: Mark)
+/// Hands a mark of a stream to the mixer, if there is one.
+fn hand_on(mixer: &mut Mixer, stream: usize, mark: Option<MarkRef<'_>>)
     requires stream { stream < length mixer.old.lanes }
     requires wanted { is_wanted_by mixer.old stream ≡ true }
-    ensures stands { (studio : Studio) (feeds : List Feed) (next : ℕ) (feed : Feed)
-        → HasFeeds studio mixer.old feeds next → slice_get feeds stream ≡ Some feed
-        → is_mark_list (format_of feed.stream) (feed.marks ++ mark ∷ []) ≡ true
-        → HasFeeds studio mixer.new (slice_set feeds stream (record { stream = feed.stream; marks = feed.marks ++ mark ∷ [] })) next }
+    ensures stands { IfSome mark.entry (TakesMark mixer.old mixer.new stream) }
+    ensures none { mark.entry ≡ None → mixer.new ≡ mixer.old }
     ensures packer { mixer.new.packer ≡ mixer.old.packer }
     ensures streams { length mixer.new.lanes ≡ length mixer.old.lanes }
 {
-    if mixer.accepts(stream, &mark) {
-        mixer.feed(stream, mark);
+    let Some(mark) = mark else {
+        return;
+    };
+    if mixer.accepts_ref(stream, &mark) {
+        mixer.feed_ref(stream, &mark);
     }
 }
 
@@ -45,9 +46,9 @@ fn pull_on_way(mixer: &mut Mixer, stream: usize, cursor: &mut Cursor)
         if !mixer.wants(stream) {
             return;
         }
-        match cursor.next_on_way() {
-            Some(mark) => hand_on(mixer, stream, mark),
-            None => return,
+        hand_on(mixer, stream, cursor.mark_on_way());
+        if !cursor.pass_on_way() {
+            return;
         }
     }
 }
@@ -71,9 +72,9 @@ fn pull_left(mixer: &mut Mixer, stream: usize, cursor: &mut Cursor) -> bool
         if !mixer.wants(stream) {
             return false;
         }
-        match cursor.next_left() {
-            Some(mark) => hand_on(mixer, stream, mark),
-            None => return true,
+        hand_on(mixer, stream, cursor.mark_left());
+        if !cursor.pass_left() {
+            return true;
         }
     }
 }

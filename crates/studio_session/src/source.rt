@@ -1,26 +1,16 @@
 //! Where the events of a run come from.
 ghost use Rattle.std.specs.Prelude.{◌≡◌, ◌<◌, ℕ, List, length, slice_get, Some, None, map};
-ghost use Rattle.studio_session.specs.Event.{TraceEvent, outline_of, said_by};
-ghost use Rattle.studio_session.specs.Session.{step_of};
+ghost use Rattle.studio_session.specs.Event.{TraceEvent, Arrival, outline_of, said_by};
 
 use crate::event::{Outline, StudioEvent};
-use crate::reception::{Reception, receive};
-use path_merge::{Path, StreamSpec};
 
-/// What an event is to one stream.
-#[derive(Debug, Drop)]
-pub enum Step {
-    /// A datagram of another stream.
-    Other,
-    /// A datagram on one of its paths.
-    Datagram(Path, Reception),
-    /// A reading of the clock.
-    Clock(i64),
-    /// The close.
-    End,
-}
+/// The most octets of a datagram.
+pub const MOST_OCTETS: usize = 2048;
 
-/// The events of a run, each as it is to one stream. No call takes memory.
+/// Room for the octets of a datagram.
+pub type DatagramRoom = [u8; MOST_OCTETS];
+
+/// The events of a run. No call takes memory.
 pub trait EventSource {
     /// What happened, the earliest first.
     ghost events: { Self → List TraceEvent };
@@ -34,10 +24,10 @@ pub trait EventSource {
         requires { place < length (events self.now) }
         ensures { (event : TraceEvent) → slice_get (events self.now) place ≡ Some event → result ≡ outline_of event };
 
-    /// What an event is to a stream.
-    fn step(&self, place: usize, number: u8, stream: &StreamSpec) -> Step
+    /// The octets of a datagram that arrived, where they lie in memory or laid out in the room.
+    fn octets<'a>(&'a self, place: usize, room: &'a mut DatagramRoom) -> &'a [u8]
         requires { place < length (events self.now) }
-        ensures { (event : TraceEvent) → slice_get (events self.now) place ≡ Some event → result ≡ step_of stream.now number event };
+        ensures { (stream path : ℕ) (octets : List ℕ) → slice_get (events self.now) place ≡ Some (Arrival stream path octets) → result.now ≡ octets };
 }
 
 /// Events in memory.
@@ -57,8 +47,8 @@ impl<'a> EventSource for EventList<'a> {
         outline_at(&self.events[place])
     }
 
-    fn step(&self, place: usize, number: u8, stream: &StreamSpec) -> Step {
-        step_at(&self.events[place], number, stream)
+    fn octets<'b>(&'b self, place: usize, _room: &'b mut DatagramRoom) -> &'b [u8] {
+        octets_at(&self.events[place])
     }
 }
 
@@ -76,23 +66,13 @@ fn outline_at(event: &StudioEvent) -> Outline
     }
 }
 
-/// What an event is to a stream.
-fn step_at(event: &StudioEvent, number: u8, stream: &StreamSpec) -> Step
-    ensures { result ≡ step_of stream.now number (said_by event.now) }
+/// The octets of a datagram that arrived; none of another event.
+fn octets_at(event: &StudioEvent) -> &[u8]
+    ensures { (stream path : ℕ) (octets : List ℕ) → said_by event.now ≡ Arrival stream path octets → result.now ≡ octets }
 {
     match event {
-        StudioEvent::Arrive {
-            stream: to,
-            path,
-            octets,
-        } => {
-            if *to == number {
-                Step::Datagram(*path, receive(stream, octets.as_slice()))
-            } else {
-                Step::Other
-            }
-        }
-        StudioEvent::Tick(now) => Step::Clock(*now),
-        StudioEvent::Close => Step::End,
+        StudioEvent::Arrive { octets, .. } => octets.as_slice(),
+        StudioEvent::Tick(_) => &[],
+        StudioEvent::Close => &[],
     }
 }

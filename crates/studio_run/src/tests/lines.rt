@@ -52,7 +52,7 @@ fn each_line_has_its_form(rt: HostRuntime) -> Result<(), Fail> {
     let mut text = TextBuffer::new(rt.alloc())?;
     let mut page = Vec::new(rt.alloc());
     for mark in marks.iter() {
-        write_mark(&mut text, &mut page, 15, mark)?;
+        write_mark(&mut text, &mut page, 15, &mark.lent())?;
     }
     write_datagram(&mut text, &mut page, &[0x80, 0x60, 0xff])?;
     write_path_counts(&mut text, &mut page, 0, path, &path_counts)?;

@@ -1,28 +1,32 @@
-use Rattle.std.proofs.Common.{◌≡◌, ◌∙◌, Err, refl, rules}
-use Rattle.studio_session.proofs.CursorLemmas.{mark_of_whole}
-use Rattle.studio_run.proofs.ListedLemmas.{listed_more, listed_fault}
+use Rattle.std.proofs.Common.{◌≡◌, ◌∙◌, Err, ap, subst, rules}
+use Rattle.studio_session.specs.Cursor.{next_on_way}
+use Rattle.studio_run.specs.Buffer.{PassesOn}
+use Rattle.studio_run.specs.Text.{next_line}
+use Rattle.studio_run.proofs.ListedLemmas.{listed_fault, listed_given}
 use Rattle.studio_run.proofs.listed.write_on_way.Goals as goal
 
 pub marks-preserved : goal.marks-preserved
 marks-preserved g c =
     let inv = c.marks.invariant in
-    let kept = c.next_on_way.ensures.kept in
+    let kept = c.pass_on_way.ensures.kept in
     record {
       stands = λ stream number open_at events written held run some.
           let l = inv.stands stream number open_at events written held run some in
-          let due = c.in-Some.ensures.stands stream number open_at events l.given run l.pulled in
-          listed_more stream number open_at events written _ _ held _ _ _ c.next_on_way.new.self c.in-Some.mark c.number.result l
-          (mark_of_whole stream number open_at events c.next_on_way.new.self.place l.given c.in-Some.mark run (due.mark c.in-Some.mark refl))
-          due.stands (c.number.ensures ∙ due.stands.stream_number) c.in_ok-write_mark-in-Some.ensures.ok;
-      kept = record { spec = kept.spec ∙ inv.kept.spec; number = kept.number ∙ inv.kept.number; place = kept.place ∙ inv.kept.place };
+          let given = c.pass_on_way.ensures.stands stream number open_at events l.given run l.pulled in
+          listed_given stream number open_at events written _ _ held _ _ c.marks.cursor c.pass_on_way.new.self (next_on_way c.marks.cursor) c.number.result run l given
+          (c.number.ensures ∙ l.pulled.stream_number) (subst (PassesOn _ _ _ _) (ap (next_line c.number.result) c.mark_on_way.ensures) c.in_ok-write_next.ensures.ok);
+      kept = record { spec = kept.spec ∙ inv.kept.spec; number = kept.number ∙ inv.kept.number; tallies = kept.tallies ∙ inv.kept.tallies; place = kept.place ∙ inv.kept.place };
     }
 
-pub returns-in_err-write_mark-in-Some-clause-fault : goal.returns-in_err-write_mark-in-Some-clause-fault
-returns-in_err-write_mark-in-Some-clause-fault g c =
-    let is : c.from_residual.result ≡ Err c.in_err-write_mark-in-Some.field-0.0 = search rules in
-    rw is (λ stream number open_at events written held run some.
+pub returns-then-not-pass_on_way-clause-ok : goal.returns-then-not-pass_on_way-clause-ok
+returns-then-not-pass_on_way-clause-ok g c = λ stream number open_at events written held run some.
     let l = c.marks.invariant.stands stream number open_at events written held run some in
-    let due = c.in-Some.ensures.stands stream number open_at events l.given run l.pulled in
-    listed_fault stream number open_at events written _ _ held _ _ c.in-Some.mark c.number.result l
-    (mark_of_whole stream number open_at events c.next_on_way.new.self.place l.given c.in-Some.mark run (due.mark c.in-Some.mark refl))
-    (c.number.ensures ∙ due.stands.stream_number) c.in_err-write_mark-in-Some.ensures.fault)
+    let given = c.pass_on_way.ensures.stands stream number open_at events l.given run l.pulled in
+    listed_given stream number open_at events written _ _ held _ _ c.marks.cursor c.pass_on_way.new.self (next_on_way c.marks.cursor) c.number.result run l given
+    (c.number.ensures ∙ l.pulled.stream_number) (subst (PassesOn _ _ _ _) (ap (next_line c.number.result) c.mark_on_way.ensures) c.in_ok-write_next.ensures.ok)
+
+pub returns-in_err-write_next-clause-fault : goal.returns-in_err-write_next-clause-fault
+returns-in_err-write_next-clause-fault g c =
+    let is : c.from_residual.result ≡ Err c.in_err-write_next.field-0.0 = search rules in
+    rw is (λ stream number open_at events written held run some.
+    listed_fault stream number open_at events written _ _ held _ c.marks.cursor (c.marks.invariant.stands stream number open_at events written held run some) c.in_err-write_next.ensures.fault)

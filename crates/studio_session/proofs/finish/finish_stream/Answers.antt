@@ -1,6 +1,5 @@
-use Rattle.std.proofs.Common.{◌≡◌, sym, subst}
-use Rattle.studio_session.specs.Cursor.{CursorState}
-use Rattle.studio_session.specs.Report.{merge_tally_of}
+use Rattle.std.proofs.Common.{sym, subst}
+use Rattle.studio_session.specs.Report.{HasCounts}
 use Rattle.studio_session.proofs.ReportLemmas.{finished}
 use Rattle.studio_session.proofs.finish.finish_stream.Goals as goal
 
@@ -22,5 +21,5 @@ returns-then-not-take_event-clause-stands g c = λ stream number open_at run som
     let all = c.take_event.ensures.all c.if-not-take_event.true in
     let on = c.drop_on_way.ensures.stands stream number open_at events run (c.events.invariant.stands stream number open_at run some) in
     let left = c.drop_left.ensures.stands stream number open_at events on in
-    subst (λ (s : CursorState). s.merge.counts ≡ merge_tally_of stream number open_at events) (sym all.0)
+    subst (HasCounts stream number open_at events) (sym all.0)
     (finished stream number open_at events c.drop_left.new.cursor c.drop_left.ensures.settled all.1 left)

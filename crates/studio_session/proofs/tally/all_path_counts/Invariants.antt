@@ -1,7 +1,10 @@
-use Rattle.std.proofs.Common.{◌≡◌, map}
-use Rattle.studio_session.specs.Counts.{path_tallies, path_tally_of}
+use Rattle.std.proofs.Common.{◌≡◌, ℕ, List}
+use Rattle.stream_rules.specs.StreamSpecFacts.{Stream}
+use Rattle.studio_session.specs.Event.{TraceEvent}
+use Rattle.studio_session.specs.Counts.{AreTallies, path_tallies, tallies_of}
 use Rattle.studio_session.proofs.tally.all_path_counts.Given as goal
 
--- the paths so far were counted
-abbrev pub invariant-loop-path : goal.invariant-loop-path
-invariant-loop-path g l = map path_tally_of l.counts.items ≡ path_tallies l.stream l.number (g.E.EventSource.events l.source) l.path
+-- the counts of the paths so far were copied
+abbrev pub invariant-loop-place : goal.invariant-loop-place
+invariant-loop-place l = (stream : Stream) (number : ℕ) (events : List TraceEvent) → AreTallies stream number events l.cursor.tallies
+    → tallies_of l.counts.items ≡ path_tallies stream number events l.place

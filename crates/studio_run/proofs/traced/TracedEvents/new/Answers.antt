@@ -1,7 +1,7 @@
-use Rattle.std.proofs.Common.{◌≡◌, ◌+◌, ◌<◌, ◌∙◌, [], ◌∷◌, ◌++◌, All, length, map, sym, ap, subst, arith}
+use Rattle.std.proofs.Common.{◌≡◌, ◌+◌, ◌<◌, ◌∙◌, [], ◌∷◌, All, length, map, sym, ap, subst, arith}
 use Rattle.std.proofs.lemmas.List.{map-append}
 use Rattle.std.proofs.lemmas.List.Elements.{All-append, All-cons, All-nil}
-use Rattle.studio_run.specs.Trace.{prepend, trace_events}
+use Rattle.studio_run.specs.Trace.{prepend}
 use Rattle.studio_run.specs.Places.{IsPlace, event_at, said_at}
 use Rattle.studio_run.specs.Reader.{left_in}
 use Rattle.studio_run.proofs.ReaderLemmas.{Counted-next, split-next}

@@ -1,7 +1,6 @@
 use Rattle.std.proofs.Common.{◌≡◌, ◌<◌, length, Some, true, slice_get, ap, subst, ◌∙◌, arith, rules}
 use Rattle.stream_rules.specs.StreamSpecFacts.{Stream}
-use Rattle.studio_session.specs.declared.source.Step.TheVariants.{Other}
-use Rattle.studio_session.specs.Session.{step_of}
+use Rattle.studio_session.specs.Session.{Other, step_of}
 use Rattle.studio_session.specs.Cursor.{CursorState}
 use Rattle.studio_session.proofs.CursorLemmas.{event_here}
 use Rattle.studio_session.proofs.cursor.Cursor.pass_over_others.Goals as goal
