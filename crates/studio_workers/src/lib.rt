@@ -4,7 +4,7 @@
 //! stream and path by path, a `Clock` for each stream, and a `Sink`. It returns once every feed has ended
 //! and every datagram was sent, with a report and the sink. Where the report is `settled`, the sink was
 //! handed the datagrams of exactly the ready blocks of the streams' marks. A caller that wants counts on
-//! the way takes the monitors' ends out before.
+//! the way takes the monitors' ends out before. The tests are those of `studio_uses`.
 #![tactic(auto)]
 
 mod clock;
@@ -24,8 +24,6 @@ mod sink;
 mod stream_job;
 mod stream_nest;
 mod stream_worker;
-#[cfg(test)]
-mod tests;
 mod timed_stream;
 
 pub use clock::Clock;

@@ -3,7 +3,6 @@ ghost use Rattle.std.specs.Prelude.{[], None};
 
 use super::fakes::{ListFeed, MemorySink};
 use super::{FIRST, SECOND, clocks, gave_both, only, run, studio};
-use crate::{Clock, Feed, FeedAnswer, SendAnswer, Sink};
 use std::alloc::Global;
 use std::process::Abort;
 use std::sync::Wait;
@@ -11,6 +10,7 @@ use std::sync::atomic::{AtomicBool, AtomicU64, Ordering};
 use std::test::Fail;
 use std::thread::Parker;
 use std::time::Duration;
+use studio_workers::{Clock, Feed, FeedAnswer, SendAnswer, Sink};
 
 /// How often something is waited for, a millisecond each time.
 const WAITS: u32 = 20_000;

@@ -4,13 +4,13 @@ ghost use Rattle.studio_rings.specs.Opened.{AreOpened};
 
 use super::fakes::{ListClock, ListFeed};
 use super::{FIRST, SECOND, one_stream};
-use crate::{SendAnswer, Sink, WorkFault, run_workers};
 use std::alloc::Global;
 use std::process::Abort;
 use std::sync::Wait;
 use std::thread::Threads;
 use studio_rings::{Ends, open};
 use studio_spec::StudioSpec;
+use studio_workers::{SendAnswer, Sink, WorkFault, run_workers};
 
 /// Takes no memory.
 #[derive(Drop)]

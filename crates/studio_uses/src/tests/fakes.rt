@@ -2,9 +2,9 @@
 ghost use Rattle.std.specs.Prelude.{[], ◌∷◌, ◌++◌, map, take, drop, Some, if◌then◌else◌};
 ghost use Rattle.studio_workers.specs.Answers.{Gives, Stops};
 
-use crate::{Clock, Feed, FeedAnswer, SendAnswer, Sink};
 use std::alloc::Global;
 use std::process::Abort;
+use studio_workers::{Clock, Feed, FeedAnswer, SendAnswer, Sink};
 
 /// Gives these datagrams, one after another, and tells so.
 #[derive(Drop)]

@@ -1,4 +1,4 @@
-use Rattle.studio_workers.proofs.tests.run.Goals as goal
+use Rattle.studio_uses.proofs.tests.run.Goals as goal
 
 pub run_workers-requires-clause-opened : goal.run_workers-requires-clause-opened
 run_workers-requires-clause-opened g c = λ κs within. let o = c.in_ok-ends.ensures.opened in

@@ -1,4 +1,4 @@
-use Rattle.studio_workers.proofs.tests.memory.attempt.Goals as goal
+use Rattle.studio_uses.proofs.tests.memory.attempt.Goals as goal
 
 pub run_workers-requires-clause-opened : goal.run_workers-requires-clause-opened
 run_workers-requires-clause-opened g c = λ κs within. let o = c.opened-ends.ensures in

@@ -4,7 +4,6 @@ mod holding;
 mod memory;
 
 use self::fakes::{FaultyFeed, ListClock, ListFeed, MemorySink};
-use crate::{Clock, Feed, Sink, WorkReport, run_workers};
 use gain_mix::{Matrix, Schedule};
 use mix_packets::OutSpec;
 use path_merge::{Counts, SpecFault, StreamClock, StreamSpec};
@@ -16,6 +15,7 @@ use std::test::Fail;
 use std::thread::Threads;
 use studio_rings::open;
 use studio_spec::StudioSpec;
+use studio_workers::{Clock, Feed, Sink, WorkReport, run_workers};
 
 const FIRST: [u8; 30] = [
     0x80, 0x60, 0, 1, 0, 0, 0, 0, 0, 0, 0, 1, 0, 0, 1, 0, 0, 2, 0, 0, 3, 0, 0, 4, 0, 0, 5, 0, 0, 6,

@@ -1,10 +1,10 @@
-use Rattle.std.proofs.Common.{◌≡◌, ℕ, suc, ◌+◌, ◌<◌, ◌≤◌, Bool, true, false, List, [], ◌∷◌, ◌++◌, map, take, drop, get_or, length, vec_len, min, if◌then◌else◌, Vec, Global, refl, sym, ap, subst, ◌∙◌, arith}
+use Rattle.std.proofs.Common.{◌≡◌, ℕ, suc, ◌+◌, ◌<◌, ◌≤◌, Bool, true, false, List, [], ◌∷◌, ◌++◌, map, take, drop, get_or, length, min, if◌then◌else◌, Vec, Global, refl, sym, ap, subst, ◌∙◌, arith}
 use Rattle.std.proofs.Math.Nat.{min-le_right}
 use Rattle.std.proofs.Math.Seq.{drop-cons, take-append_seam}
 use Rattle.std.proofs.lemmas.List.{length-take-le, take_min}
 use Rattle.studio_workers.specs.Answers.{Gives, Stops, Tells}
 use Rattle.studio_workers.specs.declared.feed.FeedAnswer.TheVariants.{Datagram}
-use Rattle.studio_workers.proofs.tests.fakes.ListFeedFeed.next.Goals as goal
+use Rattle.studio_uses.proofs.tests.fakes.ListFeedFeed.next.Goals as goal
 
 -- the octets that were copied to the front
 copied : (xs new rest : List ℕ) (count room : ℕ) → count ≡ min room (length xs) → room ≡ 2048 → new ≡ take count xs → take count (new ++ rest) ≡ take 2048 xs
