@@ -1,4 +1,5 @@
-//! Whole runs of the workers, over feeds, clocks and a sink in memory.
+//! The callers, and whole runs of the workers over feeds, clocks and a sink in memory.
+mod callers;
 mod fakes;
 mod holding;
 mod memory;

@@ -1,0 +1,2 @@
+pub mod Receive
+pub mod Report

@@ -1,0 +1,12 @@
+//! A datagram as it came in.
+
+use path_merge::Path;
+
+/// A datagram, with the path that it came on and the reading of the receiver's clock as it came, in
+/// sampling instants.
+#[derive(Clone, Copy, Debug)]
+pub struct Arrival<'a> {
+    pub time: i64,
+    pub path: Path,
+    pub datagram: &'a [u8],
+}

@@ -1,0 +1,100 @@
+//! One stream, from datagrams to marks.
+ghost use Rattle.std.specs.Prelude.{◌≡◌, ◌^◌, pos, ◌≤ℤ◌, true, OnOk, IfOk, IfErr};
+ghost use Rattle.stream_rules.specs.History.{is_well_timed};
+ghost use Rattle.stream_rules.specs.Marks.{marks_of};
+ghost use Rattle.studio_uses.specs.declared.receive.ReceiveFault.TheVariants.{Clock, Memory};
+ghost use Rattle.studio_uses.specs.Receive.{IsFaultOf, are_on_paths, history_of};
+
+use crate::arrival::Arrival;
+use path_merge::{ClockFault, Mark, Merge, StreamSpec};
+use rtp_wire::read;
+use std::alloc::{AllocError, AllocFailed, Global};
+use thiserror::Error;
+
+/// Why datagrams gave no marks.
+#[derive(Debug, Drop, Error)]
+pub enum ReceiveFault {
+    /// A datagram came on a path that the stream lacks.
+    #[error("a path that the stream lacks")]
+    Path,
+    /// A reading of the clock goes back, or past 2^60.
+    #[error("{0}")]
+    Clock(ClockFault),
+    /// A growth was refused.
+    #[error("out of memory")]
+    Memory,
+}
+
+impl From<ClockFault> for ReceiveFault {
+    ghost from_gives = { λ clock fault. fault ≡ Clock clock };
+
+    fn from(fault: ClockFault) -> ReceiveFault {
+        ReceiveFault::Clock(fault)
+    }
+}
+
+impl From<AllocError> for ReceiveFault {
+    ghost from_gives = { λ _ fault. fault ≡ Memory };
+
+    fn from(_error: AllocError) -> ReceiveFault {
+        ReceiveFault::Memory
+    }
+}
+
+impl<T: Drop> From<AllocFailed<T>> for ReceiveFault {
+    ghost from_gives = { λ _ fault. fault ≡ Memory };
+
+    fn from(_refused: AllocFailed<T>) -> ReceiveFault {
+        ReceiveFault::Memory
+    }
+}
+
+/// The marks of one stream whose datagrams came in as these arrivals, the earliest first, and which was
+/// then closed.
+///
+/// Each arrival's time is a reading of the clock: it hands on the slots whose deadlines it reaches, and
+/// then the datagram is offered, if it is a packet of the stream.
+pub fn receive_stream(
+    alloc: Global,
+    spec: StreamSpec,
+    open_at: i64,
+    arrivals: &[Arrival<'_>],
+) -> Result<Vec<Mark>, ReceiveFault>
+    requires not_low { pos 0 ≤ℤ open_at }
+    requires not_high { open_at ≤ℤ pos (2 ^ 60) }
+    ensures marks { IfOk result (λ marks. marks.items ≡ marks_of spec open_at (history_of spec arrivals.now)) }
+    ensures well_timed { OnOk result (is_well_timed open_at (history_of spec arrivals.now) ≡ true) }
+    ensures paths { OnOk result (are_on_paths spec arrivals.now ≡ true) }
+    ensures fault { IfErr result (IsFaultOf spec open_at arrivals.now) }
+{
+    let mut merge = Merge::new(alloc, spec, open_at)?;
+    let mut marks = Vec::new(alloc);
+    for arrival in arrivals {
+        let Arrival {
+            time,
+            path,
+            datagram,
+        } = *arrival;
+        'reading: loop {
+            if let Some(mark) = merge.mark_at(time)? {
+                marks.push(mark.to_mark())?;
+            }
+            if !merge.pass(time)? {
+                break;
+            }
+        }
+        if path.number() >= spec.paths() {
+            return Err(ReceiveFault::Path);
+        }
+        let Ok(view) = read(datagram) else { continue };
+        let Ok(packet) = spec.admit_ref(&view) else {
+            continue;
+        };
+        merge.offer_ref(path, packet);
+    }
+    merge.close();
+    'rest: while let Some(mark) = merge.drain() {
+        marks.push(mark)?;
+    }
+    Ok(marks)
+}
