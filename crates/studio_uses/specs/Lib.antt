@@ -1,2 +1,3 @@
 pub mod Receive
 pub mod Report
+pub mod Told

@@ -1,8 +1,9 @@
-//! One stream's datagrams to its marks, and a trace to its report.
+//! One stream's datagrams to its marks, a trace to its report, and a run in threads.
 
-use super::{FIRST, SECOND, stream, studio};
-use crate::{Arrival, ReceiveFault, receive_stream, report_trace};
+use super::{FIRST, OUTPUT, SECOND, stream, studio};
+use crate::{Arrival, MemorySink, ReceiveFault, receive_stream, report_trace, run_in_threads};
 use path_merge::{Body, ClockFault, Mark, MarkKind, Path};
+use std::alloc::{AllocError, Global};
 use std::test::Fail;
 use studio_run::{PlayFault, TraceKind};
 
@@ -84,5 +85,39 @@ fn a_trace_in_memory_has_its_report(rt: HostRuntime) -> Result<(), Fail> {
         panic!(rt; "a line with another word")
     };
     assert_eq!(rt; (fault.line, fault.kind), (2, TraceKind::Word));
+    Ok(())
+}
+
+/// Both datagrams, for each of so many paths.
+fn on_paths(alloc: Global, paths: u8) -> Result<Vec<Vec<Vec<u8>>>, AllocError> {
+    let mut lists = Vec::new(alloc);
+    for _ in 0..paths {
+        let mut list = Vec::new(alloc);
+        list.push(Vec::from_slice(alloc, &FIRST)?)?;
+        list.push(Vec::from_slice(alloc, &SECOND)?)?;
+        lists.push(list)?;
+    }
+    Ok(lists)
+}
+
+#[test]
+fn a_studio_runs_over_memory(rt: HostRuntime) -> Result<(), Fail> {
+    let alloc = rt.alloc();
+    let studio = studio(&rt, alloc);
+    let lists = on_paths(alloc, 2)?;
+    let (report, sink) = run_in_threads(
+        &rt,
+        alloc,
+        &studio,
+        lists.as_slice(),
+        &[0],
+        MemorySink::new(alloc),
+    )?;
+    assert_eq!(rt; (report.settled, report.blocks), (true, 2));
+    let kept = sink.kept();
+    assert_eq!(rt; kept.len(), 2);
+    let [first, second] = &OUTPUT;
+    assert!(rt; kept[0].as_slice() == first.as_slice(), "the first");
+    assert!(rt; kept[1].as_slice() == second.as_slice(), "the second");
     Ok(())
 }

@@ -1,0 +1,14 @@
+use Rattle.std.proofs.Common.{◌≡◌, length, map, take}
+use Rattle.studio_uses.specs.Told.{told_of}
+use Rattle.studio_uses.proofs.run.run_in_threads.Given as goal
+
+-- a feed for each list of datagrams so far
+abbrev pub invariant-loop-path : goal.invariant-loop-path
+invariant-loop-path g l = record {
+  told : l.feeds.items ≡ map (λ path. told_of path.items) (take l.path-index l.datagrams);
+  count : length l.feeds.items ≡ l.path-index;
+}
+
+-- a clock for each stream so far
+abbrev pub invariant-loop : goal.invariant-loop
+invariant-loop g l = length l.clocks.items ≡ l.counter

@@ -1,0 +1,31 @@
+//! Readings in memory.
+
+use studio_workers::Clock;
+
+/// Gives these readings, one after another, and the last again and again; 0 where there is none.
+#[derive(Drop)]
+pub struct MemoryClock<'a> {
+    readings: &'a [i64],
+    next: usize,
+    last: i64,
+}
+
+impl<'a> MemoryClock<'a> {
+    pub fn new(readings: &'a [i64]) -> MemoryClock<'a> {
+        MemoryClock {
+            readings,
+            next: 0,
+            last: 0,
+        }
+    }
+}
+
+impl<'a> Clock for MemoryClock<'a> {
+    fn now(&mut self) -> i64 {
+        if let Some(reading) = self.readings.get(self.next) {
+            self.next += 1;
+            self.last = *reading;
+        }
+        self.last
+    }
+}
