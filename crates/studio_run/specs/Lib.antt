@@ -5,6 +5,7 @@ pub mod LineEvent
 pub mod Lines
 pub mod Listed
 pub mod Listing
+pub mod LiveReport
 pub mod Places
 pub mod Play
 pub mod Reader

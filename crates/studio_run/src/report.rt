@@ -119,7 +119,7 @@ fn push_slots(text: &mut TextBuffer, counts: &Counts)
 }
 
 /// How many packets were taken from each of so many paths.
-fn taken_from(paths: u8, counts: &Counts) -> &[u64]
+pub(crate) fn taken_from(paths: u8, counts: &Counts) -> &[u64]
     ensures value { result.now ≡ take paths counts.now.taken_by }
     ensures few { length result.now ≤ 4 }
 {
@@ -142,7 +142,7 @@ fn push_taken(text: &mut TextBuffer, taken_by: &[u64])
 }
 
 /// Holds a number, after a word.
-fn push_count(text: &mut TextBuffer, word: &str, number: u64)
+pub(crate) fn push_count(text: &mut TextBuffer, word: &str, number: u64)
     requires { length text.old + length word.now + 42 ≤ 65536 }
     ensures text { text.new ≡ text.old ++ count_text word.now number }
     ensures few { length text.new ≤ length text.old + length word.now + 42 }
@@ -154,7 +154,7 @@ fn push_count(text: &mut TextBuffer, word: &str, number: u64)
 }
 
 /// The letter of a path, by its number.
-fn path_letter(path: u8) -> &'static str
+pub(crate) fn path_letter(path: u8) -> &'static str
     requires { path < 4 }
     ensures text { result.now ≡ path_letter path }
     ensures one { length result.now ≡ 1 }
