@@ -1,0 +1,62 @@
+//! Why a live run came to no whole report.
+
+use std::alloc::AllocError;
+use std::io;
+use std::io::ErrorKind;
+use studio_rings::OpenFault;
+use studio_run::WriteFault;
+use studio_workers::WorkFault;
+use thiserror::Error;
+
+/// Why a live run came to no whole report.
+#[derive(Clone, Copy, Debug, PartialEq, Eq, Error)]
+pub enum LiveFault {
+    /// Memory was refused.
+    #[error("out of memory")]
+    Memory,
+    /// A socket couldn't be made, bound or set, or there isn't one for each path.
+    #[error("device: socket")]
+    Socket,
+    /// A worker or the watcher couldn't be started.
+    #[error("device: thread")]
+    Thread,
+    /// The report was not written whole.
+    #[error("device: write")]
+    Write,
+}
+
+impl From<AllocError> for LiveFault {
+    fn from(_fault: AllocError) -> LiveFault {
+        LiveFault::Memory
+    }
+}
+
+impl From<io::Error> for LiveFault {
+    fn from(fault: io::Error) -> LiveFault {
+        match fault.kind() {
+            ErrorKind::OutOfMemory => LiveFault::Memory,
+            _ => LiveFault::Socket,
+        }
+    }
+}
+
+impl From<OpenFault> for LiveFault {
+    fn from(_fault: OpenFault) -> LiveFault {
+        LiveFault::Memory
+    }
+}
+
+impl From<WorkFault> for LiveFault {
+    fn from(fault: WorkFault) -> LiveFault {
+        match fault {
+            WorkFault::Memory => LiveFault::Memory,
+            WorkFault::Start => LiveFault::Thread,
+        }
+    }
+}
+
+impl From<WriteFault> for LiveFault {
+    fn from(_fault: WriteFault) -> LiveFault {
+        LiveFault::Write
+    }
+}

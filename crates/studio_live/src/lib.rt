@@ -1,0 +1,28 @@
+//! A studio on real sockets: what a live run takes from the system, and the run itself.
+//!
+//! `LivePorts::of` finds the ports that a studio needs, or names the first that is absent. `run_studio_live`
+//! then binds a socket for each path, starts the workers with a watcher beside them, and writes the report
+//! once all feeds have ended. Its caller hands in the runtime, the memory and both writers.
+#![tactic(auto)]
+
+mod clock;
+mod fault;
+mod feed;
+mod input;
+mod options;
+mod ports;
+mod report;
+mod run;
+mod signal;
+mod sink;
+mod stats;
+mod watch;
+
+pub use clock::{SystemClock, reading_after};
+pub use fault::LiveFault;
+pub use feed::UdpFeed;
+pub use options::LiveOptions;
+pub use ports::LivePorts;
+pub use report::write_report;
+pub use run::run_studio_live;
+pub use sink::UdpSink;

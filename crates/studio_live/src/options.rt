@@ -1,0 +1,12 @@
+//! What a live run is told beside its studio.
+
+/// How a live run ends, and what it tells while it goes on.
+#[derive(Clone, Copy, Debug, PartialEq, Eq)]
+pub struct LiveOptions {
+    /// After how many sampling instants the feeds end; if none, not by the clock.
+    pub instants: Option<i64>,
+    /// Every how many seconds each stream's counts are told; if none, only at the end.
+    pub stats: Option<u32>,
+    /// Whether the feeds end where standard input does.
+    pub until_eof: bool,
+}
