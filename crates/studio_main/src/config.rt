@@ -3,7 +3,7 @@ use crate::fault::{ConfigFault, Fault};
 use std::alloc::Global;
 use std::fs;
 use studio_run::{ReadFault, read_text};
-use studio_spec::{Kind, StudioSpec};
+use studio_spec::{Kind, SpecError, StudioSpec};
 
 /// The most octets of a configuration.
 const MOST_OCTETS: usize = 1_048_576;
@@ -29,14 +29,19 @@ impl Configs for HostConfigs<'_> {
     }
 }
 
+/// The octets of the configuration at a path.
+pub fn config_of<C: Configs>(configs: &C, alloc: Global, path: &str) -> Result<Vec<u8>, Fault> {
+    configs.octets(alloc, path).map_err(|fault| match fault {
+        ReadFault::Device => Fault::Config(ConfigFault::Unread),
+        ReadFault::TooMany => Fault::Config(ConfigFault::TooLong),
+        ReadFault::Memory => Fault::Memory,
+    })
+}
+
 /// The studio of the configuration at a path.
 pub fn studio_of<C: Configs>(configs: &C, alloc: Global, path: &str) -> Result<StudioSpec, Fault> {
-    match configs.octets(alloc, path) {
-        Ok(octets) => studio_in(alloc, octets.as_slice()),
-        Err(ReadFault::Device) => Err(Fault::Config(ConfigFault::Unread)),
-        Err(ReadFault::TooMany) => Err(Fault::Config(ConfigFault::TooLong)),
-        Err(ReadFault::Memory) => Err(Fault::Memory),
-    }
+    let octets = config_of(configs, alloc, path)?;
+    studio_in(alloc, octets.as_slice())
 }
 
 /// The studio that the octets of a configuration say.
@@ -54,13 +59,16 @@ pub fn studio_in(alloc: Global, octets: &[u8]) -> Result<StudioSpec, Fault> {
             Fault::Config(ConfigFault::NotToml)
         }
     })?;
-    StudioSpec::from_table(alloc, &table).map_err(|error| {
-        if error.kind == Kind::Memory {
-            Fault::Memory
-        } else {
-            Fault::Config(ConfigFault::Studio(error))
-        }
-    })
+    StudioSpec::from_table(alloc, &table).map_err(fault_of)
+}
+
+/// What is wrong with a studio, or want of memory.
+pub fn fault_of(error: SpecError) -> Fault {
+    if error.kind == Kind::Memory {
+        Fault::Memory
+    } else {
+        Fault::Config(ConfigFault::Studio(error))
+    }
 }
 
 /// The studio of a run without words: one stream of L24, mono, in packets of 6 sampling instants on

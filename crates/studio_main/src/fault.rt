@@ -1,5 +1,6 @@
 //! The faults of a run: their lines and exit statuses.
 use std::io::Write;
+use studio_live::LiveFault;
 use studio_run::{PlayFault, TraceFault};
 use studio_session::StudioFault;
 use studio_spec::SpecError;
@@ -9,7 +10,8 @@ use thiserror::Error;
 #[derive(Clone, Copy, Debug, PartialEq, Eq, Error)]
 pub enum Fault {
     /// The words of the command line are no text.
-    #[error("usage: darbexum [marks CONFIG [--counts] | play CONFIG | check CONFIG] < TRACE")]
+    #[error("usage: darbexum [marks CONFIG [--counts] | play CONFIG | check CONFIG] < TRACE, \
+         or darbexum live CONFIG")]
     Usage,
     /// The configuration is at fault.
     #[error("{0}")]
@@ -29,6 +31,12 @@ pub enum Fault {
     /// The output took only a part of the text.
     #[error("device: write")]
     Write,
+    /// A socket could not be made, bound or set.
+    #[error("device: socket")]
+    Socket,
+    /// A thread could not be started.
+    #[error("device: thread")]
+    Thread,
 }
 
 /// Why a configuration says no studio.
@@ -72,7 +80,7 @@ impl Fault {
             Fault::Config(ConfigFault::Unread) => 5,
             Fault::Config(_) => 3,
             Fault::Memory => 4,
-            Fault::Read | Fault::Write => 5,
+            Fault::Read | Fault::Write | Fault::Socket | Fault::Thread => 5,
         }
     }
 
@@ -91,6 +99,17 @@ impl From<PlayFault> for Fault {
             PlayFault::Trace(fault) => Fault::Trace(fault),
             PlayFault::Run(fault) => Fault::from(fault),
             PlayFault::Write => Fault::Write,
+        }
+    }
+}
+
+impl From<LiveFault> for Fault {
+    fn from(fault: LiveFault) -> Fault {
+        match fault {
+            LiveFault::Memory => Fault::Memory,
+            LiveFault::Socket => Fault::Socket,
+            LiveFault::Thread => Fault::Thread,
+            LiveFault::Write => Fault::Write,
         }
     }
 }

@@ -1,22 +1,29 @@
-//! The program: reads a trace, and lists its marks or plays it to its report, or says what a configuration means.
+//! The program: lists the marks of a trace or plays it to its report, runs a studio live, or says what a configuration
+//! means.
 #![tactic(auto)]
 
 mod config;
 mod fault;
+mod live;
 mod summary;
 #[cfg(test)]
 mod tests;
 mod words;
 
-use crate::config::{Configs, HostConfigs, standard_studio, studio_of};
+use crate::config::{Configs, HostConfigs, config_of, standard_studio, studio_of};
 use crate::fault::Fault;
+use crate::live::run_config;
 use crate::summary::write_summary;
 use crate::words::{Asked, asked_for, told};
 use std::alloc::Global;
 use std::env;
 use std::io::{ErrorKind, Read, Write};
+use std::net::Net;
 use std::process::ExitCode;
 use std::rt::Env;
+use std::sync::Wait;
+use std::thread::Threads;
+use std::time::Clock;
 use studio_run::{list_marks, list_marks_and_counts, play};
 
 fn main(rt: HostRuntime) -> ExitCode {
@@ -24,6 +31,7 @@ fn main(rt: HostRuntime) -> ExitCode {
     let mut faults = rt.stderr();
     let status = match words_of(&rt) {
         Ok(words) => run(
+            &rt,
             &HostConfigs { rt: &rt },
             alloc,
             words.as_slice(),
@@ -51,11 +59,12 @@ fn words_of(rt: &(impl Env + AllocGlobal)) -> Result<Vec<String>, Fault> {
 
 /// Runs the program: its text goes to `output`, and the line of a fault to `faults`. Answers the
 /// exit status.
-pub fn run<C: Configs, R: Read, W: Write, E: Write>(
+pub fn run<R: Threads + Wait + Sync + Net + Clock, C: Configs, I: Read, W: Write, E: Write + Send>(
+    rt: &R,
     configs: &C,
     alloc: Global,
     words: &[String],
-    input: &mut R,
+    input: &mut I,
     output: &mut W,
     faults: &mut E,
 ) -> u8 {
@@ -63,18 +72,19 @@ pub fn run<C: Configs, R: Read, W: Write, E: Write>(
         Ok(asked) => asked,
         Err(error) => return told(&error, output, faults),
     };
-    match answer(configs, alloc, asked, input, output, faults) {
+    match answer(rt, configs, alloc, asked, input, output, faults) {
         Ok(()) => 0,
         Err(fault) => fault.tell(faults),
     }
 }
 
 /// Does what the words ask for. Counts that are told beside a listing go where faults go.
-fn answer<C: Configs, R: Read, W: Write, E: Write>(
+fn answer<R: Threads + Wait + Sync + Net + Clock, C: Configs, I: Read, W: Write, E: Write + Send>(
+    rt: &R,
     configs: &C,
     alloc: Global,
     asked: Asked<'_>,
-    input: &mut R,
+    input: &mut I,
     output: &mut W,
     faults: &mut E,
 ) -> Result<(), Fault> {
@@ -98,6 +108,10 @@ fn answer<C: Configs, R: Read, W: Write, E: Write>(
         Asked::Check(path) => {
             let studio = studio_of(configs, alloc, path)?;
             write_summary(&studio, output)
+        }
+        Asked::Live(path, options) => {
+            let config = config_of(configs, alloc, path)?;
+            run_config(rt, alloc, config.as_slice(), &options, output, faults)
         }
     }
 }

@@ -1,6 +1,7 @@
 //! Tests, and what they share.
 mod commands;
 mod fakes;
+mod live;
 mod statuses;
 
 use self::fakes::Page;
@@ -8,6 +9,10 @@ use crate::config::Configs;
 use crate::run;
 use std::alloc::{AllocError, Global};
 use std::io::Read;
+use std::net::Net;
+use std::sync::Wait;
+use std::thread::Threads;
+use std::time::Clock;
 use studio_run::ReadFault;
 
 /// The trace of the stored run.
@@ -45,11 +50,23 @@ struct Outcome {
 }
 
 /// Runs the program without words.
-fn outcome_of<R: Read + Drop>(alloc: Global, mut input: R) -> Outcome {
+fn outcome_of<R: Threads + Wait + Sync + Net + Clock, I: Read + Drop>(
+    rt: &R,
+    alloc: Global,
+    mut input: I,
+) -> Outcome {
     let mut output = Page::new(usize::MAX);
     let mut faults = Page::new(usize::MAX);
     let configs = OneConfig { text: b"" };
-    let status = run(&configs, alloc, &[], &mut input, &mut output, &mut faults);
+    let status = run(
+        rt,
+        &configs,
+        alloc,
+        &[],
+        &mut input,
+        &mut output,
+        &mut faults,
+    );
     Outcome {
         status,
         output,
@@ -58,7 +75,12 @@ fn outcome_of<R: Read + Drop>(alloc: Global, mut input: R) -> Outcome {
 }
 
 /// Runs the program with words, over the stored trace and a configuration.
-fn outcome_with(alloc: Global, words: &[&str], config: &[u8]) -> Result<Outcome, AllocError> {
+fn outcome_with<R: Threads + Wait + Sync + Net + Clock>(
+    rt: &R,
+    alloc: Global,
+    words: &[&str],
+    config: &[u8],
+) -> Result<Outcome, AllocError> {
     let mut owned = Vec::new(alloc);
     for word in words {
         owned.push(String::from_str(alloc, word)?)?;
@@ -68,6 +90,7 @@ fn outcome_with(alloc: Global, words: &[&str], config: &[u8]) -> Result<Outcome,
     let mut faults = Page::new(usize::MAX);
     let configs = OneConfig { text: config };
     let status = run(
+        rt,
         &configs,
         alloc,
         owned.as_slice(),

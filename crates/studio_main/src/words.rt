@@ -1,9 +1,13 @@
 //! The words of the command line.
 use crate::fault::Fault;
 use clap::error::ErrorKind;
-use clap::{Arg, ArgAction, Command, Error};
+use clap::{Arg, ArgAction, ArgMatches, Command, Error, value_parser};
 use std::alloc::Global;
 use std::io::Write;
+use studio_live::LiveOptions;
+
+/// The most sampling instants of a live run.
+const MOST_INSTANTS: i64 = 1_099_511_627_776;
 
 /// What the words ask for. A configuration is named by its path.
 pub enum Asked<'a> {
@@ -17,6 +21,8 @@ pub enum Asked<'a> {
     Play(&'a str),
     /// What a configuration means.
     Check(&'a str),
+    /// A run of a configuration's studio on sockets.
+    Live(&'a str, LiveOptions),
 }
 
 /// What the words ask for. Help and the version are errors too, with their texts.
@@ -28,9 +34,19 @@ pub fn asked_for<'a>(alloc: Global, words: &'a [String]) -> Result<Asked<'a>, Er
     match inner.get_str("CONFIG") {
         Some(path) if name == "play" => Ok(Asked::Play(path)),
         Some(path) if name == "check" => Ok(Asked::Check(path)),
+        Some(path) if name == "live" => Ok(Asked::Live(path, options_in(inner))),
         Some(path) if inner.get_flag("counts") => Ok(Asked::MarksAndCounts(path)),
         Some(path) => Ok(Asked::Marks(path)),
         None => Ok(Asked::Standard),
+    }
+}
+
+/// How a live run ends, and what it tells.
+fn options_in(matches: &ArgMatches<'_>) -> LiveOptions {
+    LiveOptions {
+        instants: matches.get_one::<i64>("instants"),
+        stats: matches.get_one::<u32>("stats"),
+        until_eof: matches.get_flag("until-eof"),
     }
 }
 
@@ -50,12 +66,39 @@ fn command<'a>(alloc: Global) -> Result<Command<'a>, Error> {
     let play = with_config(alloc, "play", "Plays a trace to its datagrams and counts")?;
     let check = with_config(alloc, "check", "Says what a configuration means")?;
     let command = Command::new(alloc, "darbexum")
-        .about("Receives studio audio over IP from a trace on standard input")
+        .about("Receives studio audio over IP, from a trace on standard input or live")
         .version("0.1.0")
         .no_binary_name(true)
         .subcommand(marks)?
         .subcommand(play)?
-        .subcommand(check)?;
+        .subcommand(check)?
+        .subcommand(live_command(alloc)?)?;
+    Ok(command)
+}
+
+/// The word of a live run.
+fn live_command<'a>(alloc: Global) -> Result<Command<'a>, Error> {
+    let instants = Arg::new(alloc, "instants")
+        .long("instants")
+        .value_name("N")
+        .help("End after so many sampling instants")
+        .value_parser(value_parser!(i64).range(1..=MOST_INSTANTS))
+        .action(ArgAction::Set);
+    let stats = Arg::new(alloc, "stats")
+        .long("stats")
+        .value_name("SECONDS")
+        .help("Tell each stream's counts on standard error so often")
+        .value_parser(value_parser!(u32).range(1..))
+        .action(ArgAction::Set);
+    let until_eof = Arg::new(alloc, "until-eof")
+        .long("until-eof")
+        .help("End where standard input does")
+        .action(ArgAction::SetTrue);
+    let about = "Receives from sockets on 127.0.0.1, and sends the mix to two ports";
+    let command = with_config(alloc, "live", about)?
+        .arg(instants)?
+        .arg(stats)?
+        .arg(until_eof)?;
     Ok(command)
 }
 

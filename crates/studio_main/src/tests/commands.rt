@@ -35,12 +35,12 @@ fn config_with(alloc: Global, line: &str) -> Result<String, AllocError> {
 fn commands_take_a_configuration(rt: HostRuntime) -> Result<(), Fail> {
     let alloc = rt.alloc();
     let config = config_with(alloc, "gains = [[65536]]")?;
-    let marks = outcome_with(alloc, &["marks", "studio.toml"], config.as_bytes())?;
+    let marks = outcome_with(&rt, alloc, &["marks", "studio.toml"], config.as_bytes())?;
     expect(&rt, &marks, 0, STORED_LISTING, "", "marks");
     let words = ["marks", "studio.toml", "--counts"];
-    let counted = outcome_with(alloc, &words, config.as_bytes())?;
+    let counted = outcome_with(&rt, alloc, &words, config.as_bytes())?;
     expect(&rt, &counted, 0, STORED_LISTING, COUNTS, "counts");
-    let report = outcome_with(alloc, &["play", "studio.toml"], config.as_bytes())?;
+    let report = outcome_with(&rt, alloc, &["play", "studio.toml"], config.as_bytes())?;
     assert_eq!(rt; report.status, 0, "play");
     assert_eq!(rt; report.output.text(), REPORT, "play");
     Ok(())
@@ -65,9 +65,9 @@ const SUMMARY: &str = "stream 0: L24, channels 2, packets of 48 (1.000 ms), type
 #[test]
 fn a_configuration_is_told_in_lines(rt: HostRuntime) -> Result<(), Fail> {
     let alloc = rt.alloc();
-    let told = outcome_with(alloc, &["check", "studio.toml"], STUDIO.as_bytes())?;
+    let told = outcome_with(&rt, alloc, &["check", "studio.toml"], STUDIO.as_bytes())?;
     expect(&rt, &told, 0, SUMMARY, "", "check");
-    let fault = outcome_with(alloc, &["check", "studio.toml"], b"open_at = 0")?;
+    let fault = outcome_with(&rt, alloc, &["check", "studio.toml"], b"open_at = 0")?;
     expect(&rt, &fault, 3, "", "config stream: missing\n", "a fault");
     Ok(())
 }
@@ -84,12 +84,12 @@ fn configuration_faults_have_their_lines(rt: HostRuntime) -> Result<(), Fail> {
     ];
     for (line, wanted) in table {
         let config = config_with(alloc, line)?;
-        let outcome = outcome_with(alloc, &["play", "studio.toml"], config.as_bytes())?;
+        let outcome = outcome_with(&rt, alloc, &["play", "studio.toml"], config.as_bytes())?;
         expect(&rt, &outcome, 3, "", wanted, line);
     }
-    let outcome = outcome_with(alloc, &["marks", "studio.toml"], &[0xff])?;
+    let outcome = outcome_with(&rt, alloc, &["marks", "studio.toml"], &[0xff])?;
     expect(&rt, &outcome, 3, "", "config: not TOML\n", "no text");
-    let outcome = outcome_with(alloc, &["marks", "none"], b"")?;
+    let outcome = outcome_with(&rt, alloc, &["marks", "none"], b"")?;
     expect(&rt, &outcome, 5, "", "device: config\n", "no file");
     Ok(())
 }
@@ -99,7 +99,7 @@ fn a_configuration_that_is_too_long_is_not_read(rt: HostRuntime) -> Result<(), F
     let alloc = rt.alloc();
     let mut config = Vec::new(alloc);
     config.resize(1_048_577, b'#')?;
-    let outcome = outcome_with(alloc, &["marks", "studio.toml"], config.as_slice())?;
+    let outcome = outcome_with(&rt, alloc, &["marks", "studio.toml"], config.as_slice())?;
     expect(
         &rt,
         &outcome,
@@ -109,7 +109,7 @@ fn a_configuration_that_is_too_long_is_not_read(rt: HostRuntime) -> Result<(), F
         "1,048,577 octets",
     );
     config.truncate(1_048_576);
-    let outcome = outcome_with(alloc, &["marks", "studio.toml"], config.as_slice())?;
+    let outcome = outcome_with(&rt, alloc, &["marks", "studio.toml"], config.as_slice())?;
     expect(
         &rt,
         &outcome,
@@ -124,8 +124,11 @@ fn a_configuration_that_is_too_long_is_not_read(rt: HostRuntime) -> Result<(), F
 #[test]
 fn other_words_are_usage_faults(rt: HostRuntime) -> Result<(), Fail> {
     let alloc = rt.alloc();
-    let table: [&[&str]; 6] = [
-        &["live", "studio.toml"],
+    let table: [&[&str]; 9] = [
+        &["live"],
+        &["live", "studio.toml", "--instants", "0"],
+        &["live", "studio.toml", "--instants", "1099511627777"],
+        &["live", "studio.toml", "--stats", "0"],
         &["play", "studio.toml", "--counts"],
         &["studio.toml"],
         &["marks"],
@@ -133,7 +136,7 @@ fn other_words_are_usage_faults(rt: HostRuntime) -> Result<(), Fail> {
         &["--loud"],
     ];
     for words in table {
-        let outcome = outcome_with(alloc, words, b"")?;
+        let outcome = outcome_with(&rt, alloc, words, b"")?;
         assert_eq!(rt; outcome.status, 2, "the status of {words:?}");
         assert_eq!(rt; outcome.output.text(), "", "the output of {words:?}");
         assert!(rt;
@@ -147,9 +150,9 @@ fn other_words_are_usage_faults(rt: HostRuntime) -> Result<(), Fail> {
 #[test]
 fn help_and_version_go_to_the_output(rt: HostRuntime) -> Result<(), Fail> {
     let alloc = rt.alloc();
-    let version = outcome_with(alloc, &["--version"], b"")?;
+    let version = outcome_with(&rt, alloc, &["--version"], b"")?;
     expect(&rt, &version, 0, "darbexum 0.1.0\n", "", "the version");
-    let help = outcome_with(alloc, &["--help"], b"")?;
+    let help = outcome_with(&rt, alloc, &["--help"], b"")?;
     assert_eq!(rt; help.status, 0, "help");
     assert!(rt; help.output.text().contains("play"), "help");
     assert_eq!(rt; help.faults.text(), "", "help");

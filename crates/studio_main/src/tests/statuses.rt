@@ -20,14 +20,14 @@ pub(super) fn expect(
 
 #[test]
 fn lists_marks_without_words(rt: HostRuntime) {
-    let outcome = outcome_of(rt.alloc(), STORED_TRACE.as_bytes());
+    let outcome = outcome_of(&rt, rt.alloc(), STORED_TRACE.as_bytes());
     expect(&rt, &outcome, 0, STORED_LISTING, "", "the stored run");
 }
 
 #[test]
 fn empty_trace_lists_nothing(rt: HostRuntime) {
     for text in ["", "\n", "# nothing\n\n"] {
-        let outcome = outcome_of(rt.alloc(), text.as_bytes());
+        let outcome = outcome_of(&rt, rt.alloc(), text.as_bytes());
         expect(&rt, &outcome, 0, "", "", text);
     }
 }
@@ -49,7 +49,7 @@ fn faults_name_their_event(rt: HostRuntime) {
         ("tick 6\na 0 00\nb 0 80\ntick 5\n", "event 3: clock\n"),
     ];
     for (text, line) in table {
-        let outcome = outcome_of(rt.alloc(), text.as_bytes());
+        let outcome = outcome_of(&rt, rt.alloc(), text.as_bytes());
         expect(&rt, &outcome, 1, "", line, text);
     }
 }
@@ -65,7 +65,7 @@ fn fault_lines(rt: HostRuntime) {
         ("tick 6\ntick 5\ntock\n", "trace line 3: word\n"),
     ];
     for (text, line) in table {
-        let outcome = outcome_of(rt.alloc(), text.as_bytes());
+        let outcome = outcome_of(&rt, rt.alloc(), text.as_bytes());
         expect(&rt, &outcome, 1, "", line, text);
     }
 }
@@ -77,7 +77,7 @@ fn trace_limits(rt: HostRuntime) -> Result<(), Fail> {
         comment.push_str("x")?;
     }
     comment.push_str("\n")?;
-    let outcome = outcome_of(rt.alloc(), comment.as_bytes());
+    let outcome = outcome_of(&rt, rt.alloc(), comment.as_bytes());
     expect(
         &rt,
         &outcome,
@@ -86,9 +86,9 @@ fn trace_limits(rt: HostRuntime) -> Result<(), Fail> {
         "trace line 1: toolong\n",
         "a long line",
     );
-    let outcome = outcome_of(rt.alloc(), LineFeeds { left: 67_108_864 });
+    let outcome = outcome_of(&rt, rt.alloc(), LineFeeds { left: 67_108_864 });
     expect(&rt, &outcome, 0, "", "", "67,108,864 octets");
-    let outcome = outcome_of(rt.alloc(), LineFeeds { left: 67_108_865 });
+    let outcome = outcome_of(&rt, rt.alloc(), LineFeeds { left: 67_108_865 });
     expect(
         &rt,
         &outcome,
@@ -105,11 +105,11 @@ fn a_failed_read_writes_nothing(rt: HostRuntime) {
     let octets_a_call = STORED_TRACE.len() / 3 + 1;
     for good_calls in 0..4 {
         let input = FailingReader::new(STORED_TRACE, octets_a_call, good_calls);
-        let outcome = outcome_of(rt.alloc(), input);
+        let outcome = outcome_of(&rt, rt.alloc(), input);
         expect(&rt, &outcome, 5, "", "device: read\n", "a failing reader");
     }
     let input = FailingReader::new(STORED_TRACE, octets_a_call, 4);
-    let outcome = outcome_of(rt.alloc(), input);
+    let outcome = outcome_of(&rt, rt.alloc(), input);
     expect(
         &rt,
         &outcome,
@@ -123,7 +123,7 @@ fn a_failed_read_writes_nothing(rt: HostRuntime) {
 #[test]
 fn one_octet_at_a_time_reads_the_same(rt: HostRuntime) {
     let input = FailingReader::new(STORED_TRACE, 1, 1000);
-    let outcome = outcome_of(rt.alloc(), input);
+    let outcome = outcome_of(&rt, rt.alloc(), input);
     expect(&rt, &outcome, 0, STORED_LISTING, "", "a slow reader");
 }
 
@@ -134,6 +134,7 @@ fn a_failed_write_leaves_a_prefix(rt: HostRuntime) {
         let mut output = Page::new(room);
         let mut faults = Page::new(512);
         let status = run(
+            &rt,
             &OneConfig { text: b"" },
             rt.alloc(),
             &[],
@@ -161,6 +162,7 @@ fn a_write_of_nothing_is_a_fault(rt: HostRuntime) {
     let mut input = STORED_TRACE.as_bytes();
     let mut faults = Page::new(512);
     let status = run(
+        &rt,
         &OneConfig { text: b"" },
         rt.alloc(),
         &[],
@@ -174,7 +176,7 @@ fn a_write_of_nothing_is_a_fault(rt: HostRuntime) {
 
 #[test]
 fn each_refused_allocation_is_answered(rt: HostRuntime) {
-    let outcome = outcome_of(rt.alloc(), STORED_TRACE.as_bytes());
+    let outcome = outcome_of(&rt, rt.alloc(), STORED_TRACE.as_bytes());
     if outcome.status == 4 {
         expect(
             &rt,
@@ -184,7 +186,7 @@ fn each_refused_allocation_is_answered(rt: HostRuntime) {
             "out of memory\n",
             "a run without memory",
         );
-        let again = outcome_of(rt.alloc(), STORED_TRACE.as_bytes());
+        let again = outcome_of(&rt, rt.alloc(), STORED_TRACE.as_bytes());
         expect(&rt, &again, 0, STORED_LISTING, "", "with memory again");
     } else {
         expect(&rt, &outcome, 0, STORED_LISTING, "", "a run with memory");
