@@ -16,6 +16,8 @@ mod run;
 mod signal;
 mod sink;
 mod stats;
+#[cfg(test)]
+mod tests;
 mod watch;
 
 pub use clock::{SystemClock, reading_after};

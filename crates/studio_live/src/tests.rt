@@ -1,0 +1,3 @@
+//! Tests, and what they share.
+mod loopback;
+mod signals;
