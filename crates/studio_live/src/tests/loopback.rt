@@ -1,4 +1,6 @@
 //! Whole runs on 127.0.0.1, with a sender beside them.
+ghost use Rattle.std.specs.Thread.{IsSync};
+
 use crate::{LiveFault, LiveOptions, LivePorts, run_studio_live};
 use gain_mix::{Matrix, Schedule};
 use mix_packets::OutSpec;
@@ -104,7 +106,9 @@ fn report_of<R: Threads + Wait + Sync + Net + Clock>(
     thread::scope(
         thread::scope_env(),
         rt,
-        |scope| -> Result<Vec<u8>, LiveFault> {
+        |scope| -> Result<Vec<u8>, LiveFault>
+            requires sync { IsSync R.row }
+        {
             let Ok(sender) = scope.spawn(move || send_all(rt, to, plan)) else {
                 return Err(LiveFault::Thread);
             };
