@@ -71,11 +71,8 @@ fn ports<R: Net>(rt: &R, alloc: Global) -> Result<LivePorts, Fail> {
 }
 
 /// Sends to the ports of two paths, 200 ms after it begins.
-fn send_all<R: Net + Wait>(rt: &R, ports: [u16; 2], plan: &[(usize, Sent)]) {
+fn send_all<R: Wait>(rt: &R, socket: &UdpSocket, ports: [u16; 2], plan: &[(usize, Sent)]) {
     Parker::new().park_timeout(rt, Duration::from_millis(200));
-    let Ok(socket) = UdpSocket::bind(rt, SocketAddr::from((Ipv4Addr::LOCALHOST, 0))) else {
-        return;
-    };
     for (path, sent) in plan {
         let port = if *path == 0 { ports[0] } else { ports[1] };
         let to = SocketAddr::from((Ipv4Addr::LOCALHOST, port));
@@ -103,13 +100,15 @@ fn report_of<R: Threads + Wait + Sync + Net + Clock>(
         [a, b] => [*a, *b],
         _ => [0, 0],
     };
+    let socket = UdpSocket::bind(rt, SocketAddr::from((Ipv4Addr::LOCALHOST, 0)))?;
+    let socket = &socket;
     thread::scope(
         thread::scope_env(),
         rt,
         |scope| -> Result<Vec<u8>, LiveFault>
             requires sync { IsSync R.row }
         {
-            let Ok(sender) = scope.spawn(move || send_all(rt, to, plan)) else {
+            let Ok(sender) = scope.spawn(move || send_all(rt, socket, to, plan)) else {
                 return Err(LiveFault::Thread);
             };
             let mut output = Vec::new(alloc);
