@@ -29,8 +29,7 @@ use Rattle.path_merge.specs.MergeState.{MergeState}
 use Rattle.path_merge.specs.Run.{HasGiven}
 use Rattle.path_merge.specs.declared.clock.ClockFault.{ClockFault}
 use Rattle.studio_session.proofs.WayLemmas.{in_time}
-use Rattle.studio_session.specs.Session.{event_in, packet_at, reception_by, reception_of}
-use Rattle.studio_session.specs.declared.source.Step.TheVariants.{Datagram}
+use Rattle.studio_session.specs.Session.{Datagram, event_in, packet_at, reception_by, reception_of}
 use Rattle.studio_uses.specs.Receive.{are_on_paths, events_of, events_of_all, history_of}
 use Rattle.studio_uses.specs.declared.arrival.Arrival.{Arrival}
 
