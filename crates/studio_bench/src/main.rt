@@ -1,4 +1,5 @@
-//! Times the kernels that carry the load, each by its word; without words it writes nothing.
+//! Times the kernels that carry the load, each by its word, and runs the workers for long beside a plain
+//! program; without words it writes nothing.
 //!
 //! The scripts in `bench/` build it for a processor, run it beside C and compare.
 #![tactic(auto)]
@@ -9,6 +10,7 @@ mod merge;
 mod mix;
 mod rings;
 mod samples;
+mod workers;
 
 use anyhow::bail;
 use std::env;
@@ -25,6 +27,7 @@ fn main(rt: HostRuntime) -> anyhow::Result<()> {
         "mix" => mix::time_shapes(&rt, rt.alloc()),
         "rings" => rings::time_rings(&rt, rt.alloc(), &mut words),
         "samples" => samples::time_samples(&rt),
+        "workers" => workers::run_long(&rt, rt.alloc(), &mut words),
         _ => bail!("no kernel has this name"),
     }
 }
