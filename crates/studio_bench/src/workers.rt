@@ -22,16 +22,13 @@ use studio_rings::open;
 use studio_spec::{StudioSpec, channel_total};
 use studio_workers::{Clock, Feed, FeedAnswer, SendAnswer, Sink, WorkReport, run_workers};
 
-/// The places of each ring. A turn takes as many packets of a path, so it takes all that wait.
-const PLACES: usize = 64;
-
 /// A stream's latency, in sampling instants, and its window in packets.
 const LATENCY: u32 = 1_536;
 
 const WINDOW: u16 = 64;
 
 /// How many packets a feed may be ahead of the blocks that were sent: with the eight that it may change in
-/// order, within the window.
+/// order, within the window, and no more than a turn takes of a path.
 const LEAD: u64 = 24;
 
 /// How many packets come after the time is up, so that no feed has given the last yet.
@@ -195,17 +192,18 @@ impl<R: SystemTime> Sink for ComparingSink<'_, R> {
     }
 }
 
-/// Runs the workers for as many seconds as the word says, and prints how many blocks were sent, how many
-/// packets were lost, and how many datagrams were not those of the plain program.
+/// Runs the workers as the words say: SECONDS PLACES. Prints how many blocks were sent, how many packets
+/// were lost, and how many datagrams were not those of the plain program.
 pub fn run_long<R: Threads + Wait + Sync + SystemTime + Print>(
     rt: &R,
     alloc: Global,
     words: &mut Args,
 ) -> anyhow::Result<()> {
     let seconds = number(words)?;
+    let places = number(words)?;
     let studio = studio(alloc)?;
     let progress = Progress::new(alloc)?;
-    let ends = open(alloc, &studio, PLACES)?;
+    let ends = open(alloc, &studio, places as usize)?;
     let feeds = feeds_of(alloc, &progress)?;
     let clocks = clocks_of(alloc, &progress)?;
     if feeds.len() != ends.paths.len() || clocks.len() != ends.streams.len() {
@@ -224,7 +222,7 @@ pub fn run_long<R: Threads + Wait + Sync + SystemTime + Print>(
     let (report, sink) = run_workers(rt, alloc, ends, feeds, clocks, sink)?;
     let good = is_as_told(&report, &sink);
     println!(rt;
-        "workers {seconds} blocks {} lost {} differences {} {}",
+        "workers {seconds} {places} blocks {} lost {} differences {} {}",
         sink.blocks,
         sink.lost,
         sink.differences,
