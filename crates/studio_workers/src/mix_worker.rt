@@ -9,8 +9,11 @@ use std::sync::Wait;
 use std::sync::atomic::{AtomicBool, Ordering};
 use studio_rings::MixEnd;
 
-/// The longest pause after a turn that found nothing, in microseconds.
-const MIX_PAUSE: u64 = 4_000;
+/// The pauses after turns that found nothing, in microseconds: two packets of a millisecond are then mixed and
+/// sent one after the other, which costs less than a turn for each.
+const FIRST_PAUSE: u64 = 2_000;
+
+const LONGEST_PAUSE: u64 = 4_000;
 
 /// What is left of the mixer's worker.
 #[derive(Drop)]
@@ -51,7 +54,7 @@ pub(crate) fn run_mixer<R: Wait, K: Sink>(
     let mut end = end;
     let mut sink = sink;
     let mut counts = SendCounts::new();
-    let mut pause = Pause::up_to(MIX_PAUSE);
+    let mut pause = Pause::between(FIRST_PAUSE, LONGEST_PAUSE);
     for _ in 0..u64::MAX {
         let last = stop.load(Ordering::SeqCst)
             || ended.iter().all(|flag| flag.load(Ordering::SeqCst));

@@ -4,13 +4,14 @@ use std::sync::Wait;
 use std::thread::Parker;
 use std::time::Duration;
 
-/// The first pause, in microseconds.
+/// The first pause of most workers, in microseconds.
 const FIRST: u64 = 1_000;
 
 /// Pauses that grow while nothing comes: each is twice the one before, up to a longest.
 #[derive(Drop)]
 pub(crate) struct Pause {
     parker: Parker,
+    first: u64,
     next: u64,
     longest: u64,
 }
@@ -18,9 +19,15 @@ pub(crate) struct Pause {
 impl Pause {
     /// Pauses of at most so many microseconds.
     pub(crate) fn up_to(longest: u64) -> Pause {
+        Pause::between(FIRST.min(longest), longest)
+    }
+
+    /// Pauses from one length to another, in microseconds.
+    pub(crate) fn between(first: u64, longest: u64) -> Pause {
         Pause {
             parker: Parker::new(),
-            next: FIRST.min(longest),
+            first,
+            next: first,
             longest,
         }
     }
@@ -34,6 +41,6 @@ impl Pause {
 
     /// Something came: the next pause is the first again.
     pub(crate) fn restart(&mut self) {
-        self.next = FIRST.min(self.longest);
+        self.next = self.first;
     }
 }
