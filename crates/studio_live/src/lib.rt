@@ -11,6 +11,7 @@ mod feed;
 mod input;
 mod options;
 mod ports;
+mod ready;
 mod report;
 mod run;
 mod signal;

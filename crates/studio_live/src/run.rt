@@ -50,7 +50,8 @@ struct Start {
 
 /// Runs a studio on sockets on 127.0.0.1 until its feeds have ended, and then writes the report. Beside the
 /// workers a watcher ends the feeds as the options say, or where a signal that asks for it was held back;
-/// and it writes each stream's counts to `faults`, if they are asked for.
+/// and it writes each stream's counts to `faults`, if they are asked for. Since it mustn't wait, `faults` is
+/// standard error, and lines that this wouldn't take at once are dropped.
 ///
 /// All sockets are bound, and all memory but the workers' is taken, before the first thread starts.
 pub fn run_studio_live<R: Threads + Wait + Sync + Net + Clock, W: Write, E: Write + Send + Drop>(

@@ -1,6 +1,7 @@
 //! Each stream's counts, told while a run goes on.
 
 use crate::clock::SystemClock;
+use crate::ready::{FAULTS, is_ready};
 use path_merge::{Counts, StreamSpec};
 use std::alloc::{AllocError, Global};
 use std::io::Write;
@@ -93,9 +94,12 @@ impl<'a, R: time::Clock> Stats<'a, R> {
         };
     }
 
-    /// Writes a line for each stream.
+    /// Writes a line for each stream, as long as standard error takes it at once. The other lines are dropped.
     fn write_lines<W: Write>(&mut self, now: i64, writer: &mut W) -> Result<(), WriteFault> {
         for (number, stream) in (0u8..).zip(self.streams.iter()) {
+            if !is_ready(FAULTS, libc::net::POLLOUT) {
+                return Ok(());
+            }
             write_running_counts(
                 &mut self.text,
                 writer,
@@ -104,7 +108,8 @@ impl<'a, R: time::Clock> Stats<'a, R> {
                 now,
                 &stream.counts,
             )?;
+            self.text.finish(writer)?;
         }
-        self.text.finish(writer)
+        Ok(())
     }
 }
