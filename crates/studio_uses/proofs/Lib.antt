@@ -1,1 +1,2 @@
+pub mod MixLemmas
 pub mod ReceiveLemmas

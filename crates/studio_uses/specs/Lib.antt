@@ -1,3 +1,4 @@
+pub mod Mix
 pub mod Receive
 pub mod Report
 pub mod Told

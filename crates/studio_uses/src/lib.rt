@@ -1,6 +1,7 @@
 //! Short callers of the other crates, for programs to copy from. No crate stands on them.
 //!
 //! `receive_stream` takes one stream's datagrams to marks, by `rtp_wire::read` and a `Merge`.
+//! `mix_next` takes two streams' marks to the output's next datagram, by `feed_wanted` and a `Mixer`.
 //! `report_trace` takes a trace in memory to its report, by `play`. `run_in_threads` runs a studio's
 //! workers over a `MemoryFeed` for each path, a `MemoryClock` for each stream, and a sink of the
 //! caller's, as a `MemorySink`.
@@ -10,6 +11,7 @@ mod arrival;
 mod memory_clock;
 mod memory_feed;
 mod memory_sink;
+mod mix;
 mod receive;
 mod report;
 mod run;
@@ -20,6 +22,7 @@ pub use arrival::Arrival;
 pub use memory_clock::MemoryClock;
 pub use memory_feed::MemoryFeed;
 pub use memory_sink::MemorySink;
+pub use mix::{Mixed, feed_wanted, mix_next};
 pub use receive::{ReceiveFault, receive_stream};
 pub use report::report_trace;
 pub use run::{RunFault, run_in_threads};

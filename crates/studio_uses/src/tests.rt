@@ -3,6 +3,7 @@ mod callers;
 mod fakes;
 mod holding;
 mod memory;
+mod mixing;
 
 use self::fakes::{FaultyFeed, ListClock, ListFeed, MemorySink};
 use gain_mix::{Matrix, Schedule};
@@ -187,6 +188,18 @@ fn datagram(alloc: Global, head: [u8; 12], runs: &[(u8, [u8; 3])]) -> Result<Vec
         }
     }
     Ok(octets)
+}
+
+/// The datagram of the 48 sampling instants from 0 on: their sums.
+fn sums(alloc: Global) -> Result<Vec<u8>, AllocError> {
+    let head = [0x80, 0x61, 0xff, 0xff, 0, 0, 0, 0, 0, 0, 0, 2];
+    datagram(alloc, head, &[(20, [0, 3, 0xe8]), (28, [0, 3, 0xe9])])
+}
+
+/// The datagram of the next 48, which the thousands don't reach.
+fn ones_alone(alloc: Global) -> Result<Vec<u8>, AllocError> {
+    let head = [0x80, 0x61, 0, 0, 0, 0, 0, 48, 0, 0, 0, 2];
+    datagram(alloc, head, &[(20, [0, 0, 1]), (28, [0, 0, 0])])
 }
 
 /// Eight packets of 1000 from 0 on, on both paths, and one of 1 from 20 on.

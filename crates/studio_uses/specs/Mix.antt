@@ -1,0 +1,27 @@
+-- What a mixer takes of a stream's next marks.
+use Rattle.std.specs.Prelude.{◌≡◌, ◌⊎◌, ℕ, ◌+◌, ◌<◌, Bool, true, false, List, [], ◌∷◌, ◌++◌, length, take}
+use Rattle.stream_rules.specs.StreamSpecFacts.{format_of}
+use Rattle.stream_rules.specs.MarkFacts.{MarkView}
+use Rattle.stream_rules.specs.MarkList.{is_mark_list}
+use Rattle.lane_align.specs.Cover.{covers, cover_of}
+use Rattle.mix_packets.specs.Block.{block_start}
+use Rattle.studio_spec.specs.Studio.{Studio}
+use Rattle.studio_mix.specs.Feed.{Feed}
+
+-- a stream, and these marks after those that it gave
+abbrev pub feed_with : Feed → List MarkView → Feed
+feed_with feed marks = record { stream = feed.stream; marks = feed.marks ++ marks }
+
+-- two streams, and these marks after those that each gave
+abbrev pub feeds_with : Feed → List MarkView → Feed → List MarkView → List Feed
+feeds_with a first b second = feed_with a first ∷ feed_with b second ∷ []
+
+-- a stream's marks are final to the end of this block
+abbrev pub is_final : Studio → ℕ → Feed → Bool
+is_final studio number feed = covers (cover_of (format_of feed.stream) feed.marks) (block_start studio.output (number + 1))
+
+-- so many of these marks were taken: each while the block wanted more, up to one that may not follow
+pub record IsTaken (studio : Studio) (number : ℕ) (feed : Feed) (marks : List MarkView) (count : ℕ) : Type 0 where
+  pub wanted : (fewer : ℕ) → fewer < count → is_final studio number (feed_with feed (take fewer marks)) ≡ false
+  pub stopped : count < length marks → (is_final studio number (feed_with feed (take count marks)) ≡ true)
+      ⊎ (is_mark_list (format_of feed.stream) (feed.marks ++ take (count + 1) marks) ≡ false)
