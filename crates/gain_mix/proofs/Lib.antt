@@ -2,3 +2,4 @@ pub mod SumLemmas
 pub mod RowLemmas
 pub mod FrameLemmas
 pub mod ChangeLemmas
+pub mod SilenceLemmas

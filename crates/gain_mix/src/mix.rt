@@ -1,5 +1,5 @@
 //! Output samples: gains times inputs, rounded half up and saturated once.
-ghost use Rattle.std.specs.Prelude.{◌≡◌, ◌<◌, ◌≤◌, ◌+◌, ◌*◌, ◌^◌, ◌⊎◌, ◌+ℤ◌, ◌*ℤ◌, length, All};
+ghost use Rattle.std.specs.Prelude.{◌≡◌, ℤ, pos, true, ◌<◌, ◌≤◌, ◌+◌, ◌*◌, ◌^◌, ◌⊎◌, ◌+ℤ◌, ◌*ℤ◌, length, All};
 ghost use Rattle.std.specs.Int.RustNames.{unsigned_abs};
 ghost use Rattle.gain_mix.specs.Gain.{IsGain, IsRow, ins_of};
 ghost use Rattle.gain_mix.specs.Mix.{Is24Bits, IsWeighted, HasMixed, rounded_sum, saturated_sum, mixed_frame, IsMixed};
@@ -75,6 +75,13 @@ fn round(sum: i64, shift: u32) -> i32
     } else {
         ((sum + 8_388_608) >> 24).clamp(-32_768, 32_767) as i32
     }
+}
+
+/// Whether all values are 0.
+pub(crate) fn is_silent(values: &[i32]) -> bool
+    ensures { result ≡ true → All (λ (value : ℤ). value ≡ pos 0) values.now }
+{
+    values.iter().all(|value| *value == 0)
 }
 
 /// Mixes the inputs of one sampling instant into its outputs.

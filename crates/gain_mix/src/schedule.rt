@@ -6,7 +6,7 @@ ghost use Rattle.gain_mix.specs.Mix.{Is24Bits, IsMixed};
 ghost use Rattle.gain_mix.specs.Schedule.{schedule_fault_of, has_one_shape, has_times, is_rising};
 
 use crate::matrix::Matrix;
-use crate::mix::mix_frame;
+use crate::mix::{is_silent, mix_frame};
 use std::alloc::{AllocError, Global};
 use std::marker::Model;
 use thiserror::Error;
@@ -191,7 +191,7 @@ fn is_rising(later: &[(i64, Matrix)]) -> bool
 
 /// Mixes the inputs of so many sampling instants from `t` on, each by the matrix in force at it.
 ///
-/// The shift is 16 for L24 output and 24 for L16 output.
+/// The shift is 16 for L24 output and 24 for L16 output. Silence is not multiplied.
 pub fn mix_span(
     schedule: &Schedule,
     t: i64,
@@ -212,6 +212,10 @@ pub fn mix_span(
 {
     let width = schedule.ins();
     let height = schedule.outs();
+    if is_silent(ins) {
+        outs.fill(0);
+        return;
+    }
     for frame in 0..frames {
         let matrix = schedule.at(t + frame as i64);
         let from = frame * width;

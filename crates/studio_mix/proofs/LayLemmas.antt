@@ -86,6 +86,31 @@ pub laid_samples : (w at i : ℕ) (values old wide : List ℤ) → IsLaid w at 1
 laid_samples w at i values old wide before f h =
     before.laid f h ∙ ap (λ k. take at (drop (f * w) old) ++ take 1 (drop k values)) (let e : f * 1 ≡ f = omega arith in e)
 
+set_is_put_pair : (a : ℕ) (xs : List ℤ) (v u : ℤ) → suc a < length xs → set (set xs a v) (suc a) u ≡ put_mid a 2 xs (v ∷ u ∷ [])
+set_is_put_pair a [] v u h = absurd (omega (arith, h))
+set_is_put_pair zero (x ∷ []) v u h = absurd (omega (arith, h))
+set_is_put_pair zero (x ∷ y ∷ xs) v u h = refl
+set_is_put_pair (suc a) (x ∷ xs) v u h = ap (λ l. x ∷ l) (set_is_put_pair a xs v u (omega (arith, h)))
+
+two_at : (xs : List ℤ) (i : ℕ) (d : ℤ) → suc i < length xs → get_or xs i d ∷ get_or xs (suc i) d ∷ [] ≡ take 2 (drop i xs)
+two_at [] i d h = absurd (omega (arith, h))
+two_at (x ∷ []) zero d h = absurd (omega (arith, h))
+two_at (x ∷ y ∷ xs) zero d h = refl
+two_at (x ∷ xs) (suc i) d h = two_at xs i d (omega (arith, h))
+
+-- the pair that was laid
+pub laid_pair : (n w at i : ℕ) (values old wide : List ℤ) (v u d : ℤ) → i < n → at + 2 ≤ w → length wide ≡ n * w → length values ≡ n * 2
+    → v ≡ get_or values (i * 2) d → u ≡ get_or values (i * 2 + 1) d → IsLaid w at 2 values old wide i
+    → IsLaid w at 2 values old (set (set wide (i * w + at) v) (i * w + at + 1) u) (i + 1)
+laid_pair n w at i values old wide v u d h within len len_v v_is u_is before =
+    let r = row_end i n w h in
+    let here : suc (i * w + at) < length wide = omega (arith, len, r, within) in
+    let pair : set (set wide (i * w + at) v) (i * w + at + 1) u ≡ put_mid (i * w + at) 2 wide (v ∷ u ∷ []) =
+    ap (λ k. set (set wide (i * w + at) v) k u) (let e : i * w + at + 1 ≡ suc (i * w + at) = omega arith in e) ∙ set_is_put_pair (i * w + at) wide v u here in
+    subst (λ l. IsLaid w at 2 values old l (i + 1)) (sym pair)
+    (laid_more n w at 2 i values old wide (v ∷ u ∷ []) h within len len_v
+    (ap (λ x. x ∷ u ∷ []) v_is ∙ ap (λ x. get_or values (i * 2) d ∷ x ∷ []) (u_is ∙ ap (λ k. get_or values k d) (let e : i * 2 + 1 ≡ suc (i * 2) = omega arith in e)) ∙ two_at values (i * 2) d (omega (arith, h, len_v))) before)
+
 -- a sample of 24 bits in 32
 pub sample_in_32 : (v : ℤ) → Is24Bits v → to_z w32 (of_z w32 v) ≡ v
 sample_in_32 (pos n) h = omega (arith, ints, h)

@@ -4,7 +4,7 @@ ghost use Rattle.gain_mix.specs.Mix.{Is24Bits};
 
 /// Lays the frames of one stream into the frames of all, each from place `at` on.
 ///
-/// A stream of one channel is laid sample by sample: for one sample a copy of a slice takes longer.
+/// A stream of one or two channels is laid sample by sample: for so few a copy of a slice takes longer.
 pub(crate) fn lay_stream(
     frames: usize,
     channels: usize,
@@ -24,6 +24,8 @@ pub(crate) fn lay_stream(
 {
     if channels == 1 {
         lay_samples(frames, values, width, at, wide);
+    } else if channels == 2 {
+        lay_pairs(frames, values, width, at, wide);
     } else {
         lay_frames(frames, channels, values, width, at, wide);
     }
@@ -42,6 +44,24 @@ fn lay_samples(frames: usize, values: &[i32], width: usize, at: usize, wide: &mu
 {
     for frame in 0..frames {
         wide[frame * width + at] = values[frame];
+    }
+}
+
+/// Lays the frames of a stream of two channels.
+fn lay_pairs(frames: usize, values: &[i32], width: usize, at: usize, wide: &mut [i32])
+    requires values { length values.now ≡ frames * 2 }
+    requires wide { length wide.old ≡ frames * width }
+    requires within { at + 2 ≤ width }
+    requires in_24_bits { All Is24Bits values.now }
+    requires wide_in_24_bits { All Is24Bits wide.old }
+    ensures laid { (f : ℕ) → f < frames → take (at + 2) (drop (f * width) wide.new)
+        ≡ take at (drop (f * width) wide.old) ++ take 2 (drop (f * 2) values.now) }
+    ensures in_24_bits { All Is24Bits wide.new }
+{
+    for frame in 0..frames {
+        let place = frame * width + at;
+        wide[place] = values[frame * 2];
+        wide[place + 1] = values[frame * 2 + 1];
     }
 }
 

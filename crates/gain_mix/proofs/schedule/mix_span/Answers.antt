@@ -5,6 +5,7 @@ use Rattle.gain_mix.specs.Gain.{ins_of}
 use Rattle.gain_mix.specs.Mix.{frame_at, mixed_frame}
 use Rattle.gain_mix.specs.Changes.{matrix_at}
 use Rattle.gain_mix.proofs.FrameLemmas.{IsMixed-more}
+use Rattle.gain_mix.proofs.SilenceLemmas.{silence, All-silence, frame_at-silence, mixed_frame-silence}
 use Rattle.gain_mix.proofs.schedule.mix_span.Goals as goal
 
 pub loop-frame-preserved : goal.loop-frame-preserved
@@ -24,3 +25,18 @@ loop-frame-preserved c =
     let long = c.loop-frame.auto.outs ∙ c.requires.outs_len ∙ ap (λ (h : ℕ). c.args.frames * h) (sym c.outs-height.ensures.first) in
     let mixed = c.mix_frame.ensures ∙ ap (λ (v : List ℤ). mixed_frame c.at-matrix.result.now v c.args.shift) part ∙ ap (λ (r : List (List ℤ)). mixed_frame r (frame_at (ins_of (matrix i)) i c.args.ins.now) c.args.shift) in_force in
     IsMixed-more matrix c.args.ins.now c.loop-frame.outs c.mix_frame.new.outs c.args.frames i _ m c.args.shift (λ f. c.outs-height.ensures.each (t +ℤ pos f)) c.loop-frame.invariant c.loop-frame-test.true long mixed
+
+pub returns-then-is_silent-clause-mixed : goal.returns-then-is_silent-clause-mixed
+returns-then-is_silent-clause-mixed c f h =
+    let rows = matrix_at c.args.schedule.now (c.args.t +ℤ pos f) in
+    let n = ins_of rows in
+    let m = length rows in
+    let width : n ≡ ins_of c.args.schedule.now.first = c.ins-width.ensures.each (c.args.t +ℤ pos f) ∙ c.ins-width.ensures.first in
+    let height : m ≡ length c.args.schedule.now.first = c.outs-height.ensures.each (c.args.t +ℤ pos f) ∙ c.outs-height.ensures.first in
+    let long : length c.args.ins.now ≡ c.args.frames * n = c.requires.ins_len ∙ ap (λ (w : ℕ). c.args.frames * w) (sym width) in
+    let values : c.args.ins.now ≡ silence (c.args.frames * n) = All-silence c.args.ins.now (c.is_silent.ensures c.if-is_silent.true) ∙ ap silence long in
+    let samples : c.fill.new.self ≡ silence (c.args.frames * m) = c.fill.ensures.after (λ y e. e) ∙ ap silence (c.requires.outs_len ∙ ap (λ (w : ℕ). c.args.frames * w) (sym height)) in
+    ap (frame_at m f) samples
+    ∙ frame_at-silence m f c.args.frames h
+    ∙ sym (mixed_frame-silence rows n c.args.shift c.requires.shift)
+    ∙ ap (λ (v : List ℤ). mixed_frame rows v c.args.shift) (sym (ap (frame_at n f) values ∙ frame_at-silence n f c.args.frames h))
