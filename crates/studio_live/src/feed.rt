@@ -12,7 +12,7 @@ use std::{io, net};
 use studio_workers::{Clock as ReadClock, Feed, FeedAnswer};
 
 /// How long a receive waits, in milliseconds. The system rounds it up to its ticks.
-const RECEIVE_WAIT: u64 = 50;
+const RECEIVE_WAIT: u64 = 100;
 
 /// How many octets a socket is asked to hold. The system gives less where its own bound is lower.
 const RECEIVE_ROOM: u32 = 8 << 20;

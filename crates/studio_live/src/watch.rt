@@ -10,7 +10,7 @@ use std::thread::Parker;
 use std::time::{Clock, Duration};
 
 /// The time between two looks, in milliseconds.
-const LOOK: u64 = 100;
+const LOOK: u64 = 50;
 
 /// What the watcher and the run tell each other.
 #[derive(Drop)]

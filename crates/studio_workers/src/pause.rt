@@ -34,8 +34,22 @@ impl Pause {
 
     /// Waits. It may end early.
     pub(crate) fn rest<R: Wait>(&mut self, rt: &R) {
-        let pause = Duration::from_micros(self.next);
-        self.parker.park_timeout(rt, pause);
+        self.wait(rt, self.next);
+    }
+
+    /// Waits until the clock, which reads this in sampling instants, comes to a multiple of the pause. So
+    /// workers that have the same pause wake together, which costs the machine less. It may end early.
+    pub(crate) fn rest_in_step<R: Wait>(&mut self, rt: &R, now: i64) {
+        // There are 6 sampling instants in 125 microseconds.
+        let length = (self.next.saturating_mul(6) / 125).max(1);
+        let gone = now.unsigned_abs() % length;
+        self.wait(rt, self.next.saturating_sub(gone.saturating_mul(125) / 6));
+    }
+
+    /// Waits for so many microseconds. The next pause is longer.
+    fn wait<R: Wait>(&mut self, rt: &R, microseconds: u64) {
+        self.parker
+            .park_timeout(rt, Duration::from_micros(microseconds));
         self.next = self.next.saturating_mul(2).min(self.longest);
     }
 

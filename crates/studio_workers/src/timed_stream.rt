@@ -34,15 +34,15 @@ fn turn_at(end: &mut StreamEnd, now: i64) -> TurnNote
     }
 }
 
-/// Rests where a turn left nothing to do before packets come or time passes, and longer while none
-/// come.
-fn rest_after<R: Wait>(rt: &R, pause: &mut Pause, note: &TurnNote) {
+/// Rests where a turn at this time left nothing to do before packets come or time passes, and longer
+/// while none come.
+fn rest_after<R: Wait>(rt: &R, pause: &mut Pause, now: i64, note: &TurnNote) {
     if note.from.iter().any(|count| *count > 0) {
         pause.restart();
     }
     let more = note.from.iter().any(|count| *count == 64);
     if !more && note.why_stopped != StopReason::Batch {
-        pause.rest(rt);
+        pause.rest_in_step(rt, now);
     }
 }
 
@@ -83,7 +83,7 @@ impl<C: Clock> TimedStream<C> {
     {
         self.now = self.clock.now().clamp(self.now, 1 << 60);
         let note = turn_at(&mut self.end, self.now);
-        rest_after(rt, &mut self.pause, &note);
+        rest_after(rt, &mut self.pause, self.now, &note);
     }
 
     /// Closes the stream where all that its paths sent was taken.
