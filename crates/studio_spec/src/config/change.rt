@@ -13,9 +13,12 @@ ghost use Rattle.studio_spec.specs.declared.config.fault.Place.TheVariants as at
 ghost use Rattle.studio_spec.specs.declared.config.fault.Kind.TheVariants as kind;
 
 use crate::config::fault::{Kind, Place, SpecError, out_of_memory};
+use crate::config::gain_rows::{check_gains, rows_at};
 use crate::config::gains::read_matrix;
 use crate::config::keys::Key;
-use crate::config::readers::{check_gains, check_known, natural_at, rows_at, table_of, whole};
+use crate::config::known::check_known;
+use crate::config::numbers::{natural_at, whole};
+use crate::config::tables::table_of;
 use gain_mix::{Matrix, MatrixFault, Schedule};
 use std::alloc::Global;
 use toml::{Table, Value};

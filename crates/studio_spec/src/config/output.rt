@@ -13,9 +13,12 @@ ghost use Rattle.studio_spec.specs.declared.config.fault.Kind.TheVariants as kin
 
 use crate::config::change::{check_changes, read_schedule};
 use crate::config::fault::{Kind, Place, SpecError};
+use crate::config::gain_rows::check_gains;
 use crate::config::keys::Key;
+use crate::config::known::check_known;
+use crate::config::numbers::{port, whole, whole_or};
 use crate::config::packets::{Packets, read_packets};
-use crate::config::readers::{check_gains, check_known, optional_tables, port, whole, whole_or};
+use crate::config::tables::optional_tables;
 use gain_mix::Schedule;
 use mix_packets::OutSpec;
 use std::alloc::Global;

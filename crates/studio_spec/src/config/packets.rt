@@ -8,7 +8,8 @@ ghost use Rattle.studio_spec.specs.declared.config.keys.Key.TheVariants as key;
 
 use crate::config::fault::{Place, SpecError};
 use crate::config::keys::Key;
-use crate::config::readers::{encoding, whole};
+use crate::config::numbers::whole;
+use crate::config::words::encoding;
 use rtp_wire::Enc;
 use toml::Table;
 

@@ -8,8 +8,10 @@ ghost use Rattle.studio_spec.specs.declared.config.keys.Key.TheVariants as key;
 
 use crate::config::fault::{Kind, Place, SpecError};
 use crate::config::keys::Key;
+use crate::config::known::check_known;
+use crate::config::numbers::{optional_whole, port, whole, whole_or};
 use crate::config::packets::read_packets;
-use crate::config::readers::{check_known, is_media, optional_whole, port, whole, whole_or};
+use crate::config::words::is_media;
 use path_merge::{StreamClock, StreamSpec};
 use toml::Table;
 

@@ -12,9 +12,11 @@ ghost use Rattle.studio_spec.specs.declared.config.fault.Place.TheVariants as at
 
 use crate::config::fault::{Place, SpecError, out_of_memory};
 use crate::config::keys::Key;
+use crate::config::known::check_known;
+use crate::config::numbers::whole;
 use crate::config::output::read_output;
-use crate::config::readers::{check_known, few_tables, table_in, table_of, whole};
 use crate::config::stream::read_stream;
+use crate::config::tables::{few_tables, table_in, table_of};
 use crate::ports::Ports;
 use crate::studio::StudioSpec;
 use path_merge::StreamSpec;

@@ -1,7 +1,7 @@
 use Rattle.std.proofs.Common.{ap, map, ◌∙◌, sym}
 use Rattle.toml.specs.View.{view}
 use Rattle.studio_spec.proofs.ViewLemmas.{array_found, items_in-array}
-use Rattle.studio_spec.proofs.config.readers.items_in.Goals as goal
+use Rattle.studio_spec.proofs.config.gain_rows.items_in.Goals as goal
 
 pub returns-in-Some : goal.returns-in-Some
 returns-in-Some c =

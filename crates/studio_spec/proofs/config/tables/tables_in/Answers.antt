@@ -4,7 +4,7 @@ use Rattle.std.proofs.lemmas.List.{length-map}
 use Rattle.toml.specs.View.{view}
 use Rattle.studio_spec.specs.Values.{members_in, is_table, is_array_of}
 use Rattle.studio_spec.proofs.ViewLemmas.{array_found, is_array_of-array, map-items_in, items_in-array}
-use Rattle.studio_spec.proofs.config.readers.tables_in.Goals as goal
+use Rattle.studio_spec.proofs.config.tables.tables_in.Goals as goal
 
 pub returns-then-all_tables-clause-ok : goal.returns-then-all_tables-clause-ok
 returns-then-all_tables-clause-ok c =

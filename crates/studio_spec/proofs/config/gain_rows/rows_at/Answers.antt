@@ -2,7 +2,7 @@ use Rattle.std.proofs.Common.{◌≡◌, Some, ap, map, option_map, ◌∙◌, s
 use Rattle.toml.specs.View.{view, table_view}
 use Rattle.studio_spec.specs.Values.{value_at, row_in}
 use Rattle.studio_spec.proofs.ViewLemmas.{map-view}
-use Rattle.studio_spec.proofs.config.readers.rows_at.Goals as goal
+use Rattle.studio_spec.proofs.config.gain_rows.rows_at.Goals as goal
 
 pub returns-in-Some : goal.returns-in-Some
 returns-in-Some c =

@@ -3,7 +3,7 @@ use Rattle.std.specs.List.{list_all}
 use Rattle.toml.specs.View.{view}
 use Rattle.studio_spec.specs.Values.{row_in, is_row, is_array_of}
 use Rattle.studio_spec.proofs.ViewLemmas.{array_found, is_array_of-array, map-items_in}
-use Rattle.studio_spec.proofs.config.readers.gains_in.Goals as goal
+use Rattle.studio_spec.proofs.config.gain_rows.gains_in.Goals as goal
 
 pub returns-then-all_rows-clause-ok : goal.returns-then-all_rows-clause-ok
 returns-then-all_rows-clause-ok c =

@@ -3,7 +3,7 @@ use Rattle.std.specs.List.{list_all}
 use Rattle.toml.specs.View.{view}
 use Rattle.studio_spec.specs.Values.{is_integer}
 use Rattle.studio_spec.proofs.ViewLemmas.{array_found, is_array_of-array}
-use Rattle.studio_spec.proofs.config.readers.is_row.Goals as goal
+use Rattle.studio_spec.proofs.config.gain_rows.is_row.Goals as goal
 
 pub returns : goal.returns
 returns c =

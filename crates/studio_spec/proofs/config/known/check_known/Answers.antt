@@ -3,7 +3,7 @@ use Rattle.std.specs.List.{list_all}
 use Rattle.toml.specs.View.{table_view}
 use Rattle.studio_spec.specs.Rows.{names_of, is_known}
 use Rattle.studio_spec.proofs.ViewLemmas.{names_known}
-use Rattle.studio_spec.proofs.config.readers.check_known.Goals as goal
+use Rattle.studio_spec.proofs.config.known.check_known.Goals as goal
 
 pub returns-then-has_only-clause-ok : goal.returns-then-has_only-clause-ok
 returns-then-has_only-clause-ok c =
