@@ -1,6 +1,7 @@
-//! Short callers of the other crates, for programs to copy from. No crate stands on them.
+//! Short callers of the other crates, for programs to call or to copy from. No crate here stands on them.
 //!
-//! `receive_stream` takes one stream's datagrams to marks, by `rtp_wire::read` and a `Merge`.
+//! `receive_stream` takes one stream's datagrams to marks, by `rtp_wire::read` and the plain calls of a
+//! `Merge`: `offer`, `advance` and `drain`.
 //! `mix_next` takes two streams' marks to the output's next datagram, by `feed_wanted` and a `Mixer`.
 //! `report_trace` takes a trace in memory to its report, by `play`. `run_in_threads` runs a studio's
 //! workers over a `MemoryFeed` for each path, a `MemoryClock` for each stream, and a sink of the

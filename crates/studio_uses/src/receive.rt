@@ -1,12 +1,12 @@
 //! One stream, from datagrams to marks.
-ghost use Rattle.std.specs.Prelude.{◌≡◌, ◌^◌, pos, ◌≤ℤ◌, true, OnOk, IfOk, IfErr};
+ghost use Rattle.std.specs.Prelude.{◌≡◌, ◌<◌, ◌≤◌, ◌^◌, pos, ◌≤ℤ◌, true, OnOk, IfOk, IfErr};
 ghost use Rattle.stream_rules.specs.History.{is_well_timed};
 ghost use Rattle.stream_rules.specs.Marks.{marks_of};
-ghost use Rattle.studio_uses.specs.declared.receive.ReceiveFault.TheVariants.{Clock, Memory};
+ghost use Rattle.studio_uses.specs.declared.receive.ReceiveFault.TheVariants.{Clock, Memory, Path as NoPath};
 ghost use Rattle.studio_uses.specs.Receive.{IsFaultOf, are_on_paths, history_of};
 
 use crate::arrival::Arrival;
-use path_merge::{ClockFault, Mark, Merge, StreamSpec};
+use path_merge::{ClockFault, Mark, Merge, Path, StreamSpec};
 use rtp_wire::read;
 use std::alloc::{AllocError, AllocFailed, Global};
 use thiserror::Error;
@@ -49,6 +49,17 @@ impl<T: Drop> From<AllocFailed<T>> for ReceiveFault {
     }
 }
 
+/// Answers a path that the stream lacks.
+fn check_path(spec: &StreamSpec, path: Path) -> Result<(), ReceiveFault>
+    ensures here { OnOk result (path < spec.now.paths) }
+    ensures lacking { IfErr result (λ fault. (fault ≡ NoPath) × (spec.now.paths ≤ path)) }
+{
+    if path.number() >= spec.paths() {
+        return Err(ReceiveFault::Path);
+    }
+    Ok(())
+}
+
 /// The marks of one stream whose datagrams came in as these arrivals, the earliest first, and which was
 /// then closed.
 ///
@@ -70,30 +81,18 @@ pub fn receive_stream(
     let mut merge = Merge::new(alloc, spec, open_at)?;
     let mut marks = Vec::new(alloc);
     for arrival in arrivals {
-        let Arrival {
-            time,
-            path,
-            datagram,
-        } = *arrival;
-        'reading: loop {
-            if let Some(mark) = merge.mark_at(time)? {
-                marks.push(mark.to_mark())?;
-            }
-            if !merge.pass(time)? {
-                break;
+        while let Some(mark) = merge.advance(arrival.time)? {
+            marks.push(mark)?;
+        }
+        check_path(&spec, arrival.path)?;
+        if let Ok(view) = read(arrival.datagram) {
+            if let Ok(packet) = spec.admit(&view) {
+                merge.offer(arrival.path, packet);
             }
         }
-        if path.number() >= spec.paths() {
-            return Err(ReceiveFault::Path);
-        }
-        let Ok(view) = read(datagram) else { continue };
-        let Ok(packet) = spec.admit_ref(&view) else {
-            continue;
-        };
-        merge.offer_ref(path, packet);
     }
     merge.close();
-    'rest: while let Some(mark) = merge.drain() {
+    while let Some(mark) = merge.drain() {
         marks.push(mark)?;
     }
     Ok(marks)

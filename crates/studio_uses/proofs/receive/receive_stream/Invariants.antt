@@ -1,4 +1,4 @@
-use Rattle.std.proofs.Common.{◌≡◌, ◌⊎◌, ℕ, true, false, List, [], ◌∷◌, ◌++◌, ◌-ℤ◌, None, take, unsigned_abs}
+use Rattle.std.proofs.Common.{◌≡◌, ◌⊎◌, ℕ, ◌-◌, true, false, List, [], ◌∷◌, ◌++◌, None, take, length}
 use Rattle.stream_rules.specs.declared.event.Event.{Event}
 use Rattle.stream_rules.specs.declared.event.Event.TheVariants.{Tick}
 use Rattle.stream_rules.specs.Marks.{marks_of}
@@ -18,22 +18,23 @@ invariant-loop-arrival l = record {
 }
 
 -- the merge is on its way to the reading
-abbrev pub invariant-reading : goal.invariant-reading
-invariant-reading l = record {
+abbrev pub invariant-loop-marks : goal.invariant-loop-marks
+invariant-loop-marks l = record {
   paths : are_on_paths l.fn.spec (take l.arrival-index l.arrivals) ≡ true;
   open_yet : l.merge.closed ≡ false;
   so_far : List Event;
   given : HasGiven l.fn.spec l.open_at l.merge so_far l.marks.items;
-  joins : IsAlike l.fn.spec l.open_at (so_far ++ Tick l.time ∷ []) (events_of_all l.fn.spec (take l.arrival-index l.arrivals) ++ Tick l.time ∷ []);
-  fine : (so_far ≡ events_of_all l.fn.spec (take l.arrival-index l.arrivals)) ⊎ (clock_fault_of l.merge.time l.merge.closed l.time ≡ None);
+  joins : IsAlike l.fn.spec l.open_at (so_far ++ Tick l.arrival.time ∷ []) (events_of_all l.fn.spec (take l.arrival-index l.arrivals) ++ Tick l.arrival.time ∷ []);
+  fine : (so_far ≡ events_of_all l.fn.spec (take l.arrival-index l.arrivals)) ⊎ (clock_fault_of l.merge.time l.merge.closed l.arrival.time ≡ None);
 }
 
-abbrev pub decreases-reading : goal.decreases-reading
-decreases-reading l = unsigned_abs (l.time -ℤ l.merge.time)
+-- the marks to the reading that are left
+abbrev pub decreases-loop-marks : goal.decreases-loop-marks
+decreases-loop-marks l = length (marks_of l.fn.spec l.open_at (events_of_all l.fn.spec (take l.arrival-index l.arrivals) ++ Tick l.arrival.time ∷ [])) - length l.marks.items
 
 -- the marks so far are the first of all
-abbrev pub invariant-rest : goal.invariant-rest
-invariant-rest l = (k : ℕ) × HasHistory l.fn.spec l.open_at l.merge (history_of l.fn.spec l.arrivals) k × (l.marks.items ≡ take k (marks_of l.fn.spec l.open_at (history_of l.fn.spec l.arrivals)))
+abbrev pub invariant-loop-mark : goal.invariant-loop-mark
+invariant-loop-mark l = (k : ℕ) × HasHistory l.fn.spec l.open_at l.merge (history_of l.fn.spec l.arrivals) k × (l.marks.items ≡ take k (marks_of l.fn.spec l.open_at (history_of l.fn.spec l.arrivals)))
 
-abbrev pub decreases-rest : goal.decreases-rest
-decreases-rest l = marks_left l.merge
+abbrev pub decreases-loop-mark : goal.decreases-loop-mark
+decreases-loop-mark l = marks_left l.merge
