@@ -13,9 +13,13 @@ datagram_line datagram = codes "out " ++ encode_lower datagram ++ 10 ∷ []
 abbrev pub path_letter : ℕ → List ℕ
 path_letter path = (97 + path) ∷ []
 
+-- a number, after a word and what stands between them
+abbrev pub pair_text : List ℕ → List ℕ → ℕ → List ℕ
+pair_text between word number = codes " " ++ word ++ between ++ decimal number
+
 -- a number, after a word
 abbrev pub count_text : List ℕ → ℕ → List ℕ
-count_text word number = codes " " ++ word ++ codes " " ++ decimal number
+count_text word number = pair_text (codes " ") word number
 
 -- the line of what a path's datagrams came to
 abbrev pub path_line : ℕ → ℕ → PathTally → List ℕ
@@ -30,29 +34,32 @@ path_line stream path counts =
     ++ 10 ∷ []
 
 -- how many packets were taken from each path, from this one on
-abbrev pub taken_text : ℕ → List ℕ → List ℕ
-taken_text path [] = []
-taken_text path (number ∷ more) = codes " from_" ++ path_letter path ++ codes " " ++ decimal number ++ taken_text (suc path) more
+abbrev pub taken_text : List ℕ → ℕ → List ℕ → List ℕ
+taken_text between path [] = []
+taken_text between path (number ∷ more) = codes " from_" ++ path_letter path ++ between ++ decimal number ++ taken_text between (suc path) more
 
 -- how many arrivals were not taken, by their fate
-abbrev pub refused_text : Tally → List ℕ
-refused_text counts =
-    count_text (codes "double") counts.double
-    ++ count_text (codes "unlike") counts.unlike
-    ++ count_text (codes "off_grid") counts.off_grid
-    ++ count_text (codes "late") counts.late
-    ++ count_text (codes "ahead") counts.ahead
-    ++ count_text (codes "source") counts.wrong_source
+abbrev pub refused_text : List ℕ → Tally → List ℕ
+refused_text between counts =
+    pair_text between (codes "double") counts.double
+    ++ pair_text between (codes "unlike") counts.unlike
+    ++ pair_text between (codes "off_grid") counts.off_grid
+    ++ pair_text between (codes "late") counts.late
+    ++ pair_text between (codes "ahead") counts.ahead
+    ++ pair_text between (codes "source") counts.wrong_source
 
 -- how many slots were handed on, by what they got, and how many restarts there were
-abbrev pub slots_text : Tally → List ℕ
-slots_text counts = count_text (codes "got") counts.got ++ count_text (codes "lost") counts.lost ++ count_text (codes "restarts") counts.restarts
+abbrev pub slots_text : List ℕ → Tally → List ℕ
+slots_text between counts = pair_text between (codes "got") counts.got ++ pair_text between (codes "lost") counts.lost ++ pair_text between (codes "restarts") counts.restarts
 
--- the line of what a merge came to, whose stream has so many paths
+-- what a merge came to, whose stream has so many paths
+abbrev pub tally_text : List ℕ → ℕ → Tally → List ℕ
+tally_text between paths counts =
+    pair_text between (codes "arrived") counts.arrived
+    ++ pair_text between (codes "taken") counts.taken
+    ++ taken_text between 0 (take paths counts.taken_by)
+    ++ refused_text between counts ++ slots_text between counts
+
+-- the line of a merge
 abbrev pub merge_line : ℕ → ℕ → Tally → List ℕ
-merge_line stream paths counts =
-    codes "merge " ++ decimal stream
-    ++ count_text (codes "arrived") counts.arrived
-    ++ count_text (codes "taken") counts.taken
-    ++ taken_text 0 (take paths counts.taken_by)
-    ++ refused_text counts ++ slots_text counts ++ 10 ∷ []
+merge_line stream paths counts = codes "merge " ++ decimal stream ++ tally_text (codes " ") paths counts ++ 10 ∷ []

@@ -3,7 +3,7 @@ ghost use Rattle.std.specs.Prelude.{◌≡◌, ◌+◌, ◌≤◌, ◌<◌, ◌+
 ghost use Rattle.stream_rules.specs.Counts.{tally_of};
 ghost use Rattle.studio_run.specs.Buffer.{PassesOn, BreaksOff};
 ghost use Rattle.studio_session.specs.Counts.{path_tally_of};
-ghost use Rattle.studio_run.specs.Report.{datagram_line, path_letter, count_text, path_line, taken_text, refused_text, slots_text, merge_line};
+ghost use Rattle.studio_run.specs.Report.{datagram_line, path_letter, pair_text, count_text, path_line, taken_text, refused_text, slots_text, tally_text, merge_line};
 
 use crate::buffer::TextBuffer;
 use crate::device::WriteFault;
@@ -85,41 +85,54 @@ fn push_merge_line(text: &mut TextBuffer, stream: u8, paths: u8, counts: &Counts
 {
     text.push("merge ");
     text.push_number(stream);
-    push_count(text, "arrived", counts.arrived);
-    push_count(text, "taken", counts.taken);
-    push_taken(text, taken_from(paths, counts));
-    push_refused(text, counts);
-    push_slots(text, counts);
+    push_tally(text, " ", paths, counts);
     text.push("\n");
 }
 
+/// Holds the counts of a merge whose stream has so many paths, each number after its word and the one
+/// character between them.
+pub(crate) fn push_tally(text: &mut TextBuffer, between: &str, paths: u8, counts: &Counts)
+    requires one { length between.now ≡ 1 }
+    requires room { length text.old + 900 ≤ 65536 }
+    ensures text { text.new ≡ text.old ++ tally_text between.now paths (tally_of counts.now) }
+    ensures few { length text.new ≤ length text.old + 900 }
+{
+    push_pair(text, between, "arrived", counts.arrived);
+    push_pair(text, between, "taken", counts.taken);
+    push_taken(text, between, taken_from(paths, counts));
+    push_refused(text, between, counts);
+    push_slots(text, between, counts);
+}
+
 /// Holds how many arrivals were not taken.
-fn push_refused(text: &mut TextBuffer, counts: &Counts)
-    requires { length text.old + 400 ≤ 65536 }
-    ensures text { text.new ≡ text.old ++ refused_text (tally_of counts.now) }
+fn push_refused(text: &mut TextBuffer, between: &str, counts: &Counts)
+    requires one { length between.now ≡ 1 }
+    requires room { length text.old + 400 ≤ 65536 }
+    ensures text { text.new ≡ text.old ++ refused_text between.now (tally_of counts.now) }
     ensures few { length text.new ≤ length text.old + 400 }
 {
-    push_count(text, "double", counts.double);
-    push_count(text, "unlike", counts.unlike);
-    push_count(text, "off_grid", counts.off_grid);
-    push_count(text, "late", counts.late);
-    push_count(text, "ahead", counts.ahead);
-    push_count(text, "source", counts.wrong_source);
+    push_pair(text, between, "double", counts.double);
+    push_pair(text, between, "unlike", counts.unlike);
+    push_pair(text, between, "off_grid", counts.off_grid);
+    push_pair(text, between, "late", counts.late);
+    push_pair(text, between, "ahead", counts.ahead);
+    push_pair(text, between, "source", counts.wrong_source);
 }
 
 /// Holds how many slots were handed on, and how many restarts there were.
-fn push_slots(text: &mut TextBuffer, counts: &Counts)
-    requires { length text.old + 200 ≤ 65536 }
-    ensures text { text.new ≡ text.old ++ slots_text (tally_of counts.now) }
+fn push_slots(text: &mut TextBuffer, between: &str, counts: &Counts)
+    requires one { length between.now ≡ 1 }
+    requires room { length text.old + 200 ≤ 65536 }
+    ensures text { text.new ≡ text.old ++ slots_text between.now (tally_of counts.now) }
     ensures few { length text.new ≤ length text.old + 200 }
 {
-    push_count(text, "got", counts.got);
-    push_count(text, "lost", counts.lost);
-    push_count(text, "restarts", counts.restarts);
+    push_pair(text, between, "got", counts.got);
+    push_pair(text, between, "lost", counts.lost);
+    push_pair(text, between, "restarts", counts.restarts);
 }
 
 /// How many packets were taken from each of so many paths.
-pub(crate) fn taken_from(paths: u8, counts: &Counts) -> &[u64]
+fn taken_from(paths: u8, counts: &Counts) -> &[u64]
     ensures value { result.now ≡ take paths counts.now.taken_by }
     ensures few { length result.now ≤ 4 }
 {
@@ -127,16 +140,17 @@ pub(crate) fn taken_from(paths: u8, counts: &Counts) -> &[u64]
 }
 
 /// Holds how many packets were taken from each path.
-fn push_taken(text: &mut TextBuffer, taken_by: &[u64])
+fn push_taken(text: &mut TextBuffer, between: &str, taken_by: &[u64])
+    requires one { length between.now ≡ 1 }
     requires few_paths { length taken_by.now ≤ 4 }
     requires room { length text.old + 200 ≤ 65536 }
-    ensures text { text.new ≡ text.old ++ taken_text 0 taken_by.now }
+    ensures text { text.new ≡ text.old ++ taken_text between.now 0 taken_by.now }
     ensures few { length text.new ≤ length text.old + 200 }
 {
     for (path, number) in taken_by.iter().enumerate() {
         text.push(" from_");
         text.push(path_letter(path as u8));
-        text.push(" ");
+        text.push(between);
         text.push_number(*number);
     }
 }
@@ -147,9 +161,19 @@ pub(crate) fn push_count(text: &mut TextBuffer, word: &str, number: u64)
     ensures text { text.new ≡ text.old ++ count_text word.now number }
     ensures few { length text.new ≤ length text.old + length word.now + 42 }
 {
+    push_pair(text, " ", word, number);
+}
+
+/// Holds a number, after a word and the one character between them.
+fn push_pair(text: &mut TextBuffer, between: &str, word: &str, number: u64)
+    requires one { length between.now ≡ 1 }
+    requires room { length text.old + length word.now + 42 ≤ 65536 }
+    ensures text { text.new ≡ text.old ++ pair_text between.now word.now number }
+    ensures few { length text.new ≤ length text.old + length word.now + 42 }
+{
     text.push(" ");
     text.push(word);
-    text.push(" ");
+    text.push(between);
     text.push_number(number);
 }
 
