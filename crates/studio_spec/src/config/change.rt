@@ -12,7 +12,7 @@ ghost use Rattle.studio_spec.specs.declared.config.keys.Key.TheVariants as key;
 ghost use Rattle.studio_spec.specs.declared.config.fault.Place.TheVariants as at;
 ghost use Rattle.studio_spec.specs.declared.config.fault.Kind.TheVariants as kind;
 
-use crate::config::fault::{Kind, Place, SpecError, out_of_memory};
+use crate::config::fault::{Kind, Place, SpecError};
 use crate::config::gain_rows::{check_gains, rows_at};
 use crate::config::gains::read_matrix;
 use crate::config::keys::Key;
@@ -20,7 +20,7 @@ use crate::config::known::check_known;
 use crate::config::numbers::{natural_at, whole};
 use crate::config::tables::table_of;
 use gain_mix::{Matrix, MatrixFault, Schedule};
-use std::alloc::Global;
+use std::alloc::{AllocError, Global};
 use toml::{Table, Value};
 
 /// The keys of a change's table.
@@ -69,7 +69,7 @@ pub(crate) fn read_gains(
 {
     match read_matrix(alloc, outs, ins, rows_at(table, Key::Gains)) {
         Ok(matrix) => Ok(matrix),
-        Err(MatrixFault::Memory) => Err(out_of_memory()),
+        Err(MatrixFault::Memory) => Err(SpecError::from(AllocError)),
         Err(fault) => Err(SpecError {
             place,
             key: Some(Key::Gains),
@@ -117,7 +117,7 @@ pub(crate) fn read_changes(
     let mut later = Vec::new(alloc);
     for (number, change) in changes.iter().enumerate() {
         let change = read_change(alloc, table_of(change), Place::Change(number), outs, ins)?;
-        later.push(change).map_err(|_| out_of_memory())?;
+        later.push(change)?;
     }
     Ok(later)
 }

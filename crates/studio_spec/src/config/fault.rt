@@ -6,6 +6,7 @@ use crate::config::keys::Key;
 use gain_mix::{MatrixFault, ScheduleFault};
 use mix_packets::OutFault;
 use path_merge::SpecFault;
+use std::alloc::{AllocError, AllocFailed};
 use std::error::Error;
 use std::fmt;
 
@@ -54,14 +55,23 @@ pub struct SpecError {
     pub kind: Kind,
 }
 
-/// Memory was refused.
-pub(crate) fn out_of_memory() -> SpecError
-    ensures { result ≡ no_memory }
-{
-    SpecError {
-        place: Place::Top,
-        key: None,
-        kind: Kind::Memory,
+impl From<AllocError> for SpecError {
+    ghost from_gives = { λ _ fault. fault ≡ no_memory };
+
+    fn from(_error: AllocError) -> SpecError {
+        SpecError {
+            place: Place::Top,
+            key: None,
+            kind: Kind::Memory,
+        }
+    }
+}
+
+impl<T: Drop> From<AllocFailed<T>> for SpecError {
+    ghost from_gives = { λ _ fault. fault ≡ no_memory };
+
+    fn from(_refused: AllocFailed<T>) -> SpecError {
+        SpecError::from(AllocError)
     }
 }
 

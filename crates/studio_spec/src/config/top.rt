@@ -10,7 +10,7 @@ ghost use Rattle.studio_spec.specs.OutputTable.{each_fault};
 ghost use Rattle.studio_spec.specs.Config.{port_table, studio_of, config_fault_of, no_memory};
 ghost use Rattle.studio_spec.specs.declared.config.fault.Place.TheVariants as at;
 
-use crate::config::fault::{Place, SpecError, out_of_memory};
+use crate::config::fault::{Place, SpecError};
 use crate::config::keys::Key;
 use crate::config::known::check_known;
 use crate::config::numbers::whole;
@@ -69,7 +69,7 @@ fn read_streams(
     let mut streams = Vec::new(alloc);
     for (number, stream) in tables.iter().enumerate() {
         let entry = read_stream(table_of(stream), Place::Stream(number))?;
-        streams.push(entry.spec).map_err(|_| out_of_memory())?;
+        streams.push(entry.spec)?;
         ports.set_row(number, entry.ports);
     }
     Ok(streams)
