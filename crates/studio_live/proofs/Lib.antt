@@ -1,3 +1,4 @@
 pub mod PortLemmas
 pub mod TextLemmas
 pub mod ReportLemmas
+pub mod RunLemmas

@@ -1,3 +1,4 @@
 pub mod Clock
 pub mod Ports
 pub mod Report
+pub mod Run

@@ -1,4 +1,7 @@
 //! Why a live run came to no whole report.
+ghost use Rattle.std.specs.Prelude.{◌≡◌};
+ghost use Rattle.studio_live.specs.Run.{IsEarly};
+ghost use Rattle.studio_live.specs.declared.fault.LiveFault.TheVariants.{Write};
 
 use std::alloc::AllocError;
 use std::io;
@@ -26,12 +29,16 @@ pub enum LiveFault {
 }
 
 impl From<AllocError> for LiveFault {
+    ghost from_gives = { λ _ to. IsEarly to };
+
     fn from(_fault: AllocError) -> LiveFault {
         LiveFault::Memory
     }
 }
 
 impl From<io::Error> for LiveFault {
+    ghost from_gives = { λ _ to. IsEarly to };
+
     fn from(fault: io::Error) -> LiveFault {
         match fault.kind() {
             ErrorKind::OutOfMemory => LiveFault::Memory,
@@ -41,12 +48,16 @@ impl From<io::Error> for LiveFault {
 }
 
 impl From<OpenFault> for LiveFault {
+    ghost from_gives = { λ _ to. IsEarly to };
+
     fn from(_fault: OpenFault) -> LiveFault {
         LiveFault::Memory
     }
 }
 
 impl From<WorkFault> for LiveFault {
+    ghost from_gives = { λ _ to. IsEarly to };
+
     fn from(fault: WorkFault) -> LiveFault {
         match fault {
             WorkFault::Memory => LiveFault::Memory,
@@ -56,6 +67,8 @@ impl From<WorkFault> for LiveFault {
 }
 
 impl From<WriteFault> for LiveFault {
+    ghost from_gives = { λ _ to. to ≡ Write };
+
     fn from(_fault: WriteFault) -> LiveFault {
         LiveFault::Write
     }

@@ -1,9 +1,10 @@
 //! A live run: a studio's workers on real sockets, and a watcher beside them.
-ghost use Rattle.std.specs.Prelude.{◌≡◌, ℕ, ℤ, pos, ◌≤ℤ◌, length, IfOk, vec_len};
+ghost use Rattle.std.specs.Prelude.{◌≡◌, ℕ, ℤ, pos, ◌≤ℤ◌, length, IfOk, IfErr, OnOk, vec_len};
 ghost use Rattle.std.specs.Thread.{IsSync};
 ghost use Rattle.studio_spec.specs.Studio.{IsStudio, Studio};
 ghost use Rattle.studio_rings.specs.Opened.{AreOpened};
 ghost use Rattle.studio_workers.specs.Settled.{AreOpenedTogether};
+ghost use Rattle.studio_live.specs.Run.{FailsRun, IsEarly, IsRunOf, WritesRun};
 
 use crate::clock::SystemClock;
 use crate::fault::LiveFault;
@@ -62,7 +63,10 @@ pub fn run_studio_live<R: Threads + Wait + Sync + Net + Clock, W: Write, E: Writ
     options: &LiveOptions,
     output: &mut W,
     faults: E,
-) -> Result<(), LiveFault> {
+) -> Result<(), LiveFault>
+    ensures ok { OnOk result (WritesRun studio.now (W.contents output.old) (W.contents output.new)) }
+    ensures fault { IfErr result (FailsRun studio.now (W.contents output.old) (W.contents output.new)) }
+{
     let mut text = TextBuffer::new(alloc)?;
     let signs = Signs::new();
     let start = Start {
@@ -105,6 +109,7 @@ fn work_of<'a, R: Net + Clock>(
     ensures opened { IfOk result (λ r. AreOpenedTogether studio.now 256 r.0.ends) }
     ensures feeds { IfOk result (λ r. length r.0.feeds.items ≡ length r.0.ends.paths.items) }
     ensures clocks { IfOk result (λ r. length r.0.clocks.items ≡ length r.0.ends.streams.items) }
+    ensures early { IfErr result IsEarly }
 {
     let sockets = receiving_sockets(rt, alloc, ports.paths.as_slice())?;
     let sink = UdpSink::bind(rt, ports.to_a, ports.to_b)?;
@@ -151,7 +156,8 @@ fn receiving_sockets<R: Net>(
     alloc: Global,
     ports: &[u16],
 ) -> Result<Vec<UdpSocket>, LiveFault>
-    ensures { IfOk result (λ sockets. length sockets.items ≡ length ports.now) }
+    ensures sockets { IfOk result (λ sockets. length sockets.items ≡ length ports.now) }
+    ensures early { IfErr result IsEarly }
 {
     let mut sockets = Vec::with_capacity(alloc, ports.len())?;
     for port in ports {
@@ -211,6 +217,8 @@ fn run_watched<R: Threads + Wait + Sync + Clock, E: Write + Send + Drop>(
     requires opened { (studio : Studio) × (places : ℕ) × IsStudio studio × AreOpenedTogether studio places work.ends }
     requires feeds { length work.feeds.items ≡ length work.ends.paths.items }
     requires clocks { length work.clocks.items ≡ length work.ends.streams.items }
+    ensures run { IfOk result (λ report. (studio : Studio) (places : ℕ) → AreOpenedTogether studio places work.entry.ends → IsRunOf studio report) }
+    ensures early { IfErr result IsEarly }
 {
     let Work {
         ends,
@@ -226,6 +234,8 @@ fn run_watched<R: Threads + Wait + Sync + Clock, E: Write + Send + Drop>(
             requires opened { (studio : Studio) × (places : ℕ) × IsStudio studio × AreOpenedTogether studio places ends }
             requires feeds { length feeds.items ≡ length ends.paths.items }
             requires clocks { length clocks.items ≡ length ends.streams.items }
+            ensures run { IfOk result (λ report. (studio : Studio) (places : ℕ) → AreOpenedTogether studio places ends → IsRunOf studio report) }
+            ensures early { IfErr result IsEarly }
         {
             let Ok(watching) = scope.spawn(move || watch(rt, watcher, signs)) else {
                 return Err(LiveFault::Thread);

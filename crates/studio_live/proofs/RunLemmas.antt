@@ -1,0 +1,25 @@
+-- What a live run wrote.
+use Rattle.std.proofs.Common.{◌≡◌, refl, sym, subst, ℕ, List, Option, Result, Ok, Err}
+use Rattle.std.specs.Prelude.{IfErr, IsErrAnd}
+use Rattle.studio_spec.specs.Studio.{Studio}
+use Rattle.studio_live.specs.Run.{BreaksOffRun, FailsRun, IsEarly}
+use Rattle.studio_live.specs.declared.fault.LiveFault.{LiveFault}
+use Rattle.studio_live.specs.declared.fault.LiveFault.TheVariants.{Memory, Socket, Thread, Write}
+
+early_writes_nothing : (studio : Studio) (written : Option (List ℕ)) (fault : LiveFault) → IsEarly fault → FailsRun studio written written fault
+early_writes_nothing studio written Memory early = refl
+early_writes_nothing studio written Socket early = refl
+early_writes_nothing studio written Thread early = refl
+early_writes_nothing studio written Write early = absurd early
+
+module _ {T : Type 0} where
+  -- with a fault before the report nothing was written
+  pub wrote_nothing : (studio : Studio) (written : Option (List ℕ)) (r : Result T LiveFault) → IsErrAnd r IsEarly → IfErr r (FailsRun studio written written)
+  wrote_nothing studio written (Ok it) early = absurd early
+  wrote_nothing studio written (Err fault) early = early_writes_nothing studio written fault early
+
+  -- a write that failed broke off a report
+  pub broke_off : (studio : Studio) (written written_then : Option (List ℕ)) (r : Result T LiveFault) → IsErrAnd r (λ fault. fault ≡ Write)
+      → BreaksOffRun studio written written_then → IfErr r (FailsRun studio written written_then)
+  broke_off studio written written_then (Ok it) is breaks = absurd is
+  broke_off studio written written_then (Err fault) is breaks = subst (FailsRun studio written written_then) (sym is) breaks
