@@ -68,6 +68,7 @@ fn command<'a>(alloc: Global) -> Result<Command<'a>, Error> {
     let command = Command::new(alloc, "darbexum")
         .about("Receives studio audio over IP, from a trace on standard input or live")
         .version("0.1.0")
+        .bin_name("darbexum")?
         .no_binary_name(true)
         .subcommand(marks)?
         .subcommand(play)?
