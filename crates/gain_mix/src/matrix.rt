@@ -17,7 +17,7 @@ pub enum MatrixFault {
     #[error("a gain is out of range")]
     Range,
     /// The memory for the gains was refused.
-    #[error("the memory was refused")]
+    #[error("out of memory")]
     Memory,
 }
 

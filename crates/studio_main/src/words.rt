@@ -66,7 +66,7 @@ fn command<'a>(alloc: Global) -> Result<Command<'a>, Error> {
     let play = with_config(alloc, "play", "Plays a trace to its datagrams and counts")?;
     let check = with_config(alloc, "check", "Says what a configuration means")?;
     let command = Command::new(alloc, "darbexum")
-        .about("Receives studio audio over IP, from a trace on standard input or live")
+        .about("Receives studio audio over IP, from a trace or live. Formats: docs/FORMATS.md")
         .version("0.1.0")
         .bin_name("darbexum")?
         .no_binary_name(true)
