@@ -21,6 +21,7 @@ pub enum OpenFault {
     /// Not 1 to 65,536 places.
     #[error("rings have from 1 to 65536 places")]
     RingLength,
+    /// A growth was refused.
     #[error("out of memory")]
     Memory,
 }

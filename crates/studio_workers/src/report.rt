@@ -24,8 +24,10 @@ pub struct WorkReport {
 /// Why a run didn't begin.
 #[derive(Clone, Copy, Debug, PartialEq, Eq, Error)]
 pub enum WorkFault {
+    /// A growth was refused. No worker was started.
     #[error("out of memory")]
     Memory,
+    /// A worker couldn't be started. The others were stopped and joined.
     #[error("a worker couldn't be started")]
     Start,
 }
