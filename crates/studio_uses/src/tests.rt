@@ -5,7 +5,8 @@ mod holding;
 mod memory;
 mod mixing;
 
-use self::fakes::{FaultyFeed, ListClock, ListFeed, MemorySink};
+use self::fakes::{FailingSink, FaultyFeed};
+use crate::{MemoryClock, MemoryFeed, MemorySink};
 use gain_mix::{Matrix, Schedule};
 use mix_packets::OutSpec;
 use path_merge::{Counts, SpecFault, StreamClock, StreamSpec};
@@ -47,13 +48,6 @@ fn one_stream(rt: &impl Abort, alloc: Global) -> Option<StudioSpec> {
     Some(StudioSpec::new(0, streams, output, schedule))
 }
 
-fn studio(rt: &impl Abort, alloc: Global) -> StudioSpec {
-    let Some(studio) = one_stream(rt, alloc) else {
-        panic!(rt; "a studio of one stream")
-    };
-    studio
-}
-
 /// Two streams of six and of 48 sampling instants a packet, on two paths and on one, added into packets of 48.
 fn six_and_forty_eight(rt: &impl Abort, alloc: Global) -> Result<StudioSpec, Fail> {
     let (first, second) = (stream(6, 12, 2)?, stream(48, 48, 1)?);
@@ -93,10 +87,10 @@ fn clocks<'a>(
     alloc: Global,
     streams: usize,
     readings: &'a [i64],
-) -> Result<Vec<ListClock<'a>>, AllocError> {
+) -> Result<Vec<MemoryClock<'a>>, AllocError> {
     let mut clocks = Vec::new(alloc);
     for _ in 0..streams {
-        clocks.push(ListClock::new(readings))?;
+        clocks.push(MemoryClock::new(readings))?;
     }
     Ok(clocks)
 }
@@ -127,13 +121,19 @@ const OUTPUT: [[u8; 30]; 2] = [
     ],
 ];
 
-/// Both datagrams went to the sink.
-fn gave_both<R: Abort>(rt: &R, sink: &MemorySink<R>) {
-    let handed = sink.handed();
-    assert_eq!(rt; handed.len(), 2);
+/// These are both datagrams.
+fn gave_both(rt: &impl Abort, kept: &[Vec<u8>]) {
+    assert_eq!(rt; kept.len(), 2);
     let [first, second] = &OUTPUT;
-    assert!(rt; handed[0].as_slice() == first.as_slice(), "the first");
-    assert!(rt; handed[1].as_slice() == second.as_slice(), "the second");
+    assert!(rt; kept[0].as_slice() == first.as_slice(), "the first");
+    assert!(rt; kept[1].as_slice() == second.as_slice(), "the second");
+}
+
+/// Both packets.
+fn two_packets(alloc: Global) -> Result<[Vec<u8>; 2], AllocError> {
+    let first = Vec::from_slice(alloc, &FIRST)?;
+    let second = Vec::from_slice(alloc, &SECOND)?;
+    Ok([first, second])
 }
 
 /// Both packets on both paths, by clocks with these readings, over rings of so many places.
@@ -143,17 +143,14 @@ fn runs_alike<R: Threads + Wait + Abort + Sync>(
     readings: &[i64],
     places: usize,
 ) -> Result<(), Fail> {
-    let studio = studio(rt, alloc);
-    let packets = [
-        Vec::from_slice(alloc, &FIRST)?,
-        Vec::from_slice(alloc, &SECOND)?,
-    ];
+    let studio = one_stream(rt, alloc).ok_or("a studio")?;
+    let packets = two_packets(alloc)?;
     let mut feeds = Vec::new(alloc);
     for _ in 0..2 {
-        feeds.push(ListFeed::new(&packets))?;
+        feeds.push(MemoryFeed::new(&packets))?;
     }
     let clocks = clocks(alloc, 1, readings)?;
-    let sink = MemorySink::new(rt, alloc);
+    let sink = MemorySink::new(alloc);
     let (report, sink) = run(rt, alloc, &studio, places, feeds, clocks, sink)?;
     let counts = only(rt, &report);
     let arrivals = (counts.arrived, counts.taken, counts.double);
@@ -161,7 +158,7 @@ fn runs_alike<R: Threads + Wait + Abort + Sync>(
     assert_eq!(rt; (counts.got, counts.lost), (2, 0), "{places} places");
     assert_eq!(rt; sends(&report), (2, [2, 2], [0, 0]));
     assert_eq!(rt; report.feed_faults.as_slice(), [0u64, 0].as_slice());
-    gave_both(rt, &sink);
+    gave_both(rt, sink.kept());
     Ok(())
 }
 
@@ -215,11 +212,11 @@ fn two_streams_by_workers(rt: HostRuntime) -> Result<(), Fail> {
     let head = [0x80, 0x60, 0, 100, 0, 0, 0, 20, 0, 0, 0, 1];
     let ones = [datagram(alloc, head, &[(48, [0, 0, 1])])?];
     let mut feeds = Vec::new(alloc);
-    feeds.push(ListFeed::new(thousands.as_slice()))?;
-    feeds.push(ListFeed::new(thousands.as_slice()))?;
-    feeds.push(ListFeed::new(&ones))?;
+    feeds.push(MemoryFeed::new(thousands.as_slice()))?;
+    feeds.push(MemoryFeed::new(thousands.as_slice()))?;
+    feeds.push(MemoryFeed::new(&ones))?;
     let clocks = clocks(alloc, 2, &[0])?;
-    let sink = MemorySink::new(&rt, alloc);
+    let sink = MemorySink::new(alloc);
     let (report, sink) = run(&rt, alloc, &studio, 64, feeds, clocks, sink)?;
     assert!(rt; report.settled);
     assert_eq!(rt; report.streams.len(), 2);
@@ -228,34 +225,27 @@ fn two_streams_by_workers(rt: HostRuntime) -> Result<(), Fail> {
     assert_eq!(rt; (arrivals, counts.got), ((16, 8, 8), 8));
     assert_eq!(rt; report.streams[1].merge.got, 1);
     assert_eq!(rt; sends(&report), (2, [2, 2], [0, 0]));
-    let handed = sink.handed();
-    assert_eq!(rt; handed.len(), 2);
-    let head = [0x80, 0x61, 0xff, 0xff, 0, 0, 0, 0, 0, 0, 0, 2];
-    let sums = [(20, [0, 3, 0xe8]), (28, [0, 3, 0xe9])];
-    assert_eq!(rt; handed[0], datagram(alloc, head, &sums)?);
-    let head = [0x80, 0x61, 0, 0, 0, 0, 0, 48, 0, 0, 0, 2];
-    let rest = [(20, [0, 0, 1]), (28, [0, 0, 0])];
-    assert_eq!(rt; handed[1], datagram(alloc, head, &rest)?);
+    let kept = sink.kept();
+    assert_eq!(rt; kept.len(), 2);
+    assert_eq!(rt; kept[0], sums(alloc)?);
+    assert_eq!(rt; kept[1], ones_alone(alloc)?);
     Ok(())
 }
 
 #[test]
 fn an_address_that_fails(rt: HostRuntime) -> Result<(), Fail> {
     let alloc = rt.alloc();
-    let studio = studio(&rt, alloc);
-    let packets = [
-        Vec::from_slice(alloc, &FIRST)?,
-        Vec::from_slice(alloc, &SECOND)?,
-    ];
+    let studio = one_stream(&rt, alloc).ok_or("a studio")?;
+    let packets = two_packets(alloc)?;
     let mut feeds = Vec::new(alloc);
-    feeds.push(ListFeed::new(&packets))?;
-    feeds.push(ListFeed::new(&[]))?;
+    feeds.push(MemoryFeed::new(&packets))?;
+    feeds.push(MemoryFeed::new(&[]))?;
     let clocks = clocks(alloc, 1, &[0])?;
-    let sink = MemorySink::failing_at_b(&rt, alloc, 1);
+    let sink = FailingSink::new(&rt, alloc, 1);
     let (report, sink) = run(&rt, alloc, &studio, 64, feeds, clocks, sink)?;
     assert_eq!(rt; only(&rt, &report).got, 2);
     assert_eq!(rt; sends(&report), (2, [2, 1], [0, 1]));
-    gave_both(&rt, &sink);
+    gave_both(&rt, sink.handed());
     Ok(())
 }
 
@@ -263,17 +253,14 @@ fn an_address_that_fails(rt: HostRuntime) -> Result<(), Fail> {
 #[test]
 fn a_feed_ends_after_1000_faults(rt: HostRuntime) -> Result<(), Fail> {
     let alloc = rt.alloc();
-    let studio = studio(&rt, alloc);
-    let packets = [
-        Vec::from_slice(alloc, &FIRST)?,
-        Vec::from_slice(alloc, &SECOND)?,
-    ];
+    let studio = one_stream(&rt, alloc).ok_or("a studio")?;
+    let packets = two_packets(alloc)?;
     for (in_a_row, faults, got) in [(999u32, 2_997u64, 2u64), (1_000, 1_000, 0)] {
         let mut feeds = Vec::new(alloc);
         feeds.push(FaultyFeed::new(in_a_row, &packets))?;
         feeds.push(FaultyFeed::new(0, &[]))?;
         let clocks = clocks(alloc, 1, &[0])?;
-        let sink = MemorySink::new(&rt, alloc);
+        let sink = MemorySink::new(alloc);
         let (report, sink) = run(&rt, alloc, &studio, 64, feeds, clocks, sink)?;
         let counts = only(&rt, &report);
         assert_eq!(rt;
@@ -283,7 +270,7 @@ fn a_feed_ends_after_1000_faults(rt: HostRuntime) -> Result<(), Fail> {
         );
         assert_eq!(rt; report.feed_faults.as_slice(), [faults, 0].as_slice());
         assert_eq!(rt; report.blocks, got);
-        assert_eq!(rt; sink.handed().len() as u64, got);
+        assert_eq!(rt; sink.kept().len() as u64, got);
     }
     Ok(())
 }

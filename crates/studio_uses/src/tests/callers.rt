@@ -1,18 +1,18 @@
 //! One stream's datagrams to its marks, a trace to its report, and a run in threads.
 
-use super::{FIRST, OUTPUT, SECOND, stream, studio};
+use super::{FIRST, SECOND, gave_both, one_stream, stream, two_packets};
 use crate::{Arrival, MemorySink, ReceiveFault, receive_stream, report_trace, run_in_threads};
 use path_merge::{Body, ClockFault, Mark, MarkKind, Path};
 use std::alloc::{AllocError, Global};
 use std::test::Fail;
 use studio_run::{PlayFault, TraceKind};
 
-const TRACE: &str = "tick 0\n\
+pub(super) const TRACE: &str = "tick 0\n\
     a 0 806000010000000000000001000001000002000003000004000005000006\n\
     a 0 80600002000000060000000100000700000800000900000a00000b00000c\n\
     tick 12\ntick 18\nclose\n";
 
-const REPORT: &str = "out 8061ffff0000000000000002000001000002000003000004000005000006\n\
+pub(super) const REPORT: &str = "out 8061ffff0000000000000002000001000002000003000004000005000006\n\
     out 80610000000000060000000200000700000800000900000a00000b00000c\n\
     path 0 a offered 2 sent 2 bad 0 type 0 length 0 full 0\n\
     path 0 b offered 0 sent 0 bad 0 type 0 length 0 full 0\n\
@@ -20,11 +20,11 @@ const REPORT: &str = "out 8061ffff0000000000000002000001000002000003000004000005
     got 2 lost 0 restarts 0\n";
 
 /// The path of this number.
-fn path(number: u8) -> Result<Path, Fail> {
+pub(super) fn path(number: u8) -> Result<Path, Fail> {
     Ok(Path::new(number).ok_or("a path")?)
 }
 
-fn arrival(time: i64, path: Path, datagram: &[u8]) -> Arrival<'_> {
+pub(super) fn arrival(time: i64, path: Path, datagram: &[u8]) -> Arrival<'_> {
     Arrival {
         time,
         path,
@@ -78,7 +78,7 @@ fn the_first_fault_of_arrivals_is_told(rt: HostRuntime) -> Result<(), Fail> {
 #[test]
 fn a_trace_in_memory_has_its_report(rt: HostRuntime) -> Result<(), Fail> {
     let alloc = rt.alloc();
-    let studio = studio(&rt, alloc);
+    let studio = one_stream(&rt, alloc).ok_or("a studio")?;
     let report = report_trace(alloc, &studio, TRACE.as_bytes())?;
     assert_eq!(rt; str::from_utf8(report.as_slice()), Ok(REPORT));
     let Err(PlayFault::Trace(fault)) = report_trace(alloc, &studio, b"tick 0\ntock\n") else {
@@ -89,13 +89,10 @@ fn a_trace_in_memory_has_its_report(rt: HostRuntime) -> Result<(), Fail> {
 }
 
 /// Both datagrams, for each of so many paths.
-fn on_paths(alloc: Global, paths: u8) -> Result<Vec<Vec<Vec<u8>>>, AllocError> {
+pub(super) fn on_paths(alloc: Global, paths: u8) -> Result<Vec<Vec<Vec<u8>>>, AllocError> {
     let mut lists = Vec::new(alloc);
     for _ in 0..paths {
-        let mut list = Vec::new(alloc);
-        list.push(Vec::from_slice(alloc, &FIRST)?)?;
-        list.push(Vec::from_slice(alloc, &SECOND)?)?;
-        lists.push(list)?;
+        lists.push(Vec::from_array(alloc, two_packets(alloc)?)?)?;
     }
     Ok(lists)
 }
@@ -103,7 +100,7 @@ fn on_paths(alloc: Global, paths: u8) -> Result<Vec<Vec<Vec<u8>>>, AllocError> {
 #[test]
 fn a_studio_runs_over_memory(rt: HostRuntime) -> Result<(), Fail> {
     let alloc = rt.alloc();
-    let studio = studio(&rt, alloc);
+    let studio = one_stream(&rt, alloc).ok_or("a studio")?;
     let lists = on_paths(alloc, 2)?;
     let (report, sink) = run_in_threads(
         &rt,
@@ -114,10 +111,6 @@ fn a_studio_runs_over_memory(rt: HostRuntime) -> Result<(), Fail> {
         MemorySink::new(alloc),
     )?;
     assert_eq!(rt; (report.settled, report.blocks), (true, 2));
-    let kept = sink.kept();
-    assert_eq!(rt; kept.len(), 2);
-    let [first, second] = &OUTPUT;
-    assert!(rt; kept[0].as_slice() == first.as_slice(), "the first");
-    assert!(rt; kept[1].as_slice() == second.as_slice(), "the second");
+    gave_both(&rt, sink.kept());
     Ok(())
 }

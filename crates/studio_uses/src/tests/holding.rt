@@ -1,10 +1,9 @@
 //! Feeds that wait for each other, and a sink that waits for a clock: workers run at the same time.
 ghost use Rattle.std.specs.Prelude.{[], None};
 
-use super::fakes::{ListFeed, MemorySink};
-use super::{FIRST, SECOND, clocks, gave_both, only, run, studio};
+use super::{clocks, gave_both, one_stream, only, run, two_packets};
+use crate::{MemoryFeed, MemorySink};
 use std::alloc::Global;
-use std::process::Abort;
 use std::sync::Wait;
 use std::sync::atomic::{AtomicBool, AtomicU64, Ordering};
 use std::test::Fail;
@@ -20,7 +19,7 @@ const WAITS: u32 = 20_000;
 struct MeetingFeed<'a, R: Wait> {
     rt: &'a R,
     pause: Parker,
-    feed: ListFeed<'a>,
+    feed: MemoryFeed<'a>,
     here: &'a AtomicBool,
     there: &'a AtomicBool,
 }
@@ -35,7 +34,7 @@ impl<'a, R: Wait> MeetingFeed<'a, R> {
         MeetingFeed {
             rt,
             pause: Parker::new(),
-            feed: ListFeed::new(packets),
+            feed: MemoryFeed::new(packets),
             here,
             there,
         }
@@ -60,29 +59,26 @@ impl<'a, R: Wait> Feed for MeetingFeed<'a, R> {
 #[test]
 fn paths_are_read_at_the_same_time(rt: HostRuntime) -> Result<(), Fail> {
     let alloc = rt.alloc();
-    let studio = studio(&rt, alloc);
-    let packets = [
-        Vec::from_slice(alloc, &FIRST)?,
-        Vec::from_slice(alloc, &SECOND)?,
-    ];
+    let studio = one_stream(&rt, alloc).ok_or("a studio")?;
+    let packets = two_packets(alloc)?;
     let first = AtomicBool::new(false);
     let second = AtomicBool::new(false);
     let mut feeds = Vec::new(alloc);
     feeds.push(MeetingFeed::new(&rt, &packets, &first, &second))?;
     feeds.push(MeetingFeed::new(&rt, &packets, &second, &first))?;
     let clocks = clocks(alloc, 1, &[0])?;
-    let sink = MemorySink::new(&rt, alloc);
+    let sink = MemorySink::new(alloc);
     let (report, sink) = run(&rt, alloc, &studio, 64, feeds, clocks, sink)?;
     let counts = only(&rt, &report);
     assert_eq!(rt; (counts.arrived, counts.got), (4, 2));
-    gave_both(&rt, &sink);
+    gave_both(&rt, sink.kept());
     Ok(())
 }
 
 /// Ends only after the first datagram was sent, or after many questions.
 #[derive(Drop)]
 struct LastingFeed<'a> {
-    feed: ListFeed<'a>,
+    feed: MemoryFeed<'a>,
     given: &'a AtomicBool,
     sent: &'a AtomicBool,
     left: u32,
@@ -91,7 +87,7 @@ struct LastingFeed<'a> {
 impl<'a> LastingFeed<'a> {
     fn new(packets: &'a [Vec<u8>], given: &'a AtomicBool, sent: &'a AtomicBool) -> LastingFeed<'a> {
         LastingFeed {
-            feed: ListFeed::new(packets),
+            feed: MemoryFeed::new(packets),
             given,
             sent,
             left: 2_000,
@@ -151,16 +147,16 @@ impl<'a> Clock for CountingClock<'a> {
 
 /// Holds the first datagram until the clock is asked again.
 #[derive(Drop)]
-struct HoldingSink<'a, R: Wait + Abort> {
+struct HoldingSink<'a, R: Wait> {
     rt: &'a R,
     pause: Parker,
     asked: &'a AtomicU64,
     sent: &'a AtomicBool,
     asked_again: bool,
-    sink: MemorySink<'a, R>,
+    sink: MemorySink,
 }
 
-impl<'a, R: Wait + Abort> HoldingSink<'a, R> {
+impl<'a, R: Wait> HoldingSink<'a, R> {
     fn new(
         rt: &'a R,
         alloc: Global,
@@ -173,12 +169,12 @@ impl<'a, R: Wait + Abort> HoldingSink<'a, R> {
             asked,
             sent,
             asked_again: false,
-            sink: MemorySink::new(rt, alloc),
+            sink: MemorySink::new(alloc),
         }
     }
 }
 
-impl<'a, R: Wait + Abort> Sink for HoldingSink<'a, R> {
+impl<'a, R: Wait> Sink for HoldingSink<'a, R> {
     ghost handed = { λ sink. None };
 
     fn send(&mut self, datagram: &[u8]) -> SendAnswer {
@@ -198,11 +194,8 @@ impl<'a, R: Wait + Abort> Sink for HoldingSink<'a, R> {
 #[test]
 fn mixing_goes_on_beside_reception(rt: HostRuntime) -> Result<(), Fail> {
     let alloc = rt.alloc();
-    let studio = studio(&rt, alloc);
-    let packets = [
-        Vec::from_slice(alloc, &FIRST)?,
-        Vec::from_slice(alloc, &SECOND)?,
-    ];
+    let studio = one_stream(&rt, alloc).ok_or("a studio")?;
+    let packets = two_packets(alloc)?;
     let first = AtomicBool::new(false);
     let second = AtomicBool::new(false);
     let sent = AtomicBool::new(false);
@@ -220,6 +213,6 @@ fn mixing_goes_on_beside_reception(rt: HostRuntime) -> Result<(), Fail> {
     );
     let counts = only(&rt, &report);
     assert_eq!(rt; (counts.arrived, counts.got), (4, 2));
-    gave_both(&rt, &sink.sink);
+    gave_both(&rt, sink.sink.kept());
     Ok(())
 }

@@ -1,104 +1,106 @@
-//! Refused allocations.
-ghost use Rattle.std.specs.Prelude.{None};
-ghost use Rattle.studio_rings.specs.Opened.{AreOpened};
+//! Refused allocations: `rt try --test --fail-alloc N` refuses the Nth of each test.
+//!
+//! The tests of this file pass for every N: the call that meets it says so, and the next succeeds.
 
-use super::fakes::{ListClock, ListFeed};
-use super::{FIRST, SECOND, one_stream};
+use super::callers::{REPORT, TRACE, arrival, on_paths, path};
+use super::{FIRST, SECOND, one_stream, stream};
+use crate::{MemorySink, ReceiveFault, RunFault, receive_stream, report_trace, run_in_threads};
 use std::alloc::Global;
 use std::process::Abort;
 use std::sync::Wait;
+use std::test::Fail;
 use std::thread::Threads;
-use studio_rings::{Ends, open};
+use studio_rings::OpenFault;
+use studio_run::PlayFault;
 use studio_spec::StudioSpec;
-use studio_workers::{SendAnswer, Sink, WorkFault, run_workers};
+use studio_workers::WorkFault;
 
-/// Takes no memory.
-#[derive(Drop)]
-struct CountingSink {
-    blocks: u64,
-}
-
-impl Sink for CountingSink {
-    ghost handed = { λ sink. None };
-
-    fn send(&mut self, _datagram: &[u8]) -> SendAnswer {
-        self.blocks = self.blocks.saturating_add(1);
-        SendAnswer { a: true, b: true }
+#[test]
+fn each_refused_allocation_of_arrivals_is_answered(rt: HostRuntime) -> Result<(), Fail> {
+    let alloc = rt.alloc();
+    let spec = stream(6, 12, 2)?;
+    let arrivals = [arrival(0, path(0)?, &FIRST), arrival(12, path(1)?, &SECOND)];
+    match receive_stream(alloc, spec, 0, &arrivals) {
+        Ok(marks) => assert_eq!(rt; marks.len(), 3),
+        Err(fault) => {
+            assert!(rt;
+                matches!(fault, ReceiveFault::Memory),
+                "only memory can lack"
+            );
+            let marks = receive_stream(alloc, spec, 0, &arrivals)?;
+            assert_eq!(rt; marks.len(), 3, "with memory again");
+        }
     }
+    Ok(())
 }
 
-/// A feed for each of the stream's two paths, and its clock. None where memory was refused.
-fn inputs<'a>(
-    alloc: Global,
-    packets: &'a [Vec<u8>],
-) -> Option<(Vec<ListFeed<'a>>, Vec<ListClock<'a>>)> {
-    let mut feeds = Vec::new(alloc);
-    let mut clocks = Vec::new(alloc);
-    feeds.push(ListFeed::new(packets)).ok()?;
-    feeds.push(ListFeed::new(packets)).ok()?;
-    clocks.push(ListClock::new(&[0])).ok()?;
-    Some((feeds, clocks))
-}
-
-/// The ends of a studio, opened again where that was refused.
-fn opened(rt: &impl Abort, alloc: Global, studio: &StudioSpec) -> Ends
-    ensures { AreOpened studio.now 2 result }
-{
-    if let Ok(ends) = open(alloc, studio, 2) {
-        return ends;
+/// A report that can't grow is one that can't be written.
+#[test]
+fn each_refused_allocation_of_a_report_is_answered(rt: HostRuntime) -> Result<(), Fail> {
+    let alloc = rt.alloc();
+    let studio = one_stream(&rt, alloc)
+        .or_else(|| one_stream(&rt, alloc))
+        .ok_or("with memory again")?;
+    match report_trace(alloc, &studio, TRACE.as_bytes()) {
+        Ok(report) => assert_eq!(rt; str::from_utf8(report.as_slice()), Ok(REPORT)),
+        Err(fault) => {
+            let wants = matches!(fault, PlayFault::Memory) || matches!(fault, PlayFault::Write);
+            assert!(rt; wants, "only memory can lack");
+            let report = report_trace(alloc, &studio, TRACE.as_bytes())?;
+            assert_eq!(rt;
+                str::from_utf8(report.as_slice()),
+                Ok(REPORT),
+                "with memory again"
+            );
+        }
     }
-    match open(alloc, studio, 2) {
-        Ok(ends) => ends,
-        Err(_) => { panic!(rt; "the second opening is refused too") }
-    }
+    Ok(())
 }
 
-/// A run, all of which went well, or its fault. Its setup is made again where that was refused.
+/// A run of two blocks, or its fault. What the sink could not keep is told as a fault of both addresses.
 fn attempt<R: Threads + Wait + Abort + Sync>(
     rt: &R,
     alloc: Global,
-    packets: &[Vec<u8>],
-) -> Option<WorkFault> {
-    let Some(studio) = one_stream(rt, alloc).or_else(|| one_stream(rt, alloc)) else {
-        panic!(rt; "the second studio is refused too")
-    };
-    let Some((feeds, clocks)) = inputs(alloc, packets).or_else(|| inputs(alloc, packets)) else {
-        panic!(rt; "the second setup is refused too")
-    };
-    let _sound = studio.streams();
-    let ends = opened(rt, alloc, &studio);
-    assert!(rt; feeds.len() == ends.paths.len());
-    assert!(rt; clocks.len() == ends.streams.len());
-    match run_workers(rt, alloc, ends, feeds, clocks, CountingSink { blocks: 0 }) {
+    studio: &StudioSpec,
+    lists: &[Vec<Vec<u8>>],
+) -> Option<RunFault> {
+    match run_in_threads(rt, alloc, studio, lists, &[0], MemorySink::new(alloc)) {
         Ok((report, sink)) => {
             assert!(rt; report.settled);
-            assert_eq!(rt; (report.blocks, sink.blocks), (2, 2));
+            assert_eq!(rt; report.blocks, 2);
+            let kept = sink.kept().len() as u64;
+            assert_eq!(rt; (report.sent_a, report.sent_b), (kept, kept));
             None
         }
         Err(fault) => Some(fault),
     }
 }
 
-/// Both packets. None where memory was refused.
-fn two_packets(alloc: Global) -> Option<[Vec<u8>; 2]> {
-    let first = Vec::from_slice(alloc, &FIRST).ok()?;
-    let second = Vec::from_slice(alloc, &SECOND).ok()?;
-    Some([first, second])
+/// Whether a run says that it wants memory. A thread may be refused too.
+fn wants_memory(fault: RunFault) -> bool {
+    match fault {
+        RunFault::Paths => false,
+        RunFault::Open(fault) => fault == OpenFault::Memory,
+        RunFault::Work(WorkFault::Memory) => true,
+        RunFault::Work(WorkFault::Start) => true,
+        RunFault::Memory(_) => true,
+    }
 }
 
-/// `rt try --test --fail-alloc N` refuses the Nth allocation: the run that meets it says so, and the next succeeds.
 #[test]
-fn each_refused_allocation_is_answered(rt: HostRuntime) {
+fn each_refused_allocation_of_a_run_is_answered(rt: HostRuntime) -> Result<(), Fail> {
     let alloc = rt.alloc();
-    let Some(packets) = two_packets(alloc).or_else(|| two_packets(alloc)) else {
-        panic!(rt; "the second setup is refused too")
-    };
-    let Some(fault) = attempt(&rt, alloc, &packets) else {
-        return;
-    };
-    assert!(rt; matches!(fault, WorkFault::Memory | WorkFault::Start));
-    assert!(rt;
-        attempt(&rt, alloc, &packets).is_none(),
-        "with memory again"
-    );
+    let studio = one_stream(&rt, alloc)
+        .or_else(|| one_stream(&rt, alloc))
+        .ok_or("with memory again")?;
+    let lists = on_paths(alloc, 2)
+        .ok()
+        .or_else(|| on_paths(alloc, 2).ok())
+        .ok_or("with memory again")?;
+    if let Some(fault) = attempt(&rt, alloc, &studio, lists.as_slice()) {
+        assert!(rt; wants_memory(fault), "only memory can lack");
+        let again = attempt(&rt, alloc, &studio, lists.as_slice());
+        assert!(rt; again.is_none(), "with memory again");
+    }
+    Ok(())
 }
