@@ -154,7 +154,20 @@ fn help_and_version_go_to_the_output(rt: HostRuntime) -> Result<(), Fail> {
     expect(&rt, &version, 0, "darbexum 0.1.0\n", "", "the version");
     let help = outcome_with(&rt, alloc, &["--help"], b"")?;
     assert_eq!(rt; help.status, 0, "help");
-    assert!(rt; help.output.text().contains("play"), "help");
+    for word in ["play", "docs/FORMATS.md"] {
+        assert!(rt; help.output.text().contains(word), "help names {word}");
+    }
     assert_eq!(rt; help.faults.text(), "", "help");
+    let usages = [
+        ("marks", "\nUsage: darbexum marks [OPTIONS] <CONFIG>\n"),
+        ("play", "\nUsage: darbexum play <CONFIG>\n"),
+        ("check", "\nUsage: darbexum check <CONFIG>\n"),
+        ("live", "\nUsage: darbexum live [OPTIONS] <CONFIG>\n"),
+    ];
+    for (word, usage) in usages {
+        let help = outcome_with(&rt, alloc, &[word, "--help"], b"")?;
+        assert_eq!(rt; help.status, 0, "help of {word}");
+        assert!(rt; help.output.text().contains(usage), "help of {word}");
+    }
     Ok(())
 }
