@@ -5,7 +5,6 @@ use Rattle.std.specs.FinMap.{get}
 use Rattle.path_merge.proofs.EpochLemmas.{anchor_is}
 use Rattle.path_merge.proofs.OfferLemmas.{offers_next}
 use Rattle.path_merge.proofs.RestartOfferLemmas.{offers_restart, opens_is}
-use Rattle.path_merge.proofs.SoundLemmas.{anchored_at}
 use Rattle.stream_rules.specs.Counts.{is_counted_fate, is_taken_fate}
 use Rattle.stream_rules.specs.CountsFacts.{with_fate}
 use Rattle.stream_rules.specs.Epochs.{anchor_in, anchors_of, can_restart, last_of}
@@ -14,7 +13,7 @@ use Rattle.stream_rules.specs.Grid.{extended_number, is_on_grid}
 use Rattle.path_merge.specs.Merge.{HasHistory}
 use Rattle.path_merge.specs.MergeState.{IsSound, MergeState}
 use Rattle.stream_rules.specs.PathProbation.{probation_at}
-use Rattle.path_merge.specs.Steps.{IsNextStep, IsRefusal, IsRestartStep, Offers, fault_or, opens_epoch, place_fault_of}
+use Rattle.path_merge.specs.Steps.{IsNextStep, IsRefusal, IsRestartStep, Offers, fault_or, opens_epoch}
 use Rattle.stream_rules.specs.StreamSpecFacts.{Stream}
 use Rattle.stream_rules.specs.Put.{put_answer}
 use Rattle.stream_rules.specs.declared.anchor.Anchor.{Anchor}

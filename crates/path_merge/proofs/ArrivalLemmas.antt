@@ -7,12 +7,12 @@ use Rattle.path_merge.specs.MergeState.{MergeState}
 use Rattle.stream_rules.specs.PathProbation.{probation_at, probation_of}
 use Rattle.std.specs.FinMap.{get}
 use Rattle.std.proofs.lemmas.Bool.Decides.{nat_tests}
-use Rattle.path_merge.proofs.HistoryLemmas.{IsNextEpoch, anchor_made, made_next, or_else, anchor_of-push, copies_of-push, copies_of_all-push, events_until_close-open, is_closed-append, is_well_timed_from-append, marks_in, marks_in-push, marks_of-in, time_of-append}
+use Rattle.path_merge.proofs.HistoryLemmas.{IsNextEpoch, anchor_made, made_next, or_else, anchor_of-push, copies_of_all-push, events_until_close-open, is_closed-append, is_well_timed_from-append, marks_in, marks_in-push, marks_of-in, time_of-append}
 use Rattle.path_merge.proofs.MarksLemmas.{AllLater, AllLaterThan, marks_in-more}
 use Rattle.stream_rules.specs.Anchor.{next_number}
 use Rattle.stream_rules.specs.Epochs.{anchor_of, anchors_of, last_of}
-use Rattle.stream_rules.specs.Copies.{copies_at, copies_of, copies_of_all, first_copy, copies_under_with, with_epoch}
-use Rattle.stream_rules.specs.Grid.{copies_under, extended_number, first_with, is_on_grid}
+use Rattle.stream_rules.specs.Copies.{copies_at, copies_of_all, first_copy, copies_under_with, with_epoch}
+use Rattle.stream_rules.specs.Grid.{extended_number, is_on_grid}
 use Rattle.stream_rules.specs.Counts.{counts_of}
 use Rattle.stream_rules.specs.History.{arrival_count, is_closed, is_counting, is_well_timed, time_of}
 use Rattle.stream_rules.specs.Marks.{marks_of}

@@ -1,6 +1,6 @@
 -- Whether anything is held.
-use Rattle.std.proofs.Common.{◌≡◌, ℕ, ◌+◌, ◌-◌, ◌<◌, ◌≤◌, Bool, true, false, ◌&&◌, Some, None, IsSome, ℤ, refl, ap, ◌∙◌, arith, if◌then◌else◌, ⊎_elim}
-use Rattle.std.specs.Prelude.{nat_eq, nat_le}
+use Rattle.std.proofs.Common.{◌≡◌, ℕ, ◌-◌, ◌<◌, ◌≤◌, Bool, true, false, ◌&&◌, Some, None, IsSome, ℤ, refl, ap, ◌∙◌, arith, if◌then◌else◌, ⊎_elim}
+use Rattle.std.specs.Prelude.{nat_le}
 use Rattle.std.specs.FinMap.{get}
 use Rattle.std.proofs.lemmas.Bool.{cases_lt}
 use Rattle.std.proofs.lemmas.Bool.Decides.{nat_tests}

@@ -1,12 +1,11 @@
 -- The first arrival that anchors a stream.
 use Rattle.stream_rules.specs.Epochs.{anchor_in, anchor_of, anchors_of, last_of, placed}
 use Rattle.stream_rules.specs.Grid.{first_with}
-use Rattle.std.proofs.Common.{◌≡◌, ℕ, ◌+◌, ◌-◌, ◌*◌, ◌^◌, ◌<◌, ◌≤◌, Bool, true, false, not, ◌&&◌, List, [], ◌∷◌, ◌++◌, length, Option, Some, None, IsSome, ℤ, pos, ◌+ℤ◌, ◌-ℤ◌, ◌<ℤ◌, refl, sym, ap, subst, ◌∙◌, arith, if◌then◌else◌, ◌*ℤ◌}
-use Rattle.std.specs.Prelude.{int_lt, int_le, nat_lt, nat_le}
-use Rattle.std.specs.Prelude.{nat_eq, unsigned_abs}
+use Rattle.std.proofs.Common.{◌≡◌, ℕ, ◌+◌, ◌-◌, ◌*◌, ◌^◌, ◌<◌, ◌≤◌, Bool, true, false, not, ◌&&◌, List, [], ◌∷◌, ◌++◌, length, Option, Some, None, IsSome, ℤ, pos, ◌+ℤ◌, ◌-ℤ◌, ◌<ℤ◌, refl, sym, ap, subst, ◌∙◌, arith, if◌then◌else◌}
+use Rattle.std.specs.Prelude.{int_lt, int_le, nat_lt}
+use Rattle.std.specs.Prelude.{nat_eq}
 use Rattle.std.proofs.lemmas.Bool.Decides.{nat_tests}
 use Rattle.std.proofs.lemmas.Int.{ints}
-use Rattle.std.specs.Int.{int_rem_euclid}
 use Rattle.std.specs.FinMap.{get, FinMap}
 use Rattle.std.specs.Ordering.{nat_cmp}
 use Rattle.std.proofs.lemmas.Nat.{mul-le}
@@ -16,9 +15,8 @@ use Rattle.path_merge.proofs.HistoryLemmas.{marks_of-in, or_else}
 use Rattle.path_merge.proofs.EpochLemmas.{anchor_is, copies_of-since, copies_since-made, heard_of-made, last-push, since_of}
 use Rattle.path_merge.proofs.FateLemmas.{first_counts}
 use Rattle.path_merge.proofs.MarksLemmas.{AllSlotsBelow, limit_of, slots_below}
-use Rattle.stream_rules.proofs.NearestLemmas.{nearest_number-only, rem_same, rem_small}
 use Rattle.path_merge.proofs.NextLemmas.{media_time_of-from}
-use Rattle.path_merge.proofs.RestartLemmas.{itself_eq, next_number-fresh, own_copy}
+use Rattle.path_merge.proofs.RestartLemmas.{next_number-fresh, own_copy}
 use Rattle.path_merge.proofs.RestartOfferLemmas.{all, counts_heard, few, hears, none_above, one_held}
 use Rattle.path_merge.proofs.SoundLemmas.{some_window}
 use Rattle.stream_rules.specs.Anchor.{anchor_from, first_media_time, can_anchor, is_source_wanted, media_time_of, next_number}
@@ -27,12 +25,11 @@ use Rattle.stream_rules.specs.PathProbation.{no_probation, probation_at, probati
 use Rattle.stream_rules.specs.declared.probation.Probation.{Probation}
 use Rattle.stream_rules.specs.Counts.{counts_of, is_counted_fate, is_restarted, is_taken_fate}
 use Rattle.stream_rules.specs.CountsFacts.{Tally, with_fate}
-use Rattle.stream_rules.specs.Fate.{counted_fate, fate_of, first_fate}
+use Rattle.stream_rules.specs.Fate.{fate_of, first_fate}
 use Rattle.stream_rules.specs.History.{arrival_count, is_closed, is_counting}
 use Rattle.stream_rules.specs.Marks.{marks_of}
 use Rattle.path_merge.specs.Merge.{HasHistory, IsBaseOf, heard_of, slot_count}
 use Rattle.path_merge.specs.MergeState.{IsAnchoredOrNot, IsSound, IsUnanchored, MergeState, held_count}
-use Rattle.stream_rules.specs.Nearest.{IsNearest}
 use Rattle.path_merge.specs.Steps.{IsFirstStep, IsRefusal, Offers}
 use Rattle.stream_rules.specs.StreamSpec.{Fits}
 use Rattle.stream_rules.specs.StreamSpecFacts.{Stream}

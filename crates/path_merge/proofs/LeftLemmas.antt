@@ -4,16 +4,15 @@ use Rattle.path_merge.proofs.HistoryLemmas.{copies_of-with}
 use Rattle.path_merge.proofs.RestartLemmas.{itself_eq}
 use Rattle.stream_rules.specs.Copies.{copies_of_all}
 use Rattle.std.specs.Prelude.{nat_lt}
-use Rattle.stream_rules.specs.Epochs.{anchor_of, anchors_at}
-use Rattle.stream_rules.specs.Grid.{copies_under, end_of_copies, first_with}
-use Rattle.std.proofs.Common.{◌≡◌, ℕ, zero, suc, ◌+◌, ◌-◌, ◌<◌, ◌≤◌, max, Bool, true, false, ◌||◌, List, [], ◌∷◌, ◌++◌, length, take, drop, Option, Some, None, IsSome, ℤ, pos, ◌-ℤ◌, refl, sym, ap, subst, ◌∙◌, arith, append-nil, length-append, ⊎_elim, if◌then◌else◌}
-use Rattle.std.specs.Prelude.{nat_eq}
+use Rattle.stream_rules.specs.Epochs.{anchor_of}
+use Rattle.stream_rules.specs.Grid.{end_of_copies}
+use Rattle.std.proofs.Common.{◌≡◌, ℕ, zero, suc, ◌+◌, ◌-◌, ◌<◌, ◌≤◌, Bool, true, false, ◌||◌, List, [], ◌∷◌, ◌++◌, length, take, drop, Option, Some, None, IsSome, ℤ, pos, ◌-ℤ◌, refl, sym, ap, subst, ◌∙◌, arith, append-nil, length-append, ⊎_elim, if◌then◌else◌}
 use Rattle.std.specs.FinMap.{get}
 use Rattle.std.proofs.lemmas.Bool.Decides.{nat_tests}
 use Rattle.std.proofs.lemmas.Bool.{cases_lt}
 use Rattle.std.proofs.Math.Seq.{take-append-add, drop-append-add}
 use Rattle.path_merge.proofs.CloseLemmas.{marks_of-close}
-use Rattle.path_merge.proofs.HistoryLemmas.{anchor_of-close, anchor_of-push, by_last_event, copies_of-close, copies_of-push, events_until_close-close, events_until_close-closed, is_closed-append, marks_in, marks_in-push, marks_of-in, time_of-append}
+use Rattle.path_merge.proofs.HistoryLemmas.{anchor_of-close, by_last_event, copies_of-close, events_until_close-close, events_until_close-closed, is_closed-append, marks_in, marks_in-push, marks_of-in, time_of-append}
 use Rattle.path_merge.proofs.MarksLemmas.{well_timed_before, well_timed_tick}
 use Rattle.path_merge.proofs.SlotCountLemmas.{no_end_yet, slots_counted}
 use Rattle.path_merge.proofs.StepLemmas.{base_more, has_end-append, last_quiet-append, or_none, slot_count-append, without}

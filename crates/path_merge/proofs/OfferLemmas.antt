@@ -1,44 +1,35 @@
 -- An offer that opens no epoch, under an anchor, takes the history on.
-use Rattle.std.proofs.Common.{◌≡◌, ℕ, zero, suc, ◌+◌, ◌^◌, ◌<◌, ◌≤◌, Bool, true, false, not, ◌&&◌, List, [], ◌∷◌, ◌++◌, length, take, min, Option, Some, None, ℤ, refl, sym, ap, subst, ◌∙◌, arith, append-nil, length-append, if◌then◌else◌, pos, ◌-ℤ◌, ◌<ℤ◌}
+use Rattle.std.proofs.Common.{◌≡◌, ℕ, ◌+◌, ◌^◌, ◌<◌, ◌≤◌, Bool, true, false, not, ◌&&◌, List, [], ◌∷◌, ◌++◌, length, Option, Some, None, ℤ, refl, sym, ap, subst, ◌∙◌, arith, append-nil, if◌then◌else◌}
 use Rattle.std.specs.Prelude.{nat_eq, nat_le, nat_lt}
 use Rattle.std.specs.FinMap.{get}
 use Rattle.std.proofs.lemmas.Bool.Decides.{nat_tests}
-use Rattle.std.proofs.lemmas.Int.{ints}
 use Rattle.path_merge.proofs.ArrivalLemmas.{marks_of-arrive, stands_after_arrival}
-use Rattle.path_merge.proofs.EpochLemmas.{WithinLength, all_tags, heard_by, anchor_is, copies_of-since, copies_since-made, heard_of-made, heard_of-push, last-push, place_within, since_of}
-use Rattle.path_merge.proofs.HistoryLemmas.{copies_of-push, arrival_count-append, by_last_event, fates_of-close, fates_of-push, fates_of-tick, is_closed-append, marks_of-in, or_else}
-use Rattle.path_merge.proofs.MarksLemmas.{AllSlotsBelow, IsSlotBelow, limit_of, slots_below}
-use Rattle.stream_rules.proofs.ProbationLemmas.{complete_is, probation_of-push}
-use Rattle.path_merge.proofs.RestartOfferLemmas.{all, counts_heard, few, heard_here, hears, next_is, shut, some_frames}
+use Rattle.path_merge.proofs.EpochLemmas.{WithinLength, all_tags, heard_by, anchor_is, heard_of-push, last-push, place_within}
+use Rattle.path_merge.proofs.HistoryLemmas.{copies_of-push, or_else}
+use Rattle.stream_rules.proofs.ProbationLemmas.{probation_of-push}
+use Rattle.path_merge.proofs.RestartOfferLemmas.{all, counts_heard, few, hears, next_is, shut, some_frames}
 use Rattle.path_merge.proofs.FateLemmas.{fate_parts, fault_parts, in_window, is_none, next_counts, taken_answer, time_parts}
-use Rattle.path_merge.proofs.RestartLemmas.{GoesOn, in_reach, itself_eq, own_copy}
-use Rattle.path_merge.proofs.SoundLemmas.{anchored_at, some_window}
-use Rattle.path_merge.proofs.StepLemmas.{take_all}
-use Rattle.path_merge.proofs.TallyLemmas.{tally-fate}
-use Rattle.stream_rules.specs.Anchor.{is_source_wanted, media_time_of, next_number, restart_from, restart_media_time}
-use Rattle.stream_rules.specs.Copies.{copies_at, copies_in, copies_of, copies_of_all, copies_with, first_copy, with_epoch}
-use Rattle.stream_rules.specs.Counts.{counts_of, fates_of, is_counted_fate, is_taken_fate, tally_of_fates}
-use Rattle.stream_rules.specs.CountsFacts.{Tally, with_fate}
-use Rattle.stream_rules.specs.Epochs.{anchor_in, anchor_of, anchors_at, anchors_of, can_restart, copies_since, goes_on, is_all_given, last_of}
-use Rattle.stream_rules.specs.Fate.{counted_fate, fate_of, fate_of_put, next_fate}
-use Rattle.stream_rules.specs.Grid.{copies_under, extended_number, first_with, is_in_time, is_on_grid}
-use Rattle.stream_rules.specs.History.{arrival_count, at_places, is_closed, is_counting, time_of}
-use Rattle.stream_rules.specs.MarkFacts.{MarkView}
-use Rattle.stream_rules.specs.Marks.{marks_of}
-use Rattle.path_merge.specs.Merge.{HasHistory, heard_of, is_slot_in, slot_count}
+use Rattle.path_merge.proofs.RestartLemmas.{itself_eq}
+use Rattle.stream_rules.specs.Anchor.{is_source_wanted, next_number}
+use Rattle.stream_rules.specs.Copies.{copies_of, first_copy}
+use Rattle.stream_rules.specs.Counts.{counts_of, is_counted_fate, is_taken_fate}
+use Rattle.stream_rules.specs.CountsFacts.{with_fate}
+use Rattle.stream_rules.specs.Epochs.{anchor_in, anchor_of, anchors_at, anchors_of, can_restart, last_of}
+use Rattle.stream_rules.specs.Fate.{fate_of, fate_of_put, next_fate}
+use Rattle.stream_rules.specs.Grid.{extended_number, first_with, is_in_time, is_on_grid}
+use Rattle.stream_rules.specs.History.{arrival_count, is_counting, time_of}
+use Rattle.path_merge.specs.Merge.{HasHistory, heard_of}
 use Rattle.path_merge.specs.MergeState.{IsSound, MergeState}
-use Rattle.stream_rules.specs.PathProbation.{is_complete, probation_after, probation_at, probation_heard, probation_of}
-use Rattle.stream_rules.specs.Probation.{completes_probation, heard_since, is_off}
+use Rattle.stream_rules.specs.PathProbation.{probation_after, probation_at, probation_heard, probation_of}
+use Rattle.stream_rules.specs.Probation.{heard_since, is_off}
 use Rattle.path_merge.specs.Steps.{IsNextStep, Offers, fault_or, place_fault_of}
 use Rattle.stream_rules.specs.Put.{put_answer}
 use Rattle.stream_rules.specs.StreamSpecFacts.{Stream}
 use Rattle.stream_rules.specs.declared.anchor.Anchor.{Anchor}
 use Rattle.stream_rules.specs.declared.event.Event.{Event}
-use Rattle.stream_rules.specs.declared.event.Event.TheVariants.{Arrive, Close, Tick}
+use Rattle.stream_rules.specs.declared.event.Event.TheVariants.{Arrive}
 use Rattle.stream_rules.specs.declared.fate.Fate.{Fate}
-use Rattle.stream_rules.specs.declared.fate.Fate.TheVariants.{Ahead, Closed, CountersFull, Late, OffGrid, Restarted, WrongSource}
-use Rattle.stream_rules.specs.declared.mark.MarkKind.{MarkKind}
-use Rattle.stream_rules.specs.declared.mark.MarkKind.TheVariants.{End, Quiet, Slot}
+use Rattle.stream_rules.specs.declared.fate.Fate.TheVariants.{CountersFull}
 use Rattle.path_merge.proofs.CopiesLemmas.{first_with-append}
 use Rattle.stream_rules.specs.declared.packet.Packet.{Packet}
 

@@ -6,7 +6,7 @@ use Rattle.std.specs.Ordering.{nat_cmp}
 use Rattle.std.specs.FinMap.{FinMap, get}
 use Rattle.std.proofs.lemmas.Bool.Decides.{nat_tests}
 use Rattle.std.specs.Prelude.{bytes_eq}
-use Rattle.path_merge.proofs.FateLemmas.{fault_parts, is_none, taken_put}
+use Rattle.path_merge.proofs.FateLemmas.{fault_parts, taken_put}
 use Rattle.path_merge.proofs.HeldLemmas.{FateCounts, held_count-from, held_count-put, with_fate-counts}
 use Rattle.path_merge.proofs.SoundLemmas.{anchored_at, anchored_back}
 use Rattle.stream_rules.specs.Anchor.{next_number}
@@ -24,8 +24,6 @@ use Rattle.stream_rules.specs.declared.anchor.Anchor.{Anchor}
 use Rattle.stream_rules.specs.declared.fate.Fate.{Fate}
 use Rattle.stream_rules.specs.declared.packet.Packet.{Packet}
 use Rattle.stream_rules.specs.declared.put.Put.{Put}
-use Rattle.stream_rules.specs.PathProbation.{probation_heard}
-use Rattle.stream_rules.specs.Probation.{is_off}
 use Rattle.stream_rules.specs.declared.put.Put.TheVariants.{Double as PutDouble, Taken as PutTaken, Unlike as PutUnlike}
 
 -- the steps that the code makes

@@ -1,6 +1,6 @@
 -- An arrival that opens an epoch.
-use Rattle.std.proofs.Common.{◌≡◌, ℕ, zero, suc, ◌+◌, ◌-◌, ◌*◌, ◌^◌, ◌<◌, ◌≤◌, Bool, true, false, not, ◌&&◌, List, [], ◌∷◌, ◌++◌, length, take, Option, Some, None, ℤ, pos, ◌+ℤ◌, ◌-ℤ◌, ◌*ℤ◌, ◌≤ℤ◌, ◌<ℤ◌, refl, sym, ap, subst, ◌∙◌, arith, append-nil, if◌then◌else◌, unsigned_abs, ⊎_elim}
-use Rattle.std.specs.Prelude.{IsSome, int_le, int_lt, is_some, nat_eq, nat_le, nat_lt}
+use Rattle.std.proofs.Common.{◌≡◌, ℕ, zero, suc, ◌+◌, ◌-◌, ◌*◌, ◌^◌, ◌<◌, ◌≤◌, Bool, true, false, ◌&&◌, List, [], ◌∷◌, Some, ℤ, pos, ◌+ℤ◌, ◌-ℤ◌, ◌*ℤ◌, ◌≤ℤ◌, ◌<ℤ◌, refl, sym, ap, subst, ◌∙◌, arith, if◌then◌else◌, unsigned_abs, ⊎_elim}
+use Rattle.std.specs.Prelude.{IsSome, int_le, int_lt, nat_eq, nat_le, nat_lt}
 use Rattle.std.specs.Int.{int_rem_euclid}
 use Rattle.std.specs.FinMap.{FinMap, get}
 use Rattle.std.specs.Ordering.{nat_cmp}
@@ -12,9 +12,8 @@ use Rattle.path_merge.proofs.HeldLemmas.{FateCounts, held_count-none, held_count
 use Rattle.stream_rules.proofs.NearestLemmas.{nearest_number-only, rem_same, rem_small}
 use Rattle.path_merge.proofs.NextLemmas.{before_next_number, media_time_of-from}
 use Rattle.path_merge.proofs.SoundLemmas.{anchored_at, some_window}
-use Rattle.stream_rules.specs.Anchor.{first_media_time, is_first_in_reach, is_restart_in_reach, media_time_of, next_number, restart_from, restart_media_time}
+use Rattle.stream_rules.specs.Anchor.{is_restart_in_reach, media_time_of, next_number, restart_from}
 use Rattle.stream_rules.specs.CountsFacts.{Tally, with_fate}
-use Rattle.stream_rules.specs.Epochs.{goes_on}
 use Rattle.stream_rules.specs.Grid.{copies_under, expected_timestamp, extended_number, is_on_grid}
 use Rattle.path_merge.specs.MergeState.{IsAnchored, IsSound, MergeState, held_count}
 use Rattle.stream_rules.specs.Nearest.{IsNearest}

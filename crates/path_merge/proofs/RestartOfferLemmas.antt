@@ -1,12 +1,11 @@
 -- An offer that opens an epoch takes the history on.
-use Rattle.std.proofs.Common.{◌≡◌, ℕ, zero, suc, ◌+◌, ◌^◌, ◌<◌, ◌≤◌, Bool, true, false, not, ◌&&◌, List, [], ◌∷◌, ◌++◌, length, take, min, Option, Some, None, ℤ, refl, sym, ap, subst, ◌∙◌, arith, append-nil, length-append, if◌then◌else◌, pos, ◌-ℤ◌, ◌<ℤ◌}
+use Rattle.std.proofs.Common.{◌≡◌, ℕ, ◌+◌, ◌^◌, ◌<◌, ◌≤◌, Bool, true, false, not, ◌&&◌, List, [], ◌∷◌, ◌++◌, length, take, min, Some, None, ℤ, refl, sym, ap, subst, ◌∙◌, arith, append-nil, length-append, if◌then◌else◌}
 use Rattle.std.specs.Prelude.{IsSome, is_some, nat_eq, nat_le, nat_lt, ◌-◌}
 use Rattle.std.specs.FinMap.{get}
 use Rattle.std.proofs.lemmas.Bool.Decides.{nat_tests}
-use Rattle.std.proofs.lemmas.Int.{ints}
 use Rattle.path_merge.proofs.ArrivalLemmas.{marks_of-arrive, stands_after_arrival}
 use Rattle.path_merge.proofs.EpochLemmas.{WithinLength, anchor_is, copies_of-since, copies_since-made, heard_of-made, heard_of-push, last-push, place_within, since_of}
-use Rattle.path_merge.proofs.HistoryLemmas.{arrival_count-append, by_last_event, fates_of-close, fates_of-push, fates_of-tick, is_closed-append, marks_of-in, or_else}
+use Rattle.path_merge.proofs.HistoryLemmas.{arrival_count-append, by_last_event, fates_of-push, fates_of-tick, is_closed-append, marks_of-in, or_else}
 use Rattle.path_merge.proofs.MarksLemmas.{AllSlotsBelow, IsSlotBelow, limit_of, slots_below}
 use Rattle.stream_rules.proofs.ProbationLemmas.{complete_is, probation_of-push}
 use Rattle.path_merge.proofs.RestartLemmas.{GoesOn, in_reach, itself_eq, own_copy}

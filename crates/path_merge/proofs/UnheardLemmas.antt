@@ -1,5 +1,5 @@
 -- An arrival at a closed or full merge joins the history, and changes nothing else.
-use Rattle.std.proofs.Common.{◌≡◌, ℕ, ◌^◌, ◌<◌, ◌≤◌, Bool, true, false, List, [], ◌∷◌, ◌++◌, length, None, ℤ, refl, sym, ap, ◌∙◌, arith, append-nil, if◌then◌else◌}
+use Rattle.std.proofs.Common.{◌≡◌, ℕ, ◌^◌, ◌≤◌, Bool, true, false, List, [], ◌∷◌, ◌++◌, length, None, ℤ, refl, sym, ap, ◌∙◌, arith, append-nil, if◌then◌else◌}
 use Rattle.std.specs.Prelude.{nat_lt}
 use Rattle.std.proofs.lemmas.Bool.Decides.{nat_tests}
 use Rattle.path_merge.proofs.EpochLemmas.{deaf_anchor, deaf_copies, deaf_copies_all, deaf_heard}

@@ -13,7 +13,7 @@ use Rattle.stream_rules.specs.Epochs.{anchor_of, anchors_of, last_of}
 use Rattle.stream_rules.specs.Probation.{heard_since}
 use Rattle.stream_rules.specs.PathProbation.{probation_at, probation_of}
 use Rattle.stream_rules.specs.Copies.{first_copy}
-use Rattle.stream_rules.specs.Marks.{marks_of, is_slot}
+use Rattle.stream_rules.specs.Marks.{marks_of}
 use Rattle.stream_rules.specs.Counts.{counts_of}
 use Rattle.path_merge.specs.MergeState.{MergeState}
 

@@ -1,5 +1,5 @@
 -- The mark that a merge gives next.
-use Rattle.std.specs.Prelude.{ℕ, ◌+◌, Bool, nat_eq, ℤ, pos, ◌-ℤ◌, int_le, Option, Some, None, if◌then◌else◌}
+use Rattle.std.specs.Prelude.{◌+◌, nat_eq, ℤ, pos, ◌-ℤ◌, int_le, Option, Some, None, if◌then◌else◌}
 use Rattle.std.specs.FinMap.{get}
 use Rattle.stream_rules.specs.MarkFacts.{MarkView}
 use Rattle.stream_rules.specs.declared.anchor.Anchor.{Anchor}

@@ -1,5 +1,5 @@
 -- What each call of a merge does to it.
-use Rattle.std.specs.Prelude.{◌≡◌, ℕ, ◌+◌, ◌-◌, ◌^◌, Bool, true, false, not, ◌&&◌, nat_eq, nat_lt, List, [], ◌∷◌, ◌++◌, length, ℤ, pos, ◌+ℤ◌, ◌-ℤ◌, ◌*◌, ◌≤ℤ◌, ◌<ℤ◌, int_lt, int_le, Option, Some, None, IsSome, is_some, take, drop, ◌≤◌, if◌then◌else◌, option_to_list}
+use Rattle.std.specs.Prelude.{◌≡◌, ℕ, ◌+◌, ◌-◌, Bool, true, false, not, ◌&&◌, nat_eq, nat_lt, List, [], ◌∷◌, ◌++◌, length, ℤ, pos, ◌+ℤ◌, ◌-ℤ◌, ◌*◌, ◌≤ℤ◌, ◌<ℤ◌, int_lt, int_le, Option, Some, None, IsSome, is_some, take, drop, ◌≤◌, if◌then◌else◌, option_to_list}
 use Rattle.std.specs.FinMap.{get}
 use Rattle.std.specs.Option.{option_map}
 use Rattle.stream_rules.specs.StreamSpecFacts.{Stream}
@@ -17,7 +17,7 @@ use Rattle.stream_rules.specs.Grid.{extended_number, is_on_grid}
 use Rattle.stream_rules.specs.Epochs.{anchor_of, anchors_of, last_of}
 use Rattle.stream_rules.specs.Probation.{is_off}
 use Rattle.stream_rules.specs.PathProbation.{is_complete, no_probation, probation_at, probation_heard}
-use Rattle.stream_rules.specs.Copies.{copies_of, copies_of_all}
+use Rattle.stream_rules.specs.Copies.{copies_of}
 use Rattle.stream_rules.specs.Marks.{marks_of, body_of, quiet_mark, is_slot}
 use Rattle.stream_rules.specs.Put.{put_answer}
 use Rattle.stream_rules.specs.Fate.{fate_of, fate_of_put, first_fate}
