@@ -6,7 +6,8 @@ use Rattle.std.proofs.lemmas.List.Elements.{All-drop}
 use Rattle.rtp_wire.specs.Sample.{Is24Bits}
 use Rattle.std.proofs.Math.Nat.{mul-sub, mul_comm}
 use Rattle.std.proofs.lemmas.List.{get_or-drop}
-use Rattle.stream_rules.specs.StreamSpecFacts.{Stream, format_of}
+use Rattle.stream_rules.specs.declared.stream_spec.Stream.{Stream}
+use Rattle.stream_rules.specs.StreamSpecFacts.{format_of}
 use Rattle.stream_rules.specs.MarkFacts.{MarkView}
 use Rattle.stream_rules.specs.MarkList.{can_follow, is_same_format, is_mark_list}
 use Rattle.stream_rules.specs.declared.mark.Format.{Format}

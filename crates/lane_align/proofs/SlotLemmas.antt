@@ -12,7 +12,8 @@ use Rattle.std.specs.List.{All}
 use Rattle.std.proofs.lemmas.List.Elements.{All-append, All-drop, All-replicate}
 use Rattle.rtp_wire.specs.Sample.{Is24Bits}
 use Rattle.std.specs.Option.{option_or}
-use Rattle.stream_rules.specs.StreamSpecFacts.{Stream, format_of}
+use Rattle.stream_rules.specs.declared.stream_spec.Stream.{Stream}
+use Rattle.stream_rules.specs.StreamSpecFacts.{format_of}
 use Rattle.stream_rules.specs.MarkFacts.{MarkView, HasLength, payload_length}
 use Rattle.stream_rules.specs.MarkList.{can_follow, is_same_format, is_mark_list}
 use Rattle.stream_rules.specs.declared.mark.Format.{Format}

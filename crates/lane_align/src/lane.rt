@@ -1,6 +1,7 @@
 //! One stream's marks as frames at media times.
 ghost use Rattle.std.specs.Prelude.{◌≡◌, ◌+◌, ◌*◌, ◌^◌, ◌<◌, ◌≤◌, [], ◌∷◌, ◌++◌, List, ℤ, ℕ, pos, ◌+ℤ◌, ◌≤ℤ◌, ◌<ℤ◌, true, false, not, Some, length, take, option_copied, IfOk};
-ghost use Rattle.stream_rules.specs.StreamSpecFacts.{Stream, format_of};
+ghost use Rattle.stream_rules.specs.declared.stream_spec.Stream.{Stream};
+ghost use Rattle.stream_rules.specs.StreamSpecFacts.{format_of};
 ghost use Rattle.rtp_wire.specs.PacketTime.{is_packet_time};
 ghost use Rattle.stream_rules.specs.MarkFacts.{MarkView, HasLength, payload_length};
 ghost use Rattle.stream_rules.specs.MarkList as list;
@@ -48,7 +49,7 @@ impl Model for Lane {
 
     ghost view = { λ l. record { format = l.format; start = l.start; block = l.block; position = l.position; slot = l.slot; quiet = l.quiet; ended = l.ended; values = l.values.values } };
 
-    ghost invariant = { λ l. IsLane (record { format = l.format; start = l.start; block = l.block; position = l.position; slot = l.slot; quiet = l.quiet; ended = l.ended; values = l.values.values }) l.values };
+    ghost invariant = { λ l. IsLane (view l) l.values };
 }
 
 /// Whether the samples of two streams lie alike.

@@ -11,7 +11,8 @@ use Rattle.rtp_wire.specs.Head.{Head, FitsHeader, head_octets}
 use Rattle.rtp_wire.specs.Sample.{block_octets, octets_per_sample}
 use Rattle.rtp_wire.specs.Datagram.{IsDatagram}
 use Rattle.rtp_wire.proofs.DatagramLemmas.{Places-of, IsDatagram-head_octets}
-use Rattle.mix_packets.specs.OutSpec.{Output, IsOutput, sample_total, datagram_length}
+use Rattle.mix_packets.specs.declared.out_spec.Output.{Output}
+use Rattle.mix_packets.specs.OutSpec.{IsOutput, sample_total, datagram_length}
 use Rattle.mix_packets.specs.Block.{block_datagram, block_head}
 use Rattle.mix_packets.specs.Laws.{CountsUp}
 

@@ -3,7 +3,7 @@ use Rattle.std.specs.Prelude.{ℕ, ◌+◌, ◌*◌, ◌%◌, ◌^◌, false, Li
 use Rattle.std.specs.Int.{int_rem_euclid}
 use Rattle.rtp_wire.specs.Head.{Head, head_octets}
 use Rattle.rtp_wire.specs.Sample.{block_octets}
-use Rattle.mix_packets.specs.OutSpec.{Output}
+use Rattle.mix_packets.specs.declared.out_spec.Output.{Output}
 
 -- the media time of a block's first sampling instant
 abbrev pub block_start : Output → ℕ → ℤ

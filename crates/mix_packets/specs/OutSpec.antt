@@ -4,19 +4,9 @@ use Rattle.rtp_wire.specs.declared.encoding.Enc.{Enc}
 use Rattle.rtp_wire.specs.declared.encoding.Enc.TheVariants.{L16, L24}
 use Rattle.rtp_wire.specs.PacketTime.{is_packet_time}
 use Rattle.rtp_wire.specs.Sample.{octets_per_sample}
+use Rattle.mix_packets.specs.declared.out_spec.Output.{Output}
 use Rattle.mix_packets.specs.declared.out_spec.OutFault.{OutFault}
 use Rattle.mix_packets.specs.declared.out_spec.OutFault.TheVariants.{Channels, Frames, PayloadType, TooLong, Start}
-
--- what contracts see of a specification
-pub record Output : Type 0 where
-  pub enc : Enc
-  pub channels : ℕ
-  pub frames : ℕ
-  pub pt : ℕ
-  pub ssrc : ℕ
-  pub seq0 : ℕ
-  pub start : ℤ
-  pub offset : ℕ
 
 -- the samples of a block
 abbrev pub sample_total : Output → ℕ

@@ -1,6 +1,7 @@
 -- What contracts see of a packer, and what is true of every one.
 use Rattle.std.specs.Prelude.{◌≡◌, ℕ}
-use Rattle.mix_packets.specs.OutSpec.{Output, IsOutput}
+use Rattle.mix_packets.specs.declared.out_spec.Output.{Output}
+use Rattle.mix_packets.specs.OutSpec.{IsOutput}
 use Rattle.mix_packets.specs.Block.{sequence_number_of, timestamp_of}
 
 -- an output, and the number of the block that is next

@@ -3,7 +3,8 @@ ghost use Rattle.std.specs.Prelude.{◌≡◌, ◌+◌, ◌%◌, ◌^◌, List, 
 ghost use Rattle.rtp_wire.specs.Datagram.{IsDatagram};
 ghost use Rattle.rtp_wire.specs.Head.{Head};
 ghost use Rattle.rtp_wire.specs.Sample.{block_octets};
-ghost use Rattle.mix_packets.specs.OutSpec.{Output, IsOutput};
+ghost use Rattle.mix_packets.specs.declared.out_spec.Output.{Output};
+ghost use Rattle.mix_packets.specs.OutSpec.{IsOutput};
 ghost use Rattle.mix_packets.specs.Block.{block_datagram, block_head};
 ghost use Rattle.mix_packets.specs.Laws.{CountsUp};
 

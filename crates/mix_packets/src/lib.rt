@@ -1,6 +1,6 @@
 //! Blocks of samples as RTP packets of an output, one datagram from one block.
 //!
-//! `OutSpec::new` fixes the output, or says its first fault. A `Packer` of it numbers the blocks from 0:
+//! `OutSpec::of` fixes the output, or says its first fault. A `Packer` of it numbers the blocks from 0:
 //! `next` writes the datagram of the next one to the front of the caller's slice, header and samples,
 //! and answers its length, which is the output's `datagram_len` each time. Nothing here takes memory.
 #![tactic(auto)]
@@ -12,5 +12,5 @@ mod packer;
 mod tests;
 
 pub use laws::datagrams_count_up;
-pub use out_spec::{OutFault, OutSpec};
+pub use out_spec::{OutFault, OutSpec, Output};
 pub use packer::Packer;

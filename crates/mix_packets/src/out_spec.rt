@@ -1,6 +1,6 @@
 //! What is fixed of an output before its first packet.
 ghost use Rattle.std.specs.Prelude.{◌≡◌, ◌≤◌, None, Some, IfOk, IfErr};
-ghost use Rattle.mix_packets.specs.OutSpec.{Output, IsOutput, datagram_length, out_fault_of, shift_of};
+ghost use Rattle.mix_packets.specs.OutSpec.{IsOutput, datagram_length, out_fault_of, payload_length, shift_of};
 
 use rtp_wire::{Enc, is_packet_time};
 use std::marker::Model;
@@ -29,37 +29,81 @@ pub enum OutFault {
 /// No output starts past this one: 2^60 sampling instants.
 const LATEST_START: i64 = 1_152_921_504_606_846_976;
 
-/// An output: the encoding and length of its packets, their source, and the numbers of the first one.
+/// What is said of an output: its encoding and packets, their source, and the numbers of the first one.
+#[derive(Clone, Copy, Debug)]
+pub struct Output {
+    /// How each sample is written.
+    pub enc: Enc,
+    /// Channels.
+    pub channels: u8,
+    /// Sampling instants per packet.
+    pub frames: u16,
+    /// The RTP payload type (RFC 3551).
+    pub pt: u8,
+    /// The synchronization source (RFC 3550, 5.1).
+    pub ssrc: u32,
+    /// The sequence number of the first packet.
+    pub seq0: u16,
+    /// The media time of the first packet, in sampling instants.
+    pub start: i64,
+    /// How far timestamps are ahead of media times, modulo 2^32 (AES67).
+    pub offset: u32,
+}
+
+impl Output {
+    /// The octets of each packet's samples.
+    fn payload_len(&self) -> usize
+        ensures { result ≡ payload_length self.now }
+    {
+        usize::from(self.frames) * usize::from(self.channels) * self.enc.octets()
+    }
+}
+
+/// An output in which there is no fault.
 #[derive(Clone, Copy, Debug)]
 pub struct OutSpec {
-    enc: Enc,
-    channels: u8,
-    frames: u16,
-    pt: u8,
-    ssrc: u32,
-    seq0: u16,
-    start: i64,
-    offset: u32,
+    output: Output,
 }
 
 impl Model for OutSpec {
-    ghost use Rattle.mix_packets.specs.OutSpec.{Output, IsOutput};
+    ghost use Rattle.mix_packets.specs.declared.out_spec.Output.{Output};
+    ghost use Rattle.mix_packets.specs.OutSpec.{IsOutput};
 
     ghost Value = { Output };
 
-    ghost view = { λ s. record { enc = s.enc; channels = s.channels; frames = s.frames; pt = s.pt; ssrc = s.ssrc; seq0 = s.seq0; start = s.start; offset = s.offset } };
+    ghost view = { λ s. s.output };
 
-    ghost invariant = { λ s. IsOutput (record { enc = s.enc; channels = s.channels; frames = s.frames; pt = s.pt; ssrc = s.ssrc; seq0 = s.seq0; start = s.start; offset = s.offset }) };
+    ghost invariant = { λ s. IsOutput s.output };
 
-    ghost inverse = { λ s. record { enc = s.enc; channels = s.channels; frames = s.frames; pt = s.pt; ssrc = s.ssrc; seq0 = s.seq0; start = s.start; offset = s.offset } };
+    ghost inverse = { λ s. record { output = s } };
 }
 
 impl OutSpec {
-    /// An output of `channels` in packets of `frames` sampling instants, with RTP payload type `pt`
-    /// and source `ssrc`.
-    ///
-    /// The first packet has sequence number `seq0` and begins at the media time `start`, in sampling
-    /// instants. Timestamps are `offset` ahead of media times, modulo 2^32 (AES67).
+    /// The specification of an output, or the first fault in it.
+    pub fn of(output: Output) -> Result<OutSpec, OutFault>
+        ensures ok { IfOk result (λ s. s ≡ output) }
+        ensures fine { IfOk result (λ s. out_fault_of s ≡ None) }
+        ensures fault { IfErr result (λ e. out_fault_of output ≡ Some e) }
+    {
+        if output.channels < 1 || output.channels > 8 {
+            return Err(OutFault::Channels);
+        }
+        if !is_packet_time(output.frames) {
+            return Err(OutFault::Frames);
+        }
+        if output.pt < 96 || output.pt > 127 {
+            return Err(OutFault::PayloadType);
+        }
+        if output.payload_len() > 1440 {
+            return Err(OutFault::TooLong);
+        }
+        if output.start < 0 || output.start > LATEST_START {
+            return Err(OutFault::Start);
+        }
+        Ok(OutSpec { output })
+    }
+
+    /// As `of`, with the output's parts in their order.
     pub fn new(
         enc: Enc,
         channels: u8,
@@ -74,22 +118,7 @@ impl OutSpec {
         ensures fine { IfOk result (λ s. out_fault_of s ≡ None) }
         ensures fault { IfErr result (λ e. out_fault_of (record { enc = enc; channels = channels; frames = frames; pt = pt; ssrc = ssrc; seq0 = seq0; start = start; offset = offset }) ≡ Some e) }
     {
-        if channels < 1 || channels > 8 {
-            return Err(OutFault::Channels);
-        }
-        if !is_packet_time(frames) {
-            return Err(OutFault::Frames);
-        }
-        if pt < 96 || pt > 127 {
-            return Err(OutFault::PayloadType);
-        }
-        if usize::from(frames) * usize::from(channels) * enc.octets() > 1440 {
-            return Err(OutFault::TooLong);
-        }
-        if start < 0 || start > LATEST_START {
-            return Err(OutFault::Start);
-        }
-        Ok(OutSpec {
+        OutSpec::of(Output {
             enc,
             channels,
             frames,
@@ -105,7 +134,7 @@ impl OutSpec {
     pub fn enc(&self) -> Enc
         ensures { result ≡ self.now.enc }
     {
-        self.enc
+        self.output.enc
     }
 
     /// Channels, 1 to 8.
@@ -113,7 +142,7 @@ impl OutSpec {
         ensures value { result ≡ self.now.channels }
         ensures sound { IsOutput self.now }
     {
-        self.channels
+        self.output.channels
     }
 
     /// Sampling instants per packet.
@@ -121,7 +150,7 @@ impl OutSpec {
         ensures value { result ≡ self.now.frames }
         ensures sound { IsOutput self.now }
     {
-        self.frames
+        self.output.frames
     }
 
     /// The RTP payload type, 96 to 127 (RFC 3551).
@@ -129,21 +158,21 @@ impl OutSpec {
         ensures value { result ≡ self.now.pt }
         ensures sound { IsOutput self.now }
     {
-        self.pt
+        self.output.pt
     }
 
     /// The synchronization source (RFC 3550, 5.1).
     pub fn ssrc(&self) -> u32
         ensures { result ≡ self.now.ssrc }
     {
-        self.ssrc
+        self.output.ssrc
     }
 
     /// The sequence number of the first packet.
     pub fn seq0(&self) -> u16
         ensures { result ≡ self.now.seq0 }
     {
-        self.seq0
+        self.output.seq0
     }
 
     /// The media time of the first packet, in sampling instants.
@@ -151,14 +180,14 @@ impl OutSpec {
         ensures value { result ≡ self.now.start }
         ensures sound { IsOutput self.now }
     {
-        self.start
+        self.output.start
     }
 
     /// How far timestamps are ahead of media times, modulo 2^32.
     pub fn offset(&self) -> u32
         ensures { result ≡ self.now.offset }
     {
-        self.offset
+        self.output.offset
     }
 
     /// The octets of each datagram: the header's 12 and the samples'.
@@ -166,14 +195,14 @@ impl OutSpec {
         ensures value { result ≡ datagram_length self.now }
         ensures short { result ≤ 1452 }
     {
-        12 + usize::from(self.frames) * usize::from(self.channels) * self.enc.octets()
+        12 + self.output.payload_len()
     }
 
     /// By how many bits a sum of gains and samples is shifted to a sample of the encoding.
     pub fn shift(&self) -> u32
         ensures { result ≡ shift_of self.now.enc }
     {
-        match self.enc {
+        match self.output.enc {
             Enc::L16 => 24,
             Enc::L24 => 16,
         }

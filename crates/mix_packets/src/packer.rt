@@ -28,7 +28,7 @@ impl Model for Packer {
 
     ghost view = { λ p. record { spec = p.spec; number = p.number } };
 
-    ghost invariant = { λ p. IsInStep (record { spec = p.spec; number = p.number }) p.seq p.ts };
+    ghost invariant = { λ p. IsInStep (view p) p.seq p.ts };
 }
 
 /// The timestamp of the first datagram.

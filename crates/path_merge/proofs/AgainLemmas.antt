@@ -17,7 +17,7 @@ use Rattle.stream_rules.specs.Laws.{IsOpen}
 use Rattle.stream_rules.specs.MarkFacts.{MarkView}
 use Rattle.stream_rules.specs.Marks.{body_of, has_slot, is_past_quiet, is_past_quiets, is_quiet_new, marks_of, quiet_mark, slot_mark, slots_between, slots_from, slots_or_quiet}
 use Rattle.path_merge.specs.Steps.{IsAlike}
-use Rattle.stream_rules.specs.StreamSpecFacts.{Stream}
+use Rattle.stream_rules.specs.declared.stream_spec.Stream.{Stream}
 use Rattle.stream_rules.specs.declared.anchor.Anchor.{Anchor}
 use Rattle.stream_rules.specs.declared.event.Event.{Event}
 use Rattle.stream_rules.specs.declared.event.Event.TheVariants.{Arrive, Tick}

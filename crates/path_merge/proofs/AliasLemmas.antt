@@ -7,7 +7,7 @@ use Rattle.std.proofs.lemmas.Int.{ints}
 use Rattle.stream_rules.proofs.NearestLemmas.{rem_apart, rem_bounds}
 use Rattle.stream_rules.specs.Grid.{is_on_grid}
 use Rattle.stream_rules.specs.Sent.{timestamp_in_step}
-use Rattle.stream_rules.specs.StreamSpecFacts.{Stream}
+use Rattle.stream_rules.specs.declared.stream_spec.Stream.{Stream}
 use Rattle.stream_rules.specs.declared.anchor.Anchor.{Anchor}
 use Rattle.rtp_wire.specs.PacketTime.{is_packet_time}
 

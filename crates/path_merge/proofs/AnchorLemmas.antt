@@ -18,7 +18,7 @@ use Rattle.stream_rules.specs.History.{is_counting, time_of}
 use Rattle.stream_rules.specs.Laws.{numbers_from}
 use Rattle.stream_rules.specs.PathProbation.{is_complete, probation_after, probation_of}
 use Rattle.stream_rules.specs.Probation.{completes_probation, heard_since, is_off}
-use Rattle.stream_rules.specs.StreamSpecFacts.{Stream}
+use Rattle.stream_rules.specs.declared.stream_spec.Stream.{Stream}
 use Rattle.stream_rules.specs.declared.anchor.Anchor.{Anchor}
 use Rattle.stream_rules.specs.declared.event.Event.{Event}
 use Rattle.stream_rules.specs.declared.event.Event.TheVariants.{Arrive, Close, Tick}

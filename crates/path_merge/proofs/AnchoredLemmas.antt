@@ -14,7 +14,7 @@ use Rattle.path_merge.specs.Merge.{HasHistory}
 use Rattle.path_merge.specs.MergeState.{IsSound, MergeState}
 use Rattle.stream_rules.specs.PathProbation.{probation_at}
 use Rattle.path_merge.specs.Steps.{IsNextStep, IsRefusal, IsRestartStep, Offers, fault_or, opens_epoch}
-use Rattle.stream_rules.specs.StreamSpecFacts.{Stream}
+use Rattle.stream_rules.specs.declared.stream_spec.Stream.{Stream}
 use Rattle.stream_rules.specs.Put.{put_answer}
 use Rattle.stream_rules.specs.declared.anchor.Anchor.{Anchor}
 use Rattle.stream_rules.specs.declared.event.Event.{Event}

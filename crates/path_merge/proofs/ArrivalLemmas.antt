@@ -16,7 +16,7 @@ use Rattle.stream_rules.specs.Grid.{extended_number, is_on_grid}
 use Rattle.stream_rules.specs.Counts.{counts_of}
 use Rattle.stream_rules.specs.History.{arrival_count, is_closed, is_counting, is_well_timed, time_of}
 use Rattle.stream_rules.specs.Marks.{marks_of}
-use Rattle.stream_rules.specs.StreamSpecFacts.{Stream}
+use Rattle.stream_rules.specs.declared.stream_spec.Stream.{Stream}
 use Rattle.stream_rules.specs.declared.anchor.Anchor.{Anchor}
 use Rattle.stream_rules.specs.declared.event.Event.{Event}
 use Rattle.stream_rules.specs.declared.event.Event.TheVariants.{Arrive}

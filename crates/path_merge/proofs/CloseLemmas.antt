@@ -22,7 +22,8 @@ use Rattle.stream_rules.specs.History.{at_places, events_until_close, is_closed}
 use Rattle.stream_rules.specs.Marks.{marks_at, marks_of}
 use Rattle.path_merge.specs.Merge.{HasHistory}
 use Rattle.path_merge.specs.MergeState.{IsSound, MergeState}
-use Rattle.stream_rules.specs.StreamSpecFacts.{IsStream, Stream}
+use Rattle.stream_rules.specs.declared.stream_spec.Stream.{Stream}
+use Rattle.stream_rules.specs.StreamSpecFacts.{IsStream}
 use Rattle.reorder_window.specs.Window.{IsEmpty}
 use Rattle.stream_rules.specs.declared.event.Event.{Event}
 use Rattle.stream_rules.specs.declared.event.Event.TheVariants.{Close}

@@ -9,7 +9,7 @@ use Rattle.stream_rules.specs.Epochs.{anchor_of, last_of}
 use Rattle.stream_rules.specs.History.{is_closed, time_of}
 use Rattle.stream_rules.specs.MarkFacts.{MarkView}
 use Rattle.stream_rules.specs.Marks.{end_mark, marks_of, slots_at_close}
-use Rattle.stream_rules.specs.StreamSpecFacts.{Stream}
+use Rattle.stream_rules.specs.declared.stream_spec.Stream.{Stream}
 use Rattle.stream_rules.specs.declared.event.Event.{Event}
 use Rattle.stream_rules.specs.declared.event.Event.TheVariants.{Arrive, Close, Tick}
 

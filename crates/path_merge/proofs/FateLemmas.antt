@@ -13,7 +13,7 @@ use Rattle.stream_rules.specs.Anchor.{first_media_time, is_source_wanted, media_
 use Rattle.stream_rules.specs.Counts.{is_counted_fate, is_taken_fate}
 use Rattle.stream_rules.specs.Fate.{fate_of_put, first_fate, next_fate}
 use Rattle.path_merge.specs.Steps.{fault_or, place_fault_of, reach_fault_of}
-use Rattle.stream_rules.specs.StreamSpecFacts.{Stream}
+use Rattle.stream_rules.specs.declared.stream_spec.Stream.{Stream}
 use Rattle.stream_rules.specs.Put.{is_taken, put_answer}
 use Rattle.stream_rules.specs.declared.anchor.Anchor.{Anchor}
 use Rattle.stream_rules.specs.declared.fate.Fate.{Fate}

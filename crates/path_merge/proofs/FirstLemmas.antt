@@ -32,7 +32,7 @@ use Rattle.path_merge.specs.Merge.{HasHistory, IsBaseOf, heard_of, slot_count}
 use Rattle.path_merge.specs.MergeState.{IsAnchoredOrNot, IsSound, IsUnanchored, MergeState, held_count}
 use Rattle.path_merge.specs.Steps.{IsFirstStep, IsRefusal, Offers}
 use Rattle.stream_rules.specs.StreamSpec.{Fits}
-use Rattle.stream_rules.specs.StreamSpecFacts.{Stream}
+use Rattle.stream_rules.specs.declared.stream_spec.Stream.{Stream}
 use Rattle.stream_rules.specs.Put.{is_taken, put_answer}
 use Rattle.reorder_window.specs.Window.{IsEmpty}
 use Rattle.stream_rules.specs.declared.anchor.Anchor.{Anchor}

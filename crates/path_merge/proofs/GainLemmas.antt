@@ -15,7 +15,7 @@ use Rattle.stream_rules.specs.History.{is_closed, time_of}
 use Rattle.stream_rules.specs.Laws.{names_in, slot_names, slots_left, slots_reached}
 use Rattle.stream_rules.specs.MarkFacts.{MarkView}
 use Rattle.stream_rules.specs.Marks.{end_mark, marks_of, slots_at_close, slots_between}
-use Rattle.stream_rules.specs.StreamSpecFacts.{Stream}
+use Rattle.stream_rules.specs.declared.stream_spec.Stream.{Stream}
 use Rattle.stream_rules.specs.declared.anchor.Anchor.{Anchor}
 use Rattle.stream_rules.specs.declared.event.Event.{Event}
 use Rattle.stream_rules.specs.declared.event.Event.TheVariants.{Close, Tick}

@@ -17,7 +17,7 @@ use Rattle.stream_rules.specs.Marks.{body_of, has_slot, is_slot, marks_of, slot_
 use Rattle.path_merge.specs.Merge.{HasHistory}
 use Rattle.path_merge.specs.MergeState.{MergeState}
 use Rattle.path_merge.specs.Steps.{IsAlike}
-use Rattle.stream_rules.specs.StreamSpecFacts.{Stream}
+use Rattle.stream_rules.specs.declared.stream_spec.Stream.{Stream}
 use Rattle.stream_rules.specs.declared.anchor.Anchor.{Anchor}
 use Rattle.stream_rules.specs.declared.event.Event.{Event}
 use Rattle.stream_rules.specs.declared.event.Event.TheVariants.{Tick}

@@ -19,7 +19,7 @@ use Rattle.stream_rules.specs.Laws.{IsDeadlineOnTheWay, IsLeastDue, IsOpen}
 use Rattle.stream_rules.specs.MarkFacts.{MarkView}
 use Rattle.stream_rules.specs.Marks.{body_of, has_slot, marks_of, slot_mark, slots_from}
 use Rattle.path_merge.specs.Steps.{IsAlike}
-use Rattle.stream_rules.specs.StreamSpecFacts.{Stream}
+use Rattle.stream_rules.specs.declared.stream_spec.Stream.{Stream}
 use Rattle.stream_rules.specs.declared.anchor.Anchor.{Anchor}
 use Rattle.stream_rules.specs.declared.event.Event.{Event}
 use Rattle.stream_rules.specs.declared.event.Event.TheVariants.{Arrive, Close, Tick}

@@ -27,7 +27,7 @@ use Rattle.stream_rules.specs.Marks.{body_of, end_mark, marks_of, slot_mark, slo
 use Rattle.path_merge.specs.Merge.{HasHistory, has_end, slot_count}
 use Rattle.path_merge.specs.MergeState.{IsSound, MergeState}
 use Rattle.path_merge.specs.Steps.{Drains, HoldsMore, IsLeftStep}
-use Rattle.stream_rules.specs.StreamSpecFacts.{Stream}
+use Rattle.stream_rules.specs.declared.stream_spec.Stream.{Stream}
 use Rattle.stream_rules.specs.declared.anchor.Anchor.{Anchor}
 use Rattle.stream_rules.specs.declared.event.Event.{Event}
 use Rattle.stream_rules.specs.declared.event.Event.TheVariants.{Arrive, Close, Tick}

@@ -16,7 +16,8 @@ use Rattle.stream_rules.specs.MarkFacts.{MarkView}
 use Rattle.stream_rules.specs.MarkList.{can_follow, is_mark_list, is_mark_list_after, is_same_format, is_same_time}
 use Rattle.stream_rules.specs.Marks.{body_of, end_mark, marks_of, slots_at_close}
 use Rattle.path_merge.specs.Merge.{is_end}
-use Rattle.stream_rules.specs.StreamSpecFacts.{Stream, format_of}
+use Rattle.stream_rules.specs.declared.stream_spec.Stream.{Stream}
+use Rattle.stream_rules.specs.StreamSpecFacts.{format_of}
 use Rattle.stream_rules.specs.declared.anchor.Anchor.{Anchor}
 use Rattle.stream_rules.specs.declared.event.Event.{Event}
 use Rattle.stream_rules.specs.declared.mark.Format.{Format}

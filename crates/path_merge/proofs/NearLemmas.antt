@@ -13,7 +13,7 @@ use Rattle.stream_rules.specs.Marks.{marks_of}
 use Rattle.stream_rules.specs.PathProbation.{is_complete}
 use Rattle.stream_rules.specs.Probation.{completes_probation, heard_since, is_off}
 use Rattle.stream_rules.specs.Sent.{Arrives, BeginsWith, Closes, IsNear, IsOneEpoch, IsWithinReach, SentEvent, SentPacket, Ticks, marks_by_number, wire_history, wire_packet}
-use Rattle.stream_rules.specs.StreamSpecFacts.{Stream}
+use Rattle.stream_rules.specs.declared.stream_spec.Stream.{Stream}
 use Rattle.stream_rules.specs.declared.anchor.Anchor.{Anchor}
 use Rattle.stream_rules.specs.declared.event.Event.{Event}
 use Rattle.stream_rules.specs.declared.event.Event.TheVariants.{Arrive, Close, Tick}

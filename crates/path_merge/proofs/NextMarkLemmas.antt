@@ -20,7 +20,7 @@ use Rattle.path_merge.specs.Merge.{HasHistory}
 use Rattle.path_merge.specs.Next.{anchor_due, anchor_if_due, anchor_if_held, anchor_left, next_left, next_mark, quiet_next, slot_or_end, slot_or_quiet}
 use Rattle.path_merge.specs.Clock.{clock_fault_of}
 use Rattle.path_merge.specs.Steps.{Drains, HoldsMore, IsBeforeDeadline, IsLeftStep, IsTimeStep, is_quiet_due, marks_left}
-use Rattle.stream_rules.specs.StreamSpecFacts.{Stream}
+use Rattle.stream_rules.specs.declared.stream_spec.Stream.{Stream}
 use Rattle.path_merge.proofs.AdvanceLemmas.{IsAtReading, at_reading, no_slot_of}
 use Rattle.path_merge.proofs.LeftLemmas.{drains_end, end_mark_is}
 use Rattle.path_merge.proofs.SoundLemmas.{anchored_at, time_step_gives, time_step_none}

@@ -24,7 +24,7 @@ use Rattle.stream_rules.specs.PathProbation.{probation_after, probation_at, prob
 use Rattle.stream_rules.specs.Probation.{heard_since, is_off}
 use Rattle.path_merge.specs.Steps.{IsNextStep, Offers, fault_or, place_fault_of}
 use Rattle.stream_rules.specs.Put.{put_answer}
-use Rattle.stream_rules.specs.StreamSpecFacts.{Stream}
+use Rattle.stream_rules.specs.declared.stream_spec.Stream.{Stream}
 use Rattle.stream_rules.specs.declared.anchor.Anchor.{Anchor}
 use Rattle.stream_rules.specs.declared.event.Event.{Event}
 use Rattle.stream_rules.specs.declared.event.Event.TheVariants.{Arrive}

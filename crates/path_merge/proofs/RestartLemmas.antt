@@ -21,7 +21,7 @@ use Rattle.path_merge.specs.Steps.{IsRestartStep}
 use Rattle.stream_rules.specs.PathProbation.{no_probation, probation_at}
 use Rattle.stream_rules.specs.declared.probation.Probation.{Probation}
 use Rattle.stream_rules.specs.StreamSpec.{Fits}
-use Rattle.stream_rules.specs.StreamSpecFacts.{Stream}
+use Rattle.stream_rules.specs.declared.stream_spec.Stream.{Stream}
 use Rattle.reorder_window.specs.Window.{IsEmpty}
 use Rattle.stream_rules.specs.declared.anchor.Anchor.{Anchor}
 use Rattle.stream_rules.specs.declared.fate.Fate.{Fate}

@@ -27,7 +27,7 @@ use Rattle.path_merge.specs.MergeState.{IsSound, MergeState, holds_nothing}
 use Rattle.stream_rules.specs.PathProbation.{is_complete, probation_after, probation_at, probation_heard, probation_of}
 use Rattle.stream_rules.specs.Probation.{completes_probation, heard_since, is_off}
 use Rattle.path_merge.specs.Steps.{IsRestartStep, Offers, opens_epoch}
-use Rattle.stream_rules.specs.StreamSpecFacts.{Stream}
+use Rattle.stream_rules.specs.declared.stream_spec.Stream.{Stream}
 use Rattle.stream_rules.specs.declared.anchor.Anchor.{Anchor}
 use Rattle.stream_rules.specs.declared.event.Event.{Event}
 use Rattle.stream_rules.specs.declared.event.Event.TheVariants.{Arrive, Close, Tick}

@@ -21,7 +21,7 @@ use Rattle.path_merge.specs.MergeState.{MergeState}
 use Rattle.path_merge.specs.Run.{HasGiven, IsEventOf, IsInOrder}
 use Rattle.path_merge.specs.Clock.{clock_fault_of}
 use Rattle.path_merge.specs.Steps.{Advances, Drains, IsAlike, Moves, MovesBy, Offers, is_slot_mark, stop_at}
-use Rattle.stream_rules.specs.StreamSpecFacts.{Stream}
+use Rattle.stream_rules.specs.declared.stream_spec.Stream.{Stream}
 use Rattle.stream_rules.specs.declared.event.Event.{Event}
 use Rattle.stream_rules.specs.declared.event.Event.TheVariants.{Arrive, Close, Tick}
 use Rattle.stream_rules.specs.declared.fate.Fate.{Fate}

@@ -16,7 +16,8 @@ use Rattle.stream_rules.specs.Grid.{copies_under, extended_number, first_with, i
 use Rattle.stream_rules.specs.History.{arrival_count, at_places, is_closed, is_counting, time_of}
 use Rattle.stream_rules.specs.Marks.{marks_from, marks_of}
 use Rattle.stream_rules.specs.Sent.{Arrives, BeginsWith, Closes, HasEqualCopies, IsNear, IsOneEpoch, IsWithinReach, SentEvent, SentPacket, Ticks, marks_by_number, sent_copies, sent_copies_after, sent_copies_at, wire_event, wire_history, wire_packet}
-use Rattle.stream_rules.specs.StreamSpecFacts.{IsStream, Stream}
+use Rattle.stream_rules.specs.declared.stream_spec.Stream.{Stream}
+use Rattle.stream_rules.specs.StreamSpecFacts.{IsStream}
 use Rattle.stream_rules.specs.declared.anchor.Anchor.{Anchor}
 use Rattle.stream_rules.specs.declared.event.Event.{Event}
 use Rattle.stream_rules.specs.declared.event.Event.TheVariants.{Arrive, Close, Tick}

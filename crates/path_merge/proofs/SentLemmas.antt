@@ -10,7 +10,7 @@ use Rattle.path_merge.proofs.RestartLemmas.{itself_eq}
 use Rattle.stream_rules.specs.Grid.{extended_number, is_in_time, is_on_grid}
 use Rattle.stream_rules.specs.Nearest.{IsNearest, nearest_number}
 use Rattle.stream_rules.specs.Sent.{IsNear, SentPacket, timestamp_in_step, wire_packet}
-use Rattle.stream_rules.specs.StreamSpecFacts.{Stream}
+use Rattle.stream_rules.specs.declared.stream_spec.Stream.{Stream}
 use Rattle.stream_rules.specs.declared.anchor.Anchor.{Anchor}
 use Rattle.stream_rules.specs.declared.packet.Packet.{Packet}
 use Rattle.rtp_wire.specs.PacketTime.{is_packet_time}

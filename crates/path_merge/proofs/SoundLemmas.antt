@@ -18,7 +18,8 @@ use Rattle.stream_rules.specs.MarkFacts.{HasLength, payload_length}
 use Rattle.stream_rules.specs.Marks.{body_of, quiet_mark}
 use Rattle.path_merge.specs.MergeState.{IsAnchored, IsAnchoredOrNot, IsSound, MergeState, held_count}
 use Rattle.path_merge.specs.Steps.{HoldsMore, IsBeforeDeadline, IsTimeStep, is_quiet_due, next_deadline_of}
-use Rattle.stream_rules.specs.StreamSpecFacts.{IsStream, Stream, format_of}
+use Rattle.stream_rules.specs.declared.stream_spec.Stream.{Stream}
+use Rattle.stream_rules.specs.StreamSpecFacts.{IsStream, format_of}
 use Rattle.stream_rules.specs.declared.anchor.Anchor.{Anchor}
 use Rattle.stream_rules.specs.declared.packet.Packet.{Packet}
 

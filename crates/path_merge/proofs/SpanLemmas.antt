@@ -19,7 +19,7 @@ use Rattle.stream_rules.specs.History.{is_closed, is_counting, is_well_timed, ti
 use Rattle.stream_rules.specs.Laws.{names_from, names_in, slot_names}
 use Rattle.stream_rules.specs.MarkFacts.{MarkView}
 use Rattle.stream_rules.specs.Marks.{end_mark, is_quiet_new, marks_of, quiet_mark, slots_at_close, slots_between, slots_from, slots_or_quiet, span_end}
-use Rattle.stream_rules.specs.StreamSpecFacts.{Stream}
+use Rattle.stream_rules.specs.declared.stream_spec.Stream.{Stream}
 use Rattle.stream_rules.specs.declared.anchor.Anchor.{Anchor}
 use Rattle.stream_rules.specs.declared.event.Event.{Event}
 use Rattle.stream_rules.specs.declared.event.Event.TheVariants.{Arrive, Close, Tick}

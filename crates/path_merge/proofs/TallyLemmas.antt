@@ -7,7 +7,7 @@ use Rattle.stream_rules.specs.Counts.{is_ahead, is_counted_fate, is_double, is_g
 use Rattle.stream_rules.specs.CountsFacts.{Tally, increased_at, with_body, with_fate}
 use Rattle.stream_rules.specs.MarkFacts.{MarkView}
 use Rattle.stream_rules.specs.Marks.{quiet_mark}
-use Rattle.stream_rules.specs.StreamSpecFacts.{Stream}
+use Rattle.stream_rules.specs.declared.stream_spec.Stream.{Stream}
 use Rattle.stream_rules.specs.declared.fate.Fate.{Fate}
 use Rattle.stream_rules.specs.declared.fate.Fate.TheVariants.{Ahead, Closed, CountersFull, Double, Late, OffGrid, Restarted, Taken, Unlike, WrongSource}
 use Rattle.stream_rules.specs.declared.mark.Body.{Body}

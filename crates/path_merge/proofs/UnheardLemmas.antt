@@ -15,7 +15,7 @@ use Rattle.path_merge.specs.Merge.{HasHistory}
 use Rattle.path_merge.specs.MergeState.{MergeState}
 use Rattle.stream_rules.specs.PathProbation.{probation_of}
 use Rattle.path_merge.specs.Steps.{Offers}
-use Rattle.stream_rules.specs.StreamSpecFacts.{Stream}
+use Rattle.stream_rules.specs.declared.stream_spec.Stream.{Stream}
 use Rattle.stream_rules.specs.declared.event.Event.{Event}
 use Rattle.stream_rules.specs.declared.event.Event.TheVariants.{Arrive}
 use Rattle.stream_rules.specs.declared.fate.Fate.TheVariants.{Closed, CountersFull}

@@ -1,7 +1,7 @@
 -- What a merge has to be after a history, with some of its marks handed on.
 use Rattle.std.specs.Prelude.{◌≡◌, ℕ, ◌+◌, ◌≤◌, ◌<◌, nat_lt, Bool, true, false, ◌||◌, nat_eq, List, [], ◌∷◌, take, length, ℤ, pos, ◌-ℤ◌, Option, Some, None, if◌then◌else◌}
 use Rattle.std.specs.FinMap.{get}
-use Rattle.stream_rules.specs.StreamSpecFacts.{Stream}
+use Rattle.stream_rules.specs.declared.stream_spec.Stream.{Stream}
 use Rattle.stream_rules.specs.MarkFacts.{MarkView}
 use Rattle.stream_rules.specs.declared.anchor.Anchor.{Anchor}
 use Rattle.stream_rules.specs.declared.packet.Packet.{Packet}

@@ -1,6 +1,6 @@
 -- A run of a merge over a whole list of events.
 use Rattle.std.specs.Prelude.{◌≡◌, ◌<◌, List, length, ℤ, Some, None}
-use Rattle.stream_rules.specs.StreamSpecFacts.{Stream}
+use Rattle.stream_rules.specs.declared.stream_spec.Stream.{Stream}
 use Rattle.stream_rules.specs.StreamSpec.{Fits}
 use Rattle.stream_rules.specs.MarkFacts.{MarkView}
 use Rattle.stream_rules.specs.declared.event.Event.{Event}

@@ -7,7 +7,7 @@ ghost use Rattle.stream_rules.specs.Fate as spec;
 ghost use Rattle.stream_rules.specs.Fate.{first_fate};
 ghost use Rattle.stream_rules.specs.Probation.{is_off as off_grid};
 ghost use Rattle.path_merge.specs.Steps.{place_fault_of, reach_fault_of};
-ghost use Rattle.stream_rules.specs.StreamSpecFacts.{Stream};
+ghost use Rattle.stream_rules.specs.declared.stream_spec.Stream.{Stream};
 ghost use Rattle.stream_rules.specs.declared.anchor.Anchor.{Anchor};
 ghost use Rattle.stream_rules.specs.declared.packet.Packet.{Packet};
 

@@ -1,7 +1,8 @@
 //! What the definitions promise together. Nothing is computed here: the clauses are the laws.
 ghost use Rattle.std.specs.Prelude.{◌≡◌, ℕ, ◌+◌, ◌^◌, ◌<◌, ◌≤◌, ℤ, pos, ◌+ℤ◌, ◌≤ℤ◌, ◌<ℤ◌, List, [], ◌∷◌, ◌++◌, length, take, true, false, Some, IfSome};
 ghost use Rattle.std.specs.Int.{int_rem_euclid};
-ghost use Rattle.stream_rules.specs.StreamSpecFacts.{IsStream, Stream, format_of};
+ghost use Rattle.stream_rules.specs.declared.stream_spec.Stream.{Stream};
+ghost use Rattle.stream_rules.specs.StreamSpecFacts.{IsStream, format_of};
 ghost use Rattle.stream_rules.specs.MarkFacts.{MarkView};
 ghost use Rattle.stream_rules.specs.MarkList.{is_mark_list};
 ghost use Rattle.path_merge.specs.MergeState.{MergeState};

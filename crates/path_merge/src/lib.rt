@@ -32,7 +32,7 @@ pub use reorder_window::{SlotWindow, SortedWindow, Window};
 pub use run::{RunFault, run_merge};
 pub use stream_rules::{
     AdmitFault, Body, Counts, Event, Fate, Format, Mark, MarkKind, MarkKindRef, MarkRef, Packet,
-    PacketRef, Path, Probation, Put, SpecFault, StreamClock, StreamSpec, near16, near32,
+    PacketRef, Path, Probation, Put, SpecFault, Stream, StreamClock, StreamSpec, near16, near32,
 };
 
 #[cfg(test)]

@@ -4,7 +4,7 @@ ghost use Rattle.std.specs.FinMap as map;
 ghost use Rattle.stream_rules.specs.declared.event.Event.{Event};
 ghost use Rattle.stream_rules.specs.declared.event.Event.TheVariants.{Close};
 ghost use Rattle.stream_rules.specs.Counts.{tally_of};
-ghost use Rattle.stream_rules.specs.StreamSpecFacts.{Stream};
+ghost use Rattle.stream_rules.specs.declared.stream_spec.Stream.{Stream};
 ghost use Rattle.stream_rules.specs.declared.anchor.Anchor.{Anchor};
 
 use reorder_window::{SlotWindow, Window};
@@ -62,19 +62,7 @@ impl<V: Window> Model for Merge<V> {
       probations = m.probations;
     } };
 
-    ghost invariant = { λ m. IsSound (record {
-      spec = m.spec;
-      time = m.time;
-      anchor = m.anchor;
-      base = V.base m.window;
-      size = V.size m.window;
-      held = V.held m.window;
-      quiet = m.quiet;
-      counts = tally_of m.counts;
-      closed = m.closed;
-      ended = m.ended;
-      probations = m.probations;
-    }) m.next_media };
+    ghost invariant = { λ m. IsSound (view m) m.next_media };
 }
 
 impl Merge<SlotWindow> {

@@ -9,7 +9,7 @@ ghost use Rattle.stream_rules.specs.Marks as slots;
 ghost use Rattle.path_merge.specs.Merge.{HasHistory};
 ghost use Rattle.path_merge.specs.Run.{HasGiven, IsEventOf, IsInOrder, IsRunFault};
 ghost use Rattle.path_merge.specs.Clock.{clock_fault_of};
-ghost use Rattle.stream_rules.specs.StreamSpecFacts.{Stream};
+ghost use Rattle.stream_rules.specs.declared.stream_spec.Stream.{Stream};
 
 use crate::clock::clock_fault;
 use crate::merge::Merge;

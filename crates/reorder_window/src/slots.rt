@@ -30,7 +30,7 @@ impl Model for SlotWindow {
 
     ghost view = { λ w. record { base = w.base; front = w.front; span = w.span; slots = w.slots.items } };
 
-    ghost invariant = { λ w. IsRing (record { base = w.base; front = w.front; span = w.span; slots = w.slots.items }) };
+    ghost invariant = { λ w. IsRing (view w) };
 }
 
 impl SlotWindow {

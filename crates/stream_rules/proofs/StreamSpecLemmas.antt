@@ -4,7 +4,8 @@ use Rattle.std.specs.Prelude.{nat_eq, nat_lt, nat_le}
 use Rattle.std.proofs.lemmas.Bool.Decides.{nat_tests}
 use Rattle.stream_rules.specs.declared.stream_spec.SpecFault.TheVariants.{Channels, Frames, PayloadType, TooLong, Window, Latency, Paths}
 use Rattle.stream_rules.specs.MarkFacts.{payload_length}
-use Rattle.stream_rules.specs.StreamSpecFacts.{Stream, IsStream, HasNoFault, first_fault, format_of, is_window, packets_fault_of, times_fault_of}
+use Rattle.stream_rules.specs.declared.stream_spec.Stream.{Stream}
+use Rattle.stream_rules.specs.StreamSpecFacts.{IsStream, HasNoFault, first_fault, format_of, is_window, packets_fault_of, times_fault_of}
 use Rattle.rtp_wire.specs.PacketTime.{is_packet_time}
 
 -- where a chain of tests finds nothing, each test fails

@@ -1,6 +1,6 @@
 -- Copies of a packet that come in time (SMPTE ST 2022-7), by epochs.
 use Rattle.std.specs.Prelude.{ℕ, Bool, nat_eq, List, [], ◌∷◌, ◌++◌, ℤ, Option, Some, None, if◌then◌else◌}
-use Rattle.stream_rules.specs.StreamSpecFacts.{Stream}
+use Rattle.stream_rules.specs.declared.stream_spec.Stream.{Stream}
 use Rattle.stream_rules.specs.declared.anchor.Anchor.{Anchor}
 use Rattle.stream_rules.specs.declared.packet.Packet.{Packet}
 use Rattle.stream_rules.specs.declared.event.Event.{Event}

@@ -1,6 +1,6 @@
 -- The counts of a history.
 use Rattle.std.specs.Prelude.{ℕ, Bool, true, false, ◌&&◌, nat_eq, List, [], ◌∷◌, count_by, length, ℤ, if◌then◌else◌}
-use Rattle.stream_rules.specs.StreamSpecFacts.{Stream}
+use Rattle.stream_rules.specs.declared.stream_spec.Stream.{Stream}
 use Rattle.stream_rules.specs.MarkFacts.{MarkView}
 use Rattle.stream_rules.specs.CountsFacts.{Tally}
 use Rattle.stream_rules.specs.declared.counts.Counts.{Counts}

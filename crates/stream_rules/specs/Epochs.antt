@@ -1,6 +1,6 @@
 -- The anchors of a history: the first acceptable packet opens epoch 0, and each restart of the source the next one.
 use Rattle.std.specs.Prelude.{ℕ, Bool, ◌&&◌, nat_le, List, [], ◌∷◌, ◌++◌, length, ℤ, Option, Some, None, if◌then◌else◌}
-use Rattle.stream_rules.specs.StreamSpecFacts.{Stream}
+use Rattle.stream_rules.specs.declared.stream_spec.Stream.{Stream}
 use Rattle.stream_rules.specs.declared.anchor.Anchor.{Anchor}
 use Rattle.stream_rules.specs.declared.packet.Packet.{Packet}
 use Rattle.stream_rules.specs.declared.event.Event.{Event}

@@ -1,6 +1,7 @@
 -- The marks that a history hands on.
 use Rattle.std.specs.Prelude.{ℕ, zero, suc, ◌-◌, max, Bool, true, false, not, ◌&&◌, ◌||◌, List, [], ◌∷◌, ◌++◌, ℤ, pos, ◌-ℤ◌, int_lt, Option, Some, None, if◌then◌else◌}
-use Rattle.stream_rules.specs.StreamSpecFacts.{Stream, format_of}
+use Rattle.stream_rules.specs.declared.stream_spec.Stream.{Stream}
+use Rattle.stream_rules.specs.StreamSpecFacts.{format_of}
 use Rattle.stream_rules.specs.MarkFacts.{MarkView}
 use Rattle.stream_rules.specs.declared.anchor.Anchor.{Anchor}
 use Rattle.stream_rules.specs.declared.packet.Packet.{Packet}

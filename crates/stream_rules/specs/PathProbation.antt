@@ -1,6 +1,6 @@
 -- What a merge keeps of a path's probation: how many were in sequence last, up to eight, and what comes next.
 use Rattle.std.specs.Prelude.{ℕ, zero, suc, ◌+◌, ◌%◌, ◌^◌, Bool, true, false, ◌&&◌, nat_eq, nat_le, nat_lt, List, [], ◌∷◌, if◌then◌else◌}
-use Rattle.stream_rules.specs.StreamSpecFacts.{Stream}
+use Rattle.stream_rules.specs.declared.stream_spec.Stream.{Stream}
 use Rattle.stream_rules.specs.Anchor.{is_source_wanted}
 use Rattle.stream_rules.specs.declared.probation.Probation.{Probation}
 use Rattle.stream_rules.specs.declared.packet.Packet.{Packet}

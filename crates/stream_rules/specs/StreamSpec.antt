@@ -4,7 +4,8 @@ use Rattle.stream_rules.specs.declared.packet.Packet.{Packet}
 use Rattle.stream_rules.specs.declared.stream_spec.AdmitFault.{AdmitFault}
 use Rattle.stream_rules.specs.declared.stream_spec.AdmitFault.TheVariants.{WrongType, WrongLength}
 use Rattle.stream_rules.specs.MarkFacts.{payload_length}
-use Rattle.stream_rules.specs.StreamSpecFacts.{Stream, format_of}
+use Rattle.stream_rules.specs.declared.stream_spec.Stream.{Stream}
+use Rattle.stream_rules.specs.StreamSpecFacts.{format_of}
 
 -- the payload has the stream's length
 abbrev pub Fits : Stream → Packet → Type 0

@@ -1,24 +1,11 @@
 -- What a stream's specification says, and what is true of every one.
 use Rattle.std.specs.Prelude.{◌≡◌, ℕ, ◌+◌, ◌*◌, ◌^◌, ◌<◌, ◌≤◌, Bool, true, not, ◌&&◌, ◌||◌, nat_eq, nat_lt, nat_le, Option, Some, None, if◌then◌else◌}
 use Rattle.rtp_wire.specs.PacketTime.{is_packet_time}
-use Rattle.rtp_wire.specs.declared.encoding.Enc.{Enc}
 use Rattle.stream_rules.specs.declared.mark.Format.{Format}
-use Rattle.stream_rules.specs.declared.stream_spec.StreamClock.{StreamClock}
+use Rattle.stream_rules.specs.declared.stream_spec.Stream.{Stream}
 use Rattle.stream_rules.specs.declared.stream_spec.SpecFault.{SpecFault}
 use Rattle.stream_rules.specs.declared.stream_spec.SpecFault.TheVariants.{Channels, Frames, PayloadType, TooLong, Window, Latency, Paths}
 use Rattle.stream_rules.specs.MarkFacts.{payload_length}
-
--- what contracts see of a specification
-pub record Stream : Type 0 where
-  pub enc : Enc
-  pub channels : ℕ
-  pub frames : ℕ
-  pub pt : ℕ
-  pub ssrc : Option ℕ
-  pub clock : StreamClock
-  pub latency : ℕ
-  pub window : ℕ
-  pub paths : ℕ
 
 abbrev pub format_of : Stream → Format
 format_of stream = record { enc = stream.enc; channels = stream.channels; frames = stream.frames }

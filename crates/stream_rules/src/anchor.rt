@@ -1,7 +1,7 @@
 //! What the first packet of a stream fixes, and where later ones belong.
 ghost use Rattle.std.specs.Prelude.{◌≡◌, ◌+◌, ◌<◌, ◌≤◌, ◌^◌, ℤ, pos, ◌≤ℤ◌, neg_ℤ, ◌<ℤ◌};
 ghost use Rattle.stream_rules.specs.PacketRef.{packet_of};
-ghost use Rattle.stream_rules.specs.StreamSpecFacts.{Stream};
+ghost use Rattle.stream_rules.specs.declared.stream_spec.Stream.{Stream};
 ghost use Rattle.stream_rules.specs.Anchor.{media_time_of, first_media_time, is_source_wanted, restart_media_time};
 ghost use Rattle.stream_rules.specs.Grid.{extended_number, is_on_grid};
 ghost use Rattle.stream_rules.specs.declared.anchor.Anchor.{Anchor};

@@ -1,6 +1,6 @@
 //! One stream: its packets, paths, marks and counts, and the rules of reception as definitions.
 //!
-//! `StreamSpec::new` fixes a stream. `admit` and `admit_ref` make packets of its datagrams' views. What a
+//! `StreamSpec::of` fixes a stream. `admit` and `admit_ref` make packets of its datagrams' views. What a
 //! list of `Event`s comes to is said in `specs`, over whole lists and unbounded numbers: the anchors and
 //! epochs (`Epochs`), the copies of each number (`Copies`), the fate of an arrival (`Fate`), the counts
 //! (`Counts`) and the marks (`Marks`). No definition mentions a window or a queue.
@@ -33,7 +33,7 @@ pub use packet::{Packet, PacketRef};
 pub use path::Path;
 pub use probation::{Probation, hear_on};
 pub use put::Put;
-pub use stream_spec::{AdmitFault, SpecFault, StreamClock, StreamSpec};
+pub use stream_spec::{AdmitFault, SpecFault, Stream, StreamClock, StreamSpec};
 
 #[cfg(test)]
 mod tests;

@@ -3,7 +3,7 @@ ghost use Rattle.std.specs.Prelude.{◌≡◌, ◌<◌, ◌≤◌, ◌^◌, ◌&
 ghost use Rattle.stream_rules.specs.PacketRef.{packet_of};
 ghost use Rattle.stream_rules.specs.Anchor.{is_source_wanted};
 ghost use Rattle.stream_rules.specs.PathProbation.{is_complete, probation_at, probation_heard};
-ghost use Rattle.stream_rules.specs.StreamSpecFacts.{Stream};
+ghost use Rattle.stream_rules.specs.declared.stream_spec.Stream.{Stream};
 ghost use Rattle.stream_rules.specs.declared.packet.Packet.{Packet};
 
 use crate::anchor::is_wanted;

@@ -1,7 +1,8 @@
 //! What is fixed of a stream before its first packet.
 ghost use Rattle.std.specs.Prelude.{◌≡◌, ◌≤◌, ◌↔◌, IsTrue, None, Some, OnOk, IfOk, IfErr, length};
 ghost use Rattle.stream_rules.specs.StreamSpecFacts as spec;
-ghost use Rattle.stream_rules.specs.StreamSpecFacts.{Stream, IsStream, HasNoFault, spec_fault_of, format_of};
+ghost use Rattle.stream_rules.specs.declared.stream_spec.Stream.{Stream};
+ghost use Rattle.stream_rules.specs.StreamSpecFacts.{IsStream, HasNoFault, spec_fault_of, format_of};
 ghost use Rattle.stream_rules.specs.MarkFacts.{payload_length};
 ghost use Rattle.stream_rules.specs.PacketRef.{packet_of};
 
@@ -57,30 +58,59 @@ pub enum AdmitFault {
     WrongLength,
 }
 
-/// A stream: its encoding and packets, its source and clock, its latency, window and paths.
+/// What is said of a stream: its encoding and packets, its source and clock, its latency, window and paths.
+#[derive(Clone, Copy, Debug)]
+pub struct Stream {
+    /// How each sample is written.
+    pub enc: Enc,
+    /// Channels.
+    pub channels: u8,
+    /// Sampling instants per packet.
+    pub frames: u16,
+    /// The RTP payload type (RFC 3551).
+    pub pt: u8,
+    /// The synchronization source that the first packet has to have (RFC 3550, 5.1); `None` takes any.
+    pub ssrc: Option<u32>,
+    /// The clock that its media times follow.
+    pub clock: StreamClock,
+    /// How long after its media time a packet is handed on, in sampling instants (AES67, link offset).
+    pub latency: u32,
+    /// How many packets may be held.
+    pub window: u16,
+    /// How many copies of each packet are sent, each on a path of its own.
+    pub paths: u8,
+}
+
+impl Stream {
+    /// How the samples of its packets lie.
+    pub fn format(&self) -> Format
+        ensures { result ≡ format_of self.now }
+    {
+        Format {
+            enc: self.enc,
+            channels: self.channels,
+            frames: self.frames,
+        }
+    }
+}
+
+/// A stream in which there is no fault.
 #[derive(Clone, Copy, Debug)]
 pub struct StreamSpec {
-    enc: Enc,
-    channels: u8,
-    frames: u16,
-    pt: u8,
-    ssrc: Option<u32>,
-    clock: StreamClock,
-    latency: u32,
-    window: u16,
-    paths: u8,
+    stream: Stream,
 }
 
 impl Model for StreamSpec {
-    ghost use Rattle.stream_rules.specs.StreamSpecFacts.{Stream, HasNoFault};
+    ghost use Rattle.stream_rules.specs.declared.stream_spec.Stream.{Stream};
+    ghost use Rattle.stream_rules.specs.StreamSpecFacts.{HasNoFault};
 
     ghost Value = { Stream };
 
-    ghost view = { λ s. record { enc = s.enc; channels = s.channels; frames = s.frames; pt = s.pt; ssrc = s.ssrc; clock = s.clock; latency = s.latency; window = s.window; paths = s.paths } };
+    ghost view = { λ s. s.stream };
 
-    ghost invariant = { λ s. HasNoFault (record { enc = s.enc; channels = s.channels; frames = s.frames; pt = s.pt; ssrc = s.ssrc; clock = s.clock; latency = s.latency; window = s.window; paths = s.paths }) };
+    ghost invariant = { λ s. HasNoFault s.stream };
 
-    ghost inverse = { λ s. record { enc = s.enc; channels = s.channels; frames = s.frames; pt = s.pt; ssrc = s.ssrc; clock = s.clock; latency = s.latency; window = s.window; paths = s.paths } };
+    ghost inverse = { λ s. record { stream = s } };
 }
 
 /// Whether a reorder window may have this many packets: a power of two from 8 to 16,384.
@@ -134,11 +164,18 @@ fn check_times(frames: u16, latency: u32, window: u16, paths: u8) -> Result<(), 
 impl StreamSpec {
     ghost use Rattle.stream_rules.specs.StreamSpec.{Fits, admit_fault_of};
 
-    /// A stream of `channels` in packets of `frames` sampling instants, with RTP payload type `pt`.
-    ///
-    /// Without an `ssrc` the first acceptable packet says it. `latency` is the link offset in
-    /// sampling instants: a packet is handed on so long after its media time. `window` is how many
-    /// packets may be held, and `paths` how many copies of each are sent.
+    /// The specification of a stream, or the first fault in it.
+    pub fn of(stream: Stream) -> Result<StreamSpec, SpecFault>
+        ensures ok { IfOk result (λ s. s ≡ stream) }
+        ensures fine { IfOk result (λ s. spec_fault_of s ≡ None) }
+        ensures fault { IfErr result (λ e. spec_fault_of stream ≡ Some e) }
+    {
+        check_packets(stream.format(), stream.pt)?;
+        check_times(stream.frames, stream.latency, stream.window, stream.paths)?;
+        Ok(StreamSpec { stream })
+    }
+
+    /// As `of`, with the stream's parts in their order.
     pub fn new(
         enc: Enc,
         channels: u8,
@@ -154,14 +191,7 @@ impl StreamSpec {
         ensures fine { IfOk result (λ s. spec_fault_of s ≡ None) }
         ensures fault { IfErr result (λ e. spec_fault_of (record { enc = enc; channels = channels; frames = frames; pt = pt; ssrc = ssrc; clock = clock; latency = latency; window = window; paths = paths }) ≡ Some e) }
     {
-        let format = Format {
-            enc,
-            channels,
-            frames,
-        };
-        check_packets(format, pt)?;
-        check_times(frames, latency, window, paths)?;
-        Ok(StreamSpec {
+        StreamSpec::of(Stream {
             enc,
             channels,
             frames,
@@ -179,18 +209,14 @@ impl StreamSpec {
         ensures value { result ≡ format_of self.now }
         ensures sound { IsStream self.now }
     {
-        Format {
-            enc: self.enc,
-            channels: self.channels,
-            frames: self.frames,
-        }
+        self.stream.format()
     }
 
     /// How each sample is written.
     pub fn enc(&self) -> Enc
         ensures { result ≡ self.now.enc }
     {
-        self.enc
+        self.stream.enc
     }
 
     /// Channels, 1 to 64.
@@ -198,7 +224,7 @@ impl StreamSpec {
         ensures value { result ≡ self.now.channels }
         ensures sound { IsStream self.now }
     {
-        self.channels
+        self.stream.channels
     }
 
     /// Sampling instants per packet.
@@ -206,7 +232,7 @@ impl StreamSpec {
         ensures value { result ≡ self.now.frames }
         ensures sound { IsStream self.now }
     {
-        self.frames
+        self.stream.frames
     }
 
     /// The RTP payload type, 96 to 127 (RFC 3551).
@@ -214,21 +240,21 @@ impl StreamSpec {
         ensures value { result ≡ self.now.pt }
         ensures fine { HasNoFault self.now }
     {
-        self.pt
+        self.stream.pt
     }
 
     /// The synchronization source that the first packet has to have (RFC 3550, 5.1); `None` takes any.
     pub fn ssrc(&self) -> Option<u32>
         ensures { result ≡ self.now.ssrc }
     {
-        self.ssrc
+        self.stream.ssrc
     }
 
     /// The clock that its media times follow.
     pub fn clock(&self) -> StreamClock
         ensures { result ≡ self.now.clock }
     {
-        self.clock
+        self.stream.clock
     }
 
     /// How long after its media time a packet is handed on, in sampling instants (AES67, link offset).
@@ -236,7 +262,7 @@ impl StreamSpec {
         ensures value { result ≡ self.now.latency }
         ensures sound { IsStream self.now }
     {
-        self.latency
+        self.stream.latency
     }
 
     /// How many numbers the reorder window spans.
@@ -244,7 +270,7 @@ impl StreamSpec {
         ensures value { result ≡ self.now.window }
         ensures sound { IsStream self.now }
     {
-        self.window
+        self.stream.window
     }
 
     /// How many paths carry it, 1 to 4.
@@ -252,7 +278,7 @@ impl StreamSpec {
         ensures value { result ≡ self.now.paths }
         ensures sound { IsStream self.now }
     {
-        self.paths
+        self.stream.paths
     }
 
     /// The octets of each packet's samples.
@@ -289,7 +315,7 @@ impl StreamSpec {
         ensures short { IfOk result (λ p. length p.payload.now ≤ 1440) }
         ensures fault { IfErr result (λ e. admit_fault_of self.now view.now.pt (length view.now.payload.now) ≡ Some e) }
     {
-        if view.pt != self.pt {
+        if view.pt != self.stream.pt {
             return Err(AdmitFault::WrongType);
         }
         if view.payload.len() != self.payload_len() {

@@ -7,7 +7,8 @@ use Rattle.std.proofs.lemmas.Option.{slice_get_within, get_or_from_slice_get}
 use Rattle.std.proofs.lemmas.List.{take_all, take_more, append-nil, get_or-set_same, get_or-set_other, set-get_or, length-set}
 use Rattle.std.proofs.lemmas.List.FromFn.{length-map-range_with_len}
 use Rattle.std.proofs.lemmas.List.Sums.{sum_by_more, sum_by-set}
-use Rattle.stream_rules.specs.StreamSpecFacts.{Stream, format_of}
+use Rattle.stream_rules.specs.declared.stream_spec.Stream.{Stream}
+use Rattle.stream_rules.specs.StreamSpecFacts.{format_of}
 use Rattle.stream_rules.specs.MarkFacts.{MarkView}
 use Rattle.stream_rules.specs.declared.mark.Format.{Format}
 use Rattle.lane_align.specs.Value.{frame_at, frames_from, value_at}

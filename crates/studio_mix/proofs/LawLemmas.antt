@@ -7,7 +7,8 @@ use Rattle.std.specs.List.{range_with_len}
 use Rattle.std.specs.Option.{option_or}
 use Rattle.gain_mix.specs.Changes.{matrix_at}
 use Rattle.gain_mix.specs.Mix.{mixed_frame}
-use Rattle.stream_rules.specs.StreamSpecFacts.{Stream, format_of}
+use Rattle.stream_rules.specs.declared.stream_spec.Stream.{Stream}
+use Rattle.stream_rules.specs.StreamSpecFacts.{format_of}
 use Rattle.stream_rules.specs.MarkFacts.{MarkView}
 use Rattle.stream_rules.specs.MarkList.{is_mark_list}
 use Rattle.stream_rules.specs.declared.mark.Format.{Format}
@@ -20,7 +21,8 @@ use Rattle.lane_align.specs.Value.{value_at, frame_at}
 use Rattle.lane_align.proofs.FeedLemmas.{last_slot_more, last_quiet_more, has_end_more}
 use Rattle.lane_align.proofs.MarkListLemmas.{both_left, both_right, list_before}
 use Rattle.lane_align.proofs.LawLemmas.{values_stay, cover_stays, end_stays}
-use Rattle.mix_packets.specs.OutSpec.{Output, shift_of}
+use Rattle.mix_packets.specs.declared.out_spec.Output.{Output}
+use Rattle.mix_packets.specs.OutSpec.{shift_of}
 use Rattle.mix_packets.specs.Block.{block_start, block_datagram}
 use Rattle.studio_spec.specs.Studio.{Studio}
 use Rattle.studio_mix.specs.Feed.{Feed, IsLonger, AreLonger, studio_values}

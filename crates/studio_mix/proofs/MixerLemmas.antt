@@ -7,7 +7,7 @@ use Rattle.std.proofs.lemmas.Bool.{cases_eq}
 use Rattle.std.proofs.Math.Seq.{map-set_same}
 use Rattle.stream_rules.specs.MarkFacts.{MarkView}
 use Rattle.lane_align.specs.Lane.{LaneState, HasFeed}
-use Rattle.mix_packets.specs.OutSpec.{Output}
+use Rattle.mix_packets.specs.declared.out_spec.Output.{Output}
 use Rattle.mix_packets.specs.Block.{block_start}
 use Rattle.studio_spec.specs.Studio.{Studio}
 use Rattle.studio_mix.specs.Feed.{Feed}

@@ -11,7 +11,8 @@ use Rattle.lane_align.specs.Lane.{LaneState}
 use Rattle.gain_mix.specs.Changes.{Changes, matrix_at}
 use Rattle.gain_mix.specs.Gain.{ins_of}
 use Rattle.gain_mix.specs.Mix.{Is24Bits, IsMixed, mixed_frame, output_sample, rounded_sum, saturated_sum, weighted_sum}
-use Rattle.mix_packets.specs.OutSpec.{Output, shift_of}
+use Rattle.mix_packets.specs.declared.out_spec.Output.{Output}
+use Rattle.mix_packets.specs.OutSpec.{shift_of}
 use Rattle.mix_packets.specs.Block.{block_start, block_datagram}
 use Rattle.mix_packets.specs.Packer.{PackerState}
 use Rattle.studio_spec.specs.Studio.{Studio}

@@ -5,7 +5,8 @@ use Rattle.lane_align.specs.Lane.{LaneState, is_next, is_wanting}
 use Rattle.gain_mix.specs.Gain.{ins_of}
 use Rattle.gain_mix.specs.Mix.{Is24Bits}
 use Rattle.gain_mix.specs.Changes.{Changes}
-use Rattle.mix_packets.specs.OutSpec.{Output, IsOutput, sample_total}
+use Rattle.mix_packets.specs.declared.out_spec.Output.{Output}
+use Rattle.mix_packets.specs.OutSpec.{IsOutput, sample_total}
 use Rattle.mix_packets.specs.Block.{block_start}
 use Rattle.mix_packets.specs.Packer.{PackerState}
 use Rattle.studio_spec.specs.Studio.{Studio}

@@ -1,7 +1,7 @@
 //! A law of blocks.
 ghost use Rattle.std.specs.Prelude.{◌≡◌, ℕ, ◌+◌, ◌<◌, List, true};
 ghost use Rattle.mix_packets.specs.Block.{block_start};
-ghost use Rattle.mix_packets.specs.OutSpec.{Output};
+ghost use Rattle.mix_packets.specs.declared.out_spec.Output.{Output};
 ghost use Rattle.studio_spec.specs.Studio.{Studio};
 ghost use Rattle.studio_mix.specs.Feed.{AreLonger, Feed};
 ghost use Rattle.studio_mix.specs.Output.{datagram_of};

@@ -46,7 +46,7 @@ impl Model for Mixer {
 
     ghost view = { λ m. record { lanes = m.lanes.items; schedule = m.schedule; packer = m.packer } };
 
-    ghost invariant = { λ m. IsMixer (record { lanes = m.lanes.items; schedule = m.schedule; packer = m.packer }) m.output m.time m.one.items m.ins.items m.outs.items };
+    ghost invariant = { λ m. IsMixer (view m) m.output m.time m.one.items m.ins.items m.outs.items };
 }
 
 impl Mixer {

@@ -3,7 +3,8 @@ use Rattle.std.proofs.Common.{◌≡◌, ℕ, suc, ◌+◌, ◌<◌, List, [], �
 use Rattle.std.proofs.Math.Seq.{take-length}
 use Rattle.std.proofs.lemmas.List.{length-map, take_more}
 use Rattle.rtrb.specs.Ring.{sent}
-use Rattle.stream_rules.specs.StreamSpecFacts.{IsStream, Stream, format_of}
+use Rattle.stream_rules.specs.declared.stream_spec.Stream.{Stream}
+use Rattle.stream_rules.specs.StreamSpecFacts.{IsStream, format_of}
 use Rattle.stream_rules.specs.Marks.{marks_of}
 use Rattle.path_merge.specs.Merge.{HasHistory}
 use Rattle.stream_rules.specs.MarkFacts.{MarkView}

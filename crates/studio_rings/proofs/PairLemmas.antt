@@ -4,7 +4,7 @@ use Rattle.rtrb.specs.Ring.{IsFinishedOf, IsPair, Finishes, SameConsumer, SamePr
 use Rattle.rtrb.specs.declared.consumer.Consumer.{Consumer}
 use Rattle.rtrb.specs.declared.finished.Finished.{Finished}
 use Rattle.rtrb.specs.declared.producer.Producer.{Producer}
-use Rattle.stream_rules.specs.StreamSpecFacts.{Stream}
+use Rattle.stream_rules.specs.declared.stream_spec.Stream.{Stream}
 use Rattle.stream_rules.specs.MarkFacts.{MarkView}
 use Rattle.stream_rules.specs.declared.packet.Packet.{Packet}
 use Rattle.studio_rings.specs.Opened.{AllFreshPaths, AllFreshRings, AllFreshStreams}

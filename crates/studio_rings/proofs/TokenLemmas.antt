@@ -1,7 +1,8 @@
 -- Tokens that were handed in change nothing of what came.
 use Rattle.std.proofs.Common.{◌≡◌, ℕ, zero, suc, ◌<◌, List, [], ◌∷◌, length, get_or, set, ℤ, refl, sym, ap, subst, ◌∙◌, arith}
 use Rattle.rtrb.specs.Ring.{received}
-use Rattle.stream_rules.specs.StreamSpecFacts.{Stream, format_of}
+use Rattle.stream_rules.specs.declared.stream_spec.Stream.{Stream}
+use Rattle.stream_rules.specs.StreamSpecFacts.{format_of}
 use Rattle.stream_rules.specs.MarkFacts.{MarkView}
 use Rattle.stream_rules.specs.declared.packet.Packet.{Packet}
 use Rattle.stream_rules.specs.declared.event.Event.{Event}

@@ -6,7 +6,7 @@ use Rattle.rtrb.specs.Ring.{received, known_items, SameConsumer, SameProducer}
 use mathlib.Core.List.{IsPrefix}
 use Rattle.rtrb.specs.declared.consumer.Consumer.{Consumer}
 use Rattle.rtrb.specs.declared.producer.Producer.{Producer}
-use Rattle.stream_rules.specs.StreamSpecFacts.{Stream}
+use Rattle.stream_rules.specs.declared.stream_spec.Stream.{Stream}
 use Rattle.stream_rules.specs.StreamSpec.{Fits}
 use Rattle.stream_rules.specs.Marks.{marks_of}
 use Rattle.path_merge.specs.MergeState.{MergeState}

@@ -1,7 +1,7 @@
 -- The ends of a studio, as they are opened together.
 use Rattle.std.specs.Prelude.{◌≡◌, ℕ, nat_lt, ◌||◌, List, [], ◌∷◌, ◌++◌, length, ℤ, None, false, if◌then◌else◌}
 use Rattle.rtrb.specs.Ring.{IsPair, sent, received, known_free}
-use Rattle.stream_rules.specs.StreamSpecFacts.{Stream}
+use Rattle.stream_rules.specs.declared.stream_spec.Stream.{Stream}
 use Rattle.stream_rules.specs.MarkFacts.{MarkView}
 use Rattle.stream_rules.specs.declared.packet.Packet.{Packet}
 use Rattle.studio_spec.specs.Studio.{Studio}

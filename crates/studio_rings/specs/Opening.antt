@@ -1,7 +1,7 @@
 -- The ends of a studio's streams, while they are opened one after another.
 use Rattle.std.specs.Prelude.{◌≡◌, ℕ, List, [], ◌∷◌, ◌++◌, ℤ}
 use Rattle.rtrb.specs.Ring.{received}
-use Rattle.stream_rules.specs.StreamSpecFacts.{Stream}
+use Rattle.stream_rules.specs.declared.stream_spec.Stream.{Stream}
 use Rattle.stream_rules.specs.MarkFacts.{MarkView}
 use Rattle.studio_rings.specs.Opened.{AllFreshRings, AllFreshStreams, AreFreshRings, IsFreshStream}
 use Rattle.studio_rings.specs.declared.side.Side.{Side}

@@ -2,7 +2,7 @@
 use Rattle.std.specs.Prelude.{◌≡◌, ℕ, suc, ◌+◌, ◌<◌, ◌≤◌, false, nat_eq, List, [], ◌∷◌, ◌++◌, length, take, get_or, ℤ, ◌≤ℤ◌, if◌then◌else◌, ◌⊎◌}
 use Rattle.rtrb.specs.Ring.{sent, received, known_free, SameProducer}
 use Rattle.rtrb.specs.declared.producer.Producer.{Producer}
-use Rattle.stream_rules.specs.StreamSpecFacts.{Stream}
+use Rattle.stream_rules.specs.declared.stream_spec.Stream.{Stream}
 use Rattle.stream_rules.specs.CountsFacts.{Tally}
 use Rattle.stream_rules.specs.Counts.{tally_of}
 use Rattle.stream_rules.specs.Marks.{marks_of}

@@ -1,7 +1,7 @@
 //! The end of a stream.
 ghost use Rattle.std.specs.Prelude.{◌≡◌, ◌+◌, ◌<◌, ◌⊎◌, slice_get, vec_len, List, [], ◌∷◌, ◌++◌, ℤ, length, true, false, IsOk, IfOk, IfErr, IfSome, OnOk, OnErr, Some, None};
 ghost use Rattle.rtrb.specs.Ring.{all_sent, sent, known_free, Finishes, IsFinishedOf, SameProducer};
-ghost use Rattle.stream_rules.specs.StreamSpecFacts.{Stream};
+ghost use Rattle.stream_rules.specs.declared.stream_spec.Stream.{Stream};
 ghost use Rattle.stream_rules.specs.Marks.{marks_of};
 ghost use Rattle.stream_rules.specs.declared.packet.Packet.{Packet};
 ghost use Rattle.studio_rings.specs.declared.side.Side.{Side};

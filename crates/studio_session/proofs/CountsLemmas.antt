@@ -5,7 +5,7 @@ use Rattle.std.proofs.lemmas.Bool.{cases_Bool}
 use Rattle.std.proofs.lemmas.Bool.Decides.{nat_tests}
 use Rattle.std.proofs.lemmas.List.Sums.{count_by_more_no, count_by_more_yes}
 use Rattle.std.proofs.lemmas.Option.{slice_get_within, get_or_from_slice_get}
-use Rattle.stream_rules.specs.StreamSpecFacts.{Stream}
+use Rattle.stream_rules.specs.declared.stream_spec.Stream.{Stream}
 use Rattle.studio_mix.proofs.MixerLemmas.{set_same_at, set_other_at}
 use Rattle.studio_session.specs.declared.reception.Reception.{Reception}
 use Rattle.studio_session.specs.declared.reception.Reception.TheVariants.{Sent, Bad, WrongType, WrongLength}

@@ -8,7 +8,7 @@ use Rattle.std.proofs.lemmas.List.{length_push, length-append, length-drop, take
 use Rattle.std.proofs.lemmas.Option.{slice_get_read, slice_get_within, get_or_from_slice_get}
 use Rattle.lane_align.specs.Lane.{natural}
 use Rattle.lane_align.proofs.MarkListLemmas.{both_left, both_right}
-use Rattle.mix_packets.specs.OutSpec.{Output}
+use Rattle.mix_packets.specs.declared.out_spec.Output.{Output}
 use Rattle.mix_packets.specs.Block.{block_start}
 use Rattle.mix_packets.specs.Packer.{PackerState}
 use Rattle.studio_spec.specs.Studio.{Studio}

@@ -1,6 +1,6 @@
 -- What became of a path's datagrams before the merge.
 use Rattle.std.specs.Prelude.{◌≡◌, ℕ, zero, suc, ◌+◌, Bool, true, false, nat_eq, List, [], ◌∷◌, ◌++◌, map, Some, slice_get, if◌then◌else◌}
-use Rattle.stream_rules.specs.StreamSpecFacts.{Stream}
+use Rattle.stream_rules.specs.declared.stream_spec.Stream.{Stream}
 use Rattle.studio_session.specs.declared.counts.PathCounts.{PathCounts}
 use Rattle.studio_session.specs.declared.reception.Reception.{Reception}
 use Rattle.studio_session.specs.declared.reception.Reception.TheVariants.{Sent, Bad, WrongType, WrongLength}

@@ -1,7 +1,7 @@
 -- How far one stream of a run has come.
 use Rattle.std.specs.Prelude.{◌≡◌, ℕ, ◌+◌, ◌-◌, ◌-ℤ◌, ◌<◌, ◌≤◌, true, List, [], ◌∷◌, length, take, drop, ℤ, Option, Some, None, slice_get}
 use Rattle.std.specs.Option.{option_to_list}
-use Rattle.stream_rules.specs.StreamSpecFacts.{Stream}
+use Rattle.stream_rules.specs.declared.stream_spec.Stream.{Stream}
 use Rattle.stream_rules.specs.MarkFacts.{MarkView}
 use Rattle.path_merge.specs.MergeState.{MergeState}
 use Rattle.path_merge.specs.Clock.{clock_fault_of}

@@ -1,6 +1,6 @@
 -- What a run comes to.
 use Rattle.std.specs.Prelude.{◌≡◌, ℕ, List, [], length, take, drop, map, slice_get, ℤ, Some}
-use Rattle.stream_rules.specs.StreamSpecFacts.{Stream}
+use Rattle.stream_rules.specs.declared.stream_spec.Stream.{Stream}
 use Rattle.stream_rules.specs.CountsFacts.{Tally}
 use Rattle.stream_rules.specs.Counts.{counts_of, tally_of}
 use Rattle.studio_spec.specs.Studio.{Studio}

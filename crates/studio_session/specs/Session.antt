@@ -2,7 +2,7 @@
 use Rattle.std.specs.Prelude.{ℕ, ◌≤◌, Bool, false, ◌&&◌, nat_eq, ℤ, List, [], ◌∷◌, length, flat_map, count_by, Option, Some, None, if◌then◌else◌}
 use Rattle.rtp_wire.specs.Datagram.{wire_fault_of, head_at, payload_at}
 use Rattle.rtp_wire.specs.declared.fault.WireFault.{WireFault}
-use Rattle.stream_rules.specs.StreamSpecFacts.{Stream}
+use Rattle.stream_rules.specs.declared.stream_spec.Stream.{Stream}
 use Rattle.stream_rules.specs.StreamSpec.{Fits, admit_fault_of}
 use Rattle.stream_rules.specs.declared.stream_spec.AdmitFault.{AdmitFault}
 use Rattle.stream_rules.specs.declared.stream_spec.AdmitFault.TheVariants.{WrongType as TypeFault, WrongLength as LengthFault}

@@ -1,7 +1,7 @@
 -- A merge on its way to a reading of the clock.
 use Rattle.std.specs.Prelude.{◌≡◌, ℕ, ◌+◌, List, [], ◌∷◌, ◌++◌, length, take, drop, ℤ, Option, Some, None, if◌then◌else◌}
 use Rattle.std.specs.Option.{option_to_list}
-use Rattle.stream_rules.specs.StreamSpecFacts.{Stream}
+use Rattle.stream_rules.specs.declared.stream_spec.Stream.{Stream}
 use Rattle.stream_rules.specs.MarkFacts.{MarkView}
 use Rattle.stream_rules.specs.declared.event.Event.{Event}
 use Rattle.stream_rules.specs.declared.event.Event.TheVariants.{Tick}

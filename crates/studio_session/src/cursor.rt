@@ -1,7 +1,7 @@
 //! One stream of a run: its merge, and how far it has come in the events.
 ghost use Rattle.std.specs.Prelude.{◌≡◌, ℕ, ◌+◌, ◌<◌, ◌≤◌, ◌^◌, ◌++◌, List, [], ℤ, pos, ◌≤ℤ◌, length, take, drop, slice_get, is_some, true, false, None, Some, IfOk, IfSome};
 ghost use Rattle.std.specs.Option.{option_to_list};
-ghost use Rattle.stream_rules.specs.StreamSpecFacts.{Stream};
+ghost use Rattle.stream_rules.specs.declared.stream_spec.Stream.{Stream};
 ghost use Rattle.stream_rules.specs.declared.event.Event.{Event};
 ghost use Rattle.stream_rules.specs.Counts.{tally_of};
 ghost use Rattle.path_merge.specs.Merge.{HasHistory};
@@ -52,7 +52,7 @@ impl Model for Cursor {
 
     ghost view = { λ c. record { spec = c.spec; number = c.number; merge = c.merge; tallies = tallies_of c.paths; place = c.place; reading = c.reading } };
 
-    ghost invariant = { λ c. IsCursor (record { spec = c.spec; number = c.number; merge = c.merge; tallies = tallies_of c.paths; place = c.place; reading = c.reading }) };
+    ghost invariant = { λ c. IsCursor (view c) };
 }
 
 impl Cursor {

@@ -43,7 +43,7 @@ impl Model for Session {
 
     ghost view = { λ s. record { mixer = s.mixer; cursors = s.cursors.items } };
 
-    ghost invariant = { λ s. IsSession (record { mixer = s.mixer; cursors = s.cursors.items }) };
+    ghost invariant = { λ s. IsSession (view s) };
 }
 
 impl Session {

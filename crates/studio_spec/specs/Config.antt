@@ -1,7 +1,7 @@
 -- A whole configuration: the studio that it says, or its first fault.
 use Rattle.std.specs.Prelude.{ℕ, ◌-◌, pos, List, [], ◌∷◌, ◌++◌, map, length, Option, None}
 use Rattle.toml.specs.Data.{Members}
-use Rattle.stream_rules.specs.StreamSpecFacts.{Stream}
+use Rattle.stream_rules.specs.declared.stream_spec.Stream.{Stream}
 use Rattle.studio_spec.specs.Ports.{absent_rows}
 use Rattle.studio_spec.specs.Studio.{Studio, channel_total}
 use Rattle.studio_spec.specs.Values.{number_at, number_or, tables_at, table_at}

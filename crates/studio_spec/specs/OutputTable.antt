@@ -7,7 +7,8 @@ use Rattle.gain_mix.specs.Matrix.{has_range}
 use Rattle.gain_mix.specs.Schedule.{schedule_fault_of}
 use Rattle.gain_mix.specs.declared.matrix.MatrixFault.{MatrixFault}
 use Rattle.gain_mix.specs.declared.matrix.MatrixFault.TheVariants.{Shape, Range}
-use Rattle.mix_packets.specs.OutSpec.{Output, out_fault_of}
+use Rattle.mix_packets.specs.declared.out_spec.Output.{Output}
+use Rattle.mix_packets.specs.OutSpec.{out_fault_of}
 use Rattle.toml.specs.Data.{Members}
 use Rattle.studio_spec.specs.Values.{number_or, encoding_at, tables_at, gains_at}
 use Rattle.studio_spec.specs.Rows.{Row, required, optional, whole, tables, gains, key_of, first_of, first_in, at_key, at_table, row_fault, rows_fault, unknown_fault, table_fault}

@@ -1,6 +1,7 @@
 -- The table of a stream: its rows, what they say, and the first fault.
 use Rattle.std.specs.Prelude.{ℕ, List, [], ◌∷◌, ◌++◌, Option, option_map, if◌then◌else◌}
-use Rattle.stream_rules.specs.StreamSpecFacts.{Stream, spec_fault_of}
+use Rattle.stream_rules.specs.declared.stream_spec.Stream.{Stream}
+use Rattle.stream_rules.specs.StreamSpecFacts.{spec_fault_of}
 use Rattle.stream_rules.specs.declared.stream_spec.StreamClock.{StreamClock}
 use Rattle.stream_rules.specs.declared.stream_spec.StreamClock.TheVariants.{Media, Arrival}
 use Rattle.toml.specs.Data.{Members}

@@ -27,7 +27,7 @@ impl Model for StudioSpec {
 
     ghost view = { λ s. record { open_at = s.open_at; streams = s.streams.items; output = s.output; schedule = s.schedule; ports = s.ports } };
 
-    ghost invariant = { λ s. IsStudio (record { open_at = s.open_at; streams = s.streams.items; output = s.output; schedule = s.schedule; ports = s.ports }) };
+    ghost invariant = { λ s. IsStudio (view s) };
 }
 
 impl StudioSpec {

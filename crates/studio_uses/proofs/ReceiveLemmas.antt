@@ -17,7 +17,7 @@ use Rattle.stream_rules.specs.declared.anchor.Anchor.{Anchor}
 use Rattle.path_merge.proofs.EpochLemmas.{heard_of-tick}
 use Rattle.path_merge.proofs.JoinLemmas.{alike-trans, has_slot-append}
 use Rattle.path_merge.proofs.StepLemmas.{marks_of-tick}
-use Rattle.stream_rules.specs.StreamSpecFacts.{Stream}
+use Rattle.stream_rules.specs.declared.stream_spec.Stream.{Stream}
 use Rattle.stream_rules.specs.declared.event.Event.{Event}
 use Rattle.stream_rules.specs.declared.event.Event.TheVariants.{Arrive, Close, Tick}
 use Rattle.stream_rules.specs.MarkFacts.{MarkView}

@@ -1,7 +1,7 @@
 -- The history of a stream whose datagrams came in.
 use Rattle.std.specs.Prelude.{◌≡◌, Bool, false, nat_lt, List, [], ◌∷◌, ◌++◌, flat_map, ℤ}
 use Rattle.std.specs.List.{list_all}
-use Rattle.stream_rules.specs.StreamSpecFacts.{Stream}
+use Rattle.stream_rules.specs.declared.stream_spec.Stream.{Stream}
 use Rattle.stream_rules.specs.History.{is_well_timed}
 use Rattle.stream_rules.specs.declared.event.Event.{Event}
 use Rattle.stream_rules.specs.declared.event.Event.TheVariants.{Tick, Close}

@@ -8,7 +8,7 @@ use Rattle.studio_workers.specs.Answers.{Answer, answer_of, Tells, reaches_end, 
 use Rattle.studio_session.specs.Session.{reception_of}
 use Rattle.studio_session.specs.declared.reception.Reception.{Reception}
 use Rattle.studio_session.specs.declared.reception.Reception.TheVariants.{Sent, Bad, WrongType, WrongLength}
-use Rattle.stream_rules.specs.StreamSpecFacts.{Stream}
+use Rattle.stream_rules.specs.declared.stream_spec.Stream.{Stream}
 use Rattle.studio_workers.specs.Paths.{OffersAgain, SendsSoFar, SendsFeed}
 use Rattle.studio_workers.specs.declared.feed.FeedAnswer.{FeedAnswer}
 use Rattle.studio_workers.specs.declared.feed.FeedAnswer.TheVariants.{Datagram, Nothing, Fault, Ended}

@@ -3,7 +3,7 @@ use Rattle.std.proofs.Common.{◌≡◌, ℕ, zero, suc, ◌<◌, Bool, true, fa
 use Rattle.std.specs.List.{AllZip}
 use Rattle.rtrb.specs.Ring.{all_sent, IsFinishedOf, IsPair, SameConsumer}
 use Rattle.rtrb.specs.declared.consumer.Consumer.{Consumer}
-use Rattle.stream_rules.specs.StreamSpecFacts.{Stream}
+use Rattle.stream_rules.specs.declared.stream_spec.Stream.{Stream}
 use Rattle.stream_rules.specs.declared.packet.Packet.{Packet}
 use Rattle.stream_rules.specs.declared.event.Event.{Event}
 use Rattle.studio_session.specs.declared.counts.PathCounts.{PathCounts}

@@ -1,6 +1,6 @@
 -- The answers of a feed, and the packets of its datagrams.
 use Rattle.std.specs.Prelude.{◌≡◌, ℕ, ◌+◌, ◌≤◌, Bool, true, false, nat_eq, List, [], ◌∷◌, ◌++◌, take, ◌⊎◌, if◌then◌else◌}
-use Rattle.stream_rules.specs.StreamSpecFacts.{Stream}
+use Rattle.stream_rules.specs.declared.stream_spec.Stream.{Stream}
 use Rattle.stream_rules.specs.declared.packet.Packet.{Packet}
 use Rattle.studio_session.specs.Session.{reception_of}
 use Rattle.studio_session.specs.declared.reception.Reception.{Reception}

@@ -1,7 +1,7 @@
 -- What the turns of a stream's worker come to.
 use Rattle.std.specs.Prelude.{◌≡◌, ℕ, suc, ◌≤◌, true, false, List, [], ◌∷◌, ◌++◌, ℤ, IfSome}
 use Rattle.rtrb.specs.Ring.{all_sent, sent, SameConsumer, SameProducer}
-use Rattle.stream_rules.specs.StreamSpecFacts.{Stream}
+use Rattle.stream_rules.specs.declared.stream_spec.Stream.{Stream}
 use Rattle.stream_rules.specs.History.{is_closed}
 use Rattle.stream_rules.specs.Marks.{marks_of}
 use Rattle.stream_rules.specs.declared.packet.Packet.{Packet}

@@ -8,7 +8,7 @@ ghost use Rattle.stream_rules.specs.Anchor.{is_restart_in_reach, media_time_of, 
 ghost use Rattle.stream_rules.specs.PacketRef.{packet_of};
 ghost use Rattle.stream_rules.specs.Counts.{is_counted_fate, is_taken_fate};
 ghost use Rattle.stream_rules.specs.Probation.{is_off as off_grid};
-ghost use Rattle.stream_rules.specs.StreamSpecFacts.{Stream};
+ghost use Rattle.stream_rules.specs.declared.stream_spec.Stream.{Stream};
 
 use super::Merge;
 use crate::arrival::{fate_of_first, fate_of_put, goes_on, is_off, is_taken, place_fault};

@@ -8,7 +8,7 @@ ghost use Rattle.stream_rules.specs.MarkRef.{body_from};
 ghost use Rattle.stream_rules.specs.Anchor.{deadline_of};
 ghost use Rattle.stream_rules.specs.Marks.{body_of, slot_mark};
 ghost use Rattle.path_merge.specs.Steps.{is_quiet_due};
-ghost use Rattle.stream_rules.specs.StreamSpecFacts.{Stream};
+ghost use Rattle.stream_rules.specs.declared.stream_spec.Stream.{Stream};
 
 use super::Merge;
 use crate::clock::{ClockFault, clock_fault};

@@ -17,10 +17,10 @@ use crate::config::gain_rows::check_gains;
 use crate::config::keys::Key;
 use crate::config::known::check_known;
 use crate::config::numbers::{port, whole, whole_or};
-use crate::config::packets::{Packets, read_packets};
+use crate::config::packets::read_packets;
 use crate::config::tables::optional_tables;
 use gain_mix::Schedule;
-use mix_packets::OutSpec;
+use mix_packets::{OutSpec, Output};
 use std::alloc::Global;
 use toml::Table;
 
@@ -89,7 +89,16 @@ pub(crate) fn read_output(
     check_changes(changes)?;
     let addresses = read_addresses(table, place)?;
     check_known(table, place, &KEYS)?;
-    let spec = make_spec(packets, numbers)?;
+    let spec = check_output(Output {
+        enc: packets.enc,
+        channels: packets.channels,
+        frames: packets.frames,
+        pt: packets.pt,
+        ssrc: numbers.ssrc,
+        seq0: numbers.seq,
+        start: numbers.start,
+        offset: numbers.offset,
+    })?;
     let schedule = read_schedule(alloc, table, changes, usize::from(spec.channels()), ins)?;
     Ok(OutputEntry {
         spec,
@@ -98,23 +107,13 @@ pub(crate) fn read_output(
     })
 }
 
-/// The output of these packets and numbers.
-fn make_spec(packets: Packets, numbers: Numbers) -> Result<OutSpec, SpecError>
-    ensures ok { OnOk result (out_fault_of (record { enc = packets.enc; channels = packets.channels; frames = packets.frames; pt = packets.pt; ssrc = numbers.ssrc; seq0 = numbers.seq; start = numbers.start; offset = numbers.offset }) ≡ None) }
-    ensures output { IfOk result (λ o. o ≡ record { enc = packets.enc; channels = packets.channels; frames = packets.frames; pt = packets.pt; ssrc = numbers.ssrc; seq0 = numbers.seq; start = numbers.start; offset = numbers.offset }) }
-    ensures fault { IfErr result (λ e. at_table at.Output (option_map kind.Output (out_fault_of (record { enc = packets.enc; channels = packets.channels; frames = packets.frames; pt = packets.pt; ssrc = numbers.ssrc; seq0 = numbers.seq; start = numbers.start; offset = numbers.offset }))) ≡ Some e) }
+/// The output, or its fault at the output's table.
+fn check_output(output: Output) -> Result<OutSpec, SpecError>
+    ensures ok { OnOk result (out_fault_of output ≡ None) }
+    ensures output { IfOk result (λ o. o ≡ output) }
+    ensures fault { IfErr result (λ e. at_table at.Output (option_map kind.Output (out_fault_of output)) ≡ Some e) }
 {
-    let made = OutSpec::new(
-        packets.enc,
-        packets.channels,
-        packets.frames,
-        packets.pt,
-        numbers.ssrc,
-        numbers.seq,
-        numbers.start,
-        numbers.offset,
-    );
-    match made {
+    match OutSpec::of(output) {
         Ok(spec) => Ok(spec),
         Err(fault) => Err(SpecError {
             place: Place::Output,

@@ -12,7 +12,7 @@ use crate::config::known::check_known;
 use crate::config::numbers::{optional_whole, port, whole, whole_or};
 use crate::config::packets::read_packets;
 use crate::config::words::is_media;
-use path_merge::{StreamClock, StreamSpec};
+use path_merge::{Stream, StreamClock, StreamSpec};
 use toml::Table;
 
 /// The keys of a stream's table.
@@ -67,18 +67,18 @@ pub(crate) fn read_stream(table: &Table, place: Place) -> Result<StreamEntry, Sp
     let wait = read_wait(table, place)?;
     let ports = read_ports(table, place)?;
     check_known(table, place, &KEYS)?;
-    let made = StreamSpec::new(
-        packets.enc,
-        packets.channels,
-        packets.frames,
-        packets.pt,
-        source.ssrc,
-        source.clock,
-        wait.latency,
-        wait.window,
-        wait.paths,
-    );
-    match made {
+    let stream = Stream {
+        enc: packets.enc,
+        channels: packets.channels,
+        frames: packets.frames,
+        pt: packets.pt,
+        ssrc: source.ssrc,
+        clock: source.clock,
+        latency: wait.latency,
+        window: wait.window,
+        paths: wait.paths,
+    };
+    match StreamSpec::of(stream) {
         Ok(spec) => Ok(StreamEntry { spec, ports }),
         Err(fault) => Err(SpecError {
             place,

@@ -4,7 +4,7 @@ use Rattle.std.proofs.lemmas.List.Elements.{All-replicate}
 use Rattle.rtp_wire.specs.declared.encoding.Enc.{Enc}
 use Rattle.rtp_wire.specs.declared.encoding.Enc.TheVariants.{L24}
 use Rattle.rtp_wire.specs.Sample.{FitsEncoding}
-use Rattle.mix_packets.specs.OutSpec.{Output}
+use Rattle.mix_packets.specs.declared.out_spec.Output.{Output}
 use Rattle.mix_packets.specs.Packer.{PackerState}
 use Rattle.mix_packets.proofs.tests.sequence_and_timestamp_wrap.Goals as goal
 

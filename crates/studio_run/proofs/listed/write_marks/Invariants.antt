@@ -1,5 +1,5 @@
 use Rattle.std.proofs.Common.{ℕ, ℤ}
-use Rattle.stream_rules.specs.StreamSpecFacts.{Stream}
+use Rattle.stream_rules.specs.declared.stream_spec.Stream.{Stream}
 use Rattle.studio_session.specs.Cursor.{HasPulled, IsReadyFor, IsRunnable, events_left}
 use Rattle.studio_run.specs.Listed.{HasListed}
 use Rattle.studio_run.proofs.listed.write_marks.Given as goal

@@ -1,5 +1,5 @@
 use Rattle.std.proofs.Common.{◌≡◌, ◌≤◌, ℕ, length, All, Some, slice_get}
-use Rattle.stream_rules.specs.StreamSpecFacts.{Stream}
+use Rattle.stream_rules.specs.declared.stream_spec.Stream.{Stream}
 use Rattle.studio_spec.specs.Studio.{Studio}
 use Rattle.studio_session.specs.Cursor.{CursorState, IsReadyFor}
 use Rattle.studio_session.specs.Play.{IsRunnableBy}

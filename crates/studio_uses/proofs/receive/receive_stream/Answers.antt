@@ -7,12 +7,19 @@ use Rattle.path_merge.proofs.StepLemmas.{take_all}
 use Rattle.stream_rules.specs.declared.event.Event.TheVariants.{Tick}
 use Rattle.stream_rules.specs.Marks.{marks_of}
 use Rattle.path_merge.proofs.JoinLemmas.{alike-refl}
-use Rattle.path_merge.proofs.RunLemmas.{given_offered, drained_more, drained_all, given_closed}
+use Rattle.path_merge.proofs.RunLemmas.{given_at_start, given_offered, drained_more, drained_all, given_closed}
 use Rattle.studio_uses.proofs.ReceiveLemmas.{events_more, paths_more, off_paths, out_of_order, told_fault, mark_more, still_free, fewer_left, reached, no_event, refused_read, refused_admit, admitted}
 use Rattle.studio_uses.specs.Receive.{events_of_all, history_of}
 use Rattle.studio_uses.specs.declared.receive.ReceiveFault.TheVariants.{Clock, Path}
 use Rattle.studio_uses.proofs.receive.receive_stream.Goals.{in-Ok+in-Ok-admit, in-Ok+in_default-admit, in_default-read}
 use Rattle.studio_uses.proofs.receive.receive_stream.Goals as goal
+
+pub loop-arrival-init : goal.loop-arrival-init
+loop-arrival-init c = record {
+  paths = refl;
+  open_yet = c.in_ok-merge.ensures.open_yet;
+  given = given_at_start c.args.spec _ c.in_ok-merge.merge _ c.in_ok-merge.ensures.stands c.new-marks.ensures.items;
+}
 
 pub loop-marks-init : goal.loop-marks-init
 loop-marks-init c =

@@ -3,7 +3,7 @@ use Rattle.std.proofs.lemmas.Int.{ints}
 use Rattle.std.specs.List.{list_all, list_any, All}
 use Rattle.lane_align.specs.Cover.{covers}
 use Rattle.lane_align.specs.Lane.{LaneState, cover_at}
-use Rattle.mix_packets.specs.OutSpec.{Output}
+use Rattle.mix_packets.specs.declared.out_spec.Output.{Output}
 use Rattle.studio_mix.specs.Lanes.{IsReadyLane, reaches_past}
 use Rattle.studio_mix.specs.Mixer.{MixerState, HasFeeds}
 use Rattle.studio_mix.proofs.ReadyLemmas.{ready_answer, ready_lanes}

@@ -5,7 +5,7 @@ use Rattle.std.proofs.lemmas.List.Elements.{All-replicate}
 use Rattle.gain_mix.specs.Changes.{Changes}
 use Rattle.gain_mix.specs.Gain.{ins_of}
 use Rattle.gain_mix.specs.Mix.{Is24Bits}
-use Rattle.mix_packets.specs.OutSpec.{Output}
+use Rattle.mix_packets.specs.declared.out_spec.Output.{Output}
 use Rattle.mix_packets.specs.Block.{block_start}
 use Rattle.mix_packets.specs.Packer.{PackerState}
 use Rattle.studio_spec.specs.Studio.{channel_total}

@@ -5,7 +5,8 @@ use Rattle.rtp_wire.specs.Sample.{FitsEncoding}
 use Rattle.gain_mix.specs.Mix.{Is24Bits, IsMixed, mixed_frame}
 use Rattle.gain_mix.specs.Changes.{matrix_at}
 use Rattle.gain_mix.specs.Gain.{ins_of}
-use Rattle.mix_packets.specs.OutSpec.{Output, datagram_length, shift_of}
+use Rattle.mix_packets.specs.declared.out_spec.Output.{Output}
+use Rattle.mix_packets.specs.OutSpec.{datagram_length, shift_of}
 use Rattle.mix_packets.specs.Block.{block_start, block_datagram}
 use Rattle.studio_mix.specs.Feed.{studio_values}
 use Rattle.studio_mix.specs.Mixed.{mixed_samples}

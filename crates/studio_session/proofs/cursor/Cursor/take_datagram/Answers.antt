@@ -1,5 +1,5 @@
 use Rattle.std.proofs.Common.{◌≡◌, ◌<◌, ◌+◌, ◌++◌, Some, refl, sym, subst, ap, ◌∙◌, take, slice_get}
-use Rattle.stream_rules.specs.StreamSpecFacts.{Stream}
+use Rattle.stream_rules.specs.declared.stream_spec.Stream.{Stream}
 use Rattle.studio_session.specs.Event.{Arrival}
 use Rattle.studio_session.specs.Session.{Datagram, FitsReception, event_in, reception_from, reception_of, step_of, stream_history}
 use Rattle.studio_session.specs.Counts.{HasCounted, tallies_of}
