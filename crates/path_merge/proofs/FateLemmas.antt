@@ -1,6 +1,6 @@
 -- The fate of an arrival, test by test.
 use Rattle.stream_rules.specs.Grid.{extended_number, first_with, is_on_grid}
-use Rattle.std.proofs.Common.{◌≡◌, ℕ, ◌+◌, ◌-◌, ◌*◌, ◌<◌, ◌≤◌, Bool, true, false, not, ◌&&◌, List, Option, Some, None, ℤ, pos, ◌+ℤ◌, ◌-ℤ◌, ◌≤ℤ◌, refl, ap, subst, ◌∙◌, arith, ⊎_elim, if◌then◌else◌}
+use Rattle.std.proofs.Common.{◌≡◌, ℕ, ◌+◌, ◌-◌, ◌*◌, ◌^◌, ◌<◌, ◌≤◌, Bool, true, false, not, ◌&&◌, List, Option, Some, None, ℤ, pos, ◌+ℤ◌, ◌-ℤ◌, ◌≤ℤ◌, to_z, of_z, w64, refl, ap, subst, ◌∙◌, arith, ⊎_elim, if◌then◌else◌}
 use Rattle.std.specs.Prelude.{nat_eq, nat_lt, nat_le, int_le}
 use Rattle.std.proofs.lemmas.Bool.Decides.{nat_tests}
 use Rattle.std.proofs.lemmas.Int.{ints}
@@ -39,6 +39,19 @@ product_small n next f low high small = ⊎_elim
     let size = mul-le (n - next) f 32768 192 (omega (arith, high)) small in
     (omega (arith, ints, ap (λ q. q * f) e, size), omega (arith, ints, ap (λ q. q * f) e, size)))
     (cases_lt n next)
+
+-- how far a number's media time lies from the next one's, in words of 64 bits
+pub record IsShift (number next frames : ℕ) (counted : ℤ) : Type 0 where
+  pub low : neg_ℤ (pos 6291456) ≤ℤ ((pos number -ℤ pos next) *ℤ pos frames)
+  pub high : ((pos number -ℤ pos next) *ℤ pos frames) ≤ℤ pos 6291456
+  pub is : (to_z w64 (of_z w64 (to_z w64 number -ℤ to_z w64 next)) *ℤ to_z w64 (of_z w64 counted)) ≡ (pos number -ℤ pos next) *ℤ pos frames
+
+pub shift_is : (number next frames : ℕ) (counted : ℤ) → next ≤ 2 ^ 61 → next ≤ number + 32768 → number ≤ next + 32768 → frames ≤ 192 → counted ≡ pos frames → IsShift number next frames counted
+shift_is number next frames counted next_high low high few is =
+    let small = product_small number next frames low high few in
+    let steps : to_z w64 (of_z w64 (to_z w64 number -ℤ to_z w64 next)) ≡ pos number -ℤ pos next = omega (arith, ints, low, high, next_high) in
+    let instants : to_z w64 (of_z w64 counted) ≡ pos frames = omega (arith, ints, is, few) in
+    record { low = small.0; high = small.1; is = ap (λ z. z *ℤ to_z w64 (of_z w64 counted)) steps ∙ ap (λ z. (pos number -ℤ pos next) *ℤ z) instants }
 
 -- why not in time, told by the tests
 pub place_is : (spec : Stream) (a : Anchor) (next : ℕ) (packet : Packet) (number : ℕ) (t g l h : Bool) → number ≡ extended_number packet next → nat_eq packet.ssrc a.source ≡ t → is_on_grid spec a number packet.ts ≡ g → nat_lt number next ≡ l → nat_lt number (next + spec.window) ≡ h → (if not t then Some WrongSource else if not g then Some OffGrid else if l then Some Late else if not h then Some Ahead else None) ≡ place_fault_of spec a next packet

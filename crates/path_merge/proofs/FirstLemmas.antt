@@ -1,25 +1,23 @@
 -- The first arrival that anchors a stream.
 use Rattle.stream_rules.specs.Epochs.{anchor_in, anchor_of, anchors_of, last_of, placed}
 use Rattle.stream_rules.specs.Grid.{first_with}
-use Rattle.std.proofs.Common.{◌≡◌, ℕ, ◌+◌, ◌-◌, ◌*◌, ◌^◌, ◌<◌, ◌≤◌, Bool, true, false, not, ◌&&◌, List, [], ◌∷◌, ◌++◌, length, Option, Some, None, IsSome, ℤ, pos, ◌+ℤ◌, ◌-ℤ◌, ◌<ℤ◌, refl, sym, ap, subst, ◌∙◌, arith, if◌then◌else◌}
+use Rattle.std.proofs.Common.{◌≡◌, ℕ, ◌+◌, ◌*◌, ◌^◌, ◌<◌, Bool, true, false, not, ◌&&◌, List, [], ◌∷◌, ◌++◌, length, Option, Some, None, ℤ, pos, ◌+ℤ◌, ◌-ℤ◌, ◌<ℤ◌, refl, sym, ap, subst, ◌∙◌, arith, if◌then◌else◌}
 use Rattle.std.specs.Prelude.{int_lt, int_le, nat_lt}
 use Rattle.std.specs.Prelude.{nat_eq}
 use Rattle.std.proofs.lemmas.Bool.Decides.{nat_tests}
 use Rattle.std.proofs.lemmas.Int.{ints}
 use Rattle.std.specs.FinMap.{get, FinMap}
 use Rattle.std.specs.Ordering.{nat_cmp}
-use Rattle.std.proofs.lemmas.Nat.{mul-le}
 use Rattle.path_merge.proofs.ArrivalLemmas.{marks_of-arrive, stands_after_arrival}
-use Rattle.path_merge.proofs.HeldLemmas.{FateCounts, held_count-none, held_count-put, with_fate-counts}
+use Rattle.path_merge.proofs.HeldLemmas.{FateCounts, with_fate-counts}
 use Rattle.path_merge.proofs.HistoryLemmas.{marks_of-in, or_else}
 use Rattle.path_merge.proofs.EpochLemmas.{anchor_is, copies_of-since, copies_since-made, heard_of-made, last-push, since_of}
 use Rattle.path_merge.proofs.FateLemmas.{first_counts}
 use Rattle.path_merge.proofs.MarksLemmas.{AllSlotsBelow, limit_of, slots_below}
-use Rattle.path_merge.proofs.NextLemmas.{media_time_of-from}
-use Rattle.path_merge.proofs.RestartLemmas.{next_number-fresh, own_copy}
+use Rattle.path_merge.proofs.RestartLemmas.{own_copy, sound_anew}
 use Rattle.path_merge.proofs.RestartOfferLemmas.{all, counts_heard, few, hears, none_above, one_held}
 use Rattle.path_merge.proofs.SoundLemmas.{some_window}
-use Rattle.stream_rules.specs.Anchor.{anchor_from, first_media_time, can_anchor, is_source_wanted, media_time_of, next_number}
+use Rattle.stream_rules.specs.Anchor.{anchor_from, first_media_time, can_anchor, is_source_wanted}
 use Rattle.stream_rules.specs.Copies.{copies_of, copies_of_all, first_copy}
 use Rattle.stream_rules.specs.PathProbation.{no_probation, probation_at, probation_of}
 use Rattle.stream_rules.specs.declared.probation.Probation.{Probation}
@@ -29,7 +27,7 @@ use Rattle.stream_rules.specs.Fate.{fate_of, first_fate}
 use Rattle.stream_rules.specs.History.{arrival_count, is_closed, is_counting}
 use Rattle.stream_rules.specs.Marks.{marks_of}
 use Rattle.path_merge.specs.Merge.{HasHistory, IsBaseOf, heard_of, slot_count}
-use Rattle.path_merge.specs.MergeState.{IsAnchoredOrNot, IsSound, IsUnanchored, MergeState, held_count}
+use Rattle.path_merge.specs.MergeState.{IsAnchoredOrNot, IsSound, IsUnanchored, MergeState}
 use Rattle.path_merge.specs.Steps.{IsFirstStep, IsRefusal, Offers}
 use Rattle.stream_rules.specs.StreamSpec.{Fits}
 use Rattle.stream_rules.specs.declared.stream_spec.Stream.{Stream}
@@ -224,11 +222,7 @@ sound_refused m media path fate counts' probations' s room untaken is_counts = r
     by_anchor (Some a) an = record {
       epoch_is = omega (arith, no_restart, an.epoch_is);
       few_epochs = omega (arith, counts.more, an.few_epochs);
-      first_low = an.first_low;
-      first_high = an.first_high;
-      stamp = an.stamp;
-      media_low = an.media_low;
-      media_high = an.media_high;
+      bounds = an.bounds;
       media_is = an.media_is;
       next_open = an.next_open;
       next_low = an.next_low;
@@ -241,31 +235,13 @@ sound_refused m media path fate counts' probations' s room untaken is_counts = r
     }
 
 pub sound_first : (m : MergeState) (media media' : ℤ) (path : ℕ) (packet : Packet) (a : Anchor) (g h : FinMap nat_cmp Packet) (base' size' : ℕ) (counts' : Tally) → IsSound m media → m.anchor ≡ None → m.closed ≡ false → m.counts.arrived < 2 ^ 62 → Fits m.spec packet → packet.seq < 65536 → packet.ts < 2 ^ 32 → can_anchor m.spec m.time packet ≡ true → a ≡ anchor_from m.spec m.time packet → IsEmpty g → ((n : ℕ) → get h n ≡ (if nat_eq n (65536 + packet.seq) then Some packet else get g n)) → base' ≡ 65536 + packet.seq → size' ≡ m.size → counts' ≡ with_fate m.counts path Taken → media' ≡ a.media → IsSound (record m { anchor = Some a; base = base'; size = size'; held = h; counts = counts' }) media'
-sound_first m media media' path packet a g h base' size' counts' s is_none open_yet room fits seq ts can is_a empty put is_base is_size is_counts is_media = rw (is_media, is_a, is_base, is_size, is_counts) (record {
-  spec_ok = s.spec_ok;
-  time_low = s.time_low;
-  time_high = s.time_high;
-  size_is = s.size_is;
-  few_arrived = omega (arith, counts.arrived, room);
-  anchored = record {
-    epoch_is = omega (arith, counts.restarts, none.none_restarted);
-    few_epochs = omega arith;
-    first_low = omega arith;
-    first_high = omega (arith, seq);
-    stamp = ts;
-    media_low = omega (arith, ints, first.after, s.time_low, s.spec_ok.small_latency);
-    media_high = omega (arith, ints, first.before, s.time_high, product);
-    media_is = omega (arith, ints, at_base);
-    next_open = λ _. sym next;
-    next_low = omega (arith, next);
-    next_high = omega (arith, next);
-    held_low = λ n some_n. omega (arith, only n some_n);
-    held_high = λ n some_n. omega (arith, only n some_n, next, wide);
-    held_fits = λ n q is. subst (λ x. Fits m.spec x) (some_inj (sym (here n (subst IsSome (sym is) refl)) ∙ is)) fits;
-    slots_given = omega (arith, ints, counts.got, counts.lost, none.none_got, none.none_lost, first.after, s.time_low, s.spec_ok.small_latency);
-    taken_are = omega (arith, counts.taken, counts.got, none.none_taken, none.none_got, one);
-  };
-})
+sound_first m media media' path packet a g h base' size' counts' s is_none open_yet room fits seq ts can is_a empty put is_base is_size is_counts is_media =
+    rw (is_media, is_a, is_base, is_size, is_counts) (sound_anew m media (first_media_time m.spec.clock packet.ts m.time) packet 0 g h (with_fate m.counts path Taken) m.probations s fits seq ts first.after first.before empty put (omega (arith, counts.restarts, none.none_restarted)) (record {
+      few_arrived = omega (arith, counts.arrived, room);
+      few_epochs = omega (arith, counts.arrived, counts.restarts, none.none_restarted);
+      slots_given = omega (arith, ints, counts.got, counts.lost, none.none_got, none.none_lost, first.after, s.time_low, s.spec_ok.small_latency);
+      taken_are = omega (arith, counts.taken, counts.got, none.none_taken, none.none_got);
+    }))
   where
     counts : FateCounts m.counts (with_fate m.counts path Taken) Taken
     counts = with_fate-counts m.counts path Taken
@@ -275,35 +251,6 @@ sound_first m media media' path packet a g h base' size' counts' s is_none open_
 
     none : IsUnanchored m
     none = subst (λ o. IsAnchoredOrNot m media o) is_none s.anchored
-
-    wide : 0 < m.spec.window
-    wide = some_window m.spec s.spec_ok
-
-    product : m.spec.window * m.spec.frames ≤ 16384 * 192
-    product = mul-le m.spec.window m.spec.frames 16384 192 s.spec_ok.narrow s.spec_ok.few_frames
-
-    next : next_number m.spec (anchor_from m.spec m.time packet) m.time ≡ 65536 + packet.seq
-    next = next_number-fresh m.spec (anchor_from m.spec m.time packet) m.time s.spec_ok.some_frames first.after
-
-    at_base : media_time_of m.spec (anchor_from m.spec m.time packet) (65536 + packet.seq) ≡ first_media_time m.spec.clock packet.ts m.time
-    at_base =
-        let zero : 65536 + packet.seq - (65536 + packet.seq) ≡ 0 = omega arith in
-        let from = media_time_of-from m.spec (anchor_from m.spec m.time packet) (65536 + packet.seq) (omega arith) in
-        let step = ap (λ q. q * m.spec.frames) zero in
-        omega (arith, ints, from, step)
-
-    one : held_count h (65536 + packet.seq) m.spec.window ≡ 1
-    one = held_count-put g h packet (65536 + packet.seq) (65536 + packet.seq) m.spec.window (omega arith) (omega (arith, wide)) (empty (65536 + packet.seq)) put ∙ ap (λ c. c + 1) (held_count-none g (65536 + packet.seq) m.spec.window empty)
-
-    by_eq : (n : ℕ) (b : Bool) → nat_eq n (65536 + packet.seq) ≡ b → IsSome (get h n) → (n ≡ 65536 + packet.seq) × (get h n ≡ Some packet)
-    by_eq n true is some_n = (grind (arith, nat_tests, is), put n ∙ ap (λ b. if b then Some packet else get g n) is)
-    by_eq n false is some_n = absurd (let no = put n ∙ ap (λ b. if b then Some packet else get g n) is ∙ empty n in let some_none = subst IsSome no some_n in cc)
-
-    only : (n : ℕ) → IsSome (get h n) → n ≡ 65536 + packet.seq
-    only n some_n = (by_eq n (nat_eq n (65536 + packet.seq)) refl some_n).0
-
-    here : (n : ℕ) → IsSome (get h n) → get h n ≡ Some packet
-    here n some_n = (by_eq n (nat_eq n (65536 + packet.seq)) refl some_n).1
 
 -- the steps that the code makes
 taken_alone : (stream : Stream) (time : ℤ) (packet : Packet) → is_taken_fate (first_fate stream time packet) ≡ true → first_fate stream time packet ≡ Taken

@@ -96,11 +96,7 @@ sound_put m media a path packet h base' size' number counts' p probations' s is_
   anchored = anchored_back _ _ m.anchor a is_a (let an = anchored_at m media m.anchor a is_a s.anchored in record {
     epoch_is = omega (arith, counts.restarts, an.epoch_is);
     few_epochs = omega (arith, counts.more, an.few_epochs);
-    first_low = an.first_low;
-    first_high = an.first_high;
-    stamp = an.stamp;
-    media_low = an.media_low;
-    media_high = an.media_high;
+    bounds = an.bounds;
     media_is = an.media_is;
     next_open = an.next_open;
     next_low = an.next_low;

@@ -89,22 +89,31 @@ in_reach stream time due media can = by_tests (int_lt (time -ℤ pos stream.late
 some_inj : {x y : Packet} → Some x ≡ Some y → x ≡ y
 some_inj e = cc
 
--- a merge that holds nothing, and begins anew at a packet, stays sound
-pub sound_restart : (m : MergeState) (media media' : ℤ) (path : ℕ) (packet : Packet) (a b : Anchor) (g h : FinMap nat_cmp Packet) (base' size' : ℕ) (counts' : Tally) (probations' : List Probation) → IsSound m media → m.anchor ≡ Some a → m.closed ≡ false → m.counts.arrived < 2 ^ 62 → Fits m.spec packet → packet.seq < 65536 → packet.ts < 2 ^ 32 → IsEmpty m.held → GoesOn m.spec m.time media media' → b ≡ made_by packet (a.epoch + 1) media' → IsEmpty g → ((n : ℕ) → get h n ≡ (if nat_eq n (65536 + packet.seq) then Some packet else get g n)) → base' ≡ 65536 + packet.seq → size' ≡ m.size → counts' ≡ with_fate m.counts path Restarted → IsSound (record m { anchor = Some b; base = base'; size = size'; held = h; counts = counts'; probations = probations' }) media'
-sound_restart m media media' path packet a b g h base' size' counts' probations' s is_a open_yet room fits seq ts none_held first is_b empty put is_base is_size is_counts = rw (is_b, is_base, is_size, is_counts) (record {
+-- the counts of a merge that holds one packet alone, of an epoch that begins at this media time
+pub record HoldsOne (counts : Tally) (media : ℤ) : Type 0 where
+  pub few_arrived : counts.arrived ≤ 2 ^ 62
+  pub few_epochs : counts.restarts < counts.arrived
+  pub slots_given : pos (counts.got + counts.lost) ≤ℤ (media +ℤ pos (2 ^ 33))
+  pub taken_are : counts.taken ≡ counts.got + 1
+
+-- a merge that begins at a packet, and holds it alone, is sound
+pub sound_anew : (m : MergeState) (media media' : ℤ) (packet : Packet) (epoch : ℕ) (g h : FinMap nat_cmp Packet) (counts : Tally) (probations' : List Probation) → IsSound m media → Fits m.spec packet → packet.seq < 65536 → packet.ts < 2 ^ 32 → (m.time -ℤ pos m.spec.latency) <ℤ media' → media' <ℤ (m.time -ℤ pos m.spec.latency +ℤ pos (m.spec.window * m.spec.frames)) → IsEmpty g → ((n : ℕ) → get h n ≡ (if nat_eq n (65536 + packet.seq) then Some packet else get g n)) → epoch ≡ counts.restarts → HoldsOne counts media' → IsSound (record m { anchor = Some (made_by packet epoch media'); base = 65536 + packet.seq; held = h; counts = counts; probations = probations' }) media'
+sound_anew m media media' packet epoch g h counts probations' s fits seq ts after before empty put epoch_is holds = record {
   spec_ok = s.spec_ok;
   time_low = s.time_low;
   time_high = s.time_high;
   size_is = s.size_is;
-  few_arrived = omega (arith, counts.arrived, room);
+  few_arrived = holds.few_arrived;
   anchored = record {
-    epoch_is = omega (arith, counts.restarts, an.epoch_is);
-    few_epochs = omega (arith, an.few_epochs);
-    first_low = omega arith;
-    first_high = omega (arith, seq);
-    stamp = ts;
-    media_low = omega (arith, ints, first.after, s.time_low, s.spec_ok.small_latency);
-    media_high = omega (arith, ints, first.before, s.time_high, product);
+    epoch_is = epoch_is;
+    few_epochs = omega (arith, epoch_is, holds.few_epochs);
+    bounds = record {
+      first_low = omega arith;
+      first_high = omega (arith, seq);
+      stamp = ts;
+      media_low = omega (arith, ints, after, s.time_low, s.spec_ok.small_latency);
+      media_high = omega (arith, ints, before, s.time_high, product);
+    };
     media_is = omega (arith, ints, at_base);
     next_open = λ _. sym next;
     next_low = omega (arith, next);
@@ -112,35 +121,26 @@ sound_restart m media media' path packet a b g h base' size' counts' probations'
     held_low = λ n some_n. omega (arith, only n some_n);
     held_high = λ n some_n. omega (arith, only n some_n, next, wide);
     held_fits = λ n q is. subst (λ x. Fits m.spec x) (some_inj (sym (here n (subst IsSome (sym is) refl)) ∙ is)) fits;
-    slots_given = omega (arith, ints, counts.got, counts.lost, an.slots_given, first.not_back);
-    taken_are = omega (arith, counts.taken, counts.got, an.taken_are, none_before, one);
+    slots_given = holds.slots_given;
+    taken_are = omega (arith, holds.taken_are, one);
   };
-})
+}
   where
-    counts : FateCounts m.counts (with_fate m.counts path Restarted) Restarted
-    counts = with_fate-counts m.counts path Restarted
-
-    an : IsAnchored m media a
-    an = anchored_at m media m.anchor a is_a s.anchored
-
     wide : 0 < m.spec.window
     wide = some_window m.spec s.spec_ok
 
     product : m.spec.window * m.spec.frames ≤ 16384 * 192
     product = mul-le m.spec.window m.spec.frames 16384 192 s.spec_ok.narrow s.spec_ok.few_frames
 
-    next : next_number m.spec (made_by packet (a.epoch + 1) media') m.time ≡ 65536 + packet.seq
-    next = next_number-fresh m.spec (made_by packet (a.epoch + 1) media') m.time s.spec_ok.some_frames first.after
+    next : next_number m.spec (made_by packet epoch media') m.time ≡ 65536 + packet.seq
+    next = next_number-fresh m.spec (made_by packet epoch media') m.time s.spec_ok.some_frames after
 
-    at_base : media_time_of m.spec (made_by packet (a.epoch + 1) media') (65536 + packet.seq) ≡ media'
+    at_base : media_time_of m.spec (made_by packet epoch media') (65536 + packet.seq) ≡ media'
     at_base =
         let zero : 65536 + packet.seq - (65536 + packet.seq) ≡ 0 = omega arith in
-        let from = media_time_of-from m.spec (made_by packet (a.epoch + 1) media') (65536 + packet.seq) (omega arith) in
+        let from = media_time_of-from m.spec (made_by packet epoch media') (65536 + packet.seq) (omega arith) in
         let step = ap (λ q. q * m.spec.frames) zero in
         omega (arith, ints, from, step)
-
-    none_before : held_count m.held m.base m.spec.window ≡ 0
-    none_before = held_count-none m.held m.base m.spec.window none_held
 
     one : held_count h (65536 + packet.seq) m.spec.window ≡ 1
     one = held_count-put g h packet (65536 + packet.seq) (65536 + packet.seq) m.spec.window (omega arith) (omega (arith, wide)) (empty (65536 + packet.seq)) put ∙ ap (λ c. c + 1) (held_count-none g (65536 + packet.seq) m.spec.window empty)
@@ -154,6 +154,25 @@ sound_restart m media media' path packet a b g h base' size' counts' probations'
 
     here : (n : ℕ) → IsSome (get h n) → get h n ≡ Some packet
     here n some_n = (by_eq n (nat_eq n (65536 + packet.seq)) refl some_n).1
+
+-- a merge that holds nothing, and begins anew at a packet, stays sound
+pub sound_restart : (m : MergeState) (media media' : ℤ) (path : ℕ) (packet : Packet) (a b : Anchor) (g h : FinMap nat_cmp Packet) (base' size' : ℕ) (counts' : Tally) (probations' : List Probation) → IsSound m media → m.anchor ≡ Some a → m.closed ≡ false → m.counts.arrived < 2 ^ 62 → Fits m.spec packet → packet.seq < 65536 → packet.ts < 2 ^ 32 → IsEmpty m.held → GoesOn m.spec m.time media media' → b ≡ made_by packet (a.epoch + 1) media' → IsEmpty g → ((n : ℕ) → get h n ≡ (if nat_eq n (65536 + packet.seq) then Some packet else get g n)) → base' ≡ 65536 + packet.seq → size' ≡ m.size → counts' ≡ with_fate m.counts path Restarted → IsSound (record m { anchor = Some b; base = base'; size = size'; held = h; counts = counts'; probations = probations' }) media'
+sound_restart m media media' path packet a b g h base' size' counts' probations' s is_a open_yet room fits seq ts none_held first is_b empty put is_base is_size is_counts =
+    rw (is_b, is_base, is_size, is_counts) (sound_anew m media media' packet (a.epoch + 1) g h (with_fate m.counts path Restarted) probations' s fits seq ts first.after first.before empty put (omega (arith, counts.restarts, an.epoch_is)) (record {
+      few_arrived = omega (arith, counts.arrived, room);
+      few_epochs = omega (arith, counts.arrived, counts.restarts, an.epoch_is, an.few_epochs);
+      slots_given = omega (arith, ints, counts.got, counts.lost, an.slots_given, first.not_back);
+      taken_are = omega (arith, counts.taken, counts.got, an.taken_are, none_before);
+    }))
+  where
+    counts : FateCounts m.counts (with_fate m.counts path Restarted) Restarted
+    counts = with_fate-counts m.counts path Restarted
+
+    an : IsAnchored m media a
+    an = anchored_at m media m.anchor a is_a s.anchored
+
+    none_before : held_count m.held m.base m.spec.window ≡ 0
+    none_before = held_count-none m.held m.base m.spec.window none_held
 
 pub four_fresh : (fresh : Probation) → fresh ≡ no_probation → (other : ℕ) → probation_at (fresh ∷ fresh ∷ fresh ∷ fresh ∷ []) other ≡ no_probation
 four_fresh fresh is zero = is

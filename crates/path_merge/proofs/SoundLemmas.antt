@@ -94,11 +94,7 @@ sound_slot m media a h s is_a open_yet soon held =
       anchored = anchored_back _ _ m.anchor a is_a (record {
         epoch_is = gives.epoch_is;
         few_epochs = gives.few_epochs;
-        first_low = an.first_low;
-        first_high = an.first_high;
-        stamp = an.stamp;
-        media_low = an.media_low;
-        media_high = an.media_high;
+        bounds = an.bounds;
         media_is = media_next;
         next_open = λ _. omega (arith, next);
         next_low = omega (arith, next);
@@ -126,11 +122,7 @@ sound_left m media a h s is_a shut holds held =
       anchored = anchored_back _ _ m.anchor a is_a (record {
         epoch_is = gives.epoch_is;
         few_epochs = gives.few_epochs;
-        first_low = an.first_low;
-        first_high = an.first_high;
-        stamp = an.stamp;
-        media_low = an.media_low;
-        media_high = an.media_high;
+        bounds = an.bounds;
         media_is = media_next;
         next_open = λ o. cc;
         next_low = omega (arith, an.next_low);
@@ -162,11 +154,7 @@ sound_time m media now quiet s open_yet not_back not_far early =
         record {
           epoch_is = an.epoch_is;
           few_epochs = an.few_epochs;
-          first_low = an.first_low;
-          first_high = an.first_high;
-          stamp = an.stamp;
-          media_low = an.media_low;
-          media_high = an.media_high;
+          bounds = an.bounds;
           media_is = an.media_is;
           next_open = λ _. sym same;
           next_low = omega (arith, same);
@@ -193,11 +181,7 @@ sound_closed m media s = record {
     by_anchor (Some a) an = record {
       epoch_is = an.epoch_is;
       few_epochs = an.few_epochs;
-      first_low = an.first_low;
-      first_high = an.first_high;
-      stamp = an.stamp;
-      media_low = an.media_low;
-      media_high = an.media_high;
+      bounds = an.bounds;
       media_is = an.media_is;
       next_open = λ o. cc;
       next_low = an.next_low;
@@ -247,7 +231,7 @@ deadline_small m media a s is_a open_yet =
     (λ ge.
     let none : m.base - a.number ≡ 0 = omega arith in
     let zero = ap (λ q. q * m.spec.frames) none in
-    omega (arith, ints, media_time_of-from m.spec a m.base first, zero, an.media_high, s.spec_ok.small_latency))
+    omega (arith, ints, media_time_of-from m.spec a m.base first, zero, an.bounds.media_high, s.spec_ok.small_latency))
     (cases_lt a.number m.base) in
     (omega (arith, ints, later, s.time_low), high, an.media_is, s.spec_ok.small_latency, s.spec_ok.few_frames)
 
@@ -280,9 +264,9 @@ media_small m media a s is_a =
     (λ ge.
     let none : next_number m.spec a m.time - a.number ≡ 0 = omega (arith, ge) in
     let zero = ap (λ q. q * m.spec.frames) none in
-    omega (arith, ints, zero, an.media_high))
+    omega (arith, ints, zero, an.bounds.media_high))
     (cases_lt a.number (next_number m.spec a m.time)) in
-    (an.media_is, omega (arith, ints, an.media_is, from, an.media_low), omega (arith, ints, an.media_is, from, product, extra_product, up), s.spec_ok.few_frames)
+    (an.media_is, omega (arith, ints, an.media_is, from, an.bounds.media_low), omega (arith, ints, an.media_is, from, product, extra_product, up), s.spec_ok.few_frames)
 
 -- so is its number
 pub base_small : (m : MergeState) (media : ℤ) (a : Anchor) → IsSound m media → m.anchor ≡ Some a → (a.number ≤ m.base) × (m.base ≤ 2 ^ 61)
@@ -292,7 +276,7 @@ base_small m media a s is_a =
     let t = media_small m media a s is_a in
     let from = media_time_of-from m.spec a m.base first in
     let many : (m.base - a.number) * 1 ≤ (m.base - a.number) * m.spec.frames = mul-le-mul_left (m.base - a.number) s.spec_ok.some_frames in
-    (first, omega (arith, ints, t.0, t.2, from, many, an.media_low, an.first_high))
+    (first, omega (arith, ints, t.0, t.2, from, many, an.bounds.media_low, an.bounds.first_high))
 
 -- where the base has a packet, fewer were got than taken
 pub room_for_got : (m : MergeState) (media : ℤ) (a : Anchor) → IsSound m media → m.anchor ≡ Some a → is_got_body (body_of (get m.held m.base)) ≡ true → m.counts.got < m.counts.taken

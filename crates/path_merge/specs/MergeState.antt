@@ -34,15 +34,19 @@ held_count held number (suc count) = (if is_some (get held number) then 1 else 0
 abbrev pub holds_nothing : MergeState → Bool
 holds_nothing m = nat_eq (held_count m.held m.base m.spec.window) 0
 
--- once anchored, the base is the number due next until the close, and all that is held lies within the window
-pub record IsAnchored (m : MergeState) (media : ℤ) (anchor : Anchor) : Type 0 where
-  pub epoch_is : anchor.epoch ≡ m.counts.restarts
-  pub few_epochs : anchor.epoch < m.counts.arrived
+-- each anchor's numbers
+pub record IsInBounds (anchor : Anchor) : Type 0 where
   pub first_low : 65536 ≤ anchor.number
   pub first_high : anchor.number < 131072
   pub stamp : anchor.timestamp < 2 ^ 32
   pub media_low : neg_ℤ (pos (2 ^ 33)) ≤ℤ anchor.media
   pub media_high : anchor.media ≤ℤ pos (2 ^ 60 + 2 ^ 33)
+
+-- once anchored, the base is the number due next until the close, and all that is held lies within the window
+pub record IsAnchored (m : MergeState) (media : ℤ) (anchor : Anchor) : Type 0 where
+  pub epoch_is : anchor.epoch ≡ m.counts.restarts
+  pub few_epochs : anchor.epoch < m.counts.arrived
+  pub bounds : IsInBounds anchor
   pub media_is : media ≡ media_time_of m.spec anchor m.base
   pub next_open : m.closed ≡ false → m.base ≡ next_number m.spec anchor m.time
   pub next_low : next_number m.spec anchor m.time ≤ m.base

@@ -25,7 +25,7 @@ place_fault-fault-requires-clause-media_low g c =
 pub place_fault-fault-requires-clause-anchor_low : goal.place_fault-fault-requires-clause-anchor_low
 place_fault-fault-requires-clause-anchor_low g c =
     let is_a = ap (λ (m : MergeState). m.anchor) c.self.view_is ∙ c.requires.anchored in
-    omega (arith, ints, (anchored_at _ c.self.inside.next_media _ c.args.anchor is_a c.self.invariant.anchored).media_low)
+    omega (arith, ints, (anchored_at _ c.self.inside.next_media _ c.args.anchor is_a c.self.invariant.anchored).bounds.media_low)
 
 pub place_fault-fault-requires-clause-media_high : goal.place_fault-fault-requires-clause-media_high
 place_fault-fault-requires-clause-media_high g c =
