@@ -50,10 +50,8 @@ impl Matrix {
         if let Some(fault) = fault_of(outs, ins, gains) {
             return Err(fault);
         }
-        match Vec::from_slice(alloc, gains) {
-            Ok(gains) => Ok(Matrix { outs, ins, gains }),
-            Err(_) => Err(MatrixFault::Memory),
-        }
+        let gains = Vec::from_slice(alloc, gains).map_err(|_| MatrixFault::Memory)?;
+        Ok(Matrix { outs, ins, gains })
     }
 
     /// How many outputs there are.

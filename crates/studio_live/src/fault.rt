@@ -3,7 +3,7 @@ ghost use Rattle.std.specs.Prelude.{◌≡◌};
 ghost use Rattle.studio_live.specs.Run.{IsEarly};
 ghost use Rattle.studio_live.specs.declared.fault.LiveFault.TheVariants.{Write};
 
-use std::alloc::AllocError;
+use std::alloc::{AllocError, AllocFailed};
 use std::io;
 use std::io::ErrorKind;
 use studio_rings::OpenFault;
@@ -32,6 +32,14 @@ impl From<AllocError> for LiveFault {
     ghost from_gives = { λ _ to. IsEarly to };
 
     fn from(_fault: AllocError) -> LiveFault {
+        LiveFault::Memory
+    }
+}
+
+impl<T: Drop> From<AllocFailed<T>> for LiveFault {
+    ghost from_gives = { λ _ to. IsEarly to };
+
+    fn from(_refused: AllocFailed<T>) -> LiveFault {
         LiveFault::Memory
     }
 }

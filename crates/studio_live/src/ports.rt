@@ -57,9 +57,7 @@ fn push_row(found: &mut Vec<u16>, ports: &Ports, number: usize, count: u8) -> Re
         let Some(port) = ports.port(number, path) else {
             return Err(missing(Place::Stream(number), port_key(place)));
         };
-        if found.push(port).is_err() {
-            return Err(out_of_memory());
-        }
+        found.push(port)?;
     }
     Ok(())
 }
@@ -96,16 +94,5 @@ fn missing(place: Place, key: Key) -> SpecError
         place,
         key: Some(key),
         kind: Kind::Missing,
-    }
-}
-
-/// Memory was refused.
-fn out_of_memory() -> SpecError
-    ensures { result ≡ no_memory }
-{
-    SpecError {
-        place: Place::Top,
-        key: None,
-        kind: Kind::Memory,
     }
 }

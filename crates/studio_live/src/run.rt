@@ -162,7 +162,7 @@ fn receiving_sockets<R: Net>(
     let mut sockets = Vec::with_capacity(alloc, ports.len())?;
     for port in ports {
         let socket = receiving_socket(rt, *port)?;
-        sockets.push(socket).map_err(|_| LiveFault::Memory)?;
+        sockets.push(socket)?;
     }
     Ok(sockets)
 }

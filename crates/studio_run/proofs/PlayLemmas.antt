@@ -1,6 +1,6 @@
 -- Why the text of a trace is not written.
-use Rattle.std.proofs.Common.{◌≡◌, inl, inr, ◌<◌, ℕ, List, Option, None, Ok, Err, true, nat_lt, length, if◌then◌else◌, refl, sym, ap, subst, arith}
-use Rattle.std.specs.Prelude.{◌⊎◌}
+use Rattle.std.proofs.Common.{◌≡◌, inl, inr, ◌<◌, ℕ, List, Option, None, Result, Ok, Err, true, nat_lt, length, if◌then◌else◌, refl, sym, ap, subst, arith}
+use Rattle.std.specs.Prelude.{◌⊎◌, IfErr, IsErrAnd}
 use Rattle.std.specs.Io.KnownBytes.{Consumes, IsAtEnd}
 use Rattle.std.proofs.lemmas.Bool.Decides.{nat_tests}
 use Rattle.studio_spec.specs.Studio.{Studio}
@@ -13,6 +13,12 @@ use Rattle.studio_run.specs.declared.trace.TraceKind.{TraceKind}
 use Rattle.studio_run.specs.declared.trace.TraceKind.TheVariants.{TooLong, Cut, Word, Fields, Number, Hex, TooMany, Memory as NoMemory}
 use Rattle.studio_run.specs.declared.player.PlayFault.{PlayFault}
 use Rattle.studio_run.specs.declared.player.PlayFault.TheVariants.{Read, Memory, Trace, Run, Write}
+
+module _ {T : Type 0} where
+  -- a fault is answered as it was
+  pub told : (P : PlayFault → Type 0) (fault : PlayFault) (r : Result T PlayFault) → IsErrAnd r (λ answer. answer ≡ fault) → P fault → IfErr r P
+  told P fault (Ok it) is holds = absurd is
+  told P fault (Err answer) is holds = subst P (sym is) holds
 
 stops_by_kind : (studio : Studio) (trace : List ℕ) (fault : TraceFault) (kind : TraceKind) → trace_events trace ≡ Err fault → StopsAt studio trace (stop_for kind fault)
 stops_by_kind studio trace fault TooLong is = is

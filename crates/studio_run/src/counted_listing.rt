@@ -45,21 +45,11 @@ fn write_both<W: Write, C: Write>(
     ensures ok { OnOk result (ListsAndCounts spec.now events.now (W.contents writer.old) (W.contents writer.new) (C.contents counts.old) (C.contents counts.new)) }
     ensures fault { IfErr result (FailsWithCounts spec.now events.now (W.contents writer.old) (W.contents writer.new) (C.contents counts.old) (C.contents counts.new)) }
 {
-    let Ok(mut cursors) = studio_cursors(alloc, spec) else {
-        return Err(PlayFault::Memory);
-    };
-    let Ok(mut text) = TextBuffer::new(alloc) else {
-        return Err(PlayFault::Memory);
-    };
+    let mut cursors = studio_cursors(alloc, spec)?;
+    let mut text = TextBuffer::new(alloc)?;
     let cursors = cursors.as_mut_slice();
-    let Ok(()) = write_whole_listing(&mut text, writer, events, cursors) else {
-        return Err(PlayFault::Write);
-    };
-    let Ok(()) = write_counts(&mut text, counts, events, cursors) else {
-        return Err(PlayFault::Write);
-    };
-    let Ok(()) = text.finish(counts) else {
-        return Err(PlayFault::Write);
-    };
+    write_whole_listing(&mut text, writer, events, cursors)?;
+    write_counts(&mut text, counts, events, cursors)?;
+    text.finish(counts)?;
     Ok(())
 }

@@ -6,6 +6,7 @@ ghost use Rattle.studio_session.specs.Play.{HasPathsBy, IsRunnableBy};
 ghost use Rattle.studio_run.specs.Trace.{trace_events};
 ghost use Rattle.studio_run.specs.Play.{FailsOf, FailsOn, FailsWriting, IsListing, IsTextOf, StopsAt, StopsReading, WritesEvents, WritesText, WritesTextOf, stop_for};
 ghost use Rattle.studio_run.specs.Reported.{IsReport};
+ghost use Rattle.studio_run.specs.declared.player.PlayFault.TheVariants as fault;
 
 use crate::buffer::TextBuffer;
 use crate::device::{ReadFault, WriteFault, read_text};
@@ -13,7 +14,7 @@ use crate::listed::write_whole_listing;
 use crate::reported::write_report;
 use crate::trace::{TraceFault, TraceKind};
 use crate::traced::TracedEvents;
-use std::alloc::Global;
+use std::alloc::{AllocError, Global};
 use std::io::{Read, Write};
 use studio_session::{Cursor, Session, StudioFault, first_fault, studio_cursors};
 use studio_spec::StudioSpec;
@@ -38,6 +39,22 @@ pub enum PlayFault {
     /// A write failed, or took no octet. What was written is a beginning of the text.
     #[error("device: write")]
     Write,
+}
+
+impl From<AllocError> for PlayFault {
+    ghost from_gives = { λ _ to. to ≡ fault.Memory };
+
+    fn from(_error: AllocError) -> PlayFault {
+        PlayFault::Memory
+    }
+}
+
+impl From<WriteFault> for PlayFault {
+    ghost from_gives = { λ _ to. to ≡ fault.Write };
+
+    fn from(_fault: WriteFault) -> PlayFault {
+        PlayFault::Write
+    }
 }
 
 /// Which text is to be written.
@@ -186,15 +203,9 @@ fn write_events_listing<W: Write>(
     ensures ok { OnOk result (WritesEvents spec.now IsListing events.now (W.contents writer.old) (W.contents writer.new)) }
     ensures fault { IfErr result (FailsWriting spec.now IsListing events.now (W.contents writer.old) (W.contents writer.new)) }
 {
-    let Ok(mut cursors) = studio_cursors(alloc, spec) else {
-        return Err(PlayFault::Memory);
-    };
-    let Ok(mut text) = TextBuffer::new(alloc) else {
-        return Err(PlayFault::Memory);
-    };
-    let Ok(()) = write_whole_listing(&mut text, writer, events, cursors.as_mut_slice()) else {
-        return Err(PlayFault::Write);
-    };
+    let mut cursors = studio_cursors(alloc, spec)?;
+    let mut text = TextBuffer::new(alloc)?;
+    write_whole_listing(&mut text, writer, events, cursors.as_mut_slice())?;
     Ok(())
 }
 
@@ -210,17 +221,9 @@ fn write_events_report<W: Write>(
     ensures ok { OnOk result (WritesEvents spec.now IsReport events.now (W.contents writer.old) (W.contents writer.new)) }
     ensures fault { IfErr result (FailsWriting spec.now IsReport events.now (W.contents writer.old) (W.contents writer.new)) }
 {
-    let Ok(session) = Session::new(alloc, spec) else {
-        return Err(PlayFault::Memory);
-    };
-    let Ok(mut text) = TextBuffer::new(alloc) else {
-        return Err(PlayFault::Memory);
-    };
-    let Ok(()) = write_report(&mut text, writer, events, session) else {
-        return Err(PlayFault::Write);
-    };
-    let Ok(()) = text.finish(writer) else {
-        return Err(PlayFault::Write);
-    };
+    let session = Session::new(alloc, spec)?;
+    let mut text = TextBuffer::new(alloc)?;
+    write_report(&mut text, writer, events, session)?;
+    text.finish(writer)?;
     Ok(())
 }

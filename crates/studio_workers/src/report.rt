@@ -1,5 +1,6 @@
 //! What came of a run.
 
+use std::alloc::AllocError;
 use studio_session::StreamCounts;
 use thiserror::Error;
 
@@ -30,4 +31,10 @@ pub enum WorkFault {
     /// A worker couldn't be started. The others were stopped and joined.
     #[error("a worker couldn't be started")]
     Start,
+}
+
+impl From<AllocError> for WorkFault {
+    fn from(_error: AllocError) -> WorkFault {
+        WorkFault::Memory
+    }
 }

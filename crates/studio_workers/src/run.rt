@@ -125,9 +125,7 @@ pub fn run_workers<R: Threads + Wait + Sync, F: Feed + Send, C: Clock + Send, K:
         monitors: _,
         mix,
     } = ends;
-    let Ok(memory) = take_memory(alloc, paths, feeds, streams, clocks) else {
-        return Err(WorkFault::Memory);
-    };
+    let memory = take_memory(alloc, paths, feeds, streams, clocks)?;
     let Memory {
         jobs,
         results,
@@ -138,8 +136,6 @@ pub fn run_workers<R: Threads + Wait + Sync, F: Feed + Send, C: Clock + Send, K:
     let Ok((results, mixed)) = run_streams(rt, jobs, results, mix, sink, &ended, &stop) else {
         return Err(WorkFault::Start);
     };
-    let Ok(parts) = take_apart(results, parts) else {
-        return Err(WorkFault::Memory);
-    };
+    let parts = take_apart(results, parts)?;
     Ok(report(mixed, parts))
 }

@@ -34,10 +34,8 @@ pub(crate) fn read_matrix(
     if !have_range(rows) {
         return Err(MatrixFault::Range);
     }
-    match flat_gains(alloc, rows) {
-        Ok(gains) => Matrix::new(alloc, outs, ins, &gains),
-        Err(_) => Err(MatrixFault::Memory),
-    }
+    let gains = flat_gains(alloc, rows).map_err(|_| MatrixFault::Memory)?;
+    Matrix::new(alloc, outs, ins, &gains)
 }
 
 /// Whether there are so many rows of so many gains each.

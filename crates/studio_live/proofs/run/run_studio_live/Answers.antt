@@ -1,4 +1,4 @@
-use Rattle.std.proofs.Common.{[], subst}
+use Rattle.std.proofs.Common.{subst}
 use Rattle.studio_run.specs.Buffer.{BreaksOff, PassesOn}
 use Rattle.studio_run.proofs.BufferLemmas.{BreaksOff-finished, PassesOn-finished}
 use Rattle.studio_live.specs.Report.{report_text}

@@ -18,8 +18,8 @@ pub returns-then-not-have_range-clause-fault : goal.returns-then-not-have_range-
 returns-then-not-have_range-clause-fault c =
     inr (gains_fault-range (λ v. row_in (view v)) c.args.outs c.args.ins c.args.rows.now (sym c.has_rows.ensures ∙ search rules) (sym c.have_range.ensures ∙ search rules))
 
-pub returns-in-Ok-clause-ok : goal.returns-in-Ok-clause-ok
-returns-in-Ok-clause-ok c =
+pub returns-clause-ok : goal.returns-clause-ok
+returns-clause-ok c =
     let none = gains_fault-none (λ v. row_in (view v)) c.args.outs c.args.ins c.args.rows.now (sym c.has_rows.ensures ∙ search rules) (sym c.have_range.ensures ∙ search rules) in
     search (rules, none)
 
@@ -34,16 +34,16 @@ made c =
     let met = subst (λ o. IfNone o (MatchResult c.new.result (λ m. m ≡ rows_of c.args.ins c.args.outs c.deref.result.now) (λ e. e ≡ Memory))) fine c.new.ensures.made in
     subst (λ made. MatchResult c.new.result (λ m. m ≡ made) (λ e. e ≡ Memory)) rows met
 
-pub returns-in-Ok-clause-matrix : goal.returns-in-Ok-clause-matrix
-returns-in-Ok-clause-matrix c = ok_from _ Memory c.new.result (made c)
+pub returns-clause-matrix : goal.returns-clause-matrix
+returns-clause-matrix c = ok_from _ Memory c.new.result (made c)
 
-pub returns-in-Ok-clause-fault : goal.returns-in-Ok-clause-fault
-returns-in-Ok-clause-fault c = err_from _ Memory _ c.new.result (made c)
+pub returns-clause-fault : goal.returns-clause-fault
+returns-clause-fault c = err_from _ Memory _ c.new.result (made c)
 
-pub returns-in-Ok-clause-outs : goal.returns-in-Ok-clause-outs
-returns-in-Ok-clause-outs c =
+pub returns-clause-outs : goal.returns-clause-outs
+returns-clause-outs c =
     ok_as _ Memory (λ m. length m ≡ c.args.outs) c.new.result (made c) (even-outs (λ v. row_in (view v)) c.args.outs c.args.ins c.args.rows.now (sym c.has_rows.ensures ∙ search rules))
 
-pub returns-in-Ok-clause-ins : goal.returns-in-Ok-clause-ins
-returns-in-Ok-clause-ins c =
+pub returns-clause-ins : goal.returns-clause-ins
+returns-clause-ins c =
     ok_as _ Memory (λ m. ins_of m ≡ c.args.ins) c.new.result (made c) (even-ins (λ v. row_in (view v)) c.args.outs c.args.ins c.args.rows.now c.requires.some_outs (sym c.has_rows.ensures ∙ search rules))
