@@ -1,11 +1,11 @@
 -- What the end of a stream says of its history.
-use Rattle.std.proofs.Common.{◌≡◌, ℕ, zero, suc, ◌+◌, ◌<◌, ◌≤◌, ◌^◌, min, Bool, true, false, nat_eq, nat_lt, if◌then◌else◌, List, [], ◌∷◌, ◌++◌, length, take, map, sum_by, ℤ, Option, Some, None, IsSome, IfSome, refl, sym, ap, subst, ◌∙◌, arith, append-nil}
+use Rattle.std.proofs.Common.{◌≡◌, ℕ, suc, ◌+◌, ◌≤◌, ◌^◌, Bool, true, false, nat_eq, nat_lt, if◌then◌else◌, List, [], ◌∷◌, ◌++◌, length, take, map, sum_by, ℤ, Option, Some, None, IsSome, IfSome, refl, sym, ap, subst, ◌∙◌, arith, append-nil}
 use Rattle.std.proofs.lemmas.Bool.Decides.{nat_tests}
 use Rattle.std.proofs.lemmas.List.Sums.{sum_by-cons}
 use Rattle.std.proofs.Math.Seq.{take-length}
 use Rattle.std.specs.List.{AllZip}
 use Rattle.rtrb.specs.Ends.{SameRing}
-use Rattle.rtrb.specs.Ring.{all_sent, received, sent, Finishes, SameProducer}
+use Rattle.rtrb.specs.Ring.{all_sent, sent, SameProducer}
 use Rattle.rtrb.specs.declared.producer.Producer.{Producer}
 use Rattle.rtrb.specs.declared.finished.Finished.{Finished}
 use Rattle.stream_rules.specs.declared.stream_spec.Stream.{Stream}
@@ -14,25 +14,23 @@ use Rattle.stream_rules.specs.Marks.{marks_of}
 use Rattle.stream_rules.specs.CountsFacts.{Tally}
 use Rattle.stream_rules.specs.Counts.{counts_of, fates_of, tally_of}
 use Rattle.stream_rules.specs.MarkFacts.{MarkView}
-use Rattle.stream_rules.specs.declared.counts.Counts.{Counts}
 use Rattle.stream_rules.specs.declared.packet.Packet.{Packet}
 use Rattle.stream_rules.specs.declared.event.Event.{Event}
 use Rattle.stream_rules.specs.declared.event.Event.TheVariants.{Arrive, Tick, Close}
-use Rattle.path_merge.proofs.HistoryLemmas.{fates_of-push, is_closed-append}
+use Rattle.path_merge.proofs.HistoryLemmas.{fates_of-push}
 use Rattle.path_merge.proofs.RestartOfferLemmas.{counted_arrivals}
 use Rattle.studio_session.specs.declared.counts.PathCounts.{PathCounts}
 use Rattle.studio_rings.specs.Fitting.{fitting}
 use Rattle.studio_rings.specs.Opened.{AllFreshPaths, IsFreshPath, IsFreshStream}
 use Rattle.studio_rings.specs.Streams.{StreamHasHistory, packets_by}
 use Rattle.studio_rings.specs.declared.path.PathDone.{PathDone}
-use Rattle.studio_rings.specs.declared.path_end.PathEnd.{PathEnd}
 use Rattle.studio_rings.specs.declared.side.Side.{Side}
 use Rattle.studio_rings.specs.declared.stream.StreamDone.{StreamDone}
 use Rattle.studio_rings.specs.declared.stream_end.StreamEnd.{StreamEnd}
 use Rattle.studio_rings.proofs.StreamLemmas.{packets_by-append}
 use Rattle.studio_workers.specs.Answers.{Answer, IsPartOf, reaches_end, told_packets}
 use Rattle.studio_workers.specs.Paths.{IsPathResult, SendsFeed}
-use Rattle.studio_workers.specs.Runs.{HasPathHistory, HasStreamHistory, HavePathHistories, sent_total}
+use Rattle.studio_workers.specs.Runs.{HasPathHistory, HavePathHistories, sent_total}
 use Rattle.studio_workers.specs.Streams.{EndsStream, HasEnded, HasMarks, HaveTokens, IsStreamResult, all_told, ends_of, told_by, told_of}
 use Rattle.studio_workers.specs.Turns.{ClosesLater, Drains, GoesOn, HaveArrived, HaveTold}
 use Rattle.studio_workers.specs.declared.path_job.PathJob.{PathJob}

@@ -1,5 +1,5 @@
 -- The jobs of the streams, the last of them taken off.
-use Rattle.std.proofs.Common.{◌≡◌, List, [], ◌∷◌, ◌++◌, Option, Some, None, IfSome, subst, sym, append-nil, ◌∙◌}
+use Rattle.std.proofs.Common.{◌≡◌, List, [], ◌∷◌, ◌++◌, Option, Some, None, IfSome, subst, append-nil, ◌∙◌}
 use Rattle.std.specs.Option.{option_to_list}
 use Rattle.studio_workers.specs.Streams.{AllReady, IsReady}
 use Rattle.studio_workers.specs.declared.stream_job.StreamJob.{StreamJob}

@@ -1,11 +1,9 @@
 -- What a settled run comes to, of what its workers came to.
-use Rattle.std.proofs.Common.{◌≡◌, ℕ, ◌≤◌, ◌^◌, ◌+◌, true, List, [], ◌∷◌, ◌++◌, length, map, ℤ, pos, ◌≤ℤ◌, Option, Some, None, IsSome, IfSome, refl, sym, ap, subst, ◌∙◌, arith}
+use Rattle.std.proofs.Common.{◌≡◌, ℕ, ◌≤◌, ◌^◌, ◌+◌, true, List, [], ◌∷◌, ◌++◌, length, map, ℤ, pos, ◌≤ℤ◌, Option, IfSome, refl, sym, ap, subst, ◌∙◌, arith}
 use Rattle.std.specs.List.{AllZip}
 use Rattle.rtrb.specs.Ends.{SameRing}
 use Rattle.rtrb.specs.Ring.{all_sent}
 use Rattle.stream_rules.specs.declared.stream_spec.Stream.{Stream}
-use Rattle.stream_rules.specs.StreamSpecFacts.{format_of}
-use Rattle.stream_rules.specs.MarkList.{is_mark_list}
 use Rattle.stream_rules.specs.Marks.{marks_of}
 use Rattle.stream_rules.specs.declared.packet.Packet.{Packet}
 use Rattle.stream_rules.specs.declared.event.Event.{Event}
@@ -23,19 +21,19 @@ use Rattle.studio_rings.specs.declared.stream.StreamDone.{StreamDone}
 use Rattle.studio_rings.specs.declared.stream_end.StreamEnd.{StreamEnd}
 use Rattle.studio_rings.specs.declared.mix_end.MixEnd.{MixEnd}
 use Rattle.studio_workers.specs.Answers.{Answer}
-use Rattle.studio_workers.specs.Jobs.{AreJobsOf, HasRoom, HaveRoom, feeds_in}
+use Rattle.studio_workers.specs.Jobs.{AreJobsOf, HaveRoom, feeds_in}
 use Rattle.studio_workers.specs.Mixing.{Mixes}
-use Rattle.studio_workers.specs.Runs.{HasStreamHistory, HaveStreamHistories, IsSettledRun, feeds_of}
+use Rattle.studio_workers.specs.Runs.{HaveStreamHistories, IsSettledRun, feeds_of}
 use Rattle.studio_workers.specs.Settled.{AreOpenedTogether, counts_in, dones_in}
-use Rattle.studio_workers.specs.Settling.{AllGiveTokens, AllTellMarks, AreTokensOf, AreTold}
-use Rattle.studio_workers.specs.Streams.{AllReady, ArePairs, HasMarks, IsReady, IsStreamResult, ends_of, told_of}
+use Rattle.studio_workers.specs.Settling.{AllGiveTokens, AllTellMarks, AreTold}
+use Rattle.studio_workers.specs.Streams.{AllReady, ArePairs, HasMarks, IsStreamResult, ends_of, told_of}
 use Rattle.studio_workers.specs.declared.path_job.PathJob.{PathJob}
 use Rattle.studio_workers.specs.declared.stream_job.StreamJob.{StreamJob}
 use Rattle.studio_workers.specs.declared.stream_job.StreamResult.{StreamResult}
 use Rattle.studio_workers.specs.declared.report.WorkReport.{WorkReport}
 use Rattle.studio_workers.proofs.EndLemmas.{some_of}
-use Rattle.studio_workers.proofs.JobLemmas.{cut_once, map_length, next_stream, own_count}
-use Rattle.studio_workers.proofs.SettlingLemmas.{AreTokensFor, tokens-opened}
+use Rattle.studio_workers.proofs.JobLemmas.{cut_once, map_length}
+use Rattle.studio_workers.proofs.SettlingLemmas.{AreTokensFor}
 
 module _ {F : Type 0} where
   pairs_of : (stream : Stream) (places : ℕ) (paths : List (PathJob F)) (sides : List (Side Packet)) → AllFreshPaths stream places (ends_of paths) sides → ArePairs paths sides

@@ -1,5 +1,5 @@
 -- Tokens handed in one by one, and what a settled end tells.
-use Rattle.std.proofs.Common.{◌≡◌, ℕ, zero, suc, ◌+◌, ◌<◌, true, List, [], ◌∷◌, ◌++◌, length, Option, Some, None, IfSome, IsSome, MatchOption, slice_get, refl, sym, ap, subst, ◌∙◌, arith}
+use Rattle.std.proofs.Common.{◌≡◌, ℕ, suc, ◌+◌, ◌<◌, List, [], ◌∷◌, ◌++◌, length, Option, Some, None, IfSome, IsSome, MatchOption, slice_get, refl, sym, ap, subst, ◌∙◌, arith}
 use Rattle.rtrb.specs.Ends.{SameRing}
 use Rattle.rtrb.specs.Ring.{all_sent, received, IsFinishedOf, IsPair, SameConsumer}
 use Rattle.rtrb.specs.declared.consumer.Consumer.{Consumer}
@@ -8,12 +8,10 @@ use Rattle.stream_rules.specs.declared.stream_spec.Stream.{Stream}
 use Rattle.stream_rules.specs.StreamSpecFacts.{format_of}
 use Rattle.stream_rules.specs.MarkFacts.{MarkView}
 use Rattle.lane_align.specs.Accepted.{accepted_marks}
-use Rattle.studio_spec.specs.Studio.{Studio}
 use Rattle.studio_mix.specs.Feed.{Feed}
-use Rattle.studio_session.specs.Blocks.{AreBlocks}
 use Rattle.studio_rings.specs.Side.{IsDrained}
 use Rattle.studio_rings.specs.Looks.{AllDrained, AllLookAt, LooksAt}
-use Rattle.studio_rings.specs.Tokens.{HandsIn, HasToken}
+use Rattle.studio_rings.specs.Tokens.{HandsIn}
 use Rattle.studio_rings.specs.AcceptedFeeds.{accepted_feeds}
 use Rattle.studio_rings.specs.Given.{AllTell}
 use Rattle.studio_rings.specs.Opened.{AllFreshRings}

@@ -1,6 +1,5 @@
 -- Turns and looks of a stream's end, one after another.
-use Rattle.std.proofs.Common.{◌≡◌, ℕ, suc, ◌^◌, ◌≤◌, Bool, true, false, List, [], ◌∷◌, ◌++◌, length, ℤ, pos, ◌≤ℤ◌, IsSome, IfSome, MatchOption, Option, Some, None, refl, sym, ap, subst, ◌∙◌, arith, append_assoc, append-nil, ◌⊎◌, inl, inr}
-use Rattle.std.proofs.lemmas.Int.{ints}
+use Rattle.std.proofs.Common.{◌≡◌, ℕ, suc, ◌^◌, ◌≤◌, Bool, true, false, List, [], ◌∷◌, ◌++◌, ℤ, pos, ◌≤ℤ◌, IfSome, MatchOption, Option, Some, None, refl, sym, ap, subst, ◌∙◌, append_assoc, append-nil, ◌⊎◌, inl, inr}
 use Rattle.rtrb.specs.Ring.{all_sent, received, SameConsumer, SameProducer}
 use Rattle.rtrb.specs.declared.consumer.Consumer.{Consumer}
 use Rattle.rtrb.specs.declared.finished.Finished.{Finished}
@@ -13,7 +12,7 @@ use Rattle.path_merge.specs.declared.clock.ClockFault.{ClockFault}
 use Rattle.path_merge.proofs.RunLemmas.{still_no_fault}
 use Rattle.studio_rings.specs.Fitting.{fitting}
 use Rattle.studio_rings.specs.Side.{IsDrained}
-use Rattle.studio_rings.specs.Looks.{AllDrained, AllLookAt, LooksAt}
+use Rattle.studio_rings.specs.Looks.{AllDrained, AllLookAt}
 use Rattle.studio_rings.specs.Turns.{AllTakePackets, turn_events}
 use Rattle.studio_rings.specs.Streams.{AllDelivered, StreamHasHistory, TakesTurn}
 use Rattle.studio_rings.specs.declared.side.Side.{Side}

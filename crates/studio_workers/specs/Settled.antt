@@ -1,7 +1,5 @@
 -- What the results of all streams come to.
-use Rattle.std.specs.Prelude.{◌≡◌, ℕ, List, [], ◌∷◌, map, ℤ, Option, IfSome}
-use Rattle.rtrb.specs.Ring.{all_sent}
-use Rattle.stream_rules.specs.declared.event.Event.{Event}
+use Rattle.std.specs.Prelude.{ℕ, List, [], map, Option}
 use Rattle.studio_spec.specs.Studio.{Studio}
 use Rattle.studio_rings.specs.Given.{HasGiven}
 use Rattle.studio_rings.specs.Opened.{AllFreshRings, AllFreshStreams}

@@ -1,5 +1,5 @@
 -- The tokens of the streams at the mixer's end, and what follows once it is settled.
-use Rattle.std.specs.Prelude.{◌≡◌, ℕ, true, List, [], ◌∷◌, map, Option, Some, None, IfSome, IsSome}
+use Rattle.std.specs.Prelude.{◌≡◌, true, List, [], ◌∷◌, map, Option, Some, None, IfSome, IsSome}
 use Rattle.rtrb.specs.Ring.{all_sent, IsFinishedOf}
 use Rattle.stream_rules.specs.StreamSpecFacts.{format_of}
 use Rattle.stream_rules.specs.MarkFacts.{MarkView}

@@ -20,7 +20,7 @@ use Rattle.studio_rings.specs.declared.side.Side.{Side}
 use Rattle.studio_rings.specs.declared.stream_end.StreamEnd.{StreamEnd}
 use Rattle.studio_workers.specs.Answers.{Answer}
 use Rattle.studio_workers.specs.Runs.{HasStreamHistory}
-use Rattle.studio_workers.specs.Turns.{HaveArrived, HaveTold}
+use Rattle.studio_workers.specs.Turns.{HaveArrived}
 use Rattle.studio_workers.specs.declared.path_job.PathJob.{PathJob}
 use Rattle.studio_workers.specs.declared.path_job.PathResult.{PathResult}
 use Rattle.studio_workers.specs.declared.stream_job.StreamJob.{StreamJob}

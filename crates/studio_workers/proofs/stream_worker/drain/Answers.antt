@@ -1,4 +1,3 @@
-use Rattle.std.proofs.Common.{rules}
 use Rattle.studio_rings.proofs.TurnLemmas.{producers}
 use Rattle.studio_workers.proofs.stream_worker.drain.Goals as goal
 

@@ -1,4 +1,4 @@
-use Rattle.std.proofs.Common.{rules, ◌≡◌, sym, ap, ◌∙◌, IfSome}
+use Rattle.std.proofs.Common.{IfSome}
 use Rattle.std.proofs.lemmas.Option.{IfSome_then}
 use Rattle.rtrb.specs.Ring.{Finishes}
 use Rattle.studio_rings.specs.declared.stream.StreamDone.{StreamDone}

@@ -1,9 +1,8 @@
-use Rattle.std.proofs.Common.{rules, ◌≡◌, ◌+◌, List, [], ◌∷◌, ◌++◌, length, map, vec_len, refl, sym, ap, subst, ◌∙◌, arith, append_assoc, append-nil, length-append}
+use Rattle.std.proofs.Common.{◌≡◌, ◌+◌, List, [], ◌∷◌, ◌++◌, length, refl, sym, ap, subst, ◌∙◌, arith, append_assoc, length-append}
 use Rattle.std.specs.Vec.Iter.{into_iter_items}
-use Rattle.studio_session.specs.declared.counts.PathCounts.{PathCounts}
-use Rattle.studio_workers.specs.Streams.{AllTokensFit, FitsAt, HandsOne}
+use Rattle.studio_workers.specs.Streams.{AllTokensFit}
 use Rattle.studio_workers.specs.declared.path_job.PathResult.{PathResult}
-use Rattle.studio_workers.proofs.HandLemmas.{AreHandedIn, counted-more, fits-at, handed-next, handed-result, no_items, whole_front}
+use Rattle.studio_workers.proofs.HandLemmas.{counted-more, fits-at, handed-next, handed-result, no_items, whole_front}
 use Rattle.studio_workers.proofs.StreamTurnLemmas.{goes-none, goes-trans}
 use Rattle.studio_workers.proofs.stream_worker.hand_in.Goals as goal
 

@@ -1,11 +1,9 @@
-use Rattle.std.proofs.Common.{rules, ◌≡◌, List, [], ◌++◌, sym, ap, subst, ◌∙◌, arith}
+use Rattle.std.proofs.Common.{◌≡◌, [], subst, arith}
 use Rattle.std.proofs.lemmas.Result.{IfOk-weaker}
 use Rattle.std.specs.List.{AllZip}
 use Rattle.studio_rings.specs.declared.stream_end.StreamEnd.{StreamEnd}
 use Rattle.studio_workers.specs.Paths.{IsPathResult}
 use Rattle.studio_workers.specs.Turns.{GoesOn}
-use Rattle.studio_workers.specs.Streams.{AllTokensFit, EndsStream}
-use Rattle.studio_workers.specs.declared.path_job.PathResult.{PathResult}
 use Rattle.studio_workers.specs.declared.stream_job.StreamResult.{StreamResult}
 use Rattle.studio_workers.proofs.HandLemmas.{no_items, own_results, tokens-fit}
 use Rattle.studio_workers.proofs.EndLemmas.{is-stream-result}
