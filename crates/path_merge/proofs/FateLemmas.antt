@@ -1,14 +1,12 @@
 -- The fate of an arrival, test by test.
 use Rattle.stream_rules.specs.Grid.{extended_number, first_with, is_on_grid}
 use Rattle.std.proofs.Common.{◌≡◌, ℕ, ◌+◌, ◌-◌, ◌*◌, ◌^◌, ◌<◌, ◌≤◌, Bool, true, false, not, ◌&&◌, List, Option, Some, None, ℤ, pos, ◌+ℤ◌, ◌-ℤ◌, ◌≤ℤ◌, to_z, of_z, w64, refl, ap, subst, ◌∙◌, arith, ⊎_elim, if◌then◌else◌}
-use Rattle.std.specs.Prelude.{nat_eq, nat_lt, nat_le, int_le}
+use Rattle.std.specs.Prelude.{nat_eq, nat_lt, nat_le, int_le, ◌*ℤ◌, neg_ℤ, bytes_eq}
 use Rattle.std.proofs.lemmas.Bool.Decides.{nat_tests}
 use Rattle.std.proofs.lemmas.Int.{ints}
 use Rattle.std.proofs.lemmas.Bool.{cases_lt}
 use borrow.Author.Differences.{up, down}
 use Rattle.std.proofs.lemmas.Nat.{mul-le}
-use Rattle.std.specs.Prelude.{◌*ℤ◌, neg_ℤ}
-use Rattle.std.specs.Prelude.{bytes_eq}
 use Rattle.stream_rules.specs.Anchor.{first_media_time, is_source_wanted, media_time_of}
 use Rattle.stream_rules.specs.Counts.{is_counted_fate, is_taken_fate}
 use Rattle.stream_rules.specs.Fate.{fate_of_put, first_fate, next_fate}

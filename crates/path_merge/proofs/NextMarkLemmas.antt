@@ -9,12 +9,11 @@ use Rattle.stream_rules.specs.declared.anchor.Anchor.{Anchor}
 use Rattle.stream_rules.specs.declared.mark.Body.{Body}
 use Rattle.stream_rules.specs.declared.mark.Body.TheVariants.{Got, Lost}
 use Rattle.stream_rules.specs.declared.packet.Packet.{Packet}
-use Rattle.stream_rules.specs.MarkFacts.{HasLength}
+use Rattle.stream_rules.specs.MarkFacts.{HasLength, MarkView}
 use Rattle.stream_rules.specs.MarkRef.{IsShort}
 use Rattle.stream_rules.specs.Anchor.{deadline_of, next_number}
 use Rattle.path_merge.specs.MergeState.{IsAnchored, IsAnchoredOrNot, IsSound, MergeState, held_count}
 use Rattle.stream_rules.specs.declared.event.Event.{Event}
-use Rattle.stream_rules.specs.MarkFacts.{MarkView}
 use Rattle.stream_rules.specs.Marks.{quiet_mark}
 use Rattle.path_merge.specs.Merge.{HasHistory}
 use Rattle.path_merge.specs.Next.{anchor_due, anchor_if_due, anchor_if_held, anchor_left, next_left, next_mark, quiet_next, slot_or_end, slot_or_quiet}

@@ -1,11 +1,10 @@
 -- A packet that is put: what it leaves of the model's invariant, of what is held, and of the counts.
 use Rattle.stream_rules.specs.Grid.{extended_number, is_on_grid}
 use Rattle.std.proofs.Common.{◌≡◌, ℕ, ◌+◌, ◌^◌, ◌<◌, ◌≤◌, Bool, true, false, ◌&&◌, Option, Some, None, IsSome, ℤ, refl, sym, ap, subst, ◌∙◌, arith, if◌then◌else◌}
-use Rattle.std.specs.Prelude.{nat_eq, nat_lt, nat_le}
+use Rattle.std.specs.Prelude.{nat_eq, nat_lt, nat_le, bytes_eq, List}
 use Rattle.std.specs.Ordering.{nat_cmp}
 use Rattle.std.specs.FinMap.{FinMap, get}
 use Rattle.std.proofs.lemmas.Bool.Decides.{nat_tests}
-use Rattle.std.specs.Prelude.{bytes_eq}
 use Rattle.path_merge.proofs.FateLemmas.{fault_parts, taken_put}
 use Rattle.path_merge.proofs.HeldLemmas.{FateCounts, held_count-from, held_count-put, with_fate-counts}
 use Rattle.path_merge.proofs.SoundLemmas.{anchored_at, anchored_back}
@@ -16,7 +15,6 @@ use Rattle.stream_rules.specs.Fate.{fate_of_put}
 use Rattle.path_merge.specs.MergeState.{IsSound, MergeState, held_count}
 use Rattle.path_merge.specs.Steps.{IsPutStep, fault_or, place_fault_of}
 use Rattle.stream_rules.specs.declared.probation.Probation.{Probation}
-use Rattle.std.specs.Prelude.{List}
 use Rattle.std.proofs.lemmas.Int.{ints}
 use Rattle.stream_rules.specs.StreamSpec.{Fits}
 use Rattle.stream_rules.specs.Put.{is_taken, put_answer}

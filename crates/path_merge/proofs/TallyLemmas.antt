@@ -1,8 +1,7 @@
 -- Tallies of one more arrival or mark.
 use Rattle.std.proofs.Common.{◌≡◌, ℕ, zero, suc, ◌+◌, ◌<◌, Bool, true, false, List, [], ◌∷◌, ◌++◌, Some, None, ℤ, refl, ap, ◌∙◌, arith, append-nil, length-append, if◌then◌else◌}
-use Rattle.std.specs.Prelude.{count_by, cond, ◌&&◌, option_to_list}
+use Rattle.std.specs.Prelude.{count_by, cond, ◌&&◌, option_to_list, nat_eq}
 use Rattle.std.proofs.lemmas.List.Sums.{sum_by-append}
-use Rattle.std.specs.Prelude.{nat_eq}
 use Rattle.stream_rules.specs.Counts.{is_ahead, is_counted_fate, is_double, is_got, is_got_body, is_late, is_lost, is_lost_body, is_off_grid, is_restarted, is_taken_fate, is_unlike, is_wrong_source, taken_on, tally_of_fates}
 use Rattle.stream_rules.specs.CountsFacts.{Tally, increased_at, with_body, with_fate}
 use Rattle.stream_rules.specs.MarkFacts.{MarkView}

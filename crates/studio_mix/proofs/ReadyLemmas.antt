@@ -5,7 +5,7 @@ use Rattle.std.specs.Int.{int_max}
 use Rattle.std.proofs.Math.Nat.{mul-le-mul_right, div-mul-le_self}
 use Rattle.std.proofs.lemmas.Nat.{le-div}
 use Rattle.lane_align.proofs.LaneLemmas.{distance, past, none}
-use Rattle.std.specs.List.{list_all, list_any}
+use Rattle.std.specs.List.{list_all, list_any, All as AllOf}
 use Rattle.std.proofs.lemmas.Bool.{cases_lt, cases_Bool, false≢true}
 use Rattle.std.proofs.lemmas.Bool.Decides.{nat_tests}
 use Rattle.stream_rules.specs.declared.stream_spec.Stream.{Stream}
@@ -19,7 +19,6 @@ use Rattle.mix_packets.specs.declared.out_spec.Output.{Output}
 use Rattle.mix_packets.specs.Block.{block_start}
 use Rattle.studio_mix.specs.Feed.{Feed}
 use Rattle.studio_mix.specs.Ready.{are_covered, have_ended, greatest_end, block_count, is_ready}
-use Rattle.std.specs.List.{All as AllOf}
 use Rattle.std.proofs.lemmas.List.Folds.{list_all_at}
 use Rattle.studio_spec.specs.Studio.{Studio}
 use Rattle.studio_mix.specs.Lanes.{AreFed, IsLaneAt, IsReadyLane, reaches_past}

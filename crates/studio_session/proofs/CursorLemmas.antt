@@ -2,7 +2,7 @@
 use Rattle.std.proofs.Common.{◌≡◌, ◌≢◌, ◌<◌, ◌≤◌, ◌+◌, ℕ, zero, suc, Bool, true, false, nat_eq, if◌then◌else◌, List, [], ◌∷◌, ◌++◌, length, take, drop, ℤ, Option, Some, None, is_some, slice_get, refl, sym, ap, subst, ◌∙◌, arith}
 use Rattle.std.specs.Option.{option_to_list}
 use Rattle.std.proofs.lemmas.Grind.{flat_map-append}
-use Rattle.std.proofs.lemmas.List.{take_more, take_all, append-nil}
+use Rattle.std.proofs.lemmas.List.{take_more, take_all, append-nil, take-append-drop}
 use Rattle.std.proofs.lemmas.Option.{slice_get_within, get_or_from_slice_get}
 use Rattle.stream_rules.specs.declared.stream_spec.Stream.{Stream}
 use Rattle.stream_rules.specs.declared.event.Event.{Event}
@@ -20,8 +20,7 @@ use Rattle.stream_rules.specs.declared.event.Event.TheVariants.{Tick}
 use Rattle.path_merge.specs.MergeState.{MergeState}
 use Rattle.path_merge.specs.Merge.{HasHistory}
 use Rattle.studio_session.specs.Way.{IsOnWay, WentOn, on_way_after}
-use Rattle.std.proofs.lemmas.List.{take-append-drop}
-use Rattle.studio_session.specs.Cursor.{IsRunnable}
+use Rattle.studio_session.specs.Cursor.{IsRunnable, CursorState, HasPulled, IsDue}
 use Rattle.std.proofs.lemmas.Bool.Decides.{nat_tests}
 use Rattle.stream_rules.specs.History.{is_well_timed}
 use Rattle.studio_session.specs.Event.{TraceEvent, Arrival, Reading, Closing, outline_of}
@@ -29,7 +28,6 @@ use Rattle.studio_session.specs.declared.event.Outline.{Outline}
 use Rattle.studio_session.specs.declared.event.Outline.TheVariants.{Arrive as ArriveOf, Tick as TickOf, Close as CloseOf}
 use Rattle.studio_session.specs.Session.{Other, Datagram, step_of, event_in, stream_history, reception_of}
 use Rattle.studio_session.specs.Counts.{AreTallies, HasCounted}
-use Rattle.studio_session.specs.Cursor.{CursorState, HasPulled, IsDue}
 use Rattle.studio_session.proofs.CountsLemmas.{counted_more}
 
 -- one event more

@@ -1,5 +1,5 @@
 -- Marks of one stream after another, handed to the mixer.
-use Rattle.std.proofs.Common.{◌≡◌, inl, inr, ◌<◌, ◌≤◌, ◌+◌, ℕ, zero, suc, true, List, [], ◌∷◌, ◌++◌, length, take, drop, set, ℤ, Option, Some, None, slice_get, refl, sym, ap, subst, ◌∙◌, arith}
+use Rattle.std.proofs.Common.{◌≡◌, inl, inr, ◌<◌, ◌≤◌, ◌+◌, ℕ, zero, suc, true, List, [], ◌∷◌, ◌++◌, length, take, drop, set, ℤ, Option, Some, None, slice_get, refl, sym, ap, subst, ◌∙◌, arith, Bool, false, not}
 use Rattle.std.specs.Option.{option_map, option_to_list}
 use Rattle.std.specs.Prelude.{IfSome}
 use Rattle.std.proofs.lemmas.List.{length_push, take_all}
@@ -9,7 +9,6 @@ use Rattle.stream_rules.specs.StreamSpecFacts.{format_of}
 use Rattle.stream_rules.specs.MarkFacts.{MarkView}
 use Rattle.stream_rules.specs.MarkList.{is_mark_list}
 use Rattle.path_merge.proofs.MarkListLemmas.{parts_listed}
-use Rattle.std.proofs.Common.{Bool, false, not}
 use Rattle.std.proofs.lemmas.Bool.{false≢true}
 use Rattle.lane_align.specs.Cover.{covers, cover_of}
 use Rattle.mix_packets.specs.Block.{block_start}

@@ -5,7 +5,7 @@ use Rattle.std.proofs.lemmas.Bool.Decides.{nat_tests}
 use Rattle.std.proofs.lemmas.Grind.{flat_map-append}
 use Rattle.std.proofs.lemmas.List.{take-append-drop, take_more}
 use Rattle.std.proofs.lemmas.List.Folds.{list_all-append, list_all_more}
-use Rattle.std.specs.Prelude.{int_lt}
+use Rattle.std.specs.Prelude.{int_lt, Result, Ok, Err, IsErrAnd, IfErr}
 use Rattle.std.proofs.lemmas.Int.{ints}
 use Rattle.stream_rules.specs.Anchor.{next_number}
 use Rattle.stream_rules.specs.Copies.{copies_of}
@@ -24,8 +24,7 @@ use Rattle.stream_rules.specs.MarkFacts.{MarkView}
 use Rattle.path_merge.proofs.HistoryLemmas.{anchor_of-tick, copies_of-tick, events_until_close-open, fates_of-tick, is_closed-append, is_well_timed_from-append, time_of-append}
 use Rattle.path_merge.proofs.RunLemmas as run
 use Rattle.path_merge.specs.Steps.{Advances, IsAlike, Moves, MovesBy, is_slot_mark, stop_at}
-use Rattle.std.specs.Prelude.{Result, Ok, Err, IsErrAnd, IfErr}
-use Rattle.studio_uses.specs.Receive.{IsFaultOf}
+use Rattle.studio_uses.specs.Receive.{IsFaultOf, are_on_paths, events_of, events_of_all, history_of}
 use Rattle.studio_uses.specs.declared.receive.ReceiveFault.{ReceiveFault}
 use Rattle.rtp_wire.specs.Datagram.{wire_fault_of, head_at, payload_at}
 use Rattle.rtp_wire.specs.declared.fault.WireFault.{WireFault}
@@ -39,7 +38,6 @@ use Rattle.path_merge.specs.Run.{HasGiven}
 use Rattle.path_merge.specs.declared.clock.ClockFault.{ClockFault}
 use Rattle.studio_session.proofs.WayLemmas.{in_time}
 use Rattle.studio_session.specs.Session.{Datagram, event_in, packet_at, reception_by, reception_of}
-use Rattle.studio_uses.specs.Receive.{are_on_paths, events_of, events_of_all, history_of}
 use Rattle.studio_uses.specs.declared.arrival.Arrival.{Arrival}
 
 -- what the merge gets of a datagram

@@ -1,5 +1,5 @@
 -- What a run's report says of the streams' histories and of the datagrams.
-use Rattle.std.specs.Prelude.{◌≡◌, ℕ, suc, ◌+◌, ◌<◌, ◌≤◌, ◌^◌, true, List, [], ◌∷◌, ◌++◌, length, sum_by, ℤ, Option, Some, IfSome}
+use Rattle.std.specs.Prelude.{◌≡◌, ℕ, suc, ◌<◌, ◌≤◌, ◌^◌, true, List, [], ◌∷◌, ◌++◌, length, sum_by, ℤ, Option, Some, IfSome}
 use Rattle.stream_rules.specs.declared.stream_spec.Stream.{Stream}
 use Rattle.stream_rules.specs.History.{is_closed, is_well_timed}
 use Rattle.stream_rules.specs.Marks.{marks_of}
