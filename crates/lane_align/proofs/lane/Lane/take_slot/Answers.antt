@@ -7,20 +7,33 @@ use Rattle.lane_align.specs.Held.{Held}
 use Rattle.lane_align.specs.Lane.{LaneState, IsAfter, is_wanting, frames_between, frames_left, with_slot}
 use Rattle.lane_align.proofs.LaneLemmas.{lane_of}
 use Rattle.lane_align.proofs.SlotLemmas.{slot_added, slot_sound, block_room, block_full, short_gap, wanted_left}
+use Rattle.lane_align.proofs.lane.Lane.take_slot.Goals.{After-add, After-frames_between}
 use Rattle.lane_align.proofs.lane.Lane.take_slot.Goals as goal
+
+-- the frames that are held, and those between the lane's place and the slot's
+left_is : (c : After-frames_between) → c.frames_left-held.result ≡ frames_left c.self.inside.format.frames c.self.inside.position c.self.inside.slot
+left_is c =
+    let early = c.self.invariant.not_early in
+    let late = c.self.invariant.not_late in
+    let same : to_z w64 (of_z w64 c.self.inside.position) ≡ c.self.inside.position = omega (arith, ints) in
+    c.frames_left-held.ensures ∙ ap (λ t. frames_left c.self.inside.format.frames t c.self.inside.slot) same
+
+before_is : (c : After-frames_between) → c.frames_between.result ≡ frames_between c.self.inside.position c.args.slot.media
+before_is c =
+    let early = c.self.invariant.not_early in
+    let late = c.self.invariant.not_late in
+    let low = c.requires.small.2.0 in
+    let high = c.requires.small.2.1 in
+    let same : to_z w64 (of_z w64 c.self.inside.position) ≡ c.self.inside.position = omega (arith, ints) in
+    let same_media : to_z w64 (of_z w64 c.args.slot.media) ≡ c.args.slot.media = omega (arith, ints) in
+    c.frames_between.ensures ∙ ap (λ t. frames_between t (to_z w64 (of_z w64 c.args.slot.media))) same ∙ ap (frames_between c.self.inside.position) same_media
 
 pub add-requires-clause-within : goal.add-requires-clause-within
 add-requires-clause-within c =
     let i = c.self.inside in
     let s = c.self.invariant in
-    let early = s.not_early in
-    let late = s.not_late in
-    let low = c.requires.small.2.0 in
-    let high = c.requires.small.2.1 in
-    let same : to_z w64 (of_z w64 i.position) ≡ i.position = omega (arith, ints) in
-    let same_media : to_z w64 (of_z w64 c.args.slot.media) ≡ c.args.slot.media = omega (arith, ints) in
-    let left = c.frames_left-held.ensures ∙ ap (λ t. frames_left i.format.frames t i.slot) same in
-    let before = c.frames_between.ensures ∙ ap (λ t. frames_between t (to_z w64 (of_z w64 c.args.slot.media))) same ∙ ap (frames_between i.position) same_media in
+    let left = left_is (goal.at.add-requires-clause-within c).After-frames_between in
+    let before = before_is (goal.at.add-requires-clause-within c).After-frames_between in
     let wanted : frames_left i.format.frames i.position i.slot < i.block = wanted_left (lane_of i.format i.start i.block i.position i.slot i.quiet i.ended i.values.values) s.some_block (subst (λ (l : LaneState). is_wanting l (l.position +ℤ pos l.block) ≡ true) (sym c.self.view_is) c.requires.wanted) in
     let sum : frames_left i.format.frames i.position i.slot + c.min-stored.result ≤ i.block = omega (arith, c.min-stored.ensures, c.from.ensures) in
     block_room (length i.values.values) (frames_left i.format.frames i.position i.slot) c.min-stored.result i.block i.format.channels i.values.channels i.values.block s.left s.channels s.held_block sum
@@ -29,14 +42,8 @@ pub add-requires-clause-block_end : goal.add-requires-clause-block_end
 add-requires-clause-block_end c = λ some.
     let i = c.self.inside in
     let s = c.self.invariant in
-    let early = s.not_early in
-    let late = s.not_late in
-    let low = c.requires.small.2.0 in
-    let high = c.requires.small.2.1 in
-    let same : to_z w64 (of_z w64 i.position) ≡ i.position = omega (arith, ints) in
-    let same_media : to_z w64 (of_z w64 c.args.slot.media) ≡ c.args.slot.media = omega (arith, ints) in
-    let left = c.frames_left-held.ensures ∙ ap (λ t. frames_left i.format.frames t i.slot) same in
-    let before = c.frames_between.ensures ∙ ap (λ t. frames_between t (to_z w64 (of_z w64 c.args.slot.media))) same ∙ ap (frames_between i.position) same_media in
+    let left = left_is (goal.at.add-requires-clause-block_end c).After-frames_between in
+    let before = before_is (goal.at.add-requires-clause-block_end c).After-frames_between in
     let wanted : frames_left i.format.frames i.position i.slot < i.block = wanted_left (lane_of i.format i.start i.block i.position i.slot i.quiet i.ended i.values.values) s.some_block (subst (λ (l : LaneState). is_wanting l (l.position +ℤ pos l.block) ≡ true) (sym c.self.view_is) c.requires.wanted) in
     let sum : frames_left i.format.frames i.position i.slot + c.min-stored.result ≡ i.block = omega (arith, c.min-stored.ensures, c.from.ensures) in
     block_full (length i.values.values) (frames_left i.format.frames i.position i.slot) c.min-stored.result i.block i.format.channels i.values.channels i.values.block s.left s.channels s.held_block sum
@@ -45,57 +52,43 @@ pub add-requires-clause-small : goal.add-requires-clause-small
 add-requires-clause-small c =
     let i = c.self.inside in
     let s = c.self.invariant in
-    let early = s.not_early in
-    let late = s.not_late in
+    let left = left_is (goal.at.add-requires-clause-small c).After-frames_between in
+    let before = before_is (goal.at.add-requires-clause-small c).After-frames_between in
+    let short : frames_between i.position c.args.slot.media ≤ 2 ^ 61 = short_gap i.position c.args.slot.media s.not_early c.requires.small.2.1 in
+    omega arith
+
+-- the payload has the length of the lane's format
+fits_is : (c : After-add) → HasLength (payload_length c.self.inside.format) (body_from (option_copied c.args.payload))
+fits_is c = subst (λ (l : LaneState). HasLength (payload_length l.format) (body_from (option_copied c.args.payload))) (sym c.self.view_is) c.requires.len
+
+-- what the lane then holds
+added_is : (c : After-add) → c.frames_left-held.result ≡ frames_left c.self.inside.format.frames c.self.inside.position c.self.inside.slot → c.frames_between.result ≡ frames_between c.self.inside.position c.args.slot.media
+    → c.add.new.self ≡ record c.self.inside.values { values = (with_slot (lane_of c.self.inside.format c.self.inside.start c.self.inside.block c.self.inside.position c.self.inside.slot c.self.inside.quiet c.self.inside.ended c.self.inside.values.values) c.args.slot (body_from (option_copied c.args.payload))).values }
+added_is c left before =
+    let i = c.self.inside in
+    let early = c.self.invariant.not_early in
+    let late = c.self.invariant.not_late in
     let low = c.requires.small.2.0 in
     let high = c.requires.small.2.1 in
     let same : to_z w64 (of_z w64 i.position) ≡ i.position = omega (arith, ints) in
     let same_media : to_z w64 (of_z w64 c.args.slot.media) ≡ c.args.slot.media = omega (arith, ints) in
-    let left = c.frames_left-held.ensures ∙ ap (λ t. frames_left i.format.frames t i.slot) same in
-    let before = c.frames_between.ensures ∙ ap (λ t. frames_between t (to_z w64 (of_z w64 c.args.slot.media))) same ∙ ap (frames_between i.position) same_media in
-    let short : frames_between i.position c.args.slot.media ≤ 2 ^ 61 = short_gap i.position c.args.slot.media early high in
-    omega arith
+    let past_by = c.frames_between-2.ensures ∙ ap (λ t. frames_between t (to_z w64 (of_z w64 i.position))) same_media ∙ ap (frames_between c.args.slot.media) same in
+    slot_added (lane_of i.format i.start i.block i.position i.slot i.quiet i.ended i.values.values) i.values c.add.new.self c.args.slot (body_from (option_copied c.args.payload)) c.frames_left-held.result c.frames_between.result c.min-stored.result (c.frames_between.result - c.frames_left-held.result - c.min-stored.result) c.from.result c.frames_between-2.result c.min-skipped.result c.from-channels.result c.from-frames.result c.slot_samples-samples.result
+    c.self.invariant (fits_is c) left before past_by c.from-channels.ensures c.from-frames.ensures c.min-stored.ensures refl c.min-skipped.ensures c.slot_samples-samples.ensures.samples c.add.ensures
 
 pub invariant_of-self : goal.invariant_of-self
 invariant_of-self c =
     let i = c.self.inside in
-    let s = c.self.invariant in
-    let early = s.not_early in
-    let late = s.not_late in
-    let low = c.requires.small.2.0 in
-    let high = c.requires.small.2.1 in
-    let same : to_z w64 (of_z w64 i.position) ≡ i.position = omega (arith, ints) in
-    let same_media : to_z w64 (of_z w64 c.args.slot.media) ≡ c.args.slot.media = omega (arith, ints) in
-    let left = c.frames_left-held.ensures ∙ ap (λ t. frames_left i.format.frames t i.slot) same in
-    let before = c.frames_between.ensures ∙ ap (λ t. frames_between t (to_z w64 (of_z w64 c.args.slot.media))) same ∙ ap (frames_between i.position) same_media in
-    let past_by = c.frames_between-2.ensures ∙ ap (λ t. frames_between t (to_z w64 (of_z w64 i.position))) same_media ∙ ap (frames_between c.args.slot.media) same in
-    let lane = lane_of i.format i.start i.block i.position i.slot i.quiet i.ended i.values.values in
-    let fits : HasLength (payload_length i.format) (body_from (option_copied c.args.payload)) = subst (λ (l : LaneState). HasLength (payload_length l.format) (body_from (option_copied c.args.payload))) (sym c.self.view_is) c.requires.len in
-    let added : c.add.new.self ≡ record i.values { values = (with_slot lane c.args.slot (body_from (option_copied c.args.payload))).values } =
-    slot_added lane i.values c.add.new.self c.args.slot (body_from (option_copied c.args.payload)) c.frames_left-held.result c.frames_between.result c.min-stored.result (c.frames_between.result - c.frames_left-held.result - c.min-stored.result) c.from.result c.frames_between-2.result c.min-skipped.result c.from-channels.result c.from-frames.result c.slot_samples-samples.result
-    s fits left before past_by c.from-channels.ensures c.from-frames.ensures c.min-stored.ensures refl c.min-skipped.ensures c.slot_samples-samples.ensures.samples c.add.ensures in
+    let at = goal.at.invariant_of-self c in
+    let added = added_is at.After-add (left_is at.After-frames_between) (before_is at.After-frames_between) in
     let after : IsAfter i.format.frames i.slot c.args.slot.media = subst (λ (l : LaneState). IsAfter l.format.frames l.slot c.args.slot.media) (sym c.self.view_is) c.requires.after in
-    slot_sound lane i.values c.add.new.self c.args.slot (body_from (option_copied c.args.payload)) s c.requires.small fits after added c.slot_samples-samples.ensures.in_24_bits
+    slot_sound (lane_of i.format i.start i.block i.position i.slot i.quiet i.ended i.values.values) i.values c.add.new.self c.args.slot (body_from (option_copied c.args.payload)) c.self.invariant c.requires.small (fits_is at.After-add) after added c.slot_samples-samples.ensures.in_24_bits
 
 pub returns-clause-taken : goal.returns-clause-taken
 returns-clause-taken c =
     let i = c.self.inside in
-    let s = c.self.invariant in
-    let early = s.not_early in
-    let late = s.not_late in
-    let low = c.requires.small.2.0 in
-    let high = c.requires.small.2.1 in
-    let same : to_z w64 (of_z w64 i.position) ≡ i.position = omega (arith, ints) in
-    let same_media : to_z w64 (of_z w64 c.args.slot.media) ≡ c.args.slot.media = omega (arith, ints) in
-    let left = c.frames_left-held.ensures ∙ ap (λ t. frames_left i.format.frames t i.slot) same in
-    let before = c.frames_between.ensures ∙ ap (λ t. frames_between t (to_z w64 (of_z w64 c.args.slot.media))) same ∙ ap (frames_between i.position) same_media in
-    let past_by = c.frames_between-2.ensures ∙ ap (λ t. frames_between t (to_z w64 (of_z w64 i.position))) same_media ∙ ap (frames_between c.args.slot.media) same in
-    let lane = lane_of i.format i.start i.block i.position i.slot i.quiet i.ended i.values.values in
-    let fits : HasLength (payload_length i.format) (body_from (option_copied c.args.payload)) = subst (λ (l : LaneState). HasLength (payload_length l.format) (body_from (option_copied c.args.payload))) (sym c.self.view_is) c.requires.len in
-    let added : c.add.new.self ≡ record i.values { values = (with_slot lane c.args.slot (body_from (option_copied c.args.payload))).values } =
-    slot_added lane i.values c.add.new.self c.args.slot (body_from (option_copied c.args.payload)) c.frames_left-held.result c.frames_between.result c.min-stored.result (c.frames_between.result - c.frames_left-held.result - c.min-stored.result) c.from.result c.frames_between-2.result c.min-skipped.result c.from-channels.result c.from-frames.result c.slot_samples-samples.result
-    s fits left before past_by c.from-channels.ensures c.from-frames.ensures c.min-stored.ensures refl c.min-skipped.ensures c.slot_samples-samples.ensures.samples c.add.ensures in
-    ap (λ (h : Held). lane_of i.format i.start i.block i.position (Some c.args.slot) i.quiet i.ended h.values) added
+    let at = goal.at.returns-clause-taken c in
+    ap (λ (h : Held). lane_of i.format i.start i.block i.position (Some c.args.slot) i.quiet i.ended h.values) (added_is at.After-add (left_is at.After-frames_between) (before_is at.After-frames_between))
     ∙ ap (λ (l : LaneState). with_slot l c.args.slot (body_from (option_copied c.args.payload))) c.self.view_is
 
 pub returns-clause-left : goal.returns-clause-left
@@ -105,9 +98,6 @@ pub overflow_sub-from : goal.overflow_sub-from
 overflow_sub-from c =
     let i = c.self.inside in
     let s = c.self.invariant in
-    let early = s.not_early in
-    let late = s.not_late in
-    let same : to_z w64 (of_z w64 i.position) ≡ i.position = omega (arith, ints) in
-    let left = c.frames_left-held.ensures ∙ ap (λ t. frames_left i.format.frames t i.slot) same in
+    let left = left_is (goal.at.overflow_sub-from c).After-frames_between in
     let wanted : frames_left i.format.frames i.position i.slot < i.block = wanted_left (lane_of i.format i.start i.block i.position i.slot i.quiet i.ended i.values.values) s.some_block (subst (λ (l : LaneState). is_wanting l (l.position +ℤ pos l.block) ≡ true) (sym c.self.view_is) c.requires.wanted) in
     omega (arith, left, wanted, c.from.ensures)
