@@ -25,11 +25,10 @@ bin/darbexum: $(sources)
 run: build
 	bin/darbexum < examples/first/input.trace
 
-# The README's first call, the examples and the faults are tried with what the gate has built.
+# The examples and the faults are tried with the program that the gate has built.
 test:
 	docs/check
 	rt ci
-	docs/first_call
 	examples/check crates/studio_main/out/studio_main
 	examples/statuses crates/studio_main/out/studio_main
 	memory/check
