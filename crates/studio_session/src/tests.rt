@@ -346,3 +346,26 @@ fn silence_stands_between_two_epochs(rt: HostRuntime) -> Result<(), Fail> {
     assert_eq!(rt; (merge.taken, merge.off_grid, merge.restarts), (3, 7, 1));
     Ok(())
 }
+
+#[test]
+fn faults_name_their_place(rt: HostRuntime) -> Result<(), Fail> {
+    let rows = [
+        (
+            StudioFault::Clock(7),
+            "the clock reading at place 7 is out of order",
+        ),
+        (
+            StudioFault::Stream(0),
+            "the datagram at place 0 is of no stream",
+        ),
+        (
+            StudioFault::Path(12),
+            "the datagram at place 12 is on a path that its stream lacks",
+        ),
+    ];
+    for (fault, want) in rows {
+        let text = format!(in rt.alloc(); "{fault}")?;
+        assert_eq!(rt; text.as_str(), want);
+    }
+    Ok(())
+}

@@ -153,3 +153,22 @@ fn clock_fault(alloc: Global, spec: StreamSpec, open_at: i64, events: &[Event]) 
         _ => None,
     }
 }
+
+#[test]
+fn clock_faults_say_what_is_wrong(rt: HostRuntime) -> Result<(), Fail> {
+    let rows = [
+        (ClockFault::WentBack, "the clock went back"),
+        (ClockFault::TooFar, "the clock is past 2^60"),
+        (ClockFault::Closed, "the stream is closed"),
+    ];
+    for (fault, want) in rows {
+        let text = format!(in rt.alloc(); "{fault}")?;
+        assert_eq!(rt; text.as_str(), want);
+    }
+    let text = format!(in rt.alloc(); "{}", RunFault::Clock(7))?;
+    assert_eq!(rt;
+        text.as_str(),
+        "the clock reading at place 7 is out of order"
+    );
+    Ok(())
+}

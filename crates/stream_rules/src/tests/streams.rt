@@ -232,3 +232,46 @@ fn packet_of(len: usize) -> Packet {
         payload,
     }
 }
+
+#[test]
+fn stream_faults_say_what_is_wrong(rt: HostRuntime) -> Result<(), Fail> {
+    let rows = [
+        (SpecFault::Channels, "channels are not from 1 to 64"),
+        (SpecFault::Frames, "frames per packet are not allowed"),
+        (
+            SpecFault::PayloadType,
+            "the payload type is not from 96 to 127",
+        ),
+        (
+            SpecFault::TooLong,
+            "a payload would have more than 1440 octets",
+        ),
+        (
+            SpecFault::Window,
+            "the window is not a power of two from 8 to 16384",
+        ),
+        (
+            SpecFault::Latency,
+            "the latency is 0 or does not fit the window",
+        ),
+        (SpecFault::Paths, "paths are not from 1 to 4"),
+    ];
+    for (fault, want) in rows {
+        let text = format!(in rt.alloc(); "{fault}")?;
+        assert_eq!(rt; text.as_str(), want);
+    }
+    Ok(())
+}
+
+#[test]
+fn packet_faults_say_what_is_wrong(rt: HostRuntime) -> Result<(), Fail> {
+    let rows = [
+        (AdmitFault::WrongType, "another payload type"),
+        (AdmitFault::WrongLength, "another payload length"),
+    ];
+    for (fault, want) in rows {
+        let text = format!(in rt.alloc(); "{fault}")?;
+        assert_eq!(rt; text.as_str(), want);
+    }
+    Ok(())
+}
