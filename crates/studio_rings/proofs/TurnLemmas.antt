@@ -2,7 +2,7 @@
 use Rattle.std.proofs.Common.{◌≡◌, ◌≢◌, ℕ, zero, suc, take, drop, get_or, set, inl, inr, ◌+◌, ◌≤◌, ◌<◌, List, [], ◌∷◌, ◌++◌, length, ℤ, refl, sym, ap, subst, ◌∙◌, arith, append_assoc, append-nil, length-append}
 use Rattle.std.proofs.lemmas.Bool.{cases_eq}
 use Rattle.std.proofs.lemmas.List.{take_more, take_more_set, length-set, drop-set-lt, drop-drop, get_or-drop, get_or-set_same, get_or-set_other}
-use Rattle.rtrb.specs.Ring.{received, known_items, SameConsumer, SameProducer}
+use Rattle.rtrb.specs.Ring.{received, known_items, ConsumerLooked, SameConsumer, SameProducer}
 use mathlib.Core.List.{IsPrefix}
 use Rattle.rtrb.specs.declared.consumer.Consumer.{Consumer}
 use Rattle.rtrb.specs.declared.producer.Producer.{Producer}
@@ -82,6 +82,13 @@ consumers c d e f g = ((g.0.0 ∙ f.0.0, g.0.1 ∙ f.0.1, g.0.2 ∙ f.0.2, g.0.3
 
 pub producers : {T A P : Type 0} (c d e : Producer T A P) → SameProducer c d → SameProducer d e → SameProducer c e
 producers c d e f g = ((g.0.0 ∙ f.0.0, g.0.1 ∙ f.0.1, g.0.2 ∙ f.0.2, g.0.3 ∙ f.0.3), g.1 ∙ f.1)
+
+-- an item that was looked at, and then passed
+pub looked_and_passed : {T A P : Type 0} (c d e : Consumer T A P) (x : T) → ConsumerLooked c d → SameConsumer d e
+    → (received e ≡ received d ++ x ∷ []) × (known_items d ≡ x ∷ known_items e)
+    → SameConsumer c e × (received e ≡ received c ++ x ∷ []) × IsPrefix (known_items c) (x ∷ known_items e)
+looked_and_passed c d e x look same pass =
+    (consumers c d e look.0 same, pass.0 ∙ ap (λ l. l ++ x ∷ []) look.1, subst (IsPrefix (known_items c)) pass.1 look.2)
 
 -- one packet more of a ring
 pub prefix_short : {X : Type 0} (xs ys : List X) → IsPrefix xs ys → length xs ≤ length ys

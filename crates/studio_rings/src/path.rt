@@ -2,7 +2,7 @@
 ghost use Rattle.std.specs.Prelude.{◌≡◌, ◌<◌, ◌^◌, IfSome, false, length, true};
 ghost use Rattle.rtrb.specs.Ring.{all_sent, known_free, Finishes, ProducerLooked, SameProducer};
 ghost use Rattle.stream_rules.specs.declared.packet.Packet.{Packet};
-ghost use Rattle.studio_session.specs.Session.{reception_of};
+ghost use Rattle.studio_session.specs.Session.{reception_from, reception_of};
 ghost use Rattle.studio_session.specs.declared.reception.Reception.TheVariants.{Sent as Received};
 ghost use Rattle.studio_rings.specs.Fitting.{fitting};
 ghost use Rattle.studio_rings.specs.Paths.{Offers};
@@ -11,7 +11,7 @@ ghost use Rattle.studio_rings.specs.declared.path.Offer.TheVariants as offer;
 use crate::path_end::PathEnd;
 use path_merge::Packet;
 use rtrb::{Finished, Producer};
-use studio_session::{PathCounts, Reception, receive};
+use studio_session::{PathCounts, ReceptionRef, receive_ref};
 
 /// What became of a datagram: the first of these that holds.
 #[derive(Clone, Copy, PartialEq, Eq, Debug)]
@@ -36,16 +36,16 @@ pub struct PathDone {
 }
 
 /// Whether this is a packet, and no free place is seen for it.
-fn lacks_room(ring: &mut Producer<Packet>, reception: &Reception) -> bool
+fn lacks_room(ring: &mut Producer<Packet>, reception: ReceptionRef<'_>) -> bool
     ensures ring { ProducerLooked ring.old ring.new }
-    ensures full { result ≡ true → ((packet : Packet) × (reception.now ≡ Received packet)) × (known_free ring.new ≡ 0) }
-    ensures room { result ≡ false → (packet : Packet) → reception.now ≡ Received packet → 0 < known_free ring.new }
+    ensures full { result ≡ true → ((packet : Packet) × (reception_from reception.entry ≡ Received packet)) × (known_free ring.new ≡ 0) }
+    ensures room { result ≡ false → (packet : Packet) → reception_from reception.entry ≡ Received packet → 0 < known_free ring.new }
 {
     match reception {
-        Reception::Sent(_) => ring.is_full(),
-        Reception::Bad => false,
-        Reception::WrongType => false,
-        Reception::WrongLength => false,
+        ReceptionRef::Sent(_) => ring.is_full(),
+        ReceptionRef::Bad => false,
+        ReceptionRef::WrongType => false,
+        ReceptionRef::WrongLength => false,
     }
 }
 
@@ -61,20 +61,20 @@ impl PathEnd {
         if self.counts.offered == 1 << 62 {
             return Offer::CountersFull;
         }
-        let reception = receive(&self.spec, datagram);
-        if lacks_room(&mut self.ring, &reception) {
+        let reception = receive_ref(&self.spec, datagram);
+        if lacks_room(&mut self.ring, reception) {
             self.counts.add_full();
             return Offer::Full;
         }
-        self.counts.add(&reception);
+        self.counts.add_ref(reception);
         match reception {
-            Reception::Sent(packet) => {
-                self.ring.push_reserved(packet);
+            ReceptionRef::Sent(packet) => {
+                self.ring.push_reserved(packet.to_packet());
                 Offer::Sent
             }
-            Reception::Bad => Offer::Bad,
-            Reception::WrongType => Offer::WrongType,
-            Reception::WrongLength => Offer::WrongLength,
+            ReceptionRef::Bad => Offer::Bad,
+            ReceptionRef::WrongType => Offer::WrongType,
+            ReceptionRef::WrongLength => Offer::WrongLength,
         }
     }
 

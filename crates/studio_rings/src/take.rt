@@ -35,10 +35,11 @@ fn take_path(
 {
     let mut taken = 0;
     while taken < BATCH {
-        let Some(packet) = side.pop() else {
+        if side.is_empty() {
             return taken;
-        };
-        join_packet(spec, merge, path, &packet);
+        }
+        join_packet(spec, merge, path, side.next());
+        side.pass();
         taken += 1;
     }
     taken

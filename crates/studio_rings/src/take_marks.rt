@@ -13,18 +13,18 @@ use path_merge::Mark;
 use studio_mix::Mixer;
 
 /// Feeds a mark if it may follow those of its stream, and says whether.
-fn keep_mark(mixer: &mut Mixer, stream: usize, mark: Mark) -> bool
+fn keep_mark(mixer: &mut Mixer, stream: usize, mark: &Mark) -> bool
     requires stream { stream < length mixer.old.lanes }
     requires wanted { is_wanted_by mixer.old stream ≡ true }
     ensures stands { (studio : Studio) (feeds : List Feed) (number : ℕ) (feed : Feed)
-        → HasFeeds studio mixer.old feeds number → slice_get feeds stream ≡ Some feed → HasFeeds studio mixer.new (slice_set feeds stream (fed_more feed (mark ∷ []))) number }
+        → HasFeeds studio mixer.old feeds number → slice_get feeds stream ≡ Some feed → HasFeeds studio mixer.new (slice_set feeds stream (fed_more feed (mark.now ∷ []))) number }
     ensures value { (studio : Studio) (feeds : List Feed) (number : ℕ) (feed : Feed)
-        → HasFeeds studio mixer.old feeds number → slice_get feeds stream ≡ Some feed → result ≡ is_mark_list (format_of feed.stream) (feed.marks ++ mark ∷ []) }
+        → HasFeeds studio mixer.old feeds number → slice_get feeds stream ≡ Some feed → result ≡ is_mark_list (format_of feed.stream) (feed.marks ++ mark.now ∷ []) }
     ensures lanes { length mixer.new.lanes ≡ length mixer.old.lanes }
     ensures spec { mixer.new.packer.spec ≡ mixer.old.packer.spec }
 {
-    if mixer.accepts(stream, &mark) {
-        mixer.feed(stream, mark);
+    if mixer.accepts(stream, mark) {
+        mixer.feed_ref(stream, &mark.lent());
         return true;
     }
     false
@@ -41,10 +41,11 @@ fn take_stream(side: &mut Side<Mark>, mixer: &mut Mixer, stream: usize) -> (u32,
         if !mixer.wants(stream) {
             return (taken, strange);
         }
-        let Some(mark) = side.pop() else {
+        if side.is_empty() {
             return (taken, strange);
-        };
-        let kept = keep_mark(mixer, stream, mark);
+        }
+        let kept = keep_mark(mixer, stream, side.next());
+        side.pass();
         strange += u32::from(!kept);
         taken += 1;
     }

@@ -1,6 +1,13 @@
 //! Marks from a merge to the ring of its stream.
-ghost use Rattle.std.specs.Prelude.{◌≡◌, ◌≤◌, ◌^◌, ◌≤ℤ◌, pos, false};
-ghost use Rattle.rtrb.specs.Ring.{known_free};
+ghost use Rattle.std.specs.Prelude.{◌≡◌, ℕ, ◌<◌, ◌≤◌, ◌^◌, ℤ, ◌≤ℤ◌, pos, List, ◌++◌, length, false, None, if◌then◌else◌};
+ghost use Rattle.std.specs.Option.{option_to_list};
+ghost use Rattle.rtrb.specs.Ring.{known_free, sent, SameProducer};
+ghost use Rattle.stream_rules.specs.declared.event.Event.{Event};
+ghost use Rattle.stream_rules.specs.declared.stream_spec.Stream.{Stream};
+ghost use Rattle.path_merge.specs.Clock.{clock_fault_of};
+ghost use Rattle.path_merge.specs.Merge.{HasHistory};
+ghost use Rattle.path_merge.specs.Steps.{Advances, Moves};
+ghost use Rattle.path_merge.specs.Next.{next_mark};
 ghost use Rattle.studio_rings.specs.Turns.{PushesMarks};
 ghost use Rattle.studio_rings.specs.Stop.{StopsFor};
 
@@ -31,6 +38,32 @@ pub struct TurnNote {
     pub why_stopped: StopReason,
 }
 
+/// Pushes the mark that a reading gives next, if it gives one, and goes there: whether it does.
+fn push_next(marks: &mut Producer<Mark>, merge: &mut Merge<SlotWindow>, now: i64) -> bool
+    requires room { 0 < known_free marks.old }
+    requires fine { clock_fault_of merge.old.time merge.old.closed now ≡ None }
+    ensures ring { SameProducer marks.old marks.new }
+    ensures pushed { sent marks.new ≡ sent marks.old ++ option_to_list (next_mark merge.old now) }
+    ensures count { length (option_to_list (next_mark merge.old now)) ≡ (if result then 1 else 0) }
+    ensures stands { (stream : Stream) (open_at : ℤ) (events : List Event) (k : ℕ)
+        → HasHistory stream open_at merge.old events k → Advances stream open_at merge.old merge.new events k now (next_mark merge.old now) }
+    ensures moved { Moves merge.old merge.new now (next_mark merge.old now) }
+    ensures caught_up { result ≡ false → merge.new.time ≡ now }
+    ensures spec { merge.new.spec ≡ merge.old.spec }
+{
+    let Ok(next) = merge.mark_at(now) else {
+        unreachable!();
+    };
+    let is_some = next.is_some();
+    if let Some(mark) = next {
+        marks.push_reserved(mark.to_mark());
+    }
+    let Ok(_) = merge.pass(now) else {
+        unreachable!();
+    };
+    is_some
+}
+
 /// Pushes marks up to a time, while there is room.
 pub(crate) fn push_marks(
     marks: &mut Producer<Mark>,
@@ -49,10 +82,8 @@ pub(crate) fn push_marks(
         if marks.is_full() {
             return (count, StopReason::NoRoom);
         }
-        match merge.advance(now) {
-            Ok(Some(mark)) => marks.push_reserved(mark),
-            Ok(None) => return (count, StopReason::CaughtUp),
-            Err(_) => unreachable!(),
+        if !push_next(marks, merge, now) {
+            return (count, StopReason::CaughtUp);
         }
         count += 1;
     }

@@ -1,5 +1,6 @@
 use Rattle.std.proofs.Common.{rules, arith, ◌≡◌, ◌∙◌, sym, if◌then◌else◌, not}
 use Rattle.studio_rings.proofs.AcceptedLemmas.{at_most_one, stops_final, took-more, took-none}
+use Rattle.studio_rings.proofs.TurnLemmas.{looked_and_passed}
 use Rattle.studio_rings.proofs.take_marks.take_stream.Goals as goal
 
 pub loop-taken-init : goal.loop-taken-init
@@ -12,7 +13,9 @@ loop-taken-preserved c =
     let one : c.from-strange.result ≡ (if not c.keep_mark-kept.result then 1 else 0) = search rules in
     let most = at_most_one _ _ one in
     let few = i.1 in
-    (omega arith, omega (arith, most, few), took-more _ c.loop-taken.side c.pop.new.self _ c.loop-taken.mixer c.keep_mark-kept.new.mixer _ _ _ _ c.in-Some.mark c.keep_mark-kept.result i.2 c.in-Some.ensures.ring c.in-Some.ensures.done c.in-Some.ensures.some.0 k.stands k.value k.lanes k.spec one)
+    let mark = c.next.result.now in
+    let taken = looked_and_passed c.loop-taken.side.ring c.is_empty.new.self.ring c.pass.new.self.ring mark c.is_empty.ensures.ring c.pass.ensures.ring (c.pass.ensures.passed mark c.next.ensures) in
+    (omega arith, omega (arith, most, few), took-more _ c.loop-taken.side c.pass.new.self _ c.loop-taken.mixer c.keep_mark-kept.new.mixer _ _ _ _ mark c.keep_mark-kept.result i.2 taken.0 (c.pass.ensures.done ∙ c.is_empty.ensures.done) taken.1 k.stands k.value k.lanes k.spec one)
 
 pub returns-then-not-wants : goal.returns-then-not-wants
 returns-then-not-wants c =
