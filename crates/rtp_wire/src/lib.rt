@@ -1,5 +1,10 @@
 //! RTP packets as they stand in a datagram, and the linear PCM samples in them.
 //!
+//! `read` answers the header and the payload of a datagram, or its first fault; the payload lies in the
+//! datagram, which the caller keeps. `read_samples` reads all its samples, and `sample` one. The other
+//! way, `write_head` writes a header to the front of the caller's slice, and `write_samples` the samples
+//! behind it; each answers how many octets it wrote.
+//!
 //! RFC 3550 (5.1 and 5.3.1) gives the header, RFC 3551 the 16-bit samples and RFC 3190 the 24-bit
 //! ones; AES67 (7.2) gives the packet times. Nothing here keeps state, takes memory or reads a socket.
 #![tactic(auto)]
