@@ -9,10 +9,10 @@ use Rattle.std.proofs.lemmas.List.{get_or-drop}
 use Rattle.stream_rules.specs.declared.stream_spec.Stream.{Stream}
 use Rattle.stream_rules.specs.StreamSpecFacts.{format_of}
 use Rattle.stream_rules.specs.MarkFacts.{MarkView}
-use Rattle.stream_rules.specs.MarkList.{can_follow, is_same_format, is_mark_list}
+use Rattle.stream_rules.specs.MarkList.{can_follow, is_same_format, is_mark_list, has_end}
 use Rattle.stream_rules.specs.declared.mark.Format.{Format}
 use Rattle.lane_align.specs.declared.last_slot.LastSlot.{LastSlot}
-use Rattle.lane_align.specs.Cover.{last_slot, has_end}
+use Rattle.lane_align.specs.Cover.{last_slot}
 use Rattle.lane_align.specs.Held.{Held, first_values}
 use Rattle.lane_align.specs.Value.{value_at, frames_from}
 use Rattle.lane_align.specs.Lane.{LaneState, HasFeed, IsLane, is_next, last_kind, natural, frames_left}

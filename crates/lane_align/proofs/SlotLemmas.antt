@@ -14,13 +14,13 @@ use Rattle.std.specs.Option.{option_or}
 use Rattle.stream_rules.specs.declared.stream_spec.Stream.{Stream}
 use Rattle.stream_rules.specs.StreamSpecFacts.{format_of}
 use Rattle.stream_rules.specs.MarkFacts.{MarkView, HasLength, payload_length}
-use Rattle.stream_rules.specs.MarkList.{can_follow, is_same_format, is_mark_list}
+use Rattle.stream_rules.specs.MarkList.{can_follow, is_same_format, is_mark_list, is_end, has_end}
 use Rattle.stream_rules.specs.declared.mark.Format.{Format}
 use Rattle.stream_rules.specs.declared.mark.Body.{Body}
 use Rattle.stream_rules.specs.declared.mark.Body.TheVariants.{Lost}
 use Rattle.stream_rules.specs.declared.mark.MarkKind.TheVariants.{Slot, Quiet, End}
 use Rattle.lane_align.specs.declared.last_slot.LastSlot.{LastSlot}
-use Rattle.lane_align.specs.Cover.{slot_of, quiet_of, is_end, last_slot, last_quiet, has_end, time_reached, cover_to, covers}
+use Rattle.lane_align.specs.Cover.{slot_of, quiet_of, last_slot, last_quiet, time_reached, cover_to, covers}
 use Rattle.lane_align.specs.Held.{Held, silence}
 use Rattle.lane_align.specs.Value.{sample_of, sample_in, sample_among, value_at}
 use Rattle.lane_align.specs.Lane.{LaneState, HasFeed, IsLane, IsSlot, IsAfter, last_kind, is_next, is_wanting, frames_between, frames_left, body_samples, with_slot}

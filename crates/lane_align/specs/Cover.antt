@@ -1,8 +1,9 @@
 -- Until when the marks of a stream say its values.
-use Rattle.std.specs.Prelude.{ℕ, ◌+◌, ◌^◌, ◌≤ℤ◌, Bool, true, false, ◌||◌, List, [], ◌∷◌, ℤ, pos, ◌+ℤ◌, int_le, Option, Some, None, unwrap_or}
+use Rattle.std.specs.Prelude.{ℕ, ◌+◌, ◌^◌, ◌≤ℤ◌, Bool, true, false, List, [], ◌∷◌, ℤ, pos, ◌+ℤ◌, int_le, Option, Some, None, unwrap_or}
 use Rattle.std.specs.Int.{int_max}
 use Rattle.std.specs.Option.{option_or, option_map}
 use Rattle.stream_rules.specs.MarkFacts.{MarkView}
+use Rattle.stream_rules.specs.MarkList.{has_end}
 use Rattle.stream_rules.specs.declared.mark.Format.{Format}
 use Rattle.stream_rules.specs.declared.mark.MarkKind.{MarkKind}
 use Rattle.stream_rules.specs.declared.mark.MarkKind.TheVariants.{Slot, Quiet, End}
@@ -21,11 +22,6 @@ quiet_of (Slot epoch number media body) = None
 quiet_of (Quiet until) = Some until
 quiet_of End = None
 
-abbrev pub is_end : MarkKind → Bool
-is_end (Slot epoch number media body) = false
-is_end (Quiet until) = false
-is_end End = true
-
 -- the last slot, and the last Quiet's time, where there is one
 abbrev pub last_slot : List MarkView → Option LastSlot
 last_slot [] = None
@@ -34,10 +30,6 @@ last_slot (mark ∷ marks) = option_or (last_slot marks) (slot_of mark.kind)
 abbrev pub last_quiet : List MarkView → Option ℤ
 last_quiet [] = None
 last_quiet (mark ∷ marks) = option_or (last_quiet marks) (quiet_of mark.kind)
-
-abbrev pub has_end : List MarkView → Bool
-has_end [] = false
-has_end (mark ∷ marks) = is_end mark.kind || has_end marks
 
 -- the greater of two times, of those that there are
 abbrev pub later_of : Option ℤ → Option ℤ → Option ℤ

@@ -3,7 +3,7 @@ use Rattle.std.specs.Prelude.{◌≡◌, ℕ, ◌+◌, ◌*◌, ◌^◌, ◌<◌
 use Rattle.stream_rules.specs.declared.stream_spec.Stream.{Stream}
 use Rattle.stream_rules.specs.StreamSpecFacts.{format_of}
 use Rattle.stream_rules.specs.MarkFacts.{MarkView, IsTime}
-use Rattle.stream_rules.specs.MarkList.{can_follow, is_same_format, is_mark_list}
+use Rattle.stream_rules.specs.MarkList.{can_follow, is_same_format, is_mark_list, has_end}
 use Rattle.stream_rules.specs.declared.mark.Format.{Format}
 use Rattle.stream_rules.specs.declared.mark.Body.{Body}
 use Rattle.stream_rules.specs.declared.mark.Body.TheVariants.{Got, Lost}
@@ -12,7 +12,7 @@ use Rattle.stream_rules.specs.declared.mark.MarkKind.TheVariants.{Slot, Quiet, E
 use Rattle.lane_align.specs.declared.cover.Cover.{Cover}
 use Rattle.lane_align.specs.declared.last_slot.LastSlot.{LastSlot}
 use Rattle.lane_align.specs.Value.{value_at}
-use Rattle.lane_align.specs.Cover.{last_slot, last_quiet, has_end, time_reached, cover_to, covers}
+use Rattle.lane_align.specs.Cover.{last_slot, last_quiet, time_reached, cover_to, covers}
 use Rattle.lane_align.specs.Held.{Held, silence}
 use Rattle.std.specs.List.{All}
 use Rattle.rtp_wire.specs.Sample.{Is24Bits, samples_of}

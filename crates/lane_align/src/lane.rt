@@ -18,10 +18,10 @@ ghost use Rattle.lane_align.specs.Lane.{IsSlot, IsAfter, body_samples, with_slot
 use crate::cover::Cover;
 use crate::frames::FrameQueue;
 use crate::last_slot::LastSlot;
-use path_merge::{Format, Mark, MarkKindRef, MarkRef, StreamSpec};
 use rtp_wire::{Enc, read_samples};
 use std::alloc::{AllocError, Global};
 use std::marker::Model;
+use stream_rules::{Format, Mark, MarkKindRef, MarkRef, StreamSpec};
 
 /// The most samples that a payload holds: 1,440 octets of 16-bit samples.
 const MOST_SAMPLES: usize = 720;

@@ -1,10 +1,10 @@
 //! Laws of values, covers and accepted marks.
 ghost use Rattle.std.specs.Prelude.{◌≡◌, ℕ, ℤ, pos, ◌+ℤ◌, List, [], ◌∷◌, ◌++◌, true};
 ghost use Rattle.stream_rules.specs.MarkFacts.{MarkView};
-ghost use Rattle.stream_rules.specs.MarkList.{is_mark_list};
+ghost use Rattle.stream_rules.specs.MarkList.{is_mark_list, has_end};
 ghost use Rattle.stream_rules.specs.declared.mark.Format.{Format};
 ghost use Rattle.lane_align.specs.Value.{value_at};
-ghost use Rattle.lane_align.specs.Cover.{cover_of, covers, has_end};
+ghost use Rattle.lane_align.specs.Cover.{cover_of, covers};
 ghost use Rattle.lane_align.specs.Accepted.{accepted_marks, accepted_with};
 
 /// No value before the cover changes when accepted marks are added; what is covered stays so, and

@@ -14,7 +14,7 @@ use Rattle.std.proofs.Math.Seq.{take-append-add, drop-append-add}
 use Rattle.path_merge.proofs.CloseLemmas.{marks_of-close}
 use Rattle.path_merge.proofs.MarksLemmas.{well_timed_before, well_timed_tick}
 use Rattle.path_merge.proofs.SlotCountLemmas.{no_end_yet, slots_counted}
-use Rattle.path_merge.proofs.StepLemmas.{base_more, has_end-append, last_quiet-append, or_none, slot_count-append, without}
+use Rattle.path_merge.proofs.StepLemmas.{base_more, has_end-append, last_quiet_or-append, or_none, slot_count-append, without}
 use Rattle.path_merge.proofs.TallyLemmas.{tally-other, tally-slot}
 use Rattle.stream_rules.specs.Anchor.{next_number}
 use Rattle.stream_rules.specs.Counts.{fates_of}
@@ -22,7 +22,8 @@ use Rattle.stream_rules.specs.CountsFacts.{with_body}
 use Rattle.stream_rules.specs.History.{events_until_close, is_closed, is_counting, is_well_timed, time_of}
 use Rattle.stream_rules.specs.MarkFacts.{MarkView}
 use Rattle.stream_rules.specs.Marks.{body_of, end_mark, marks_of, slot_mark, slots_at_close, slots_from}
-use Rattle.path_merge.specs.Merge.{HasHistory, has_end, slot_count}
+use Rattle.stream_rules.specs.MarkList.{has_end}
+use Rattle.path_merge.specs.Merge.{HasHistory, slot_count}
 use Rattle.path_merge.specs.MergeState.{IsSound, MergeState}
 use Rattle.path_merge.specs.Steps.{Drains, HoldsMore, IsLeftStep}
 use Rattle.stream_rules.specs.declared.stream_spec.Stream.{Stream}
@@ -287,7 +288,7 @@ module _ (stream : Stream) (open_at : ℤ) (m : MergeState) (media : ℤ) (s : I
               omega (arith, ap (λ (s : MergeState). s.base) step.changed, based, ap (λ b. (if b then 1 else 0) + 0) (itself_eq a.epoch), slot_count-append a.epoch (take k (marks_of stream open_at events)) (slot_mark m.spec a m.base (body_of (get m.held m.base)) ∷ [])));
           held = λ n. step.held n ∙ without n m.base (first_copy stream open_at events n) (get m.held n) (at.held n) ∙ rw (ap (λ (s : MergeState). s.base) step.changed);
           probation = λ path few. rw (ap (λ (s : MergeState). s.probations) step.changed) (at.probation path few);
-          quiet = ap (λ (s : MergeState). s.quiet) step.changed ∙ at.quiet ∙ rw (one.0, last_quiet-append (open_at -ℤ pos stream.latency) (take k (marks_of stream open_at events)) (slot_mark m.spec a m.base (body_of (get m.held m.base)) ∷ []));
+          quiet = ap (λ (s : MergeState). s.quiet) step.changed ∙ at.quiet ∙ rw (one.0, last_quiet_or-append (open_at -ℤ pos stream.latency) (take k (marks_of stream open_at events)) (slot_mark m.spec a m.base (body_of (get m.held m.base)) ∷ []));
           ended = ap (λ (s : MergeState). s.ended) step.changed ∙ at.ended ∙ rw (one.0, has_end-append (take k (marks_of stream open_at events)) (slot_mark m.spec a m.base (body_of (get m.held m.base)) ∷ []), or_none);
         };
       }
@@ -311,7 +312,7 @@ module _ (stream : Stream) (open_at : ℤ) (m : MergeState) (media : ℤ) (s : I
           base = rw one.0 (base_more m.anchor m.base (take k (marks_of stream open_at events)) (end_mark stream ∷ []) (λ epoch. refl) at.base);
           held = at.held;
           probation = at.probation;
-          quiet = at.quiet ∙ rw (one.0, last_quiet-append (open_at -ℤ pos stream.latency) (take k (marks_of stream open_at events)) (end_mark stream ∷ []));
+          quiet = at.quiet ∙ rw (one.0, last_quiet_or-append (open_at -ℤ pos stream.latency) (take k (marks_of stream open_at events)) (end_mark stream ∷ []));
           ended = sym (ap has_end one.0 ∙ has_end-append (take k (marks_of stream open_at events)) (end_mark stream ∷ []) ∙ or_true (has_end (take k (marks_of stream open_at events))));
         };
       }

@@ -13,9 +13,8 @@ use Rattle.stream_rules.specs.Grid.{end_of_copies, first_with}
 use Rattle.stream_rules.specs.History.{events_until_close, is_closed, is_well_timed, time_of}
 use Rattle.stream_rules.specs.Laws.{AllTimesFrom, AreInOrder, slot_times, times_in}
 use Rattle.stream_rules.specs.MarkFacts.{MarkView}
-use Rattle.stream_rules.specs.MarkList.{can_follow, is_mark_list, is_mark_list_after, is_same_format, is_same_time}
+use Rattle.stream_rules.specs.MarkList.{can_follow, is_mark_list, is_mark_list_after, is_same_format, is_same_time, is_end}
 use Rattle.stream_rules.specs.Marks.{body_of, end_mark, marks_of, slots_at_close}
-use Rattle.path_merge.specs.Merge.{is_end}
 use Rattle.stream_rules.specs.declared.stream_spec.Stream.{Stream}
 use Rattle.stream_rules.specs.StreamSpecFacts.{format_of}
 use Rattle.stream_rules.specs.declared.anchor.Anchor.{Anchor}

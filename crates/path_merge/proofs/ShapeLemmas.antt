@@ -17,9 +17,8 @@ use Rattle.stream_rules.specs.Epochs.{anchor_in, anchor_of, anchors_at, anchors_
 use Rattle.stream_rules.specs.Grid.{end_of_copies, first_with}
 use Rattle.stream_rules.specs.History.{is_closed, is_well_timed, time_of}
 use Rattle.stream_rules.specs.MarkFacts.{MarkView}
-use Rattle.stream_rules.specs.MarkList.{can_follow, is_mark_list, is_mark_list_after, is_same_encoding, is_same_format, is_same_time}
+use Rattle.stream_rules.specs.MarkList.{can_follow, is_mark_list, is_mark_list_after, is_same_encoding, is_same_format, is_same_time, is_end}
 use Rattle.stream_rules.specs.Marks.{body_of, has_slot, is_past_quiet, is_past_quiets, is_quiet_new, is_slot, quiet_mark, slots_between, slots_from, slots_or_quiet}
-use Rattle.path_merge.specs.Merge.{is_end}
 use Rattle.stream_rules.specs.declared.stream_spec.Stream.{Stream}
 use Rattle.stream_rules.specs.StreamSpecFacts.{format_of}
 use Rattle.stream_rules.specs.declared.anchor.Anchor.{Anchor}

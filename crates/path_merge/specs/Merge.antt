@@ -1,5 +1,5 @@
 -- What a merge has to be after a history, with some of its marks handed on.
-use Rattle.std.specs.Prelude.{◌≡◌, ℕ, ◌+◌, ◌≤◌, ◌<◌, nat_lt, Bool, true, false, ◌||◌, nat_eq, List, [], ◌∷◌, take, length, ℤ, pos, ◌-ℤ◌, Option, Some, None, if◌then◌else◌}
+use Rattle.std.specs.Prelude.{◌≡◌, ℕ, ◌+◌, ◌≤◌, ◌<◌, nat_lt, Bool, true, false, nat_eq, List, [], ◌∷◌, take, length, ℤ, pos, ◌-ℤ◌, Option, Some, None, if◌then◌else◌}
 use Rattle.std.specs.FinMap.{get}
 use Rattle.stream_rules.specs.declared.stream_spec.Stream.{Stream}
 use Rattle.stream_rules.specs.MarkFacts.{MarkView}
@@ -14,6 +14,7 @@ use Rattle.stream_rules.specs.Probation.{heard_since}
 use Rattle.stream_rules.specs.PathProbation.{probation_at, probation_of}
 use Rattle.stream_rules.specs.Copies.{first_copy}
 use Rattle.stream_rules.specs.Marks.{marks_of}
+use Rattle.stream_rules.specs.MarkList.{has_end}
 use Rattle.stream_rules.specs.Counts.{counts_of}
 use Rattle.path_merge.specs.MergeState.{MergeState}
 
@@ -33,18 +34,9 @@ quiet_or before (Quiet until) = until
 quiet_or before End = before
 
 -- the time of the last Quiet, or the one before all
-abbrev pub last_quiet : ℤ → List MarkView → ℤ
-last_quiet before [] = before
-last_quiet before (mark ∷ marks) = last_quiet (quiet_or before mark.kind) marks
-
-abbrev pub is_end : MarkKind → Bool
-is_end (Slot epoch number media body) = false
-is_end (Quiet until) = false
-is_end End = true
-
-abbrev pub has_end : List MarkView → Bool
-has_end [] = false
-has_end (mark ∷ marks) = is_end mark.kind || has_end marks
+abbrev pub last_quiet_or : ℤ → List MarkView → ℤ
+last_quiet_or before [] = before
+last_quiet_or before (mark ∷ marks) = last_quiet_or (quiet_or before mark.kind) marks
 
 -- one past the numbers of the anchor's epoch that have a slot among the marks, where there is an anchor
 abbrev pub IsBaseOf : Option Anchor → ℕ → List MarkView → Type 0
@@ -70,5 +62,5 @@ pub record HasHistory (stream : Stream) (open_at : ℤ) (m : MergeState) (events
   pub base : IsBaseOf m.anchor m.base (take k (marks_of stream open_at events))
   pub held : (n : ℕ) → get m.held n ≡ (if nat_lt n m.base then None else first_copy stream open_at events n)
   pub probation : (path : ℕ) → path < 4 → probation_at m.probations path ≡ probation_of stream (heard_of stream open_at (last_of (anchors_of stream open_at events)) events path)
-  pub quiet : m.quiet ≡ last_quiet (open_at -ℤ pos stream.latency) (take k (marks_of stream open_at events))
+  pub quiet : m.quiet ≡ last_quiet_or (open_at -ℤ pos stream.latency) (take k (marks_of stream open_at events))
   pub ended : m.ended ≡ has_end (take k (marks_of stream open_at events))

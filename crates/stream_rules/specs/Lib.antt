@@ -17,6 +17,8 @@ pub mod Put
 pub mod Fate
 pub mod CountsFacts
 pub mod Counts
+pub mod Reception
+pub mod PathCounts
 pub mod Sent
 pub mod Laws
 pub mod EpochLaws

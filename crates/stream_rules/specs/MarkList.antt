@@ -41,3 +41,13 @@ is_mark_list_after format last (mark ∷ marks) =
 
 abbrev pub is_mark_list : Format → List MarkView → Bool
 is_mark_list format marks = is_mark_list_after format None marks
+
+abbrev pub is_end : MarkKind → Bool
+is_end (Slot epoch number media body) = false
+is_end (Quiet until) = false
+is_end End = true
+
+-- the end is among the marks
+abbrev pub has_end : List MarkView → Bool
+has_end [] = false
+has_end (mark ∷ marks) = is_end mark.kind || has_end marks

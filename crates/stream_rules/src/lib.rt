@@ -5,6 +5,9 @@
 //! epochs (`Epochs`), the copies of each number (`Copies`), the fate of an arrival (`Fate`), the counts
 //! (`Counts`) and the marks (`Marks`). No definition mentions a window or a queue.
 //!
+//! `receive` and `receive_ref` take a packet of the stream out of a datagram, or say what is wrong with
+//! it; a path's `PathCounts` count these answers.
+//!
 //! The functions beside them decide about one packet: where it belongs (`number_of`, `is_in_step`),
 //! and whether it completes its path's probation (`hear_on`). Merges are made of them.
 #![tactic(auto)]
@@ -18,8 +21,11 @@ mod mark_ref;
 mod nearest;
 mod packet;
 mod path;
+mod path_counts;
 mod probation;
 mod put;
+mod reception;
+mod stream_counts;
 mod stream_spec;
 
 pub use anchor::{Anchor, is_in_step, is_wanted, media_of_first, media_of_restart, number_of};
@@ -31,9 +37,9 @@ pub use mark_ref::{MarkKindRef, MarkRef};
 pub use nearest::{near16, near32};
 pub use packet::{Packet, PacketRef};
 pub use path::Path;
+pub use path_counts::PathCounts;
 pub use probation::{Probation, hear_on};
 pub use put::Put;
+pub use reception::{Reception, ReceptionRef, receive, receive_ref};
+pub use stream_counts::StreamCounts;
 pub use stream_spec::{AdmitFault, SpecFault, Stream, StreamClock, StreamSpec};
-
-#[cfg(test)]
-mod tests;

@@ -3,9 +3,9 @@ use Rattle.std.proofs.Common.{◌≡◌, inl, inr, ◌<◌, ◌+◌, min, ℕ, s
 use Rattle.std.proofs.lemmas.Bool.{cases_lt}
 use Rattle.std.proofs.lemmas.List.{drop_all, take_all}
 use Rattle.stream_rules.specs.Counts.{tally_of}
-use Rattle.studio_session.specs.Counts.{path_tally_of}
-use Rattle.studio_session.specs.declared.counts.PathCounts.{PathCounts}
-use Rattle.studio_session.specs.declared.report.StreamCounts.{StreamCounts}
+use Rattle.stream_rules.specs.PathCounts.{path_tally_of}
+use Rattle.stream_rules.specs.declared.path_counts.PathCounts.{PathCounts}
+use Rattle.stream_rules.specs.declared.stream_counts.StreamCounts.{StreamCounts}
 use Rattle.studio_run.specs.LiveReport.{feed_line}
 use Rattle.studio_run.specs.Report.{merge_line, path_line}
 use Rattle.studio_workers.specs.declared.report.WorkReport.{WorkReport}

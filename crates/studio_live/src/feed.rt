@@ -70,6 +70,11 @@ impl<R: Clock> Feed for UdpFeed<'_, R> {
             },
         }
     }
+
+    /// A receive waits for a datagram.
+    fn waits(&self) -> bool {
+        true
+    }
 }
 
 /// A socket that is bound to a port on 127.0.0.1, whose receives wait for a datagram, but not for long.

@@ -2,10 +2,10 @@
 
 use crate::clock::SystemClock;
 use crate::ready::{FAULTS, is_ready};
-use path_merge::{Counts, StreamSpec};
 use std::alloc::{AllocError, Global};
 use std::io::Write;
 use std::time;
+use stream_rules::{Counts, StreamSpec};
 use studio_rings::MonitorEnd;
 use studio_run::{TextBuffer, WriteFault, write_running_counts};
 use studio_workers::Clock;

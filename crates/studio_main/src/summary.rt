@@ -2,9 +2,9 @@
 use crate::fault::Fault;
 use gain_mix::Matrix;
 use mix_packets::OutSpec;
-use path_merge::{Path, StreamClock, StreamSpec};
 use rtp_wire::Enc;
 use std::io::Write;
+use stream_rules::{Path, StreamClock, StreamSpec};
 use studio_spec::{Ports, StudioSpec};
 
 /// Writes a line for each stream and its paths, one for the output, and the gains by time.

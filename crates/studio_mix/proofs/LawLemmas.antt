@@ -10,13 +10,13 @@ use Rattle.gain_mix.specs.Mix.{mixed_frame}
 use Rattle.stream_rules.specs.declared.stream_spec.Stream.{Stream}
 use Rattle.stream_rules.specs.StreamSpecFacts.{format_of}
 use Rattle.stream_rules.specs.MarkFacts.{MarkView}
-use Rattle.stream_rules.specs.MarkList.{is_mark_list}
+use Rattle.stream_rules.specs.MarkList.{is_mark_list, is_end, has_end}
 use Rattle.stream_rules.specs.declared.mark.Format.{Format}
 use Rattle.stream_rules.specs.declared.mark.MarkKind.{MarkKind}
 use Rattle.stream_rules.specs.declared.mark.MarkKind.TheVariants.{Slot, Quiet, End}
 use Rattle.lane_align.specs.declared.cover.Cover.{Cover}
 use Rattle.lane_align.specs.declared.cover.Cover.TheVariants.{Nothing, Until, All}
-use Rattle.lane_align.specs.Cover.{slot_of, quiet_of, is_end, last_slot, last_quiet, has_end, time_reached, cover_to, cover_of, covers, end_of}
+use Rattle.lane_align.specs.Cover.{slot_of, quiet_of, last_slot, last_quiet, time_reached, cover_to, cover_of, covers, end_of}
 use Rattle.lane_align.specs.Value.{value_at, frame_at}
 use Rattle.lane_align.proofs.FeedLemmas.{last_slot_more, last_quiet_more, has_end_more}
 use Rattle.lane_align.proofs.MarkListLemmas.{both_left, both_right, list_before}

@@ -6,4 +6,5 @@ pub mod BlockLemmas
 pub mod NextLemmas
 pub mod NewLemmas
 pub mod LawLemmas
+pub mod FirstBlockLemmas
 mod WorkedCases

@@ -13,7 +13,8 @@ use Rattle.stream_rules.specs.StreamSpecFacts.{format_of}
 use Rattle.stream_rules.specs.MarkFacts.{MarkView}
 use Rattle.stream_rules.specs.declared.mark.Format.{Format}
 use Rattle.lane_align.specs.declared.cover.Cover.TheVariants.{Nothing, Until, All}
-use Rattle.lane_align.specs.Cover.{covers, cover_of, cover_to, end_of, has_end, last_slot, last_quiet, time_reached}
+use Rattle.stream_rules.specs.MarkList.{has_end}
+use Rattle.lane_align.specs.Cover.{covers, cover_of, cover_to, end_of, last_slot, last_quiet, time_reached}
 use Rattle.lane_align.specs.Lane.{LaneState, HasFeed, cover_at, end_at, natural}
 use Rattle.mix_packets.specs.declared.out_spec.Output.{Output}
 use Rattle.mix_packets.specs.Block.{block_start}

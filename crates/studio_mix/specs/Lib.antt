@@ -2,6 +2,7 @@ pub mod Feed
 pub mod Mixed
 pub mod Ready
 pub mod Output
+pub mod Blocks
 pub mod Lanes
 pub mod Mixer
 pub use Rattle.rtp_wire.specs.Sample

@@ -11,8 +11,8 @@ ghost use Rattle.studio_mix.specs.Lanes.{AreFed, AreRead, IsLaneAt, IsReadyLane,
 
 use crate::lay::lay_stream;
 use lane_align::{Cover, Lane};
-use path_merge::StreamSpec;
 use std::alloc::{AllocError, Global};
+use stream_rules::StreamSpec;
 
 /// A lane for each stream, that was fed nothing.
 pub(crate) fn new_lanes(

@@ -16,9 +16,9 @@ use crate::lanes::{are_covered, new_lanes, reach_past, read_lanes};
 use gain_mix::{Schedule, mix_span};
 use lane_align::Lane;
 use mix_packets::{OutSpec, Packer};
-use path_merge::{Mark, MarkRef};
 use std::alloc::{AllocError, Global};
 use std::marker::Model;
+use stream_rules::{Mark, MarkRef};
 use studio_spec::StudioSpec;
 
 /// The lanes of a studio's streams, and its output, block by block.

@@ -16,7 +16,8 @@ use Rattle.stream_rules.specs.Epochs.{anchor_of}
 use Rattle.stream_rules.specs.Copies.{copies_of, copies_of_all}
 use Rattle.stream_rules.specs.Marks.{end_mark, marks_of, slots_at_close, slots_from}
 use Rattle.path_merge.specs.MergeState.{MergeState}
-use Rattle.path_merge.specs.Merge.{HasHistory, has_end, is_end}
+use Rattle.stream_rules.specs.MarkList.{has_end, is_end}
+use Rattle.path_merge.specs.Merge.{HasHistory}
 use Rattle.path_merge.specs.Steps.{Drains}
 use Rattle.path_merge.proofs.HistoryLemmas.{marks_of-in}
 use Rattle.path_merge.proofs.StepLemmas.{has_end-append}

@@ -19,8 +19,8 @@ use Rattle.studio_mix.specs.Feed.{AreLonger, Feed, IsLonger}
 use Rattle.studio_mix.specs.Output.{datagram_of}
 use Rattle.studio_mix.specs.Ready.{is_ready}
 use Rattle.studio_mix.proofs.LawLemmas.{datagram_longer, ready_covered, ready_longer}
-use Rattle.studio_session.specs.Blocks.{AreFirstBlocks}
-use Rattle.studio_session.proofs.RunLemmas.{first_all, first_more, written_is}
+use Rattle.studio_mix.specs.Blocks.{AreFirstBlocks}
+use Rattle.studio_mix.proofs.FirstBlockLemmas.{first_all, first_more, written_is}
 use Rattle.studio_rings.specs.Side.{IsDrained}
 use Rattle.studio_rings.specs.Looks.{AllDrained}
 use Rattle.studio_rings.specs.Mixes.{AllTakeSome}

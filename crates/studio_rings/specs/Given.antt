@@ -6,7 +6,7 @@ use Rattle.stream_rules.specs.MarkFacts.{MarkView}
 use Rattle.stream_rules.specs.MarkList.{is_mark_list}
 use Rattle.studio_spec.specs.Studio.{Studio}
 use Rattle.studio_mix.specs.Feed.{Feed}
-use Rattle.studio_session.specs.Blocks.{AreBlocks, AreFirstBlocks}
+use Rattle.studio_mix.specs.Blocks.{AreBlocks, AreFirstBlocks}
 use Rattle.studio_rings.specs.AcceptedFeeds.{accepted_feeds}
 use Rattle.studio_rings.specs.MixEnds.{MixHasFeeds}
 use Rattle.studio_rings.specs.declared.side.Side.{Side}

@@ -29,6 +29,6 @@ pub use Rattle.studio_mix.specs.Mixer
 pub use Rattle.studio_mix.specs.Feed
 pub use Rattle.studio_mix.specs.Ready
 pub use Rattle.studio_mix.specs.Output
-pub use Rattle.studio_session.specs.Blocks
-pub use Rattle.studio_session.specs.Counts
-pub use Rattle.studio_session.specs.Session
+pub use Rattle.studio_mix.specs.Blocks
+pub use Rattle.stream_rules.specs.PathCounts
+pub use Rattle.stream_rules.specs.Reception

@@ -1,5 +1,5 @@
 -- Which rings are finished and drained.
-use Rattle.std.specs.Prelude.{◌≡◌, Bool, false, List, [], ◌∷◌, ◌↔◌, None, MatchOption, IfSome}
+use Rattle.std.specs.Prelude.{◌≡◌, Bool, false, List, [], ◌∷◌, ◌↔◌, None, MatchOption, IsSomeAnd}
 use Rattle.rtrb.specs.Ring.{received, all_sent, SameConsumer}
 use Rattle.studio_rings.specs.Side.{IsDrained}
 use Rattle.studio_rings.specs.declared.side.Side.{Side}
@@ -9,7 +9,7 @@ module _ {T : Type 0} where
   pub record LooksAt (old new : Side T) : Type 0 where
     pub ring : SameConsumer old.ring new.ring
     pub received_is : received new.ring ≡ received old.ring
-    pub done : MatchOption old.done (new.done ≡ None) (λ d. IfSome new.done (λ e. all_sent e ≡ all_sent d))
+    pub done : MatchOption old.done (new.done ≡ None) (λ d. IsSomeAnd new.done (λ e. all_sent e ≡ all_sent d))
 
   abbrev pub AllLookAt : List (Side T) → List (Side T) → Type 0
   AllLookAt [] [] = Unit {0}

@@ -2,10 +2,10 @@
 use Rattle.std.specs.Prelude.{◌≡◌, ℕ, ◌<◌, ◌^◌, List, [], ◌∷◌, ◌++◌}
 use Rattle.rtrb.specs.Ring.{sent, known_free}
 use Rattle.stream_rules.specs.declared.packet.Packet.{Packet}
-use Rattle.studio_session.specs.Counts.{path_tally_of, with_full, with_reception}
-use Rattle.studio_session.specs.Session.{reception_of}
-use Rattle.studio_session.specs.declared.reception.Reception.{Reception}
-use Rattle.studio_session.specs.declared.reception.Reception.TheVariants.{Sent as Received, Bad as BadWire, WrongType as OtherType, WrongLength as OtherLength}
+use Rattle.stream_rules.specs.PathCounts.{path_tally_of, with_full, with_reception}
+use Rattle.stream_rules.specs.Reception.{reception_of}
+use Rattle.stream_rules.specs.declared.reception.Reception.{Reception}
+use Rattle.stream_rules.specs.declared.reception.Reception.TheVariants.{Sent as Received, Bad as BadWire, WrongType as OtherType, WrongLength as OtherLength}
 use Rattle.studio_rings.specs.declared.path_end.PathEnd.{PathEnd}
 use Rattle.studio_rings.specs.declared.path.Offer.{Offer}
 use Rattle.studio_rings.specs.declared.path.Offer.TheVariants.{CountersFull, Bad, WrongType, WrongLength, Full, Sent}

@@ -36,5 +36,5 @@ pub use path::{Offer, PathDone};
 pub use path_end::PathEnd;
 pub use stream::{PathsOpen, StreamDone};
 pub use stream_end::StreamEnd;
-pub use studio_session::PathCounts;
+pub use stream_rules::PathCounts;
 pub use turn::{StopReason, TurnNote};

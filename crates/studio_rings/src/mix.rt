@@ -5,7 +5,7 @@ ghost use Rattle.rtrb.specs.Ring.{all_sent, IsFinishedOf};
 ghost use Rattle.stream_rules.specs.MarkFacts.{MarkView};
 ghost use Rattle.studio_spec.specs.Studio.{Studio};
 ghost use Rattle.studio_mix.specs.Feed.{Feed};
-ghost use Rattle.studio_session.specs.Blocks.{AreBlocks};
+ghost use Rattle.studio_mix.specs.Blocks.{AreBlocks};
 ghost use Rattle.studio_rings.specs.declared.side.Side.{Side};
 ghost use Rattle.studio_rings.specs.AcceptedFeeds.{accepted_feeds, received_total};
 ghost use Rattle.studio_rings.specs.Looks.{AllDrained, AllLookAt};

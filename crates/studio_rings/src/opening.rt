@@ -15,8 +15,8 @@ use crate::stream_end::StreamEnd;
 use path_merge::{Mark, Merge, Packet, StreamSpec};
 use rtrb::RingBuffer;
 use std::alloc::{AllocError, Global};
+use stream_rules::PathCounts;
 use studio_mix::Mixer;
-use studio_session::PathCounts;
 use studio_spec::StudioSpec;
 
 /// The ends of some streams, and of their marks' rings.

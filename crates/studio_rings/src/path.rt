@@ -2,8 +2,8 @@
 ghost use Rattle.std.specs.Prelude.{◌≡◌, ◌<◌, ◌^◌, IfSome, false, length, true};
 ghost use Rattle.rtrb.specs.Ring.{all_sent, known_free, Finishes, ProducerLooked, SameProducer};
 ghost use Rattle.stream_rules.specs.declared.packet.Packet.{Packet};
-ghost use Rattle.studio_session.specs.Session.{reception_from, reception_of};
-ghost use Rattle.studio_session.specs.declared.reception.Reception.TheVariants.{Sent as Received};
+ghost use Rattle.stream_rules.specs.Reception.{reception_from, reception_of};
+ghost use Rattle.stream_rules.specs.declared.reception.Reception.TheVariants.{Sent as Received};
 ghost use Rattle.studio_rings.specs.Fitting.{fitting};
 ghost use Rattle.studio_rings.specs.Paths.{Offers};
 ghost use Rattle.studio_rings.specs.declared.path.Offer.TheVariants as offer;
@@ -11,7 +11,7 @@ ghost use Rattle.studio_rings.specs.declared.path.Offer.TheVariants as offer;
 use crate::path_end::PathEnd;
 use path_merge::Packet;
 use rtrb::{Finished, Producer};
-use studio_session::{PathCounts, ReceptionRef, receive_ref};
+use stream_rules::{PathCounts, ReceptionRef, receive_ref};
 
 /// What became of a datagram: the first of these that holds.
 #[derive(Clone, Copy, PartialEq, Eq, Debug)]

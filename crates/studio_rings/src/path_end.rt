@@ -5,7 +5,7 @@ ghost use Rattle.studio_rings.specs.Fitting.{fitting};
 
 use path_merge::{Packet, StreamSpec};
 use rtrb::Producer;
-use studio_session::PathCounts;
+use stream_rules::PathCounts;
 
 /// The end of a path: its datagrams go in.
 ///

@@ -115,6 +115,7 @@ fn mixes(rt: &impl Abort, mix: &mut MixEnd, taken: u32, samples: Option<&[u8]>) 
     }
 }
 
+/// Rings of one place: full, stopped for want of room, caught up, and a reading that goes back.
 #[test]
 fn rings_of_one_place_lose_nothing(rt: HostRuntime) -> Result<(), Fail> {
     let mut ends = one_stream(&rt, rt.alloc(), 1)?;
@@ -137,6 +138,7 @@ fn rings_of_one_place_lose_nothing(rt: HostRuntime) -> Result<(), Fail> {
     Ok(())
 }
 
+/// Each turn that was taken sends its counts, and a refused one none.
 #[test]
 fn counts_reach_the_monitor(rt: HostRuntime) -> Result<(), Fail> {
     let mut ends = one_stream(&rt, rt.alloc(), 1)?;
@@ -166,6 +168,7 @@ fn counts_reach_the_monitor(rt: HostRuntime) -> Result<(), Fail> {
     Ok(())
 }
 
+/// A close before a path's end leaves it open, and drains nothing.
 #[test]
 fn an_open_path_holds_up_the_close(rt: HostRuntime) -> Result<(), Fail> {
     let mut ends = one_stream(&rt, rt.alloc(), 1)?;
@@ -270,6 +273,7 @@ fn mixes_in_order(rt: &impl Abort, alloc: Global, last_first: bool) -> Result<()
     Ok(())
 }
 
+/// Two streams whose turns come in both orders give the same datagrams.
 #[test]
 fn the_order_of_the_streams_changes_no_datagram(rt: HostRuntime) -> Result<(), Fail> {
     mixes_in_order(&rt, rt.alloc(), false)?;
@@ -317,6 +321,7 @@ fn tokens_carry_the_end_to_the_mixer(rt: HostRuntime) -> Result<(), Fail> {
     Ok(())
 }
 
+/// Rings of no place, or of 65,537, are refused.
 #[test]
 fn ring_lengths_are_bounded(rt: HostRuntime) -> Result<(), Fail> {
     let studio = studio(&rt, rt.alloc())?;
@@ -329,6 +334,7 @@ fn ring_lengths_are_bounded(rt: HostRuntime) -> Result<(), Fail> {
     Ok(())
 }
 
+/// A turn over 99 marks stops after 64, and the next one reaches its reading.
 #[test]
 fn a_turn_stops_after_64_marks(rt: HostRuntime) -> Result<(), Fail> {
     let mut ends = one_stream(&rt, rt.alloc(), 128)?;

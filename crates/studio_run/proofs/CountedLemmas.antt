@@ -7,7 +7,8 @@ use Rattle.stream_rules.specs.declared.stream_spec.Stream.{Stream}
 use Rattle.stream_rules.specs.CountsFacts.{Tally}
 use Rattle.studio_spec.specs.Studio.{Studio}
 use Rattle.studio_session.specs.Event.{TraceEvent}
-use Rattle.studio_session.specs.Counts.{AreTallies, PathTally, path_counts_of}
+use Rattle.stream_rules.specs.PathCounts.{PathTally}
+use Rattle.studio_session.specs.Counts.{AreTallies, path_counts_of}
 use Rattle.studio_session.specs.Cursor.{CursorState}
 use Rattle.studio_session.specs.Report.{ArePulled, HasCounts, HasPulledSome, merge_tally_of}
 use Rattle.studio_run.specs.Buffer.{PassesOn, BreaksOff}

@@ -12,7 +12,8 @@ use Rattle.studio_mix.specs.Output.{datagram_of}
 use Rattle.studio_session.specs.Event.{TraceEvent}
 use Rattle.studio_session.specs.Play.{HasPlayed, SessionState, feeds_of}
 use Rattle.studio_session.specs.Run.{AreDatagrams, HasGivenBlocks}
-use Rattle.studio_session.proofs.RunLemmas.{blocks_more, first_all}
+use Rattle.studio_mix.proofs.FirstBlockLemmas.{first_all}
+use Rattle.studio_session.proofs.RunLemmas.{blocks_more}
 use Rattle.studio_run.specs.Buffer.{PassesOn, BreaksOff}
 use Rattle.studio_run.specs.Report.{datagram_line}
 use Rattle.studio_run.specs.Listing.{counts_text_of, datagrams_text}

@@ -3,7 +3,7 @@ use Rattle.std.specs.Prelude.{ℕ, suc, ◌+◌, ◌++◌, ◌∷◌, [], List, 
 use Rattle.std.specs.Fmt.{decimal}
 use Rattle.hex.specs.Hex.{encode_lower}
 use Rattle.stream_rules.specs.CountsFacts.{Tally}
-use Rattle.studio_session.specs.Counts.{PathTally}
+use Rattle.stream_rules.specs.PathCounts.{PathTally}
 
 -- the line of a datagram
 abbrev pub datagram_line : List ℕ → List ℕ

@@ -4,7 +4,7 @@
 //! find the first fault, and all memory is taken before the first write. `list_marks_and_counts` writes
 //! the counts to a second writer after the listing. Their parts stand beside them: `read_text`,
 //! `TracedEvents` (the events of a text by their places), and the lines through a `TextBuffer`, whose
-//! `finish` writes what is held at the end.
+//! `finish` writes what is held at the end. The types of a studio and of its run are named here again.
 #![tactic(auto)]
 
 mod buffer;
@@ -39,6 +39,9 @@ pub use live_report::{SinkCounts, write_feed_faults, write_sink_counts};
 pub use player::{PlayFault, list_marks, play};
 pub use report::{write_datagram, write_merge_counts, write_path_counts};
 pub use running::write_running_counts;
-pub use studio_session::{PathCounts, StudioEvent};
+pub use stream_rules::{PathCounts, StreamCounts};
+pub use studio_mix::Mixer;
+pub use studio_session::{Report, StudioEvent, StudioFault, run_studio};
+pub use studio_spec::{Ports, SpecError, StudioSpec};
 pub use trace::{TraceFault, TraceKind};
 pub use traced::TracedEvents;

@@ -26,7 +26,8 @@ use Rattle.stream_rules.specs.History.{is_well_timed}
 use Rattle.studio_session.specs.Event.{TraceEvent, Arrival, Reading, Closing, outline_of}
 use Rattle.studio_session.specs.declared.event.Outline.{Outline}
 use Rattle.studio_session.specs.declared.event.Outline.TheVariants.{Arrive as ArriveOf, Tick as TickOf, Close as CloseOf}
-use Rattle.studio_session.specs.Session.{Other, Datagram, step_of, event_in, stream_history, reception_of}
+use Rattle.stream_rules.specs.Reception.{reception_of}
+use Rattle.studio_session.specs.Session.{Other, Datagram, step_of, event_in, stream_history}
 use Rattle.studio_session.specs.Counts.{AreTallies, HasCounted}
 use Rattle.studio_session.proofs.CountsLemmas.{counted_more}
 

@@ -14,10 +14,11 @@ use Rattle.studio_session.specs.Event.{TraceEvent, Arrival, Reading, Closing, ou
 use Rattle.studio_session.specs.declared.event.Outline.{Outline}
 use Rattle.studio_session.specs.declared.fault.StudioFault.{StudioFault}
 use Rattle.studio_session.specs.declared.fault.StudioFault.TheVariants.{Clock, Memory, Path as NoPath, Stream as NoStream}
-use Rattle.studio_session.specs.declared.reception.Reception.{Reception}
-use Rattle.studio_session.specs.declared.reception.Reception.TheVariants.{Sent, Bad, WrongType, WrongLength}
+use Rattle.stream_rules.specs.declared.reception.Reception.{Reception}
+use Rattle.stream_rules.specs.declared.reception.Reception.TheVariants.{Sent, Bad, WrongType, WrongLength}
 use Rattle.studio_session.specs.Fault.{IsRunFault, clock_fault, closed_past, event_fault, or_later, outline_fault, path_fault, session_fault_from, session_fault_of, time_after, time_past, closed_after}
-use Rattle.studio_session.specs.Session.{Datagram, Other, event_in, reception_of, stream_history}
+use Rattle.stream_rules.specs.Reception.{reception_of}
+use Rattle.studio_session.specs.Session.{Datagram, Other, event_in, stream_history}
 
 first_none : (here later : Option StudioFault) → or_later here later ≡ None → here ≡ None
 first_none None later e = refl

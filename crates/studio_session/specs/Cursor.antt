@@ -12,7 +12,8 @@ use Rattle.stream_rules.specs.History.{is_well_timed}
 use Rattle.studio_session.specs.Event.{TraceEvent, Arrival}
 use Rattle.lane_align.specs.Lane.{natural}
 use Rattle.studio_session.specs.Session.{stream_history}
-use Rattle.studio_session.specs.Counts.{PathTally, AreTallies}
+use Rattle.stream_rules.specs.PathCounts.{PathTally}
+use Rattle.studio_session.specs.Counts.{AreTallies}
 use Rattle.studio_session.specs.Way.{IsOnWay}
 
 pub record CursorState : Type 0 where

@@ -5,7 +5,6 @@ pub mod Fault
 pub mod Way
 pub mod Cursor
 pub mod Play
-pub mod Blocks
 pub mod Run
 pub mod Report
 pub use Rattle.rtp_wire.specs.Datagram
@@ -29,3 +28,6 @@ pub use Rattle.studio_mix.specs.Mixer
 pub use Rattle.studio_mix.specs.Ready
 pub use Rattle.studio_mix.specs.Output
 pub use Rattle.mix_packets.specs.Packer
+pub use Rattle.stream_rules.specs.Reception
+pub use Rattle.stream_rules.specs.PathCounts
+pub use Rattle.studio_mix.specs.Blocks

@@ -4,10 +4,11 @@ use Rattle.stream_rules.specs.declared.stream_spec.Stream.{Stream}
 use Rattle.stream_rules.specs.CountsFacts.{Tally}
 use Rattle.stream_rules.specs.Counts.{counts_of, tally_of}
 use Rattle.studio_spec.specs.Studio.{Studio}
-use Rattle.studio_session.specs.declared.report.StreamCounts.{StreamCounts}
+use Rattle.stream_rules.specs.declared.stream_counts.StreamCounts.{StreamCounts}
 use Rattle.studio_session.specs.Event.{TraceEvent}
 use Rattle.studio_session.specs.Session.{stream_history}
-use Rattle.studio_session.specs.Counts.{AreTallies, path_tallies, path_tally_of}
+use Rattle.stream_rules.specs.PathCounts.{path_tally_of}
+use Rattle.studio_session.specs.Counts.{AreTallies, path_tallies}
 use Rattle.studio_session.specs.Cursor.{CursorState, HasPulled}
 use Rattle.studio_session.specs.Play.{stream_marks}
 

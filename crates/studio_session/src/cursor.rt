@@ -8,18 +8,19 @@ ghost use Rattle.path_merge.specs.Merge.{HasHistory};
 ghost use Rattle.path_merge.specs.Next.{next_left};
 ghost use Rattle.path_merge.specs.Steps.{is_slot_mark, marks_left, Moves};
 ghost use Rattle.studio_session.specs.Event.{TraceEvent, Arrival, Reading, Closing, outline_of};
-ghost use Rattle.studio_session.specs.Session.{Datagram, Other, step_of, event_in, reception_from, FitsReception};
-ghost use Rattle.studio_session.specs.Counts.{HasCounted, path_tally_of, tallies_of};
+ghost use Rattle.stream_rules.specs.Reception.{reception_from, FitsReception};
+ghost use Rattle.studio_session.specs.Session.{Datagram, Other, step_of, event_in};
+ghost use Rattle.stream_rules.specs.PathCounts.{path_tally_of, tallies_of};
+ghost use Rattle.studio_session.specs.Counts.{HasCounted};
 ghost use Rattle.studio_session.specs.Way.{IsOnWay, WentOn};
 ghost use Rattle.studio_session.specs.Cursor.{HasPulled, HaveFew, IsReadyFor, IsSameCursor, IsRunnable, IsDue, IsOnTheWay, next_on_way, next_to, way_left, events_left};
 
-use crate::counts::PathCounts;
 use crate::event::Outline;
-use crate::reception::{ReceptionRef, receive_ref};
 use crate::source::{EventSource, MOST_OCTETS};
 use path_merge::{Counts, MarkRef, Merge, Path, SlotWindow, StreamSpec};
 use std::alloc::{AllocError, Global};
 use std::marker::Model;
+use stream_rules::{PathCounts, ReceptionRef, receive_ref};
 
 /// A stream of a run.
 ///
@@ -40,7 +41,7 @@ pub struct Cursor {
 
 impl Model for Cursor {
     ghost use Rattle.studio_session.specs.Cursor.{CursorState, IsCursor};
-    ghost use Rattle.studio_session.specs.Counts.{tallies_of};
+    ghost use Rattle.stream_rules.specs.PathCounts.{tallies_of};
     ghost use Rattle.std.specs.FinMap as map;
     ghost use Rattle.std.specs.Coded.{codes, coded_ℕ};
     ghost use Rattle.std.specs.Ordering.{nat_cmp};

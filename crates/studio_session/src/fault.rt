@@ -16,17 +16,18 @@ use std::alloc::AllocError;
 use studio_spec::StudioSpec;
 use thiserror::Error;
 
-/// Why a list of events gives no report: its first event at fault, by the place, or want of memory.
+/// Why a list of events gives no report: its first event at fault, by its place from 0, or want of memory.
+/// Its text is the line that the program writes.
 #[derive(Debug, Drop, Error)]
 pub enum StudioFault {
     /// A reading of the clock goes back, or past 2^60, or comes after a close.
-    #[error("the clock reading at place {0} is out of order")]
+    #[error("event {0}: clock")]
     Clock(usize),
     /// A datagram came in for a stream that is none.
-    #[error("the datagram at place {0} is of no stream")]
+    #[error("event {0}: stream")]
     Stream(usize),
     /// A datagram came in on a path that its stream lacks.
-    #[error("the datagram at place {0} is on a path that its stream lacks")]
+    #[error("event {0}: path")]
     Path(usize),
     /// A growth was refused.
     #[error("out of memory")]

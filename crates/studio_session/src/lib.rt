@@ -8,13 +8,11 @@
 //! lends its marks.
 #![tactic(auto)]
 
-mod counts;
 mod cursor;
 mod event;
 mod fault;
 mod finish;
 mod pull;
-mod reception;
 mod report;
 mod run;
 mod session;
@@ -24,14 +22,13 @@ mod tally;
 #[cfg(test)]
 mod tests;
 
-pub use counts::PathCounts;
 pub use cursor::Cursor;
 pub use event::{Outline, StudioEvent};
 pub use fault::{StudioFault, first_fault};
 pub use finish::finish_stream;
-pub use reception::{Reception, ReceptionRef, receive, receive_ref};
-pub use report::{Report, StreamCounts};
+pub use report::Report;
 pub use run::all_datagrams;
 pub use session::{Session, studio_cursors};
 pub use source::{DatagramRoom, EventList, EventSource, MOST_OCTETS};
+pub use stream_rules::{PathCounts, Reception, ReceptionRef, StreamCounts, receive, receive_ref};
 pub use studio::run_studio;

@@ -1,14 +1,5 @@
 //! What a run comes to.
-use crate::counts::PathCounts;
-use path_merge::Counts;
-
-/// The counts of a stream, once all its marks were given.
-#[derive(Debug, Drop)]
-pub struct StreamCounts {
-    /// Of each of its paths.
-    pub paths: Vec<PathCounts>,
-    pub merge: Counts,
-}
+use stream_rules::StreamCounts;
 
 /// The datagrams of all blocks that are ready, and the counts of each stream.
 #[derive(Debug, Drop)]

@@ -12,12 +12,12 @@ ghost use Rattle.studio_session.specs.Play.{AreNew, HasFilled, HasPathsBy, HasPl
 
 use crate::cursor::Cursor;
 use crate::pull::pull;
-use crate::report::StreamCounts;
 use crate::source::EventSource;
 use crate::tally::all_counts;
 use path_merge::StreamSpec;
 use std::alloc::{AllocError, Global};
 use std::marker::Model;
+use stream_rules::StreamCounts;
 use studio_mix::Mixer;
 use studio_spec::StudioSpec;
 

@@ -3,18 +3,18 @@ ghost use Rattle.std.specs.Prelude.{◌≡◌, ◌≤◌, ℕ, ℤ, List, length
 ghost use Rattle.stream_rules.specs.declared.stream_spec.Stream.{Stream};
 ghost use Rattle.studio_spec.specs.Studio.{Studio};
 ghost use Rattle.studio_session.specs.Event.{TraceEvent};
-ghost use Rattle.studio_session.specs.Counts.{AreTallies, path_tallies, tallies_of};
+ghost use Rattle.stream_rules.specs.PathCounts.{tallies_of};
+ghost use Rattle.studio_session.specs.Counts.{AreTallies, path_tallies};
 ghost use Rattle.studio_session.specs.Cursor.{IsReadyFor, IsRunnable};
 ghost use Rattle.studio_session.specs.Play.{IsRunnableBy};
 ghost use Rattle.studio_session.specs.Report.{AreCounts, AreCountsOf, ArePulled, HasPulledSome};
 
-use crate::counts::PathCounts;
 use crate::cursor::Cursor;
 use crate::finish::finish_stream;
-use crate::report::StreamCounts;
 use crate::source::EventSource;
 use path_merge::Path;
 use std::alloc::{AllocError, Global};
+use stream_rules::{PathCounts, StreamCounts};
 
 /// The counts of each path of a stream.
 fn all_path_counts(alloc: Global, cursor: &Cursor) -> Result<Vec<PathCounts>, AllocError>

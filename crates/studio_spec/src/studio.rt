@@ -7,8 +7,8 @@ ghost use Rattle.studio_spec.specs.Studio.{Studio, IsStudio, channel_total};
 use crate::ports::Ports;
 use gain_mix::Schedule;
 use mix_packets::OutSpec;
-use path_merge::StreamSpec;
 use std::marker::Model;
+use stream_rules::StreamSpec;
 
 /// The streams of a studio, its output, the gains between them, and the ports that are known.
 #[derive(Drop)]

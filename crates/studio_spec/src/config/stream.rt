@@ -12,7 +12,7 @@ use crate::config::known::check_known;
 use crate::config::numbers::{optional_whole, port, whole, whole_or};
 use crate::config::packets::read_packets;
 use crate::config::words::is_media;
-use path_merge::{Stream, StreamClock, StreamSpec};
+use stream_rules::{Stream, StreamClock, StreamSpec};
 use toml::Table;
 
 /// The keys of a stream's table.

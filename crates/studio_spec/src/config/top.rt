@@ -19,8 +19,8 @@ use crate::config::stream::read_stream;
 use crate::config::tables::{few_tables, table_in, table_of};
 use crate::ports::Ports;
 use crate::studio::StudioSpec;
-use path_merge::StreamSpec;
 use std::alloc::Global;
+use stream_rules::StreamSpec;
 use toml::{Table, Value};
 
 /// The keys of the whole document.

@@ -1,6 +1,7 @@
 use Rattle.std.proofs.Common.{◌≡◌, ◌<◌, ◌∙◌, Err, ap, subst, arith, rules}
 use Rattle.stream_rules.specs.declared.stream_spec.Stream.{Stream}
-use Rattle.studio_session.specs.Counts.{path_counts_of, path_tally_of}
+use Rattle.stream_rules.specs.PathCounts.{path_tally_of}
+use Rattle.studio_session.specs.Counts.{path_counts_of}
 use Rattle.studio_run.specs.Buffer.{BreaksOff, PassesOn}
 use Rattle.studio_run.specs.Listing.{paths_text}
 use Rattle.studio_run.specs.Report.{path_line}

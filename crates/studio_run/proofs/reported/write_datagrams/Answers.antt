@@ -2,7 +2,7 @@ use Rattle.std.proofs.Common.{◌≡◌, ◌≤◌, ◌∙◌, Err, length, is_s
 use Rattle.mix_packets.specs.OutSpec.{datagram_length}
 use Rattle.studio_mix.specs.Output.{datagram_of}
 use Rattle.studio_session.specs.Play.{feeds_of}
-use Rattle.studio_session.proofs.RunLemmas.{written_is}
+use Rattle.studio_mix.proofs.FirstBlockLemmas.{written_is}
 use Rattle.studio_run.proofs.ReportedLemmas.{reported_all, reporting_broken, reporting_more, reporting_none}
 use Rattle.studio_run.proofs.reported.write_datagrams.Goals as goal
 

@@ -5,7 +5,8 @@ use Rattle.studio_mix.specs.Ready.{is_ready}
 use Rattle.studio_mix.specs.Output.{datagram_of}
 use Rattle.studio_session.specs.Play.{HasPlayed, feeds_of}
 use Rattle.studio_session.specs.Run.{HasGivenBlocks}
-use Rattle.studio_session.proofs.RunLemmas.{blocks_more, first_all, written_is}
+use Rattle.studio_mix.proofs.FirstBlockLemmas.{first_all, written_is}
+use Rattle.studio_session.proofs.RunLemmas.{blocks_more}
 use Rattle.studio_session.proofs.run.all_datagrams.Goals as goal
 
 pub slice_bounds-out-end : goal.slice_bounds-out-end

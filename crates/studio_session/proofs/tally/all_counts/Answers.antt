@@ -6,7 +6,7 @@ use Rattle.stream_rules.specs.declared.stream_spec.Stream.{Stream}
 use Rattle.studio_mix.proofs.MixerLemmas.{set_other_at}
 use Rattle.studio_session.specs.Cursor.{IsReadyFor}
 use Rattle.studio_session.specs.Report.{AreCountsOf}
-use Rattle.studio_session.specs.declared.report.StreamCounts.{StreamCounts}
+use Rattle.stream_rules.specs.declared.stream_counts.StreamCounts.{StreamCounts}
 use Rattle.studio_session.proofs.ReportLemmas.{places_more}
 use Rattle.studio_session.proofs.tally.all_counts.Goals as goal
 

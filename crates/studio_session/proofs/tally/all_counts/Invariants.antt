@@ -4,7 +4,7 @@ use Rattle.studio_spec.specs.Studio.{Studio}
 use Rattle.studio_session.specs.Cursor.{CursorState, IsReadyFor}
 use Rattle.studio_session.specs.Play.{IsRunnableBy}
 use Rattle.studio_session.specs.Report.{AreCountsOf, ArePulled}
-use Rattle.studio_session.specs.declared.report.StreamCounts.{StreamCounts}
+use Rattle.stream_rules.specs.declared.stream_counts.StreamCounts.{StreamCounts}
 use Rattle.studio_session.proofs.tally.all_counts.Given as goal
 
 -- the streams so far were counted, and the others are as they were

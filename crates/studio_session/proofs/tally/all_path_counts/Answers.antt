@@ -1,7 +1,8 @@
 use Rattle.std.proofs.Common.{◌≡◌, ◌+◌, suc, ◌++◌, ◌∷◌, [], ap, ◌∙◌, arith}
 use Rattle.std.proofs.lemmas.List.{map-append}
 use Rattle.stream_rules.specs.declared.stream_spec.Stream.{Stream}
-use Rattle.studio_session.specs.Counts.{PathTally, path_counts_of, path_tallies, path_tally_of, tallies_of}
+use Rattle.stream_rules.specs.PathCounts.{PathTally, path_tally_of, tallies_of}
+use Rattle.studio_session.specs.Counts.{path_counts_of, path_tallies}
 use Rattle.studio_session.proofs.tally.all_path_counts.Goals as goal
 
 pub loop-place-preserved : goal.loop-place-preserved

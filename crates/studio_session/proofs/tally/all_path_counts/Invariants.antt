@@ -1,7 +1,8 @@
 use Rattle.std.proofs.Common.{◌≡◌, ℕ, List}
 use Rattle.stream_rules.specs.declared.stream_spec.Stream.{Stream}
 use Rattle.studio_session.specs.Event.{TraceEvent}
-use Rattle.studio_session.specs.Counts.{AreTallies, path_tallies, tallies_of}
+use Rattle.stream_rules.specs.PathCounts.{tallies_of}
+use Rattle.studio_session.specs.Counts.{AreTallies, path_tallies}
 use Rattle.studio_session.proofs.tally.all_path_counts.Given as goal
 
 -- the counts of the paths so far were copied

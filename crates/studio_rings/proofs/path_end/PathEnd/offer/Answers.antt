@@ -1,8 +1,8 @@
 use Rattle.std.proofs.Common.{◌≡◌, ◌∙◌, sym, ap, arith, length, ◌∷◌, [], ◌++◌, length-append, subst}
 use Rattle.rtrb.specs.Ring.{sent}
-use Rattle.studio_session.specs.Counts.{PathTally, path_tally_of, with_reception}
-use Rattle.studio_session.specs.Session.{FitsReception, reception_from}
-use Rattle.studio_session.specs.declared.reception.Reception.TheVariants.{Sent as Received}
+use Rattle.stream_rules.specs.PathCounts.{PathTally, path_tally_of, with_reception}
+use Rattle.stream_rules.specs.Reception.{FitsReception, reception_from}
+use Rattle.stream_rules.specs.declared.reception.Reception.TheVariants.{Sent as Received}
 use Rattle.studio_rings.proofs.FittingLemmas.{fitting-more}
 use Rattle.studio_rings.proofs.path_end.PathEnd.offer.Goals as goal
 

@@ -1,6 +1,6 @@
 use Rattle.std.proofs.Common.{sym, subst, ap, ◌∙◌}
 use Rattle.path_merge.specs.Next.{next_left}
-use Rattle.studio_session.specs.Counts.{tallies_of}
+use Rattle.stream_rules.specs.PathCounts.{tallies_of}
 use Rattle.studio_session.specs.Cursor.{CursorState, HasPulled, IsDue}
 use Rattle.studio_session.proofs.CursorLemmas.{due_left}
 use Rattle.studio_session.proofs.cursor.Cursor.pass_left.Goals as goal

@@ -2,7 +2,7 @@ use Rattle.std.proofs.Common.{◌≡◌, ℤ, take, Some, sym, subst, ap, ◌∙
 use Rattle.std.specs.Bool.{then_some}
 use Rattle.std.proofs.lemmas.Int.{ints}
 use Rattle.studio_session.specs.Session.{stream_history}
-use Rattle.studio_session.specs.Counts.{tallies_of}
+use Rattle.stream_rules.specs.PathCounts.{tallies_of}
 use Rattle.studio_session.specs.Way.{IsOnWay, WentOn, on_way_after}
 use Rattle.studio_session.specs.Cursor.{CursorState, HasPulled, IsOnTheWay, next_on_way, next_to}
 use Rattle.studio_session.proofs.CursorLemmas.{due_on_way, still_on_way}

@@ -3,7 +3,7 @@ use Rattle.std.proofs.lemmas.Int.{ints}
 use Rattle.stream_rules.specs.declared.event.Event.TheVariants.{Tick}
 use Rattle.studio_session.specs.Event.{Reading}
 use Rattle.studio_session.specs.Session.{Clock, stream_history}
-use Rattle.studio_session.specs.Counts.{tallies_of}
+use Rattle.stream_rules.specs.PathCounts.{tallies_of}
 use Rattle.studio_session.specs.Way.{IsOnWay}
 use Rattle.studio_session.specs.Cursor.{CursorState, HasPulled}
 use Rattle.studio_session.proofs.CountsLemmas.{few_later, uncounted}

@@ -1,8 +1,10 @@
 use Rattle.std.proofs.Common.{◌≡◌, ◌<◌, ◌+◌, ◌++◌, Some, refl, sym, subst, ap, ◌∙◌, take, slice_get}
 use Rattle.stream_rules.specs.declared.stream_spec.Stream.{Stream}
 use Rattle.studio_session.specs.Event.{Arrival}
-use Rattle.studio_session.specs.Session.{Datagram, FitsReception, event_in, reception_from, reception_of, step_of, stream_history}
-use Rattle.studio_session.specs.Counts.{HasCounted, tallies_of}
+use Rattle.stream_rules.specs.Reception.{FitsReception, reception_from, reception_of}
+use Rattle.studio_session.specs.Session.{Datagram, event_in, step_of, stream_history}
+use Rattle.stream_rules.specs.PathCounts.{tallies_of}
+use Rattle.studio_session.specs.Counts.{HasCounted}
 use Rattle.studio_session.specs.Way.{IsOnWay}
 use Rattle.studio_session.specs.Cursor.{CursorState, HasPulled}
 use Rattle.studio_session.proofs.CountsLemmas.{few_more}

@@ -1,8 +1,9 @@
 //! What a stream makes of a datagram.
 ghost use Rattle.std.specs.Prelude.{◌≡◌};
-ghost use Rattle.studio_session.specs.Session.{FitsReception, IsShortReception, reception_from, reception_of};
+ghost use Rattle.stream_rules.specs.Reception.{FitsReception, IsShortReception, reception_from, reception_of};
 
-use path_merge::{AdmitFault, Packet, PacketRef, StreamSpec};
+use crate::packet::{Packet, PacketRef};
+use crate::stream_spec::{AdmitFault, StreamSpec};
 
 /// What became of a datagram before the merge.
 #[derive(Debug, Drop)]

@@ -1,6 +1,6 @@
 //! What became of a path's datagrams before the merge.
 ghost use Rattle.std.specs.Prelude.{◌≡◌, ◌+◌, ◌<◌};
-ghost use Rattle.studio_session.specs.Session.{reception_from};
+ghost use Rattle.stream_rules.specs.Reception.{reception_from};
 
 use crate::reception::{Reception, ReceptionRef};
 
@@ -21,7 +21,7 @@ pub struct PathCounts {
 }
 
 impl PathCounts {
-    ghost use Rattle.studio_session.specs.Counts.{empty_path_tally, path_tally_of, with_full, with_reception};
+    ghost use Rattle.stream_rules.specs.PathCounts.{empty_path_tally, path_tally_of, with_full, with_reception};
 
     /// Nothing was offered.
     pub fn new() -> PathCounts
