@@ -12,8 +12,6 @@ mod frames;
 mod lane;
 mod last_slot;
 mod laws;
-#[cfg(test)]
-mod tests;
 
 pub use cover::Cover;
 pub use lane::Lane;

@@ -34,6 +34,3 @@ pub use stream_rules::{
     AdmitFault, Body, Counts, Event, Fate, Format, Mark, MarkKind, MarkKindRef, MarkRef, Packet,
     PacketRef, Path, Probation, Put, SpecFault, Stream, StreamClock, StreamSpec, near16, near32,
 };
-
-#[cfg(test)]
-mod tests;

@@ -14,6 +14,3 @@ mod window;
 pub use slots::SlotWindow;
 pub use sorted::SortedWindow;
 pub use window::Window;
-
-#[cfg(test)]
-mod tests;

@@ -16,8 +16,6 @@ mod header;
 mod laws;
 mod packet_time;
 mod samples;
-#[cfg(test)]
-mod tests;
 
 pub use datagram::{RtpView, read};
 pub use encoding::{Enc, Payload};

@@ -1,9 +1,8 @@
-//! The rules of a reorder window, each tried at every window. `rt try --test --fail-alloc N` refuses the
-//! Nth allocation of each test.
+//! The rules of a reorder window, each tried at every window.
 ghost use Rattle.std.specs.Prelude.{◌≡◌};
 ghost use Rattle.reorder_window.specs.Window.{IsEmpty};
 
-use crate::{SlotWindow, SortedWindow, Window};
+use reorder_window::{SlotWindow, SortedWindow, Window};
 use rtp_wire::{Enc, Payload};
 use std::process::Abort;
 use std::test::Fail;
@@ -29,7 +28,7 @@ fn packet(seq: u16, octet: u8) -> Packet {
     }
 }
 
-/// 131070 and 131078 have one remainder by the window's width of 8.
+/// 131070 and 131078, one remainder by the width of 8: taken in turn, a copy double or unlike, by both windows.
 #[test]
 fn slots_are_used_again_after_the_wrap(rt: HostRuntime) -> Result<(), Fail> {
     let spec = stream()?;
@@ -56,7 +55,7 @@ fn keeps_packets_by_number<W: Window>(rt: &impl Abort, mut window: W)
     assert_eq!(rt; (window.base(), window.end()), (131_072, 131_079));
 }
 
-/// Of two like calls one at most is refused, and answers so.
+/// Each window, made twice: with one allocation refused, one of them at most says want of memory.
 #[test]
 fn each_refused_allocation_is_answered(rt: HostRuntime) -> Result<(), Fail> {
     let spec = stream()?;

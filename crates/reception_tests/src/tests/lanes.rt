@@ -1,12 +1,13 @@
 //! Marks and the blocks that they give, by worked examples.
 ghost use Rattle.std.specs.Prelude.{◌≡◌};
 
-use super::*;
+use lane_align::{Cover, Lane};
 use path_merge::{Body, Format, Mark, StreamClock, StreamSpec};
 use rtp_wire::{Enc, Payload};
 use std::alloc::{AllocError, Global};
 use std::process::Abort;
 use std::test::Fail;
+use stream_rules::{Body, Format, Mark, StreamClock, StreamSpec};
 
 /// The frame counts that packets and blocks may have.
 const FRAME_COUNTS: [u16; 5] = [6, 12, 16, 48, 192];
@@ -117,6 +118,7 @@ fn quiet(rt: &impl Abort, format: Format, until: i64) -> Mark {
     Mark::quiet(format, until)
 }
 
+/// Blocks of 12 from 3 on, over packets of 6 from 0 on, one lost: each sample at its time, silence for the rest.
 #[test]
 fn blocks_need_not_meet_packets(rt: HostRuntime) -> Result<(), Fail> {
     let spec = stream(&rt, Enc::L24, 1, 6);
@@ -182,6 +184,7 @@ fn numbers(alloc: Global, count: u16, scale: i32) -> Result<Vec<i32>, AllocError
     Ok(samples)
 }
 
+/// A ramp through each packet time and each block: every sample's value is its time.
 #[test]
 fn every_frame_stands_at_its_time(rt: HostRuntime) -> Result<(), Fail> {
     for frames in FRAME_COUNTS {
@@ -225,6 +228,7 @@ fn every_frame_stands_at_its_time(rt: HostRuntime) -> Result<(), Fail> {
     Ok(())
 }
 
+/// 1 and 64 channels of L24 and L16: a block has the packet's samples, frame by frame.
 #[test]
 fn channels_stand_side_by_side(rt: HostRuntime) -> Result<(), Fail> {
     for (enc, channels, scale) in [
@@ -245,6 +249,7 @@ fn channels_stand_side_by_side(rt: HostRuntime) -> Result<(), Fail> {
     Ok(())
 }
 
+/// Slots from 2 to 23 of two epochs, read from starts between 0 and 50: what lies before the start is dropped.
 #[test]
 fn what_lies_before_the_start_is_dropped(rt: HostRuntime) -> Result<(), Fail> {
     let starts: [(i64, [i32; 12]); 6] = [
@@ -276,6 +281,7 @@ fn what_lies_before_the_start_is_dropped(rt: HostRuntime) -> Result<(), Fail> {
     Ok(())
 }
 
+/// Slots of three epochs at 27, 50 and 56, by blocks of 12: silence between them, and marks that don't follow refused.
 #[test]
 fn two_silences_are_kept_at_once(rt: HostRuntime) -> Result<(), Fail> {
     let spec = stream(&rt, Enc::L24, 1, 6);
@@ -322,6 +328,7 @@ fn two_silences_are_kept_at_once(rt: HostRuntime) -> Result<(), Fail> {
     Ok(())
 }
 
+/// Quiets up to 103 and 106: silence to there, and slots before it or another stream's marks refused.
 #[test]
 fn silence_is_known_before_the_first_slot(rt: HostRuntime) -> Result<(), Fail> {
     let spec = stream(&rt, Enc::L24, 2, 6);
@@ -356,6 +363,7 @@ fn silence_is_known_before_the_first_slot(rt: HostRuntime) -> Result<(), Fail> {
     Ok(())
 }
 
+/// A lane, made twice: with one allocation refused, one of them at most says want of memory.
 #[test]
 fn each_refused_allocation_is_answered(rt: HostRuntime) -> Result<(), Fail> {
     let spec = stream(&rt, Enc::L24, 8, 48);

@@ -1,7 +1,7 @@
 //! Which streams there are, and which packets are theirs.
-use crate::{AdmitFault, Packet, SpecFault, StreamClock, StreamSpec};
 use rtp_wire::{Enc, Payload};
 use std::test::Fail;
+use stream_rules::{AdmitFault, Packet, SpecFault, StreamClock, StreamSpec};
 
 /// What a stream is made from; source and clock have no faults.
 #[derive(Clone, Copy, Debug)]
@@ -51,7 +51,7 @@ impl Words {
     }
 }
 
-/// Each fault at its limits.
+/// Channels, frames and payload types at and past their limits: the fault of each, or none.
 #[test]
 fn stream_spec_faults(rt: HostRuntime) {
     for (channels, frames, want) in [
@@ -87,6 +87,7 @@ fn stream_spec_faults(rt: HostRuntime) {
     }
 }
 
+/// Windows, latencies and paths at and past their limits: the fault of each, or none.
 #[test]
 fn stream_spec_faults_of_window_latency_and_paths(rt: HostRuntime) {
     for (window, latency, paths, want) in [
@@ -116,7 +117,7 @@ fn stream_spec_faults_of_window_latency_and_paths(rt: HostRuntime) {
     }
 }
 
-/// Each fault is answered where all later ones hold too.
+/// A specification with every fault, and then with one less at a time: the first that is left.
 #[test]
 fn stream_spec_faults_come_in_order(rt: HostRuntime) {
     let all = Words {
@@ -158,6 +159,7 @@ fn stream_spec_faults_come_in_order(rt: HostRuntime) {
     }
 }
 
+/// 64 channels of L24 in packets of six sampling instants: payloads of 1,152 octets.
 #[test]
 fn payloads_of_64_channels(rt: HostRuntime) -> Result<(), Fail> {
     let words = Words {
@@ -168,6 +170,7 @@ fn payloads_of_64_channels(rt: HostRuntime) -> Result<(), Fail> {
     Ok(())
 }
 
+/// A stream of L16, stereo, of 48 sampling instants: each reader gives back what it was made from.
 #[test]
 fn a_stream_tells_what_it_was_made_from(rt: HostRuntime) -> Result<(), Fail> {
     let clock = StreamClock::Media { offset: 9 };
@@ -191,6 +194,7 @@ const DATAGRAM: [u8; 30] = [
     0x80, 0x60, 0, 1, 0, 0, 0, 0, 0, 0, 0, 1, 0, 0, 1, 0, 0, 2, 0, 0, 3, 0, 0, 4, 0, 0, 5, 0, 0, 6,
 ];
 
+/// The first stored datagram, and with another type or an octet less: a packet, WrongType before WrongLength.
 #[test]
 fn packets_of_another_type_or_length_are_refused(rt: HostRuntime) -> Result<(), Fail> {
     let spec = GOOD.make()?;
@@ -231,47 +235,4 @@ fn packet_of(len: usize) -> Packet {
         ssrc: 1,
         payload,
     }
-}
-
-#[test]
-fn stream_faults_say_what_is_wrong(rt: HostRuntime) -> Result<(), Fail> {
-    let rows = [
-        (SpecFault::Channels, "channels are not from 1 to 64"),
-        (SpecFault::Frames, "frames per packet are not allowed"),
-        (
-            SpecFault::PayloadType,
-            "the payload type is not from 96 to 127",
-        ),
-        (
-            SpecFault::TooLong,
-            "a payload would have more than 1440 octets",
-        ),
-        (
-            SpecFault::Window,
-            "the window is not a power of two from 8 to 16384",
-        ),
-        (
-            SpecFault::Latency,
-            "the latency is 0 or does not fit the window",
-        ),
-        (SpecFault::Paths, "paths are not from 1 to 4"),
-    ];
-    for (fault, want) in rows {
-        let text = format!(in rt.alloc(); "{fault}")?;
-        assert_eq!(rt; text.as_str(), want);
-    }
-    Ok(())
-}
-
-#[test]
-fn packet_faults_say_what_is_wrong(rt: HostRuntime) -> Result<(), Fail> {
-    let rows = [
-        (AdmitFault::WrongType, "another payload type"),
-        (AdmitFault::WrongLength, "another payload length"),
-    ];
-    for (fault, want) in rows {
-        let text = format!(in rt.alloc(); "{fault}")?;
-        assert_eq!(rt; text.as_str(), want);
-    }
-    Ok(())
 }

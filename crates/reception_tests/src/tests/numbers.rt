@@ -1,6 +1,7 @@
 //! Full numbers from their low bits, and numbers of paths.
-use crate::{Path, near16, near32};
+use stream_rules::{Path, near16, near32};
 
+/// Low bits near a number: the number nearest to it, from half a cycle below to just under half a cycle above.
 #[test]
 fn nearest_numbers(rt: HostRuntime) {
     for (low, near, want) in [
@@ -22,6 +23,7 @@ fn nearest_numbers(rt: HostRuntime) {
     }
 }
 
+/// Paths 0 to 3 tell their numbers; 4, 5 and 255 are none.
 #[test]
 fn path_numbers(rt: HostRuntime) {
     for number in 0..4u8 {

@@ -1,0 +1,13 @@
+//! The tests, from datagrams to the blocks of a lane.
+mod bench;
+mod boundaries;
+mod cases;
+mod lanes;
+mod merges;
+mod numbers;
+mod runs;
+mod steps;
+mod streams;
+mod texts;
+mod windows;
+mod wire;

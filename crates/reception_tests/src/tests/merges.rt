@@ -1,0 +1,409 @@
+//! Cases of one stream: what comes in, its fates, its marks and its counts.
+//!
+//! Those of restarts begin with the packet (1, 0), handed on at 12. The sender's packets after its restart
+//! are (500, -22), whose timestamp is written 4294967274, and so on, the eighth at 20.
+use super::cases::Case;
+use std::test::Fail;
+
+const NUMBERS: [Case; 4] = [
+    Case {
+        shows: "sequence numbers wrap from 65535 to 0",
+        stream: "",
+        steps: "a 65535 0, b 0 6, tick 12, tick 18",
+        fates: "2 Taken",
+        marks: "got 131071 0, got 131072 6",
+        counts: "2 arrived, 1 from_a, 1 from_b, 2 got",
+    },
+    Case {
+        shows: "packets 2^25 numbers earlier, and 2^25 - 1 later, are off the grid, since 2^32 is no \
+            multiple of 65,536 packets of 6",
+        stream: "",
+        steps: "a 1 0, a 1 4093640704, a 0 201326586",
+        fates: "1 Taken, 2 OffGrid",
+        marks: "",
+        counts: "3 arrived, 1 from_a, 2 off_grid",
+    },
+    Case {
+        shows: "timestamps off the grid, the first of them one cycle of sequence numbers earlier, \
+            are refused",
+        stream: "",
+        steps: "a 1 0, a 1 4294574080, a 2 7, a 2 5, a 2 6",
+        fates: "1 Taken, 3 OffGrid, 1 Taken",
+        marks: "",
+        counts: "5 arrived, 2 from_a, 3 off_grid",
+    },
+    Case {
+        shows: "a stream of level C has 64 channels, and payloads of 1,152 octets",
+        stream: "channels 64",
+        steps: "a 1 0, tick 12",
+        fates: "1 Taken",
+        marks: "got 65537 0",
+        counts: "1 arrived, 1 from_a, 1 got",
+    },
+];
+
+/// Packets past 65535, of other cycles and off the grid, and 64 channels: each packet's fate, the marks and the counts.
+#[test]
+fn numbers_wrap_and_other_cycles_are_off_the_grid(rt: HostRuntime) -> Result<(), Fail> {
+    for case in &NUMBERS {
+        case.check(&rt, rt.alloc())?;
+    }
+    Ok(())
+}
+
+const ORDER: [Case; 7] = [
+    Case {
+        shows: "a missing packet is lost, and then late",
+        stream: "",
+        steps: "a 65535 0, b 0 6, tick 12, tick 18, tick 24, a 1 12",
+        fates: "2 Taken, 1 Late",
+        marks: "got 131071 0, got 131072 6, lost 131073 12",
+        counts: "3 arrived, 1 from_a, 1 from_b, 1 late, 2 got, 1 lost",
+    },
+    Case {
+        shows: "nothing before the anchor is taken",
+        stream: "",
+        steps: "a 5 0, a 4 4294967290, tick 12",
+        fates: "1 Taken, 1 Late",
+        marks: "got 65541 0",
+        counts: "2 arrived, 1 from_a, 1 late, 1 got",
+    },
+    Case {
+        shows: "each due slot is given once",
+        stream: "",
+        steps: "a 1 0, tick 30, tick 30",
+        fates: "1 Taken",
+        marks: "got 65537 0, lost 65538 6, lost 65539 12, lost 65540 18",
+        counts: "1 arrived, 1 from_a, 1 got, 3 lost",
+    },
+    Case {
+        shows: "packets out of order are put in order",
+        stream: "",
+        steps: "a 1 0, a 4 18, b 2 6, a 3 12, tick 30",
+        fates: "4 Taken",
+        marks: "got 65537 0, got 65538 6, got 65539 12, got 65540 18",
+        counts: "4 arrived, 3 from_a, 1 from_b, 4 got",
+    },
+    Case {
+        shows: "a packet just before its deadline is taken",
+        stream: "",
+        steps: "a 65535 0, b 0 6, tick 12, tick 18, a 1 12, tick 24",
+        fates: "3 Taken",
+        marks: "got 131071 0, got 131072 6, got 131073 12",
+        counts: "3 arrived, 2 from_a, 1 from_b, 3 got",
+    },
+    Case {
+        shows: "the window ends at its width",
+        stream: "",
+        steps: "a 1 0, a 9 48, a 8 42",
+        fates: "1 Taken, 1 Ahead, 1 Taken",
+        marks: "",
+        counts: "3 arrived, 2 from_a, 1 ahead",
+    },
+    Case {
+        shows: "a first packet that is refused leaves the stream open to the next one",
+        stream: "open_at 100",
+        steps: "a 9 88, a 9 136, a 3 90, tick 102",
+        fates: "1 Late, 1 Ahead, 1 Taken",
+        marks: "got 65539 90",
+        counts: "3 arrived, 1 from_a, 1 late, 1 ahead, 1 got",
+    },
+];
+
+/// Packets missing, out of order, late, ahead or before the anchor: each number once, got or lost.
+#[test]
+fn slots_come_in_order_at_their_deadlines(rt: HostRuntime) -> Result<(), Fail> {
+    for case in &ORDER {
+        case.check(&rt, rt.alloc())?;
+    }
+    Ok(())
+}
+
+const COPIES: [Case; 4] = [
+    Case {
+        shows: "the first of several copies counts",
+        stream: "",
+        steps: "a 1 0, b 1 0, b 1 0 odd, tick 12, b 1 0",
+        fates: "1 Taken, 1 Double, 1 Unlike, 1 Late",
+        marks: "got 65537 0",
+        counts: "4 arrived, 1 from_a, 1 double, 1 unlike, 1 late, 1 got",
+    },
+    Case {
+        shows: "a third path counts as its own",
+        stream: "paths 3",
+        steps: "c 1 0, a 1 0, b 1 0, tick 12",
+        fates: "1 Taken, 2 Double",
+        marks: "got 65537 0",
+        counts: "3 arrived, 1 from_c, 2 double, 1 got",
+    },
+    Case {
+        shows: "a source that is not asked for is refused",
+        stream: "source 2",
+        steps: "a 1 0, a 1 0 of 2",
+        fates: "1 WrongSource, 1 Taken",
+        marks: "",
+        counts: "2 arrived, 1 from_a, 1 source",
+    },
+    Case {
+        shows: "another source than the first packet's is refused",
+        stream: "",
+        steps: "a 1 0, a 2 6 of 2",
+        fates: "1 Taken, 1 WrongSource",
+        marks: "",
+        counts: "2 arrived, 1 from_a, 1 source",
+    },
+];
+
+/// Copies on two and three paths, and packets of two sources: the first good one is taken, and the others named (SMPTE ST 2022-7).
+#[test]
+fn the_first_copy_counts(rt: HostRuntime) -> Result<(), Fail> {
+    for case in &COPIES {
+        case.check(&rt, rt.alloc())?;
+    }
+    Ok(())
+}
+
+const CLOCKS: [Case; 2] = [
+    Case {
+        shows: "by the arrival clock the first packet stands at the time as it came",
+        stream: "arrival",
+        steps: "tick 1000, a 7 123456, a 8 123462, tick 1012, tick 1018",
+        fates: "2 Taken",
+        marks: "quiet 988, got 65543 1000, got 65544 1006",
+        counts: "2 arrived, 2 from_a, 2 got",
+    },
+    Case {
+        shows: "from the opening to the first slot each reading tells how far the stream is silent, \
+            where that is new",
+        stream: "open_at 100",
+        steps: "tick 100, tick 101, tick 101, a 1 96, tick 107, tick 108, tick 109, tick 114",
+        fates: "1 Taken",
+        marks: "quiet 89, quiet 95, got 65537 96, lost 65538 102",
+        counts: "1 arrived, 1 from_a, 1 got, 1 lost",
+    },
+];
+
+/// Readings before and between packets, by the media clock and by the arrival clock: where silence and slots stand.
+#[test]
+fn silence_is_told_and_the_arrival_clock_followed(rt: HostRuntime) -> Result<(), Fail> {
+    for case in &CLOCKS {
+        case.check(&rt, rt.alloc())?;
+    }
+    Ok(())
+}
+
+const CLOSES: [Case; 3] = [
+    Case {
+        shows: "a close gives what is held, and the end",
+        stream: "",
+        steps: "a 1 0, a 3 12, close, a 2 6",
+        fates: "2 Taken, 1 Closed",
+        marks: "got 65537 0, lost 65538 6, got 65539 12, end",
+        counts: "2 arrived, 2 from_a, 2 got, 1 lost",
+    },
+    Case {
+        shows: "an empty merge gives the end",
+        stream: "",
+        steps: "close, a 1 0",
+        fates: "1 Closed",
+        marks: "end",
+        counts: "",
+    },
+    Case {
+        shows: "with nothing held a close gives the end, once",
+        stream: "",
+        steps: "a 1 0, tick 18, close, close",
+        fates: "1 Taken",
+        marks: "got 65537 0, lost 65538 6, end",
+        counts: "1 arrived, 1 from_a, 1 got, 1 lost",
+    },
+];
+
+/// Closes of a merge that is empty, that holds packets, and that holds none: one end, and nothing after it.
+#[test]
+fn a_close_gives_what_is_held_and_the_end(rt: HostRuntime) -> Result<(), Fail> {
+    for case in &CLOSES {
+        case.check(&rt, rt.alloc())?;
+    }
+    Ok(())
+}
+
+const RESTARTS: [Case; 7] = [
+    Case {
+        shows: "eight packets in sequence restart",
+        stream: "",
+        steps: "tick 0, a 1 0, tick 12, a 500 4294967274 x 9, tick 32, tick 38",
+        fates: "1 Taken, 7 OffGrid, 1 Restarted, 1 Taken",
+        marks: "got 65537 0, got 1:66043 20, got 1:66044 26",
+        counts: "10 arrived, 3 from_a, 7 off_grid, 3 got, 1 restarts",
+    },
+    Case {
+        shows: "a restart waits for a packet that is held",
+        stream: "",
+        steps: "tick 0, a 1 0, tick 12, a 2 6, a 500 4294967274 x 8, tick 18, a 508 26, tick 38",
+        fates: "2 Taken, 8 OffGrid, 1 Restarted",
+        marks: "got 65537 0, got 65538 6, got 1:66044 26",
+        counts: "11 arrived, 3 from_a, 8 off_grid, 3 got, 1 restarts",
+    },
+    Case {
+        shows: "by the arrival clock an epoch begins at the time, which is 12",
+        stream: "arrival",
+        steps: "tick 0, a 1 0, tick 12, a 500 4294967274 x 8, tick 24",
+        fates: "1 Taken, 7 OffGrid, 1 Restarted",
+        marks: "got 65537 0, got 1:66043 12",
+        counts: "9 arrived, 2 from_a, 7 off_grid, 2 got, 1 restarts",
+    },
+    Case {
+        shows: "an epoch at 20 is opened while the slot at 18 is next",
+        stream: "",
+        steps: "tick 0, a 1 0, tick 12, a 500 4294967274 x 7, tick 29, a 507 20, tick 32",
+        fates: "1 Taken, 7 OffGrid, 1 Restarted",
+        marks: "got 65537 0, lost 65538 6, lost 65539 12, got 1:66043 20",
+        counts: "9 arrived, 2 from_a, 7 off_grid, 2 got, 2 lost, 1 restarts",
+    },
+    Case {
+        shows: "and not once the slot at 24 is, so media time doesn't go back",
+        stream: "",
+        steps: "tick 0, a 1 0, tick 12, a 500 4294967274 x 7, tick 30, a 507 20, tick 32",
+        fates: "1 Taken, 8 OffGrid",
+        marks: "got 65537 0, lost 65538 6, lost 65539 12, lost 65540 18",
+        counts: "9 arrived, 1 from_a, 8 off_grid, 1 got, 3 lost",
+    },
+    Case {
+        shows: "a second restart waits for the first",
+        stream: "",
+        steps: "tick 0, a 1 0, tick 12, a 500 4294967274 x 8, a 900 2 x 8, tick 32, a 908 50, tick 62",
+        fates: "1 Taken, 7 OffGrid, 1 Restarted, 8 OffGrid, 1 Restarted",
+        marks: "got 65537 0, got 1:66043 20, got 2:66444 50",
+        counts: "18 arrived, 3 from_a, 15 off_grid, 3 got, 2 restarts",
+    },
+    Case {
+        shows: "four restarts in a row",
+        stream: "",
+        steps: "tick 0, a 1 0, tick 12, a 500 4294967274 x 8, tick 32, a 1500 4294967294 x 8, tick \
+            52, a 2500 18 x 8, tick 72, a 3500 38 x 8, tick 92",
+        fates: "1 Taken, 7 OffGrid, 1 Restarted, 7 OffGrid, 1 Restarted, 7 OffGrid, 1 Restarted, 7 \
+            OffGrid, 1 Restarted",
+        marks: "got 65537 0, got 1:66043 20, got 2:67043 40, got 3:68043 60, got 4:69043 80",
+        counts: "33 arrived, 5 from_a, 28 off_grid, 5 got, 4 restarts",
+    },
+];
+
+/// Senders that begin anew up to four times: the epoch that the eighth packet in sequence opens, and when it may.
+#[test]
+fn eight_packets_in_sequence_restart(rt: HostRuntime) -> Result<(), Fail> {
+    for case in &RESTARTS {
+        case.check(&rt, rt.alloc())?;
+    }
+    Ok(())
+}
+
+const PROBATIONS: [Case; 8] = [
+    Case {
+        shows: "a probation is of one path",
+        stream: "",
+        steps: "tick 0, a 1 0, tick 12, a 500 4294967274 x 4, b 504 2 x 4",
+        fates: "1 Taken, 8 OffGrid",
+        marks: "got 65537 0",
+        counts: "9 arrived, 1 from_a, 8 off_grid, 1 got",
+    },
+    Case {
+        shows: "each path has its own, and after the restart its copies are late or doubles",
+        stream: "",
+        steps: "tick 0, a 1 0, tick 12, a 500 4294967274 x 4, b 500 4294967274 x 4, a 504 2 x 4, b \
+            504 2 x 4, tick 32",
+        fates: "1 Taken, 11 OffGrid, 1 Restarted, 3 Late, 1 Double",
+        marks: "got 65537 0, got 1:66043 20",
+        counts: "17 arrived, 2 from_a, 1 double, 11 off_grid, 3 late, 2 got, 1 restarts",
+    },
+    Case {
+        shows: "another source restarts the stream",
+        stream: "",
+        steps: "tick 0, a 1 0, tick 12, a 500 4294967274 of 2 x 8, tick 32",
+        fates: "1 Taken, 7 WrongSource, 1 Restarted",
+        marks: "got 65537 0, got 1:66043 20",
+        counts: "9 arrived, 2 from_a, 7 source, 2 got, 1 restarts",
+    },
+    Case {
+        shows: "a source that is not asked for restarts nothing",
+        stream: "source 1",
+        steps: "tick 0, a 1 0, tick 12, a 500 4294967274 of 2 x 8, tick 32",
+        fates: "1 Taken, 8 WrongSource",
+        marks: "got 65537 0, lost 65538 6, lost 65539 12, lost 65540 18",
+        counts: "9 arrived, 1 from_a, 8 source, 1 got, 3 lost",
+    },
+    Case {
+        shows: "nor does it break a probation",
+        stream: "source 1",
+        steps: "tick 0, a 1 0, tick 12, a 500 4294967274 x 7, a 3 12 of 2, a 507 20, tick 32",
+        fates: "1 Taken, 7 OffGrid, 1 WrongSource, 1 Restarted",
+        marks: "got 65537 0, got 1:66043 20",
+        counts: "10 arrived, 2 from_a, 7 off_grid, 1 source, 2 got, 1 restarts",
+    },
+    Case {
+        shows: "a packet in step breaks a probation",
+        stream: "",
+        steps: "tick 0, a 1 0, tick 12, a 500 4294967274 x 7, a 1 0, a 507 20",
+        fates: "1 Taken, 7 OffGrid, 1 Late, 1 OffGrid",
+        marks: "got 65537 0",
+        counts: "10 arrived, 1 from_a, 8 off_grid, 1 late, 1 got",
+    },
+    Case {
+        shows: "so does a packet out of sequence",
+        stream: "",
+        steps: "tick 0, a 1 0, tick 12, a 500 4294967274 x 7, a 508 26, a 509 32",
+        fates: "1 Taken, 9 OffGrid",
+        marks: "got 65537 0",
+        counts: "10 arrived, 1 from_a, 9 off_grid, 1 got",
+    },
+    Case {
+        shows: "probations begin anew with an epoch: the second path's eighth comes after it",
+        stream: "",
+        steps: "tick 0, a 1 0, tick 12, b 100 1 x 7, a 500 4294967274 x 8, tick 32, b 107 43",
+        fates: "1 Taken, 14 OffGrid, 1 Restarted, 1 OffGrid",
+        marks: "got 65537 0, got 1:66043 20",
+        counts: "17 arrived, 2 from_a, 15 off_grid, 2 got, 1 restarts",
+    },
+];
+
+/// Seven or eight packets in sequence, on two paths, of two sources, and others amid them: whether a restart comes of it.
+#[test]
+fn a_probation_is_of_one_path_and_source(rt: HostRuntime) -> Result<(), Fail> {
+    for case in &PROBATIONS {
+        case.check(&rt, rt.alloc())?;
+    }
+    Ok(())
+}
+
+const SINGLE_CALLS: [Case; 2] = [
+    Case {
+        shows: "readings are checked in order, and a refused one moves nothing",
+        stream: "",
+        steps: "advance 5, advance 5, advance 4, advance 1152921504606846977, advance 6, \
+            advance 1152921504606846976, advance 1152921504606846976, close, \
+            advance 1152921504606846976, advance 1152921504606846975, advance 1152921504606846977",
+        fates: "",
+        marks: "quiet -7 at 5, nothing at 5, WentBack at 5, TooFar at 5, quiet -6 at 6, \
+            quiet 1152921504606846964 at 1152921504606846976, nothing at 1152921504606846976, end, \
+            Closed at 1152921504606846976, WentBack at 1152921504606846976, \
+            TooFar at 1152921504606846976",
+        counts: "",
+    },
+    Case {
+        shows: "a close amid the slots of one reading gives what is held, and moves no time",
+        stream: "",
+        steps: "a 1 0, b 3 12, advance 100, close, advance 100",
+        fates: "2 Taken",
+        marks: "got 65537 0 at 12, lost 65538 6, got 65539 12, end, Closed at 12",
+        counts: "2 arrived, 1 from_a, 1 from_b, 2 got, 1 lost",
+    },
+];
+
+/// Readings that stand still, go back, lie past 2^60 or follow a close, and a close amid due slots: one call each.
+#[test]
+fn each_call_gives_one_mark_or_its_fault(rt: HostRuntime) -> Result<(), Fail> {
+    for case in &SINGLE_CALLS {
+        case.check_calls(&rt, rt.alloc())?;
+    }
+    Ok(())
+}

@@ -1,3 +1,0 @@
-//! Values of the rules for one stream and one packet.
-mod numbers;
-mod streams;
