@@ -37,7 +37,8 @@ use Rattle.path_merge.specs.MergeState.{MergeState}
 use Rattle.path_merge.specs.Run.{HasGiven}
 use Rattle.path_merge.specs.declared.clock.ClockFault.{ClockFault}
 use Rattle.studio_session.proofs.WayLemmas.{in_time}
-use Rattle.studio_session.specs.Session.{Datagram, event_in, packet_at, reception_by, reception_of}
+use Rattle.stream_rules.specs.Reception.{packet_at, reception_by, reception_of}
+use Rattle.studio_session.specs.Session.{Datagram, event_in}
 use Rattle.studio_uses.specs.declared.arrival.Arrival.{Arrival}
 
 -- what the merge gets of a datagram

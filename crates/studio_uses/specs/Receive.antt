@@ -5,7 +5,8 @@ use Rattle.stream_rules.specs.declared.stream_spec.Stream.{Stream}
 use Rattle.stream_rules.specs.History.{is_well_timed}
 use Rattle.stream_rules.specs.declared.event.Event.{Event}
 use Rattle.stream_rules.specs.declared.event.Event.TheVariants.{Tick, Close}
-use Rattle.studio_session.specs.Session.{Datagram, event_in, reception_of}
+use Rattle.stream_rules.specs.Reception.{reception_of}
+use Rattle.studio_session.specs.Session.{Datagram, event_in}
 use Rattle.studio_uses.specs.declared.arrival.Arrival.{Arrival}
 use Rattle.studio_uses.specs.declared.receive.ReceiveFault.{ReceiveFault}
 use Rattle.studio_uses.specs.declared.receive.ReceiveFault.TheVariants.{Path, Clock, Memory}

@@ -1,4 +1,4 @@
--- What a feed in memory tells.
+-- What a feed and a sink in memory tell.
 use Rattle.std.specs.Prelude.{ℕ, List, [], ◌∷◌, ◌++◌, map, take}
 use Rattle.std.specs.declared.vec.Vec.{Vec}
 use Rattle.std.specs.declared.alloc.Global.{Global}
@@ -7,3 +7,7 @@ use Rattle.studio_workers.specs.Answers.{Answer, Gives, Stops}
 -- all datagrams, of each at most 2,048 octets, and then the end
 abbrev pub told_of : List (Vec ℕ Global) → List Answer
 told_of datagrams = map (λ (datagram : Vec ℕ Global). Gives (take 2048 datagram.items)) datagrams ++ Stops ∷ []
+
+-- the datagrams of a sink
+abbrev pub octets_of : List (Vec ℕ Global) → List (List ℕ)
+octets_of datagrams = map (λ (datagram : Vec ℕ Global). datagram.items) datagrams

@@ -11,6 +11,7 @@ pub struct MemoryClock<'a> {
 }
 
 impl<'a> MemoryClock<'a> {
+    /// A clock that gives these readings, in sampling instants.
     pub fn new(readings: &'a [i64]) -> MemoryClock<'a> {
         MemoryClock {
             readings,

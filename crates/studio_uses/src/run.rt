@@ -43,8 +43,8 @@ impl<T: Drop> From<AllocFailed<T>> for RunFault {
 /// Runs a studio's workers over these datagrams, a list for each path, stream by stream and path by
 /// path. Each stream's clock has the same readings.
 ///
-/// Where the report is settled, the sink was handed the datagrams of exactly the ready blocks. It may be
-/// a `MemorySink`.
+/// Where the report is settled, a sink that tells at the end what it was handed was handed the datagrams
+/// of exactly the ready blocks. A `MemorySink` tells it where it is whole.
 pub fn run_in_threads<R: Threads + Wait + Sync, K: Sink>(
     rt: &R,
     alloc: Global,

@@ -1,5 +1,5 @@
 -- What the end of a stream says of its history.
-use Rattle.std.proofs.Common.{◌≡◌, ℕ, suc, ◌+◌, ◌≤◌, ◌^◌, Bool, true, false, nat_eq, nat_lt, if◌then◌else◌, List, [], ◌∷◌, ◌++◌, length, take, map, ℤ, Option, Some, None, IsSome, IfSome, refl, sym, ap, subst, ◌∙◌, arith, append-nil}
+use Rattle.std.proofs.Common.{◌≡◌, ℕ, suc, ◌+◌, ◌-◌, ◌*◌, ◌≤◌, ◌^◌, Bool, true, false, nat_eq, nat_lt, if◌then◌else◌, List, [], ◌∷◌, ◌++◌, length, take, map, ℤ, Option, Some, None, IsSome, IfSome, refl, sym, ap, subst, ◌∙◌, arith, append-nil}
 use Rattle.std.proofs.lemmas.Bool.Decides.{nat_tests}
 use Rattle.std.proofs.lemmas.List.Sums.{sum_by-cons}
 use Rattle.std.proofs.Math.Seq.{take-length}
@@ -19,7 +19,8 @@ use Rattle.stream_rules.specs.declared.event.Event.{Event}
 use Rattle.stream_rules.specs.declared.event.Event.TheVariants.{Arrive, Tick, Close}
 use Rattle.path_merge.proofs.HistoryLemmas.{fates_of-push}
 use Rattle.path_merge.proofs.RestartOfferLemmas.{counted_arrivals}
-use Rattle.studio_session.specs.declared.counts.PathCounts.{PathCounts}
+use Rattle.stream_rules.specs.PathCounts.{path_tally_of}
+use Rattle.stream_rules.specs.declared.path_counts.PathCounts.{PathCounts}
 use Rattle.studio_rings.specs.Fitting.{fitting}
 use Rattle.studio_rings.specs.Opened.{AllFreshPaths, IsFreshPath, IsFreshStream}
 use Rattle.studio_rings.specs.Streams.{StreamHasHistory, packets_by}
@@ -28,11 +29,12 @@ use Rattle.studio_rings.specs.declared.side.Side.{Side}
 use Rattle.studio_rings.specs.declared.stream.StreamDone.{StreamDone}
 use Rattle.studio_rings.specs.declared.stream_end.StreamEnd.{StreamEnd}
 use Rattle.studio_rings.proofs.StreamLemmas.{packets_by-append}
-use Rattle.studio_workers.specs.Answers.{Answer, IsPartOf, reaches_end, told_packets}
+use Rattle.studio_workers.specs.Answers.{Answer, CountsOthers, IsPartOf, reaches_end, told_datagrams, told_packets}
 use Rattle.studio_workers.specs.Paths.{IsPathResult, SendsFeed}
 use Rattle.studio_workers.specs.Runs.{HasPathHistory, HavePathHistories, sent_total}
-use Rattle.studio_workers.specs.Streams.{EndsStream, HasEnded, HasMarks, HaveTokens, IsStreamResult, all_told, ends_of, told_by, told_of}
+use Rattle.studio_workers.specs.Streams.{EndsStream, HasEnded, HasMarks, PathsGiveTokens, IsStreamResult, all_told, ends_of, told_by, told_of}
 use Rattle.studio_workers.specs.Turns.{ClosesLater, Drains, GoesOn, HaveArrived, HaveTold}
+use Rattle.studio_workers.proofs.ZipLemmas.{zip-length}
 use Rattle.studio_workers.specs.declared.path_job.PathJob.{PathJob}
 use Rattle.studio_workers.specs.declared.path_job.PathResult.{PathResult}
 use Rattle.studio_workers.specs.declared.stream_job.StreamJob.{StreamJob}
@@ -145,7 +147,7 @@ module _ {F : Type 0} (told : F → List Answer) (stream : Stream) (places : ℕ
       → packets_by path events ≡ fitting stream (told_by r) → packets_by path events ≡ told_by r
   arrived_is p side r path events fresh t e = e ∙ (ap (λ (s : Stream). fitting s (told_by r)) (sym fresh.spec) ∙ t.fit)
 
-  counted : (path : ℕ) (paths : List (PathJob F)) (sides : List (Side Packet)) (results : List PathResult) (events : List Event) → AllFreshPaths stream places (ends_of paths) sides → AllZip (IsPathResult told) paths results → HaveTokens results
+  counted : (path : ℕ) (paths : List (PathJob F)) (sides : List (Side Packet)) (results : List PathResult) (events : List Event) → AllFreshPaths stream places (ends_of paths) sides → AllZip (IsPathResult told) paths results → PathsGiveTokens results
       → HaveArrived stream path (map told_by results) events → count_from path events ≡ sent_total (map (λ (r : PathResult). r.counts) results)
   counted path [] sides [] events fresh zip given h = count_none path events h
   counted path [] sides (r ∷ rs) events fresh zip given h = absurd zip
@@ -162,6 +164,7 @@ module _ {F : Type 0} (told : F → List Answer) (stream : Stream) (places : ℕ
   path_history : (p : PathJob F) (side : Side Packet) (r : PathResult) (path : ℕ) (events : List Event) → IsFreshPath stream places p.end side → Tells told p r
       → packets_by path events ≡ told_by r → HasPathHistory stream path (told p.feed) r.counts events
   path_history p side r path events fresh t is = record {
+    sent = t.count ∙ sym (ap length is);
     some = λ whole.
         let sends = t.sent_are whole in
         let more : told_by r ≡ sends.more = sends.sends ∙ ap (λ l. l ++ sends.more) fresh.none_sent in
@@ -170,9 +173,27 @@ module _ {F : Type 0} (told : F → List Answer) (stream : Stream) (places : ℕ
         let sends = t.sent_are whole in
         let more : told_by r ≡ sends.more = sends.sends ∙ ap (λ l. l ++ sends.more) fresh.none_sent in
         is ∙ (more ∙ (sends.all full offered ∙ ap (λ (s : Stream). told_packets s 0 (told p.feed)) fresh.spec));
+    lacking = λ whole offered.
+        let sends = t.sent_are whole in
+        let more : packets_by path events ≡ sends.more = is ∙ (sends.sends ∙ ap (λ l. l ++ sends.more) fresh.none_sent) in
+        let few : p.end.counts.full + (length (told_packets stream 0 (told p.feed)) - length (packets_by path events)) * 1001 ≤ r.counts.full =
+        subst (λ (l : List Packet). p.end.counts.full + (length (told_packets stream 0 (told p.feed)) - length l) * 1001 ≤ r.counts.full) (sym more)
+        (subst (λ (s : Stream). p.end.counts.full + (length (told_packets s 0 (told p.feed)) - length sends.more) * 1001 ≤ r.counts.full) fresh.spec (sends.lacking offered)) in
+        omega (arith, few);
+    others = λ whole offered.
+        let sends = t.sent_are whole in
+        let none = fresh.none_offered in
+        let balanced = p.end.counts.balanced in
+        let counted : CountsOthers stream (told_datagrams 0 (told p.feed)) (path_tally_of p.end.counts) (path_tally_of r.counts) =
+        subst (λ (s : Stream). CountsOthers s (told_datagrams 0 (told p.feed)) (path_tally_of p.end.counts) (path_tally_of r.counts)) fresh.spec (sends.others offered) in
+        record {
+          bad = let b = counted.bad in omega (arith, none, balanced, b);
+          wrong_type = let b = counted.wrong_type in omega (arith, none, balanced, b);
+          wrong_length = let b = counted.wrong_length in omega (arith, none, balanced, b);
+        };
   }
 
-  path_histories : (path : ℕ) (paths : List (PathJob F)) (sides : List (Side Packet)) (results : List PathResult) (events : List Event) → AllFreshPaths stream places (ends_of paths) sides → AllZip (IsPathResult told) paths results → HaveTokens results
+  path_histories : (path : ℕ) (paths : List (PathJob F)) (sides : List (Side Packet)) (results : List PathResult) (events : List Event) → AllFreshPaths stream places (ends_of paths) sides → AllZip (IsPathResult told) paths results → PathsGiveTokens results
       → HaveArrived stream path (map told_by results) events → HavePathHistories stream path (told_of told paths) (map (λ (r : PathResult). r.counts) results) (events ++ Close ∷ [])
   path_histories path [] sides [] events fresh zip given h = tt
   path_histories path [] sides (r ∷ rs) events fresh zip given h = absurd zip
@@ -196,7 +217,7 @@ arrived_count stream open_at before shut few =
 
 module _ {F : Type 0} (told : F → List Answer) where
   has_marks : (stream : Stream) (open_at : ℤ) (places : ℕ) (paths : List (PathJob F)) (s : StreamEnd) (results : List PathResult) (result : StreamResult) (marks : List MarkView)
-      → IsFreshStream open_at places stream (ends_of paths) s → AllZip (IsPathResult told) paths results → HaveTokens results → result.counts.paths.items ≡ map (λ (r : PathResult). r.counts) results
+      → IsFreshStream open_at places stream (ends_of paths) s → AllZip (IsPathResult told) paths results → PathsGiveTokens results → result.counts.paths.items ≡ map (λ (r : PathResult). r.counts) results
       → HasEnded stream open_at (map told_by results) result marks → HasMarks open_at stream (told_of told paths) result marks
   has_marks stream open_at places paths s results result marks fresh zip given counts_are e =
       let all = e.before ++ Close ∷ [] in
@@ -216,7 +237,7 @@ module _ {F : Type 0} (told : F → List Answer) where
         marks_are = e.marks_are;
       }
 
-  by_token : (done : Option StreamDone) (stream_says : StreamDone → Type 0) (results : List PathResult) (P : StreamDone → Type 0) → IfSome done (λ d. HaveTokens results) → IfSome done stream_says → ((d : StreamDone) → HaveTokens results → stream_says d → P d) → IfSome done P
+  by_token : (done : Option StreamDone) (stream_says : StreamDone → Type 0) (results : List PathResult) (P : StreamDone → Type 0) → IfSome done (λ d. PathsGiveTokens results) → IfSome done stream_says → ((d : StreamDone) → PathsGiveTokens results → stream_says d → P d) → IfSome done P
   by_token None says results P given h f = tt
   by_token (Some d) says results P given h f = f d given h
 
@@ -229,6 +250,7 @@ module _ {F : Type 0} (told : F → List Answer) where
 
 pub is-stream-result : {F C : Type 0} (told : F → List Answer) (job : StreamJob F C) (t : StreamEnd) (results : List PathResult) (result : StreamResult) → AllZip (IsPathResult told) job.paths.items results → GoesOn job.end t → EndsStream t results result → IsStreamResult told job result
 is-stream-result told job t results result zip goes ends = record {
+  faults = ends.faults ∙ sym (zip-length _ job.paths.items results zip);
   token = its_token job.end t result.done goes.marks ends.token;
   history = stream-result told job.paths.items job.end t results result zip goes ends;
 }

@@ -6,7 +6,7 @@ use Rattle.rtrb.specs.declared.consumer.Consumer.{Consumer}
 use Rattle.stream_rules.specs.declared.stream_spec.Stream.{Stream}
 use Rattle.stream_rules.specs.declared.packet.Packet.{Packet}
 use Rattle.stream_rules.specs.declared.event.Event.{Event}
-use Rattle.studio_session.specs.declared.counts.PathCounts.{PathCounts}
+use Rattle.stream_rules.specs.declared.path_counts.PathCounts.{PathCounts}
 use Rattle.studio_rings.specs.Streams.{StreamHasHistory}
 use Rattle.studio_rings.specs.Tokens.{HandsIn}
 use Rattle.studio_rings.specs.declared.path.PathDone.{PathDone}
@@ -15,7 +15,7 @@ use Rattle.studio_rings.specs.declared.side.Side.{Side}
 use Rattle.studio_rings.specs.declared.stream_end.StreamEnd.{StreamEnd}
 use Rattle.studio_workers.specs.Answers.{Answer}
 use Rattle.studio_workers.specs.Paths.{IsPathResult, IsTokenOf}
-use Rattle.studio_workers.specs.Streams.{AllTokensFit, ArePairs, FitsAt, HandsOne, HaveTokens, all_told, told_by}
+use Rattle.studio_workers.specs.Streams.{AllTokensFit, ArePairs, FitsAt, HandsOne, PathsGiveTokens, all_told, told_by}
 use Rattle.studio_workers.specs.Turns.{AreSameRings, GoesOn, HaveTold}
 use Rattle.studio_workers.specs.declared.path_job.PathJob.{PathJob}
 use Rattle.studio_workers.specs.declared.path_job.PathResult.{PathResult}
@@ -113,7 +113,7 @@ pub handed-one : (all given : Bool) (front more : List PathResult) (r : PathResu
 handed-one all given front more r olds nows news fit h one = handed_one all given front more r r.done olds nows news refl fit h one
 
 -- all were handed in
-pub all-handed : (results : List PathResult) (olds nows : List (Side Packet)) → AllTokensFit results olds → AreHandedIn true results olds nows → HaveTokens results × HaveTold nows (map told_by results)
+pub all-handed : (results : List PathResult) (olds nows : List (Side Packet)) → AllTokensFit results olds → AreHandedIn true results olds nows → PathsGiveTokens results × HaveTold nows (map told_by results)
 all-handed [] [] nows fit h = (tt, subst (λ (l : List (Side Packet)). HaveTold l []) (sym h) tt)
 all-handed [] (o ∷ os) nows fit h = absurd fit
 all-handed (r ∷ rs) [] nows fit h = absurd fit
@@ -129,7 +129,7 @@ pub handed-next : (all given : Bool) (front more : List PathResult) (r : PathRes
     → HandsOne r.done place nows given news → AreHandedIn (all && given) (front ++ r ∷ []) olds news
 handed-next all given front more r olds nows news place is fit h one = handed-one all given front more r olds nows news fit h (subst (λ n. HandsOne r.done n nows given news) (sym is) one)
 
-pub handed-result : (all : Bool) (front results : List PathResult) (olds nows : List (Side Packet)) → front ≡ results → all ≡ true → AllTokensFit results olds → AreHandedIn all front olds nows → HaveTokens results × HaveTold nows (map told_by results)
+pub handed-result : (all : Bool) (front results : List PathResult) (olds nows : List (Side Packet)) → front ≡ results → all ≡ true → AllTokensFit results olds → AreHandedIn all front olds nows → PathsGiveTokens results × HaveTold nows (map told_by results)
 handed-result all front results olds nows is whole fit h =
     all-handed results olds nows fit (subst (λ b. AreHandedIn b results olds nows) whole (subst (λ (l : List PathResult). AreHandedIn all l olds nows) is h))
 

@@ -1,5 +1,5 @@
 -- What the mixer's worker gave, turn by turn.
-use Rattle.std.proofs.Common.{◌≡◌, ℕ, ◌+◌, Bool, true, false, List, [], ◌∷◌, ◌++◌, length, take, Option, Some, None, is_some, IfSome, refl, sym, ap, subst, ◌∙◌, arith, append_assoc, append-nil, length-append}
+use Rattle.std.proofs.Common.{◌≡◌, ℕ, ◌+◌, ◌<◌, ◌^◌, Bool, true, false, List, [], ◌∷◌, ◌++◌, length, take, Option, Some, None, is_some, IfSome, refl, sym, ap, subst, ◌∙◌, arith, append_assoc, append-nil, length-append}
 use Rattle.rtrb.specs.Ring.{SameConsumer}
 use Rattle.rtrb.specs.declared.consumer.Consumer.{Consumer}
 use Rattle.stream_rules.specs.MarkFacts.{MarkView}
@@ -11,23 +11,24 @@ use Rattle.studio_rings.specs.Given.{AreAllGiven, HasGiven, given_after}
 use Rattle.studio_rings.specs.declared.side.Side.{Side}
 use Rattle.studio_rings.specs.declared.mix.MixNote.{MixNote}
 use Rattle.studio_rings.specs.declared.mix_end.MixEnd.{MixEnd}
-use Rattle.studio_workers.specs.Mixing.{AreSameRings, Mixes}
+use Rattle.studio_workers.specs.Mixing.{AreSameSides, Mixes}
+use Rattle.studio_workers.specs.Sinks.{Hands}
 
 consumers : {T A P : Type 0} (a b c : Consumer T A P) → SameConsumer a b → SameConsumer b c → SameConsumer a c
 consumers a b c f g = ((g.0.0 ∙ f.0.0, g.0.1 ∙ f.0.1, g.0.2 ∙ f.0.2, g.0.3 ∙ f.0.3), g.1 ∙ f.1)
 
 -- the same rings as they were
-rings-self : (ss : List (Side MarkView)) → AreSameRings ss ss
+rings-self : (ss : List (Side MarkView)) → AreSameSides ss ss
 rings-self [] = tt
 rings-self (s ∷ ss) = ((((refl, refl, refl, refl), refl), refl), rings-self ss)
 
-rings-taken : (olds news : List (Side MarkView)) → AllTakeSome olds news → AreSameRings olds news
+rings-taken : (olds news : List (Side MarkView)) → AllTakeSome olds news → AreSameSides olds news
 rings-taken [] [] h = tt
 rings-taken [] (n ∷ ns) h = absurd h
 rings-taken (o ∷ os) [] h = absurd h
 rings-taken (o ∷ os) (n ∷ ns) h = ((h.0.ring, h.0.done), rings-taken os ns h.1)
 
-rings-trans : (xs ys zs : List (Side MarkView)) → AreSameRings xs ys → AreSameRings ys zs → AreSameRings xs zs
+rings-trans : (xs ys zs : List (Side MarkView)) → AreSameSides xs ys → AreSameSides ys zs → AreSameSides xs zs
 rings-trans [] [] [] h k = tt
 rings-trans [] [] (z ∷ zs) h k = absurd k
 rings-trans [] (y ∷ ys) zs h k = absurd h
@@ -35,16 +36,15 @@ rings-trans (x ∷ xs) [] zs h k = absurd h
 rings-trans (x ∷ xs) (y ∷ ys) [] h k = absurd k
 rings-trans (x ∷ xs) (y ∷ ys) (z ∷ zs) h k = ((consumers x.ring y.ring z.ring h.0.0 k.0.0, k.0.1 ∙ h.0.1), rings-trans xs ys zs h.1 k.1)
 
-some-nil : (o : Option (List (List ℕ))) → IfSome o (λ before. o ≡ Some (before ++ []))
-some-nil None = tt
-some-nil (Some before) = ap Some (sym (append-nil before))
+hands-nil : (o : Option (List (List ℕ))) → Hands o [] o
+hands-nil None = tt
+hands-nil (Some before) = sym (append-nil before)
 
-some-more : (o p q : Option (List (List ℕ))) (xs ys : List (List ℕ)) → IfSome o (λ before. p ≡ Some (before ++ xs)) → IfSome p (λ before. q ≡ Some (before ++ ys)) → IfSome o (λ before. q ≡ Some (before ++ (xs ++ ys)))
-some-more None p q xs ys h k = tt
-some-more (Some before) p q xs ys h k = then_more p h k
-  where
-    then_more : (p : Option (List (List ℕ))) → p ≡ Some (before ++ xs) → IfSome p (λ l. q ≡ Some (l ++ ys)) → q ≡ Some (before ++ (xs ++ ys))
-    then_more p e k = let f : q ≡ Some ((before ++ xs) ++ ys) = subst (λ (o : Option (List (List ℕ))). IfSome o (λ l. q ≡ Some (l ++ ys))) e k in f ∙ ap Some (append_assoc before xs ys)
+hands-more : (o p q : Option (List (List ℕ))) (xs ys : List (List ℕ)) → Hands o xs p → Hands p ys q → Hands o (xs ++ ys) q
+hands-more o p None xs ys h k = tt
+hands-more o None (Some all) xs ys h k = absurd k
+hands-more None (Some mid) (Some all) xs ys h k = absurd h
+hands-more (Some before) (Some mid) (Some all) xs ys h k = k ∙ (ap (λ l. l ++ ys) h ∙ append_assoc before xs ys)
 
 -- the datagram lies at the front, in its length
 one_given : (P : ℕ → Type 0) (studio : Studio) (t : MixEnd) (before : List (List ℕ)) (out : List ℕ) (size : ℕ) (len : Option ℕ) → is_some len ≡ true → size ≡ datagram_length studio.output
@@ -57,8 +57,8 @@ module _ {K : Type 0} (handed : K → Option (List (List ℕ))) where
   pub mixes-none : (s : MixEnd) (sink : K) (n : ℕ) → Mixes handed s sink n false s sink n
   mixes-none s sink n = record {
     datagrams = [];
-    count = omega arith;
-    hands = some-nil (handed sink);
+    count = λ _. omega arith;
+    hands = hands-nil (handed sink);
     rings = rings-self s.sides.items;
     given = λ studio before h. subst (HasGiven studio s) (sym (append-nil before)) h;
     all = λ e. absurd (cc);
@@ -68,8 +68,12 @@ module _ {K : Type 0} (handed : K → Option (List (List ℕ))) where
       → Mixes handed s sink n idle t then_sink m → Mixes handed t then_sink m now_idle u last_sink k → Mixes handed s sink n now_idle u last_sink k
   mixes-more s t u sink then_sink last_sink n m k idle now_idle a b = record {
     datagrams = a.datagrams ++ b.datagrams;
-    count = let f = a.count in let g = b.count in let l = length-append a.datagrams b.datagrams in omega (arith, f, g, l);
-    hands = some-more (handed sink) (handed then_sink) (handed last_sink) a.datagrams b.datagrams a.hands b.hands;
+    count = λ few.
+        let l = length-append a.datagrams b.datagrams in
+        let f = a.count (omega (arith, few, l)) in
+        let g = b.count (omega (arith, few, f, l)) in
+        omega (arith, f, g, l);
+    hands = hands-more (handed sink) (handed then_sink) (handed last_sink) a.datagrams b.datagrams a.hands b.hands;
     rings = rings-trans s.sides.items t.sides.items u.sides.items a.rings b.rings;
     given = λ studio before h. subst (HasGiven studio u) (append_assoc before a.datagrams b.datagrams) (b.given studio (before ++ a.datagrams) (a.given studio before h));
     all = λ e studio before h. subst (AreAllGiven studio u) (append_assoc before a.datagrams b.datagrams) (b.all e studio (before ++ a.datagrams) (a.given studio before h));
@@ -82,8 +86,8 @@ module _ {K : Type 0} (handed : K → Option (List (List ℕ))) where
       → Mixes handed s sink n idle t sink n
   mixes-idle s t sink n len out idle none takes gives all = record {
     datagrams = [];
-    count = omega arith;
-    hands = some-nil (handed sink);
+    count = λ _. omega arith;
+    hands = hands-nil (handed sink);
     rings = rings-taken s.sides.items t.sides.items takes;
     given = λ studio before h. subst (HasGiven studio t) (sym (append-nil before)) (subst (λ o. HasGiven studio t (given_after before o out)) none (gives studio before h));
     all = λ e studio before h. subst (AreAllGiven studio t) (sym (append-nil before)) (all studio before h);
@@ -101,11 +105,11 @@ module _ {K : Type 0} (handed : K → Option (List (List ℕ))) where
   }
 
   -- a turn that gave one, which was handed on
-  pub mixes-one : (s t : MixEnd) (sink new_sink : K) (n m : ℕ) (note : MixNote) (size : ℕ) (out new_out sent : List ℕ) → is_some note.len ≡ true → m ≡ n + 1
+  pub mixes-one : (s t : MixEnd) (sink new_sink : K) (n m : ℕ) (note : MixNote) (size : ℕ) (out new_out sent : List ℕ) → is_some note.len ≡ true → (n + 1 < 2 ^ 64 → m ≡ n + 1)
       → size ≡ datagram_length s.mixer.packer.spec → sent ≡ take size new_out → AllTakeSome s.sides.items t.sides.items
       → ((studio : Studio) (number : ℕ) → MixHasFeeds studio s number → MixesBlock studio s note t number out new_out)
       → ((studio : Studio) (datagrams : List (List ℕ)) → HasGiven studio s datagrams → HasGiven studio t (given_after datagrams note.len new_out))
-      → IfSome (handed sink) (λ l. handed new_sink ≡ Some (l ++ sent ∷ []))
+      → Hands (handed sink) (sent ∷ []) (handed new_sink)
       → Mixes handed s sink n false t new_sink m
   mixes-one s t sink new_sink n m note size out new_out sent some more is_size is_sent takes mixes gives hands = record {
     datagrams = sent ∷ [];

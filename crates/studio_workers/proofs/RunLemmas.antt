@@ -1,5 +1,6 @@
 -- What a settled run comes to, of what its workers came to.
-use Rattle.std.proofs.Common.{◌≡◌, ℕ, ◌^◌, true, List, [], ◌∷◌, ◌++◌, length, map, ℤ, pos, ◌≤ℤ◌, Option, IfSome, refl, sym, ap, subst, ◌∙◌, arith}
+use Rattle.std.proofs.Common.{◌≡◌, ℕ, ◌^◌, true, List, [], ◌∷◌, ◌++◌, length, map, vec_len, ℤ, pos, ◌≤ℤ◌, Option, IfSome, refl, sym, ap, subst, ◌∙◌, arith, length-append}
+use Rattle.std.proofs.lemmas.List.Sums.{sum_by-cons}
 use Rattle.std.specs.List.{AllZip}
 use Rattle.rtrb.specs.Ends.{SameRing}
 use Rattle.rtrb.specs.Ring.{all_sent}
@@ -10,8 +11,8 @@ use Rattle.stream_rules.specs.declared.event.Event.{Event}
 use Rattle.path_merge.proofs.MarkListLemmas.{listed}
 use Rattle.studio_spec.specs.Studio.{Studio}
 use Rattle.studio_mix.specs.Feed.{Feed}
-use Rattle.studio_session.specs.declared.report.StreamCounts.{StreamCounts}
-use Rattle.studio_session.specs.Blocks.{AreBlocks}
+use Rattle.stream_rules.specs.declared.stream_counts.StreamCounts.{StreamCounts}
+use Rattle.studio_mix.specs.Blocks.{AreBlocks}
 use Rattle.studio_rings.specs.Given.{AreAllGiven, HasGiven}
 use Rattle.studio_rings.specs.Opened.{AllFreshPaths, AllFreshStreams, AreOpened, IsFreshStream}
 use Rattle.studio_rings.specs.declared.ends.Ends.{Ends}
@@ -24,7 +25,7 @@ use Rattle.studio_workers.specs.Answers.{Answer}
 use Rattle.studio_workers.specs.Jobs.{AreJobsOf, HaveRoom, feeds_in}
 use Rattle.studio_workers.specs.Mixing.{Mixes}
 use Rattle.studio_workers.specs.Runs.{HaveStreamHistories, IsSettledRun, feeds_of}
-use Rattle.studio_workers.specs.Settled.{AreOpenedTogether, counts_in, dones_in}
+use Rattle.studio_workers.specs.Settled.{AreOpenedTogether, counts_in, dones_in, fault_numbers}
 use Rattle.studio_workers.specs.Settling.{AllGiveTokens, AllTellMarks, AreTold}
 use Rattle.studio_workers.specs.Streams.{AllReady, ArePairs, HasMarks, IsStreamResult, ends_of, told_of}
 use Rattle.studio_workers.specs.declared.path_job.PathJob.{PathJob}
@@ -112,6 +113,20 @@ module _ {F C : Type 0} where
   tokens-for told paths feeds (end ∷ ends) (job ∷ jobs) (r ∷ rs) h zip =
       (subst (λ (e : StreamEnd). IfSome r.done (λ (d : StreamDone). SameRing e.marks.end d.token.end)) h.4 zip.0.token, tokens-for told h.0 h.1 ends jobs rs h.6 zip.1)
 
+  -- there is a number of faults for each feed
+  pub faults-of-feeds : (told : F → List Answer) (paths : List PathEnd) (feeds : List F) (ends : List StreamEnd) (jobs : List (StreamJob F C)) (results : List StreamResult) → AreJobsOf paths feeds ends jobs → AllZip (IsStreamResult told) jobs results → fault_numbers results ≡ length feeds
+  faults-of-feeds told paths feeds [] [] [] h zip = sym (ap length h.1)
+  faults-of-feeds told paths feeds [] [] (r ∷ rs) h zip = absurd zip
+  faults-of-feeds told paths feeds [] (job ∷ jobs) results h zip = absurd h
+  faults-of-feeds told paths feeds (end ∷ ends) [] results h zip = absurd h
+  faults-of-feeds told paths feeds (end ∷ ends) (job ∷ jobs) [] h zip = absurd zip
+  faults-of-feeds told paths feeds (end ∷ ends) (job ∷ jobs) (r ∷ rs) h zip =
+      let own = zip.0.faults in
+      let rest = faults-of-feeds told h.0 h.1 ends jobs rs h.6 zip.1 in
+      let sum = sum_by-cons (λ (x : StreamResult). vec_len x.faults) r rs in
+      let all = ap length h.3 in
+      omega (arith, own, rest, sum, all, length-append (feeds_in job.paths.items) h.1, map_length (λ (p : PathJob F). p.feed) job.paths.items)
+
   have_all : (told : F → List Answer) (open_at : ℤ) (places : ℕ) (specs : List Stream) (paths : List PathEnd) (feeds : List F) (ends : List StreamEnd) (jobs : List (StreamJob F C)) (results : List StreamResult)
       → AreFreshJobs open_at places specs jobs → AreJobsOf paths feeds ends jobs → AllZip (IsStreamResult told) jobs results → AllGiveTokens (dones_in results) → HaveAll open_at specs (map told feeds) results
   have_all told open_at places [] paths feeds [] [] [] fresh h zip given = record { histories = []; streams = ap (map told) h.1; tells = tt; of_these = refl }
@@ -150,7 +165,7 @@ module _ {F C : Type 0} where
         streams = subst (λ (l : List StreamCounts). HaveStreamHistories studio.open_at studio.streams (map told feeds) l all.histories) (sym streams) all.streams;
         datagrams = mixes.datagrams;
         blocks = settles studio (feeds_of studio.open_at studio.streams all.histories) mixes.datagrams (all.of_these, all.tells) (mixes.all refl studio [] given);
-        count = let n = mixes.count in omega (arith, n);
+        count = λ few. let n = mixes.count (omega (arith, few)) in omega (arith, n);
         handed = mixes.hands;
       }
 

@@ -1,5 +1,5 @@
 -- Tokens handed in one by one, and what a settled end tells.
-use Rattle.std.proofs.Common.{◌≡◌, ℕ, suc, ◌<◌, List, [], ◌∷◌, ◌++◌, length, Option, Some, None, IfSome, IsSome, MatchOption, slice_get, refl, sym, ap, subst, ◌∙◌, arith}
+use Rattle.std.proofs.Common.{◌≡◌, ◌↔◌, ℕ, suc, ◌<◌, true, false, List, [], ◌∷◌, ◌++◌, length, Option, Some, None, IfSome, IsSome, IsSomeAnd, MatchOption, slice_get, refl, sym, ap, subst, ◌∙◌, arith}
 use Rattle.rtrb.specs.Ends.{SameRing}
 use Rattle.rtrb.specs.Ring.{all_sent, received, IsFinishedOf, IsPair, SameConsumer}
 use Rattle.rtrb.specs.declared.consumer.Consumer.{Consumer}
@@ -19,8 +19,8 @@ use Rattle.studio_rings.specs.declared.side.Side.{Side}
 use Rattle.studio_rings.specs.declared.monitor_end.MonitorEnd.{MonitorEnd}
 use Rattle.studio_rings.specs.declared.stream_end.StreamEnd.{StreamEnd}
 use Rattle.studio_rings.specs.declared.stream.StreamDone.{StreamDone}
-use Rattle.studio_workers.specs.Mixing.{AreSameRings}
-use Rattle.studio_workers.specs.Settling.{AllGiveTokens, AllTellMarks, AreTokensOf, HasTokenOf, HaveTokens}
+use Rattle.studio_workers.specs.Mixing.{AreSameSides}
+use Rattle.studio_workers.specs.Settling.{AllGiveTokens, AllTellMarks, AreAllDrained, AreTokensOf, HasTokenOf, HaveTokens}
 
 -- one token is handed in at a place, if there is one
 abbrev pub HandsInOne : Option StreamDone → List (Side MarkView) → ℕ → List (Side MarkView) → Type 0
@@ -92,16 +92,44 @@ feeds-settled (s ∷ ss) (d ∷ ds) (o ∷ os) (m ∷ ms) h =
 module _ {A P : Type 0} where
   -- a ring with no token isn't drained
   undrained : (ring : Consumer MarkView A P) (was now : Option (Finished MarkView A P)) → was ≡ None
-      → MatchOption was (now ≡ None) (λ d. IfSome now (λ e. all_sent e ≡ all_sent d)) → IsDrained ring now → ⊥
+      → MatchOption was (now ≡ None) (λ d. IsSomeAnd now (λ e. all_sent e ≡ all_sent d)) → IsDrained ring now → ⊥
   undrained ring None now e looked drained = subst (IsDrained ring) looked drained
   undrained ring (Some d) now e looked drained = absurd (cc)
 
   -- what a token tells stays
   told_after : (all marks : List MarkView) (was now : Option (Finished MarkView A P)) → IfSome was (λ d. all_sent d ≡ all)
-      → MatchOption was (now ≡ None) (λ d. IfSome now (λ e. all_sent e ≡ all_sent d)) → all ≡ marks → IfSome now (λ d. all_sent d ≡ marks)
+      → MatchOption was (now ≡ None) (λ d. IsSomeAnd now (λ e. all_sent e ≡ all_sent d)) → all ≡ marks → IfSome now (λ d. all_sent d ≡ marks)
   told_after all marks None now tells looked is = subst (λ o. IfSome o (λ d. all_sent d ≡ marks)) (sym looked) tt
   told_after all marks (Some d) None tells looked is = tt
   told_after all marks (Some d) (Some e) tells looked is = looked ∙ (tells ∙ is)
+
+  -- with a token that tells these marks, a ring is drained where all of them came
+  drained_by : (ring : Consumer MarkView A P) (all : List MarkView) (was now : Option (Finished MarkView A P)) → IsSome was → IfSome was (λ d. all_sent d ≡ all)
+      → MatchOption was (now ≡ None) (λ d. IsSomeAnd now (λ e. all_sent e ≡ all_sent d)) → IsDrained ring now ↔ (received ring ≡ all)
+  drained_by ring all None now some tells looked = absurd (let e : false ≡ true = some in cc)
+  drained_by ring all (Some d) None some tells looked = absurd looked
+  drained_by ring all (Some d) (Some e) some tells looked = (λ h. h ∙ (looked ∙ tells), λ h. h ∙ sym (looked ∙ tells))
+
+one_drained : (one : Option StreamDone) (o m n : Side MarkView) → o.done ≡ None → HasTokenOf one o m → LooksAt m n → IsDrained n.ring n.done ↔ IsSomeAnd one (λ d. received o.ring ≡ all_sent d.token)
+one_drained None o m n before h looked = (λ drained. undrained n.ring m.done n.done (ap (λ (s : Side MarkView). s.done) h ∙ before) looked.done drained, λ none. absurd none)
+one_drained (Some d) o m n before h looked =
+    let t = drained_by n.ring (all_sent d.token) m.done n.done h.token h.tells looked.done in
+    let same : received n.ring ≡ received o.ring = looked.received_is ∙ ap received h.ring in
+    (λ drained. sym same ∙ t.0 drained, λ all. t.1 (same ∙ all))
+
+-- with the tokens handed in, all rings are drained exactly where all that the tokens tell came
+pub drained-exactly : (dones : List (Option StreamDone)) (olds mids news : List (Side MarkView)) → AreTokensOf dones olds → HaveTokens dones olds mids → AllLookAt mids news → AllDrained news ↔ AreAllDrained dones olds
+drained-exactly [] [] [] [] t h looked = (λ d. d, λ d. d)
+drained-exactly [] [] [] (n ∷ ns) t h looked = absurd looked
+drained-exactly [] [] (m ∷ ms) news t h looked = absurd (let e : suc (length ms) ≡ 0 = ap length h in omega (arith, e))
+drained-exactly [] (o ∷ os) mids news t h looked = absurd t
+drained-exactly (d ∷ ds) [] mids news t h looked = absurd t
+drained-exactly (d ∷ ds) (o ∷ os) [] news t h looked = absurd h
+drained-exactly (d ∷ ds) (o ∷ os) (m ∷ ms) [] t h looked = absurd looked
+drained-exactly (d ∷ ds) (o ∷ os) (m ∷ ms) (n ∷ ns) t h looked =
+    let one = one_drained d o m n t.0.1 h.0 looked.0 in
+    let rest = drained-exactly ds os ms ns t.1 h.1 looked.1 in
+    (λ all. (one.0 all.0, rest.0 all.1), λ all. (one.1 all.0, rest.1 all.1))
 
 one_gives : (one : Option StreamDone) (o m n : Side MarkView) → o.done ≡ None → HasTokenOf one o m → LooksAt m n → IsDrained n.ring n.done → IsSome one
 one_gives None o m n before h looked drained = absurd (undrained n.ring m.done n.done (ap (λ (s : Side MarkView). s.done) h ∙ before) looked.done drained)
@@ -153,7 +181,7 @@ one_of s (Some d) o n pair same token =
 
 -- where the ends were opened together, each token is that of the mixer's ring at its place
 pub tokens-opened : (places : ℕ) (ss : List StreamEnd) (monitors : List MonitorEnd) (olds news : List (Side MarkView)) (dones : List (Option StreamDone))
-    → AllFreshRings places ss monitors olds → AreSameRings olds news → AreTokensFor ss dones → AreTokensOf dones news
+    → AllFreshRings places ss monitors olds → AreSameSides olds news → AreTokensFor ss dones → AreTokensOf dones news
 tokens-opened places [] [] [] [] [] fresh same tokens = tt
 tokens-opened places [] [] [] [] (d ∷ ds) fresh same tokens = absurd tokens
 tokens-opened places [] [] [] (n ∷ ns) dones fresh same tokens = absurd same

@@ -1,5 +1,5 @@
 -- Turns and looks of a stream's end, one after another.
-use Rattle.std.proofs.Common.{◌≡◌, ℕ, suc, ◌^◌, Bool, true, false, List, [], ◌∷◌, ◌++◌, ℤ, pos, ◌≤ℤ◌, IfSome, MatchOption, Option, Some, None, refl, sym, ap, subst, ◌∙◌, append_assoc, append-nil, ◌⊎◌, inl, inr}
+use Rattle.std.proofs.Common.{◌≡◌, ℕ, suc, ◌^◌, Bool, true, false, List, [], ◌∷◌, ◌++◌, ℤ, pos, ◌≤ℤ◌, IfSome, IsSomeAnd, MatchOption, Option, Some, None, refl, sym, ap, subst, ◌∙◌, append_assoc, append-nil, ◌⊎◌, inl, inr}
 use Rattle.rtrb.specs.Ring.{all_sent, received, SameConsumer, SameProducer}
 use Rattle.rtrb.specs.declared.consumer.Consumer.{Consumer}
 use Rattle.rtrb.specs.declared.finished.Finished.{Finished}
@@ -46,7 +46,7 @@ module _ {T : Type 0} where
   rings-looked (o ∷ os) [] h = absurd h
 
   -- a look leaves what a token tells
-  told_looked : {A P : Type 0} (all : List T) (old new : Option (Finished T A P)) → MatchOption old (new ≡ None) (λ d. IfSome new (λ e. all_sent e ≡ all_sent d)) → IfSome old (λ d. all_sent d ≡ all) → IfSome new (λ e. all_sent e ≡ all)
+  told_looked : {A P : Type 0} (all : List T) (old new : Option (Finished T A P)) → MatchOption old (new ≡ None) (λ d. IsSomeAnd new (λ e. all_sent e ≡ all_sent d)) → IfSome old (λ d. all_sent d ≡ all) → IfSome new (λ e. all_sent e ≡ all)
   told_looked all None new m h = subst (λ o. IfSome o (λ e. all_sent e ≡ all)) (sym m) tt
   told_looked all (Some d) None m h = tt
   told_looked all (Some d) (Some e) m h = m ∙ h
@@ -58,7 +58,7 @@ module _ {T : Type 0} where
   tokens-looked (o ∷ os) (n ∷ ns) l [] h = absurd h
   tokens-looked (o ∷ os) (n ∷ ns) l (all ∷ lists) h = (told_looked all o.done n.done l.0.done h.0, tokens-looked os ns l.1 lists h.1)
 
-  done_self : {A P : Type 0} (done : Option (Finished T A P)) → MatchOption done (done ≡ None) (λ d. IfSome done (λ e. all_sent e ≡ all_sent d))
+  done_self : {A P : Type 0} (done : Option (Finished T A P)) → MatchOption done (done ≡ None) (λ d. IsSomeAnd done (λ e. all_sent e ≡ all_sent d))
   done_self None = refl
   done_self (Some d) = refl
 

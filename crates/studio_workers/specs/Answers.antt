@@ -1,10 +1,11 @@
 -- The answers of a feed, and the packets of its datagrams.
-use Rattle.std.specs.Prelude.{◌≡◌, ℕ, ◌+◌, ◌≤◌, Bool, true, false, nat_eq, List, [], ◌∷◌, ◌++◌, take, ◌⊎◌, if◌then◌else◌}
+use Rattle.std.specs.Prelude.{◌≡◌, ℕ, ◌+◌, ◌≤◌, Bool, true, false, nat_eq, List, [], ◌∷◌, take, count_by, flat_map, ◌⊎◌, if◌then◌else◌}
 use Rattle.stream_rules.specs.declared.stream_spec.Stream.{Stream}
 use Rattle.stream_rules.specs.declared.packet.Packet.{Packet}
-use Rattle.studio_session.specs.Session.{reception_of}
-use Rattle.studio_session.specs.declared.reception.Reception.{Reception}
-use Rattle.studio_session.specs.declared.reception.Reception.TheVariants.{Sent, Bad, WrongType, WrongLength}
+use Rattle.stream_rules.specs.Reception.{reception_of, is_bad, is_wrong_length, is_wrong_type}
+use Rattle.stream_rules.specs.PathCounts.{PathTally}
+use Rattle.stream_rules.specs.declared.reception.Reception.{Reception}
+use Rattle.stream_rules.specs.declared.reception.Reception.TheVariants.{Sent, Bad, WrongType, WrongLength}
 use Rattle.studio_workers.specs.declared.feed.FeedAnswer.{FeedAnswer}
 use Rattle.studio_workers.specs.declared.feed.FeedAnswer.TheVariants.{Datagram, Nothing, Fault, Ended}
 
@@ -51,15 +52,33 @@ packet_in WrongLength = []
 abbrev pub packets_of : Stream → List ℕ → List Packet
 packets_of stream octets = packet_in (reception_of stream octets)
 
+-- the datagrams before the end, so many faults having come in a row
+unfoldable pub told_datagrams : ℕ → List Answer → List (List ℕ)
+told_datagrams faults [] = []
+told_datagrams faults (Gives octets ∷ told) = octets ∷ told_datagrams 0 told
+told_datagrams faults (Waits ∷ told) = told_datagrams 0 told
+told_datagrams faults (Fails ∷ told) = if nat_eq faults 999 then [] else told_datagrams (faults + 1) told
+told_datagrams faults (Stops ∷ told) = []
+
+-- the stream's packets among these datagrams
+abbrev pub packets_in : Stream → List (List ℕ) → List Packet
+packets_in stream datagrams = flat_map (packets_of stream) datagrams
+
+-- how many of these datagrams a stream receives so
+abbrev pub received_as : (Reception → Bool) → Stream → List (List ℕ) → ℕ
+received_as test stream datagrams = count_by (λ octets. test (reception_of stream octets)) datagrams
+
 -- the stream's packets among the datagrams before the end, so many faults having come in a row
-unfoldable pub told_packets : Stream → ℕ → List Answer → List Packet
-told_packets stream faults [] = []
-told_packets stream faults (Gives octets ∷ told) = packets_of stream octets ++ told_packets stream 0 told
-told_packets stream faults (Waits ∷ told) = told_packets stream 0 told
-told_packets stream faults (Fails ∷ told) = if nat_eq faults 999 then [] else told_packets stream (faults + 1) told
-told_packets stream faults (Stops ∷ told) = []
+abbrev pub told_packets : Stream → ℕ → List Answer → List Packet
+told_packets stream faults told = packets_in stream (told_datagrams faults told)
 
 -- some of the packets, in their order
 unfoldable pub IsPartOf : List Packet → List Packet → Type 0
 IsPartOf some [] = some ≡ []
 IsPartOf some (packet ∷ packets) = IsPartOf some packets ⊎ ((rest : List Packet) × (some ≡ packet ∷ rest) × IsPartOf rest packets)
+
+-- each datagram that is no packet of the stream was counted once, by what it is
+pub record CountsOthers (stream : Stream) (datagrams : List (List ℕ)) (before after : PathTally) : Type 0 where
+  pub bad : after.bad ≡ before.bad + received_as is_bad stream datagrams
+  pub wrong_type : after.wrong_type ≡ before.wrong_type + received_as is_wrong_type stream datagrams
+  pub wrong_length : after.wrong_length ≡ before.wrong_length + received_as is_wrong_length stream datagrams

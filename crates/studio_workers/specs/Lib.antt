@@ -5,6 +5,7 @@ pub mod Runs
 pub mod Streams
 pub mod Jobs
 pub mod Balances
+pub mod Sinks
 pub mod Mixing
 pub mod Settling
 pub mod Settled
@@ -14,6 +15,7 @@ pub use Rattle.stream_rules.specs.Marks
 pub use Rattle.stream_rules.specs.Counts
 pub use Rattle.studio_spec.specs.Studio
 pub use Rattle.studio_mix.specs.Feed
-pub use Rattle.studio_session.specs.Session
-pub use Rattle.studio_session.specs.Blocks
+pub use Rattle.stream_rules.specs.Reception
+pub use Rattle.stream_rules.specs.PathCounts
+pub use Rattle.studio_mix.specs.Blocks
 pub use Rattle.studio_rings.specs.Opened

@@ -1,5 +1,5 @@
 -- What a run's report says of the streams' histories and of the datagrams.
-use Rattle.std.specs.Prelude.{◌≡◌, ℕ, suc, ◌<◌, ◌≤◌, ◌^◌, true, List, [], ◌∷◌, ◌++◌, length, sum_by, ℤ, Option, Some, IfSome}
+use Rattle.std.specs.Prelude.{◌≡◌, ℕ, suc, ◌-◌, ◌*◌, ◌<◌, ◌≤◌, ◌^◌, true, List, [], ◌∷◌, ◌++◌, length, sum_by, ℤ, Option}
 use Rattle.stream_rules.specs.declared.stream_spec.Stream.{Stream}
 use Rattle.stream_rules.specs.History.{is_closed, is_well_timed}
 use Rattle.stream_rules.specs.Marks.{marks_of}
@@ -7,17 +7,22 @@ use Rattle.stream_rules.specs.Counts.{counts_of, tally_of}
 use Rattle.stream_rules.specs.declared.event.Event.{Event}
 use Rattle.studio_spec.specs.Studio.{Studio}
 use Rattle.studio_mix.specs.Feed.{Feed}
-use Rattle.studio_session.specs.Blocks.{AreBlocks}
-use Rattle.studio_session.specs.declared.counts.PathCounts.{PathCounts}
-use Rattle.studio_session.specs.declared.report.StreamCounts.{StreamCounts}
+use Rattle.studio_mix.specs.Blocks.{AreBlocks}
+use Rattle.stream_rules.specs.PathCounts.{empty_path_tally, path_tally_of}
+use Rattle.stream_rules.specs.declared.path_counts.PathCounts.{PathCounts}
+use Rattle.stream_rules.specs.declared.stream_counts.StreamCounts.{StreamCounts}
 use Rattle.studio_rings.specs.Streams.{packets_by}
-use Rattle.studio_workers.specs.Answers.{Answer, IsPartOf, reaches_end, told_packets}
+use Rattle.studio_workers.specs.Answers.{Answer, CountsOthers, IsPartOf, reaches_end, told_datagrams, told_packets}
+use Rattle.studio_workers.specs.Sinks.{Hands}
 use Rattle.studio_workers.specs.declared.report.WorkReport.{WorkReport}
 
--- the arrivals of a path are packets of its feed's datagrams, in order, each at most once; and all of them where at most 1,000 offers found no room
+-- the arrivals of a path are packets of its feed's datagrams, in order, each at most once, and all of them where at most 1,000 offers found no room; for each that is lacking 1,001 offers found none, and each other datagram was counted once
 pub record HasPathHistory (stream : Stream) (path : ℕ) (told : List Answer) (counts : PathCounts) (events : List Event) : Type 0 where
+  pub sent : counts.sent ≡ length (packets_by path events)
   pub some : reaches_end 0 told ≡ true → IsPartOf (packets_by path events) (told_packets stream 0 told)
   pub all : reaches_end 0 told ≡ true → counts.full ≤ 1000 → counts.offered < 2 ^ 62 → packets_by path events ≡ told_packets stream 0 told
+  pub lacking : reaches_end 0 told ≡ true → counts.offered < 2 ^ 62 → (length (told_packets stream 0 told) - length (packets_by path events)) * 1001 ≤ counts.full
+  pub others : reaches_end 0 told ≡ true → counts.offered < 2 ^ 62 → CountsOthers stream (told_datagrams 0 told) empty_path_tally (path_tally_of counts)
 
 -- so it is of each path, from this one on
 abbrev pub HavePathHistories : Stream → ℕ → List (List Answer) → List PathCounts → List Event → Type 0
@@ -55,11 +60,11 @@ feeds_of open_at [] histories = []
 feeds_of open_at (stream ∷ streams) [] = []
 feeds_of open_at (stream ∷ streams) (events ∷ histories) = record { stream = stream; marks = marks_of stream open_at events } ∷ feeds_of open_at streams histories
 
--- what a settled run came to: each stream has a whole history, and the sink was handed the datagrams of exactly the ready blocks of their marks, in order
+-- what a settled run came to: each stream has a whole history, and a sink that tells at the end was handed the datagrams of exactly the ready blocks of their marks, in order
 pub record IsSettledRun (studio : Studio) (told : List (List Answer)) (report : WorkReport) (before after : Option (List (List ℕ))) : Type 0 where
   pub histories : List (List Event)
   pub streams : HaveStreamHistories studio.open_at studio.streams told report.streams.items histories
   pub datagrams : List (List ℕ)
   pub blocks : AreBlocks studio (feeds_of studio.open_at studio.streams histories) datagrams
-  pub count : report.blocks ≡ length datagrams
-  pub handed : IfSome before (λ sent. after ≡ Some (sent ++ datagrams))
+  pub count : length datagrams < 2 ^ 64 → report.blocks ≡ length datagrams
+  pub handed : Hands before datagrams after

@@ -1,12 +1,12 @@
 -- What the results of all streams come to.
-use Rattle.std.specs.Prelude.{ℕ, List, [], map, Option}
+use Rattle.std.specs.Prelude.{ℕ, List, [], map, vec_len, sum_by, Option}
 use Rattle.studio_spec.specs.Studio.{Studio}
 use Rattle.studio_rings.specs.Given.{HasGiven}
 use Rattle.studio_rings.specs.Opened.{AllFreshRings, AllFreshStreams}
 use Rattle.studio_rings.specs.declared.ends.Ends.{Ends}
 use Rattle.studio_rings.specs.declared.monitor_end.MonitorEnd.{MonitorEnd}
 use Rattle.studio_rings.specs.declared.stream.StreamDone.{StreamDone}
-use Rattle.studio_session.specs.declared.report.StreamCounts.{StreamCounts}
+use Rattle.stream_rules.specs.declared.stream_counts.StreamCounts.{StreamCounts}
 use Rattle.studio_workers.specs.declared.stream_job.StreamResult.{StreamResult}
 
 -- the ends were opened together, and nothing was done with them; the monitors' may be elsewhere
@@ -21,3 +21,7 @@ dones_in results = map (λ (result : StreamResult). result.done) results
 
 abbrev pub counts_in : List StreamResult → List StreamCounts
 counts_in results = map (λ (result : StreamResult). result.counts) results
+
+-- how many numbers of faults there are
+abbrev pub fault_numbers : List StreamResult → ℕ
+fault_numbers results = sum_by (λ (result : StreamResult). vec_len result.faults) results

@@ -1,6 +1,6 @@
 -- The tokens of the streams at the mixer's end, and what follows once it is settled.
-use Rattle.std.specs.Prelude.{◌≡◌, true, List, [], ◌∷◌, map, Option, Some, None, IfSome, IsSome}
-use Rattle.rtrb.specs.Ring.{all_sent, IsFinishedOf}
+use Rattle.std.specs.Prelude.{◌≡◌, true, List, [], ◌∷◌, map, Option, Some, None, IfSome, IsSome, IsSomeAnd}
+use Rattle.rtrb.specs.Ring.{all_sent, received, IsFinishedOf}
 use Rattle.stream_rules.specs.StreamSpecFacts.{format_of}
 use Rattle.stream_rules.specs.MarkFacts.{MarkView}
 use Rattle.stream_rules.specs.MarkList.{is_mark_list}
@@ -33,6 +33,13 @@ HaveTokens (one ∷ dones) (old ∷ olds) [] = ⊥
 abbrev pub AllGiveTokens : List (Option StreamDone) → Type 0
 AllGiveTokens [] = Unit {0}
 AllGiveTokens (one ∷ dones) = IsSome one × AllGiveTokens dones
+
+-- each stream gave a token, and all that it tells came
+abbrev pub AreAllDrained : List (Option StreamDone) → List (Side MarkView) → Type 0
+AreAllDrained [] [] = Unit {0}
+AreAllDrained (one ∷ dones) (side ∷ sides) = IsSomeAnd one (λ d. received side.ring ≡ all_sent d.token) × AreAllDrained dones sides
+AreAllDrained [] (side ∷ sides) = ⊥
+AreAllDrained (one ∷ dones) [] = ⊥
 
 -- each token tells the marks of its feed, and they are a mark list
 abbrev pub AllTellMarks : List (Option StreamDone) → List Feed → Type 0

@@ -34,9 +34,9 @@ abbrev pub told_by : PathResult → List Packet
 told_by result = all_told result.done
 
 -- each path gave its token
-abbrev pub HaveTokens : List PathResult → Type 0
-HaveTokens [] = Unit {0}
-HaveTokens (result ∷ results) = IsSome result.done × HaveTokens results
+abbrev pub PathsGiveTokens : List PathResult → Type 0
+PathsGiveTokens [] = Unit {0}
+PathsGiveTokens (result ∷ results) = IsSome result.done × PathsGiveTokens results
 
 -- each token is that of the ring at its place
 abbrev pub AllTokensFit : List PathResult → List (Side Packet) → Type 0
@@ -67,8 +67,9 @@ pub record HasEnded (stream : Stream) (open_at : ℤ) (lists : List (List Packet
 -- a stream came to its end, where its paths came to these results; without a token nothing is said
 pub record EndsStream (s : StreamEnd) (results : List PathResult) (result : StreamResult) : Type 0 where
   pub paths : result.counts.paths.items ≡ map (λ (r : PathResult). r.counts) results
+  pub faults : vec_len result.faults ≡ length results
   pub token : IfSome result.done (λ done. SameRing s.marks.end done.token.end)
-  pub given : IfSome result.done (λ done. HaveTokens results)
+  pub given : IfSome result.done (λ done. PathsGiveTokens results)
   pub ended : IfSome result.done (λ done. (stream : Stream) (open_at : ℤ) (events : List Event) → StreamHasHistory stream open_at s events
       → HasEnded stream open_at (map told_by results) result (all_sent done.token))
 
@@ -111,8 +112,9 @@ module _ {F C : Type 0} where
   AllReady [] = Unit {0}
   AllReady (job ∷ jobs) = IsReady job × AllReady jobs
 
-  -- what a stream's worker came to: the token of its end, which tells all marks of a whole history
+  -- what a stream's worker came to: a number of faults for each path, and the token of its end, which tells all marks of a whole history
   pub record IsStreamResult (told : F → List Answer) (job : StreamJob F C) (result : StreamResult) : Type 0 where
+    pub faults : vec_len result.faults ≡ length job.paths.items
     pub token : IfSome result.done (λ done. SameRing job.end.marks.end done.token.end)
     pub history : IfSome result.done (λ done. (stream : Stream) (open_at : ℤ) (places : ℕ) → IsFreshStream open_at places stream (ends_of job.paths.items) job.end
         → HasMarks open_at stream (told_of told job.paths.items) result (all_sent done.token))

@@ -1,5 +1,5 @@
 //! The worker of the mixer.
-ghost use Rattle.std.specs.Prelude.{◌≡◌, ◌+◌, ◌<◌, ◌≤◌, true};
+ghost use Rattle.std.specs.Prelude.{true};
 ghost use Rattle.studio_workers.specs.Mixing.{Mixes};
 
 use crate::pause::Pause;
@@ -26,9 +26,7 @@ pub(crate) struct MixResult<K> {
 /// One turn of the mixer. The datagram that it gives goes to the sink, once. It answers whether
 /// nothing was taken and nothing given.
 fn mix_once<K: Sink>(end: &mut MixEnd, sink: &mut K, counts: &mut SendCounts) -> bool
-    requires { counts.old.blocks < u64.MAX }
-    ensures few { counts.new.blocks ≤ counts.old.blocks + 1 }
-    ensures mixes { Mixes K.handed end.old sink.old counts.old.blocks result end.new sink.new counts.new.blocks }
+    ensures { Mixes K.handed end.old sink.old counts.old.blocks result end.new sink.new counts.new.blocks }
 {
     let mut out = [0u8; 1452];
     let len = end.datagram_len();
@@ -55,7 +53,7 @@ pub(crate) fn run_mixer<R: Wait, K: Sink>(
     let mut sink = sink;
     let mut counts = SendCounts::new();
     let mut pause = Pause::between(FIRST_PAUSE, LONGEST_PAUSE);
-    for _ in 0..u64::MAX {
+    for _ in rt.forever() {
         let last = stop.load(Ordering::SeqCst)
             || ended.iter().all(|flag| flag.load(Ordering::SeqCst));
         if !mix_once(&mut end, &mut sink, &mut counts) {
@@ -65,10 +63,6 @@ pub(crate) fn run_mixer<R: Wait, K: Sink>(
         if last {
             return MixResult { end, sink, counts };
         }
-        pause.rest(rt);
-    }
-    // No run makes so many turns.
-    for _ in rt.forever() {
         pause.rest(rt);
     }
     unreachable!()

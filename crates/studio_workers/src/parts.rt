@@ -1,11 +1,11 @@
 //! What the streams' workers came to, in the parts of a report.
 ghost use Rattle.std.specs.Prelude.{◌≡◌, ◌≤◌, map, vec_len, vec_capacity, IfOk};
-ghost use Rattle.studio_workers.specs.Settled.{counts_in, dones_in};
+ghost use Rattle.studio_workers.specs.Settled.{counts_in, dones_in, fault_numbers};
 
 use crate::stream_job::StreamResult;
 use std::alloc::{AllocError, Global};
+use stream_rules::StreamCounts;
 use studio_rings::StreamDone;
-use studio_session::StreamCounts;
 
 /// The tokens of the streams, their counts, and the number of each feed's faults.
 #[derive(Drop)]
@@ -23,6 +23,7 @@ pub(crate) fn room_for_parts(
 ) -> Result<Parts, AllocError>
     ensures dones { IfOk result (λ parts. (vec_len parts.dones ≡ 0) × (streams ≤ vec_capacity parts.dones)) }
     ensures streams { IfOk result (λ parts. (vec_len parts.streams ≡ 0) × (streams ≤ vec_capacity parts.streams)) }
+    ensures feeds { IfOk result (λ parts. (vec_len parts.feed_faults ≡ 0) × (feeds ≤ vec_capacity parts.feed_faults)) }
 {
     let dones = Vec::with_capacity(alloc, streams)?;
     let counts = Vec::with_capacity(alloc, streams)?;
@@ -35,11 +36,13 @@ pub(crate) fn room_for_parts(
 }
 
 /// Takes the results apart. The room for all was taken before, so nothing grows.
-pub(crate) fn take_apart(results: Vec<StreamResult>, parts: Parts) -> Result<Parts, AllocError>
+pub(crate) fn take_apart(results: Vec<StreamResult>, parts: Parts) -> Parts
     requires dones { (vec_len parts.dones ≡ 0) × (vec_len results ≤ vec_capacity parts.dones) }
     requires streams { (vec_len parts.streams ≡ 0) × (vec_len results ≤ vec_capacity parts.streams) }
-    ensures dones { IfOk result (λ r. r.dones.items ≡ dones_in results.items) }
-    ensures streams { IfOk result (λ r. r.streams.items ≡ counts_in results.items) }
+    requires faults { (vec_len parts.feed_faults ≡ 0) × (fault_numbers results.items ≤ vec_capacity parts.feed_faults) }
+    ensures dones { result.dones.items ≡ dones_in results.items }
+    ensures streams { result.streams.items ≡ counts_in results.items }
+    ensures faults { vec_len result.feed_faults ≡ fault_numbers results.items }
 {
     let Parts {
         mut dones,
@@ -54,11 +57,13 @@ pub(crate) fn take_apart(results: Vec<StreamResult>, parts: Parts) -> Result<Par
         } = result;
         dones.push_reserved(done);
         streams.push_reserved(counts);
-        feed_faults.append(&mut faults)?;
+        let Ok(()) = feed_faults.append(&mut faults) else {
+            unreachable!();
+        };
     }
-    Ok(Parts {
+    Parts {
         dones,
         streams,
         feed_faults,
-    })
+    }
 }

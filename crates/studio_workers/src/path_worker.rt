@@ -15,6 +15,10 @@ use studio_rings::{Offer, PathEnd};
 /// The longest pause after a feed had nothing, in microseconds.
 const FEED_PAUSE: u64 = 10_000;
 
+/// The longest pause after a feed failed, in microseconds: a datagram may lie behind the fault. 1,000 of
+/// them are two seconds.
+const FAULT_PAUSE: u64 = 2_000;
+
 /// The pause between two tries at a full ring, in microseconds. 1,000 of them are far longer than a
 /// stream's longest.
 const FULL_PAUSE: u64 = 200;
@@ -68,6 +72,13 @@ fn leave_early(end: PathEnd, faults: u64, ended: &AtomicBool) -> PathResult
     }
 }
 
+/// Rests after a feed had nothing, unless the feed has waited by itself.
+fn rest_for<R: Wait, F: Feed>(rt: &R, feed: &F, pause: &mut Pause) {
+    if !feed.waits() {
+        pause.rest(rt);
+    }
+}
+
 /// Sends what the feed gives until it ends, or until the workers are to stop.
 fn run_feed<R: Wait, F: Feed>(
     rt: &R,
@@ -84,6 +95,7 @@ fn run_feed<R: Wait, F: Feed>(
     let mut end = end;
     let mut feed = feed;
     let mut pause = Pause::up_to(FEED_PAUSE);
+    let mut fault_pause = Pause::up_to(FAULT_PAUSE);
     let mut buf = [0u8; 2048];
     let mut in_a_row = 0u32;
     let mut faults = 0u64;
@@ -101,7 +113,7 @@ fn run_feed<R: Wait, F: Feed>(
             }
             FeedAnswer::Nothing => {
                 in_a_row = 0;
-                pause.rest(rt);
+                rest_for(rt, &feed, &mut pause);
             }
             FeedAnswer::Fault => {
                 faults = faults.saturating_add(1);
@@ -109,6 +121,7 @@ fn run_feed<R: Wait, F: Feed>(
                     return leave(end, faults, ended);
                 }
                 in_a_row += 1;
+                fault_pause.rest(rt);
             }
             FeedAnswer::Ended => return leave(end, faults, ended),
         }

@@ -1,7 +1,7 @@
 //! What came of a run.
 
 use std::alloc::AllocError;
-use studio_session::StreamCounts;
+use stream_rules::StreamCounts;
 use thiserror::Error;
 
 /// What came of a run: the counts of each stream, the faults of each feed, and the datagrams by what
@@ -18,7 +18,8 @@ pub struct WorkReport {
     pub sent_b: u64,
     pub fault_a: u64,
     pub fault_b: u64,
-    /// Every ring was finished and drained.
+    /// Every ring was finished and drained. True exactly where each stream gave its token, and all the
+    /// marks that it tells came to the mixer.
     pub settled: bool,
 }
 

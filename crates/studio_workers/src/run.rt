@@ -1,16 +1,16 @@
 //! The workers of a studio.
-ghost use Rattle.std.specs.Prelude.{◌≡◌, ◌≤◌, ℕ, ℤ, List, true, map, length, vec_len, vec_capacity, IfOk};
+ghost use Rattle.std.specs.Prelude.{◌≡◌, ◌≤◌, ◌↔◌, ℕ, ℤ, List, IsTrue, true, map, length, vec_len, vec_capacity, IfOk};
 ghost use Rattle.stream_rules.specs.declared.stream_spec.Stream.{Stream};
 ghost use Rattle.studio_spec.specs.Studio.{IsStudio, Studio};
 ghost use Rattle.studio_mix.specs.Feed.{Feed as FeedMarks};
-ghost use Rattle.studio_session.specs.Blocks.{AreBlocks};
+ghost use Rattle.studio_mix.specs.Blocks.{AreBlocks};
 ghost use Rattle.studio_rings.specs.Given.{AreAllGiven};
 ghost use Rattle.studio_rings.specs.Opened.{AllFreshStreams};
 ghost use Rattle.studio_workers.specs.Balances.{Balances};
 ghost use Rattle.studio_workers.specs.Jobs.{AreJobsOf, HaveRoom};
 ghost use Rattle.studio_workers.specs.Runs.{IsSettledRun};
 ghost use Rattle.studio_workers.specs.Settled.{AreOpenedTogether};
-ghost use Rattle.studio_workers.specs.Settling.{AllGiveTokens, AreTokensOf, AreTold};
+ghost use Rattle.studio_workers.specs.Settling.{AllGiveTokens, AreAllDrained, AreTokensOf, AreTold};
 
 use crate::clock::Clock;
 use crate::feed::Feed;
@@ -53,6 +53,7 @@ fn take_memory<F: Drop, C: Drop>(
     ensures ended { IfOk result (λ m. vec_len m.ended ≡ vec_len m.jobs) }
     ensures dones { IfOk result (λ m. (vec_len m.parts.dones ≡ 0) × (vec_len m.jobs ≤ vec_capacity m.parts.dones)) }
     ensures counts { IfOk result (λ m. (vec_len m.parts.streams ≡ 0) × (vec_len m.jobs ≤ vec_capacity m.parts.streams)) }
+    ensures faults { IfOk result (λ m. (vec_len m.parts.feed_faults ≡ 0) × (vec_len feeds ≤ vec_capacity m.parts.feed_faults)) }
 {
     let count = streams.len();
     let parts = room_for_parts(alloc, count, feeds.len())?;
@@ -72,8 +73,10 @@ fn report<K: Drop>(mixed: MixResult<K>, parts: Parts) -> (WorkReport, K)
     requires tokens { AreTokensOf parts.dones.items mixed.end.sides.items }
     ensures balance { Balances result.0.blocks result.0.sent_a result.0.fault_a result.0.sent_b result.0.fault_b }
     ensures streams { result.0.streams ≡ parts.streams }
+    ensures faults { result.0.feed_faults ≡ parts.feed_faults }
     ensures blocks { result.0.blocks ≡ mixed.counts.blocks }
     ensures sink { result.1 ≡ mixed.sink }
+    ensures exactly { IsTrue result.0.settled ↔ AreAllDrained parts.dones.items mixed.end.sides.items }
     ensures given { result.0.settled ≡ true → AllGiveTokens parts.dones.items }
     ensures settled { result.0.settled ≡ true → (studio : Studio) (feeds : List FeedMarks) (datagrams : List (List ℕ)) → AreTold studio parts.dones.items feeds
         → AreAllGiven studio mixed.end datagrams → AreBlocks studio feeds datagrams }
@@ -116,6 +119,7 @@ pub fn run_workers<R: Threads + Wait + Sync, F: Feed + Send, C: Clock + Send, K:
     requires feeds { length feeds.items ≡ length ends.paths.items }
     requires clocks { length clocks.items ≡ length ends.streams.items }
     ensures balance { IfOk result (λ r. Balances r.0.blocks r.0.sent_a r.0.fault_a r.0.sent_b r.0.fault_b) }
+    ensures faults { IfOk result (λ r. length r.0.feed_faults.items ≡ length feeds.items) }
     ensures settled { IfOk result (λ r. r.0.settled ≡ true → (studio : Studio) (places : ℕ) → AreOpenedTogether studio places ends
         → IsSettledRun studio (map F.told feeds.items) r.0 (K.handed sink) (K.handed r.1)) }
 {
@@ -136,6 +140,6 @@ pub fn run_workers<R: Threads + Wait + Sync, F: Feed + Send, C: Clock + Send, K:
     let Ok((results, mixed)) = run_streams(rt, jobs, results, mix, sink, &ended, &stop) else {
         return Err(WorkFault::Start);
     };
-    let parts = take_apart(results, parts)?;
+    let parts = take_apart(results, parts);
     Ok(report(mixed, parts))
 }

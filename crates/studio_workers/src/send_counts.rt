@@ -1,5 +1,5 @@
 //! Datagrams by what became of them at a sink's two addresses.
-ghost use Rattle.std.specs.Prelude.{◌≡◌, ◌+◌, ◌<◌};
+ghost use Rattle.std.specs.Prelude.{◌≡◌, ◌+◌, ◌<◌, ◌^◌};
 
 use crate::sink::SendAnswer;
 
@@ -30,11 +30,13 @@ impl SendCounts {
         }
     }
 
-    /// Counts one more.
+    /// Counts one more. After as many as there are numbers it counts no further.
     pub(crate) fn add(&mut self, answer: SendAnswer)
-        requires { self.old.blocks < u64.MAX }
-        ensures { self.new.blocks ≡ self.old.blocks + 1 }
+        ensures { self.old.blocks + 1 < 2 ^ 64 → self.new.blocks ≡ self.old.blocks + 1 }
     {
+        if self.blocks == u64::MAX {
+            return;
+        }
         if answer.a {
             self.sent_a += 1;
         } else {

@@ -1,10 +1,10 @@
 //! The end of the mixer's end: the tokens of all streams, and whether that is all.
-ghost use Rattle.std.specs.Prelude.{◌≡◌, ℕ, List, true, vec_len};
+ghost use Rattle.std.specs.Prelude.{◌≡◌, ◌↔◌, ℕ, List, IsTrue, true, vec_len};
 ghost use Rattle.studio_spec.specs.Studio.{Studio};
 ghost use Rattle.studio_mix.specs.Feed.{Feed};
-ghost use Rattle.studio_session.specs.Blocks.{AreBlocks};
+ghost use Rattle.studio_mix.specs.Blocks.{AreBlocks};
 ghost use Rattle.studio_rings.specs.Given.{AreAllGiven};
-ghost use Rattle.studio_workers.specs.Settling.{AllGiveTokens, AreTokensOf, AreTold, HaveTokens};
+ghost use Rattle.studio_workers.specs.Settling.{AllGiveTokens, AreAllDrained, AreTokensOf, AreTold, HaveTokens};
 
 use studio_rings::{MixEnd, StreamDone};
 
@@ -26,6 +26,7 @@ fn hand_in_all(end: &mut MixEnd, dones: Vec<Option<StreamDone>>)
 /// Whether all streams have finished, and all their marks were taken.
 pub(crate) fn settle(end: MixEnd, dones: Vec<Option<StreamDone>>) -> bool
     requires { AreTokensOf dones.items end.sides.items }
+    ensures exactly { IsTrue result ↔ AreAllDrained dones.items end.sides.items }
     ensures tokens { result ≡ true → AllGiveTokens dones.items }
     ensures blocks { result ≡ true → (studio : Studio) (feeds : List Feed) (datagrams : List (List ℕ)) → AreTold studio dones.items feeds
         → AreAllGiven studio end datagrams → AreBlocks studio feeds datagrams }

@@ -1,5 +1,6 @@
 //! Where datagrams go.
-ghost use Rattle.std.specs.Prelude.{◌≡◌, List, ℕ, [], ◌∷◌, ◌++◌, Option, Some, IfSome};
+ghost use Rattle.std.specs.Prelude.{List, ℕ, [], ◌∷◌, Option};
+ghost use Rattle.studio_workers.specs.Sinks.{Hands};
 
 /// Which of the two addresses took a datagram.
 #[derive(Clone, Copy, PartialEq, Eq, Debug)]
@@ -10,9 +11,10 @@ pub struct SendAnswer {
 
 /// Takes datagrams, each for two addresses. `send` doesn't wait.
 pub trait Sink: Drop {
-    /// All that the sink was handed, in order, where it tells.
+    /// All that the sink was handed, in order, where it tells. One that has stopped never tells again.
     ghost handed: { Self → Option (List (List ℕ)) };
 
+    /// Hands on one datagram, and answers which of the addresses took it.
     fn send(&mut self, datagram: &[u8]) -> SendAnswer
-        ensures handed { IfSome (handed self.old) (λ before. handed self.new ≡ Some (before ++ datagram.now ∷ [])) };
+        ensures handed { Hands (handed self.old) (datagram.now ∷ []) (handed self.new) };
 }

@@ -2,8 +2,8 @@
 
 use crate::path_job::{PathJob, PathResult};
 use std::sync::atomic::AtomicBool;
+use stream_rules::{PathCounts, StreamCounts};
 use studio_rings::{StreamDone, StreamEnd};
-use studio_session::{PathCounts, StreamCounts};
 
 /// A stream's end with its clock, its paths, and all the memory that their workers need.
 #[derive(Drop)]

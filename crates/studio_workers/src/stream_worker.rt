@@ -1,6 +1,6 @@
 //! The worker of a stream.
-ghost use Rattle.std.specs.Prelude.{◌≡◌, ◌≤◌, map, vec_len, vec_capacity, true, IfOk};
-ghost use Rattle.studio_workers.specs.Streams.{AllTokensFit, EndsStream, FitsAt, HandsOne, HaveTokens, IsReady, IsStreamResult, told_by};
+ghost use Rattle.std.specs.Prelude.{◌≡◌, ◌≤◌, map, length, vec_len, vec_capacity, true, IfOk};
+ghost use Rattle.studio_workers.specs.Streams.{AllTokensFit, EndsStream, FitsAt, HandsOne, PathsGiveTokens, IsReady, IsStreamResult, told_by};
 ghost use Rattle.studio_workers.specs.Turns.{ClosesLater, Drains, GoesOn, HaveTold};
 
 use crate::clock::Clock;
@@ -13,8 +13,8 @@ use crate::timed_stream::TimedStream;
 use std::sync::Wait;
 use std::sync::atomic::{AtomicBool, Ordering};
 use std::thread::Threads;
+use stream_rules::{PathCounts, StreamCounts};
 use studio_rings::{PathDone, StreamEnd};
-use studio_session::{PathCounts, StreamCounts};
 
 /// The longest pause at a full ring of marks, in microseconds.
 const DRAIN_PAUSE: u64 = 2_000;
@@ -46,9 +46,10 @@ fn hand_in<C: Clock>(
     requires counts { (vec_len counts.old ≡ 0) × (vec_len results ≤ vec_capacity counts.old) }
     requires faults { (vec_len faults.old ≡ 0) × (vec_len results ≤ vec_capacity faults.old) }
     ensures later { GoesOn stream.old.end stream.new.end }
-    ensures given { result ≡ true → HaveTokens results.items }
+    ensures given { result ≡ true → PathsGiveTokens results.items }
     ensures told { result ≡ true → HaveTold stream.new.end.sides.items (map told_by results.items) }
     ensures counts { counts.new.items ≡ map (λ (r : PathResult). r.counts) results.items }
+    ensures faults { vec_len faults.new ≡ length results.items }
 {
     let mut place = 0usize;
     let mut all = true;

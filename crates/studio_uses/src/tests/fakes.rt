@@ -6,11 +6,10 @@ use std::alloc::Global;
 use std::process::Abort;
 use studio_workers::{Feed, FeedAnswer, SendAnswer, Sink};
 
-/// Fails so often before each answer.
+/// Fails so often before its first answer, and once before each later one.
 #[derive(Drop)]
 pub(super) struct FaultyFeed<'a> {
     feed: MemoryFeed<'a>,
-    in_a_row: u32,
     left: u32,
 }
 
@@ -18,7 +17,6 @@ impl<'a> FaultyFeed<'a> {
     pub(super) fn new(in_a_row: u32, datagrams: &'a [Vec<u8>]) -> FaultyFeed<'a> {
         FaultyFeed {
             feed: MemoryFeed::new(datagrams),
-            in_a_row,
             left: in_a_row,
         }
     }
@@ -32,7 +30,7 @@ impl<'a> Feed for FaultyFeed<'a> {
             self.left -= 1;
             return FeedAnswer::Fault;
         }
-        self.left = self.in_a_row;
+        self.left = 1;
         self.feed.next(buf)
     }
 }

@@ -1,7 +1,13 @@
 use Rattle.std.proofs.Common.{sym, subst}
-use Rattle.studio_session.specs.Blocks.{AreBlocks}
-use Rattle.studio_workers.proofs.SettlingLemmas.{all-gave, all-tell, feeds-settled}
+use Rattle.studio_mix.specs.Blocks.{AreBlocks}
+use Rattle.studio_workers.proofs.SettlingLemmas.{all-gave, all-tell, drained-exactly, feeds-settled}
 use Rattle.studio_workers.proofs.settle.settle.Goals as goal
+
+pub returns-clause-exactly : goal.returns-clause-exactly
+returns-clause-exactly c =
+    let looked = drained-exactly _ _ _ _ c.requires c.hand_in_all.ensures.sides c.settled.ensures.rings in
+    let value = c.settled.ensures.value in
+    (λ e. looked.0 (value.0 e), λ all. value.1 (looked.1 all))
 
 pub returns-clause-tokens : goal.returns-clause-tokens
 returns-clause-tokens c = λ e. all-gave _ _ _ _ c.requires c.hand_in_all.ensures.sides c.settled.ensures.rings (c.settled.ensures.value.0 e)

@@ -19,6 +19,7 @@ returns g c =
     let token : IfSome c.finish-done-2.result.0 (λ (d : StreamDone). Finishes v.marks d.token) = c.finish-done-2.ensures.token in
     record {
       paths = c.hand_in.ensures.counts;
+      faults = c.hand_in.ensures.faults;
       token = IfSome_then _ token (λ (d : StreamDone) (a : Finishes v.marks d.token). same_token s.marks v.marks d.token marks a.0);
       given = IfSome_then _ token (λ (d : StreamDone) (a : Finishes v.marks d.token). c.hand_in.ensures.given c.if-not-hand_in.false);
       ended = IfSome_then _ token (λ (d : StreamDone) (a : Finishes v.marks d.token). ended s t u v c.args.results.items _ _ later (c.hand_in.ensures.told c.if-not-hand_in.false) closes drains c.finish-done-2.ensures.counts a.1);

@@ -74,3 +74,13 @@ returns-clause-told g c =
     let ok = c.args.results.ok.0 in
     let all : at.yielded ≡ c.args.results.items = whole_front at.yielded _ c.args.results.items (at.invariant.items ∙ c.into_iter-result-iterator.ensures.into_iter_gives.0) (omega (arith, none, left, place, len, ok)) in
     λ whole. (handed-result at.all at.yielded c.args.results.items _ _ all whole c.requires.tokens at.invariant.handed).1
+
+pub returns-clause-faults : goal.returns-clause-faults
+returns-clause-faults g c =
+    let at = c.loop-result in
+    let none = c.in-None.ensures.steps.0 in
+    let left = at.invariant.left in
+    let faults = at.invariant.faults in
+    let len = c.into_iter-result-iterator.ensures.into_iter_gives.1 in
+    let ok = c.args.results.ok.0 in
+    omega (arith, none, left, faults, len, ok)
