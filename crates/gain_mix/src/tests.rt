@@ -25,6 +25,7 @@ fn mix(rt: &impl Abort, matrix: &Matrix, ins: &[i32], outs: &mut [i32], frames: 
     mix_block(matrix, ins, outs, frames, shift);
 }
 
+/// The table of sums in MIXING.md: halves go up, and the sum alone is limited.
 #[test]
 fn rounds_half_up_and_saturates_once(rt: HostRuntime) -> Result<(), Fail> {
     let rows: [([i32; 3], [i32; 3], u32, i32); 9] = [
@@ -51,6 +52,7 @@ fn rounds_half_up_and_saturates_once(rt: HostRuntime) -> Result<(), Fail> {
     Ok(())
 }
 
+/// The table of frames in MIXING.md: each output by its own row of gains.
 #[test]
 fn gains_mix_inputs_by_row(rt: HostRuntime) -> Result<(), Fail> {
     let matrix = Matrix::new(rt.alloc(), 2, 2, &[65_536, 0, 32_768, -32_768])?;
@@ -70,6 +72,7 @@ fn gains_mix_inputs_by_row(rt: HostRuntime) -> Result<(), Fail> {
     Ok(())
 }
 
+/// 1,024 inputs at both limits and the greatest gain: the sum is limited, or 0 with half the gains negated.
 #[test]
 fn sums_of_1024_inputs(rt: HostRuntime) -> Result<(), Fail> {
     let ins = [-8_388_608; 1024];
@@ -92,6 +95,7 @@ fn matrix_fault(alloc: Global, outs: usize, ins: usize, gains: &[i32]) -> Option
     Matrix::new(alloc, outs, ins, gains).err()
 }
 
+/// Each limit of a matrix from both sides: `Shape` before `Range`.
 #[test]
 fn matrix_faults(rt: HostRuntime) {
     let gains = [0; 9225];
@@ -170,6 +174,7 @@ fn fault_of_many(
     Ok(Schedule::new(even_matrix(alloc, 2, 3, 0)?, later).err())
 }
 
+/// Each limit of a schedule from both sides: `Shape`, `Time`, `Order`, and 65 changes.
 #[test]
 fn schedule_faults(rt: HostRuntime) -> Result<(), Fail> {
     let last = 1 << 60;
@@ -208,6 +213,7 @@ fn schedule_faults(rt: HostRuntime) -> Result<(), Fail> {
     Ok(())
 }
 
+/// The table of changes in MIXING.md: each takes effect at its own instant, within a span.
 #[test]
 fn gains_change_within_a_span(rt: HostRuntime) -> Result<(), Fail> {
     let mut later = Vec::new(rt.alloc());
@@ -256,6 +262,7 @@ fn plain_sample(gains: &[i32], ins: &[i32], shift: u32) -> i128 {
         .clamp(-limit, limit - 1)
 }
 
+/// Nine shapes and both shifts, with numbers like chance, give the sum, half, division and limit of the definition.
 #[test]
 fn the_kernel_and_the_plain_form_agree(rt: HostRuntime) -> Result<(), Fail> {
     let shapes = [
@@ -298,6 +305,7 @@ fn the_kernel_and_the_plain_form_agree(rt: HostRuntime) -> Result<(), Fail> {
     Ok(())
 }
 
+/// A matrix, made twice with any one allocation refused: want of memory at most once.
 #[test]
 fn each_refused_allocation_is_answered(rt: HostRuntime) -> Result<(), Fail> {
     let gains = [65_536, 0, 0, 65_536];
@@ -316,6 +324,7 @@ fn each_refused_allocation_is_answered(rt: HostRuntime) -> Result<(), Fail> {
     Ok(())
 }
 
+/// The text of each fault of a matrix.
 #[test]
 fn matrix_faults_say_what_is_wrong(rt: HostRuntime) -> Result<(), Fail> {
     let rows = [
@@ -330,6 +339,7 @@ fn matrix_faults_say_what_is_wrong(rt: HostRuntime) -> Result<(), Fail> {
     Ok(())
 }
 
+/// The text of each fault of a schedule.
 #[test]
 fn schedule_faults_say_what_is_wrong(rt: HostRuntime) -> Result<(), Fail> {
     let rows = [

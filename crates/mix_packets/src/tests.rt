@@ -11,6 +11,7 @@ fn fault_of(enc: Enc, channels: u8, frames: u16, pt: u8, start: i64) -> Option<O
     OutSpec::new(enc, channels, frames, pt, 2, 0, start, 0).err()
 }
 
+/// Each limit of an output from both sides, and a payload that would be too long.
 #[test]
 fn out_spec_faults(rt: HostRuntime) {
     let rows = [
@@ -46,6 +47,7 @@ fn out_spec_faults(rt: HostRuntime) {
     }
 }
 
+/// Readers of two outputs: their payloads' octets, and the shift to their samples.
 #[test]
 fn an_output_says_what_it_was_made_of(rt: HostRuntime) -> Result<(), Fail> {
     let spec = OutSpec::new(Enc::L16, 3, 12, 101, 4_000_000_000, 65_535, 7, 9)?;
@@ -64,6 +66,7 @@ fn an_output_says_what_it_was_made_of(rt: HostRuntime) -> Result<(), Fail> {
     Ok(())
 }
 
+/// Sequence number 65535 and timestamp 2^32 - 48 are followed by 0 and 0.
 #[test]
 fn sequence_and_timestamp_wrap(rt: HostRuntime) -> Result<(), Fail> {
     let spec = OutSpec::new(Enc::L24, 1, 48, 97, 2, 65_535, 4_294_967_248, 0)?;
@@ -88,6 +91,7 @@ fn sequence_and_timestamp_wrap(rt: HostRuntime) -> Result<(), Fail> {
     Ok(())
 }
 
+/// The first timestamp is the start plus the offset, modulo 2^32, up to the last start.
 #[test]
 fn the_offset_is_ahead_of_the_start(rt: HostRuntime) -> Result<(), Fail> {
     let rows = [
@@ -107,6 +111,7 @@ fn the_offset_is_ahead_of_the_start(rt: HostRuntime) -> Result<(), Fail> {
     Ok(())
 }
 
+/// The octets of the least, the greatest and ordinary samples of both encodings.
 #[test]
 fn samples_stand_frame_by_frame_at_their_extremes(rt: HostRuntime) -> Result<(), Fail> {
     let spec = OutSpec::new(Enc::L16, 2, 6, 96, 1, 0, 0, 0)?;
@@ -130,6 +135,7 @@ fn samples_stand_frame_by_frame_at_their_extremes(rt: HostRuntime) -> Result<(),
     Ok(())
 }
 
+/// The text of each fault of an output.
 #[test]
 fn faults_say_what_is_wrong(rt: HostRuntime) -> Result<(), Fail> {
     let rows = [

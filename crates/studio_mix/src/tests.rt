@@ -2,12 +2,12 @@
 use super::*;
 use gain_mix::{Matrix, Schedule};
 use mix_packets::OutSpec;
-use path_merge::{Body, Format, Mark, StreamClock, StreamSpec};
 use rtp_wire::{Enc, Payload};
 use std::alloc::{AllocError, Global};
 use std::process::Abort;
 use std::test::Fail;
 use std::vec::IntoIter;
+use stream_rules::{Body, Format, Mark, StreamClock, StreamSpec};
 use studio_spec::StudioSpec;
 
 /// A stream of L24.
@@ -159,6 +159,7 @@ const FIRST: [u8; 12] = [0x80, 0x61, 0xff, 0xff, 0, 0, 0, 0, 0, 0, 0, 2];
 
 const NEXT: [u8; 12] = [0x80, 0x61, 0, 0, 0, 0, 0, 48, 0, 0, 0, 2];
 
+/// The example of MIXING.md: two streams of unlike packets give its two datagrams.
 #[test]
 fn two_streams_are_mixed_by_media_time(rt: HostRuntime) -> Result<(), Fail> {
     let alloc = rt.alloc();
@@ -183,6 +184,7 @@ fn two_streams_are_mixed_by_media_time(rt: HostRuntime) -> Result<(), Fail> {
     Ok(())
 }
 
+/// A stream that told silence until the block's end lets the other's block go out.
 #[test]
 fn a_silent_stream_does_not_hold_up_the_mix(rt: HostRuntime) -> Result<(), Fail> {
     let alloc = rt.alloc();
@@ -204,6 +206,7 @@ fn a_silent_stream_does_not_hold_up_the_mix(rt: HostRuntime) -> Result<(), Fail>
     Ok(())
 }
 
+/// A gain that changes at the third instant of a block changes there.
 #[test]
 fn gains_change_within_a_block(rt: HostRuntime) -> Result<(), Fail> {
     let alloc = rt.alloc();
@@ -238,6 +241,7 @@ fn gains_change_within_a_block(rt: HostRuntime) -> Result<(), Fail> {
     Ok(())
 }
 
+/// Two channels with silence between two epochs, and one of longer packets that begins later: two outputs, sample by sample.
 #[test]
 fn streams_of_unlike_channels_and_an_epoch_apart(rt: HostRuntime) -> Result<(), Fail> {
     let alloc = rt.alloc();
@@ -277,6 +281,7 @@ fn streams_of_unlike_channels_and_an_epoch_apart(rt: HostRuntime) -> Result<(), 
     Ok(())
 }
 
+/// A mixer, made twice with any one allocation refused: want of memory at most once.
 #[test]
 fn each_refused_allocation_is_answered(rt: HostRuntime) -> Result<(), Fail> {
     let alloc = rt.alloc();

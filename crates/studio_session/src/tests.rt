@@ -97,6 +97,7 @@ const NEXT: [u8; 12] = [0x80, 0x61, 0, 0, 0, 0, 0, 48, 0, 0, 0, 2];
 
 const FOURTH: [u8; 12] = [0x80, 0x61, 0, 2, 0, 0, 0, 144, 0, 0, 0, 2];
 
+/// The datagrams of two streams and a close give two datagrams and each stream's counts.
 #[test]
 fn two_streams_are_mixed_from_datagrams_to_datagrams(rt: HostRuntime) -> Result<(), Fail> {
     let alloc = rt.alloc();
@@ -133,6 +134,7 @@ fn two_streams_are_mixed_from_datagrams_to_datagrams(rt: HostRuntime) -> Result<
     Ok(())
 }
 
+/// A stream that gets nothing is silent up to a reading, so a block comes out.
 #[test]
 fn a_silent_stream_does_not_hold_up_a_session(rt: HostRuntime) -> Result<(), Fail> {
     let alloc = rt.alloc();
@@ -156,6 +158,7 @@ fn a_silent_stream_does_not_hold_up_a_session(rt: HostRuntime) -> Result<(), Fai
     Ok(())
 }
 
+/// A list, run twice with any one allocation refused: want of memory at most once.
 #[test]
 fn each_refused_allocation_is_answered(rt: HostRuntime) -> Result<(), Fail> {
     let alloc = rt.alloc();
@@ -182,6 +185,7 @@ fn each_refused_allocation_is_answered(rt: HostRuntime) -> Result<(), Fail> {
     Ok(())
 }
 
+/// A reading that goes back, a stream that is none and a path that its stream lacks, each by the place of the first.
 #[test]
 fn the_first_fault_is_answered_by_its_place(rt: HostRuntime) -> Result<(), Fail> {
     let alloc = rt.alloc();
@@ -347,21 +351,13 @@ fn silence_stands_between_two_epochs(rt: HostRuntime) -> Result<(), Fail> {
     Ok(())
 }
 
+/// The text of each fault of a list.
 #[test]
 fn faults_name_their_place(rt: HostRuntime) -> Result<(), Fail> {
     let rows = [
-        (
-            StudioFault::Clock(7),
-            "the clock reading at place 7 is out of order",
-        ),
-        (
-            StudioFault::Stream(0),
-            "the datagram at place 0 is of no stream",
-        ),
-        (
-            StudioFault::Path(12),
-            "the datagram at place 12 is on a path that its stream lacks",
-        ),
+        (StudioFault::Clock(7), "event 7: clock"),
+        (StudioFault::Stream(0), "event 0: stream"),
+        (StudioFault::Path(12), "event 12: path"),
     ];
     for (fault, want) in rows {
         let text = format!(in rt.alloc(); "{fault}")?;

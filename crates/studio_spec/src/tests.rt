@@ -28,6 +28,7 @@ fn line<T: Drop>(alloc: Global, answer: Result<T, SpecError>) -> Result<String, 
     }
 }
 
+/// The table of a fourth stream with each key missing, of another kind, out of range or unknown, and its limits taken together.
 #[test]
 fn a_streams_table_says_it_or_its_first_fault(rt: HostRuntime) -> Result<(), Fail> {
     let alloc = rt.alloc();
@@ -85,6 +86,7 @@ fn a_streams_table_says_it_or_its_first_fault(rt: HostRuntime) -> Result<(), Fai
     Ok(())
 }
 
+/// The gains of an output and their changes, each with its faults, and none.
 #[test]
 fn an_outputs_table_says_it_or_its_first_fault(rt: HostRuntime) -> Result<(), Fail> {
     let alloc = rt.alloc();
@@ -130,6 +132,7 @@ fn an_outputs_table_says_it_or_its_first_fault(rt: HostRuntime) -> Result<(), Fa
     Ok(())
 }
 
+/// The example of FORMATS.md, and one fault in it at a time.
 #[test]
 fn a_configuration_says_a_studio_or_its_first_fault(rt: HostRuntime) -> Result<(), Fail> {
     let alloc = rt.alloc();
@@ -166,6 +169,7 @@ fn a_configuration_says_a_studio_or_its_first_fault(rt: HostRuntime) -> Result<(
     Ok(())
 }
 
+/// Two streams of one channel take gains of two inputs, and not of one.
 #[test]
 fn a_streams_channels_are_inputs_of_the_gains(rt: HostRuntime) -> Result<(), Fail> {
     let alloc = rt.alloc();
@@ -184,6 +188,7 @@ fn a_streams_channels_are_inputs_of_the_gains(rt: HostRuntime) -> Result<(), Fai
     Ok(())
 }
 
+/// A top table that grows key by key, over empty tables: its own faults come first.
 #[test]
 fn the_top_table_is_tested_before_those_in_it(rt: HostRuntime) -> Result<(), Fail> {
     let alloc = rt.alloc();
@@ -221,6 +226,7 @@ const STUDIO: &str =
     clock = \"media\"\nlatency = 12\nwindow = 8\n[output]\nencoding = \"L24\"\nchannels = 1\nframes = 6\n\
     pt = 97\nssrc = 2\nseq = 0\nstart = 0\ngains = [[65536]]\nchange = [{ at = 3, gains = [[0]] }]\n";
 
+/// A configuration, read twice with any one allocation refused: want of memory at most once.
 #[test]
 fn each_refused_allocation_is_answered(rt: HostRuntime) -> Result<(), Fail> {
     let alloc = rt.alloc();

@@ -4,7 +4,6 @@ ghost use Rattle.std.specs.Thread.{IsSync};
 use crate::{LiveFault, LiveOptions, LivePorts, run_studio_live};
 use gain_mix::{Matrix, Schedule};
 use mix_packets::OutSpec;
-use path_merge::{StreamClock, StreamSpec};
 use rtp_wire::Enc;
 use std::alloc::Global;
 use std::net::{Ipv4Addr, Net, SocketAddr, UdpSocket};
@@ -14,6 +13,7 @@ use std::test::Fail;
 use std::thread::{Parker, Threads};
 use std::time::{Clock, Duration};
 use std::{io, thread};
+use stream_rules::{StreamClock, StreamSpec};
 use studio_spec::StudioSpec;
 
 /// What goes to a path's port.
@@ -150,6 +150,7 @@ const FIRST: Sent = Sent::Packet(0, 1);
 
 const SECOND: Sent = Sent::Packet(1, 1);
 
+/// Two packets to both ports of a stream are taken once, with no fault.
 #[test]
 fn live_receives_on_loopback(rt: HostRuntime) -> Result<(), Fail> {
     let plan = [(0, FIRST), (1, FIRST), (0, SECOND), (1, SECOND)];
@@ -164,6 +165,7 @@ fn live_receives_on_loopback(rt: HostRuntime) -> Result<(), Fail> {
     expect(&rt, rt.alloc(), &plan, &parts)
 }
 
+/// Packets that come by the second path alone are all taken.
 #[test]
 fn one_path_is_dead(rt: HostRuntime) -> Result<(), Fail> {
     let plan = [(1, FIRST), (1, SECOND), (1, Sent::Packet(2, 1))];
@@ -175,6 +177,7 @@ fn one_path_is_dead(rt: HostRuntime) -> Result<(), Fail> {
     expect(&rt, rt.alloc(), &plan, &parts)
 }
 
+/// A path that is silent in the middle of a run loses nothing.
 #[test]
 fn a_path_dies_and_comes_back(rt: HostRuntime) -> Result<(), Fail> {
     let alloc = rt.alloc();
@@ -214,6 +217,7 @@ fn both_paths_are_lossy_and_in_disorder(rt: HostRuntime) -> Result<(), Fail> {
     expect(&rt, alloc, plan.as_slice(), &parts)
 }
 
+/// Forged packets and junk before each good one are counted, and change no packet.
 #[test]
 fn forged_sources_and_junk_change_nothing(rt: HostRuntime) -> Result<(), Fail> {
     let alloc = rt.alloc();
@@ -233,6 +237,7 @@ fn forged_sources_and_junk_change_nothing(rt: HostRuntime) -> Result<(), Fail> {
     expect(&rt, alloc, plan.as_slice(), &parts)
 }
 
+/// A port that is bound elsewhere is a fault of the sockets.
 #[test]
 fn a_taken_port_is_a_fault(rt: HostRuntime) -> Result<(), Fail> {
     let alloc = rt.alloc();

@@ -1,6 +1,7 @@
 //! Signals that are held back.
 use crate::signal::has_ending_signal;
 
+/// Which bits of a status line say that a signal to stop is held back.
 #[test]
 fn held_back_signals_are_seen(rt: HostRuntime) {
     let table = [

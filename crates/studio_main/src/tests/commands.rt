@@ -31,6 +31,7 @@ fn config_with(alloc: Global, line: &str) -> Result<String, AllocError> {
     Ok(text)
 }
 
+/// `marks`, `marks --counts` and `play` with a configuration, over the stored trace.
 #[test]
 fn commands_take_a_configuration(rt: HostRuntime) -> Result<(), Fail> {
     let alloc = rt.alloc();
@@ -62,6 +63,7 @@ const SUMMARY: &str = "stream 0: L24, channels 2, packets of 48 (1.000 ms), type
     output: L16, channels 2, packets of 48 (1.000 ms), type 98, source 2, first number 9, from 48\n  to b: port 6000\n\
     gains from the start\n  65536 0 1\n  0 65536 1\ngains from 96\n  0 0 0\n  0 0 0\n";
 
+/// `check` tells two streams, a port and a change of gains in lines, or the fault.
 #[test]
 fn a_configuration_is_told_in_lines(rt: HostRuntime) -> Result<(), Fail> {
     let alloc = rt.alloc();
@@ -72,6 +74,7 @@ fn a_configuration_is_told_in_lines(rt: HostRuntime) -> Result<(), Fail> {
     Ok(())
 }
 
+/// Faults of a configuration, of its text and of its file, each by its line and status.
 #[test]
 fn configuration_faults_have_their_lines(rt: HostRuntime) -> Result<(), Fail> {
     let alloc = rt.alloc();
@@ -94,6 +97,7 @@ fn configuration_faults_have_their_lines(rt: HostRuntime) -> Result<(), Fail> {
     Ok(())
 }
 
+/// A configuration one octet past 2^20 is refused, and read at that length.
 #[test]
 fn a_configuration_that_is_too_long_is_not_read(rt: HostRuntime) -> Result<(), Fail> {
     let alloc = rt.alloc();
@@ -121,6 +125,7 @@ fn a_configuration_that_is_too_long_is_not_read(rt: HostRuntime) -> Result<(), F
     Ok(())
 }
 
+/// Words that no command takes end in status 2, with the reason.
 #[test]
 fn other_words_are_usage_faults(rt: HostRuntime) -> Result<(), Fail> {
     let alloc = rt.alloc();
@@ -147,6 +152,7 @@ fn other_words_are_usage_faults(rt: HostRuntime) -> Result<(), Fail> {
     Ok(())
 }
 
+/// The version, and the help of each word, on standard output.
 #[test]
 fn help_and_version_go_to_the_output(rt: HostRuntime) -> Result<(), Fail> {
     let alloc = rt.alloc();

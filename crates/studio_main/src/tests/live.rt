@@ -29,6 +29,7 @@ fn holder<R: Net>(rt: &R) -> io::Result<UdpSocket> {
     UdpSocket::bind(rt, SocketAddr::from((Ipv4Addr::LOCALHOST, 0)))
 }
 
+/// A live run names the first port or address that its configuration lacks.
 #[test]
 fn a_missing_port_is_named(rt: HostRuntime) -> Result<(), Fail> {
     let alloc = rt.alloc();
@@ -65,6 +66,7 @@ fn a_missing_port_is_named(rt: HostRuntime) -> Result<(), Fail> {
     Ok(())
 }
 
+/// A live run whose port is bound elsewhere ends in status 5.
 #[test]
 fn a_taken_port_is_told(rt: HostRuntime) -> Result<(), Fail> {
     let alloc = rt.alloc();

@@ -18,12 +18,14 @@ pub(super) fn expect(
     assert_eq!(rt; outcome.faults.text(), faults, "the faults of {of:?}");
 }
 
+/// Without words the stored trace gives its stored listing.
 #[test]
 fn lists_marks_without_words(rt: HostRuntime) {
     let outcome = outcome_of(&rt, rt.alloc(), STORED_TRACE.as_bytes());
     expect(&rt, &outcome, 0, STORED_LISTING, "", "the stored run");
 }
 
+/// A trace with no event lists nothing.
 #[test]
 fn empty_trace_lists_nothing(rt: HostRuntime) {
     for text in ["", "\n", "# nothing\n\n"] {
@@ -32,6 +34,7 @@ fn empty_trace_lists_nothing(rt: HostRuntime) {
     }
 }
 
+/// Faults of events name their places, also behind comments, closes and bad datagrams.
 #[test]
 fn faults_name_their_event(rt: HostRuntime) {
     let table = [
@@ -54,6 +57,7 @@ fn faults_name_their_event(rt: HostRuntime) {
     }
 }
 
+/// One trace for each kind of fault, and its line.
 #[test]
 fn fault_lines(rt: HostRuntime) {
     let table = [
@@ -70,6 +74,7 @@ fn fault_lines(rt: HostRuntime) {
     }
 }
 
+/// Lines and traces of the greatest length, and one octet more.
 #[test]
 fn trace_limits(rt: HostRuntime) -> Result<(), Fail> {
     let mut comment = String::from_str(rt.alloc(), "#")?;
@@ -100,6 +105,7 @@ fn trace_limits(rt: HostRuntime) -> Result<(), Fail> {
     Ok(())
 }
 
+/// A reader that fails at each of its calls in turn: status 5, and no output.
 #[test]
 fn a_failed_read_writes_nothing(rt: HostRuntime) {
     let octets_a_call = STORED_TRACE.len() / 3 + 1;
@@ -120,6 +126,7 @@ fn a_failed_read_writes_nothing(rt: HostRuntime) {
     );
 }
 
+/// A reader that gives one octet a call changes nothing.
 #[test]
 fn one_octet_at_a_time_reads_the_same(rt: HostRuntime) {
     let input = FailingReader::new(STORED_TRACE, 1, 1000);
@@ -127,6 +134,7 @@ fn one_octet_at_a_time_reads_the_same(rt: HostRuntime) {
     expect(&rt, &outcome, 0, STORED_LISTING, "", "a slow reader");
 }
 
+/// A writer with each smaller room gets as much of the listing, and status 5 follows.
 #[test]
 fn a_failed_write_leaves_a_prefix(rt: HostRuntime) {
     for room in 0..STORED_LISTING.len() {
@@ -157,6 +165,7 @@ fn a_failed_write_leaves_a_prefix(rt: HostRuntime) {
     }
 }
 
+/// A writer that takes no octet ends the run in status 5.
 #[test]
 fn a_write_of_nothing_is_a_fault(rt: HostRuntime) {
     let mut input = STORED_TRACE.as_bytes();
@@ -174,6 +183,7 @@ fn a_write_of_nothing_is_a_fault(rt: HostRuntime) {
     assert_eq!(rt; faults.text(), "device: write\n", "the faults");
 }
 
+/// The stored trace with any one allocation refused: status 4 and no output, and then its listing.
 #[test]
 fn each_refused_allocation_is_answered(rt: HostRuntime) {
     let outcome = outcome_of(&rt, rt.alloc(), STORED_TRACE.as_bytes());

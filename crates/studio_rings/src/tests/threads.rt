@@ -130,6 +130,7 @@ fn by_threads(
     Ok(())
 }
 
+/// Rings of 1 to 4,096 places between threads: each datagram has its packet's samples.
 #[test]
 fn threads_over_rings_of_any_length_lose_nothing(rt: HostRuntime) -> Result<(), Fail> {
     for places in [1usize, 2, 3, 64, 4_096] {

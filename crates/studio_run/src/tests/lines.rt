@@ -10,6 +10,7 @@ use std::alloc::Global;
 use std::io::Write;
 use std::test::Fail;
 
+/// The line of each kind of mark, of a datagram, of a path and of a merge.
 #[test]
 fn each_line_has_its_form(rt: HostRuntime) -> Result<(), Fail> {
     let format = Format {
@@ -83,6 +84,7 @@ fn write_many<W: Write>(alloc: Global, writer: &mut W) -> Result<(), WriteFault>
     text.finish(writer)
 }
 
+/// A writer with room for less than the text gets as much of its beginning, and a fault.
 #[test]
 fn a_failed_write_leaves_a_beginning(rt: HostRuntime) -> Result<(), Fail> {
     let alloc = rt.alloc();

@@ -71,6 +71,7 @@ impl Read for NoReader {
     }
 }
 
+/// Two packets, two readings and a close give two datagrams and the counts.
 #[test]
 fn plays_a_trace_to_its_report(rt: HostRuntime) -> Result<(), Fail> {
     let alloc = rt.alloc();
@@ -84,6 +85,7 @@ fn plays_a_trace_to_its_report(rt: HostRuntime) -> Result<(), Fail> {
     Ok(())
 }
 
+/// The same trace gives two slots and the end.
 #[test]
 fn lists_the_marks_of_a_trace(rt: HostRuntime) -> Result<(), Fail> {
     let alloc = rt.alloc();
@@ -97,6 +99,7 @@ fn lists_the_marks_of_a_trace(rt: HostRuntime) -> Result<(), Fail> {
     Ok(())
 }
 
+/// The listing and the counts go to two writers, each whole.
 #[test]
 fn counts_are_told_beside_the_listing(rt: HostRuntime) -> Result<(), Fail> {
     let alloc = rt.alloc();
@@ -113,6 +116,7 @@ fn counts_are_told_beside_the_listing(rt: HostRuntime) -> Result<(), Fail> {
     Ok(())
 }
 
+/// Where the last octet of a listing finds no room, no count is told.
 #[test]
 fn a_listing_that_breaks_off_has_no_counts(rt: HostRuntime) -> Result<(), Fail> {
     let alloc = rt.alloc();
@@ -134,6 +138,7 @@ fn a_listing_that_breaks_off_has_no_counts(rt: HostRuntime) -> Result<(), Fail> 
     Ok(())
 }
 
+/// A reader that fails, a cut line, a reading that goes back, a lacking path: no octet.
 #[test]
 fn a_fault_before_the_first_write_writes_nothing(rt: HostRuntime) -> Result<(), Fail> {
     let alloc = rt.alloc();
@@ -174,6 +179,7 @@ fn a_fault_before_the_first_write_writes_nothing(rt: HostRuntime) -> Result<(), 
     Ok(())
 }
 
+/// A report to a writer with each smaller room: just so many octets, and a fault.
 #[test]
 fn a_failed_write_leaves_a_beginning_of_the_report(rt: HostRuntime) -> Result<(), Fail> {
     let alloc = rt.alloc();
@@ -193,6 +199,7 @@ fn a_failed_write_leaves_a_beginning_of_the_report(rt: HostRuntime) -> Result<()
     Ok(())
 }
 
+/// Billions of lost slots are listed as they come, and end where the writer fails.
 #[test]
 fn a_reading_far_ahead_is_listed_until_the_writer_fails(rt: HostRuntime) -> Result<(), Fail> {
     let alloc = rt.alloc();
@@ -253,6 +260,7 @@ fn is_answered(answer: Result<(), PlayFault>, sheet: &Sheet, text: &str) -> bool
     }
 }
 
+/// A trace, listed and played twice with any one allocation refused: want of memory at most once, with nothing written.
 #[test]
 fn each_refused_allocation_is_answered(rt: HostRuntime) -> Result<(), Fail> {
     let alloc = rt.alloc();

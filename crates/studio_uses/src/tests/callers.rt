@@ -45,6 +45,7 @@ fn got(mark: &Mark) -> Option<(u64, i64, u8)> {
     }
 }
 
+/// Copies on two paths, one cut short, become two slots and the end.
 #[test]
 fn datagrams_become_marks(rt: HostRuntime) -> Result<(), Fail> {
     let alloc = rt.alloc();
@@ -63,6 +64,7 @@ fn datagrams_become_marks(rt: HostRuntime) -> Result<(), Fail> {
     Ok(())
 }
 
+/// A reading that goes back, and a path that the stream lacks.
 #[test]
 fn the_first_fault_of_arrivals_is_told(rt: HostRuntime) -> Result<(), Fail> {
     let alloc = rt.alloc();
@@ -75,6 +77,7 @@ fn the_first_fault_of_arrivals_is_told(rt: HostRuntime) -> Result<(), Fail> {
     Ok(())
 }
 
+/// A stored trace has its stored report, and a word that is none its fault.
 #[test]
 fn a_trace_in_memory_has_its_report(rt: HostRuntime) -> Result<(), Fail> {
     let alloc = rt.alloc();
@@ -97,6 +100,7 @@ pub(super) fn on_paths(alloc: Global, paths: u8) -> Result<Vec<Vec<Vec<u8>>>, Al
     Ok(lists)
 }
 
+/// A whole run by workers, over feeds, clocks and a sink in memory, is settled.
 #[test]
 fn a_studio_runs_over_memory(rt: HostRuntime) -> Result<(), Fail> {
     let alloc = rt.alloc();

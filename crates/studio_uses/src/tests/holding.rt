@@ -56,6 +56,7 @@ impl<'a, R: Wait> Feed for MeetingFeed<'a, R> {
     }
 }
 
+/// Feeds that each wait until the other was asked come to their end.
 #[test]
 fn paths_are_read_at_the_same_time(rt: HostRuntime) -> Result<(), Fail> {
     let alloc = rt.alloc();
@@ -191,6 +192,7 @@ impl<'a, R: Wait> Sink for HoldingSink<'a, R> {
     }
 }
 
+/// Feeds that end only after a datagram was sent, and a sink that holds one until a clock is asked again.
 #[test]
 fn mixing_goes_on_beside_reception(rt: HostRuntime) -> Result<(), Fail> {
     let alloc = rt.alloc();

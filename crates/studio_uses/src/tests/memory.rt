@@ -15,6 +15,7 @@ use studio_run::PlayFault;
 use studio_spec::StudioSpec;
 use studio_workers::WorkFault;
 
+/// One stream received with any one allocation refused: want of memory, and then its marks.
 #[test]
 fn each_refused_allocation_of_arrivals_is_answered(rt: HostRuntime) -> Result<(), Fail> {
     let alloc = rt.alloc();
@@ -70,6 +71,7 @@ fn attempt<R: Threads + Wait + Abort + Sync>(
             assert_eq!(rt; report.blocks, 2);
             let kept = sink.kept().len() as u64;
             assert_eq!(rt; (report.sent_a, report.sent_b), (kept, kept));
+            assert_eq!(rt; sink.is_whole(), kept == 2);
             None
         }
         Err(fault) => Some(fault),
@@ -87,6 +89,7 @@ fn wants_memory(fault: RunFault) -> bool {
     }
 }
 
+/// A run by workers with any one allocation refused: each block is kept or told as a fault, or the run answers want of memory, and then succeeds.
 #[test]
 fn each_refused_allocation_of_a_run_is_answered(rt: HostRuntime) -> Result<(), Fail> {
     let alloc = rt.alloc();
