@@ -1,0 +1,165 @@
+"""What the sources say of themselves: tests, edits, public calls and lemma files, each with its sentence."""
+import re
+from functools import cache
+from pathlib import Path
+from typing import NamedTuple
+
+ROOT = Path(__file__).resolve().parent.parent
+FUNCTION = re.compile(r"^(?:    )?(pub |pub\(\w+\) )?fn (\w+)", re.MULTILINE)
+OWNER = re.compile(r"^(?:pub |pub\(\w+\) )?(impl|trait|struct|enum)\b([^{;]*?) ?\{\n(.*?)^\}", re.MULTILINE | re.DOTALL)
+GENERICS = re.compile(r"<[^<>]*>")
+CLAUSE = re.compile(r"\b(requires|ensures)(?: (\w+))? $")
+FIELD = re.compile(r"^    (?:pub )?ghost (\w+):", re.MULTILINE)
+EXPORT = re.compile(r"^pub use (\w+)::(?:\{([^}]*)\}|(\w+));", re.MULTILINE)
+REFUSED = re.compile(r"(.*\.) \[(\w+(?:::\w+)?: \w+)\]")
+
+
+class Call(NamedTuple):
+    """A function: the type or trait that it belongs to, if any, its `///` lines and the names of its clauses."""
+
+    name: str
+    owner: str
+    trait: str
+    public: bool
+    attributes: list
+    sentence: list
+    requires: list
+    ensures: list
+
+    def path(self):
+        return f"{self.owner}::{self.name}" if self.owner else self.name
+
+    def text(self):
+        return " ".join(line for line in self.sentence if line)
+
+
+class Owner(NamedTuple):
+    """A type or a trait with what stands in its braces."""
+
+    kind: str
+    name: str
+    trait: str
+    body: str
+    start: int
+    end: int
+
+
+NO_OWNER = Owner("", "", "", "", 0, 0)
+
+
+def crates():
+    """The names of all crates, the lowest first."""
+    lines = (ROOT / "crates.txt").read_text().splitlines()
+    return [line.split(":")[0] for line in lines if line]
+
+
+def code_of(crate):
+    """The text of each file of a crate's code."""
+    return [file.read_text() for file in sorted((ROOT / "crates" / crate / "src").rglob("*.rt"))]
+
+
+def owners_in(text):
+    """The types, traits and implementations of a file."""
+    for found in OWNER.finditer(text):
+        kind, head, body = found.groups()
+        while GENERICS.search(head):
+            head = GENERICS.sub("", head)
+        trait, _, name = head.partition(" for ") if " for " in head else ("", "", head.split(":")[0])
+        yield Owner(kind, name.strip(), trait.strip(), body, found.start(), found.end())
+
+
+def lines_above(text, place):
+    """The attributes and the `///` lines that stand right above a place."""
+    attributes, sentence = [], []
+    for line in reversed(text[:place].splitlines()):
+        line = line.strip()
+        if line.startswith("///"):
+            sentence.insert(0, line[3:].strip())
+        elif line.startswith("#["):
+            attributes.append(line)
+        else:
+            break
+    return attributes, sentence
+
+
+def clauses_from(text, place):
+    """The names of the clauses between a function's name and its body; one without a name has its keyword."""
+    clauses, depth, begin = {"requires": [], "ensures": []}, 0, place
+    for at in range(place, len(text)):
+        if text[at] in "([{":
+            clause = CLAUSE.search(text[begin:at])
+            if text[at] == "{" and depth == 0 and not clause:
+                break
+            if text[at] == "{" and depth == 0:
+                clauses[clause[1]].append(clause[2] or clause[1])
+            depth += 1
+        elif text[at] in ")]}":
+            depth -= 1
+            begin = at + 1
+        elif text[at] == ";" and depth == 0:
+            break
+    return clauses
+
+
+@cache
+def calls_of(crate):
+    """All functions of a crate, at the top of a file or of a type or trait."""
+    return [call for text in code_of(crate) for call in calls_in(text)]
+
+
+def calls_in(text):
+    """The functions of a file."""
+    owners = list(owners_in(text))
+    for found in FUNCTION.finditer(text):
+        owner = next((owner for owner in owners if owner.start < found.start() < owner.end), NO_OWNER)
+        public = found[1] == "pub " or owner.kind == "trait"
+        above = lines_above(text, found.start())
+        yield Call(found[2], owner.name, owner.trait, public, *above, **clauses_from(text, found.end()))
+
+
+def exports_of(crate):
+    """The names that a library gives out."""
+    root = ROOT / "crates" / crate / "src" / "lib.rt"
+    found = EXPORT.findall(root.read_text()) if root.is_file() else []
+    return {name.strip() for _, several, one in found for name in (several or one).split(",")}
+
+
+def public_calls_of(crate):
+    """Each call that a library gives out, with its contract."""
+    exports = exports_of(crate)
+    return [call for call in calls_of(crate) if call.public and (call.owner or call.name) in exports]
+
+
+def tests_of(crate):
+    return [call for call in calls_of(crate) if "#[test]" in call.attributes]
+
+
+def lemma_files_of(crate):
+    """Each lemma file of a crate with its first line."""
+    for file in sorted((ROOT / "crates" / crate / "proofs").glob("*.antt")):
+        if file.stem != "Lib":
+            yield file.stem, file.read_text().splitlines()[0]
+
+
+def edits_of(crate):
+    """Each edit of a crate by its name, with its sentence and the clause that refuses it, or neither."""
+    for file in sorted((ROOT / "crates" / crate / "must-fail").glob("*.edit")):
+        said = REFUSED.fullmatch(file.read_text().splitlines()[0])
+        yield file.stem, *(said.groups() if said else ("", ""))
+
+
+@cache
+def clauses_of(crate):
+    """All that can refuse an edit of a crate: `call: clause`, `type: ghost field` and `type: invariant`."""
+    calls = {f"{call.path()}: {clause}" for call in calls_of(crate) for clause in call.ensures + trait_clauses(call)}
+    owners = [owner for text in code_of(crate) for owner in owners_in(text)]
+    structs = [owner for owner in owners if owner.kind == "struct"]
+    fields = {f"{struct.name}: {field}" for struct in structs for field in FIELD.findall(struct.body)}
+    models = {f"{owner.name}: invariant" for owner in owners if "ghost invariant" in owner.body}
+    return calls | fields | models
+
+
+def trait_clauses(call):
+    """What a method promises by the trait that it belongs to."""
+    others = [other for crate in crates() for other in calls_of(crate)] if call.trait else []
+    return [clause for other in others if (other.owner, other.name) == (call.trait, call.name) for clause in other.ensures]
