@@ -1,0 +1,6 @@
+use Rattle.path_merge.specs.Steps.{marks_left}
+use Rattle.first_call.proofs.main.Given as goal
+
+-- the marks that are left
+abbrev pub decreases-loop-mark : goal.decreases-loop-mark
+decreases-loop-mark l = marks_left l.merge
