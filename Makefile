@@ -6,12 +6,12 @@ sources := $(shell find crates -path '*/out' -prune -o -type f -print) crates.tx
 
 help:
 	@echo "make build    prove and build bin/darbexum"
-	@echo "make run      the program on its stored example"
+	@echo "make run      the program on its stored example; not proved where it is not built"
 	@echo "make test     the gate: the pages, every proof from nothing, edits, tests, stored runs"
 	@echo "make test-memory  what the gate has built, with each allocation refused in turn"
 	@echo "make check    every crate's proofs, over what earlier checks kept"
 	@echo "make fmt      lay out every file"
-	@echo "make install  the program into PREFIX/bin (/usr/local)"
+	@echo "make install  the program into PREFIX/bin (/usr/local), its pages into PREFIX/share/doc/darbexum"
 	@echo "make clean    what was built and kept"
 
 build: bin/darbexum
@@ -22,8 +22,9 @@ bin/darbexum: $(sources)
 	mkdir -p bin
 	cp crates/studio_main/out/studio_main $@
 
-run: build
-	bin/darbexum < examples/first/input.trace
+# With nothing built, or with sources that are newer, by a run that proves nothing.
+run:
+	@examples/run
 
 # The examples and the faults are tried with the program that the gate has built.
 test:
@@ -44,6 +45,7 @@ fmt:
 
 install: build
 	install -D bin/darbexum $(DESTDIR)$(PREFIX)/bin/darbexum
+	install -D -m 644 -t $(DESTDIR)$(PREFIX)/share/doc/darbexum docs/FORMATS.md docs/LIVE.md
 
 clean:
 	rm -rf bin crates/*/out
