@@ -7,9 +7,8 @@ use thiserror::Error;
 /// Why a run gave no text, or only a part of it.
 #[derive(Debug, Drop, Error)]
 pub enum Fault {
-    /// The words of the command line are no text.
-    #[error("usage: darbexum [marks CONFIG [--counts] | play CONFIG | check CONFIG] < TRACE, \
-         or darbexum live CONFIG")]
+    /// A word of the command line is no text.
+    #[error("usage: a word of the command line is not UTF-8")]
     Usage,
     /// The configuration is at fault.
     #[error("{0}")]

@@ -55,7 +55,7 @@ fn command<'a>(alloc: Global) -> Result<Command<'a>, Error> {
     let marks = with_config(
         alloc,
         "marks",
-        "Lists the marks of a trace, stream by stream",
+        "Lists the marks of the trace on standard input, stream by stream",
     )?
     .arg(
         Arg::new(alloc, "counts")
@@ -63,11 +63,18 @@ fn command<'a>(alloc: Global) -> Result<Command<'a>, Error> {
             .help("Tell the counts of all paths and merges on standard error")
             .action(ArgAction::SetTrue),
     )?;
-    let play = with_config(alloc, "play", "Plays a trace to its datagrams and counts")?;
+    let play = with_config(
+        alloc,
+        "play",
+        "Plays the trace on standard input to its datagrams and counts",
+    )?;
     let check = with_config(alloc, "check", "Says what a configuration means")?;
     let command = Command::new(alloc, "darbexum")
-        .about("Receives studio audio over IP, from a trace or live. Formats: docs/FORMATS.md")
-        .version("0.1.0")
+        .about(
+            "Receives studio audio over IP, from a trace or live. Formats: docs/FORMATS.md. Without a word it lists \
+             the marks of the trace on standard input, by the configuration of examples/first",
+        )
+        .version("0.2.0")
         .bin_name("darbexum")?
         .no_binary_name(true)
         .subcommand(marks)?
@@ -82,7 +89,7 @@ fn live_command<'a>(alloc: Global) -> Result<Command<'a>, Error> {
     let instants = Arg::new(alloc, "instants")
         .long("instants")
         .value_name("N")
-        .help("End after so many sampling instants")
+        .help("End after so many sampling instants at 48 kHz, 1 to 1099511627776")
         .value_parser(value_parser!(i64).range(1..=MOST_INSTANTS))
         .action(ArgAction::Set);
     let stats = Arg::new(alloc, "stats")

@@ -157,7 +157,7 @@ fn other_words_are_usage_faults(rt: HostRuntime) -> Result<(), Fail> {
 fn help_and_version_go_to_the_output(rt: HostRuntime) -> Result<(), Fail> {
     let alloc = rt.alloc();
     let version = outcome_with(&rt, alloc, &["--version"], b"")?;
-    expect(&rt, &version, 0, "darbexum 0.1.0\n", "", "the version");
+    expect(&rt, &version, 0, "darbexum 0.2.0\n", "", "the version");
     let help = outcome_with(&rt, alloc, &["--help"], b"")?;
     assert_eq!(rt; help.status, 0, "help");
     for word in ["play", "docs/FORMATS.md"] {
