@@ -33,6 +33,7 @@ test:
 	examples/check crates/studio_main/out/studio_main
 	examples/statuses crates/studio_main/out/studio_main
 	memory/check
+	@echo "gate: pages, proofs, edits, tests, examples, statuses and memory passed"
 
 test-memory:
 	memory/check
