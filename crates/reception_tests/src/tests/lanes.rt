@@ -2,7 +2,6 @@
 ghost use Rattle.std.specs.Prelude.{◌≡◌};
 
 use lane_align::{Cover, Lane};
-use path_merge::{Body, Format, Mark, StreamClock, StreamSpec};
 use rtp_wire::{Enc, Payload};
 use std::alloc::{AllocError, Global};
 use std::process::Abort;

@@ -1,8 +1,8 @@
 //! What happens to a stream, in words.
 //!
-//! A step is `tick T`, which calls `advance` until T is passed; `advance T`, one call; `close`; or a packet's path, sequence number and timestamp, as `a 1 0`. Behind these
-//! may stand `of S`, its source where that is not 1; `odd`, for a payload of its own; `x 8`, for so many
-//! packets in sequence.
+//! A step is `tick T`, which calls `advance` until T is passed; `advance T`, one call; `close`; or a packet's
+//! path, sequence number and timestamp, as `a 1 0`. Behind these may stand `of S`, its source where that is
+//! not 1; `odd`, for a payload of its own; `x 8`, for so many packets in sequence.
 use path_merge::{Packet, Path, StreamSpec};
 use rtp_wire::Payload;
 use std::process::Abort;
