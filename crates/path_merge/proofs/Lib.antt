@@ -26,6 +26,7 @@ pub mod FirstLemmas
 pub mod AliasLemmas
 pub mod LawLemmas
 pub mod RunLemmas
+pub mod GoalLemmas
 pub mod AgainLemmas
 pub mod WayLemmas
 pub mod AnchorLemmas

@@ -26,5 +26,6 @@ pub mod MergeState
 pub mod Merge
 pub mod Steps
 pub mod Next
+pub mod Goal
 pub mod Way
 pub mod Run

@@ -16,11 +16,13 @@
 
 mod arrival;
 mod clock;
+mod goal;
 mod laws;
 mod merge;
 mod run;
 
 pub use clock::{ClockFault, clock_fault};
+pub use goal::Goal;
 pub use laws::{
     aliases_are_off_grid, arrivals_change_no_mark, each_number_is_handed_on_once,
     marks_are_a_mark_list, merges_stand_at_their_histories, near_numbers_open_one_epoch,

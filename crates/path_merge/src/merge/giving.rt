@@ -12,6 +12,7 @@ ghost use Rattle.stream_rules.specs.declared.stream_spec.Stream.{Stream};
 
 use super::Merge;
 use crate::clock::{ClockFault, clock_fault};
+use crate::goal::Goal;
 use reorder_window::Window;
 use stream_rules::{Anchor, Counts, Mark, MarkRef, Packet};
 
@@ -68,13 +69,15 @@ fn drop_slot<V: Window>(window: &mut V, counts: &mut Counts)
 impl<V: Window> Merge<V> {
     ghost use Rattle.path_merge.specs.Merge.{HasHistory};
     ghost use Rattle.path_merge.specs.Next.{anchor_due, anchor_left, next_mark, next_left, quiet_next};
+    ghost use Rattle.path_merge.specs.Goal.{CanReach, Gives, MovesTo, HasGivenAll, next_to};
+    ghost use Rattle.path_merge.specs.declared.goal.Goal.TheVariants.{Reading};
     ghost use Rattle.path_merge.specs.Clock.{clock_fault_of};
     ghost use Rattle.path_merge.specs.Steps.{IsSlotStep, IsTimeStep, IsLeftStep, HoldsMore, IsBeforeDeadline, is_slot_mark, Moves, Advances, Drains, marks_left};
 
     /// Moves the time to `now`, or to the next deadline if that comes first, and gives the mark there.
     ///
     /// A slot may be followed by more at the same reading: the reading is passed when the answer is
-    /// `None` or a Quiet. It is `mark_at` with a copy, and then `pass`.
+    /// `None` or a Quiet. It is `mark_to` with a copy, and then `pass_to`.
     pub fn advance(&mut self, now: i64) -> Result<Option<Mark>, ClockFault>
         ensures stands { IfOk result (λ mark. (stream : Stream) (open_at : ℤ) (events : List Event) (k : ℕ)
             → HasHistory stream open_at self.old events k → Advances stream open_at self.old self.new events k now mark) }
@@ -84,9 +87,56 @@ impl<V: Window> Merge<V> {
         ensures fault { IfErr result (λ fault. clock_fault_of self.old.time self.old.closed now ≡ Some fault) }
         ensures err { OnErr result (self.new ≡ self.old) }
     {
-        let mark = mark_copied(self.mark_at(now)?);
-        self.pass(now)?;
+        let goal = self.goal(now)?;
+        let mark = mark_copied(self.mark_to(goal));
+        self.pass_to(goal);
         Ok(mark)
+    }
+
+    /// The goal of a reading of the clock, unless the reading is refused.
+    #[inline]
+    pub fn goal(&self, now: i64) -> Result<Goal, ClockFault>
+        ensures goal { IfOk result (λ goal. goal ≡ Reading now) }
+        ensures can { IfOk result (CanReach self.now) }
+        ensures fault { IfErr result (λ fault. clock_fault_of self.now.time self.now.closed now ≡ Some fault) }
+    {
+        match clock_fault(self.time, self.closed, now) {
+            Some(fault) => Err(fault),
+            None => Ok(Goal::Reading(now)),
+        }
+    }
+
+    /// The next mark on the way to a goal, its payload lent by the window.
+    #[inline]
+    pub fn mark_to(&self, goal: Goal) -> Option<MarkRef<'_>>
+        requires { CanReach self.now goal }
+        ensures { result ≡ next_to self.now goal }
+    {
+        match goal {
+            Goal::Reading(now) => self.mark_due(now),
+            Goal::End => self.mark_left(),
+        }
+    }
+
+    /// Lets the next mark on the way to a goal go. To a reading it moves the time as `advance` does.
+    ///
+    /// Answers whether it was a slot: then more may follow. After another mark, or none, the goal is reached.
+    #[inline]
+    pub fn pass_to(&mut self, goal: Goal) -> bool
+        requires { CanReach self.old goal }
+        ensures stands { (stream : Stream) (open_at : ℤ) (events : List Event) (k : ℕ)
+            → HasHistory stream open_at self.old events k → Gives stream open_at self.old self.new events k goal (next_to self.old goal) }
+        ensures slot { result ≡ is_slot_mark (next_to self.old goal) }
+        ensures moved { MovesTo self.old self.new goal (next_to self.old goal) }
+        ensures more { result ≡ true → CanReach self.new goal }
+        ensures all { result ≡ false → HasGivenAll self.new }
+        ensures closed { self.new.closed ≡ self.old.closed }
+        ensures spec { self.new.spec ≡ self.old.spec }
+    {
+        match goal {
+            Goal::Reading(now) => self.pass_due(now),
+            Goal::End => self.pass_left(),
+        }
     }
 
     /// The mark that a reading of `now` gives next, its payload lent by the window.
@@ -99,9 +149,18 @@ impl<V: Window> Merge<V> {
         if let Some(fault) = clock_fault(self.time, self.closed, now) {
             return Err(fault);
         }
+        Ok(self.mark_due(now))
+    }
+
+    /// The mark that a reading of `now` gives next.
+    #[inline]
+    fn mark_due(&self, now: i64) -> Option<MarkRef<'_>>
+        requires { clock_fault_of self.now.time self.now.closed now ≡ None }
+        ensures { result ≡ next_mark self.now now }
+    {
         match self.anchor_due(now) {
-            Some(anchor) => Ok(Some(self.slot_next(anchor))),
-            None => Ok(self.quiet_next(now)),
+            Some(anchor) => Some(self.slot_next(anchor)),
+            None => self.quiet_next(now),
         }
     }
 
@@ -122,14 +181,28 @@ impl<V: Window> Merge<V> {
         if let Some(fault) = clock_fault(self.time, self.closed, now) {
             return Err(fault);
         }
+        Ok(self.pass_due(now))
+    }
+
+    /// Lets the mark that a reading of `now` gives next go: whether it was a slot.
+    #[inline]
+    fn pass_due(&mut self, now: i64) -> bool
+        requires { clock_fault_of self.old.time self.old.closed now ≡ None }
+        ensures stands { (stream : Stream) (open_at : ℤ) (events : List Event) (k : ℕ)
+            → HasHistory stream open_at self.old events k → Advances stream open_at self.old self.new events k now (next_mark self.old now) }
+        ensures slot { result ≡ is_slot_mark (next_mark self.old now) }
+        ensures moved { Moves self.old self.new now (next_mark self.old now) }
+        ensures spec { self.new.spec ≡ self.old.spec }
+    {
+        let _ = &self.spec;
         match self.anchor_due(now) {
             Some(anchor) => {
                 self.pass_due_slot(anchor);
-                Ok(true)
+                true
             }
             None => {
                 self.pass_time(now);
-                Ok(false)
+                false
             }
         }
     }
@@ -213,7 +286,7 @@ impl<V: Window> Merge<V> {
 
     /// After a close, gives the next mark that is left: the slots up to the last packet held, then the end.
     ///
-    /// It is `mark_left` with a copy, and then `pass_left`.
+    /// It is `mark_to` with a copy, and then `pass_to`.
     pub fn drain(&mut self) -> Option<Mark>
         ensures stands { (stream : Stream) (open_at : ℤ) (events : List Event) (k : ℕ)
             → HasHistory stream open_at self.old events k → Drains stream open_at self.new events k result }
@@ -224,8 +297,8 @@ impl<V: Window> Merge<V> {
         ensures closed { self.new.closed ≡ self.old.closed }
         ensures spec { self.new.spec ≡ self.old.spec }
     {
-        let mark = mark_copied(self.mark_left());
-        self.pass_left();
+        let mark = mark_copied(self.mark_to(Goal::End));
+        self.pass_to(Goal::End);
         mark
     }
 
@@ -246,9 +319,11 @@ impl<V: Window> Merge<V> {
     }
 
     /// Lets the next mark that is left after a close go.
-    pub fn pass_left(&mut self)
+    pub fn pass_left(&mut self) -> bool
         ensures stands { (stream : Stream) (open_at : ℤ) (events : List Event) (k : ℕ)
             → HasHistory stream open_at self.old events k → Drains stream open_at self.new events k (next_left self.old) }
+        ensures slot { result ≡ is_slot_mark (next_left self.old) }
+        ensures all { result ≡ false → next_left self.new ≡ None }
         ensures none { next_left self.old ≡ None → self.new ≡ self.old }
         ensures fewer { IfSome (next_left self.old) (λ mark. marks_left self.new < marks_left self.old) }
         ensures time { self.new.time ≡ self.old.time }
@@ -256,14 +331,20 @@ impl<V: Window> Merge<V> {
         ensures spec { self.new.spec ≡ self.old.spec }
     {
         if !self.closed {
-            return;
+            return false;
         }
         if self.ended {
-            return;
+            return false;
         }
         match self.anchor_left() {
-            Some(anchor) => self.pass_slot_left(anchor),
-            None => self.ended = true,
+            Some(anchor) => {
+                self.pass_slot_left(anchor);
+                true
+            }
+            None => {
+                self.ended = true;
+                false
+            }
         }
     }
 

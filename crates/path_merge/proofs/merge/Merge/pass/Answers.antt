@@ -1,52 +1,9 @@
-use Rattle.std.proofs.Common.{◌≡◌, Some, None, w64, FitsSigned, rules, arith, ap, sym, subst, ◌∙◌}
-use Rattle.std.proofs.lemmas.Int.{ints, to_z-of_z}
-use Rattle.path_merge.specs.Next.{anchor_due, quiet_next}
-use Rattle.path_merge.specs.Steps.{Advances, Moves}
-use Rattle.path_merge.proofs.SoundLemmas.{due_times}
-use Rattle.path_merge.proofs.AdvanceLemmas.{IsAtReading, at_reading, advance_slot, advance_time}
-use Rattle.path_merge.proofs.NextMarkLemmas.{due, next_is, not_due}
-use Rattle.path_merge.specs.MergeState.{MergeState}
+use Rattle.std.proofs.Common.{subst, w64}
+use Rattle.std.proofs.lemmas.Int.{to_z-of_z}
+use Rattle.path_merge.specs.Next.{next_mark}
+use Rattle.path_merge.specs.Steps.{Advances}
 use Rattle.path_merge.proofs.merge.Merge.pass.Goals as goal
 
-pub pass_due_slot-requires-clause-soon : goal.pass_due_slot-requires-clause-soon
-pass_due_slot-requires-clause-soon g c =
-    let time_fits : FitsSigned w64 c.self.inside.time = search rules in
-    let r : IsAtReading c.args.self.now c.self.inside.next_media c.args.now = at_reading _ c.args.self.now c.self.inside.next_media c.args.now c.self.view_is c.self.invariant (rw (to_z-of_z w64 c.self.inside.time time_fits, to_z-of_z w64 c.args.now c.ranges.now) at (sym c.clock_fault.ensures ∙ c.in_default.is)) in
-    let is : anchor_due c.args.self.now c.args.now ≡ Some c.in-Some-anchor_due.anchor = sym (ap (anchor_due c.args.self.now) (to_z-of_z w64 c.args.now c.ranges.now)) ∙ sym c.anchor_due.ensures ∙ c.in-Some-anchor_due.is in
-    let d = due c.args.self.now c.args.now c.in-Some-anchor_due.anchor is in
-    omega (arith, ints, d.1, r.not_far)
-
-pub returns-in-Some-anchor_due-clause-stands : goal.returns-in-Some-anchor_due-clause-stands
-returns-in-Some-anchor_due-clause-stands g c = λ stream open_at events k at.
-    let time_fits : FitsSigned w64 c.self.inside.time = search rules in
-    let r : IsAtReading c.args.self.now c.self.inside.next_media c.args.now = at_reading _ c.args.self.now c.self.inside.next_media c.args.now c.self.view_is c.self.invariant (rw (to_z-of_z w64 c.self.inside.time time_fits, to_z-of_z w64 c.args.now c.ranges.now) at (sym c.clock_fault.ensures ∙ c.in_default.is)) in
-    let is : anchor_due c.args.self.now c.args.now ≡ Some c.in-Some-anchor_due.anchor = sym (ap (anchor_due c.args.self.now) (to_z-of_z w64 c.args.now c.ranges.now)) ∙ sym c.anchor_due.ensures ∙ c.in-Some-anchor_due.is in
-    let d = due c.args.self.now c.args.now c.in-Some-anchor_due.anchor is in
-    subst (λ o. Advances stream open_at c.args.self.now c.pass_due_slot.new.self events k c.args.now o) (sym (next_is c.args.self.now c.args.now (Some c.in-Some-anchor_due.anchor) is))
-    (advance_slot stream open_at c.args.self.now c.self.inside.next_media r.sound r.open_yet events k at c.pass_due_slot.new.self c.in-Some-anchor_due.anchor c.args.now d.0 d.1 r.not_far c.pass_due_slot.ensures)
-
-pub returns-in-Some-anchor_due-clause-moved : goal.returns-in-Some-anchor_due-clause-moved
-returns-in-Some-anchor_due-clause-moved g c =
-    let time_fits : FitsSigned w64 c.self.inside.time = search rules in
-    let r : IsAtReading c.args.self.now c.self.inside.next_media c.args.now = at_reading _ c.args.self.now c.self.inside.next_media c.args.now c.self.view_is c.self.invariant (rw (to_z-of_z w64 c.self.inside.time time_fits, to_z-of_z w64 c.args.now c.ranges.now) at (sym c.clock_fault.ensures ∙ c.in_default.is)) in
-    let is : anchor_due c.args.self.now c.args.now ≡ Some c.in-Some-anchor_due.anchor = sym (ap (anchor_due c.args.self.now) (to_z-of_z w64 c.args.now c.ranges.now)) ∙ sym c.anchor_due.ensures ∙ c.in-Some-anchor_due.is in
-    let d = due c.args.self.now c.args.now c.in-Some-anchor_due.anchor is in
-    let t = due_times c.args.self.now c.self.inside.next_media c.in-Some-anchor_due.anchor r.sound d.0 r.open_yet in
-    let time_is = ap (λ (m : MergeState). m.time) c.pass_due_slot.ensures.changed in
-    subst (λ o. Moves c.args.self.now c.pass_due_slot.new.self c.args.now o) (sym (next_is c.args.self.now c.args.now (Some c.in-Some-anchor_due.anchor) is))
-    (omega (arith, ints, time_is, t.later), omega (arith, ints, time_is, d.1), ap (λ (m : MergeState). m.closed) c.pass_due_slot.ensures.changed)
-
-pub pass_time-requires-clause-not_back : goal.pass_time-requires-clause-not_back
-pass_time-requires-clause-not_back g c =
-    let time_fits : FitsSigned w64 c.self.inside.time = search rules in
-    let r : IsAtReading c.args.self.now c.self.inside.next_media c.args.now = at_reading _ c.args.self.now c.self.inside.next_media c.args.now c.self.view_is c.self.invariant (rw (to_z-of_z w64 c.self.inside.time time_fits, to_z-of_z w64 c.args.now c.ranges.now) at (sym c.clock_fault.ensures ∙ c.in_default.is)) in
-    rw (to_z-of_z w64 c.args.now c.ranges.now) r.not_back
-
-pub returns-in-None-clause-stands : goal.returns-in-None-clause-stands
-returns-in-None-clause-stands g c = λ stream open_at events k at.
-    let time_fits : FitsSigned w64 c.self.inside.time = search rules in
-    let r : IsAtReading c.args.self.now c.self.inside.next_media c.args.now = at_reading _ c.args.self.now c.self.inside.next_media c.args.now c.self.view_is c.self.invariant (rw (to_z-of_z w64 c.self.inside.time time_fits, to_z-of_z w64 c.args.now c.ranges.now) at (sym c.clock_fault.ensures ∙ c.in_default.is)) in
-    let is : anchor_due c.args.self.now c.args.now ≡ None = sym (ap (anchor_due c.args.self.now) (to_z-of_z w64 c.args.now c.ranges.now)) ∙ sym c.anchor_due.ensures ∙ c.in-None.is in
-    let now_is = to_z-of_z w64 c.args.now c.ranges.now in
-    subst (λ o. Advances stream open_at c.args.self.now c.pass_time.new.self events k c.args.now o) (sym (next_is c.args.self.now c.args.now None is))
-    (advance_time stream open_at c.args.self.now c.self.inside.next_media r.sound r.open_yet events k at c.pass_time.new.self c.args.now (quiet_next c.args.self.now c.args.now) r.not_back r.not_far (not_due c.args.self.now c.args.now is) (rw now_is at c.pass_time.ensures))
+pub returns-clause-stands : goal.returns-clause-stands
+returns-clause-stands g c = λ stream open_at events k at.
+    subst (λ t. Advances stream open_at c.args.self.now c.pass_due.new.self events k t (next_mark c.args.self.now t)) (to_z-of_z w64 c.args.now c.ranges.now) (c.pass_due.ensures.stands stream open_at events k at)

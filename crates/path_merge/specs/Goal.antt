@@ -1,0 +1,44 @@
+-- The marks of a merge on the way to a goal.
+use Rattle.std.specs.Prelude.{◌≡◌, ℕ, ◌<◌, List, length, ℤ, Option, None, IfSome}
+use Rattle.stream_rules.specs.declared.stream_spec.Stream.{Stream}
+use Rattle.stream_rules.specs.declared.event.Event.{Event}
+use Rattle.stream_rules.specs.MarkFacts.{MarkView}
+use Rattle.stream_rules.specs.Marks.{marks_of}
+use Rattle.path_merge.specs.declared.goal.Goal.{Goal}
+use Rattle.path_merge.specs.declared.goal.Goal.TheVariants.{End, Reading}
+use Rattle.path_merge.specs.MergeState.{MergeState}
+use Rattle.path_merge.specs.Merge.{HasHistory}
+use Rattle.path_merge.specs.Clock.{clock_fault_of}
+use Rattle.path_merge.specs.Next.{next_left, next_mark}
+use Rattle.path_merge.specs.Steps.{Advances, Drains, Moves, marks_left}
+
+-- the reading is in order; to the end there is always a way, on which nothing is given before a close
+abbrev pub CanReach : MergeState → Goal → Type 0
+CanReach m (Reading now) = clock_fault_of m.time m.closed now ≡ None
+CanReach m End = Unit {0}
+
+-- the next mark on the way
+abbrev pub next_to : MergeState → Goal → Option MarkView
+next_to m (Reading now) = next_mark m now
+next_to m End = next_left m
+
+-- what is given on the way is the next of the marks: of a reading's, or of those that are left
+abbrev pub Gives : Stream → ℤ → MergeState → MergeState → List Event → ℕ → Goal → Option MarkView → Type 0
+Gives stream open_at old new events k (Reading now) mark = Advances stream open_at old new events k now mark
+Gives stream open_at old new events k End mark = Drains stream open_at new events k mark
+
+-- with each mark fewer are left; with none nothing changes
+pub record DrainsOn (old new : MergeState) (mark : Option MarkView) : Type 0 where
+  pub none : mark ≡ None → new ≡ old
+  pub fewer : IfSome mark (λ given. marks_left new < marks_left old)
+  pub time : new.time ≡ old.time
+
+-- the way gets shorter
+abbrev pub MovesTo : MergeState → MergeState → Goal → Option MarkView → Type 0
+MovesTo old new (Reading now) mark = Moves old new now mark
+MovesTo old new End mark = DrainsOn old new mark
+
+-- all marks of its history were given
+abbrev pub HasGivenAll : MergeState → Type 0
+HasGivenAll m = (stream : Stream) (open_at : ℤ) (events : List Event) (k : ℕ) → 0 < stream.frames
+    → HasHistory stream open_at m events k → k ≡ length (marks_of stream open_at events)
