@@ -7,7 +7,7 @@ use Rattle.std.proofs.Math.Seq.{take-add}
 use Rattle.stream_rules.specs.declared.stream_spec.Stream.{Stream}
 use Rattle.stream_rules.specs.MarkFacts.{MarkView}
 use Rattle.studio_session.specs.Event.{TraceEvent}
-use Rattle.studio_session.specs.Cursor.{CursorState, HasPulled, IsDue, IsOnTheWay, IsRunnable}
+use Rattle.studio_session.specs.Cursor.{CursorState, HasPulled, IsOnTheWay, IsRunnable}
 use Rattle.studio_session.proofs.CursorLemmas.{mark_of_whole}
 use Rattle.studio_spec.specs.Studio.{Studio}
 use Rattle.studio_session.specs.Play.{AreNew, stream_marks}
@@ -64,22 +64,6 @@ listed_given stream number open_at events a b c h i j old new None named run l g
       given = l.given;
       pulled = subst (HasPulled stream number open_at events new) none given.stands;
       wrote = subst (PassesOn a h c j) (append-nil marks) (PassesOn-trans a b c h i j marks [] l.wrote line);
-    }
-
--- no line is left
-pub listed_end : (stream : Stream) (number : ℕ) (open_at : ℤ) (events : List TraceEvent) (a b c : Option (List ℕ)) (h i j : List ℕ) (old new : CursorState)
-    → (l : HasListed stream number open_at events a h old b i) → IsDue stream number open_at events new l.given None → PassesOn b i c j []
-    → HasListedAll stream number open_at events a h new c j
-listed_end stream number open_at events a b c h i j old new l due line =
-    let none : l.given + 0 ≡ l.given = omega arith in
-    let marks = marks_text number (take l.given (stream_marks stream number open_at events)) in
-    record {
-      listed = record {
-        given = l.given;
-        pulled = subst (HasPulled stream number open_at events new) none due.stands;
-        wrote = subst (PassesOn a h c j) (append-nil marks) (PassesOn-trans a b c h i j marks [] l.wrote line);
-      };
-      none = due.mark;
     }
 
 -- no further line was written

@@ -17,36 +17,12 @@ use crate::listing::write_next;
 use std::io::Write;
 use studio_session::{Cursor, EventSource};
 
-/// Writes the lines of the marks on the way to the reading that was taken last.
-fn write_on_way<W: Write>(
+/// Writes the lines of the marks of the events that were taken.
+fn write_taken<W: Write>(
     text: &mut TextBuffer,
     writer: &mut W,
     cursor: &mut Cursor,
 ) -> Result<(), WriteFault>
-    ensures ok { OnOk result ((stream : Stream) (number : ℕ) (open_at : ℤ) (events : List TraceEvent) (written : Option (List ℕ)) (held : List ℕ)
-        → IsRunnable stream number open_at events → HasListed stream number open_at events written held cursor.old (W.contents writer.old) text.old
-        → HasListed stream number open_at events written held cursor.new (W.contents writer.new) text.new) }
-    ensures fault { OnErr result ((stream : Stream) (number : ℕ) (open_at : ℤ) (events : List TraceEvent) (written : Option (List ℕ)) (held : List ℕ)
-        → IsRunnable stream number open_at events → HasListed stream number open_at events written held cursor.old (W.contents writer.old) text.old
-        → BreaksOff written held (W.contents writer.new) (stream_listing open_at events stream number)) }
-    ensures settled { OnOk result (cursor.new.reading ≡ None) }
-    ensures kept { IsSameCursor cursor.old cursor.new }
-{
-    'marks: loop {
-        write_next(text, writer, cursor.number(), cursor.mark_on_way())?;
-        if !cursor.pass_on_way() {
-            return Ok(());
-        }
-    }
-}
-
-/// Writes the lines of the marks that are left after a close.
-fn write_left<W: Write>(
-    text: &mut TextBuffer,
-    writer: &mut W,
-    cursor: &mut Cursor,
-) -> Result<(), WriteFault>
-    requires settled { cursor.old.reading ≡ None }
     ensures ok { OnOk result ((stream : Stream) (number : ℕ) (open_at : ℤ) (events : List TraceEvent) (written : Option (List ℕ)) (held : List ℕ)
         → IsRunnable stream number open_at events → HasListed stream number open_at events written held cursor.old (W.contents writer.old) text.old
         → HasListedAll stream number open_at events written held cursor.new (W.contents writer.new) text.new) }
@@ -57,8 +33,8 @@ fn write_left<W: Write>(
     ensures kept { IsSameCursor cursor.old cursor.new }
 {
     'marks: loop {
-        write_next(text, writer, cursor.number(), cursor.mark_left())?;
-        if !cursor.pass_left() {
+        write_next(text, writer, cursor.number(), cursor.mark())?;
+        if !cursor.pass() {
             return Ok(());
         }
     }
@@ -84,8 +60,7 @@ fn write_marks<E: EventSource, W: Write>(
         → HasPulledSome stream number open_at (E.events source.now) cursor.new) }
 {
     'events: loop {
-        write_on_way(text, writer, cursor)?;
-        write_left(text, writer, cursor)?;
+        write_taken(text, writer, cursor)?;
         if !cursor.take_event(source) {
             return Ok(());
         }

@@ -1,26 +1,25 @@
 -- A stream of a run, event by event.
-use Rattle.std.proofs.Common.{◌≡◌, ◌≢◌, ◌<◌, ◌≤◌, ◌+◌, ℕ, zero, suc, Bool, true, false, nat_eq, if◌then◌else◌, List, [], ◌∷◌, ◌++◌, length, take, drop, ℤ, Option, Some, None, is_some, slice_get, refl, sym, ap, subst, ◌∙◌, arith}
+use Rattle.std.proofs.Common.{◌≡◌, ◌≢◌, ◌<◌, ◌+◌, ℕ, zero, suc, Bool, true, false, nat_eq, if◌then◌else◌, List, [], ◌∷◌, ◌++◌, length, take, drop, ℤ, Option, Some, None, slice_get, refl, sym, ap, subst, ◌∙◌, arith}
 use Rattle.std.specs.Option.{option_to_list}
 use Rattle.std.proofs.lemmas.Grind.{flat_map-append}
-use Rattle.std.proofs.lemmas.List.{take_more, take_all, append-nil, take-append-drop}
+use Rattle.std.proofs.lemmas.List.{drop_all, take_more, append-nil, take-append-drop}
 use Rattle.std.proofs.lemmas.Option.{slice_get_within, get_or_from_slice_get}
 use Rattle.stream_rules.specs.declared.stream_spec.Stream.{Stream}
 use Rattle.stream_rules.specs.declared.event.Event.{Event}
-use Rattle.std.specs.Bool.{then_some}
-use Rattle.stream_rules.specs.Marks.{marks_of, is_slot}
+use Rattle.stream_rules.specs.Marks.{marks_of}
 use Rattle.stream_rules.specs.MarkFacts.{MarkView}
 use Rattle.path_merge.proofs.LawLemmas.{marks_stay}
 use Rattle.path_merge.proofs.JoinLemmas.{alike-refl}
 use Rattle.lane_align.proofs.MarkListLemmas.{both_left}
 use Rattle.path_merge.specs.Steps.{Drains, is_slot_mark}
-use Rattle.std.proofs.lemmas.Bool.{false≢true}
-use Rattle.studio_session.proofs.WayLemmas.{in_time, next_in_whole}
+use Rattle.path_merge.specs.Goal.{CanReach, Gives, HasGivenAll, MovesTo}
+use Rattle.studio_session.proofs.WayLemmas.{in_time, next_in_whole, went_on}
 use Rattle.path_merge.proofs.HistoryLemmas.{is_well_timed_from-append}
 use Rattle.stream_rules.specs.declared.event.Event.TheVariants.{Tick}
 use Rattle.path_merge.specs.MergeState.{MergeState}
 use Rattle.path_merge.specs.Merge.{HasHistory}
 use Rattle.studio_session.specs.Way.{IsOnWay, WentOn, on_way_after}
-use Rattle.studio_session.specs.Cursor.{IsRunnable, CursorState, HasPulled, IsDue}
+use Rattle.studio_session.specs.Cursor.{IsRunnable, CursorState, HasPulled, IsOnTheWay, goal_of, next_of}
 use Rattle.std.proofs.lemmas.Bool.Decides.{nat_tests}
 use Rattle.stream_rules.specs.History.{is_well_timed}
 use Rattle.studio_session.specs.Event.{TraceEvent, Arrival, Reading, Closing, outline_of}
@@ -39,13 +38,6 @@ history_more stream number events i event at =
     ap (stream_history stream number) (take_more events i event (slice_get_within events i event at) ∙ ap (λ e. take i events ++ e ∷ []) (get_or_from_slice_get events i event event at))
     ∙ flat_map-append one (take i events) (event ∷ [])
     ∙ ap (λ l. stream_history stream number (take i events) ++ l) (append-nil (one event))
-
--- all events were taken, and no mark is left
-pub all_pulled : (stream : Stream) (number : ℕ) (open_at : ℤ) (events : List TraceEvent) (cursor : CursorState) (k : ℕ) → length events ≤ cursor.place
-    → IsDue stream number open_at events cursor k None
-    → option_to_list None ≡ take 1 (drop k (marks_of stream open_at (stream_history stream number events)))
-all_pulled stream number open_at events cursor k all due =
-    due.mark ∙ ap (λ l. take 1 (drop k (marks_of stream open_at (stream_history stream number l)))) (take_all cursor.place events all)
 
 pub event_here : (events : List TraceEvent) (i : ℕ) → i < length events → (event : TraceEvent) × (slice_get events i ≡ Some event)
 event_here [] i h = absurd (omega arith)
@@ -118,32 +110,71 @@ due_on_way stream number open_at events k x new u mark reading pulled after went
 }
 
 -- a mark that is left is the next of what was taken
-pub due_left : (stream : Stream) (number : ℕ) (open_at : ℤ) (events : List TraceEvent) (k : ℕ) (x : CursorState) (new : MergeState) (mark : Option MarkView)
-    → HasPulled stream number open_at events x k → x.reading ≡ None
+pub due_left : (stream : Stream) (number : ℕ) (open_at : ℤ) (events : List TraceEvent) (k : ℕ) (x : CursorState) (new : MergeState) (mark : Option MarkView) (reading : Option ℤ)
+    → HasPulled stream number open_at events x k → x.reading ≡ None → reading ≡ None
     → ((h : List Event) → HasHistory stream open_at x.merge h k → Drains stream open_at new h k mark)
-    → IsDue stream number open_at events (record x { merge = new }) k mark
-due_left stream number open_at events k x new mark pulled none drains =
+    → IsOnTheWay stream number open_at events (record x { merge = new; reading = reading }) k mark
+due_left stream number open_at events k x new mark reading pulled none none_new drains =
     let h = stream_history stream number (take x.place events) in
     let left = drains h (settled stream open_at x.merge x.reading h k none pulled.stands) in
     record {
-      mark = left.given;
+      mark = λ m e. sym (ap option_to_list e) ∙ left.given;
       stands = record {
         spec = pulled.spec;
         stream_number = pulled.stream_number;
         within = pulled.within;
         counted = pulled.counted;
-        stands = way_settled stream open_at new x.reading h (k + length (option_to_list mark)) none left.stands;
+        stands = way_settled stream open_at new reading h (k + length (option_to_list mark)) none_new left.stands;
       };
     }
 
 -- the reading that is still to be reached, by whether the mark was a slot
-pub still_on_way : (mark : Option MarkView) (u : ℤ) → then_some (is_slot_mark mark) u ≡ on_way_after mark u
+still_on_way : (mark : Option MarkView) (u : ℤ) → (if is_slot_mark mark then Some u else None) ≡ on_way_after mark u
 still_on_way None u = refl
-still_on_way (Some mark) u = by_test (is_slot mark.kind)
+still_on_way (Some mark) u = refl
+
+-- to the end there is always a way
+pub can_settled : (merge : MergeState) (reading : Option ℤ) → reading ≡ None → CanReach merge (goal_of reading)
+can_settled merge reading none = subst (λ r. CanReach merge (goal_of r)) (sym none) tt
+
+-- the next mark was given
+pub passed : (stream : Stream) (number : ℕ) (open_at : ℤ) (events : List TraceEvent) (k : ℕ) (x : CursorState) (new : MergeState) (more : Bool) (reading : Option ℤ)
+    → IsRunnable stream number open_at events → HasPulled stream number open_at events x k
+    → ((h : List Event) (j : ℕ) → HasHistory stream open_at x.merge h j → Gives stream open_at x.merge new h j (goal_of x.reading) (next_of x))
+    → MovesTo x.merge new (goal_of x.reading) (next_of x)
+    → more ≡ is_slot_mark (next_of x) → reading ≡ (if more then x.reading else None)
+    → IsOnTheWay stream number open_at events (record x { merge = new; reading = reading }) k (next_of x)
+passed stream number open_at events k x new more reading run pulled gives moves slot is = by_reading x.reading refl
   where
-    by_test : (b : Bool) → then_some b u ≡ (if b then Some u else None)
-    by_test true = refl
-    by_test false = refl
+    h : List Event
+    h = stream_history stream number (take x.place events)
+
+    neither : (o : Option ℤ) (b : Bool) → o ≡ None → (if b then o else None) ≡ None
+    neither o true e = e
+    neither o false e = refl
+
+    by_reading : (o : Option ℤ) → x.reading ≡ o → IsOnTheWay stream number open_at events (record x { merge = new; reading = reading }) k (next_of x)
+    by_reading None none =
+        due_left stream number open_at events k x new (next_of x) reading pulled none (is ∙ neither x.reading more none)
+        (λ e at. subst (λ r. Gives stream open_at x.merge new e k (goal_of r) (next_of x)) none (gives e k at))
+    by_reading (Some u) some =
+        let way : IsOnWay stream open_at x.merge (Some u) h k = subst (λ r. IsOnWay stream open_at x.merge r h k) some pulled.stands in
+        let went = went_on stream open_at x.merge new h k u (next_of x) run.some_frames way
+        (λ e at. subst (λ r. Gives stream open_at x.merge new e k (goal_of r) (next_of x)) some (gives e k at))
+        (subst (λ r. MovesTo x.merge new (goal_of r) (next_of x)) some moves) in
+        record {
+          mark = went.given;
+          stands = due_on_way stream number open_at events k x new u (next_of x) reading pulled (is ∙ ap (λ r. if more then r else None) some ∙ ap (λ b. if b then Some u else None) slot ∙ still_on_way (next_of x) u) went;
+        }
+
+-- where all was given, no mark is left of what was taken
+pub none_due : (stream : Stream) (number : ℕ) (open_at : ℤ) (events : List TraceEvent) (cursor : CursorState) (k : ℕ) → IsRunnable stream number open_at events
+    → HasPulled stream number open_at events cursor k → cursor.reading ≡ None → HasGivenAll cursor.merge
+    → [] ≡ take 1 (drop k (marks_of stream open_at (stream_history stream number (take cursor.place events))))
+none_due stream number open_at events cursor k run pulled none all =
+    let h = stream_history stream number (take cursor.place events) in
+    let whole : k ≡ length (marks_of stream open_at h) = all stream open_at h k run.some_frames (settled stream open_at cursor.merge cursor.reading h k none pulled.stands) in
+    sym (ap (take 1) (drop_all k (marks_of stream open_at h) (omega (arith, whole))))
 
 -- an event by its outline
 abbrev stream_in : Outline → ℕ
@@ -191,8 +222,3 @@ others_arrival stream s number path octets other = by_test (nat_eq s number) ref
     by_test : (b : Bool) → nat_eq s number ≡ b → (if b then Datagram path (reception_of stream octets) else Other) ≡ Other
     by_test true e = absurd (other (grind (arith, nat_tests)))
     by_test false e = refl
-
--- what is none where it isn't some
-pub none_of : {X : Type 0} (o : Option X) → is_some o ≡ false → o ≡ None
-none_of None e = refl
-none_of (Some x) e = absurd (false≢true (sym e))

@@ -1,10 +1,9 @@
 -- Marks of one stream after another, handed to the mixer.
-use Rattle.std.proofs.Common.{◌≡◌, inl, inr, ◌<◌, ◌≤◌, ◌+◌, ℕ, zero, suc, true, List, [], ◌∷◌, ◌++◌, length, take, drop, set, ℤ, Option, Some, None, slice_get, refl, sym, ap, subst, ◌∙◌, arith, Bool, false, not}
-use Rattle.std.specs.Option.{option_map, option_to_list}
+use Rattle.std.proofs.Common.{◌≡◌, inl, inr, ◌<◌, ◌≤◌, ◌+◌, ℕ, zero, suc, true, List, [], ◌∷◌, ◌++◌, length, take, drop, set, Option, Some, None, slice_get, refl, sym, ap, subst, ◌∙◌, arith, Bool, false, not}
+use Rattle.std.specs.Option.{option_map}
 use Rattle.std.specs.Prelude.{IfSome}
 use Rattle.std.proofs.lemmas.List.{length_push, take_all}
 use Rattle.std.proofs.lemmas.Option.{slice_get-map}
-use Rattle.stream_rules.specs.declared.stream_spec.Stream.{Stream}
 use Rattle.stream_rules.specs.StreamSpecFacts.{format_of}
 use Rattle.stream_rules.specs.MarkFacts.{MarkView}
 use Rattle.stream_rules.specs.MarkList.{is_mark_list}
@@ -17,7 +16,7 @@ use Rattle.studio_mix.specs.Feed.{Feed}
 use Rattle.studio_mix.specs.Mixer.{MixerState, HasFeeds}
 use Rattle.studio_session.specs.Event.{TraceEvent}
 use Rattle.studio_session.specs.Session.{stream_history}
-use Rattle.studio_session.specs.Cursor.{CursorState, HasPulled, IsDue, IsOnTheWay, IsRunnable}
+use Rattle.studio_session.specs.Cursor.{CursorState, HasPulled, IsOnTheWay, IsRunnable}
 use Rattle.studio_session.specs.Play.{IsRunnableBy, TakesMark, Plays, PlaysOut, PlaysFinal, stream_marks}
 use Rattle.studio_session.proofs.CursorLemmas.{mark_of_whole}
 
@@ -107,20 +106,6 @@ plays_given studio events feeds next number mixer new cursor moved None run with
     let same : length p.feed.marks + 0 ≡ length p.feed.marks = omega arith in
     subst (λ (m : MixerState). Plays studio events feeds next number m moved) (sym (none refl))
     (plays_on studio events feeds next number mixer cursor moved p (subst (HasPulled p.feed.stream number studio.open_at events moved) same given.stands))
-
--- what is due is on the way
-pub on_the_way : (stream : Stream) (number : ℕ) (open_at : ℤ) (events : List TraceEvent) (cursor : CursorState) (k : ℕ) (mark : Option MarkView)
-    → IsDue stream number open_at events cursor k mark → IsOnTheWay stream number open_at events cursor k mark
-on_the_way stream number open_at events cursor k mark due = record { mark = λ m e. sym (ap option_to_list e) ∙ due.mark; stands = due.stands }
-
-pub plays_out : (studio : Studio) (events : List TraceEvent) (feeds : List Feed) (next number : ℕ) (mixer : MixerState) (cursor moved : CursorState)
-    → (p : Plays studio events feeds next number mixer cursor) → HasPulled p.feed.stream number studio.open_at events moved (length p.feed.marks)
-    → [] ≡ take 1 (drop (length p.feed.marks) (stream_marks p.feed.stream number studio.open_at (take moved.place events)))
-    → PlaysOut studio events feeds next number mixer moved
-plays_out studio events feeds next number mixer cursor moved p pulled none = record {
-  plays = record { feed = p.feed; fed = p.fed; given = record { pulled = pulled; first = p.given.first } };
-  none = none;
-}
 
 covered_of : (wants covered : Bool) → wants ≡ false → wants ≡ not covered → covered ≡ true
 covered_of wants true e f = refl

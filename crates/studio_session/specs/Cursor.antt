@@ -4,9 +4,10 @@ use Rattle.std.specs.Option.{option_to_list}
 use Rattle.stream_rules.specs.declared.stream_spec.Stream.{Stream}
 use Rattle.stream_rules.specs.MarkFacts.{MarkView}
 use Rattle.path_merge.specs.MergeState.{MergeState}
-use Rattle.path_merge.specs.Clock.{clock_fault_of}
-use Rattle.path_merge.specs.Next.{next_mark}
-use Rattle.path_merge.specs.declared.clock.ClockFault.{ClockFault}
+use Rattle.path_merge.specs.declared.goal.Goal.{Goal}
+use Rattle.path_merge.specs.declared.goal.Goal.TheVariants.{End, Reading as ToReading}
+use Rattle.path_merge.specs.Goal.{CanReach, next_to}
+use Rattle.path_merge.specs.Steps.{marks_left}
 use Rattle.stream_rules.specs.Marks.{marks_of}
 use Rattle.stream_rules.specs.History.{is_well_timed}
 use Rattle.studio_session.specs.Event.{TraceEvent, Arrival}
@@ -24,6 +25,11 @@ pub record CursorState : Type 0 where
   pub place : ℕ
   pub reading : Option ℤ
 
+-- where the marks of what was taken lead to
+abbrev pub goal_of : Option ℤ → Goal
+goal_of (Some u) = ToReading u
+goal_of None = End
+
 -- no path was offered more than there were events
 abbrev pub HaveFew : ℕ → List PathTally → Type 0
 HaveFew place tallies = (path : ℕ) (tally : PathTally) → slice_get tallies path ≡ Some tally → tally.offered ≤ place
@@ -32,6 +38,7 @@ pub record IsCursor (cursor : CursorState) : Type 0 where
   pub spec : cursor.merge.spec ≡ cursor.spec
   pub four : length cursor.tallies ≡ 4
   pub few : HaveFew cursor.place cursor.tallies
+  pub can : CanReach cursor.merge (goal_of cursor.reading)
 
 -- so many events were taken and counted, and the first k marks of all of them were given
 pub record HasPulled (stream : Stream) (number : ℕ) (open_at : ℤ) (events : List TraceEvent) (cursor : CursorState) (k : ℕ) : Type 0 where
@@ -62,10 +69,10 @@ pub record IsSameCursor (old new : CursorState) : Type 0 where
   pub tallies : new.tallies ≡ old.tallies
   pub place : new.place ≡ old.place
 
--- how far it is from a reading, and from the end of the events
+-- how far it is from there, and from the end of the events
 abbrev pub way_to : MergeState → Option ℤ → ℕ
-way_to merge None = 0
-way_to merge (Some u) = 1 + natural (u -ℤ merge.time)
+way_to merge (Some u) = natural (u -ℤ merge.time)
+way_to merge None = marks_left merge
 
 abbrev pub way_left : CursorState → ℕ
 way_left cursor = way_to cursor.merge cursor.reading
@@ -73,24 +80,11 @@ way_left cursor = way_to cursor.merge cursor.reading
 abbrev pub events_left : List TraceEvent → CursorState → ℕ
 events_left events cursor = length events - cursor.place
 
--- the next mark on the way to a reading, unless the clock refuses it
-abbrev pub mark_unless : Option ClockFault → Option MarkView → Option MarkView
-mark_unless None mark = mark
-mark_unless (Some fault) mark = None
-
-abbrev pub next_to : MergeState → Option ℤ → Option MarkView
-next_to merge None = None
-next_to merge (Some u) = mark_unless (clock_fault_of merge.time merge.closed u) (next_mark merge u)
-
-abbrev pub next_on_way : CursorState → Option MarkView
-next_on_way cursor = next_to cursor.merge cursor.reading
+-- the next mark of what was taken
+abbrev pub next_of : CursorState → Option MarkView
+next_of cursor = next_to cursor.merge (goal_of cursor.reading)
 
 -- a mark that was given on the way is the next of what was taken
 pub record IsOnTheWay (stream : Stream) (number : ℕ) (open_at : ℤ) (events : List TraceEvent) (cursor : CursorState) (k : ℕ) (given : Option MarkView) : Type 0 where
   pub mark : (m : MarkView) → given ≡ Some m → m ∷ [] ≡ take 1 (drop k (marks_of stream open_at (stream_history stream number (take cursor.place events))))
-  pub stands : HasPulled stream number open_at events cursor (k + length (option_to_list given))
-
--- the next mark of what was taken, if one is left of it
-pub record IsDue (stream : Stream) (number : ℕ) (open_at : ℤ) (events : List TraceEvent) (cursor : CursorState) (k : ℕ) (given : Option MarkView) : Type 0 where
-  pub mark : option_to_list given ≡ take 1 (drop k (marks_of stream open_at (stream_history stream number (take cursor.place events))))
   pub stands : HasPulled stream number open_at events cursor (k + length (option_to_list given))

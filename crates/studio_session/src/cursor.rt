@@ -5,28 +5,27 @@ ghost use Rattle.stream_rules.specs.declared.stream_spec.Stream.{Stream};
 ghost use Rattle.stream_rules.specs.declared.event.Event.{Event};
 ghost use Rattle.stream_rules.specs.Counts.{tally_of};
 ghost use Rattle.path_merge.specs.Merge.{HasHistory};
-ghost use Rattle.path_merge.specs.Next.{next_left};
-ghost use Rattle.path_merge.specs.Steps.{is_slot_mark, marks_left, Moves};
+ghost use Rattle.path_merge.specs.Clock.{clock_fault_of};
+ghost use Rattle.path_merge.specs.Goal.{CanReach, HasGivenAll};
 ghost use Rattle.studio_session.specs.Event.{TraceEvent, Arrival, Reading, Closing, outline_of};
 ghost use Rattle.stream_rules.specs.Reception.{reception_from, FitsReception};
 ghost use Rattle.studio_session.specs.Session.{Datagram, Other, step_of, event_in};
 ghost use Rattle.stream_rules.specs.PathCounts.{path_tally_of, tallies_of};
 ghost use Rattle.studio_session.specs.Counts.{HasCounted};
-ghost use Rattle.studio_session.specs.Way.{IsOnWay, WentOn};
-ghost use Rattle.studio_session.specs.Cursor.{HasPulled, HaveFew, IsReadyFor, IsSameCursor, IsRunnable, IsDue, IsOnTheWay, next_on_way, next_to, way_left, events_left};
+ghost use Rattle.studio_session.specs.Cursor.{HasPulled, HaveFew, IsReadyFor, IsSameCursor, IsRunnable, IsOnTheWay, next_of, way_left, events_left};
+ghost use Rattle.studio_session.specs.Cursor as goal;
 
 use crate::event::Outline;
 use crate::source::{EventSource, MOST_OCTETS};
-use path_merge::{Counts, MarkRef, Merge, Path, SlotWindow, StreamSpec};
+use path_merge::{Counts, Goal, MarkRef, Merge, Path, SlotWindow, StreamSpec};
 use std::alloc::{AllocError, Global};
 use std::marker::Model;
 use stream_rules::{PathCounts, ReceptionRef, receive_ref};
 
 /// A stream of a run.
 ///
-/// `take_event` goes on in the events. What an event gives is lent mark by mark: by `mark_on_way` until
-/// `pass_on_way` answers that no more is on the way to a reading, and by `mark_left` until `pass_left`
-/// answers that no more is left after a close.
+/// `take_event` goes on in the events. What an event gives is lent mark by mark: by `mark` until `pass`
+/// answers that no more may follow.
 #[derive(Drop)]
 pub struct Cursor {
     spec: StreamSpec,
@@ -108,55 +107,29 @@ impl Cursor {
         self.paths[usize::from(path.number())]
     }
 
-    /// The next mark on the way to the reading that was taken last, if one is before it is reached.
-    pub fn mark_on_way(&self) -> Option<MarkRef<'_>>
-        ensures { result ≡ next_on_way self.now }
+    /// The next mark of the events that were taken, if one is left of them.
+    pub fn mark(&self) -> Option<MarkRef<'_>>
+        ensures { result ≡ next_of self.now }
     {
-        match self.merge.mark_at(self.reading?) {
-            Ok(mark) => mark,
-            Err(_) => None,
-        }
+        self.merge.mark_to(goal_of(self.reading))
     }
 
-    /// Lets that mark go. Answers whether there may be more on the way.
-    pub fn pass_on_way(&mut self) -> bool
+    /// Lets that mark go. Answers whether more may follow.
+    pub fn pass(&mut self) -> bool
         ensures stands { (stream : Stream) (number : ℕ) (open_at : ℤ) (events : List TraceEvent) (k : ℕ)
             → IsRunnable stream number open_at events
             → HasPulled stream number open_at events self.old k
-            → IsOnTheWay stream number open_at events self.new k (next_on_way self.old) }
+            → IsOnTheWay stream number open_at events self.new k (next_of self.old) }
         ensures kept { IsSameCursor self.old self.new }
         ensures settled { result ≡ false → self.new.reading ≡ None }
+        ensures all { result ≡ false → HasGivenAll self.new.merge }
         ensures fewer { result ≡ true → way_left self.new < way_left self.old }
     {
-        let Some(now) = self.reading else {
-            return false;
-        };
-        let more = go_on(&mut self.merge, now);
-        self.reading = more.then_some(now);
+        let more = self.merge.pass_to(goal_of(self.reading));
+        if !more {
+            self.reading = None;
+        }
         more
-    }
-
-    /// The next mark that is left after a close.
-    pub fn mark_left(&self) -> Option<MarkRef<'_>>
-        ensures { result ≡ next_left self.now.merge }
-    {
-        self.merge.mark_left()
-    }
-
-    /// Lets that mark go. Answers whether there was one.
-    pub fn pass_left(&mut self) -> bool
-        requires settled { self.old.reading ≡ None }
-        ensures stands { (stream : Stream) (number : ℕ) (open_at : ℤ) (events : List TraceEvent) (k : ℕ)
-            → HasPulled stream number open_at events self.old k
-            → IsDue stream number open_at events self.new k (next_left self.old.merge) }
-        ensures some { result ≡ is_some (next_left self.old.merge) }
-        ensures kept { IsSameCursor self.old self.new }
-        ensures settled { self.new.reading ≡ None }
-        ensures fewer { result ≡ true → marks_left self.new.merge < marks_left self.old.merge }
-    {
-        let some = self.merge.mark_left().is_some();
-        self.merge.pass_left();
-        some
     }
 
     /// Takes the next event of the stream, and passes over those of others before it; false where no
@@ -267,7 +240,7 @@ impl Cursor {
             → IsRunnable stream number open_at events → slice_get events self.old.place ≡ Some (Reading now)
             → HasPulled stream number open_at events self.old k → HasPulled stream number open_at events self.new k }
     {
-        self.reading = Some(now);
+        self.reading = reading_of(&self.merge, now);
         self.place += 1;
     }
 
@@ -318,17 +291,24 @@ fn offer_received(merge: &mut Merge<SlotWindow>, path: Path, reception: Receptio
     }
 }
 
-/// Lets the next mark on the way to a reading go. Answers whether it was a slot: then more may follow.
-fn go_on(merge: &mut Merge<SlotWindow>, now: i64) -> bool
-    ensures stands { (stream : Stream) (open_at : ℤ) (events : List Event) (k : ℕ) → 0 < stream.frames
-        → IsOnWay stream open_at merge.old (Some now) events k → WentOn stream open_at merge.new now events k (next_to merge.old (Some now)) }
-    ensures slot { result ≡ is_slot_mark (next_to merge.old (Some now)) }
-    ensures spec { merge.new.spec ≡ merge.old.spec }
-    ensures moved { result ≡ true → Moves merge.old merge.new now (next_to merge.old (Some now)) }
+/// The reading to set out for, unless the clock refuses it.
+fn reading_of(merge: &Merge<SlotWindow>, now: i64) -> Option<i64>
+    ensures can { CanReach merge.now (goal.goal_of result) }
+    ensures some { clock_fault_of merge.now.time merge.now.closed now ≡ None → result ≡ Some now }
 {
-    match merge.pass(now) {
-        Ok(slot) => slot,
-        Err(_) => false,
+    match merge.goal(now) {
+        Ok(_) => Some(now),
+        Err(_) => None,
+    }
+}
+
+/// Where marks are taken to: the reading that was taken last, or the end.
+fn goal_of(reading: Option<i64>) -> Goal
+    ensures { result ≡ goal.goal_of reading }
+{
+    match reading {
+        Some(now) => Goal::Reading(now),
+        None => Goal::End,
     }
 }
 

@@ -8,25 +8,14 @@ ghost use Rattle.studio_session.specs.Report.{HasCounts, HasPulledAll, HasPulled
 use crate::cursor::Cursor;
 use crate::source::EventSource;
 
-/// Drops the marks on the way to the reading that was taken last.
-fn drop_on_way(cursor: &mut Cursor)
+/// Drops the marks of the events that were taken.
+fn drop_marks(cursor: &mut Cursor)
     ensures stands { (stream : Stream) (number : ℕ) (open_at : ℤ) (events : List TraceEvent) → IsRunnable stream number open_at events
-        → HasPulledSome stream number open_at events cursor.old → HasPulledSome stream number open_at events cursor.new }
-    ensures settled { cursor.new.reading ≡ None }
-    ensures kept { IsSameCursor cursor.old cursor.new }
-{
-    'marks: while cursor.pass_on_way() {}
-}
-
-/// Drops the marks that are left after a close.
-fn drop_left(cursor: &mut Cursor)
-    requires settled { cursor.old.reading ≡ None }
-    ensures stands { (stream : Stream) (number : ℕ) (open_at : ℤ) (events : List TraceEvent)
         → HasPulledSome stream number open_at events cursor.old → HasPulledAll stream number open_at events cursor.new }
     ensures settled { cursor.new.reading ≡ None }
     ensures kept { IsSameCursor cursor.old cursor.new }
 {
-    'marks: while cursor.pass_left() {}
+    'marks: while cursor.pass() {}
 }
 
 /// Takes all events, and drops all marks that weren't given, so that the cursor's counts are whole.
@@ -38,8 +27,7 @@ pub fn finish_stream<E: EventSource>(cursor: &mut Cursor, source: &E)
         → HasCounts stream number open_at (E.events source.now) cursor.new }
 {
     'events: loop {
-        drop_on_way(cursor);
-        drop_left(cursor);
+        drop_marks(cursor);
         if !cursor.take_event(source) {
             return;
         }

@@ -32,39 +32,16 @@ fn hand_on(mixer: &mut Mixer, stream: usize, mark: Option<MarkRef<'_>>)
     }
 }
 
-/// Hands on the marks on the way to the reading that was taken last.
-fn pull_on_way(mixer: &mut Mixer, stream: usize, cursor: &mut Cursor)
+/// Hands on the marks of the events that were taken; true where none is left, false where no more is wanted.
+fn pull_marks(mixer: &mut Mixer, stream: usize, cursor: &mut Cursor) -> bool
     requires stream { stream < length mixer.old.lanes }
-    ensures stands { (studio : Studio) (events : List TraceEvent) (feeds : List Feed) (next : ℕ)
-        → IsRunnableBy studio events → stream < length feeds
-        → Plays studio events feeds next stream mixer.old cursor.old → Plays studio events feeds next stream mixer.new cursor.new }
-    ensures settled { is_wanted_by mixer.new stream ≡ true → cursor.new.reading ≡ None }
-    ensures kept { IsSameCursor cursor.old cursor.new }
-    ensures packer { mixer.new.packer ≡ mixer.old.packer }
-    ensures streams { length mixer.new.lanes ≡ length mixer.old.lanes }
-{
-    'marks: loop {
-        if !mixer.wants(stream) {
-            return;
-        }
-        hand_on(mixer, stream, cursor.mark_on_way());
-        if !cursor.pass_on_way() {
-            return;
-        }
-    }
-}
-
-/// Hands on the marks that are left after a close; true where none is left.
-fn pull_left(mixer: &mut Mixer, stream: usize, cursor: &mut Cursor) -> bool
-    requires stream { stream < length mixer.old.lanes }
-    requires settled { cursor.old.reading ≡ None }
     ensures out { result ≡ true → (studio : Studio) (events : List TraceEvent) (feeds : List Feed) (next : ℕ)
         → IsRunnableBy studio events → stream < length feeds
         → Plays studio events feeds next stream mixer.old cursor.old → PlaysOut studio events feeds next stream mixer.new cursor.new }
     ensures covered { result ≡ false → (studio : Studio) (events : List TraceEvent) (feeds : List Feed) (next : ℕ)
         → IsRunnableBy studio events → stream < length feeds
         → Plays studio events feeds next stream mixer.old cursor.old → PlaysFinal studio events feeds next stream mixer.new cursor.new }
-    ensures settled { cursor.new.reading ≡ None }
+    ensures settled { result ≡ true → cursor.new.reading ≡ None }
     ensures kept { IsSameCursor cursor.old cursor.new }
     ensures packer { mixer.new.packer ≡ mixer.old.packer }
     ensures streams { length mixer.new.lanes ≡ length mixer.old.lanes }
@@ -73,8 +50,8 @@ fn pull_left(mixer: &mut Mixer, stream: usize, cursor: &mut Cursor) -> bool
         if !mixer.wants(stream) {
             return false;
         }
-        hand_on(mixer, stream, cursor.mark_left());
-        if !cursor.pass_left() {
+        hand_on(mixer, stream, cursor.mark());
+        if !cursor.pass() {
             return true;
         }
     }
@@ -98,11 +75,7 @@ pub(crate) fn pull<E: EventSource>(
     ensures streams { length mixer.new.lanes ≡ length mixer.old.lanes }
 {
     'events: loop {
-        pull_on_way(mixer, stream, cursor);
-        if !mixer.wants(stream) {
-            return;
-        }
-        if !pull_left(mixer, stream, cursor) {
+        if !pull_marks(mixer, stream, cursor) {
             return;
         }
         if !cursor.take_event(source) {

@@ -14,36 +14,25 @@ events-preserved g c =
     record {
       ready = c.take_event.ensures.ready;
       stands = λ stream number open_at run pulled.
-          let on = c.in_ok-write_on_way.ensures.ok stream number open_at events _ _ run (c.events.invariant.stands stream number open_at run pulled) in
-          let left = c.in_ok-write_left.ensures.ok stream number open_at events _ _ run on in
-          listed_next stream number open_at events _ _ _ _ c.write_left.new.cursor c.take_event.new.self left.listed
+          let left = c.in_ok-write_taken.ensures.ok stream number open_at events _ _ run (c.events.invariant.stands stream number open_at run pulled) in
+          listed_next stream number open_at events _ _ _ _ c.write_taken.new.cursor c.take_event.new.self left.listed
           (c.take_event.ensures.stands stream number open_at left.listed.given run left.listed.pulled);
     }
 
-pub returns-in_err-write_on_way-clause-fault : goal.returns-in_err-write_on_way-clause-fault
-returns-in_err-write_on_way-clause-fault g c =
-    let is : c.from_residual.result ≡ Err c.in_err-write_on_way.field-0.0 = search rules in
+pub returns-in_err-write_taken-clause-fault : goal.returns-in_err-write_taken-clause-fault
+returns-in_err-write_taken-clause-fault g c =
+    let is : c.from_residual.result ≡ Err c.in_err-write_taken.field-0.0 = search rules in
     rw is (λ stream number open_at run pulled.
-    c.in_err-write_on_way.ensures.fault stream number open_at (g.E.EventSource.events c.args.source.now) _ _ run (c.events.invariant.stands stream number open_at run pulled))
-
-pub returns-in_err-write_left-clause-fault : goal.returns-in_err-write_left-clause-fault
-returns-in_err-write_left-clause-fault g c =
-    let is : c.from_residual-in_err-write_left.result ≡ Err c.in_err-write_left.field-0.0 = search rules in
-    rw is (λ stream number open_at run pulled.
-    let events = g.E.EventSource.events c.args.source.now in
-    c.in_err-write_left.ensures.fault stream number open_at events _ _ run
-    (c.in_ok-write_on_way.ensures.ok stream number open_at events _ _ run (c.events.invariant.stands stream number open_at run pulled)))
+    c.in_err-write_taken.ensures.fault stream number open_at (g.E.EventSource.events c.args.source.now) _ _ run (c.events.invariant.stands stream number open_at run pulled))
 
 pub returns-then-not-take_event-clause-ok : goal.returns-then-not-take_event-clause-ok
 returns-then-not-take_event-clause-ok g c = λ stream number open_at run pulled.
     let events = g.E.EventSource.events c.args.source.now in
-    let on = c.in_ok-write_on_way.ensures.ok stream number open_at events _ _ run (c.events.invariant.stands stream number open_at run pulled) in
-    let left = c.in_ok-write_left.ensures.ok stream number open_at events _ _ run on in
-    listed_all stream number open_at events _ _ _ _ c.write_left.new.cursor (c.take_event.ensures.all c.if-not-take_event.true).1 left
+    let left = c.in_ok-write_taken.ensures.ok stream number open_at events _ _ run (c.events.invariant.stands stream number open_at run pulled) in
+    listed_all stream number open_at events _ _ _ _ c.write_taken.new.cursor (c.take_event.ensures.all c.if-not-take_event.true).1 left
 
 pub returns-then-not-take_event-clause-pulled : goal.returns-then-not-take_event-clause-pulled
 returns-then-not-take_event-clause-pulled g c = λ stream number open_at run pulled.
     let events = g.E.EventSource.events c.args.source.now in
-    let on = c.in_ok-write_on_way.ensures.ok stream number open_at events _ _ run (c.events.invariant.stands stream number open_at run pulled) in
-    let left = c.in_ok-write_left.ensures.ok stream number open_at events _ _ run on in
+    let left = c.in_ok-write_taken.ensures.ok stream number open_at events _ _ run (c.events.invariant.stands stream number open_at run pulled) in
     record { given = left.listed.given; pulled = c.take_event.ensures.stands stream number open_at left.listed.given run left.listed.pulled }

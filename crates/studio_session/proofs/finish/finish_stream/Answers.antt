@@ -10,8 +10,7 @@ events-preserved g c =
       ready = c.take_event.ensures.ready;
       stands = λ stream number open_at run some.
           let events = g.E.EventSource.events c.args.source.now in
-          let on = c.drop_on_way.ensures.stands stream number open_at events run (inv.stands stream number open_at run some) in
-          let left = c.drop_left.ensures.stands stream number open_at events on in
+          let left = c.drop_marks.ensures.stands stream number open_at events run (inv.stands stream number open_at run some) in
           record { given = left.given; pulled = c.take_event.ensures.stands stream number open_at left.given run left.pulled };
     }
 
@@ -19,7 +18,6 @@ pub returns-then-not-take_event-clause-stands : goal.returns-then-not-take_event
 returns-then-not-take_event-clause-stands g c = λ stream number open_at run some.
     let events = g.E.EventSource.events c.args.source.now in
     let all = c.take_event.ensures.all c.if-not-take_event.true in
-    let on = c.drop_on_way.ensures.stands stream number open_at events run (c.events.invariant.stands stream number open_at run some) in
-    let left = c.drop_left.ensures.stands stream number open_at events on in
+    let left = c.drop_marks.ensures.stands stream number open_at events run (c.events.invariant.stands stream number open_at run some) in
     subst (HasCounts stream number open_at events) (sym all.0)
-    (finished stream number open_at events c.drop_left.new.cursor c.drop_left.ensures.settled all.1 left)
+    (finished stream number open_at events c.drop_marks.new.cursor c.drop_marks.ensures.settled all.1 left)

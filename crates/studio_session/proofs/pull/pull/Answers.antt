@@ -1,27 +1,18 @@
 use Rattle.std.proofs.Common.{length, ◌∙◌}
-use Rattle.studio_session.proofs.PlayLemmas.{runnable_at, plays_on, plays_covered, plays_all}
+use Rattle.studio_session.proofs.PlayLemmas.{runnable_at, plays_on, plays_all}
 use Rattle.studio_session.proofs.pull.pull.Goals as goal
 
-pub returns-then-not-wants-clause-stands : goal.returns-then-not-wants-clause-stands
-returns-then-not-wants-clause-stands g c = λ studio feeds next run within plays.
+pub returns-then-not-pull_marks-clause-stands : goal.returns-then-not-pull_marks-clause-stands
+returns-then-not-pull_marks-clause-stands g c = λ studio feeds next run within plays.
     let events = g.E.EventSource.events c.args.source.now in
-    plays_covered studio events feeds next c.args.stream c.pull_on_way.new.mixer c.pull_on_way.new.cursor c.wants.result within
-    (c.pull_on_way.ensures.stands studio events feeds next run within (c.events.invariant.stands studio feeds next run within plays)) c.if-not-wants.true
-    (λ fs f fed at. c.wants.ensures.stands studio fs next f fed at)
-
-pub returns-then-not-pull_left-clause-stands : goal.returns-then-not-pull_left-clause-stands
-returns-then-not-pull_left-clause-stands g c = λ studio feeds next run within plays.
-    let events = g.E.EventSource.events c.args.source.now in
-    c.pull_left.ensures.covered c.if-not-pull_left.true studio events feeds next run within
-    (c.pull_on_way.ensures.stands studio events feeds next run within (c.events.invariant.stands studio feeds next run within plays))
+    c.pull_marks.ensures.covered c.if-not-pull_marks.true studio events feeds next run within (c.events.invariant.stands studio feeds next run within plays)
 
 pub returns-then-not-take_event-clause-stands : goal.returns-then-not-take_event-clause-stands
 returns-then-not-take_event-clause-stands g c = λ studio feeds next run within plays.
     let events = g.E.EventSource.events c.args.source.now in
     let all = c.take_event.ensures.all c.if-not-take_event.true in
-    plays_all studio events feeds next c.args.stream c.pull_left.new.mixer c.pull_left.new.cursor c.take_event.new.self
-    (c.pull_left.ensures.out c.if-not-pull_left.false studio events feeds next run within
-    (c.pull_on_way.ensures.stands studio events feeds next run within (c.events.invariant.stands studio feeds next run within plays)))
+    plays_all studio events feeds next c.args.stream c.pull_marks.new.mixer c.pull_marks.new.cursor c.take_event.new.self
+    (c.pull_marks.ensures.out c.if-not-pull_marks.false studio events feeds next run within (c.events.invariant.stands studio feeds next run within plays))
     all.1 all.0
 
 pub events-preserved : goal.events-preserved
@@ -31,12 +22,11 @@ events-preserved g c =
     record {
       ready = c.take_event.ensures.ready;
       stands = λ studio feeds next run within plays.
-          let out = c.pull_left.ensures.out c.if-not-pull_left.false studio events feeds next run within
-          (c.pull_on_way.ensures.stands studio events feeds next run within (inv.stands studio feeds next run within plays)) in
+          let out = c.pull_marks.ensures.out c.if-not-pull_marks.false studio events feeds next run within (inv.stands studio feeds next run within plays) in
           let p = out.plays in
-          let here = runnable_at studio events feeds next c.args.stream c.pull_left.new.mixer c.pull_left.new.cursor run within p in
-          plays_on studio events feeds next c.args.stream c.pull_left.new.mixer c.pull_left.new.cursor c.take_event.new.self p
+          let here = runnable_at studio events feeds next c.args.stream c.pull_marks.new.mixer c.pull_marks.new.cursor run within p in
+          plays_on studio events feeds next c.args.stream c.pull_marks.new.mixer c.pull_marks.new.cursor c.take_event.new.self p
           (c.take_event.ensures.stands p.feed.stream c.args.stream studio.open_at (length p.feed.marks) here p.given.pulled);
-      packer = c.pull_left.ensures.packer ∙ c.pull_on_way.ensures.packer ∙ inv.packer;
-      streams = c.pull_left.ensures.streams ∙ c.pull_on_way.ensures.streams ∙ inv.streams;
+      packer = c.pull_marks.ensures.packer ∙ inv.packer;
+      streams = c.pull_marks.ensures.streams ∙ inv.streams;
     }

@@ -5,7 +5,7 @@ use Rattle.studio_session.specs.Session.{End, stream_history}
 use Rattle.stream_rules.specs.PathCounts.{tallies_of}
 use Rattle.studio_session.specs.Cursor.{CursorState, HasPulled}
 use Rattle.studio_session.proofs.CountsLemmas.{few_later, uncounted}
-use Rattle.studio_session.proofs.CursorLemmas.{pulled_more, settled, way_settled}
+use Rattle.studio_session.proofs.CursorLemmas.{can_settled, pulled_more, settled, way_settled}
 use Rattle.studio_session.proofs.cursor.Cursor.close.Goals as goal
 
 pub invariant_of-self : goal.invariant_of-self
@@ -13,6 +13,7 @@ invariant_of-self c = record {
   spec = ap (λ (m : MergeState). m.spec) c.close.ensures.changed ∙ c.self.invariant.spec;
   four = c.self.invariant.four;
   few = few_later c.self.inside.place (tallies_of c.self.inside.paths) c.self.invariant.few;
+  can = can_settled c.close.new.self c.self.inside.reading (ap (λ (s : CursorState). s.reading) c.self.view_is ∙ c.requires.settled);
 }
 
 pub returns-clause-stands : goal.returns-clause-stands

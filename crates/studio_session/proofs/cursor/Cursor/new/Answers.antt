@@ -19,4 +19,5 @@ invariant_of-result c = record {
   spec = (c.in_ok-merge.ensures.stands).spec;
   four = refl;
   few = few_none (path_tally_of c.new-2.result) c.new-2.ensures;
+  can = tt;
 }

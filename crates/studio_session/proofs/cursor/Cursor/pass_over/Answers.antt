@@ -13,6 +13,7 @@ invariant_of-self c = record {
   spec = c.self.invariant.spec;
   four = c.self.invariant.four;
   few = few_later c.self.inside.place (tallies_of c.self.inside.paths) c.self.invariant.few;
+  can = c.self.invariant.can;
 }
 
 pub returns-clause-stands : goal.returns-clause-stands

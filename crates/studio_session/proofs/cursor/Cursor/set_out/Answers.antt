@@ -1,5 +1,6 @@
-use Rattle.std.proofs.Common.{◌≡◌, ◌+◌, ◌++◌, ◌∷◌, [], Some, refl, sym, subst, ap, ◌∙◌, arith, take, slice_get, to_z, of_z, w64}
-use Rattle.std.proofs.lemmas.Int.{ints}
+use Rattle.std.proofs.Common.{◌≡◌, ◌+◌, ◌++◌, ◌∷◌, [], None, Some, refl, sym, subst, ap, ◌∙◌, take, slice_get, w64}
+use Rattle.std.proofs.lemmas.Int.{to_z-of_z}
+use Rattle.path_merge.specs.Clock.{clock_fault_of}
 use Rattle.stream_rules.specs.declared.event.Event.TheVariants.{Tick}
 use Rattle.studio_session.specs.Event.{Reading}
 use Rattle.studio_session.specs.Session.{Clock, stream_history}
@@ -15,6 +16,7 @@ invariant_of-self c = record {
   spec = c.self.invariant.spec;
   four = c.self.invariant.four;
   few = few_later c.self.inside.place (tallies_of c.self.inside.paths) c.self.invariant.few;
+  can = c.reading_of-self-inside.ensures.can;
 }
 
 pub returns-clause-stands : goal.returns-clause-stands
@@ -24,10 +26,10 @@ returns-clause-stands c = λ stream number open_at events k run at pulled.
     let p : HasPulled stream number open_at events inside k = subst (λ s. HasPulled stream number open_at events s k) (sym c.self.view_is) pulled in
     let here : slice_get events i.place ≡ Some (Reading c.args.now) = subst (λ (s : CursorState). slice_get events s.place ≡ Some (Reading c.args.now)) (sym c.self.view_is) at in
     let h = stream_history stream number (take i.place events) in
-    let u' = to_z w64 (of_z w64 c.args.now) in
-    let same : u' ≡ c.args.now = omega (arith, ints) in
     let none = ap (λ (s : CursorState). s.reading) c.self.view_is ∙ c.requires.settled in
-    pulled_more stream number open_at events (Reading c.args.now) k inside (record inside { reading = Some u'; place = i.place + 1 }) p here refl refl refl
+    let way = set_out stream number open_at events i.place k c.args.now i.merge run here (settled stream open_at i.merge i.reading h k none p.stands) in
+    let same = to_z-of_z w64 c.args.now c.ranges.now in
+    let some : c.reading_of-self-inside.result ≡ Some c.args.now = c.reading_of-self-inside.ensures.some (subst (λ u. clock_fault_of i.merge.time i.merge.closed u ≡ None) (sym same) way.2) ∙ ap Some same in
+    pulled_more stream number open_at events (Reading c.args.now) k inside (record inside { reading = c.reading_of-self-inside.result; place = i.place + 1 }) p here refl refl refl
     (uncounted inside.tallies (Clock c.args.now) (λ path tally. refl))
-    (subst (λ u. IsOnWay stream open_at i.merge (Some u) (h ++ Tick c.args.now ∷ []) k) (sym same)
-    (set_out stream number open_at events i.place k c.args.now i.merge run here (settled stream open_at i.merge i.reading h k none p.stands)))
+    (subst (λ r. IsOnWay stream open_at i.merge r (h ++ Tick c.args.now ∷ []) k) (sym some) way)

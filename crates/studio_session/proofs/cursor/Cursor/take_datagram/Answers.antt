@@ -8,7 +8,7 @@ use Rattle.studio_session.specs.Counts.{HasCounted}
 use Rattle.studio_session.specs.Way.{IsOnWay}
 use Rattle.studio_session.specs.Cursor.{CursorState, HasPulled}
 use Rattle.studio_session.proofs.CountsLemmas.{few_more}
-use Rattle.studio_session.proofs.CursorLemmas.{own_arrival, pulled_more, settled, way_settled}
+use Rattle.studio_session.proofs.CursorLemmas.{can_settled, own_arrival, pulled_more, settled, way_settled}
 use Rattle.studio_session.proofs.cursor.Cursor.take_datagram.Goals as goal
 
 pub count_on-requires : goal.count_on-requires
@@ -29,6 +29,7 @@ invariant_of-self c = record {
   spec = c.offer_received.ensures.spec ∙ c.self.invariant.spec;
   four = c.count_on.ensures.four;
   few = few_more c.self.inside.place (Datagram c.args.path (reception_from c.receive_ref-reception.result)) (tallies_of c.self.inside.paths) (tallies_of c.count_on.new.paths) c.self.invariant.few c.count_on.ensures.counted;
+  can = can_settled c.offer_received.new.merge c.self.inside.reading (ap (λ (s : CursorState). s.reading) c.self.view_is ∙ c.requires.settled);
 }
 
 pub returns-clause-stands : goal.returns-clause-stands

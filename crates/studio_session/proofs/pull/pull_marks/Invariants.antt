@@ -1,11 +1,10 @@
-use Rattle.std.proofs.Common.{◌≡◌, ℕ, ◌<◌, List, length, None}
-use Rattle.path_merge.specs.Steps.{marks_left}
+use Rattle.std.proofs.Common.{◌≡◌, ℕ, ◌<◌, List, length}
 use Rattle.studio_spec.specs.Studio.{Studio}
 use Rattle.studio_mix.specs.Feed.{Feed}
 use Rattle.studio_session.specs.Event.{TraceEvent}
-use Rattle.studio_session.specs.Cursor.{IsSameCursor}
+use Rattle.studio_session.specs.Cursor.{IsSameCursor, way_left}
 use Rattle.studio_session.specs.Play.{IsRunnableBy, Plays}
-use Rattle.studio_session.proofs.pull.pull_left.Given as goal
+use Rattle.studio_session.proofs.pull.pull_marks.Given as goal
 
 -- the marks so far were handed on
 abbrev pub invariant-marks : goal.invariant-marks
@@ -14,9 +13,8 @@ invariant-marks l = record {
       → Plays studio events feeds next l.stream l.fn.mixer l.fn.cursor → Plays studio events feeds next l.stream l.mixer l.cursor;
   kept : IsSameCursor l.fn.cursor l.cursor;
   packer : l.mixer.packer ≡ l.fn.mixer.packer;
-  settled : l.cursor.reading ≡ None;
   streams : length l.mixer.lanes ≡ length l.fn.mixer.lanes;
 }
 
 abbrev pub decreases-marks : goal.decreases-marks
-decreases-marks l = marks_left l.cursor.merge
+decreases-marks l = way_left l.cursor

@@ -3,7 +3,7 @@ use Rattle.stream_rules.specs.declared.stream_spec.Stream.{Stream}
 use Rattle.studio_session.specs.Event.{TraceEvent}
 use Rattle.studio_session.specs.Cursor.{IsRunnable, IsSameCursor, way_left}
 use Rattle.studio_session.specs.Report.{HasPulledSome}
-use Rattle.studio_session.proofs.finish.drop_on_way.Given as goal
+use Rattle.studio_session.proofs.finish.drop_marks.Given as goal
 
 -- some marks were given
 abbrev pub invariant-marks : goal.invariant-marks

@@ -3,7 +3,7 @@ use Rattle.stream_rules.specs.declared.stream_spec.Stream.{Stream}
 use Rattle.studio_session.specs.Event.{TraceEvent}
 use Rattle.studio_session.specs.Cursor.{IsRunnable, IsSameCursor, way_left}
 use Rattle.studio_run.specs.Listed.{HasListed}
-use Rattle.studio_run.proofs.listed.write_on_way.Given as goal
+use Rattle.studio_run.proofs.listed.write_taken.Given as goal
 
 -- the lines of the marks so far were written
 abbrev pub invariant-marks : goal.invariant-marks
