@@ -85,8 +85,3 @@ pub record DrainsMarks {A P : Type 0} (c : Producer MarkView A P) (m : MergeStat
   pub stands : (stream : Stream) (open_at : ℤ) (events : List Event) (k : ℕ)
       → HasHistory stream open_at m events k
       → HasHistory stream open_at w events (k + length more) × (take (k + length more) (marks_of stream open_at events) ≡ take k (marks_of stream open_at events) ++ more)
-
--- all marks were handed on
-abbrev pub HasGivenAll : MergeState → Type 0
-HasGivenAll m = (stream : Stream) (open_at : ℤ) (events : List Event) (k : ℕ) → 0 < stream.frames
-    → HasHistory stream open_at m events k → k ≡ length (marks_of stream open_at events)

@@ -1,10 +1,12 @@
 //! The marks that a closed merge has left.
 ghost use Rattle.std.specs.Prelude.{◌≡◌, ◌+◌, ◌⊎◌, length, true, false};
 ghost use Rattle.rtrb.specs.Ring.{sent, known_free};
-ghost use Rattle.studio_rings.specs.Turns.{DrainsMarks, HasGivenAll};
+ghost use Rattle.path_merge.specs.Goal.{HasGivenAll};
+ghost use Rattle.studio_rings.specs.Turns.{DrainsMarks};
 
 use crate::take::BATCH;
-use path_merge::{Mark, Merge, SlotWindow};
+use crate::turn::push_next;
+use path_merge::{Goal, Mark, Merge, SlotWindow};
 use rtrb::Producer;
 
 /// Pushes what is left, while there is room, and says whether the end is among what was pushed by now.
@@ -21,9 +23,8 @@ pub(crate) fn drain_marks(marks: &mut Producer<Mark>, merge: &mut Merge<SlotWind
         if marks.is_full() {
             return false;
         }
-        match merge.drain() {
-            Some(mark) => marks.push_reserved(mark),
-            None => return true,
+        if !push_next(marks, merge, Goal::End) {
+            return true;
         }
     }
     merge.ended()

@@ -4,15 +4,13 @@ ghost use Rattle.std.specs.Option.{option_to_list};
 ghost use Rattle.rtrb.specs.Ring.{known_free, sent, SameProducer};
 ghost use Rattle.stream_rules.specs.declared.event.Event.{Event};
 ghost use Rattle.stream_rules.specs.declared.stream_spec.Stream.{Stream};
-ghost use Rattle.path_merge.specs.Clock.{clock_fault_of};
 ghost use Rattle.path_merge.specs.Merge.{HasHistory};
-ghost use Rattle.path_merge.specs.Steps.{Advances, Moves};
-ghost use Rattle.path_merge.specs.Next.{next_mark};
+ghost use Rattle.path_merge.specs.Goal.{CanReach, Gives, HasGivenAll, MovesTo, next_to};
 ghost use Rattle.studio_rings.specs.Turns.{PushesMarks};
 ghost use Rattle.studio_rings.specs.Stop.{StopsFor};
 
 use crate::take::BATCH;
-use path_merge::{Mark, Merge, SlotWindow};
+use path_merge::{Goal, Mark, Merge, SlotWindow};
 use rtrb::Producer;
 
 /// Why a turn stopped.
@@ -38,29 +36,31 @@ pub struct TurnNote {
     pub why_stopped: StopReason,
 }
 
-/// Pushes the mark that a reading gives next, if it gives one, and goes there: whether it does.
-fn push_next(marks: &mut Producer<Mark>, merge: &mut Merge<SlotWindow>, now: i64) -> bool
+/// Pushes the next mark on the way to a goal, if there is one, and passes it: whether there was one.
+pub(crate) fn push_next(
+    marks: &mut Producer<Mark>,
+    merge: &mut Merge<SlotWindow>,
+    goal: Goal,
+) -> bool
     requires room { 0 < known_free marks.old }
-    requires fine { clock_fault_of merge.old.time merge.old.closed now ≡ None }
+    requires can { CanReach merge.old goal }
     ensures ring { SameProducer marks.old marks.new }
-    ensures pushed { sent marks.new ≡ sent marks.old ++ option_to_list (next_mark merge.old now) }
-    ensures count { length (option_to_list (next_mark merge.old now)) ≡ (if result then 1 else 0) }
+    ensures pushed { sent marks.new ≡ sent marks.old ++ option_to_list (next_to merge.old goal) }
+    ensures count { length (option_to_list (next_to merge.old goal)) ≡ (if result then 1 else 0) }
     ensures stands { (stream : Stream) (open_at : ℤ) (events : List Event) (k : ℕ)
-        → HasHistory stream open_at merge.old events k → Advances stream open_at merge.old merge.new events k now (next_mark merge.old now) }
-    ensures moved { Moves merge.old merge.new now (next_mark merge.old now) }
-    ensures caught_up { result ≡ false → merge.new.time ≡ now }
+        → HasHistory stream open_at merge.old events k → Gives stream open_at merge.old merge.new events k goal (next_to merge.old goal) }
+    ensures moved { MovesTo merge.old merge.new goal (next_to merge.old goal) }
+    ensures there { result ≡ false → MovesTo merge.old merge.new goal None }
+    ensures all { result ≡ false → HasGivenAll merge.new }
+    ensures closed { merge.new.closed ≡ merge.old.closed }
     ensures spec { merge.new.spec ≡ merge.old.spec }
 {
-    let Ok(next) = merge.mark_at(now) else {
-        unreachable!();
-    };
+    let next = merge.mark_to(goal);
     let is_some = next.is_some();
     if let Some(mark) = next {
         marks.push_reserved(mark.to_mark());
     }
-    let Ok(_) = merge.pass(now) else {
-        unreachable!();
-    };
+    merge.pass_to(goal);
     is_some
 }
 
@@ -82,7 +82,7 @@ pub(crate) fn push_marks(
         if marks.is_full() {
             return (count, StopReason::NoRoom);
         }
-        if !push_next(marks, merge, now) {
+        if !push_next(marks, merge, Goal::Reading(now)) {
             return (count, StopReason::CaughtUp);
         }
         count += 1;
