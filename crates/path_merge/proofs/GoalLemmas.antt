@@ -13,13 +13,10 @@ use Rattle.stream_rules.specs.Copies.{copies_of, copies_of_all}
 use Rattle.stream_rules.specs.Marks.{end_mark, marks_of, slots_at_close, slots_from}
 use Rattle.stream_rules.specs.MarkList.{has_end, is_end}
 use Rattle.path_merge.specs.MergeState.{MergeState}
-use Rattle.path_merge.specs.Clock.{clock_fault_of}
 use Rattle.path_merge.specs.Goal.{HasGivenAll}
 use Rattle.path_merge.specs.Next.{anchor_left, next_left, slot_or_end}
-use Rattle.path_merge.specs.Steps.{MovesBy}
 use Rattle.path_merge.proofs.HistoryLemmas.{marks_of-in}
 use Rattle.path_merge.proofs.LeftLemmas.{closed_at}
-use Rattle.path_merge.proofs.RunLemmas.{no_fault, still_no_fault}
 use Rattle.path_merge.proofs.SlotCountLemmas.{no_end_yet}
 use Rattle.path_merge.proofs.StepLemmas.{has_end-append}
 
@@ -76,12 +73,3 @@ given_all_left m none = by_tests m.closed m.ended refl refl none
     by_tests false ended c e none = given_all_yet m c
     by_tests true true c e none = given_all m e
     by_tests true false c e none = absurd (cc)
-
--- a merge that a reading brought on is open as it was
-pub open_after : (old new : MergeState) (now : ℤ) (slot : Bool) → clock_fault_of old.time old.closed now ≡ None → MovesBy old new now slot → new.closed ≡ old.closed
-open_after old new now true free moved = moved.2
-open_after old new now false free moved = moved.1
-
--- after a slot the reading is in order still
-pub still_in_order : (old new : MergeState) (now : ℤ) → clock_fault_of old.time old.closed now ≡ None → MovesBy old new now true → clock_fault_of new.time new.closed now ≡ None
-still_in_order old new now free moved = let no = no_fault old.time old.closed now free in still_no_fault new.time new.closed now moved.1 no.1 (moved.2 ∙ no.2)

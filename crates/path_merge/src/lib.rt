@@ -5,13 +5,15 @@
 //! speed doesn't matter: each value carries room for 1,440 octets, and is copied as it is handed on.
 //!
 //! The fast one lends: a packet's samples are copied once, from the datagram into the window's slot, and
-//! are read there. `admit_ref` makes a `PacketRef` of a datagram's view, and `offer_ref` takes it. At a
-//! reading of the clock `mark_at` lends the mark that is next, and `pass` lets it go:
+//! are read there. `admit_ref` makes a `PacketRef` of a datagram's view, and `offer_ref` takes it. Marks are
+//! taken to a `Goal`: `goal` tests a reading of the clock once, and after a close the goal is the end.
+//! `mark_to` lends the mark that is next on the way, and `pass_to` lets it go:
 //!
-//!     loop { use_up(merge.mark_at(now)?); if !merge.pass(now)? { break; } }
+//!     let goal = merge.goal(now)?;
+//!     loop { use_up(merge.mark_to(goal)); if !merge.pass_to(goal) { break; } }
 //!
-//! After a close the same two are `mark_left` and `pass_left`. A `MarkRef` ends before the next `&mut`
-//! call; `to_mark` keeps it. `advance` is `mark_at` with that copy and then `pass`, `drain` likewise.
+//! A `MarkRef` ends before the next `&mut` call; `to_mark` keeps it. `advance` is `goal`, `mark_to` with that
+//! copy and then `pass_to`; `drain` is the same to the end.
 #![tactic(auto)]
 
 mod arrival;

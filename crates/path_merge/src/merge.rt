@@ -18,9 +18,9 @@ mod giving;
 /// A stream's paths, merged: each number is handed on once, in order, at its deadline, with the
 /// first copy that came in time or as lost (SMPTE ST 2022-7).
 ///
-/// Inputs are `offer` or `offer_ref` for packets, `advance` or `pass` for readings of the clock, and
-/// `close`. Outputs are the marks that `advance` answers or `mark_at` lends, and after a close those of
-/// `drain`, or of `mark_left` until `pass_left`. `time`, `counts`, `closed`, `ended` and `next_deadline`
+/// Inputs are `offer` or `offer_ref` for packets, `advance` or `pass_to` for readings of the clock, and
+/// `close`. Outputs are the marks that `advance` answers, and `drain` after a close, or that `mark_to` lends
+/// on the way to a reading or to the end. `time`, `counts`, `closed`, `ended` and `next_deadline`
 /// read its state. No call but `new` takes memory.
 #[derive(Drop)]
 pub struct Merge<V: Window> {

@@ -120,14 +120,16 @@ fn give(merge: &mut Merge<SlotWindow>, spec: &StreamSpec) -> u64
     ensures { merge.new.spec ≡ merge.old.spec }
 {
     let now = merge.time().wrapping_add(i64::from(spec.frames()));
+    let Ok(goal) = merge.goal(now) else {
+        return 0;
+    };
     let mut sum = 0u64;
     for _ in 0..u64::MAX {
-        if let Ok(Some(mark)) = merge.mark_at(now) {
+        if let Some(mark) = merge.mark_to(goal) {
             sum = sum.wrapping_add(sum_of(&mark));
         }
-        match merge.pass(now) {
-            Ok(true) => {}
-            Ok(false) | Err(_) => break,
+        if !merge.pass_to(goal) {
+            break;
         }
     }
     sum

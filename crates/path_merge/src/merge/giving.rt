@@ -139,19 +139,6 @@ impl<V: Window> Merge<V> {
         }
     }
 
-    /// The mark that a reading of `now` gives next, its payload lent by the window.
-    #[inline]
-    pub fn mark_at(&self, now: i64) -> Result<Option<MarkRef<'_>>, ClockFault>
-        ensures mark { IfOk result (λ mark. mark ≡ next_mark self.now now) }
-        ensures fine { IfOk result (λ mark. clock_fault_of self.now.time self.now.closed now ≡ None) }
-        ensures fault { IfErr result (λ fault. clock_fault_of self.now.time self.now.closed now ≡ Some fault) }
-    {
-        if let Some(fault) = clock_fault(self.time, self.closed, now) {
-            return Err(fault);
-        }
-        Ok(self.mark_due(now))
-    }
-
     /// The mark that a reading of `now` gives next.
     #[inline]
     fn mark_due(&self, now: i64) -> Option<MarkRef<'_>>
@@ -162,26 +149,6 @@ impl<V: Window> Merge<V> {
             Some(anchor) => Some(self.slot_next(anchor)),
             None => self.quiet_next(now),
         }
-    }
-
-    /// Lets the mark that a reading of `now` gives next go, and moves the time as `advance` does.
-    ///
-    /// Answers whether it was a slot: then more may follow at the same reading.
-    #[inline]
-    pub fn pass(&mut self, now: i64) -> Result<bool, ClockFault>
-        ensures stands { OnOk result ((stream : Stream) (open_at : ℤ) (events : List Event) (k : ℕ)
-            → HasHistory stream open_at self.old events k → Advances stream open_at self.old self.new events k now (next_mark self.old now)) }
-        ensures slot { IfOk result (λ slot. slot ≡ is_slot_mark (next_mark self.old now)) }
-        ensures fine { OnOk result (clock_fault_of self.old.time self.old.closed now ≡ None) }
-        ensures moved { OnOk result (Moves self.old self.new now (next_mark self.old now)) }
-        ensures spec { self.new.spec ≡ self.old.spec }
-        ensures fault { IfErr result (λ fault. clock_fault_of self.old.time self.old.closed now ≡ Some fault) }
-        ensures err { OnErr result (self.new ≡ self.old) }
-    {
-        if let Some(fault) = clock_fault(self.time, self.closed, now) {
-            return Err(fault);
-        }
-        Ok(self.pass_due(now))
     }
 
     /// Lets the mark that a reading of `now` gives next go: whether it was a slot.
@@ -302,8 +269,8 @@ impl<V: Window> Merge<V> {
         mark
     }
 
-    /// The next mark that is left after a close, its payload lent by the window.
-    pub fn mark_left(&self) -> Option<MarkRef<'_>>
+    /// The next mark that is left after a close.
+    fn mark_left(&self) -> Option<MarkRef<'_>>
         ensures { result ≡ next_left self.now }
     {
         if !self.closed {
@@ -318,8 +285,8 @@ impl<V: Window> Merge<V> {
         }
     }
 
-    /// Lets the next mark that is left after a close go.
-    pub fn pass_left(&mut self) -> bool
+    /// Lets the next mark that is left after a close go: whether it was a slot.
+    fn pass_left(&mut self) -> bool
         ensures stands { (stream : Stream) (open_at : ℤ) (events : List Event) (k : ℕ)
             → HasHistory stream open_at self.old events k → Drains stream open_at self.new events k (next_left self.old) }
         ensures slot { result ≡ is_slot_mark (next_left self.old) }
