@@ -67,7 +67,7 @@ pub fails_read : (studio : Studio) (IsText : Studio → List TraceEvent → List
     → Consumes left left_then trace → IsAtEnd left_then → FailsOn studio IsText trace a b fault → FailsOf studio IsText left left_then a b fault
 fails_read studio IsText left left_then trace a b Read read end fails = absurd fails
 fails_read studio IsText left left_then trace a b Memory read end fails = fails
-fails_read studio IsText left left_then trace a b (Trace fault) read end fails = (trace, read, fails.0, fails.1)
+fails_read studio IsText left left_then trace a b (Trace fault) read end fails = (trace, (read, inl end), fails.0, fails.1)
 fails_read studio IsText left left_then trace a b (Run fault) read end fails = (trace, read, end, fails)
 fails_read studio IsText left left_then trace a b Write read end fails = (trace, read, end, fails)
 

@@ -1,5 +1,5 @@
 -- What is written of a trace, and why it may not be.
-use Rattle.std.specs.Prelude.{◌≡◌, ℕ, List, [], Option, Some, None, Ok, Err}
+use Rattle.std.specs.Prelude.{◌≡◌, ◌<◌, ◌⊎◌, ℕ, List, [], length, Option, Some, None, Ok, Err}
 use Rattle.std.specs.Io.KnownBytes.{Appends, Consumes, IsAtEnd}
 use Rattle.studio_spec.specs.Studio.{Studio}
 use Rattle.studio_session.specs.Event.{TraceEvent}
@@ -80,11 +80,15 @@ FailsOn studio IsText trace written written_then (Run fault) =
     ((events : List TraceEvent) × (trace_events trace ≡ Ok events) × (session_fault_of studio events ≡ Some fault)) × (written_then ≡ written)
 FailsOn studio IsText trace written written_then Write = BreaksOffText studio IsText trace written written_then
 
+-- these octets were read of an input, which is then at its end; or they are more than a trace may have
+abbrev pub ReadsToEnd : Option (List ℕ) → Option (List ℕ) → List ℕ → Type 0
+ReadsToEnd left left_then trace = Consumes left left_then trace × (IsAtEnd left_then ⊎ (67108864 < length trace))
+
 -- an input gives no trace: a read failed, memory was refused, or more octets came than a trace may have
 abbrev pub StopsReading : Option (List ℕ) → Option (List ℕ) → PlayFault → Type 0
 StopsReading left left_then Read = Unit {0}
 StopsReading left left_then Memory = Unit {0}
-StopsReading left left_then (Trace fault) = (trace : List ℕ) × Consumes left left_then trace × (trace_events trace ≡ Err fault)
+StopsReading left left_then (Trace fault) = (trace : List ℕ) × ReadsToEnd left left_then trace × (trace_events trace ≡ Err fault)
 StopsReading left left_then (Run fault) = ⊥
 StopsReading left left_then Write = ⊥
 
@@ -100,7 +104,7 @@ abbrev pub FailsOf : Studio → (Studio → List TraceEvent → List ℕ → Typ
 FailsOf studio IsText left left_then written written_then Read = written_then ≡ written
 FailsOf studio IsText left left_then written written_then Memory = written_then ≡ written
 FailsOf studio IsText left left_then written written_then (Trace fault) =
-    (trace : List ℕ) × Consumes left left_then trace × (trace_events trace ≡ Err fault) × (written_then ≡ written)
+    (trace : List ℕ) × ReadsToEnd left left_then trace × (trace_events trace ≡ Err fault) × (written_then ≡ written)
 FailsOf studio IsText left left_then written written_then (Run fault) =
     (trace : List ℕ) × Consumes left left_then trace × IsAtEnd left_then × FailsOn studio IsText trace written written_then (Run fault)
 FailsOf studio IsText left left_then written written_then Write =
