@@ -1,5 +1,5 @@
 -- The report of a trace in memory.
-use Rattle.std.specs.Prelude.{◌≡◌, ℕ, List, ◌++◌, Some, None, Ok, Err}
+use Rattle.std.specs.Prelude.{◌≡◌, ℕ, List, Some, None, Ok, Err}
 use Rattle.studio_spec.specs.Studio.{Studio}
 use Rattle.studio_session.specs.Event.{TraceEvent}
 use Rattle.studio_session.specs.Fault.{session_fault_of}
@@ -15,10 +15,10 @@ pub record IsReportOf (studio : Studio) (trace text : List ℕ) : Type 0 where
   pub runs : session_fault_of studio events ≡ None
   pub report : IsReport studio events text
 
--- what a fault says of a trace: it is that of a first part, or of an event of the whole
+-- what a fault says of a trace: it is that of the trace, or of one of its events
 abbrev pub IsFaultOf : Studio → List ℕ → PlayFault → Type 0
 IsFaultOf studio trace Read = Unit {0}
 IsFaultOf studio trace Memory = Unit {0}
-IsFaultOf studio trace (Trace fault) = (part : List ℕ) × (rest : List ℕ) × (trace ≡ part ++ rest) × (trace_events part ≡ Err fault)
+IsFaultOf studio trace (Trace fault) = trace_events trace ≡ Err fault
 IsFaultOf studio trace (Run fault) = (events : List TraceEvent) × (trace_events trace ≡ Ok events) × (session_fault_of studio events ≡ Some fault)
 IsFaultOf studio trace Write = Unit {0}
