@@ -4,12 +4,13 @@ use Rattle.std.specs.Prelude.{IfErr, IsErrAnd}
 use Rattle.studio_spec.specs.Studio.{Studio}
 use Rattle.studio_live.specs.Run.{BreaksOffRun, FailsRun, IsEarly}
 use Rattle.studio_live.specs.declared.fault.LiveFault.{LiveFault}
-use Rattle.studio_live.specs.declared.fault.LiveFault.TheVariants.{Memory, Socket, Thread, Write}
+use Rattle.studio_live.specs.declared.fault.LiveFault.TheVariants.{Memory, Socket, Thread, Unsettled, Write}
 
 early_writes_nothing : (studio : Studio) (written : Option (List ℕ)) (fault : LiveFault) → IsEarly fault → FailsRun studio written written fault
 early_writes_nothing studio written Memory early = refl
 early_writes_nothing studio written Socket early = refl
 early_writes_nothing studio written Thread early = refl
+early_writes_nothing studio written Unsettled early = absurd early
 early_writes_nothing studio written Write early = absurd early
 
 module _ {T : Type 0} where

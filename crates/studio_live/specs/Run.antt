@@ -1,5 +1,5 @@
 -- What a live run writes, and why it may not.
-use Rattle.std.specs.Prelude.{◌≡◌, true, ℕ, List, [], Option, None}
+use Rattle.std.specs.Prelude.{◌≡◌, true, false, Bool, ℕ, List, [], Option, None}
 use Rattle.std.specs.Io.KnownBytes.{Appends}
 use Rattle.studio_spec.specs.Studio.{Studio}
 use Rattle.studio_run.specs.Buffer.{BreaksOff}
@@ -9,17 +9,18 @@ use Rattle.studio_workers.specs.Runs.{IsSettledRun}
 use Rattle.studio_workers.specs.declared.report.WorkReport.{WorkReport}
 use Rattle.studio_live.specs.Report.{report_text}
 use Rattle.studio_live.specs.declared.fault.LiveFault.{LiveFault}
-use Rattle.studio_live.specs.declared.fault.LiveFault.TheVariants.{Memory, Socket, Thread, Write}
+use Rattle.studio_live.specs.declared.fault.LiveFault.TheVariants.{Memory, Socket, Thread, Unsettled, Write}
 
 -- the report is of a run of this studio: its datagrams balance, and where it is settled it tells whole histories of what some feeds told; no sink tells what it was handed
 pub record IsRunOf (studio : Studio) (report : WorkReport) : Type 0 where
   pub balance : Balances report.blocks report.sent_a report.fault_a report.sent_b report.fault_b
   pub settled : report.settled ≡ true → (told : List (List Answer)) × IsSettledRun studio told report None None
 
--- the report of a run was written
-pub record WritesRun (studio : Studio) (written written_then : Option (List ℕ)) : Type 0 where
+-- the report of a run was written, which is settled or not
+pub record WritesRun (studio : Studio) (settled : Bool) (written written_then : Option (List ℕ)) : Type 0 where
   pub report : WorkReport
   pub is : IsRunOf studio report
+  pub answer : report.settled ≡ settled
   pub wrote : Appends written written_then (report_text report)
 
 -- a part from the front of it was written, and not all
@@ -33,11 +34,13 @@ abbrev pub IsEarly : LiveFault → Type 0
 IsEarly Memory = Unit {0}
 IsEarly Socket = Unit {0}
 IsEarly Thread = Unit {0}
+IsEarly Unsettled = ⊥
 IsEarly Write = ⊥
 
--- why no whole report was written: nothing was, but where a write failed
+-- why no report of a settled run was written: nothing was, but where the run was not settled, or a write failed
 abbrev pub FailsRun : Studio → Option (List ℕ) → Option (List ℕ) → LiveFault → Type 0
 FailsRun studio written written_then Memory = written_then ≡ written
 FailsRun studio written written_then Socket = written_then ≡ written
 FailsRun studio written written_then Thread = written_then ≡ written
+FailsRun studio written written_then Unsettled = WritesRun studio false written written_then
 FailsRun studio written written_then Write = BreaksOffRun studio written written_then

@@ -1,4 +1,4 @@
-//! Why a live run came to no whole report.
+//! Why a live run came to no report of a settled run.
 ghost use Rattle.std.specs.Prelude.{◌≡◌};
 ghost use Rattle.studio_live.specs.Run.{IsEarly};
 ghost use Rattle.studio_live.specs.declared.fault.LiveFault.TheVariants.{Write};
@@ -11,7 +11,7 @@ use studio_run::WriteFault;
 use studio_workers::WorkFault;
 use thiserror::Error;
 
-/// Why a live run came to no whole report.
+/// Why a live run came to no report of a settled run.
 #[derive(Clone, Copy, Debug, PartialEq, Eq, Error)]
 pub enum LiveFault {
     /// Memory was refused.
@@ -23,6 +23,9 @@ pub enum LiveFault {
     /// A worker or the watcher couldn't be started.
     #[error("device: thread")]
     Thread,
+    /// Its report was written, but a worker gave up its end before all was handed on.
+    #[error("live: not settled")]
+    Unsettled,
     /// The report was not written whole.
     #[error("device: write")]
     Write,

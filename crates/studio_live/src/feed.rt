@@ -2,13 +2,12 @@
 ghost use Rattle.std.specs.Prelude.{[]};
 
 use crate::clock::SystemClock;
-use mio::net::UdpSocket;
+use std::io;
 use std::io::ErrorKind;
-use std::net::{Ipv4Addr, Net, SocketAddr};
+use std::net::{Ipv4Addr, Net, SocketAddr, UdpSocket};
 use std::os::fd::AsRawFd;
 use std::sync::atomic::{AtomicBool, Ordering};
 use std::time::{Clock, Duration};
-use std::{io, net};
 use studio_workers::{Clock as ReadClock, Feed, FeedAnswer};
 
 /// How long a receive waits, in milliseconds. The system rounds it up to its ticks.
@@ -17,7 +16,7 @@ const RECEIVE_WAIT: u64 = 100;
 /// How many octets a socket is asked to hold. The system gives less where its own bound is lower.
 const RECEIVE_ROOM: u32 = 8 << 20;
 
-/// A socket on 127.0.0.1. It ends once it is told to stop, or once its clock has reached a time.
+/// A socket on 127.0.0.1, whose receives wait. It ends once it is told to stop, or once its clock has reached a time.
 #[derive(Drop)]
 pub struct UdpFeed<'a, R: Clock> {
     socket: UdpSocket,
@@ -79,9 +78,8 @@ impl<R: Clock> Feed for UdpFeed<'_, R> {
 
 /// A socket that is bound to a port on 127.0.0.1, whose receives wait for a datagram, but not for long.
 pub(crate) fn receiving_socket<R: Net>(rt: &R, port: u16) -> io::Result<UdpSocket> {
-    let socket = net::UdpSocket::bind(rt, SocketAddr::from((Ipv4Addr::LOCALHOST, port)))?;
+    let socket = UdpSocket::bind(rt, SocketAddr::from((Ipv4Addr::LOCALHOST, port)))?;
     socket.set_read_timeout(Some(Duration::from_millis(RECEIVE_WAIT)))?;
-    let socket = UdpSocket::from_std(socket);
     ask_for_room(&socket);
     Ok(socket)
 }

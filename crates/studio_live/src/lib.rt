@@ -16,6 +16,7 @@ mod report;
 mod run;
 mod signal;
 mod sink;
+mod standard;
 mod stats;
 #[cfg(test)]
 mod tests;

@@ -1,5 +1,5 @@
 //! A live run: a studio's workers on real sockets, and a watcher beside them.
-ghost use Rattle.std.specs.Prelude.{◌≡◌, ℕ, ℤ, pos, ◌≤ℤ◌, length, IfOk, IfErr, OnOk, vec_len};
+ghost use Rattle.std.specs.Prelude.{◌≡◌, true, ℕ, ℤ, pos, ◌≤ℤ◌, length, IfOk, IfErr, OnOk};
 ghost use Rattle.std.specs.Thread.{IsSync};
 ghost use Rattle.studio_spec.specs.Studio.{IsStudio, Studio};
 ghost use Rattle.studio_rings.specs.Opened.{AreOpened};
@@ -13,12 +13,12 @@ use crate::options::LiveOptions;
 use crate::ports::LivePorts;
 use crate::report::write_report;
 use crate::sink::UdpSink;
+use crate::standard::open_standard;
 use crate::stats::Stats;
 use crate::watch::{Signs, Watcher, watch};
-use mio::net::UdpSocket;
 use std::alloc::{AllocError, Global};
 use std::io::Write;
-use std::net::Net;
+use std::net::{Net, UdpSocket};
 use std::sync::Wait;
 use std::sync::atomic::AtomicBool;
 use std::thread;
@@ -54,7 +54,8 @@ struct Start {
 /// and it writes each stream's counts to `faults`, if they are asked for. Since it mustn't wait, `faults` is
 /// standard error, and lines that this wouldn't take at once are dropped.
 ///
-/// All sockets are bound, and all memory but the workers' is taken, before the first thread starts.
+/// All sockets are bound, and all memory but the workers' is taken, before the first thread starts. Where the
+/// run was not settled, its report is written all the same, and that is the fault.
 pub fn run_studio_live<R: Threads + Wait + Sync + Net + Clock, W: Write, E: Write + Send + Drop>(
     rt: &R,
     alloc: Global,
@@ -64,7 +65,7 @@ pub fn run_studio_live<R: Threads + Wait + Sync + Net + Clock, W: Write, E: Writ
     output: &mut W,
     faults: E,
 ) -> Result<(), LiveFault>
-    ensures ok { OnOk result (WritesRun studio.now (W.contents output.old) (W.contents output.new)) }
+    ensures ok { OnOk result (WritesRun studio.now true (W.contents output.old) (W.contents output.new)) }
     ensures fault { IfErr result (FailsRun studio.now (W.contents output.old) (W.contents output.new)) }
 {
     let mut text = TextBuffer::new(alloc)?;
@@ -93,6 +94,9 @@ pub fn run_studio_live<R: Threads + Wait + Sync + Net + Clock, W: Write, E: Writ
     let report = run_watched(rt, alloc, work, watcher, &signs)?;
     write_report(&mut text, output, &report)?;
     text.finish(output)?;
+    if !report.settled {
+        return Err(LiveFault::Unsettled);
+    }
     Ok(())
 }
 
@@ -111,6 +115,7 @@ fn work_of<'a, R: Net + Clock>(
     ensures clocks { IfOk result (λ r. length r.0.clocks.items ≡ length r.0.ends.streams.items) }
     ensures early { IfErr result IsEarly }
 {
+    open_standard();
     let sockets = receiving_sockets(rt, alloc, ports.paths.as_slice())?;
     let sink = UdpSink::bind(rt, ports.to_a, ports.to_b)?;
     let ends = open(alloc, studio, PLACES)?;

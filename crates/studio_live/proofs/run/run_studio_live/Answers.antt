@@ -38,6 +38,20 @@ returns-in_err-finish-clause-fault g c =
           c.in_err-finish.ensures.fault;
     })
 
+pub returns-then-not-report-clause-fault : goal.returns-then-not-report-clause-fault
+returns-then-not-report-clause-fault g c =
+    let written = g.W.Write.contents c.args.output.now in
+    let held = c.write_report.new.text in
+    let text = report_text c.in_ok-report.report in
+    record {
+      report = c.in_ok-report.report;
+      is = c.in_ok-report.ensures.run c.args.studio.now 256 c.in_ok-work.ensures.opened;
+      answer = c.if-not-report.true;
+      wrote = PassesOn-finished _ _ _ held text
+          (subst (λ h. PassesOn written h (g.W.Write.contents c.write_report.new.writer) held text) c.in_ok-text.ensures c.in_ok-write_report.ensures.ok)
+          c.in_ok-finish.ensures.ok;
+    }
+
 pub returns-clause-ok : goal.returns-clause-ok
 returns-clause-ok g c =
     let written = g.W.Write.contents c.args.output.now in
@@ -46,6 +60,7 @@ returns-clause-ok g c =
     record {
       report = c.in_ok-report.report;
       is = c.in_ok-report.ensures.run c.args.studio.now 256 c.in_ok-work.ensures.opened;
+      answer = c.if-not-report.false;
       wrote = PassesOn-finished _ _ _ held text
           (subst (λ h. PassesOn written h (g.W.Write.contents c.write_report.new.writer) held text) c.in_ok-text.ensures c.in_ok-write_report.ensures.ok)
           c.in_ok-finish.ensures.ok;
