@@ -165,7 +165,7 @@ fn runs_alike<R: Threads + Wait + Abort + Sync>(
 /// Both datagrams on both paths are taken once, doubled once, and sent to both addresses.
 #[test]
 fn both_paths_alike(rt: HostRuntime) -> Result<(), Fail> {
-    runs_alike(&rt, rt.alloc(), &[0], 64)
+    runs_alike(&rt, rt.alloc(), &[0], 4)
 }
 
 /// It counts by the greatest answer so far, and from the opening time on.
@@ -251,26 +251,44 @@ fn an_address_that_fails(rt: HostRuntime) -> Result<(), Fail> {
     Ok(())
 }
 
-/// 1,001 faults of the first path's feed, 999 of them in a row, and 1,000 in a row of the second's.
-#[test]
-fn a_feed_ends_after_1000_faults(rt: HostRuntime) -> Result<(), Fail> {
-    let alloc = rt.alloc();
-    let studio = one_stream(&rt, alloc).ok_or("a studio")?;
+/// Runs one stream whose feeds fail: each so often before its first answer, and so often before each later one.
+/// Answers what arrived, was taken and double, and how often each feed failed.
+fn counts_with_faults<R: Threads + Wait + Abort + Sync>(
+    rt: &R,
+    alloc: Global,
+    feeds_of: [(u32, u32); 2],
+) -> Result<([u64; 3], [u64; 2]), Fail> {
+    let studio = one_stream(rt, alloc).ok_or("a studio")?;
     let packets = two_packets(alloc)?;
     let mut feeds = Vec::new(alloc);
-    feeds.push(FaultyFeed::new(999, &packets))?;
-    feeds.push(FaultyFeed::new(1_000, &packets))?;
+    for (first, later) in feeds_of {
+        feeds.push(FaultyFeed::new(first, later, &packets))?;
+    }
     let clocks = clocks(alloc, 1, &[0])?;
     let sink = MemorySink::new(alloc);
-    let (report, sink) = run(&rt, alloc, &studio, 64, feeds, clocks, sink)?;
-    let counts = only(&rt, &report);
-    assert_eq!(rt; (counts.arrived, counts.got), (2, 2));
-    assert_eq!(rt; report.streams.len(), 1);
-    let paths = report.streams[0].paths.as_slice();
-    assert_eq!(rt; paths.len(), 2);
-    assert_eq!(rt; (paths[0].sent, paths[1].sent), (2, 0));
-    assert_eq!(rt; report.feed_faults.as_slice(), [1_001u64, 1_000].as_slice());
-    assert_eq!(rt; report.blocks, 2);
-    gave_both(&rt, sink.kept());
+    let (report, sink) = run(rt, alloc, &studio, 4, feeds, clocks, sink)?;
+    let counts = only(rt, &report);
+    assert_eq!(rt; (counts.got, report.blocks), (2, 2));
+    gave_both(rt, sink.kept());
+    let faults = match report.feed_faults.as_slice() {
+        [first, second] => [*first, *second],
+        _ => { panic!(rt; "two feeds") }
+    };
+    Ok(([counts.arrived, counts.taken, counts.double], faults))
+}
+
+/// A feed that fails is asked again, up to 999 times in a row; after 1,000 its path has ended.
+#[test]
+fn a_feed_ends_after_1000_faults(rt: HostRuntime) -> Result<(), Fail> {
+    let cases = [
+        ([(999, 0), (0, 0)], [4, 2, 2], [999, 0]),
+        ([(1_000, 0), (0, 0)], [2, 2, 0], [1_000, 0]),
+        ([(0, 0), (1_000, 0)], [2, 2, 0], [0, 1_000]),
+        ([(1, 1), (999, 1)], [4, 2, 2], [3, 1_001]),
+    ];
+    for (feeds, arrivals, faults) in cases {
+        let counts = counts_with_faults(&rt, rt.alloc(), feeds)?;
+        assert_eq!(rt; counts, (arrivals, faults), "{feeds:?}");
+    }
     Ok(())
 }

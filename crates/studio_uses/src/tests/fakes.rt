@@ -6,18 +6,20 @@ use std::alloc::Global;
 use std::process::Abort;
 use studio_workers::{Feed, FeedAnswer, SendAnswer, Sink};
 
-/// Fails so often before its first answer, and once before each later one.
+/// Fails so often before its first answer, and so often before each later one.
 #[derive(Drop)]
 pub(super) struct FaultyFeed<'a> {
     feed: MemoryFeed<'a>,
     left: u32,
+    later: u32,
 }
 
 impl<'a> FaultyFeed<'a> {
-    pub(super) fn new(in_a_row: u32, datagrams: &'a [Vec<u8>]) -> FaultyFeed<'a> {
+    pub(super) fn new(first: u32, later: u32, datagrams: &'a [Vec<u8>]) -> FaultyFeed<'a> {
         FaultyFeed {
             feed: MemoryFeed::new(datagrams),
-            left: in_a_row,
+            left: first,
+            later,
         }
     }
 }
@@ -30,7 +32,7 @@ impl<'a> Feed for FaultyFeed<'a> {
             self.left -= 1;
             return FeedAnswer::Fault;
         }
-        self.left = 1;
+        self.left = self.later;
         self.feed.next(buf)
     }
 }
