@@ -1,5 +1,5 @@
 //! The values that a lane holds, with long silences as numbers.
-ghost use Rattle.std.specs.Prelude.{◌≡◌, ◌+◌, ◌*◌, ◌^◌, ◌<◌, ◌≤◌, [], ◌++◌, length, drop, replicate, pos, IfOk};
+ghost use Rattle.std.specs.Prelude.{◌≡◌, ◌+◌, ◌*◌, ◌^◌, ◌<◌, ◌≤◌, [], ◌++◌, length, drop, IfOk};
 ghost use Rattle.lane_align.specs.Held.{Held, silence, first_values};
 ghost use Rattle.circular_buffer.specs.Buffer.{buffer};
 

@@ -1,5 +1,5 @@
 //! What the definitions promise together. Nothing is computed here: the clauses are the laws.
-ghost use Rattle.std.specs.Prelude.{◌≡◌, ◌+◌, ◌%◌, ◌^◌, List, ℕ, ℤ};
+ghost use Rattle.std.specs.Prelude.{◌≡◌, ◌+◌, List, ℕ, ℤ};
 ghost use Rattle.rtp_wire.specs.Datagram.{IsDatagram};
 ghost use Rattle.rtp_wire.specs.Head.{Head};
 ghost use Rattle.rtp_wire.specs.Sample.{block_octets};

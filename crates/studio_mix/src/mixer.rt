@@ -1,14 +1,13 @@
 //! The lanes of a studio's streams, mixed block by block.
-ghost use Rattle.std.specs.Prelude.{◌≡◌, ℕ, ℤ, pos, ◌+◌, ◌*◌, ◌^◌, ◌<◌, ◌≤◌, ◌+ℤ◌, ◌≤ℤ◌, true, false, not, List, ◌∷◌, [], ◌++◌, length, take, drop, replicate, slice_get, slice_set, All, Some, None, is_some, IfOk, IfSome};
+ghost use Rattle.std.specs.Prelude.{◌≡◌, ℕ, ℤ, pos, ◌+◌, ◌*◌, ◌^◌, ◌<◌, ◌≤◌, ◌≤ℤ◌, true, not, List, ◌∷◌, [], ◌++◌, length, drop, replicate, slice_get, slice_set, All, Some, None, is_some, IfOk, IfSome};
 ghost use Rattle.stream_rules.specs.StreamSpecFacts.{format_of};
-ghost use Rattle.stream_rules.specs.MarkFacts.{MarkView};
 ghost use Rattle.stream_rules.specs.MarkList.{is_mark_list};
 ghost use Rattle.lane_align.specs.Cover.{covers, cover_of};
 ghost use Rattle.mix_packets.specs.OutSpec.{datagram_length};
 ghost use Rattle.mix_packets.specs.Block.{block_start};
 ghost use Rattle.studio_mix.specs.Lanes.{IsReadyLane};
 ghost use Rattle.studio_spec.specs.Studio.{Studio};
-ghost use Rattle.studio_mix.specs.Feed.{Feed, studio_values, unfed};
+ghost use Rattle.studio_mix.specs.Feed.{Feed, unfed};
 ghost use Rattle.studio_mix.specs.Ready.{is_ready};
 ghost use Rattle.studio_mix.specs.Output.{datagram_of};
 
