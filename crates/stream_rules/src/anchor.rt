@@ -1,16 +1,15 @@
-//! What the first packet of a stream fixes, and where later ones belong.
-ghost use Rattle.std.specs.Prelude.{◌≡◌, ◌+◌, ◌<◌, ◌≤◌, ◌^◌, ℤ, pos, ◌≤ℤ◌, neg_ℤ, ◌<ℤ◌};
+//! What the first packet of an epoch fixes, and where later ones belong.
+ghost use Rattle.std.specs.Prelude.{◌≡◌, ◌+◌, ◌<◌, ◌≤◌, ◌^◌, ℤ, pos, ◌≤ℤ◌, neg_ℤ};
 ghost use Rattle.stream_rules.specs.PacketRef.{packet_of};
 ghost use Rattle.stream_rules.specs.declared.stream_spec.Stream.{Stream};
 ghost use Rattle.stream_rules.specs.Anchor.{media_time_of, first_media_time, is_source_wanted, restart_media_time};
 ghost use Rattle.stream_rules.specs.Grid.{extended_number, is_on_grid};
-ghost use Rattle.stream_rules.specs.declared.anchor.Anchor.{Anchor};
 
 use crate::nearest::{near16, near32};
 use crate::packet::PacketRef;
 use crate::stream_spec::StreamClock;
 
-/// A stream's anchor: the extended sequence number, timestamp, media time and source of its first
+/// An epoch's anchor: the extended sequence number, timestamp, media time and source of its first
 /// packet (RFC 3550, A.1, `base_seq`).
 #[derive(Clone, Copy, Debug)]
 pub struct Anchor {
@@ -24,9 +23,7 @@ pub struct Anchor {
 }
 
 impl Anchor {
-    ghost use Rattle.stream_rules.specs.declared.anchor.Anchor.{Anchor};
-
-    /// The anchor that a stream's first packet makes, at this media time.
+    /// The anchor of epoch 0, at this media time.
     pub fn first(seq: u16, timestamp: u32, source: u32, media: i64) -> Anchor
         ensures value { result ≡ record { epoch = 0; number = 65536 + seq; timestamp = timestamp; media = media; source = source } }
         ensures seq { seq < 2 ^ 16 }
@@ -86,7 +83,7 @@ pub fn is_in_step(anchor: &Anchor, media: i64, ts: u32) -> bool
         == i64::from(ts)
 }
 
-/// Whether a packet of this source may be the first.
+/// Whether a packet of this source may be the first of an epoch.
 pub fn is_wanted(wanted: Option<u32>, source: u32) -> bool
     ensures { result ≡ is_source_wanted wanted source }
 {
@@ -96,7 +93,7 @@ pub fn is_wanted(wanted: Option<u32>, source: u32) -> bool
     }
 }
 
-/// The media time of a packet that would be the first, at this time.
+/// The media time of a packet that would be the first of epoch 0, at this time.
 pub fn media_of_first(clock: StreamClock, ts: u32, time: i64) -> i64
     requires low { pos 0 ≤ℤ time }
     requires high { time ≤ℤ pos (2 ^ 60) }

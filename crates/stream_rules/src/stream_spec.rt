@@ -1,4 +1,4 @@
-//! What is fixed of a stream before its first packet.
+//! What is fixed of a stream before any packet comes.
 ghost use Rattle.std.specs.Prelude.{◌≡◌, ◌≤◌, ◌↔◌, IsTrue, None, Some, OnOk, IfOk, IfErr, length};
 ghost use Rattle.stream_rules.specs.StreamSpecFacts as spec;
 ghost use Rattle.stream_rules.specs.declared.stream_spec.Stream.{Stream};
@@ -17,7 +17,8 @@ use thiserror::Error;
 pub enum StreamClock {
     /// The media clock, from which the sender's timestamps are `offset` ahead, modulo 2^32 (AES67).
     Media { offset: u32 },
-    /// The receiver's clock at the first packet: for a sender that isn't locked to the media clock.
+    /// The receiver's clock as an epoch's first packet came, or the end of the slots where that is later:
+    /// for a sender that isn't locked to the media clock.
     Arrival,
 }
 
@@ -69,7 +70,7 @@ pub struct Stream {
     pub frames: u16,
     /// The RTP payload type (RFC 3551).
     pub pt: u8,
-    /// The synchronization source that the first packet has to have (RFC 3550, 5.1); `None` takes any.
+    /// The synchronization source that each epoch's first packet has to have (RFC 3550, 5.1); `None` takes any.
     pub ssrc: Option<u32>,
     /// The clock that its media times follow.
     pub clock: StreamClock,
@@ -243,7 +244,7 @@ impl StreamSpec {
         self.stream.pt
     }
 
-    /// The synchronization source that the first packet has to have (RFC 3550, 5.1); `None` takes any.
+    /// The synchronization source that each epoch's first packet has to have (RFC 3550, 5.1); `None` takes any.
     pub fn ssrc(&self) -> Option<u32>
         ensures { result ≡ self.now.ssrc }
     {
