@@ -1,11 +1,10 @@
 //! The merge of a stream's paths.
-ghost use Rattle.std.specs.Prelude.{◌≡◌, ℕ, ◌+◌, ◌-◌, ◌^◌, ◌<◌, ◌≤◌, ◌∷◌, ◌++◌, [], List, ℤ, pos, ◌≤ℤ◌, Some, None, IfOk, true, false};
+ghost use Rattle.std.specs.Prelude.{◌≡◌, ℕ, ◌+◌, ◌^◌, ◌≤◌, ◌∷◌, ◌++◌, [], List, ℤ, pos, ◌≤ℤ◌, IfOk, true, false};
 ghost use Rattle.std.specs.FinMap as map;
 ghost use Rattle.stream_rules.specs.declared.event.Event.{Event};
 ghost use Rattle.stream_rules.specs.declared.event.Event.TheVariants.{Close};
 ghost use Rattle.stream_rules.specs.Counts.{tally_of};
 ghost use Rattle.stream_rules.specs.declared.stream_spec.Stream.{Stream};
-ghost use Rattle.stream_rules.specs.declared.anchor.Anchor.{Anchor};
 
 use reorder_window::{SlotWindow, Window};
 use std::alloc::{AllocError, Global};

@@ -1,5 +1,5 @@
 //! A window with a slot for each of its numbers.
-ghost use Rattle.std.specs.Prelude.{◌≡◌, ◌+◌, ◌-◌, ◌<◌, ◌^◌, length, IfOk};
+ghost use Rattle.std.specs.Prelude.{◌≡◌, ◌<◌, ◌^◌, length, IfOk};
 ghost use Rattle.std.specs.FinMap as map;
 ghost use Rattle.reorder_window.specs.SlotWindow.{packets_in, place_at};
 ghost use Rattle.reorder_window.specs.Window.{IsEmpty};

@@ -1,5 +1,5 @@
 //! A window that keeps its packets in a list, in the order of their numbers.
-ghost use Rattle.std.specs.Prelude.{◌≡◌, ◌+◌, ◌-◌, ◌^◌, ◌<◌, ◌≤◌, ◌==◌, [], Some, None, take, vec_capacity, IfOk, IfErr};
+ghost use Rattle.std.specs.Prelude.{◌≡◌, ◌+◌, ◌^◌, ◌<◌, ◌≤◌, vec_capacity, IfOk, IfErr};
 ghost use Rattle.std.specs.FinMap as map;
 ghost use Rattle.reorder_window.specs.Window.{IsEmpty};
 ghost use Rattle.reorder_window.specs.SortedWindow.{IsFoundAt, IsGapAt, starts_with_number};

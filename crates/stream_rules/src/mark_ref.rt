@@ -1,5 +1,5 @@
 //! What a merge lends.
-ghost use Rattle.std.specs.Prelude.{◌≡◌, ◌<◌, ◌≤◌, ◌^◌, Some, option_copied};
+ghost use Rattle.std.specs.Prelude.{◌≡◌, ◌<◌, ◌≤◌, ◌^◌, option_copied};
 ghost use Rattle.stream_rules.specs.MarkFacts.{payload_length};
 ghost use Rattle.stream_rules.specs.MarkRef.{body_from, IsShort};
 

@@ -1,10 +1,9 @@
 //! Probation of a source that may have restarted (RFC 3550, A.1).
-ghost use Rattle.std.specs.Prelude.{◌≡◌, ◌<◌, ◌≤◌, ◌^◌, ◌&&◌, ℕ, nat_eq, nat_le, true, false};
+ghost use Rattle.std.specs.Prelude.{◌≡◌, ◌≤◌, ◌&&◌, ℕ, nat_eq, false};
 ghost use Rattle.stream_rules.specs.PacketRef.{packet_of};
 ghost use Rattle.stream_rules.specs.Anchor.{is_source_wanted};
 ghost use Rattle.stream_rules.specs.PathProbation.{is_complete, probation_at, probation_heard};
 ghost use Rattle.stream_rules.specs.declared.stream_spec.Stream.{Stream};
-ghost use Rattle.stream_rules.specs.declared.packet.Packet.{Packet};
 
 use crate::anchor::is_wanted;
 use crate::packet::PacketRef;

@@ -1,5 +1,5 @@
 //! The marks that a merge gives.
-ghost use Rattle.std.specs.Prelude.{◌≡◌, ◌==◌, if◌then◌else◌, nat_eq, ℕ, ◌+◌, ◌^◌, ◌<◌, List, ℤ, pos, ◌≤ℤ◌, Some, None, IfSome, OnOk, IfOk, IfErr, OnErr, true, false, option_copied};
+ghost use Rattle.std.specs.Prelude.{◌≡◌, ◌==◌, if◌then◌else◌, nat_eq, ℕ, ◌+◌, ◌^◌, ◌<◌, List, ℤ, pos, ◌≤ℤ◌, Some, None, IfSome, IfOk, IfErr, OnErr, true, false, option_copied};
 ghost use Rattle.std.specs.FinMap as map;
 ghost use Rattle.stream_rules.specs.declared.event.Event.{Event};
 ghost use Rattle.stream_rules.specs.Counts.{is_got_body, tally_of};
