@@ -1,28 +1,24 @@
 -- An arrival at an anchored merge, whether it opens an epoch or not.
 use Rattle.std.proofs.Common.{◌≡◌, ℕ, ◌^◌, ◌<◌, List, Option, Bool, true, false, ◌&&◌, Some, None, ℤ, refl, sym, ap, subst, ◌∙◌, if◌then◌else◌}
-use Rattle.std.specs.Prelude.{nat_eq, nat_lt, not, ◌+◌}
+use Rattle.std.specs.Prelude.{nat_eq}
 use Rattle.std.specs.FinMap.{get}
 use Rattle.path_merge.proofs.EpochLemmas.{anchor_is}
 use Rattle.path_merge.proofs.OfferLemmas.{offers_next}
+use Rattle.path_merge.proofs.PlaceLemmas.{counts_at}
 use Rattle.path_merge.proofs.RestartOfferLemmas.{offers_restart, opens_is}
 use Rattle.stream_rules.specs.Counts.{is_counted_fate, is_taken_fate}
 use Rattle.stream_rules.specs.CountsFacts.{with_fate}
 use Rattle.stream_rules.specs.Epochs.{anchor_in, anchors_of, can_restart, last_of}
-use Rattle.stream_rules.specs.Fate.{fate_of_put}
-use Rattle.stream_rules.specs.Grid.{extended_number, is_on_grid}
+use Rattle.stream_rules.specs.Grid.{extended_number}
 use Rattle.path_merge.specs.Merge.{HasHistory}
 use Rattle.path_merge.specs.MergeState.{IsSound, MergeState}
 use Rattle.stream_rules.specs.PathProbation.{probation_at}
-use Rattle.path_merge.specs.Steps.{IsNextStep, IsRefusal, IsRestartStep, Offers, fault_or, opens_epoch}
+use Rattle.path_merge.specs.Steps.{IsNextStep, IsRefusal, IsRestartStep, Offers, opens_epoch}
 use Rattle.stream_rules.specs.declared.stream_spec.Stream.{Stream}
-use Rattle.stream_rules.specs.Put.{put_answer}
 use Rattle.stream_rules.specs.declared.anchor.Anchor.{Anchor}
 use Rattle.stream_rules.specs.declared.event.Event.{Event}
 use Rattle.stream_rules.specs.declared.fate.Fate.{Fate}
-use Rattle.stream_rules.specs.declared.fate.Fate.TheVariants.{Ahead, Late, OffGrid, WrongSource}
 use Rattle.stream_rules.specs.declared.packet.Packet.{Packet}
-use Rattle.stream_rules.specs.declared.put.Put.{Put}
-use Rattle.stream_rules.specs.declared.put.Put.TheVariants.{Double as PutDouble, Taken as PutTaken, Unlike as PutUnlike}
 
 pub refused_next : (stream : Stream) (old new : MergeState) (a : Anchor) (path : ℕ) (packet : Packet) (fate : Fate) → IsNextStep stream old new a path packet fate → is_taken_fate fate ≡ false → IsRefusal old new path fate
 refused_next stream old new a path packet fate step untaken = record {
@@ -47,18 +43,9 @@ module _ (m new : MergeState) (a : Anchor) (path : ℕ) (packet : Packet) (fate 
       (λ e step. (ap (λ (x : MergeState). x.time) step.puts.changed, ap (λ (x : MergeState). x.closed) step.puts.changed, ap (λ (x : MergeState). x.spec) step.puts.changed))
       (λ e step. (ap (λ (x : MergeState). x.time) step.changed, ap (λ (x : MergeState). x.closed) step.changed, ap (λ (x : MergeState). x.spec) step.changed))
 
-  counted_place : (a b l h : Bool) (p : Put) → is_counted_fate (fault_or (if not a then Some WrongSource else if not b then Some OffGrid else if l then Some Late else if not h then Some Ahead else None) (fate_of_put p)) ≡ true
-  counted_place false b l h p = refl
-  counted_place true false l h p = refl
-  counted_place true true true h p = refl
-  counted_place true true false false p = refl
-  counted_place true true false true PutTaken = refl
-  counted_place true true false true PutDouble = refl
-  counted_place true true false true PutUnlike = refl
-
   pub counted_anchored : is_counted_fate fate ≡ true
   counted_anchored = by_opening (is_counted_fate fate ≡ true)
-      (λ e step. ap is_counted_fate step.puts.fate_is ∙ counted_place (nat_eq packet.ssrc a.source) (is_on_grid m.spec a (extended_number packet m.base) packet.ts) (nat_lt (extended_number packet m.base) m.base) (nat_lt (extended_number packet m.base) (m.base + m.spec.window)) (put_answer (get m.held (extended_number packet m.base)) packet))
+      (λ e step. ap is_counted_fate step.puts.fate_is ∙ counts_at m.spec a m.base packet (get m.held))
       (λ e step. ap is_counted_fate step.fate_is)
 
   -- it takes the history on, with the fate of the definition

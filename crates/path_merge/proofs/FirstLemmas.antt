@@ -11,7 +11,7 @@ use Rattle.path_merge.proofs.ArrivalLemmas.{marks_of-arrive, stands_after_arriva
 use Rattle.path_merge.proofs.HeldLemmas.{FateCounts, with_fate-counts}
 use Rattle.path_merge.proofs.HistoryLemmas.{marks_of-in, or_else}
 use Rattle.path_merge.proofs.EpochLemmas.{anchor_is, copies_of-since, copies_since-made, heard_of-made, last-push, since_of}
-use Rattle.path_merge.proofs.FateLemmas.{first_counts}
+use Rattle.path_merge.proofs.PlaceLemmas.{first_counts}
 use Rattle.path_merge.proofs.MarksLemmas.{AllSlotsBelow, limit_of, slots_below}
 use Rattle.path_merge.proofs.RestartLemmas.{own_copy, sound_anew}
 use Rattle.path_merge.proofs.RestartOfferLemmas.{all, counts_heard, few, hears, none_above, one_held}
@@ -22,7 +22,7 @@ use Rattle.stream_rules.specs.PathProbation.{no_probation, probation_at, probati
 use Rattle.stream_rules.specs.declared.probation.Probation.{Probation}
 use Rattle.stream_rules.specs.Counts.{counts_of, is_counted_fate, is_restarted, is_taken_fate}
 use Rattle.stream_rules.specs.CountsFacts.{Tally, with_fate}
-use Rattle.stream_rules.specs.Fate.{fate_of, first_fate}
+use Rattle.stream_rules.specs.Fate.{fate_of, fault_or, first_fate}
 use Rattle.stream_rules.specs.History.{arrival_count, is_closed, is_counting}
 use Rattle.stream_rules.specs.Marks.{marks_of}
 use Rattle.path_merge.specs.Merge.{HasHistory, IsBaseOf, heard_of, slot_count}
@@ -56,7 +56,7 @@ taken-can_anchor stream time packet =
     by_tests (is_source_wanted stream.ssrc packet.ssrc) (int_le (first_media_time stream.clock packet.ts time) (time -ℤ pos stream.latency)) (int_le (time -ℤ pos stream.latency +ℤ pos (stream.window * stream.frames)) (first_media_time stream.clock packet.ts time))
     ∙ sym (ap (λ b. is_source_wanted stream.ssrc packet.ssrc && (b && int_lt (first_media_time stream.clock packet.ts time) (time -ℤ pos stream.latency +ℤ pos (stream.window * stream.frames)))) low ∙ ap (λ b. is_source_wanted stream.ssrc packet.ssrc && (not (int_le (first_media_time stream.clock packet.ts time) (time -ℤ pos stream.latency)) && b)) high)
   where
-    by_tests : (w l h : Bool) → is_taken_fate (if not w then WrongSource else if l then Late else if h then Ahead else Taken) ≡ (w && (not l && not h))
+    by_tests : (w l h : Bool) → is_taken_fate (if not w then WrongSource else fault_or (if l then Some Late else if h then Some Ahead else None) Taken) ≡ (w && (not l && not h))
     by_tests false l h = refl
     by_tests true true h = refl
     by_tests true false true = refl
@@ -255,7 +255,7 @@ sound_first m media media' path packet a g h base' size' counts' s is_none open_
 taken_alone : (stream : Stream) (time : ℤ) (packet : Packet) → is_taken_fate (first_fate stream time packet) ≡ true → first_fate stream time packet ≡ Taken
 taken_alone stream time packet = by_tests (not (is_source_wanted stream.ssrc packet.ssrc)) (int_le (first_media_time stream.clock packet.ts time) (time -ℤ pos stream.latency)) (int_le (time -ℤ pos stream.latency +ℤ pos (stream.window * stream.frames)) (first_media_time stream.clock packet.ts time))
   where
-    by_tests : (a b c : Bool) → is_taken_fate (if a then WrongSource else if b then Late else if c then Ahead else Taken) ≡ true → (if a then WrongSource else if b then Late else if c then Ahead else Taken) ≡ Taken
+    by_tests : (a b c : Bool) → is_taken_fate (if a then WrongSource else fault_or (if b then Some Late else if c then Some Ahead else None) Taken) ≡ true → (if a then WrongSource else fault_or (if b then Some Late else if c then Some Ahead else None) Taken) ≡ Taken
     by_tests true b c e = cc
     by_tests false true c e = cc
     by_tests false false true e = cc

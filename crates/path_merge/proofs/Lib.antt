@@ -3,7 +3,7 @@ pub mod HistoryLemmas
 pub mod MarksLemmas
 pub mod ArrivalLemmas
 pub mod EpochLemmas
-pub mod FateLemmas
+pub mod PlaceLemmas
 pub mod CopiesLemmas
 pub mod HeldLemmas
 pub mod EmptyLemmas

@@ -1,6 +1,6 @@
 -- An offer that opens no epoch, under an anchor, takes the history on.
-use Rattle.std.proofs.Common.{◌≡◌, ℕ, ◌+◌, ◌^◌, ◌<◌, ◌≤◌, Bool, true, false, not, ◌&&◌, List, [], ◌∷◌, ◌++◌, length, Option, Some, None, ℤ, refl, sym, ap, subst, ◌∙◌, arith, append-nil, if◌then◌else◌}
-use Rattle.std.specs.Prelude.{nat_eq, nat_le, nat_lt}
+use Rattle.std.proofs.Common.{◌≡◌, ℕ, ◌^◌, ◌<◌, ◌≤◌, Bool, true, false, not, ◌&&◌, List, [], ◌∷◌, ◌++◌, length, Option, Some, None, Result, Ok, Err, ℤ, refl, sym, ap, subst, ◌∙◌, arith, append-nil, if◌then◌else◌}
+use Rattle.std.specs.Prelude.{nat_eq, nat_lt}
 use Rattle.std.specs.FinMap.{get}
 use Rattle.std.proofs.lemmas.Bool.Decides.{nat_tests}
 use Rattle.path_merge.proofs.ArrivalLemmas.{marks_of-arrive, stands_after_arrival}
@@ -8,21 +8,21 @@ use Rattle.path_merge.proofs.EpochLemmas.{WithinLength, all_tags, heard_by, anch
 use Rattle.path_merge.proofs.HistoryLemmas.{copies_of-push, or_else}
 use Rattle.stream_rules.proofs.ProbationLemmas.{probation_of-push}
 use Rattle.path_merge.proofs.RestartOfferLemmas.{all, counts_heard, few, hears, next_is, shut, some_frames}
-use Rattle.path_merge.proofs.FateLemmas.{fate_parts, fault_parts, in_window, is_none, next_counts, taken_answer, time_parts}
+use Rattle.path_merge.proofs.PlaceLemmas.{counts_at, has_no_place, has_place, is_none, taken_answer}
 use Rattle.path_merge.proofs.RestartLemmas.{itself_eq}
 use Rattle.stream_rules.specs.Anchor.{is_source_wanted, next_number}
 use Rattle.stream_rules.specs.Copies.{copies_of, first_copy}
 use Rattle.stream_rules.specs.Counts.{counts_of, is_counted_fate, is_taken_fate}
 use Rattle.stream_rules.specs.CountsFacts.{with_fate}
 use Rattle.stream_rules.specs.Epochs.{anchor_in, anchor_of, anchors_at, anchors_of, can_restart, last_of}
-use Rattle.stream_rules.specs.Fate.{fate_of, fate_of_put, next_fate}
-use Rattle.stream_rules.specs.Grid.{extended_number, first_with, is_in_time, is_on_grid}
+use Rattle.stream_rules.specs.Fate.{fate_at, fate_of, fate_of_put, next_fate, place_of}
+use Rattle.stream_rules.specs.Grid.{extended_number, first_with, is_in_time}
 use Rattle.stream_rules.specs.History.{arrival_count, is_counting, time_of}
 use Rattle.path_merge.specs.Merge.{HasHistory, heard_of}
 use Rattle.path_merge.specs.MergeState.{IsSound, MergeState}
 use Rattle.stream_rules.specs.PathProbation.{probation_after, probation_at, probation_heard, probation_of}
 use Rattle.stream_rules.specs.Probation.{heard_since, is_off}
-use Rattle.path_merge.specs.Steps.{IsNextStep, Offers, fault_or, place_fault_of}
+use Rattle.path_merge.specs.Steps.{IsNextStep, Offers}
 use Rattle.stream_rules.specs.Put.{put_answer}
 use Rattle.stream_rules.specs.declared.stream_spec.Stream.{Stream}
 use Rattle.stream_rules.specs.declared.anchor.Anchor.{Anchor}
@@ -86,23 +86,23 @@ module _ (stream : Stream) (open_at : ℤ) (m : MergeState) (media : ℤ) (s : I
   held_from n le = let past : nat_lt n m.base ≡ false = grind (arith, nat_tests, le) in at.held n ∙ rw past refl
 
   next_held : (new : MergeState) (fate : Fate) → IsNextStep stream m new a path packet fate → (n : ℕ) → get new.held n ≡ (if nat_lt n m.base then None else first_copy stream open_at (events ++ Arrive path packet ∷ []) n)
-  next_held new fate step n = by_fault (place_fault_of stream a m.base packet) refl
+  next_held new fate step n = by_place (place_of stream a m.base packet) refl
     where
-      by_fault : (o : Option Fate) → place_fault_of stream a m.base packet ≡ o → get new.held n ≡ (if nat_lt n m.base then None else first_copy stream open_at (events ++ Arrive path packet ∷ []) n)
-      by_fault (Some f) is =
-          let out = fault_parts (nat_eq packet.ssrc a.source) (is_on_grid stream a (extended_number packet m.base) packet.ts) (nat_lt (extended_number packet m.base) m.base) (nat_lt (extended_number packet m.base) (m.base + stream.window)) (nat_le m.base (extended_number packet m.base)) f (grind (arith, nat_tests)) is in
-          let fate_f : fate ≡ f = step.puts.fate_is ∙ ap (λ o. fault_or o (fate_of_put (put_answer (get m.held (extended_number packet m.base)) packet))) is in
-          let same : copies_of stream open_at (events ++ Arrive path packet ∷ []) ≡ copies_of stream open_at events = copies_then ∙ ap (λ b. copies_of stream open_at events ++ (if b then (extended_number packet m.base, packet) ∷ [] else [])) out.0 ∙ append-nil _ in
-          step.puts.held n ∙ ap (λ b. if b && nat_eq n (extended_number packet m.base) then Some packet else get m.held n) (ap is_taken_fate fate_f ∙ out.1) ∙ at.held n
+      by_place : (place : Result ℕ Fate) → place_of stream a m.base packet ≡ place → get new.held n ≡ (if nat_lt n m.base then None else first_copy stream open_at (events ++ Arrive path packet ∷ []) n)
+      by_place (Err fault) is =
+          let out = has_no_place stream a m.base packet fault is in
+          let fate_f : fate ≡ fault = step.puts.fate_is ∙ ap (λ o. fate_at o (get m.held) packet) is in
+          let same : copies_of stream open_at (events ++ Arrive path packet ∷ []) ≡ copies_of stream open_at events = copies_then ∙ ap (λ b. copies_of stream open_at events ++ (if b then (extended_number packet m.base, packet) ∷ [] else [])) out.out_of_time ∙ append-nil _ in
+          step.puts.held n ∙ ap (λ b. if b && nat_eq n (extended_number packet m.base) then Some packet else get m.held n) (ap is_taken_fate fate_f ∙ out.untaken) ∙ at.held n
           ∙ ap (λ l. if nat_lt n m.base then None else first_with n l) (sym same)
-      by_fault None is =
-          let inn = time_parts (nat_eq packet.ssrc a.source) (is_on_grid stream a (extended_number packet m.base) packet.ts) (nat_lt (extended_number packet m.base) m.base) (nat_lt (extended_number packet m.base) (m.base + stream.window)) (nat_le m.base (extended_number packet m.base)) (grind (arith, nat_tests)) is in
-          let low = in_window stream m.base a packet is in
-          let fate_p : fate ≡ fate_of_put (put_answer (get m.held (extended_number packet m.base)) packet) = step.puts.fate_is ∙ ap (λ o. fault_or o (fate_of_put (put_answer (get m.held (extended_number packet m.base)) packet))) is in
-          let one : copies_of stream open_at (events ++ Arrive path packet ∷ []) ≡ copies_of stream open_at events ++ (extended_number packet m.base, packet) ∷ [] = copies_then ∙ ap (λ b. copies_of stream open_at events ++ (if b then (extended_number packet m.base, packet) ∷ [] else [])) inn in
-          step.puts.held n ∙ ap (λ b. if b && nat_eq n (extended_number packet m.base) then Some packet else get m.held n) (ap is_taken_fate fate_p ∙ taken_answer (get m.held (extended_number packet m.base)) packet)
-          ∙ put_held n (extended_number packet m.base) m.base packet (first_copy stream open_at events n) (get m.held n) low.0 (at.held n) (get m.held (extended_number packet m.base)) (λ e. held_from (extended_number packet m.base) low.0 ∙ ap (first_copy stream open_at events) (sym e))
-          ∙ ap (λ o. if nat_lt n m.base then None else o) (sym (first_with-append n (copies_of stream open_at events) ((extended_number packet m.base, packet) ∷ [])))
+      by_place (Ok number) is =
+          let here = has_place stream a m.base packet number is in
+          let fate_p : fate ≡ fate_of_put (put_answer (get m.held number) packet) = step.puts.fate_is ∙ ap (λ o. fate_at o (get m.held) packet) is in
+          let one : copies_of stream open_at (events ++ Arrive path packet ∷ []) ≡ copies_of stream open_at events ++ (number, packet) ∷ [] = copies_then ∙ ap (λ b. copies_of stream open_at events ++ (if b then (extended_number packet m.base, packet) ∷ [] else [])) here.in_time ∙ ap (λ x. copies_of stream open_at events ++ (x, packet) ∷ []) (sym here.is) in
+          step.puts.held n ∙ ap (λ b. if b && nat_eq n (extended_number packet m.base) then Some packet else get m.held n) (ap is_taken_fate fate_p ∙ taken_answer (get m.held number) packet)
+          ∙ ap (λ x. if is_none (get m.held number) && nat_eq n x then Some packet else get m.held n) (sym here.is)
+          ∙ put_held n number m.base packet (first_copy stream open_at events n) (get m.held n) here.low (at.held n) (get m.held number) (λ e. held_from number here.low ∙ ap (first_copy stream open_at events) (sym e))
+          ∙ ap (λ o. if nat_lt n m.base then None else o) (sym (first_with-append n (copies_of stream open_at events) ((number, packet) ∷ [])))
           ∙ ap (λ l. if nat_lt n m.base then None else first_with n l) (sym one)
 
   fate_heard : fate_of stream open_at events path packet ≡ next_fate stream a m.base (copies_of stream open_at events) packet
@@ -113,12 +113,11 @@ module _ (stream : Stream) (open_at : ℤ) (m : MergeState) (media : ℤ) (s : I
 
   pub fate_next : (new : MergeState) (fate : Fate) → IsNextStep stream m new a path packet fate → fate ≡ fate_of stream open_at events path packet
   fate_next new answer step =
-      step.puts.fate_is ∙ by_fault (place_fault_of stream a m.base packet) refl
-      ∙ sym (fate_heard ∙ fate_parts (nat_eq packet.ssrc a.source) (is_on_grid stream a (extended_number packet m.base) packet.ts) (nat_lt (extended_number packet m.base) m.base) (nat_lt (extended_number packet m.base) (m.base + stream.window)) (fate_of_put (put_answer (first_copy stream open_at events (extended_number packet m.base)) packet)))
+      step.puts.fate_is ∙ by_place (place_of stream a m.base packet) refl ∙ sym fate_heard
     where
-      by_fault : (o : Option Fate) → place_fault_of stream a m.base packet ≡ o → fault_or (place_fault_of stream a m.base packet) (fate_of_put (put_answer (get m.held (extended_number packet m.base)) packet)) ≡ fault_or (place_fault_of stream a m.base packet) (fate_of_put (put_answer (first_copy stream open_at events (extended_number packet m.base)) packet))
-      by_fault (Some f) is = ap (λ o. fault_or o (fate_of_put (put_answer (get m.held (extended_number packet m.base)) packet))) is ∙ sym (ap (λ o. fault_or o (fate_of_put (put_answer (first_copy stream open_at events (extended_number packet m.base)) packet))) is)
-      by_fault None is = ap (λ g. fault_or (place_fault_of stream a m.base packet) (fate_of_put (put_answer g packet))) (held_from (extended_number packet m.base) (in_window stream m.base a packet is).0)
+      by_place : (place : Result ℕ Fate) → place_of stream a m.base packet ≡ place → fate_at (place_of stream a m.base packet) (get m.held) packet ≡ fate_at (place_of stream a m.base packet) (first_copy stream open_at events) packet
+      by_place (Err fault) is = ap (λ o. fate_at o (get m.held) packet) is ∙ sym (ap (λ o. fate_at o (first_copy stream open_at events) packet) is)
+      by_place (Ok number) is = ap (λ o. fate_at o (get m.held) packet) is ∙ ap (λ g. fate_of_put (put_answer g packet)) (held_from number (has_place stream a m.base packet number is).low) ∙ sym (ap (λ o. fate_at o (first_copy stream open_at events) packet) is)
 
   -- each path's probation
   heard_then : (on : ℕ) → heard_of stream open_at (last_of (anchors_of stream open_at (events ++ Arrive path packet ∷ []))) (events ++ Arrive path packet ∷ []) on ≡ heard_since stream open_at place a events on ++ heard_by stream open_at (Some (place, a)) events (Arrive path packet) on
@@ -158,7 +157,7 @@ module _ (stream : Stream) (open_at : ℤ) (m : MergeState) (media : ℤ) (s : I
     held = λ n. next_held new fate step n ∙ rw (ap (λ (x : MergeState). x.base) step.puts.changed);
     probation = next_probation new fate step;
     quiet = ap (λ (x : MergeState). x.quiet) step.puts.changed;
-    counts = ap (λ (x : MergeState). x.counts) step.puts.changed ∙ ap (λ t. with_fate t path fate) (at.counts ∙ ap (counts_of stream open_at events) (all stream open_at m media s open_yet events k at)) ∙ sym (counts_heard stream open_at m media s open_yet events k at path packet room fate (fate_next new fate step) (ap is_counted_fate (fate_next new fate step ∙ fate_heard) ∙ next_counts stream a m.base (copies_of stream open_at events) packet) few_paths);
+    counts = ap (λ (x : MergeState). x.counts) step.puts.changed ∙ ap (λ t. with_fate t path fate) (at.counts ∙ ap (counts_of stream open_at events) (all stream open_at m media s open_yet events k at)) ∙ sym (counts_heard stream open_at m media s open_yet events k at path packet room fate (fate_next new fate step) (ap is_counted_fate (fate_next new fate step ∙ fate_heard) ∙ counts_at stream a m.base packet (λ number. first_with number (copies_of stream open_at events))) few_paths);
     closed = ap (λ (x : MergeState). x.closed) step.puts.changed;
     ended = ap (λ (x : MergeState). x.ended) step.puts.changed;
   })

@@ -1,19 +1,18 @@
 -- A packet that is put: what it leaves of the model's invariant, of what is held, and of the counts.
-use Rattle.stream_rules.specs.Grid.{extended_number, is_on_grid}
-use Rattle.std.proofs.Common.{◌≡◌, ℕ, ◌+◌, ◌^◌, ◌<◌, ◌≤◌, Bool, true, false, ◌&&◌, Option, Some, None, IsSome, ℤ, refl, sym, ap, subst, ◌∙◌, arith, if◌then◌else◌}
-use Rattle.std.specs.Prelude.{nat_eq, nat_lt, nat_le, bytes_eq, List}
+use Rattle.std.proofs.Common.{◌≡◌, ℕ, ◌+◌, ◌^◌, ◌<◌, ◌≤◌, Bool, true, false, ◌&&◌, Option, Some, None, Ok, Err, IsSome, ℤ, refl, sym, ap, subst, ◌∙◌, arith, if◌then◌else◌}
+use Rattle.std.specs.Prelude.{nat_eq, bytes_eq, List}
 use Rattle.std.specs.Ordering.{nat_cmp}
 use Rattle.std.specs.FinMap.{FinMap, get}
 use Rattle.std.proofs.lemmas.Bool.Decides.{nat_tests}
-use Rattle.path_merge.proofs.FateLemmas.{fault_parts, taken_put}
+use Rattle.path_merge.proofs.PlaceLemmas.{has_no_place, has_place, taken_put}
 use Rattle.path_merge.proofs.HeldLemmas.{FateCounts, held_count-from, held_count-put, with_fate-counts}
 use Rattle.path_merge.proofs.SoundLemmas.{anchored_at, anchored_back}
 use Rattle.stream_rules.specs.Anchor.{next_number}
 use Rattle.stream_rules.specs.Counts.{is_restarted, is_taken_fate}
 use Rattle.stream_rules.specs.CountsFacts.{Tally, with_fate}
-use Rattle.stream_rules.specs.Fate.{fate_of_put}
+use Rattle.stream_rules.specs.Fate.{fate_at, fate_of_put, place_of}
 use Rattle.path_merge.specs.MergeState.{IsSound, MergeState, held_count}
-use Rattle.path_merge.specs.Steps.{IsPutStep, fault_or, place_fault_of}
+use Rattle.path_merge.specs.Steps.{IsPutStep}
 use Rattle.stream_rules.specs.declared.probation.Probation.{Probation}
 use Rattle.std.proofs.lemmas.Int.{ints}
 use Rattle.stream_rules.specs.StreamSpec.{Fits}
@@ -25,19 +24,19 @@ use Rattle.stream_rules.specs.declared.put.Put.{Put}
 use Rattle.stream_rules.specs.declared.put.Put.TheVariants.{Double as PutDouble, Taken as PutTaken, Unlike as PutUnlike}
 
 -- the steps that the code makes
-pub put_step_fault : (m : MergeState) (a : Anchor) (path : ℕ) (packet : Packet) (fate : Fate) (counts' : Tally) → place_fault_of m.spec a m.base packet ≡ Some fate → counts' ≡ with_fate m.counts path fate → IsPutStep m.spec m (record m { counts = counts' }) a path packet fate
+pub put_step_fault : (m : MergeState) (a : Anchor) (path : ℕ) (packet : Packet) (fate : Fate) (counts' : Tally) → place_of m.spec a m.base packet ≡ Err fate → counts' ≡ with_fate m.counts path fate → IsPutStep m.spec m (record m { counts = counts' }) a path packet fate
 put_step_fault m a path packet fate counts' is is_counts =
-    let untaken = (fault_parts (nat_eq packet.ssrc a.source) (is_on_grid m.spec a (extended_number packet m.base) packet.ts) (nat_lt (extended_number packet m.base) m.base) (nat_lt (extended_number packet m.base) (m.base + m.spec.window)) (nat_le m.base (extended_number packet m.base)) fate (grind (arith, nat_tests)) is).1 in
+    let untaken = (has_no_place m.spec a m.base packet fate is).untaken in
     record {
       fate_is = rw is refl;
       held = λ n. rw untaken refl;
       changed = rw is_counts refl;
     }
 
-pub put_step_put : (m : MergeState) (a : Anchor) (path : ℕ) (packet : Packet) (h : FinMap nat_cmp Packet) (base' size' number : ℕ) (counts' : Tally) (p : Put) (fate : Fate) → place_fault_of m.spec a m.base packet ≡ None → fate ≡ fate_of_put p → number ≡ extended_number packet m.base → p ≡ put_answer (get m.held number) packet → ((n : ℕ) → get h n ≡ (if is_taken p && nat_eq n number then Some packet else get m.held n)) → base' ≡ m.base → size' ≡ m.size → counts' ≡ with_fate m.counts path fate → IsPutStep m.spec m (record m { base = base'; size = size'; held = h; counts = counts' }) a path packet fate
-put_step_put m a path packet h base' size' number counts' p fate none is_fate is_number answer held is_base is_size is_counts = record {
-  fate_is = is_fate ∙ ap fate_of_put answer ∙ ap (λ n. fate_of_put (put_answer (get m.held n) packet)) is_number ∙ sym (ap (λ o. fault_or o (fate_of_put (put_answer (get m.held (extended_number packet m.base)) packet))) none);
-  held = λ n. held n ∙ ap (λ b. if b && nat_eq n number then Some packet else get m.held n) (sym (ap is_taken_fate is_fate ∙ taken_put p)) ∙ ap (λ x. if is_taken_fate fate && nat_eq n x then Some packet else get m.held n) is_number;
+pub put_step_put : (m : MergeState) (a : Anchor) (path : ℕ) (packet : Packet) (h : FinMap nat_cmp Packet) (base' size' number : ℕ) (counts' : Tally) (p : Put) (fate : Fate) → place_of m.spec a m.base packet ≡ Ok number → fate ≡ fate_of_put p → p ≡ put_answer (get m.held number) packet → ((n : ℕ) → get h n ≡ (if is_taken p && nat_eq n number then Some packet else get m.held n)) → base' ≡ m.base → size' ≡ m.size → counts' ≡ with_fate m.counts path fate → IsPutStep m.spec m (record m { base = base'; size = size'; held = h; counts = counts' }) a path packet fate
+put_step_put m a path packet h base' size' number counts' p fate is is_fate answer held is_base is_size is_counts = record {
+  fate_is = is_fate ∙ ap fate_of_put answer ∙ sym (ap (λ o. fate_at o (get m.held) packet) is);
+  held = λ n. held n ∙ ap (λ b. if b && nat_eq n number then Some packet else get m.held n) (sym (ap is_taken_fate is_fate ∙ taken_put p)) ∙ ap (λ x. if is_taken_fate fate && nat_eq n x then Some packet else get m.held n) (has_place m.spec a m.base packet number is).is;
   changed = rw (is_base, is_size, is_counts) refl;
 }
 

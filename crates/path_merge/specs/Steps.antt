@@ -1,5 +1,5 @@
 -- What each call of a merge does to it.
-use Rattle.std.specs.Prelude.{◌≡◌, ℕ, ◌+◌, ◌-◌, Bool, true, false, not, ◌&&◌, nat_eq, nat_lt, List, [], ◌∷◌, ◌++◌, length, ℤ, pos, ◌+ℤ◌, ◌-ℤ◌, ◌*◌, ◌≤ℤ◌, ◌<ℤ◌, int_lt, int_le, Option, Some, None, IsSome, is_some, take, drop, ◌≤◌, if◌then◌else◌, option_to_list}
+use Rattle.std.specs.Prelude.{◌≡◌, ℕ, ◌+◌, ◌-◌, Bool, true, false, ◌&&◌, nat_eq, List, [], ◌∷◌, ◌++◌, length, ℤ, pos, ◌-ℤ◌, ◌≤ℤ◌, ◌<ℤ◌, int_lt, int_le, Option, Some, None, IsSome, is_some, take, drop, ◌≤◌, if◌then◌else◌, option_to_list}
 use Rattle.std.specs.FinMap.{get}
 use Rattle.std.specs.Option.{option_map}
 use Rattle.stream_rules.specs.declared.stream_spec.Stream.{Stream}
@@ -7,44 +7,23 @@ use Rattle.stream_rules.specs.MarkFacts.{MarkView}
 use Rattle.stream_rules.specs.declared.anchor.Anchor.{Anchor}
 use Rattle.stream_rules.specs.declared.packet.Packet.{Packet}
 use Rattle.stream_rules.specs.declared.fate.Fate.{Fate}
-use Rattle.stream_rules.specs.declared.fate.Fate.TheVariants.{WrongSource, OffGrid, Late, Ahead, Restarted}
+use Rattle.stream_rules.specs.declared.fate.Fate.TheVariants.{Restarted}
 use Rattle.stream_rules.specs.declared.probation.Probation.{Probation}
 use Rattle.stream_rules.specs.declared.event.Event.{Event}
 use Rattle.stream_rules.specs.declared.event.Event.TheVariants.{Arrive, Tick}
 use Rattle.stream_rules.specs.History.{time_of, is_closed, is_well_timed, events_until_close}
 use Rattle.stream_rules.specs.Anchor.{anchor_from, deadline_of, is_source_wanted, is_restart_in_reach, media_time_of, next_number, restart_from, restart_media_time}
-use Rattle.stream_rules.specs.Grid.{extended_number, is_on_grid}
+use Rattle.stream_rules.specs.Grid.{extended_number}
 use Rattle.stream_rules.specs.Epochs.{anchor_of, anchors_of, last_of}
 use Rattle.stream_rules.specs.Probation.{is_off}
 use Rattle.stream_rules.specs.PathProbation.{is_complete, no_probation, probation_at, probation_heard}
 use Rattle.stream_rules.specs.Copies.{copies_of}
 use Rattle.stream_rules.specs.Marks.{marks_of, body_of, quiet_mark, is_slot}
-use Rattle.stream_rules.specs.Put.{put_answer}
-use Rattle.stream_rules.specs.Fate.{fate_of, fate_of_put, first_fate}
+use Rattle.stream_rules.specs.Fate.{fate_at, fate_of, first_fate, place_of}
 use Rattle.stream_rules.specs.CountsFacts.{with_fate, with_body}
 use Rattle.stream_rules.specs.Counts.{fates_of, is_taken_fate}
 use Rattle.path_merge.specs.MergeState.{MergeState, holds_nothing}
 use Rattle.path_merge.specs.Merge.{HasHistory, heard_of}
-
--- why a packet is no in-time copy, where this number is due next
-abbrev pub place_fault_of : Stream → Anchor → ℕ → Packet → Option Fate
-place_fault_of stream anchor next packet =
-    if not (nat_eq packet.ssrc anchor.source) then Some WrongSource
-    else if not (is_on_grid stream anchor (extended_number packet next) packet.ts) then Some OffGrid
-    else if nat_lt (extended_number packet next) next then Some Late
-    else if not (nat_lt (extended_number packet next) (next + stream.window)) then Some Ahead
-    else None
-
--- why a packet of this media time may be no first one of an epoch
-abbrev pub reach_fault_of : Stream → ℤ → ℤ → Option Fate
-reach_fault_of stream time media =
-    if int_le media (time -ℤ pos stream.latency) then Some Late
-    else if int_le (time -ℤ pos stream.latency +ℤ pos (stream.window * stream.frames)) media then Some Ahead
-    else None
-
-abbrev pub fault_or : Option Fate → Fate → Fate
-fault_or (Some fault) other = fault
-fault_or None other = other
 
 -- the media time of the epoch that a packet may open: nothing is held, and media time goes on
 abbrev pub epoch_media : MergeState → Anchor → Packet → Option ℤ
@@ -69,7 +48,7 @@ pub record IsHeardStep (old new : MergeState) (a : Anchor) (path : ℕ) (packet 
 
 -- an arrival at an anchored merge that is put, or refused: only a packet that is taken changes what is held
 pub record IsPutStep (stream : Stream) (old new : MergeState) (a : Anchor) (path : ℕ) (packet : Packet) (fate : Fate) : Type 0 where
-  pub fate_is : fate ≡ fault_or (place_fault_of stream a old.base packet) (fate_of_put (put_answer (get old.held (extended_number packet old.base)) packet))
+  pub fate_is : fate ≡ fate_at (place_of stream a old.base packet) (get old.held) packet
   pub held : (n : ℕ) → get new.held n ≡ (if is_taken_fate fate && nat_eq n (extended_number packet old.base) then Some packet else get old.held n)
   pub changed : new ≡ record old { held = new.held; counts = with_fate old.counts path fate }
 

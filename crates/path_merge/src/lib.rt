@@ -16,7 +16,6 @@
 //! copy and then `pass_to`; `drain` is the same to the end.
 #![tactic(auto)]
 
-mod arrival;
 mod clock;
 mod goal;
 mod laws;

@@ -1,4 +1,5 @@
 pub mod CountsLemmas
+pub mod FateLemmas
 pub mod NearestLemmas
 pub mod StreamSpecLemmas
 pub mod WorkedCases

@@ -1,5 +1,5 @@
 -- What becomes of an arrival.
-use Rattle.std.specs.Prelude.{ℕ, Bool, false, ◌+◌, ◌*◌, ◌^◌, not, nat_lt, nat_eq, int_le, List, Option, Some, None, if◌then◌else◌, ℤ, pos, ◌+ℤ◌, ◌-ℤ◌}
+use Rattle.std.specs.Prelude.{ℕ, Bool, false, ◌+◌, ◌*◌, ◌^◌, not, nat_lt, nat_eq, int_le, List, Option, Some, None, Result, Ok, Err, if◌then◌else◌, ℤ, pos, ◌+ℤ◌, ◌-ℤ◌}
 use Rattle.stream_rules.specs.declared.stream_spec.Stream.{Stream}
 use Rattle.stream_rules.specs.declared.anchor.Anchor.{Anchor}
 use Rattle.stream_rules.specs.declared.packet.Packet.{Packet}
@@ -20,22 +20,40 @@ fate_of_put PutTaken = Taken
 fate_of_put PutDouble = Double
 fate_of_put PutUnlike = Unlike
 
+-- why a packet of this media time may be no first one of an epoch: its deadline has come, or it is beyond the window
+abbrev pub reach_fault_of : Stream → ℤ → ℤ → Option Fate
+reach_fault_of stream time media =
+    if int_le media (time -ℤ pos stream.latency) then Some Late
+    else if int_le (time -ℤ pos stream.latency +ℤ pos (stream.window * stream.frames)) media then Some Ahead
+    else None
+
+abbrev pub fault_or : Option Fate → Fate → Fate
+fault_or (Some fault) other = fault
+fault_or None other = other
+
 -- of a packet that would be the first, at this time
 abbrev pub first_fate : Stream → ℤ → Packet → Fate
 first_fate stream time packet =
     if not (is_source_wanted stream.ssrc packet.ssrc) then WrongSource
-    else if int_le (first_media_time stream.clock packet.ts time) (time -ℤ pos stream.latency) then Late
-    else if int_le (time -ℤ pos stream.latency +ℤ pos (stream.window * stream.frames)) (first_media_time stream.clock packet.ts time) then Ahead
-    else Taken
+    else fault_or (reach_fault_of stream time (first_media_time stream.clock packet.ts time)) Taken
+
+-- the number of which a packet is a copy in time, where this one is due next, or why it is none
+abbrev pub place_of : Stream → Anchor → ℕ → Packet → Result ℕ Fate
+place_of stream anchor next packet =
+    if not (nat_eq packet.ssrc anchor.source) then Err WrongSource
+    else if not (is_on_grid stream anchor (extended_number packet next) packet.ts) then Err OffGrid
+    else if nat_lt (extended_number packet next) next then Err Late
+    else if not (nat_lt (extended_number packet next) (next + stream.window)) then Err Ahead
+    else Ok (extended_number packet next)
+
+-- of a packet with this place, where these are the first copies of each number
+abbrev pub fate_at : Result ℕ Fate → (ℕ → Option Packet) → Packet → Fate
+fate_at (Err fault) first packet = fault
+fate_at (Ok number) first packet = fate_of_put (put_answer (first number) packet)
 
 -- of a later one, where this number is due next and these copies came before
 abbrev pub next_fate : Stream → Anchor → ℕ → List (ℕ × Packet) → Packet → Fate
-next_fate stream anchor next copies packet =
-    if not (nat_eq packet.ssrc anchor.source) then WrongSource
-    else if not (is_on_grid stream anchor (extended_number packet next) packet.ts) then OffGrid
-    else if nat_lt (extended_number packet next) next then Late
-    else if not (nat_lt (extended_number packet next) (next + stream.window)) then Ahead
-    else fate_of_put (put_answer (first_with (extended_number packet next) copies) packet)
+next_fate stream anchor next copies packet = fate_at (place_of stream anchor next packet) (λ number. first_with number copies) packet
 
 abbrev pub counted_fate : Stream → ℤ → Option Anchor → List (ℕ × Packet) → Packet → Fate
 counted_fate stream time None copies packet = first_fate stream time packet

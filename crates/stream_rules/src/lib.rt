@@ -8,11 +8,13 @@
 //! `receive` and `receive_ref` take a packet of the stream out of a datagram, or say what is wrong with
 //! it; a path's `PathCounts` count these answers.
 //!
-//! The functions beside them decide about one packet: where it belongs (`number_of`, `is_in_step`),
-//! and whether it completes its path's probation (`hear_on`). Merges are made of them.
+//! The functions beside them decide about one packet: its place or why it has none (`place_of`, of
+//! `number_of` and `is_in_step`), whether it may be an epoch's first (`fate_of_first`, `goes_on`), and
+//! whether it completes its path's probation (`hear_on`). Merges are made of them.
 #![tactic(auto)]
 
 mod anchor;
+mod arrival;
 mod counts;
 mod event;
 mod fate;
@@ -29,6 +31,7 @@ mod stream_counts;
 mod stream_spec;
 
 pub use anchor::{Anchor, is_in_step, is_wanted, media_of_first, media_of_restart, number_of};
+pub use arrival::{fate_of_first, fate_of_put, goes_on, is_off_place, is_taken, place_of};
 pub use counts::Counts;
 pub use event::Event;
 pub use fate::Fate;

@@ -1,21 +1,20 @@
 //! Arrivals at a merge.
-ghost use Rattle.std.specs.Prelude.{◌≡◌, ℕ, ◌+◌, ◌^◌, ◌<◌, ◌∷◌, ◌++◌, [], List, ℤ, Some, None, true, false};
+ghost use Rattle.std.specs.Prelude.{◌≡◌, ℕ, ◌^◌, ◌<◌, List, ℤ, Some, None, true, false};
 ghost use Rattle.stream_rules.specs.declared.anchor.Anchor.{Anchor};
 ghost use Rattle.stream_rules.specs.declared.event.Event.{Event};
 ghost use Rattle.stream_rules.specs.declared.fate.Fate.TheVariants.{Restarted};
-ghost use Rattle.stream_rules.specs.declared.packet.Packet.{Packet};
 ghost use Rattle.stream_rules.specs.Anchor.{is_restart_in_reach, media_time_of, restart_media_time};
 ghost use Rattle.stream_rules.specs.PacketRef.{packet_of};
 ghost use Rattle.stream_rules.specs.Counts.{is_counted_fate, is_taken_fate};
-ghost use Rattle.stream_rules.specs.Probation.{is_off as off_grid};
+ghost use Rattle.stream_rules.specs.Fate as fate;
+ghost use Rattle.stream_rules.specs.Probation.{is_off};
 ghost use Rattle.stream_rules.specs.declared.stream_spec.Stream.{Stream};
 
 use super::Merge;
-use crate::arrival::{fate_of_first, fate_of_put, goes_on, is_off, is_taken, place_fault};
 use reorder_window::Window;
 use stream_rules::{
-    Anchor, Fate, Packet, PacketRef, Path, Probation, hear_on, media_of_first, media_of_restart,
-    number_of,
+    Anchor, Fate, Packet, PacketRef, Path, Probation, fate_of_first, fate_of_put, goes_on, hear_on,
+    is_off_place, is_taken, media_of_first, media_of_restart, place_of,
 };
 
 /// So many arrivals are counted: 2^62.
@@ -23,10 +22,9 @@ const MOST_ARRIVALS: u64 = 4_611_686_018_427_387_904;
 
 impl<V: Window> Merge<V> {
     ghost use Rattle.stream_rules.specs.StreamSpec.{Fits};
-    ghost use Rattle.path_merge.specs.MergeState.{MergeState};
     ghost use Rattle.path_merge.specs.Merge.{HasHistory};
     ghost use Rattle.reorder_window.specs.Window.{IsEmpty};
-    ghost use Rattle.path_merge.specs.Steps.{IsFirstStep, IsHeardStep, IsNextStep, IsPutStep, IsRefusal, IsRestartStep, Offers, epoch_media, opening_of, opens_epoch, place_fault_of};
+    ghost use Rattle.path_merge.specs.Steps.{IsFirstStep, IsHeardStep, IsNextStep, IsPutStep, IsRefusal, IsRestartStep, Offers, epoch_media, opening_of, opens_epoch};
 
     /// Takes a packet of the stream's length that came in on one of its paths.
     pub fn offer(&mut self, path: Path, packet: Packet) -> Fate
@@ -79,13 +77,13 @@ impl<V: Window> Merge<V> {
         ensures restart { opens_epoch self.old anchor path (packet_of packet.now) ≡ true → IsRestartStep self.old.spec self.old self.new anchor path (packet_of packet.now) result }
     {
         let next = self.window.base();
-        let fault = place_fault(&self.spec, &anchor, next, self.next_media, packet);
-        match self.hear(anchor, path, is_off(fault), packet) {
+        let place = place_of(&self.spec, &anchor, next, self.next_media, packet);
+        match self.hear(anchor, path, is_off_place(&place), packet) {
             Some(media) => {
                 self.restart(anchor, media, path, packet);
                 Fate::Restarted
             }
-            None => self.put_or_refuse(anchor, fault, path, packet),
+            None => self.put_or_refuse(anchor, place, path, packet),
         }
     }
 
@@ -94,7 +92,7 @@ impl<V: Window> Merge<V> {
     fn hear(&mut self, anchor: Anchor, path: Path, off: bool, packet: &PacketRef<'_>) -> Option<i64>
         requires anchored { self.old.anchor ≡ Some anchor }
         requires open_yet { self.old.closed ≡ false }
-        requires off { off ≡ off_grid self.old.spec anchor self.old.base (packet_of packet.now) }
+        requires off { off ≡ is_off self.old.spec anchor self.old.base (packet_of packet.now) }
         ensures opening { result ≡ opening_of self.old anchor path (packet_of packet.now) }
         ensures step { IsHeardStep self.old self.new anchor path (packet_of packet.now) }
     {
@@ -105,12 +103,12 @@ impl<V: Window> Merge<V> {
         }
     }
 
-    /// Takes a packet with no fault, where its number has none, and counts it.
+    /// Puts a packet at its place, or refuses one that has none, and counts it.
     #[inline]
     fn put_or_refuse(
         &mut self,
         anchor: Anchor,
-        fault: Option<Fate>,
+        place: Result<u64, Fate>,
         path: Path,
         packet: &PacketRef<'_>,
     ) -> Fate
@@ -118,19 +116,18 @@ impl<V: Window> Merge<V> {
         requires open_yet { self.old.closed ≡ false }
         requires room { self.old.counts.arrived < 2 ^ 62 }
         requires fits { Fits self.old.spec (packet_of packet.now) }
-        requires fault { fault ≡ place_fault_of self.old.spec anchor self.old.base (packet_of packet.now) }
+        requires place { place ≡ fate.place_of self.old.spec anchor self.old.base (packet_of packet.now) }
         ensures { IsPutStep self.old.spec self.old self.new anchor path (packet_of packet.now) result }
     {
-        match fault {
-            Some(fate) => {
-                self.counts.add_fate(path, fate);
-                fate
-            }
-            None => {
-                let number = number_of(packet, self.window.base());
+        match place {
+            Ok(number) => {
                 let fate = fate_of_put(self.window.put_ref(number, *packet));
                 self.counts.add_fate(path, fate);
                 fate
+            }
+            Err(fault) => {
+                self.counts.add_fate(path, fault);
+                fault
             }
         }
     }

@@ -3,7 +3,8 @@ use Rattle.std.proofs.lemmas.Int.{ints, to_z-of_z}
 use Rattle.stream_rules.specs.PacketRef.{packet_of}
 use Rattle.stream_rules.specs.Anchor.{is_restart_in_reach, media_time_of, restart_media_time}
 use Rattle.path_merge.specs.MergeState.{IsSound, MergeState}
-use Rattle.path_merge.specs.Steps.{IsRestartStep, place_fault_of}
+use Rattle.path_merge.specs.Steps.{IsRestartStep}
+use Rattle.stream_rules.specs.Fate.{place_of}
 use Rattle.reorder_window.specs.Window.{IsEmpty}
 use Rattle.stream_rules.specs.declared.fate.Fate.TheVariants.{Restarted}
 use Rattle.path_merge.proofs.EmptyLemmas.{Opens, nothing_held, opening_is}
@@ -11,31 +12,31 @@ use Rattle.path_merge.proofs.RestartLemmas.{restart_heard}
 use Rattle.path_merge.proofs.SoundLemmas.{anchored_at, base_small, due_times, media_small}
 use Rattle.path_merge.proofs.merge.Merge.offer_next.Goals as goal
 
-pub place_fault-fault-requires-clause-high : goal.place_fault-fault-requires-clause-high
-place_fault-fault-requires-clause-high g c =
+pub place_of-place-requires-clause-high : goal.place_of-place-requires-clause-high
+place_of-place-requires-clause-high g c =
     let is_a = ap (λ (m : MergeState). m.anchor) c.self.view_is ∙ c.requires.anchored in
     omega (arith, c.base-next.ensures, (base_small _ c.self.inside.next_media c.args.anchor c.self.invariant is_a).1)
 
-pub place_fault-fault-requires-clause-media_low : goal.place_fault-fault-requires-clause-media_low
-place_fault-fault-requires-clause-media_low g c =
+pub place_of-place-requires-clause-media_low : goal.place_of-place-requires-clause-media_low
+place_of-place-requires-clause-media_low g c =
     let is_a = ap (λ (m : MergeState). m.anchor) c.self.view_is ∙ c.requires.anchored in
     let t = media_small _ c.self.inside.next_media c.args.anchor c.self.invariant is_a in
     omega (arith, ints, t.1, t.2)
 
-pub place_fault-fault-requires-clause-anchor_low : goal.place_fault-fault-requires-clause-anchor_low
-place_fault-fault-requires-clause-anchor_low g c =
+pub place_of-place-requires-clause-anchor_low : goal.place_of-place-requires-clause-anchor_low
+place_of-place-requires-clause-anchor_low g c =
     let is_a = ap (λ (m : MergeState). m.anchor) c.self.view_is ∙ c.requires.anchored in
     omega (arith, ints, (anchored_at _ c.self.inside.next_media _ c.args.anchor is_a c.self.invariant.anchored).bounds.media_low)
 
-pub place_fault-fault-requires-clause-media_high : goal.place_fault-fault-requires-clause-media_high
-place_fault-fault-requires-clause-media_high g c =
+pub place_of-place-requires-clause-media_high : goal.place_of-place-requires-clause-media_high
+place_of-place-requires-clause-media_high g c =
     let is_a = ap (λ (m : MergeState). m.anchor) c.self.view_is ∙ c.requires.anchored in
     let open_yet = ap (λ (m : MergeState). m.closed) c.self.view_is ∙ c.requires.open_yet in
     let t = due_times _ c.self.inside.next_media c.args.anchor c.self.invariant is_a open_yet in
     omega (arith, ints, t.media_low, t.media_high)
 
 pub hear-requires-clause-off : goal.hear-requires-clause-off
-hear-requires-clause-off g c = c.is_off.ensures c.args.self.now.spec c.args.anchor c.args.self.now.base (packet_of c.args.packet.now) (c.place_fault-fault.ensures ∙ ap (λ b. place_fault_of c.self.inside.spec c.args.anchor b (packet_of c.args.packet.now)) c.base-next.ensures ∙ ap (λ (m : MergeState). place_fault_of m.spec c.args.anchor m.base (packet_of c.args.packet.now)) c.self.view_is)
+hear-requires-clause-off g c = c.is_off_place.ensures c.args.self.now.spec c.args.anchor c.args.self.now.base (packet_of c.args.packet.now) (c.place_of-place.ensures ∙ ap (λ b. place_of c.self.inside.spec c.args.anchor b (packet_of c.args.packet.now)) c.base-next.ensures ∙ ap (λ (m : MergeState). place_of m.spec c.args.anchor m.base (packet_of c.args.packet.now)) c.self.view_is)
 
 pub restart-requires-clause-nothing_held : goal.restart-requires-clause-nothing_held
 restart-requires-clause-nothing_held g c =

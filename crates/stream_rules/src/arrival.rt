@@ -3,19 +3,22 @@ ghost use Rattle.std.specs.Prelude.{◌≡◌, ◌^◌, ◌≤◌, ℕ, ℤ, pos
 ghost use Rattle.stream_rules.specs.PacketRef.{packet_of};
 ghost use Rattle.stream_rules.specs.Anchor.{first_media_time, is_restart_in_reach, media_time_of};
 ghost use Rattle.stream_rules.specs.Counts.{is_taken_fate};
-ghost use Rattle.stream_rules.specs.Fate as spec;
-ghost use Rattle.stream_rules.specs.Fate.{first_fate};
-ghost use Rattle.stream_rules.specs.Probation.{is_off as off_grid};
-ghost use Rattle.path_merge.specs.Steps.{place_fault_of, reach_fault_of};
+ghost use Rattle.stream_rules.specs.Fate as fate;
+ghost use Rattle.stream_rules.specs.Fate.{first_fate, reach_fault_of};
+ghost use Rattle.stream_rules.specs.Probation.{is_off};
 ghost use Rattle.stream_rules.specs.declared.stream_spec.Stream.{Stream};
 ghost use Rattle.stream_rules.specs.declared.anchor.Anchor.{Anchor};
 ghost use Rattle.stream_rules.specs.declared.packet.Packet.{Packet};
 
-use stream_rules::{Anchor, Fate, PacketRef, Put, StreamSpec, is_in_step, is_wanted, number_of};
+use crate::anchor::{Anchor, is_in_step, is_wanted, number_of};
+use crate::fate::Fate;
+use crate::packet::PacketRef;
+use crate::put::Put;
+use crate::stream_spec::StreamSpec;
 
 /// The fate of a packet that was put.
 pub fn fate_of_put(put: Put) -> Fate
-    ensures { result ≡ spec.fate_of_put put }
+    ensures { result ≡ fate.fate_of_put put }
 {
     match put {
         Put::Taken => Fate::Taken,
@@ -31,14 +34,14 @@ pub fn is_taken(fate: Fate) -> bool
     matches!(fate, Fate::Taken | Fate::Restarted)
 }
 
-/// Why a packet is no copy in time, where `next` is due next, at `media`.
-pub fn place_fault(
+/// The number of which a packet is a copy in time, where `next` is due next, at `media`, or why it is none.
+pub fn place_of(
     spec: &StreamSpec,
     anchor: &Anchor,
     next: u64,
     media: i64,
     packet: &PacketRef<'_>,
-) -> Option<Fate>
+) -> Result<u64, Fate>
     requires low { 65536 ≤ next }
     requires high { next ≤ 2 ^ 61 }
     requires media_low { neg_ℤ (pos (2 ^ 61)) ≤ℤ media }
@@ -46,30 +49,30 @@ pub fn place_fault(
     requires anchor_low { neg_ℤ (pos (2 ^ 61)) ≤ℤ anchor.now.media }
     requires anchor_high { anchor.now.media ≤ℤ pos (2 ^ 61) }
     requires media_is { media ≡ media_time_of spec.now anchor.now next }
-    ensures { result ≡ place_fault_of spec.now anchor.now next (packet_of packet.now) }
+    ensures { result ≡ fate.place_of spec.now anchor.now next (packet_of packet.now) }
 {
     if packet.ssrc != anchor.source {
-        return Some(Fate::WrongSource);
+        return Err(Fate::WrongSource);
     }
     let number = number_of(packet, next);
     let there = media + (number as i64 - next as i64) * i64::from(spec.frames());
     if !is_in_step(anchor, there, packet.ts) {
-        return Some(Fate::OffGrid);
+        return Err(Fate::OffGrid);
     }
     if number < next {
-        return Some(Fate::Late);
+        return Err(Fate::Late);
     }
     if number >= next + u64::from(spec.window()) {
-        return Some(Fate::Ahead);
+        return Err(Fate::Ahead);
     }
-    None
+    Ok(number)
 }
 
-/// Whether a packet with this fault is of another source, or off the grid.
-pub fn is_off(fault: Option<Fate>) -> bool
-    ensures { (stream : Stream) (anchor : Anchor) (next : ℕ) (packet : Packet) → fault ≡ place_fault_of stream anchor next packet → result ≡ off_grid stream anchor next packet }
+/// Whether a packet with this place is off: it is of another source, or off the grid.
+pub fn is_off_place(place: &Result<u64, Fate>) -> bool
+    ensures { (stream : Stream) (anchor : Anchor) (next : ℕ) (packet : Packet) → place.now ≡ fate.place_of stream anchor next packet → result ≡ is_off stream anchor next packet }
 {
-    matches!(fault, Some(Fate::WrongSource | Fate::OffGrid))
+    matches!(place, Err(Fate::WrongSource | Fate::OffGrid))
 }
 
 /// Why a packet at `media` may be no first one of an epoch: its deadline has come, or it is beyond the window.
@@ -100,7 +103,7 @@ pub fn goes_on(spec: &StreamSpec, time: i64, due: i64, media: i64) -> bool
     }
 }
 
-/// The fate of a packet that would be the first, at `media`.
+/// The fate of a packet that would be the first of epoch 0, at `media`.
 pub fn fate_of_first(spec: &StreamSpec, time: i64, media: i64, source: u32) -> Fate
     requires low { pos 0 ≤ℤ time }
     requires high { time ≤ℤ pos (2 ^ 60) }
