@@ -6,7 +6,7 @@ use Rattle.path_merge.proofs.ArrivalLemmas.{marks_of-arrive}
 use Rattle.path_merge.proofs.EpochLemmas.{heard_of-tick}
 use Rattle.path_merge.proofs.HistoryLemmas.{anchor_of-tick, copies_of-tick, events_until_close-open, fates_of-tick, is_closed-append, marks_in-none, marks_of-in, time_of-append}
 use Rattle.path_merge.proofs.JoinLemmas.{has_slot-append}
-use Rattle.path_merge.proofs.MarksLemmas.{by_open_event}
+use Rattle.path_merge.proofs.MarkGrowthLemmas.{by_open_event}
 use Rattle.path_merge.proofs.StepLemmas.{marks_of-tick}
 use Rattle.stream_rules.specs.Anchor.{next_number}
 use Rattle.stream_rules.specs.Copies.{copies_of, copies_of_all}

@@ -7,9 +7,9 @@ use Rattle.std.proofs.lemmas.Int.{ints}
 use Rattle.path_merge.proofs.EpochLemmas.{WithinLength, heard_of-push, no_anchors, place_within}
 use Rattle.path_merge.proofs.FirstLemmas.{is_first}
 use Rattle.path_merge.proofs.HistoryLemmas.{IsNextEpoch, anchors_of-push, by_last_event, or_else}
-use Rattle.path_merge.proofs.MarksLemmas.{limit_of}
+use Rattle.path_merge.proofs.MarkGrowthLemmas.{limit_of}
 use Rattle.stream_rules.proofs.ProbationLemmas.{by_last, complete_is, last_of-push, probation_of-push}
-use Rattle.path_merge.proofs.RestartLemmas.{GoesOn, in_reach, itself_eq, own_copy}
+use Rattle.path_merge.proofs.AnewLemmas.{GoesOn, in_reach, itself_eq, own_copy}
 use Rattle.stream_rules.specs.Anchor.{anchor_from, can_anchor, is_source_wanted, media_time_of, next_number, restart_from, restart_media_time}
 use Rattle.stream_rules.specs.EpochLaws.{anchor_with, epochs_in}
 use Rattle.stream_rules.specs.Epochs.{anchor_in, anchors_after, anchors_at, anchors_of, can_restart, copies_since, goes_on, is_all_given, last_of, placed}

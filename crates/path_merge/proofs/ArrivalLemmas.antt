@@ -1,4 +1,4 @@
--- One more arrival.
+-- One more arrival changes no mark, and takes the history on.
 use Rattle.std.proofs.Common.{◌≡◌, ℕ, ◌^◌, ◌<◌, ◌≤◌, Bool, true, false, ◌&&◌, List, [], ◌∷◌, ◌++◌, length, Option, Some, None, ℤ, refl, sym, ap, ◌∙◌, arith, append-nil, if◌then◌else◌}
 use Rattle.std.specs.Prelude.{nat_eq, nat_lt}
 use Rattle.path_merge.proofs.StepLemmas.{take_all}
@@ -8,7 +8,7 @@ use Rattle.stream_rules.specs.PathProbation.{probation_at, probation_of}
 use Rattle.std.specs.FinMap.{get}
 use Rattle.std.proofs.lemmas.Bool.Decides.{nat_tests}
 use Rattle.path_merge.proofs.HistoryLemmas.{IsNextEpoch, anchor_made, made_next, or_else, anchor_of-push, copies_of_all-push, events_until_close-open, is_closed-append, is_well_timed_from-append, marks_in, marks_in-push, marks_of-in, time_of-append}
-use Rattle.path_merge.proofs.MarksLemmas.{AllLater, AllLaterThan, marks_in-more}
+use Rattle.path_merge.proofs.MarkGrowthLemmas.{AllLater, AllLaterThan, marks_in-more}
 use Rattle.stream_rules.specs.Anchor.{next_number}
 use Rattle.stream_rules.specs.Epochs.{anchor_of, anchors_of, last_of}
 use Rattle.stream_rules.specs.Copies.{copies_at, copies_of_all, first_copy, copies_under_with, with_epoch}

@@ -8,12 +8,12 @@ use Rattle.std.proofs.lemmas.Int.{ints}
 use Rattle.std.specs.FinMap.{get, FinMap}
 use Rattle.std.specs.Ordering.{nat_cmp}
 use Rattle.path_merge.proofs.ArrivalLemmas.{marks_of-arrive, stands_after_arrival}
-use Rattle.path_merge.proofs.HeldLemmas.{FateCounts, with_fate-counts}
+use Rattle.path_merge.proofs.HeldCountLemmas.{FateCounts, with_fate-counts}
 use Rattle.path_merge.proofs.HistoryLemmas.{marks_of-in, or_else}
 use Rattle.path_merge.proofs.EpochLemmas.{anchor_is, copies_of-since, copies_since-made, heard_of-made, last-push, since_of}
 use Rattle.path_merge.proofs.PlaceLemmas.{first_counts}
-use Rattle.path_merge.proofs.MarksLemmas.{AllSlotsBelow, limit_of, slots_below}
-use Rattle.path_merge.proofs.RestartLemmas.{own_copy, sound_anew}
+use Rattle.path_merge.proofs.MarkGrowthLemmas.{AllSlotsBelow, limit_of, slots_below}
+use Rattle.path_merge.proofs.AnewLemmas.{own_copy, sound_anew}
 use Rattle.path_merge.proofs.RestartOfferLemmas.{all, counts_heard, few, hears, none_above, one_held}
 use Rattle.path_merge.proofs.SoundLemmas.{some_window}
 use Rattle.stream_rules.specs.Anchor.{anchor_from, first_media_time, can_anchor, is_source_wanted}

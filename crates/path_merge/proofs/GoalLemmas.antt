@@ -16,7 +16,7 @@ use Rattle.path_merge.specs.MergeState.{MergeState}
 use Rattle.path_merge.specs.Goal.{HasGivenAll}
 use Rattle.path_merge.specs.Next.{anchor_left, next_left, slot_or_end}
 use Rattle.path_merge.proofs.HistoryLemmas.{marks_of-in}
-use Rattle.path_merge.proofs.LeftLemmas.{closed_at}
+use Rattle.path_merge.proofs.DrainLemmas.{closed_at}
 use Rattle.path_merge.proofs.SlotCountLemmas.{no_end_yet}
 use Rattle.path_merge.proofs.StepLemmas.{has_end-append}
 

@@ -6,8 +6,8 @@ use Rattle.stream_rules.specs.Grid.{first_with}
 use Rattle.std.proofs.Common.{◌≡◌, ℕ, suc, ◌-◌, ◌^◌, ◌<◌, true, false, List, [], ◌∷◌, ◌++◌, length, Some, ℤ, pos, ◌≤ℤ◌, refl, sym, ap, ◌∙◌, arith, append_assoc, ◌||◌, Bool}
 use Rattle.std.proofs.lemmas.Int.{ints}
 use Rattle.path_merge.proofs.HistoryLemmas.{anchor_of-tick, copies_of-tick, events_until_close-open, fates_of-tick, is_closed-append, time_of-append}
-use Rattle.path_merge.proofs.MarksLemmas.{IsTickAt, tick_well_timed}
-use Rattle.path_merge.proofs.NextLemmas.{next_number-rises}
+use Rattle.path_merge.proofs.MarkGrowthLemmas.{IsTickAt, tick_well_timed}
+use Rattle.path_merge.proofs.DueLemmas.{next_number-rises}
 use Rattle.path_merge.proofs.StepLemmas.{marks_of-tick}
 use Rattle.stream_rules.specs.Anchor.{next_number}
 use Rattle.stream_rules.specs.Copies.{copies_of}

@@ -9,8 +9,8 @@ use Rattle.path_merge.proofs.CloseLemmas.{marks_of-close}
 use Rattle.path_merge.proofs.HistoryLemmas.{anchor_of-tick, by_last_event, copies_of-tick, events_until_close-open, fates_of-tick, is_closed-append, marks_in, marks_in-push, marks_of-in, time_of-append}
 use Rattle.path_merge.proofs.JoinLemmas.{has_slot-append, slots_or_quiet-slotted}
 use Rattle.path_merge.proofs.EpochLemmas.{deaf_copies_all, heard_of-tick}
-use Rattle.path_merge.proofs.MarksLemmas.{IsTickAt, tick_well_timed, well_timed_before, well_timed_tick}
-use Rattle.path_merge.proofs.NextLemmas.{before_next_number, due_before_next, next_number-at_deadline, next_number-rises}
+use Rattle.path_merge.proofs.MarkGrowthLemmas.{IsTickAt, tick_well_timed, well_timed_before, well_timed_tick}
+use Rattle.path_merge.proofs.DueLemmas.{before_next_number, due_before_next, next_number-at_deadline, next_number-rises}
 use Rattle.path_merge.proofs.StepLemmas.{marks_of-tick, take_all}
 use Rattle.stream_rules.specs.Anchor.{deadline_of, next_number}
 use Rattle.stream_rules.specs.Copies.{copies_of, copies_of_all}

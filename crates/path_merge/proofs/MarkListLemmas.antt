@@ -4,7 +4,7 @@ use Rattle.std.specs.Prelude.{int_le, nat_eq}
 use Rattle.std.proofs.lemmas.List.{take-append-drop}
 use Rattle.std.proofs.lemmas.Int.{ints}
 use Rattle.path_merge.proofs.HistoryLemmas.{marks_of-in}
-use Rattle.path_merge.proofs.LeftLemmas.{closed_at}
+use Rattle.path_merge.proofs.DrainLemmas.{closed_at}
 use Rattle.path_merge.proofs.ShapeLemmas.{AllKinds, IsShaped, IsShapedAt, StandsLast, and_left, and_true, end_follows, is_mark_list_after-append, last_after, of_last, run_listed, run_no_end, same_format, shaped_open, slot_follows, stands_no_end}
 use Rattle.stream_rules.specs.Anchor.{next_number}
 use Rattle.stream_rules.specs.Copies.{copies_of, copies_of_all}

@@ -3,9 +3,9 @@ use Rattle.std.proofs.Common.{◌≡◌, ℕ, ◌<◌, ◌≤◌, Bool, true, fa
 use Rattle.path_merge.proofs.EpochLemmas.{WithinLength, heard_of-push, no_anchors, place_within}
 use Rattle.path_merge.proofs.HistoryLemmas.{anchors_of-push, arrival_count-append, time_of-append}
 use Rattle.stream_rules.proofs.ProbationLemmas.{complete_is, probation_of-push}
-use Rattle.path_merge.proofs.RestartLemmas.{itself_eq}
+use Rattle.path_merge.proofs.AnewLemmas.{itself_eq}
 use Rattle.path_merge.proofs.SentHistoryLemmas.{anchors_closed, base_first, base_high, close_shuts, marks_near, open_next}
-use Rattle.path_merge.proofs.SentLemmas.{near_on_grid}
+use Rattle.path_merge.proofs.FullNumberLemmas.{near_on_grid}
 use Rattle.stream_rules.specs.Anchor.{is_source_wanted, next_number}
 use Rattle.stream_rules.specs.Epochs.{anchors_after, anchors_at, anchors_of, can_restart, goes_on, is_all_given, last_of, placed}
 use Rattle.stream_rules.specs.History.{arrival_count, is_closed, is_counting, time_of}

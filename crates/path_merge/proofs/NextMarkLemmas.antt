@@ -21,9 +21,9 @@ use Rattle.path_merge.specs.Clock.{clock_fault_of}
 use Rattle.path_merge.specs.Steps.{Drains, HoldsMore, IsBeforeDeadline, IsLeftStep, IsTimeStep, is_quiet_due, marks_left}
 use Rattle.stream_rules.specs.declared.stream_spec.Stream.{Stream}
 use Rattle.path_merge.proofs.AdvanceLemmas.{IsAtReading, at_reading, no_slot_of}
-use Rattle.path_merge.proofs.LeftLemmas.{drains_end, end_mark_is}
+use Rattle.path_merge.proofs.DrainLemmas.{drains_end, end_mark_is}
 use Rattle.path_merge.proofs.SoundLemmas.{anchored_at, time_step_gives, time_step_none}
-use Rattle.path_merge.proofs.HeldLemmas.{held_count-none, no_packet}
+use Rattle.path_merge.proofs.HeldCountLemmas.{held_count-none, no_packet}
 
 -- a merge at a reading that is not refused
 pub reading : (m seen : MergeState) (media now : ℤ) → m ≡ seen → IsSound m media → clock_fault_of seen.time seen.closed now ≡ None → IsAtReading seen media now

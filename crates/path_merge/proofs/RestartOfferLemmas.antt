@@ -6,9 +6,9 @@ use Rattle.std.proofs.lemmas.Bool.Decides.{nat_tests}
 use Rattle.path_merge.proofs.ArrivalLemmas.{marks_of-arrive, stands_after_arrival}
 use Rattle.path_merge.proofs.EpochLemmas.{WithinLength, anchor_is, copies_of-since, copies_since-made, heard_of-made, heard_of-push, last-push, place_within, since_of}
 use Rattle.path_merge.proofs.HistoryLemmas.{arrival_count-append, by_last_event, fates_of-push, fates_of-tick, is_closed-append, marks_of-in, or_else}
-use Rattle.path_merge.proofs.MarksLemmas.{AllSlotsBelow, IsSlotBelow, limit_of, slots_below}
+use Rattle.path_merge.proofs.MarkGrowthLemmas.{AllSlotsBelow, IsSlotBelow, limit_of, slots_below}
 use Rattle.stream_rules.proofs.ProbationLemmas.{complete_is, probation_of-push}
-use Rattle.path_merge.proofs.RestartLemmas.{GoesOn, in_reach, itself_eq, own_copy}
+use Rattle.path_merge.proofs.AnewLemmas.{GoesOn, in_reach, itself_eq, own_copy}
 use Rattle.path_merge.proofs.SoundLemmas.{anchored_at, some_window}
 use Rattle.path_merge.proofs.StepLemmas.{take_all}
 use Rattle.path_merge.proofs.TallyLemmas.{tally-fate}
@@ -35,7 +35,7 @@ use Rattle.stream_rules.specs.declared.fate.Fate.{Fate}
 use Rattle.stream_rules.specs.declared.fate.Fate.TheVariants.{CountersFull, Restarted}
 use Rattle.stream_rules.specs.declared.mark.MarkKind.{MarkKind}
 use Rattle.stream_rules.specs.declared.mark.MarkKind.TheVariants.{End, Quiet, Slot}
-use Rattle.path_merge.proofs.EmptyLemmas.{nothing_is}
+use Rattle.path_merge.proofs.OpeningLemmas.{nothing_is}
 use Rattle.path_merge.proofs.CopiesLemmas.{first_with-below, first_with-last}
 use Rattle.stream_rules.specs.declared.packet.Packet.{Packet}
 

@@ -9,7 +9,7 @@ use Rattle.std.proofs.lemmas.List.Elements.{All-get_or}
 use Rattle.path_merge.proofs.CloseLemmas.{marks_of-close, marks_of-none}
 use Rattle.path_merge.proofs.HistoryLemmas.{is_well_timed_from-append}
 use Rattle.path_merge.proofs.JoinLemmas.{alike-trans, stands_alike}
-use Rattle.path_merge.proofs.MarksLemmas.{well_timed_tick}
+use Rattle.path_merge.proofs.MarkGrowthLemmas.{well_timed_tick}
 use Rattle.stream_rules.specs.Copies.{copies_of_all}
 use Rattle.stream_rules.specs.History.{clock_after, first_clock_fault_from, is_closed, is_tick_in_order, is_well_timed, is_well_timed_from, time_of}
 use Rattle.stream_rules.specs.MarkFacts.{MarkView}

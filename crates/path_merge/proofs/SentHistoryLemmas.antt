@@ -1,14 +1,14 @@
--- What is received of a sent history: its copies and marks are those of the full numbers, and near numbers open one epoch.
+-- What is received of a sent history: its copies and marks are those of the full numbers.
 use Rattle.std.proofs.Common.{◌≡◌, ℕ, ◌+◌, ◌≤◌, Bool, true, false, ◌&&◌, List, [], ◌∷◌, ◌++◌, length, Option, Some, None, IfSome, ℤ, pos, ◌≤ℤ◌, unsigned_abs, refl, sym, ap, subst, ◌∙◌, arith, append-nil, append_assoc, length-append, if◌then◌else◌}
 use Rattle.std.specs.Prelude.{int_le, int_lt, nat_eq}
 use Rattle.std.proofs.lemmas.Bool.Decides.{nat_tests}
 use Rattle.std.proofs.lemmas.Int.{ints}
 use Rattle.path_merge.proofs.AliasLemmas.{size_is}
-use Rattle.path_merge.proofs.ClosedLemmas.{closed_stays}
+use Rattle.path_merge.proofs.AfterCloseLemmas.{closed_stays}
 use Rattle.path_merge.proofs.EpochLemmas.{anchor_is, deaf_anchors, no_anchors}
 use Rattle.path_merge.proofs.HistoryLemmas.{anchors_of-push, arrival_count-append, by_last_event, is_closed-append, or_else, time_of-append}
 use Rattle.path_merge.proofs.CopiesLemmas.{first_with-append}
-use Rattle.path_merge.proofs.SentLemmas.{CountsAsSent, far_counts, near_counts, one_copy}
+use Rattle.path_merge.proofs.FullNumberLemmas.{CountsAsSent, far_counts, near_counts, one_copy}
 use Rattle.stream_rules.specs.Anchor.{anchor_from, next_number}
 use Rattle.stream_rules.specs.Copies.{copies_at, copies_in, copies_of, copies_of_all, copies_with, first_copy, with_epoch}
 use Rattle.stream_rules.specs.Epochs.{anchor_in, anchor_of, anchors_at, anchors_of, last_of}

@@ -1,4 +1,4 @@
--- The marks of a history are a mark list.
+-- The marks of an open history are a mark list.
 use Rattle.std.proofs.Common.{◌≡◌, ℕ, zero, suc, ◌+◌, ◌-◌, ◌*◌, ◌<◌, ◌≤◌, max, Bool, true, false, not, ◌&&◌, ◌||◌, List, [], ◌∷◌, ◌++◌, length, Option, Some, None, ◌⊎◌, inl, inr, ℤ, pos, ◌+ℤ◌, ◌-ℤ◌, ◌≤ℤ◌, refl, sym, ap, subst, ◌∙◌, arith, append-nil, if◌then◌else◌}
 use Rattle.std.specs.Prelude.{int_lt, int_le, nat_eq}
 use Rattle.std.proofs.lemmas.Bool.Decides.{nat_tests}
@@ -7,10 +7,10 @@ use Rattle.path_merge.proofs.AnchorLemmas.{IsMade, by_anchor_made}
 use Rattle.path_merge.proofs.EpochLemmas.{anchor_is, copies_of-since, copies_since-made, no_anchors, since_of}
 use Rattle.path_merge.proofs.HistoryLemmas.{anchor_of-tick, anchors_of-push, copies_of-push, copies_of-tick, marks_in, marks_in-none, marks_in-push, time_of-append}
 use Rattle.path_merge.proofs.LawLemmas.{least_due}
-use Rattle.path_merge.proofs.MarksLemmas.{by_open_event}
-use Rattle.path_merge.proofs.NextLemmas.{media_time_of-from, media_time_of-suc, next_number-rises}
+use Rattle.path_merge.proofs.MarkGrowthLemmas.{by_open_event}
+use Rattle.path_merge.proofs.DueLemmas.{media_time_of-from, media_time_of-suc, next_number-rises}
 use Rattle.stream_rules.proofs.ProbationLemmas.{last_of-push}
-use Rattle.path_merge.proofs.RestartLemmas.{itself_eq, next_number-fresh}
+use Rattle.path_merge.proofs.AnewLemmas.{itself_eq, next_number-fresh}
 use Rattle.stream_rules.specs.Anchor.{media_time_of, next_number}
 use Rattle.stream_rules.specs.Copies.{copies_at, copies_of, copies_with}
 use Rattle.stream_rules.specs.Epochs.{anchor_in, anchor_of, anchors_at, anchors_of, copies_since, last_of}

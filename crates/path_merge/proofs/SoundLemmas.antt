@@ -8,8 +8,8 @@ use Rattle.std.proofs.lemmas.Bool.{cases_lt}
 use Rattle.std.proofs.lemmas.Int.{ints, by_lt_z}
 use Rattle.std.proofs.lemmas.Nat.{mul-le}
 use Rattle.std.proofs.Math.Nat.{mul-le-mul_left, add-mul}
-use Rattle.path_merge.proofs.HeldLemmas.{held_count-taken, no_packet, with_body-counts}
-use Rattle.path_merge.proofs.NextLemmas.{before_next_number, due_before_next, media_time_of-from, media_time_of-suc, next_number-at_deadline, next_number-stays}
+use Rattle.path_merge.proofs.HeldCountLemmas.{held_count-taken, no_packet, with_body-counts}
+use Rattle.path_merge.proofs.DueLemmas.{before_next_number, due_before_next, media_time_of-from, media_time_of-suc, next_number-at_deadline, next_number-stays}
 use Rattle.stream_rules.specs.Anchor.{deadline_of, media_time_of, next_number}
 use Rattle.stream_rules.specs.Counts.{is_got_body}
 use Rattle.stream_rules.specs.CountsFacts.{Tally, with_body}

@@ -3,13 +3,13 @@ use Rattle.std.proofs.Common.{◌≡◌, ℕ, zero, suc, ◌+◌, ◌-◌, ◌<�
 use Rattle.std.proofs.lemmas.List.{take-append-le}
 use Rattle.std.proofs.Math.Seq.{take-append_seam}
 use Rattle.path_merge.proofs.AnchorLemmas.{AllWithin, IsMade, IsOwn, all_within, anchor_with-append, by_anchor_made, has_epochs}
-use Rattle.path_merge.proofs.ClosedLemmas.{closed_before, closed_stays, marks_of-closed}
+use Rattle.path_merge.proofs.AfterCloseLemmas.{closed_before, closed_stays, marks_of-closed}
 use Rattle.path_merge.proofs.CloseLemmas.{marks_of-close}
 use Rattle.path_merge.proofs.EpochLemmas.{anchor_is, deaf_anchors, deaf_copies, deaf_copies_all, no_anchors}
 use Rattle.path_merge.proofs.HistoryLemmas.{anchors_of-push, by_last_event, copies_of-close, copies_of-with, copies_of_all-close, is_closed-append, marks_in, marks_in-none, marks_in-push, marks_of-in, or_else, time_of-append}
-use Rattle.path_merge.proofs.MarksLemmas.{by_open_event, well_timed_before, well_timed_tick}
-use Rattle.path_merge.proofs.NextLemmas.{next_number-rises}
-use Rattle.path_merge.proofs.RestartLemmas.{next_number-fresh}
+use Rattle.path_merge.proofs.MarkGrowthLemmas.{by_open_event, well_timed_before, well_timed_tick}
+use Rattle.path_merge.proofs.DueLemmas.{next_number-rises}
+use Rattle.path_merge.proofs.AnewLemmas.{next_number-fresh}
 use Rattle.stream_rules.specs.Anchor.{next_number}
 use Rattle.stream_rules.specs.Copies.{copies_in, copies_of, copies_of_all, copies_with}
 use Rattle.stream_rules.specs.EpochLaws.{AllSlotsAmong, HasSpans, IsSlotAmong, IsSlotUnder, anchor_with, spans_of}

@@ -1,5 +1,5 @@
 use Rattle.path_merge.proofs.LawLemmas.{least_due}
-use Rattle.path_merge.proofs.NextLemmas.{next_number-rises}
+use Rattle.path_merge.proofs.DueLemmas.{next_number-rises}
 use Rattle.path_merge.proofs.laws.next_number_is_the_least_due.Goals as goal
 
 pub returns-clause-least : goal.returns-clause-least

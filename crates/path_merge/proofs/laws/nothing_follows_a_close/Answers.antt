@@ -1,4 +1,4 @@
-use Rattle.path_merge.proofs.ClosedLemmas.{ends, nothing_more}
+use Rattle.path_merge.proofs.AfterCloseLemmas.{ends, nothing_more}
 use Rattle.path_merge.proofs.laws.nothing_follows_a_close.Goals as goal
 
 pub returns-clause-same : goal.returns-clause-same

@@ -6,7 +6,7 @@ use Rattle.std.proofs.lemmas.Int.{ints, to_z-of_z}
 use Rattle.stream_rules.specs.PacketRef.{packet_of}
 use Rattle.stream_rules.specs.Anchor.{is_restart_in_reach, media_time_of, restart_media_time}
 use Rattle.path_merge.specs.MergeState.{IsSound, MergeState}
-use Rattle.path_merge.proofs.EmptyLemmas.{epoch_media_is, epoch_media_none, nothing_is}
+use Rattle.path_merge.proofs.OpeningLemmas.{epoch_media_is, epoch_media_none, nothing_is}
 use Rattle.path_merge.proofs.SoundLemmas.{anchored_at}
 use Rattle.path_merge.proofs.merge.Merge.media_of_epoch.Goals as goal
 

@@ -7,8 +7,8 @@ use Rattle.path_merge.specs.Steps.{IsRestartStep}
 use Rattle.stream_rules.specs.Fate.{place_of}
 use Rattle.reorder_window.specs.Window.{IsEmpty}
 use Rattle.stream_rules.specs.declared.fate.Fate.TheVariants.{Restarted}
-use Rattle.path_merge.proofs.EmptyLemmas.{Opens, nothing_held, opening_is}
-use Rattle.path_merge.proofs.RestartLemmas.{restart_heard}
+use Rattle.path_merge.proofs.OpeningLemmas.{Opens, nothing_held, opening_is}
+use Rattle.path_merge.proofs.AnewLemmas.{restart_heard}
 use Rattle.path_merge.proofs.SoundLemmas.{anchored_at, base_small, due_times, media_small}
 use Rattle.path_merge.proofs.merge.Merge.offer_next.Goals as goal
 

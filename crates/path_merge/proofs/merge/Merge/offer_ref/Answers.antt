@@ -1,10 +1,10 @@
 use Rattle.std.proofs.Common.{◌≡◌, ◌^◌, ◌<◌, rules, true, false, Some, None, arith, ap, sym, subst, ◌∙◌}
 use Rattle.stream_rules.specs.PacketRef.{packet_of}
 use Rattle.path_merge.specs.MergeState.{MergeState, IsSound}
-use Rattle.path_merge.proofs.AnchoredLemmas.{counted_anchored, kept_anchored, offers_anchored, refused_anchored}
+use Rattle.path_merge.proofs.OfferLemmas.{counted_anchored, kept_anchored, offers_anchored, refused_anchored}
 use Rattle.path_merge.proofs.FirstLemmas.{offers_first, refused_first}
 use Rattle.path_merge.proofs.SoundLemmas.{paths_few}
-use Rattle.path_merge.proofs.UnheardLemmas.{offers_closed, offers_full}
+use Rattle.path_merge.proofs.UncountedOfferLemmas.{offers_closed, offers_full}
 use Rattle.path_merge.proofs.merge.Merge.offer_ref.Goals as goal
 
 pub returns-then-self-clause-stands : goal.returns-then-self-clause-stands

@@ -2,7 +2,7 @@ use Rattle.std.proofs.Common.{◌≡◌, ◌<◌, true, false, Some, IfSome, ap,
 use Rattle.path_merge.specs.MergeState.{MergeState, IsSound}
 use Rattle.path_merge.specs.Next.{next_left}
 use Rattle.path_merge.specs.Steps.{Drains, marks_left}
-use Rattle.path_merge.proofs.LeftLemmas.{drains_none, drains_slot}
+use Rattle.path_merge.proofs.DrainLemmas.{drains_none, drains_slot}
 use Rattle.path_merge.proofs.NextMarkLemmas.{drains_end_left, ended_is, fewer_left, left_mark_is, left_more}
 use Rattle.path_merge.proofs.merge.Merge.pass_left.Goals as goal
 

@@ -8,7 +8,7 @@ use Rattle.stream_rules.specs.Anchor.{is_restart_in_reach, media_time_of, restar
 use Rattle.std.proofs.lemmas.Int.{to_z-of_z}
 use Rattle.path_merge.proofs.SoundLemmas.{anchored_at}
 use Rattle.path_merge.proofs.FirstLemmas.{first_put}
-use Rattle.path_merge.proofs.RestartLemmas.{in_reach, made_by, restart_step, sound_restart}
+use Rattle.path_merge.proofs.AnewLemmas.{in_reach, made_by, restart_step, sound_restart}
 use Rattle.path_merge.proofs.merge.Merge.restart.Goals as goal
 
 pub begin_at-requires-clause-empty : goal.begin_at-requires-clause-empty

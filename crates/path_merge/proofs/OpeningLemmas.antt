@@ -1,10 +1,10 @@
--- Whether anything is held.
+-- The epoch that a packet may open: nothing is held, and media time goes on.
 use Rattle.std.proofs.Common.{◌≡◌, ℕ, ◌-◌, ◌<◌, ◌≤◌, Bool, true, false, ◌&&◌, Some, None, IsSome, ℤ, refl, ap, ◌∙◌, arith, if◌then◌else◌, ⊎_elim}
 use Rattle.std.specs.Prelude.{nat_le}
 use Rattle.std.specs.FinMap.{get}
 use Rattle.std.proofs.lemmas.Bool.{cases_lt}
 use Rattle.std.proofs.lemmas.Bool.Decides.{nat_tests}
-use Rattle.path_merge.proofs.HeldLemmas.{held_count-none, held_count-some, no_packet}
+use Rattle.path_merge.proofs.HeldCountLemmas.{held_count-none, held_count-some, no_packet}
 use Rattle.path_merge.proofs.SoundLemmas.{anchored_at}
 use Rattle.stream_rules.specs.Anchor.{is_restart_in_reach, is_source_wanted, media_time_of, restart_media_time}
 use Rattle.path_merge.specs.MergeState.{IsAnchored, IsSound, MergeState, held_count, holds_nothing}

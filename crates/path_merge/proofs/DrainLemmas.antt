@@ -1,7 +1,7 @@
 -- What is left after a close, and what a drain takes of it.
 use Rattle.path_merge.proofs.EpochLemmas.{deaf_anchor, deaf_copies, deaf_copies_all}
 use Rattle.path_merge.proofs.HistoryLemmas.{copies_of-with, anchor_of-close, by_last_event, copies_of-close, events_until_close-close, events_until_close-closed, is_closed-append, marks_in, marks_in-push, marks_of-in, time_of-append}
-use Rattle.path_merge.proofs.RestartLemmas.{itself_eq}
+use Rattle.path_merge.proofs.AnewLemmas.{itself_eq}
 use Rattle.stream_rules.specs.Copies.{copies_of_all, copies_of, first_copy}
 use Rattle.std.specs.Prelude.{nat_lt}
 use Rattle.stream_rules.specs.Epochs.{anchor_of}
@@ -12,7 +12,7 @@ use Rattle.std.proofs.lemmas.Bool.Decides.{nat_tests}
 use Rattle.std.proofs.lemmas.Bool.{cases_lt}
 use Rattle.std.proofs.Math.Seq.{take-append-add, drop-append-add}
 use Rattle.path_merge.proofs.CloseLemmas.{marks_of-close}
-use Rattle.path_merge.proofs.MarksLemmas.{well_timed_before, well_timed_tick}
+use Rattle.path_merge.proofs.MarkGrowthLemmas.{well_timed_before, well_timed_tick}
 use Rattle.path_merge.proofs.SlotCountLemmas.{no_end_yet, slots_counted}
 use Rattle.path_merge.proofs.StepLemmas.{base_more, has_end-append, last_quiet_or-append, or_none, slot_count-append, without}
 use Rattle.path_merge.proofs.TallyLemmas.{tally-other, tally-slot}

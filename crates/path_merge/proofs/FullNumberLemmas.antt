@@ -1,4 +1,4 @@
--- Full numbers are recovered from 16 bits, and so are the marks.
+-- A full number is recovered from its 16 bits, and counts as it was sent.
 use Rattle.std.proofs.Common.{◌≡◌, ℕ, ◌+◌, ◌<◌, ◌≤◌, Bool, true, false, ◌&&◌, List, [], ◌∷◌, ℤ, pos, ◌+ℤ◌, ◌-ℤ◌, ◌≤ℤ◌, ◌<ℤ◌, ⊎_elim, inl, inr, ◌⊎◌, unsigned_abs, refl, sym, ap, ◌∙◌, arith, if◌then◌else◌}
 use Rattle.std.specs.Prelude.{int_le, int_lt, nat_eq, nat_le, nat_lt}
 use Rattle.std.specs.Int.{int_rem_euclid}
@@ -6,7 +6,7 @@ use Rattle.std.proofs.lemmas.Bool.Decides.{nat_tests}
 use Rattle.std.proofs.lemmas.Int.{ints}
 use Rattle.path_merge.proofs.AliasLemmas.{off_grid, size_is}
 use Rattle.stream_rules.proofs.NearestLemmas.{IsNearest-nearest_number, nearest_number-only, rem_bounds}
-use Rattle.path_merge.proofs.RestartLemmas.{itself_eq}
+use Rattle.path_merge.proofs.AnewLemmas.{itself_eq}
 use Rattle.stream_rules.specs.Grid.{extended_number, is_in_time, is_on_grid}
 use Rattle.stream_rules.specs.Nearest.{IsNearest, nearest_number}
 use Rattle.stream_rules.specs.Sent.{IsNear, SentPacket, timestamp_in_step, wire_packet}

@@ -1,4 +1,4 @@
--- An arrival that opens an epoch.
+-- A merge that begins anew at a packet that opens an epoch.
 use Rattle.std.proofs.Common.{◌≡◌, ℕ, zero, suc, ◌+◌, ◌-◌, ◌*◌, ◌^◌, ◌<◌, ◌≤◌, Bool, true, false, ◌&&◌, List, [], ◌∷◌, Some, ℤ, pos, ◌+ℤ◌, ◌-ℤ◌, ◌*ℤ◌, ◌≤ℤ◌, ◌<ℤ◌, refl, sym, ap, subst, ◌∙◌, arith, if◌then◌else◌, unsigned_abs, ⊎_elim}
 use Rattle.std.specs.Prelude.{IsSome, int_le, int_lt, nat_eq, nat_le, nat_lt}
 use Rattle.std.specs.Int.{int_rem_euclid}
@@ -8,9 +8,9 @@ use Rattle.std.proofs.lemmas.Bool.{cases_lt}
 use Rattle.std.proofs.lemmas.Bool.Decides.{nat_tests}
 use Rattle.std.proofs.lemmas.Int.{ints}
 use Rattle.std.proofs.lemmas.Nat.{mul-le}
-use Rattle.path_merge.proofs.HeldLemmas.{FateCounts, held_count-none, held_count-put, with_fate-counts}
+use Rattle.path_merge.proofs.HeldCountLemmas.{FateCounts, held_count-none, held_count-put, with_fate-counts}
 use Rattle.stream_rules.proofs.NearestLemmas.{nearest_number-only, rem_same, rem_small}
-use Rattle.path_merge.proofs.NextLemmas.{before_next_number, media_time_of-from}
+use Rattle.path_merge.proofs.DueLemmas.{before_next_number, media_time_of-from}
 use Rattle.path_merge.proofs.SoundLemmas.{anchored_at, some_window}
 use Rattle.stream_rules.specs.Anchor.{is_restart_in_reach, media_time_of, next_number, restart_from}
 use Rattle.stream_rules.specs.CountsFacts.{Tally, with_fate}
