@@ -1,5 +1,5 @@
 -- What is received of a sent history: its copies and marks are those of the full numbers.
-use Rattle.std.proofs.Common.{◌≡◌, ℕ, ◌+◌, ◌≤◌, Bool, true, false, ◌&&◌, List, [], ◌∷◌, ◌++◌, length, Option, Some, None, IfSome, ℤ, pos, ◌≤ℤ◌, unsigned_abs, refl, sym, ap, subst, ◌∙◌, arith, append-nil, append_assoc, length-append, if◌then◌else◌}
+use Rattle.std.proofs.Common.{◌≡◌, ℕ, ◌+◌, ◌<◌, ◌≤◌, Bool, true, false, ◌&&◌, List, [], ◌∷◌, ◌++◌, length, Option, Some, None, IfSome, ℤ, pos, ◌≤ℤ◌, unsigned_abs, refl, sym, ap, subst, ◌∙◌, arith, append-nil, append_assoc, length-append, if◌then◌else◌}
 use Rattle.std.specs.Prelude.{int_le, int_lt, nat_eq}
 use Rattle.std.proofs.lemmas.Bool.Decides.{nat_tests}
 use Rattle.std.proofs.lemmas.Int.{ints}
@@ -14,8 +14,10 @@ use Rattle.stream_rules.specs.Copies.{copies_at, copies_in, copies_of, copies_of
 use Rattle.stream_rules.specs.Epochs.{anchor_in, anchor_of, anchors_at, anchors_of, last_of}
 use Rattle.stream_rules.specs.Grid.{copies_under, extended_number, first_with, is_in_time}
 use Rattle.stream_rules.specs.History.{arrival_count, at_places, is_closed, is_counting, time_of}
-use Rattle.stream_rules.specs.Marks.{marks_from, marks_of}
-use Rattle.stream_rules.specs.Sent.{Arrives, BeginsWith, Closes, HasEqualCopies, IsNear, IsOneEpoch, IsWithinReach, SentEvent, SentPacket, Ticks, marks_by_number, sent_copies, sent_copies_after, sent_copies_at, wire_event, wire_history, wire_packet}
+use Rattle.stream_rules.specs.Marks.{marks_at, marks_from, marks_of, marks_under}
+use Rattle.stream_rules.specs.MarkFacts.{MarkView}
+use Rattle.path_merge.proofs.AnewLemmas.{itself_eq}
+use Rattle.stream_rules.specs.Sent.{Arrives, BeginsWith, Closes, HasEqualCopies, IsNear, IsOneEpoch, IsWithinReach, SentEvent, SentPacket, Ticks, anchor_after, marks_by_number, sent_copies, sent_copies_after, sent_copies_at, sent_marks_after, wire_event, wire_history, wire_packet}
 use Rattle.stream_rules.specs.declared.stream_spec.Stream.{Stream}
 use Rattle.stream_rules.specs.StreamSpecFacts.{IsStream}
 use Rattle.stream_rules.specs.declared.anchor.Anchor.{Anchor}
@@ -128,6 +130,80 @@ module _ (stream : Stream) (anchor : Anchor) (open_at : ℤ) where
       let push : anchors_of stream open_at (before ++ event ∷ []) ≡ (place, anchor) ∷ anchors_at stream open_at (anchors_of stream open_at before) before event = anchors_of-push stream open_at before event ∙ ap (λ l. l ++ anchors_at stream open_at (anchors_of stream open_at before) before event) is in
       push ∙ ap (λ l. (place, anchor) ∷ l) (nil_of_length (anchors_at stream open_at (anchors_of stream open_at before) before event) (omega (arith, ap length push, anchors_grow stream open_at (before ++ event ∷ []) rest, one)))
 
+  -- the marks of the rest, after these events and the marks that they gave, where these are the copies of all that was sent
+  module _ (copies : List (ℕ × Packet)) where
+    abbrev IsMarked : List MarkView → List Event → List SentEvent → Type 0
+    IsMarked given before after = marks_from stream open_at (with_epoch (Some anchor) copies) given before (wire_history stream anchor after) ≡ sent_marks_after stream anchor open_at copies given before after
+
+    abbrev IsMarkedAt : List MarkView → List Event → Event → Type 0
+    IsMarkedAt given before event = marks_at stream open_at (with_epoch (Some anchor) copies) given before event ≡ marks_under stream open_at (anchor_after anchor before) copies given before event
+
+    marked_none : (given : List MarkView) (before : List Event) → IsMarked given before []
+    unfolding marks_from sent_marks_after
+    marked_none given before = refl
+
+    marked_next : (given : List MarkView) (before : List Event) (event : SentEvent) (after : List SentEvent) → IsMarkedAt given before (wire_event stream anchor event) → ((more : List MarkView) → IsMarked more (before ++ wire_event stream anchor event ∷ []) after) → IsMarked given before (event ∷ after)
+    unfolding marks_from sent_marks_after
+    marked_next given before event after first rest =
+        ap (λ l. marks_from stream open_at (with_epoch (Some anchor) copies) (given ++ l) (before ++ wire_event stream anchor event ∷ []) (wire_history stream anchor after)) first
+        ∙ rest (given ++ marks_under stream open_at (anchor_after anchor before) copies given before (wire_event stream anchor event))
+
+    -- before the anchor, under it, and after a close
+    marked_unanchored : (given : List MarkView) (before : List Event) (event : Event) → anchors_of stream open_at before ≡ [] → arrival_count before ≡ 0 → IsMarkedAt given before event
+    marked_unanchored given before event is none =
+        let no_anchor : anchor_of stream open_at before ≡ None = anchor_is stream open_at before ∙ ap (λ l. anchor_in (last_of l)) is in
+        rw (no_anchor, none) (by_event event)
+      where
+        by_event : (e : Event) → marks_under stream open_at None [] given before e ≡ marks_under stream open_at None copies given before e
+        by_event (Arrive path packet) = refl
+        by_event (Tick u) = refl
+        by_event Close = refl
+
+    marked_anchored : (given : List MarkView) (before : List Event) (event : Event) (place : ℕ) → anchors_of stream open_at before ≡ (place, anchor) ∷ [] → 0 < arrival_count before → IsMarkedAt given before event
+    marked_anchored given before event place is some =
+        let in_force : anchor_after anchor before ≡ Some anchor = by_count (arrival_count before) some in
+        rw (anchor_alone stream open_at before place anchor is, in_force) (ap (λ c. marks_under stream open_at (Some anchor) c given before event) (copies_in-tags anchor.epoch anchor copies ∙ ap (λ b. if b then copies else []) (itself_eq anchor.epoch)))
+      where
+        by_count : (n : ℕ) → 0 < n → (if nat_eq n 0 then None else Some anchor) ≡ Some anchor
+        by_count n some = let more : nat_eq n 0 ≡ false = grind (arith, nat_tests, some) in rw more refl
+
+    marked_closed : (given : List MarkView) (before : List Event) (event : Event) → is_closed before ≡ true → IsMarkedAt given before event
+    marked_closed given before (Arrive path packet) shut = refl
+    marked_closed given before (Tick u) shut = rw shut refl
+    marked_closed given before Close shut = rw shut refl
+
+    marks_after_close : (given : List MarkView) (before : List Event) (after : List SentEvent) → is_closed before ≡ true → IsMarked given before after
+    marks_after_close given before [] shut = marked_none given before
+    marks_after_close given before (event ∷ after) shut = marked_next given before event after (marked_closed given before (wire_event stream anchor event) shut) (λ more. marks_after_close more (before ++ wire_event stream anchor event ∷ []) after (closed_stays before (wire_event stream anchor event ∷ []) shut))
+
+    marks_after_base : (given : List MarkView) (before : List Event) (after : List SentEvent) (place : ℕ) → anchors_of stream open_at before ≡ (place, anchor) ∷ [] → 0 < arrival_count before → is_closed before ≡ false → IsOneEpoch stream open_at (before ++ wire_history stream anchor after) → IsMarked given before after
+    marks_after_base given before [] place is some still one = marked_none given before
+    marks_after_base given before (Arrives path packet ∷ after) place is some still one =
+        let one' = next_of stream open_at before (Arrive path (wire_packet stream anchor packet)) (wire_history stream anchor after) (IsOneEpoch stream open_at) one in
+        let more_yet : 0 < arrival_count (before ++ Arrive path (wire_packet stream anchor packet) ∷ []) = omega (arith, arrival_count-append before (Arrive path (wire_packet stream anchor packet) ∷ []), some) in
+        marked_next given before (Arrives path packet) after (marked_anchored given before (Arrive path (wire_packet stream anchor packet)) place is some)
+        (λ more. marks_after_base more (before ++ Arrive path (wire_packet stream anchor packet) ∷ []) after place (base_stays before (Arrive path (wire_packet stream anchor packet)) (wire_history stream anchor after) place is one') more_yet (open_next stream open_at before (Arrive path (wire_packet stream anchor packet)) still refl) one')
+    marks_after_base given before (Ticks u ∷ after) place is some still one =
+        let one' = next_of stream open_at before (Tick u) (wire_history stream anchor after) (IsOneEpoch stream open_at) one in
+        let more_yet : 0 < arrival_count (before ++ Tick u ∷ []) = omega (arith, arrival_count-append before (Tick u ∷ []), some) in
+        marked_next given before (Ticks u) after (marked_anchored given before (Tick u) place is some)
+        (λ more. marks_after_base more (before ++ Tick u ∷ []) after place (base_stays before (Tick u) (wire_history stream anchor after) place is one') more_yet (open_next stream open_at before (Tick u) still refl) one')
+    marks_after_base given before (Closes ∷ after) place is some still one = marked_next given before Closes after (marked_anchored given before Close place is some) (λ more. marks_after_close more (before ++ Close ∷ []) after (close_shuts stream open_at before))
+
+    marks_before_base : (given : List MarkView) (before : List Event) (after : List SentEvent) → anchors_of stream open_at before ≡ [] → is_closed before ≡ false → arrival_count before ≡ 0 → BeginsWith stream anchor (time_of open_at before) after → IsOneEpoch stream open_at (before ++ wire_history stream anchor after) → IsMarked given before after
+    marks_before_base given before [] is still none begins one = marked_none given before
+    marks_before_base given before (Arrives path packet ∷ after) is still none begins one =
+        let one' = next_of stream open_at before (Arrive path (wire_packet stream anchor packet)) (wire_history stream anchor after) (IsOneEpoch stream open_at) one in
+        let some : 0 < arrival_count (before ++ Arrive path (wire_packet stream anchor packet) ∷ []) = omega (arith, arrival_count-append before (Arrive path (wire_packet stream anchor packet) ∷ [])) in
+        marked_next given before (Arrives path packet) after (marked_unanchored given before (Arrive path (wire_packet stream anchor packet)) is none)
+        (λ more. marks_after_base more (before ++ Arrive path (wire_packet stream anchor packet) ∷ []) after (length before) (base_first before path packet after is still none begins) some (open_next stream open_at before (Arrive path (wire_packet stream anchor packet)) still refl) one')
+    marks_before_base given before (Ticks u ∷ after) is still none begins one =
+        let one' = next_of stream open_at before (Tick u) (wire_history stream anchor after) (IsOneEpoch stream open_at) one in
+        let none_yet : arrival_count (before ++ Tick u ∷ []) ≡ 0 = omega (arith, arrival_count-append before (Tick u ∷ []), none) in
+        marked_next given before (Ticks u) after (marked_unanchored given before (Tick u) is none)
+        (λ more. marks_before_base more (before ++ Tick u ∷ []) after (anchors_of-push stream open_at before (Tick u) ∙ append-nil _ ∙ is) (open_next stream open_at before (Tick u) still refl) none_yet (subst (λ t. BeginsWith stream anchor t after) (sym (time_of-append open_at before (Tick u ∷ []))) begins) one')
+    marks_before_base given before (Closes ∷ after) is still none begins one = marked_next given before Closes after (marked_unanchored given before Close is none) (λ more. marks_after_close more (before ++ Close ∷ []) after (close_shuts stream open_at before))
+
   -- within a reach at which arrivals count as they were sent
   module _ (reach : ℕ) (counts : (next : ℕ) (packet : SentPacket) → 65536 ≤ next → IsNear reach next packet.number → CountsAsSent stream anchor next packet) where
     arrived : (before : List Event) (path : ℕ) (packet : SentPacket) (place : ℕ) → ((at : ℤ) → 65536 ≤ next_number stream anchor at) → anchors_of stream open_at (before ++ Arrive path (wire_packet stream anchor packet) ∷ []) ≡ (place, anchor) ∷ [] → IsNear reach (next_number stream anchor (time_of open_at before)) packet.number → copies_at stream open_at before (Arrive path (wire_packet stream anchor packet)) ≡ with_epoch (Some anchor) (sent_copies_at stream anchor open_at before (Arrives path packet))
@@ -175,7 +251,7 @@ module _ (stream : Stream) (anchor : Anchor) (open_at : ℤ) where
 
     marks_within : (sent : List SentEvent) → BeginsWith stream anchor open_at sent → IsWithinReach stream anchor reach open_at sent → IsOneEpoch stream open_at (wire_history stream anchor sent) → marks_of stream open_at (wire_history stream anchor sent) ≡ marks_by_number stream anchor open_at sent
     unfolding marks_of
-    marks_within sent begins within one = ap (λ copies. marks_from stream open_at copies [] [] (wire_history stream anchor sent)) (copies_within sent begins within one)
+    marks_within sent begins within one = ap (λ copies. marks_from stream open_at copies [] [] (wire_history stream anchor sent)) (copies_within sent begins within one) ∙ marks_before_base (sent_copies stream anchor open_at sent) [] [] sent (no_anchors stream open_at) refl refl begins one
 
   pub marks_near : (sent : List SentEvent) → BeginsWith stream anchor open_at sent → IsWithinReach stream anchor 32768 open_at sent → IsOneEpoch stream open_at (wire_history stream anchor sent) → marks_of stream open_at (wire_history stream anchor sent) ≡ marks_by_number stream anchor open_at sent
   marks_near = marks_within 32768 (near_counts stream anchor)

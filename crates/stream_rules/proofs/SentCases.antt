@@ -13,9 +13,8 @@ use Rattle.stream_rules.specs.declared.mark.Body.TheVariants.{Got}
 use Rattle.stream_rules.specs.declared.mark.MarkKind.TheVariants.{Slot}
 use Rattle.stream_rules.specs.declared.event.Event.TheVariants.{Arrive, Tick}
 use Rattle.stream_rules.specs.History.{at_places}
-use Rattle.stream_rules.specs.Epochs.{anchor_of, anchors_from, anchors_of}
-use Rattle.stream_rules.specs.Marks.{marks_from}
-use Rattle.stream_rules.specs.Sent.{Arrives, BeginsWith, IsOneEpoch, IsWithinReach, SentEvent, SentPacket, Ticks, marks_by_number, sent_copies_after, wire_history}
+use Rattle.stream_rules.specs.Epochs.{anchors_from, anchors_of}
+use Rattle.stream_rules.specs.Sent.{Arrives, BeginsWith, IsOneEpoch, IsWithinReach, SentEvent, SentPacket, Ticks, marks_by_number, sent_copies_after, sent_marks_after, wire_history}
 
 abbrev stream : Stream
 stream = record { enc = L24; channels = 1; frames = 6; pt = 96; ssrc = None; clock = Media 0; latency = 12; window = 8; paths = 2 }
@@ -50,7 +49,7 @@ sent_with_16_and_32_bits : wire_history stream anchor sent ≡ Arrive 0 (packet 
 sent_with_16_and_32_bits = refl
 
 marks_by_full_numbers : marks_by_number stream anchor (pos 0) sent ≡ got 131071 (pos 0) 1 ∷ got 131072 (pos 6) 2 ∷ []
-unfolding sent_copies_after marks_from anchor_of anchors_of anchors_from at_places
+unfolding sent_copies_after sent_marks_after
 marks_by_full_numbers = refl
 
 -- two replays from before the first packet's cycle: sequence number 1 again, of 131,072 numbers before it, and the farthest number within reach
@@ -67,7 +66,7 @@ replayed_with_16_and_32_bits : wire_history stream first_base replayed ≡ Arriv
 replayed_with_16_and_32_bits = refl
 
 marks_of_a_replay : marks_by_number stream first_base (pos 0) replayed ≡ got 65537 (pos 0) 1 ∷ []
-unfolding sent_copies_after marks_from anchor_of anchors_of anchors_from at_places
+unfolding sent_copies_after sent_marks_after
 marks_of_a_replay = refl
 
 -- by the arrival clock, eight replays in sequence off the grid are taken for a restart: so the law has to ask for one epoch

@@ -78,13 +78,17 @@ slots_or_quiet stream open_at given to (mark ∷ marks) = mark ∷ marks
 slots_or_quiet stream open_at given to [] =
     if is_quiet_new stream open_at given (to -ℤ pos stream.latency) then quiet_mark stream (to -ℤ pos stream.latency) ∷ [] else []
 
--- the marks that an event gives, after the events before it and the marks that they gave; `copies` are those of the whole history
+-- the marks that an event gives, after the events before it and the marks that they gave, where this anchor is in force and its epoch has these copies
+abbrev pub marks_under : Stream → ℤ → Option Anchor → List (ℕ × Packet) → List MarkView → List Event → Event → List MarkView
+marks_under stream open_at anchor copies given before (Arrive path packet) = []
+marks_under stream open_at anchor copies given before (Tick u) =
+    if is_closed before then [] else slots_or_quiet stream open_at given u (slots_between stream copies anchor (time_of open_at before) u)
+marks_under stream open_at anchor copies given before Close =
+    if is_closed before then [] else slots_at_close stream copies anchor (time_of open_at before) ++ end_mark stream ∷ []
+
+-- those under the anchor in force after the events before it; `copies` are those of the whole history
 abbrev pub marks_at : Stream → ℤ → List (ℕ × (ℕ × Packet)) → List MarkView → List Event → Event → List MarkView
-marks_at stream open_at copies given before (Arrive path packet) = []
-marks_at stream open_at copies given before (Tick u) =
-    if is_closed before then [] else slots_or_quiet stream open_at given u (slots_between stream (copies_with (anchor_of stream open_at before) copies) (anchor_of stream open_at before) (time_of open_at before) u)
-marks_at stream open_at copies given before Close =
-    if is_closed before then [] else slots_at_close stream (copies_with (anchor_of stream open_at before) copies) (anchor_of stream open_at before) (time_of open_at before) ++ end_mark stream ∷ []
+marks_at stream open_at copies given before event = marks_under stream open_at (anchor_of stream open_at before) (copies_with (anchor_of stream open_at before) copies) given before event
 
 unfoldable pub marks_from : Stream → ℤ → List (ℕ × (ℕ × Packet)) → List MarkView → List Event → List Event → List MarkView
 marks_from stream open_at copies given before [] = given

@@ -1,5 +1,5 @@
 -- What a sender sent, under its full sequence numbers, and what comes of it with 16 and 32 bits (RFC 3550, 5.1).
-use Rattle.std.specs.Prelude.{◌≡◌, ℕ, ◌+◌, ◌^◌, ◌≤◌, true, ◌&&◌, List, [], ◌∷◌, ◌++◌, length, ℤ, pos, ◌+ℤ◌, ◌-ℤ◌, ◌*ℤ◌, ◌≤ℤ◌, ◌<ℤ◌, int_le, int_lt, Some, if◌then◌else◌, unsigned_abs}
+use Rattle.std.specs.Prelude.{◌≡◌, ℕ, ◌+◌, ◌^◌, ◌≤◌, true, ◌&&◌, List, [], ◌∷◌, ◌++◌, length, ℤ, pos, ◌+ℤ◌, ◌-ℤ◌, ◌*ℤ◌, ◌≤ℤ◌, ◌<ℤ◌, int_le, int_lt, nat_eq, Option, Some, None, if◌then◌else◌, unsigned_abs}
 use Rattle.std.specs.Int.{int_rem_euclid}
 use Rattle.stream_rules.specs.declared.stream_spec.Stream.{Stream}
 use Rattle.stream_rules.specs.MarkFacts.{MarkView}
@@ -7,11 +7,10 @@ use Rattle.stream_rules.specs.declared.anchor.Anchor.{Anchor}
 use Rattle.stream_rules.specs.declared.packet.Packet.{Packet}
 use Rattle.stream_rules.specs.declared.event.Event.{Event}
 use Rattle.stream_rules.specs.declared.event.Event.TheVariants.{Arrive, Tick, Close}
-use Rattle.stream_rules.specs.History.{time_of, is_counting}
+use Rattle.stream_rules.specs.History.{arrival_count, time_of, is_counting}
 use Rattle.stream_rules.specs.Anchor.{anchor_from, can_anchor, next_number}
 use Rattle.stream_rules.specs.Epochs.{anchors_of}
-use Rattle.stream_rules.specs.Copies.{with_epoch}
-use Rattle.stream_rules.specs.Marks.{marks_from}
+use Rattle.stream_rules.specs.Marks.{marks_under}
 
 -- a packet as it was sent: its full number is a whole number, below 0 where it was sent long before the first that is received
 pub record SentPacket : Type 0 where
@@ -87,9 +86,19 @@ sent_copies_after stream anchor open_at before (event ∷ sent) =
 abbrev pub sent_copies : Stream → Anchor → ℤ → List SentEvent → List (ℕ × Packet)
 sent_copies stream anchor open_at sent = sent_copies_after stream anchor open_at [] sent
 
--- the marks of what was sent, by the full numbers
+-- this anchor is in force from the first arrival on
+abbrev pub anchor_after : Anchor → List Event → Option Anchor
+anchor_after anchor before = if nat_eq (arrival_count before) 0 then None else Some anchor
+
+-- the marks of what was sent, after these events were received and gave these marks; `copies` are those of all that was sent
+unfoldable pub sent_marks_after : Stream → Anchor → ℤ → List (ℕ × Packet) → List MarkView → List Event → List SentEvent → List MarkView
+sent_marks_after stream anchor open_at copies given before [] = given
+sent_marks_after stream anchor open_at copies given before (event ∷ sent) =
+    sent_marks_after stream anchor open_at copies (given ++ marks_under stream open_at (anchor_after anchor before) copies given before (wire_event stream anchor event)) (before ++ wire_event stream anchor event ∷ []) sent
+
+-- the marks of what was sent, by the full numbers under this anchor: no packet's 16 bits and no grid are looked at
 abbrev pub marks_by_number : Stream → Anchor → ℤ → List SentEvent → List MarkView
-marks_by_number stream anchor open_at sent = marks_from stream open_at (with_epoch (Some anchor) (sent_copies stream anchor open_at sent)) [] [] (wire_history stream anchor sent)
+marks_by_number stream anchor open_at sent = sent_marks_after stream anchor open_at (sent_copies stream anchor open_at sent) [] [] sent
 
 -- all packets of this number have one payload
 abbrev pub HasEqualCopies : ℕ → List ℕ → List SentEvent → Type 0
