@@ -12,4 +12,5 @@ pub mod ReaderLemmas
 pub mod ReportedLemmas
 pub mod SearchLemmas
 pub mod TraceLemmas
+pub mod WantLemmas
 pub mod ListedLemmas

@@ -41,8 +41,8 @@ Stands-at text front line after (Tick time) end whole is short last = record { s
 Stands-at text front line after Close end whole is short last = record { said = refl; place = tt; digits = omega arith }
 
 -- a line that was read, from this place on, ends here
-pub record EndsLine (text : List ℕ) (at : ℕ) (event : Option LineEvent) (after : List ℕ) (end : ℕ) : Type 0 where
-  pub rest : drop (end + 1) text ≡ after
+pub record EndsLine (text : List ℕ) (at : ℕ) (line : List ℕ) (event : Option LineEvent) (end : ℕ) : Type 0 where
+  pub front : take (end + 1) text ≡ take at text ++ (line ++ (10 ∷ []))
   pub further : at ≤ end
   pub within : end < length text
   pub stands : IfSome event (λ e. Stands text e end)
@@ -51,8 +51,8 @@ stands-some : (text front line after : List ℕ) (event : Option LineEvent) (end
 stands-some text front line after None end whole is short last = tt
 stands-some text front line after (Some event) end whole is short last = Stands-at text front line after event end whole is short last
 
-pub EndsLine-of : (text : List ℕ) (at : ℕ) (rest : List ℕ) (event : Option LineEvent) (after : List ℕ) → rest ≡ drop at text → at ≤ length text → IsLineOf rest event after → EndsLine text at event after (length text - length after - 1)
-EndsLine-of text at rest event after from inside read =
+pub EndsLine-of : (text : List ℕ) (at : ℕ) (rest : List ℕ) (count : ℕ) (event : Option LineEvent) (after : List ℕ) → rest ≡ drop at text → at ≤ length text → (read : IsLineOf rest count event after) → EndsLine text at read.line event (length text - length after - 1)
+EndsLine-of text at rest count event after from inside read =
     let front : List ℕ = take at text in
     let line : List ℕ = read.line in
     let whole : text ≡ front ++ (line ++ (10 ∷ after)) = sym (take-append-drop at text) ∙ ap (λ l. front ++ l) (sym from ∙ read.whole) in
@@ -62,7 +62,7 @@ EndsLine-of text at rest event after from inside read =
     let grouped : text ≡ (front ++ (line ++ (10 ∷ []))) ++ after = whole ∙ ap (λ l. front ++ l) (sym (append_assoc line (10 ∷ []) after)) ∙ sym (append_assoc front (line ++ (10 ∷ [])) after) in
     let wide : length (front ++ (line ++ (10 ∷ []))) ≡ length front + (length line + 1) = length-append front (line ++ (10 ∷ [])) ∙ ap (λ n. length front + n) (length-append line (10 ∷ [])) in
     let next : length text - length after - 1 + 1 ≡ length (front ++ (line ++ (10 ∷ []))) = omega (arith, end, wide) in record {
-      rest = ap (λ n. drop n text) next ∙ ap (drop (length (front ++ (line ++ (10 ∷ []))))) grouped ∙ drop-append_seam (front ++ (line ++ (10 ∷ []))) after;
+      front = ap (λ n. take n text) next ∙ ap (take (length (front ++ (line ++ (10 ∷ []))))) grouped ∙ take-append_seam (front ++ (line ++ (10 ∷ []))) after;
       further = omega (arith, end, first);
       within = omega (arith, end, all);
       stands = stands-some text front line (10 ∷ after) event (length text - length after - 1) whole end read.short read.last;

@@ -3,7 +3,7 @@ use Rattle.std.specs.Prelude.{◌≡◌, ℕ, ◌≤◌, List, [], ◌∷◌, �
 use Rattle.std.specs.Borrow.{Bor}
 use Rattle.studio_run.specs.Fields.{EndsWith}
 use Rattle.studio_session.specs.Event.{TraceEvent, Arrival, Reading, Closing}
-use Rattle.studio_run.specs.Trace.{octets_of}
+use Rattle.studio_run.specs.Trace.{octets_of, ReadsLine}
 use Rattle.studio_run.specs.declared.line.LineEvent.{LineEvent}
 use Rattle.studio_run.specs.declared.line.LineEvent.TheVariants.{Arrive, Tick, Close}
 use Rattle.studio_run.specs.declared.trace.TraceKind.{TraceKind}
@@ -42,9 +42,15 @@ IsLastIn None (Arrive stream path digits) = ⊥
 IsLastIn None (Tick time) = Unit {0}
 IsLastIn None Close = Unit {0}
 
--- the event, if there is one, is that of a line which this rest follows
-pub record IsLineOf (text : List ℕ) (event : Option LineEvent) (rest : List ℕ) : Type 0 where
+-- what a line's event says, if it gave one
+abbrev pub said_by_line : Option LineEvent → List TraceEvent
+said_by_line None = []
+said_by_line (Some event) = said_in event ∷ []
+
+-- the event, if there is one, is that of a first line, which gives it after so many others and which this rest follows
+pub record IsLineOf (text : List ℕ) (count : ℕ) (event : Option LineEvent) (rest : List ℕ) : Type 0 where
   pub line : List ℕ
   pub whole : text ≡ line ++ 10 ∷ rest
   pub short : length line ≤ 4096
   pub last : IfSome event (IsLast line)
+  pub reads : ReadsLine line count (said_by_line event)

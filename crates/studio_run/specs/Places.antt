@@ -2,7 +2,7 @@
 use Rattle.std.specs.Prelude.{ℕ, ◌+◌, ◌-◌, ◌≤◌, List, [], ◌∷◌, length, slice_range, Option, Some, None, IsSome}
 use Rattle.studio_session.specs.Event.{TraceEvent, Arrival, Reading, Closing}
 use Rattle.studio_run.specs.Trace.{octets_of}
-use Rattle.studio_run.specs.LineEvent.{octets_by, said_in}
+use Rattle.studio_run.specs.LineEvent.{octets_by}
 use Rattle.studio_run.specs.declared.line.LineEvent.{LineEvent}
 use Rattle.studio_run.specs.declared.line.LineEvent.TheVariants.{Arrive as LineArrive, Tick as LineTick, Close as LineClose}
 use Rattle.studio_run.specs.declared.places.Place.{Place}
@@ -31,11 +31,6 @@ abbrev pub digits_in : LineEvent → ℕ
 digits_in (LineArrive stream path digits) = length digits.now
 digits_in (LineTick time) = 0
 digits_in LineClose = 0
-
--- what a line's event says, if it gave one
-abbrev pub said_by_line : Option LineEvent → List TraceEvent
-said_by_line None = []
-said_by_line (Some event) = said_in event ∷ []
 
 -- the event of a place, if there is one
 abbrev pub said_at : List ℕ → Option Place → List TraceEvent

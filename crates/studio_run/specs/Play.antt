@@ -5,7 +5,7 @@ use Rattle.studio_spec.specs.Studio.{Studio}
 use Rattle.studio_session.specs.Event.{TraceEvent}
 use Rattle.studio_session.specs.Fault.{session_fault_of}
 use Rattle.studio_run.specs.Buffer.{BreaksOff}
-use Rattle.studio_run.specs.Trace.{trace_events}
+use Rattle.studio_run.specs.Trace.{BeginsWithEvents, trace_events}
 use Rattle.studio_run.specs.Listing.{listing_text}
 use Rattle.studio_run.specs.Reported.{IsReport}
 use Rattle.studio_run.specs.declared.trace.TraceFault.{TraceFault}
@@ -38,10 +38,10 @@ FailsWriting studio IsText events written written_then (Trace fault) = ⊥
 FailsWriting studio IsText events written written_then (Run fault) = ⊥
 FailsWriting studio IsText events written written_then Write = (text : List ℕ) → IsText studio events text → BreaksOff written [] written_then text
 
--- a trace has no runnable events: it is at fault, one of its events is, or memory was refused
+-- a trace has no runnable events: it is at fault, one of its events is, or memory was refused for the events that it begins with
 abbrev pub StopsAt : Studio → List ℕ → PlayFault → Type 0
 StopsAt studio trace Read = ⊥
-StopsAt studio trace Memory = Unit {0}
+StopsAt studio trace Memory = BeginsWithEvents trace
 StopsAt studio trace (Trace fault) = trace_events trace ≡ Err fault
 StopsAt studio trace (Run fault) = (events : List TraceEvent) × (trace_events trace ≡ Ok events) × (session_fault_of studio events ≡ Some fault)
 StopsAt studio trace Write = ⊥

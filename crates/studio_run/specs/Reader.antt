@@ -1,10 +1,9 @@
--- What is left of a trace that is being read.
-use Rattle.std.specs.Prelude.{◌+◌, List, drop, Result}
+-- What of a trace was read.
+use Rattle.std.specs.Prelude.{List, take}
 use Rattle.studio_session.specs.Event.{TraceEvent}
-use Rattle.studio_run.specs.Trace.{lines_said, lines_of}
-use Rattle.studio_run.specs.declared.trace.TraceFault.{TraceFault}
+use Rattle.studio_run.specs.Trace.{GivesEvents}
 use Rattle.studio_run.specs.declared.reader.TraceReader.{TraceReader}
 
--- what the lines that are left say, after those that were read
-abbrev pub left_in : TraceReader → Result (List TraceEvent) TraceFault
-left_in reader = lines_said (reader.line + 1) reader.events (lines_of (drop reader.at reader.text.now))
+-- the text before a reader's place gives these events, and no fault, whatever follows it
+abbrev pub HasRead : TraceReader → List TraceEvent → Type 0
+HasRead reader events = GivesEvents (take reader.at reader.text.now) reader.line reader.events events

@@ -1,6 +1,6 @@
 //! The events of a trace, in memory.
 ghost use Rattle.std.specs.Prelude.{◌≡◌, ◌⊎◌, map, IfOk, IfErr, Ok, Err};
-ghost use Rattle.studio_run.specs.Trace.{trace_events, fault_in};
+ghost use Rattle.studio_run.specs.Trace.{BeginsWithEvents, fault_in, trace_events};
 ghost use Rattle.studio_run.specs.declared.trace.TraceKind.TheVariants.{Memory};
 ghost use Rattle.studio_run.specs.Places.{event_at, IsPlace};
 ghost use Rattle.studio_session.specs.Event.{said_by};
@@ -11,10 +11,11 @@ use crate::trace::{TraceFault, WANT_OF_MEMORY};
 use std::alloc::{AllocError, Global};
 use studio_session::StudioEvent;
 
-/// Reads the events of a trace. The memory of an event is taken once its line is known to be good.
+/// Reads the events of a trace. The memory of an event is taken once its line is known to be good, and
+/// want of it is answered there, whatever the later lines say.
 pub fn read_trace(alloc: Global, text: &[u8]) -> Result<Vec<StudioEvent>, TraceFault>
     ensures ok { IfOk result (λ events. trace_events text.now ≡ Ok (map said_by events.items)) }
-    ensures fault { IfErr result (λ e. (e ≡ fault_in 0 Memory) ⊎ (trace_events text.now ≡ Err e)) }
+    ensures fault { IfErr result (λ e. ((e ≡ fault_in 0 Memory) × BeginsWithEvents text.now) ⊎ (trace_events text.now ≡ Err e)) }
 {
     let mut events = Vec::new(alloc);
     let mut reader = TraceReader::new(text)?;

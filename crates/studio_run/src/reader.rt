@@ -1,6 +1,7 @@
 //! A trace, read event by event. Nothing here takes memory.
-ghost use Rattle.std.specs.Prelude.{◌≡◌, ◌+◌, ◌<◌, ◌≤◌, [], length, IfOk, IfErr, IfSome, OnOk, Ok, Err, None};
-ghost use Rattle.studio_run.specs.Trace.{trace_events, prepend};
+ghost use Rattle.std.specs.Prelude.{◌≡◌, ◌+◌, ◌<◌, ◌≤◌, [], ◌++◌, List, length, IfOk, IfErr, IfSome, OnOk, Ok, Err, None};
+ghost use Rattle.studio_session.specs.Event.{TraceEvent};
+ghost use Rattle.studio_run.specs.Trace.{trace_events};
 
 use crate::places::{Place, place_in};
 use crate::trace::{TraceFault, TraceKind, read_line};
@@ -18,7 +19,7 @@ pub(crate) struct TraceReader<'a> {
     /// The number of the line before it.
     line: u32,
     /// How many events the lines before it gave.
-    pub(crate) events: usize,
+    events: usize,
     room: DatagramRoom,
     ghost within: { at ≤ length text.now },
     ghost few_lines: { line ≤ at },
@@ -27,14 +28,13 @@ pub(crate) struct TraceReader<'a> {
 }
 
 impl<'a> TraceReader<'a> {
-    ghost use Rattle.studio_run.specs.Reader.{left_in};
+    ghost use Rattle.studio_run.specs.Reader.{HasRead};
     ghost use Rattle.studio_run.specs.Places.{IsPlace, said_at};
 
     /// Nothing is read yet.
     pub(crate) fn new(text: &'a [u8]) -> Result<Self, TraceFault>
-        ensures whole { IfOk result (λ reader. left_in reader ≡ trace_events text.now) }
+        ensures none { IfOk result (λ reader. HasRead reader []) }
         ensures text { IfOk result (λ reader. reader.text.now ≡ text.now) }
-        ensures none { IfOk result (λ reader. reader.events ≡ 0) }
         ensures fault { IfErr result (λ e. trace_events text.now ≡ Err e) }
     {
         if text.len() > MOST_OCTETS {
@@ -54,12 +54,11 @@ impl<'a> TraceReader<'a> {
 
     /// The next event; none at the end.
     pub(crate) fn next(&mut self) -> Result<Option<Place>, TraceFault>
-        ensures fault { IfErr result (λ e. left_in self.old ≡ Err e) }
-        ensures said { IfOk result (λ place. left_in self.old ≡ prepend (said_at self.old.text.now place) (left_in self.new)) }
-        ensures end { result ≡ Ok None → left_in self.new ≡ Ok [] }
+        ensures fault { IfErr result (λ e. (before : List TraceEvent) → HasRead self.old before → trace_events self.old.text.now ≡ Err e) }
+        ensures read { IfOk result (λ place. (before : List TraceEvent) → HasRead self.old before → HasRead self.new (before ++ said_at self.old.text.now place)) }
+        ensures end { result ≡ Ok None → (before : List TraceEvent) → HasRead self.old before → trace_events self.old.text.now ≡ Ok before }
         ensures text { self.new.text.now ≡ self.old.text.now }
         ensures place { IfOk result (λ place. IfSome place (IsPlace self.old.text.now)) }
-        ensures counted { IfOk result (λ place. self.new.events ≡ self.old.events + length (said_at self.old.text.now place)) }
         ensures further { IfOk result (λ place. IfSome place (λ _. self.old.at < self.new.at)) }
     {
         while self.at < self.text.len() {
@@ -74,11 +73,10 @@ impl<'a> TraceReader<'a> {
     /// The event of the next line, if it gives one.
     fn next_line(&mut self) -> Result<Option<Place>, TraceFault>
         requires { self.old.at < length self.old.text.now }
-        ensures fault { IfErr result (λ e. left_in self.old ≡ Err e) }
-        ensures said { IfOk result (λ place. left_in self.old ≡ prepend (said_at self.old.text.now place) (left_in self.new)) }
+        ensures fault { IfErr result (λ e. (before : List TraceEvent) → HasRead self.old before → trace_events self.old.text.now ≡ Err e) }
+        ensures read { IfOk result (λ place. (before : List TraceEvent) → HasRead self.old before → HasRead self.new (before ++ said_at self.old.text.now place)) }
         ensures text { self.new.text.now ≡ self.old.text.now }
         ensures place { IfOk result (λ place. IfSome place (IsPlace self.old.text.now)) }
-        ensures counted { IfOk result (λ place. self.new.events ≡ self.old.events + length (said_at self.old.text.now place)) }
         ensures further { OnOk result (self.old.at < self.new.at) }
     {
         let rest = &self.text[self.at..];

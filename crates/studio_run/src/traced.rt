@@ -1,5 +1,5 @@
 //! The events of a trace, left in its text.
-ghost use Rattle.std.specs.Prelude.{◌≡◌, ◌≤◌, ◌++◌, ◌∷◌, [], ℕ, List, false, length, IsSome};
+ghost use Rattle.std.specs.Prelude.{◌≡◌, ◌≤◌, ℕ, List, length, IsSome};
 ghost use Rattle.studio_session.specs.Event.{Arrival, outline_of};
 ghost use Rattle.studio_run.specs.Trace.{trace_events, octets_of};
 ghost use Rattle.studio_run.specs.LineEvent.{octets_by};
@@ -35,23 +35,19 @@ impl<'a> Model for TracedEvents<'a> {
 
 impl<'a> TracedEvents<'a> {
     ghost use Rattle.std.specs.Prelude.{◌⊎◌, IfOk, IfErr, Err};
-    ghost use Rattle.studio_run.specs.Trace.{fault_in, HasEvents};
+    ghost use Rattle.studio_run.specs.Trace.{BeginsWithEvents, fault_in};
     ghost use Rattle.studio_run.specs.declared.trace.TraceKind.TheVariants.{Memory};
 
-    /// Finds the events of a trace. Want of memory is answered only of a trace that
-    /// has events and no fault.
+    /// Finds the events of a trace. Want of memory is answered where a growth is refused, whatever the
+    /// later lines say: only of a trace whose lines up to there have no fault.
     pub fn new(alloc: Global, text: &'a [u8]) -> Result<Self, TraceFault>
         ensures ok { IfOk result (λ events. trace_events text.now ≡ Ok events) }
-        ensures fault { IfErr result (λ e. ((e ≡ fault_in 0 Memory) × HasEvents (trace_events text.now)) ⊎ (trace_events text.now ≡ Err e)) }
+        ensures fault { IfErr result (λ e. ((e ≡ fault_in 0 Memory) × BeginsWithEvents text.now) ⊎ (trace_events text.now ≡ Err e)) }
     {
         let mut places = Vec::new(alloc);
         let mut reader = TraceReader::new(text)?;
-        let mut refused = false;
         while let Some(place) = reader.next()? {
-            refused = keep(&mut places, place, refused);
-        }
-        if refused {
-            return Err(WANT_OF_MEMORY);
+            places.push(place).map_err(|_| WANT_OF_MEMORY)?;
         }
         Ok(TracedEvents { text, places })
     }
@@ -71,14 +67,6 @@ impl<'a> EventSource for TracedEvents<'a> {
     fn octets<'b>(&'b self, place: usize, room: &'b mut DatagramRoom) -> &'b [u8] {
         octets_in(self.text, self.places[place], room)
     }
-}
-
-/// Keeps a place, unless memory was refused before. Answers whether it was refused by now: a fault of a
-/// later line is still to be found.
-fn keep(places: &mut Vec<Place>, place: Place, refused: bool) -> bool
-    ensures { result ≡ false → (refused ≡ false) × (places.new.items ≡ places.old.items ++ place ∷ []) }
-{
-    refused || places.push(place).is_err()
 }
 
 /// An event without the octets of its datagram.

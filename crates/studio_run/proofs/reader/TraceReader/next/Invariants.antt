@@ -1,12 +1,12 @@
-use Rattle.std.proofs.Common.{◌≡◌, ◌-◌, ◌≤◌, length}
-use Rattle.studio_run.specs.Reader.{left_in}
+use Rattle.std.proofs.Common.{◌≡◌, ◌-◌, ◌≤◌, List, length}
+use Rattle.studio_session.specs.Event.{TraceEvent}
+use Rattle.studio_run.specs.Reader.{HasRead}
 use Rattle.studio_run.proofs.reader.TraceReader.next.Given as goal
 
 abbrev pub invariant-loop-self : goal.invariant-loop-self
 invariant-loop-self l = record {
-  left : left_in l.initial.self ≡ left_in l.self;
+  read : (before : List TraceEvent) → HasRead l.initial.self before → HasRead l.self before;
   text : l.self.text.now ≡ l.initial.self.text.now;
-  events : l.self.events ≡ l.initial.self.events;
   further : l.initial.self.at ≤ l.self.at;
 }
 
