@@ -33,7 +33,7 @@ pub use buffer::TextBuffer;
 pub use counted_listing::list_marks_and_counts;
 pub use device::{ReadFault, WriteFault, read_text, write_text};
 pub use events::read_trace;
-pub use laws::a_report_is_the_only_one;
+pub use laws::{a_report_is_the_only_one, events_have_a_report};
 pub use listing::write_mark;
 pub use live_report::{SinkCounts, write_feed_faults, write_sink_counts};
 pub use player::{PlayFault, list_marks, play};

@@ -1,3 +1,4 @@
+pub mod BlocksLemmas
 pub mod WayLemmas
 pub mod CountsLemmas
 pub mod CursorLemmas
