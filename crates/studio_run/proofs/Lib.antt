@@ -2,6 +2,7 @@ pub mod BufferLemmas
 pub mod CountedLemmas
 pub mod CountedListingLemmas
 pub mod DecimalLemmas
+pub mod DigitLemmas
 pub mod FieldsLemmas
 pub mod LinesLemmas
 pub mod NumberLemmas

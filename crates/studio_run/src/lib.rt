@@ -11,6 +11,7 @@ mod buffer;
 mod counted;
 mod counted_listing;
 mod device;
+mod digits;
 mod events;
 mod field;
 mod laws;

@@ -5,7 +5,6 @@ ghost use Rattle.studio_run.specs.Trace.{trace_events};
 
 use crate::places::{Place, place_in};
 use crate::trace::{TraceFault, TraceKind, read_line};
-use studio_session::DatagramRoom;
 
 /// The most octets of a trace.
 pub(crate) const MOST_OCTETS: usize = 67_108_864;
@@ -20,7 +19,6 @@ pub(crate) struct TraceReader<'a> {
     line: u32,
     /// How many events the lines before it gave.
     events: usize,
-    room: DatagramRoom,
     ghost within: { at ≤ length text.now },
     ghost few_lines: { line ≤ at },
     ghost few_events: { events ≤ at },
@@ -48,7 +46,6 @@ impl<'a> TraceReader<'a> {
             at: 0,
             line: 0,
             events: 0,
-            room: [0; 2048],
         })
     }
 
@@ -81,7 +78,7 @@ impl<'a> TraceReader<'a> {
     {
         let rest = &self.text[self.at..];
         let number = self.line + 1;
-        let (event, after) = match read_line(rest, self.events, &mut self.room) {
+        let (event, after) = match read_line(rest, self.events) {
             Ok(read) => read,
             Err(kind) => return Err(TraceFault { line: number, kind }),
         };

@@ -5,7 +5,7 @@ ghost use Rattle.studio_run.specs.Trace.{trace_events, octets_of};
 ghost use Rattle.studio_run.specs.LineEvent.{octets_by};
 ghost use Rattle.studio_run.specs.Places.{event_at, IsPlace};
 
-use crate::line::decode_octets;
+use crate::digits::decode_octets;
 use crate::places::Place;
 use crate::reader::TraceReader;
 use crate::trace::{TraceFault, WANT_OF_MEMORY};
