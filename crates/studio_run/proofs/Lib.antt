@@ -1,5 +1,4 @@
 pub mod BufferLemmas
-pub mod CountedLemmas
 pub mod CountedListingLemmas
 pub mod DecimalLemmas
 pub mod DigitLemmas
@@ -8,10 +7,11 @@ pub mod LinesLemmas
 pub mod NumberLemmas
 pub mod PlaceLemmas
 pub mod PlayLemmas
-pub mod ReadLemmas
+pub mod ReadLineLemmas
 pub mod ReaderLemmas
-pub mod ReportedLemmas
 pub mod SearchLemmas
+pub mod StudioCountsLemmas
+pub mod StudioListingLemmas
+pub mod StudioReportLemmas
 pub mod TraceLemmas
 pub mod WantLemmas
-pub mod ListedLemmas

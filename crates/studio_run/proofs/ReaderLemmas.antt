@@ -5,7 +5,7 @@ use Rattle.std.proofs.lemmas.List.{take_all}
 use Rattle.studio_session.specs.Event.{TraceEvent}
 use Rattle.studio_run.specs.Trace.{BeginsWithEvents, FailsInLine, GivesEvents, HasEvents, ReadsLine, fault_in, lines_of, lines_said, prepend, trace_events}
 use Rattle.studio_run.specs.declared.trace.TraceKind.{TraceKind}
-use Rattle.studio_run.proofs.ReadLemmas.{prepend-none, prepend-prepend}
+use Rattle.studio_run.proofs.ReadLineLemmas.{prepend-none, prepend-prepend}
 
 -- nothing was read yet
 pub gives-none : GivesEvents [] 0 0 []

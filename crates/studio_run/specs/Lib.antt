@@ -3,13 +3,13 @@ pub mod CountedListing
 pub mod Fields
 pub mod LineEvent
 pub mod Lines
-pub mod Listed
 pub mod Listing
 pub mod LiveReport
 pub mod Places
 pub mod Play
 pub mod Reader
 pub mod Report
-pub mod Reported
+pub mod StudioListing
+pub mod StudioReport
 pub mod Text
 pub mod Trace

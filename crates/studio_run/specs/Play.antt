@@ -7,7 +7,7 @@ use Rattle.studio_session.specs.Fault.{session_fault_of}
 use Rattle.studio_run.specs.Buffer.{BreaksOff}
 use Rattle.studio_run.specs.Trace.{BeginsWithEvents, trace_events}
 use Rattle.studio_run.specs.Listing.{listing_text}
-use Rattle.studio_run.specs.Reported.{IsReport}
+use Rattle.studio_run.specs.StudioReport.{IsReport}
 use Rattle.studio_run.specs.declared.trace.TraceFault.{TraceFault}
 use Rattle.studio_run.specs.declared.trace.TraceKind.{TraceKind}
 use Rattle.studio_run.specs.declared.trace.TraceKind.TheVariants.{TooLong, Cut, Word, Fields, Number, Hex, TooMany, Memory as NoMemory}

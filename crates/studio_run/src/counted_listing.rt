@@ -4,10 +4,10 @@ ghost use Rattle.studio_session.specs.Play.{HasPathsBy, IsRunnableBy};
 ghost use Rattle.studio_run.specs.CountedListing.{FailsWithCounts, FailsWithCountsOf, ListsAndCounts, ListsAndCountsOf};
 
 use crate::buffer::TextBuffer;
-use crate::counted::write_counts;
-use crate::listed::write_whole_listing;
 use crate::player::{PlayFault, read_all, runnable_events};
-use crate::traced::TracedEvents;
+use crate::studio_counts::write_counts;
+use crate::studio_listing::write_whole_listing;
+use crate::traced_events::TracedEvents;
 use std::alloc::Global;
 use std::io::{Read, Write};
 use studio_session::studio_cursors;

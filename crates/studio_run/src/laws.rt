@@ -2,7 +2,7 @@
 ghost use Rattle.std.specs.Prelude.{◌≡◌, ◌<◌, ℕ, List};
 ghost use Rattle.studio_spec.specs.Studio.{Studio};
 ghost use Rattle.studio_session.specs.Event.{TraceEvent};
-ghost use Rattle.studio_run.specs.Reported.{IsReport};
+ghost use Rattle.studio_run.specs.StudioReport.{IsReport};
 
 /// Any events have a report, by a studio whose output has frames, as that of every `StudioSpec` has.
 pub fn events_have_a_report()

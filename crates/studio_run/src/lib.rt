@@ -8,7 +8,6 @@
 #![tactic(auto)]
 
 mod buffer;
-mod counted;
 mod counted_listing;
 mod device;
 mod digits;
@@ -16,19 +15,20 @@ mod events;
 mod field;
 mod laws;
 mod line;
-mod listed;
 mod listing;
 mod live_report;
 mod places;
 mod player;
 mod reader;
 mod report;
-mod reported;
-mod running;
+mod running_counts;
+mod studio_counts;
+mod studio_listing;
+mod studio_report;
 #[cfg(test)]
 mod tests;
 mod trace;
-mod traced;
+mod traced_events;
 
 pub use buffer::TextBuffer;
 pub use counted_listing::list_marks_and_counts;
@@ -39,10 +39,10 @@ pub use listing::write_mark;
 pub use live_report::{SinkCounts, write_feed_faults, write_sink_counts};
 pub use player::{PlayFault, list_marks, play};
 pub use report::{write_datagram, write_merge_counts, write_path_counts};
-pub use running::write_running_counts;
+pub use running_counts::write_running_counts;
 pub use stream_rules::{PathCounts, StreamCounts};
 pub use studio_mix::Mixer;
 pub use studio_session::{Report, StudioEvent, StudioFault, run_studio};
 pub use studio_spec::{Ports, SpecError, StudioSpec};
 pub use trace::{TraceFault, TraceKind};
-pub use traced::TracedEvents;
+pub use traced_events::TracedEvents;

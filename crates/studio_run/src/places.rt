@@ -1,5 +1,5 @@
 //! Events of a trace as places of its text.
-ghost use Rattle.std.specs.Prelude.{◌≡◌, ◌≤◌, ◌<◌, ◌^◌};
+ghost use Rattle.std.specs.Prelude.{◌≡◌, ◌≤◌};
 ghost use Rattle.studio_run.specs.Places.{place_in, digits_in};
 
 use crate::line::LineEvent;

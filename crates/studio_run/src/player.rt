@@ -1,19 +1,19 @@
 //! From a trace to the listing of a studio's marks, and to its report.
-ghost use Rattle.std.specs.Prelude.{◌≡◌, List, ℕ, None, Ok, OnOk, OnErr, IfOk, IfErr};
-ghost use Rattle.std.specs.Io.KnownBytes.{Appends, Consumes, IsAtEnd};
+ghost use Rattle.std.specs.Prelude.{◌≡◌, None, Ok, OnOk, IfOk, IfErr};
+ghost use Rattle.std.specs.Io.KnownBytes.{Consumes, IsAtEnd};
 ghost use Rattle.studio_session.specs.Fault.{session_fault_of};
 ghost use Rattle.studio_session.specs.Play.{HasPathsBy, IsRunnableBy};
 ghost use Rattle.studio_run.specs.Trace.{trace_events};
 ghost use Rattle.studio_run.specs.Play.{FailsOf, FailsOn, FailsWriting, IsListing, IsTextOf, StopsAt, StopsReading, WritesEvents, WritesText, WritesTextOf, stop_for};
-ghost use Rattle.studio_run.specs.Reported.{IsReport};
+ghost use Rattle.studio_run.specs.StudioReport.{IsReport};
 ghost use Rattle.studio_run.specs.declared.player.PlayFault.TheVariants as fault;
 
 use crate::buffer::TextBuffer;
 use crate::device::{ReadFault, WriteFault, read_text};
-use crate::listed::write_whole_listing;
-use crate::reported::write_report;
+use crate::studio_listing::write_whole_listing;
+use crate::studio_report::write_whole_report;
 use crate::trace::{TraceFault, TraceKind};
-use crate::traced::TracedEvents;
+use crate::traced_events::TracedEvents;
 use std::alloc::{AllocError, Global};
 use std::io::{Read, Write};
 use studio_session::{Cursor, Session, StudioFault, first_fault, studio_cursors};
@@ -21,7 +21,7 @@ use studio_spec::StudioSpec;
 use thiserror::Error;
 
 /// Why the text of a trace was not written, or only a part of it. They are found in the order Read,
-/// Trace, Run, Write, and Memory where it was refused. Nothing is written before a write fails.
+/// Trace, Run, Write, and Memory where it was refused. Only a write that fails leaves something written.
 #[derive(Debug, Drop, Error)]
 pub enum PlayFault {
     /// A read failed, or 100,000,000 reads did not reach the end.
@@ -223,7 +223,6 @@ fn write_events_report<W: Write>(
 {
     let session = Session::new(alloc, spec)?;
     let mut text = TextBuffer::new(alloc)?;
-    write_report(&mut text, writer, events, session)?;
-    text.finish(writer)?;
+    write_whole_report(&mut text, writer, events, session)?;
     Ok(())
 }

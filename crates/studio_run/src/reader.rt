@@ -1,5 +1,5 @@
 //! A trace, read event by event. Nothing here takes memory.
-ghost use Rattle.std.specs.Prelude.{◌≡◌, ◌+◌, ◌<◌, ◌≤◌, [], ◌++◌, List, length, IfOk, IfErr, IfSome, OnOk, Ok, Err, None};
+ghost use Rattle.std.specs.Prelude.{◌≡◌, ◌<◌, ◌≤◌, [], ◌++◌, List, length, IfOk, IfErr, IfSome, OnOk, Ok, Err, None};
 ghost use Rattle.studio_session.specs.Event.{TraceEvent};
 ghost use Rattle.studio_run.specs.Trace.{trace_events};
 
@@ -7,7 +7,7 @@ use crate::places::{Place, place_in};
 use crate::trace::{TraceFault, TraceKind, read_line};
 
 /// The most octets of a trace.
-pub(crate) const MOST_OCTETS: usize = 67_108_864;
+pub(crate) const MOST_TRACE_OCTETS: usize = 67_108_864;
 
 /// A trace, read up to the beginning of a line.
 #[derive(Drop)]
@@ -35,7 +35,7 @@ impl<'a> TraceReader<'a> {
         ensures text { IfOk result (λ reader. reader.text.now ≡ text.now) }
         ensures fault { IfErr result (λ e. trace_events text.now ≡ Err e) }
     {
-        if text.len() > MOST_OCTETS {
+        if text.len() > MOST_TRACE_OCTETS {
             return Err(TraceFault {
                 line: 0,
                 kind: TraceKind::TooMany,

@@ -1,6 +1,5 @@
 //! One stream of a run: its merge, and how far it has come in the events.
-ghost use Rattle.std.specs.Prelude.{◌≡◌, ℕ, ◌+◌, ◌<◌, ◌≤◌, ◌^◌, ◌++◌, List, [], ℤ, pos, ◌≤ℤ◌, length, take, drop, slice_get, is_some, true, false, None, Some, IfOk, IfSome};
-ghost use Rattle.std.specs.Option.{option_to_list};
+ghost use Rattle.std.specs.Prelude.{◌≡◌, ℕ, ◌+◌, ◌<◌, ◌≤◌, ◌^◌, ◌++◌, List, ℤ, pos, ◌≤ℤ◌, length, slice_get, true, false, None, Some, IfOk};
 ghost use Rattle.stream_rules.specs.declared.stream_spec.Stream.{Stream};
 ghost use Rattle.stream_rules.specs.declared.event.Event.{Event};
 ghost use Rattle.stream_rules.specs.Counts.{tally_of};
@@ -16,7 +15,7 @@ ghost use Rattle.studio_session.specs.Cursor.{HasPulled, HaveFew, IsReadyFor, Is
 ghost use Rattle.studio_session.specs.Cursor as goal;
 
 use crate::event::Outline;
-use crate::source::{EventSource, MOST_OCTETS};
+use crate::source::{EventSource, MOST_ARRIVAL_OCTETS};
 use path_merge::{Counts, Goal, MarkRef, Merge, Path, SlotWindow, StreamSpec};
 use std::alloc::{AllocError, Global};
 use std::marker::Model;
@@ -200,7 +199,7 @@ impl Cursor {
         match source.outline(self.place) {
             Outline::Arrive { stream, path } => {
                 if stream == self.number {
-                    let mut room = [0; MOST_OCTETS];
+                    let mut room = [0; MOST_ARRIVAL_OCTETS];
                     self.take_datagram(path, source.octets(self.place, &mut room));
                 } else {
                     self.pass_over();

@@ -1,11 +1,8 @@
 //! One stream's marks, handed to the mixer while it wants them.
-ghost use Rattle.std.specs.Prelude.{◌≡◌, ℕ, ◌<◌, ◌++◌, ◌∷◌, [], List, length, slice_get, slice_set, true, false, Some, None, IfSome};
-ghost use Rattle.stream_rules.specs.declared.stream_spec.Stream.{Stream};
-ghost use Rattle.stream_rules.specs.StreamSpecFacts.{format_of};
-ghost use Rattle.stream_rules.specs.MarkList.{is_mark_list};
+ghost use Rattle.std.specs.Prelude.{◌≡◌, ℕ, ◌<◌, List, length, true, false, None, IfSome};
 ghost use Rattle.studio_spec.specs.Studio.{Studio};
 ghost use Rattle.studio_mix.specs.Feed.{Feed};
-ghost use Rattle.studio_mix.specs.Mixer.{HasFeeds, is_wanted_by};
+ghost use Rattle.studio_mix.specs.Mixer.{is_wanted_by};
 ghost use Rattle.studio_session.specs.Event.{TraceEvent};
 ghost use Rattle.studio_session.specs.Cursor.{IsReadyFor, IsSameCursor};
 ghost use Rattle.studio_session.specs.Play.{IsRunnableBy, TakesMark, Plays, PlaysOut, PlaysFinal};

@@ -1,5 +1,5 @@
 //! A whole session: the datagrams of a list of events.
-ghost use Rattle.std.specs.Prelude.{◌≡◌, ℕ, ◌<◌, ◌≤◌, List, length, map, None, All, IfOk, IfErr, OnOk};
+ghost use Rattle.std.specs.Prelude.{◌<◌, ◌≤◌, length, map, All, IfOk, OnOk};
 ghost use Rattle.mix_packets.specs.OutSpec.{datagram_length};
 ghost use Rattle.studio_spec.specs.Studio.{Studio};
 ghost use Rattle.studio_session.specs.Cursor.{IsReadyFor};
@@ -10,8 +10,8 @@ use crate::session::Session;
 use crate::source::EventSource;
 use std::alloc::{AllocError, Global};
 
-/// The greatest length of a datagram: a header of 12 octets and a payload of 1,440.
-const MOST_OCTETS: usize = 1452;
+/// The most octets of a datagram of the output: a header of 12 and a payload of 1,440.
+pub const MOST_OUTPUT_OCTETS: usize = 1452;
 
 /// The datagrams of all blocks that are ready, in order.
 pub fn all_datagrams<E: EventSource>(
@@ -30,7 +30,7 @@ pub fn all_datagrams<E: EventSource>(
         → IsRunnableBy studio (E.events source.now) → HasPlayed studio (E.events source.now) session.old 0
         → HasPlayed studio (E.events source.now) session.new (length datagrams.items)) }
 {
-    let mut out = [0u8; MOST_OCTETS];
+    let mut out = [0u8; MOST_OUTPUT_OCTETS];
     let mut datagrams = Vec::new(alloc);
     'rounds: loop {
         match session.next_datagram(source, &mut out) {

@@ -1,5 +1,5 @@
 //! A session of a studio: its streams' merges, and the mixer that takes their marks.
-ghost use Rattle.std.specs.Prelude.{◌≡◌, ℕ, ◌+◌, ◌*◌, ◌^◌, ◌≤◌, ◌++◌, ℤ, pos, ◌≤ℤ◌, List, length, drop, All, None, is_some, IfOk, IfSome};
+ghost use Rattle.std.specs.Prelude.{◌≡◌, ℕ, ◌+◌, ◌^◌, ◌≤◌, ◌++◌, ℤ, pos, ◌≤ℤ◌, List, length, drop, All, None, is_some, IfOk, IfSome};
 ghost use Rattle.mix_packets.specs.Block.{block_start};
 ghost use Rattle.mix_packets.specs.OutSpec.{datagram_length};
 ghost use Rattle.studio_spec.specs.Studio.{Studio};

@@ -1,14 +1,14 @@
 //! Where the events of a run come from.
-ghost use Rattle.std.specs.Prelude.{◌≡◌, ◌<◌, ℕ, List, length, slice_get, Some, None, map};
+ghost use Rattle.std.specs.Prelude.{◌≡◌, ◌<◌, ℕ, List, length, slice_get, Some, map};
 ghost use Rattle.studio_session.specs.Event.{TraceEvent, Arrival, outline_of, said_by};
 
 use crate::event::{Outline, StudioEvent};
 
-/// The most octets of a datagram.
-pub const MOST_OCTETS: usize = 2048;
+/// The most octets of a datagram that arrives.
+pub const MOST_ARRIVAL_OCTETS: usize = 2048;
 
 /// Room for the octets of a datagram.
-pub type DatagramRoom = [u8; MOST_OCTETS];
+pub type DatagramRoom = [u8; MOST_ARRIVAL_OCTETS];
 
 /// The events of a run. No call takes memory.
 pub trait EventSource {

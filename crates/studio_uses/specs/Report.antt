@@ -3,7 +3,7 @@ use Rattle.std.specs.Prelude.{◌≡◌, ℕ, List, Some, None, Ok, Err}
 use Rattle.studio_spec.specs.Studio.{Studio}
 use Rattle.studio_session.specs.Event.{TraceEvent}
 use Rattle.studio_session.specs.Fault.{session_fault_of}
-use Rattle.studio_run.specs.Reported.{IsReport}
+use Rattle.studio_run.specs.StudioReport.{IsReport}
 use Rattle.studio_run.specs.Trace.{trace_events}
 use Rattle.studio_run.specs.declared.player.PlayFault.{PlayFault}
 use Rattle.studio_run.specs.declared.player.PlayFault.TheVariants.{Read, Memory, Trace, Run, Write}
