@@ -1,5 +1,5 @@
 -- What a live run writes, and why it may not.
-use Rattle.std.specs.Prelude.{◌≡◌, true, false, Bool, ℕ, List, [], Option, None}
+use Rattle.std.specs.Prelude.{◌≡◌, true, false, Bool, ℕ, ℤ, List, [], Option, None}
 use Rattle.std.specs.Io.KnownBytes.{Appends}
 use Rattle.studio_spec.specs.Studio.{Studio}
 use Rattle.studio_run.specs.Buffer.{BreaksOff}
@@ -11,10 +11,10 @@ use Rattle.studio_live.specs.Report.{report_text}
 use Rattle.studio_live.specs.declared.fault.LiveFault.{LiveFault}
 use Rattle.studio_live.specs.declared.fault.LiveFault.TheVariants.{Memory, Socket, Thread, Unsettled, Write}
 
--- the report is of a run of this studio: its datagrams balance, and where it is settled it tells whole histories of what some feeds told; no sink tells what it was handed
+-- the report is of a run of this studio: its datagrams balance, and where it is settled it tells whole histories of what some feeds and clocks told; no sink tells what it was handed
 pub record IsRunOf (studio : Studio) (report : WorkReport) : Type 0 where
   pub balance : Balances report.blocks report.sent_a report.fault_a report.sent_b report.fault_b
-  pub settled : report.settled ≡ true → (told : List (List Answer)) × IsSettledRun studio told report None None
+  pub settled : report.settled ≡ true → (places : ℕ) × (told : List (List Answer)) × (clocks : List (List ℤ)) × IsSettledRun studio places told clocks report None None
 
 -- the report of a run was written, which is settled or not
 pub record WritesRun (studio : Studio) (settled : Bool) (written written_then : Option (List ℕ)) : Type 0 where

@@ -1,6 +1,7 @@
 //! The system's clock, in sampling instants.
-ghost use Rattle.std.specs.Prelude.{◌≡◌, ◌≤◌, ◌<◌, ◌^◌, ◌-◌, pos, ◌≤ℤ◌, ◌<ℤ◌, ◌+ℤ◌, ℤ};
+ghost use Rattle.std.specs.Prelude.{◌≡◌, ◌≤◌, ◌<◌, ◌^◌, ◌-◌, pos, ◌≤ℤ◌, ◌<ℤ◌, ◌+ℤ◌, ℤ, []};
 ghost use Rattle.std.specs.Duration.{as_nanos};
+ghost use Rattle.studio_workers.specs.Clocks.{TellsTime};
 ghost use Rattle.studio_live.specs.Clock.{instants_in};
 
 use std::time;
@@ -58,8 +59,11 @@ impl<'a, R: time::Clock> SystemClock<'a, R> {
 }
 
 impl<R: time::Clock> Clock for SystemClock<'_, R> {
+    ghost told = { λ clock. [] };
+
     /// The answers never fall.
     fn now(&mut self) -> i64
+        ensures tells { TellsTime [] result [] }
         ensures answer { result ≡ self.new.last }
         ensures grows { self.old.last ≤ℤ result }
     {

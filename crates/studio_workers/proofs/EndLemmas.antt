@@ -1,11 +1,11 @@
 -- What the end of a stream says of its history.
-use Rattle.std.proofs.Common.{◌≡◌, ℕ, suc, ◌+◌, ◌-◌, ◌*◌, ◌≤◌, ◌^◌, Bool, true, false, nat_eq, nat_lt, if◌then◌else◌, List, [], ◌∷◌, ◌++◌, length, take, map, ℤ, Option, Some, None, IsSome, IfSome, refl, sym, ap, subst, ◌∙◌, arith, append-nil}
+use Rattle.std.proofs.Common.{◌≡◌, ℕ, suc, ◌+◌, ◌-◌, ◌*◌, ◌≤◌, ◌^◌, Bool, true, false, nat_eq, nat_lt, if◌then◌else◌, List, [], ◌∷◌, ◌++◌, length, take, map, ℤ, Option, Some, None, IsSome, IfSome, refl, sym, ap, subst, ◌∙◌, arith, append_assoc, append-nil}
 use Rattle.std.proofs.lemmas.Bool.Decides.{nat_tests}
 use Rattle.std.proofs.lemmas.List.Sums.{sum_by-cons}
 use Rattle.std.proofs.Math.Seq.{take-length}
 use Rattle.std.specs.List.{AllZip}
 use Rattle.rtrb.specs.Ends.{SameRing}
-use Rattle.rtrb.specs.Ring.{all_sent, sent, SameProducer}
+use Rattle.rtrb.specs.Ring.{all_sent, producer_capacity, sent, SameProducer}
 use Rattle.rtrb.specs.declared.producer.Producer.{Producer}
 use Rattle.rtrb.specs.declared.finished.Finished.{Finished}
 use Rattle.stream_rules.specs.declared.stream_spec.Stream.{Stream}
@@ -30,32 +30,40 @@ use Rattle.studio_rings.specs.declared.stream.StreamDone.{StreamDone}
 use Rattle.studio_rings.specs.declared.stream_end.StreamEnd.{StreamEnd}
 use Rattle.studio_rings.proofs.StreamLemmas.{packets_by-append}
 use Rattle.studio_workers.specs.Answers.{Answer, CountsOthers, IsPartOf, reaches_end, told_datagrams, told_packets}
+use Rattle.studio_workers.specs.Clocks.{GoByClock, events_in}
 use Rattle.studio_workers.specs.Paths.{IsPathResult, SendsFeed}
 use Rattle.studio_workers.specs.Runs.{HasPathHistory, HavePathHistories, sent_total}
 use Rattle.studio_workers.specs.Streams.{EndsStream, HasEnded, HasMarks, PathsGiveTokens, IsStreamResult, all_told, ends_of, told_by, told_of}
 use Rattle.studio_workers.specs.Turns.{ClosesLater, Drains, GoesOn, HaveArrived, HaveTold}
+use Rattle.studio_workers.proofs.StreamTurnLemmas.{events-joined}
 use Rattle.studio_workers.proofs.ZipLemmas.{zip-length}
 use Rattle.studio_workers.specs.declared.path_job.PathJob.{PathJob}
 use Rattle.studio_workers.specs.declared.path_job.PathResult.{PathResult}
 use Rattle.studio_workers.specs.declared.stream_job.StreamJob.{StreamJob}
 use Rattle.studio_workers.specs.declared.stream_job.StreamResult.{StreamResult}
+use Rattle.studio_workers.specs.declared.timed_stream.TimedStream.{TimedStream}
 
 -- the token of an end whose ring is the same as this one's
 pub same_token : {T A P : Type 0} (p q : Producer T A P) (done : Finished T A P) → SameProducer p q → SameRing q.end done.end → SameRing p.end done.end
 same_token p q done same fin = (fin.0 ∙ same.0.0, fin.1 ∙ same.0.1, fin.2 ∙ same.0.2, fin.3 ∙ same.0.3)
 
--- the end went on to the second, was closed as the third and drained as the fourth
-pub ended : (s t u v : StreamEnd) (results : List PathResult) (result : StreamResult) (marks : List MarkView) → GoesOn s t → HaveTold t.sides.items (map told_by results) → ClosesLater t u → Drains u v
-    → tally_of result.counts.merge ≡ v.merge.counts → marks ≡ sent v.marks
-    → (stream : Stream) (open_at : ℤ) (events : List Event) → StreamHasHistory stream open_at s events → HasEnded stream open_at (map told_by results) result marks
-ended s t u v results result marks goes told closes drains counts marks_are stream open_at events h =
-    let at = closes.history stream open_at (events ++ goes.more stream) (map told_by results) told (goes.stands stream open_at events h) in
-    let all = at.before ++ Close ∷ [] in
+-- the stream went on to the second, was closed as the third and drained as the fourth
+pub ended : {C : Type 0} (clock_told : C → List ℤ) (s t : TimedStream C) (u v : StreamEnd) (results : List PathResult) (result : StreamResult) (marks : List MarkView)
+    → GoesOn clock_told s t → HaveTold t.end.sides.items (map told_by results) → ClosesLater clock_told t u → Drains u v → tally_of result.counts.merge ≡ v.merge.counts → marks ≡ sent v.marks
+    → (stream : Stream) (open_at : ℤ) (events : List Event) → StreamHasHistory stream open_at s.end events → HasEnded clock_told stream open_at s events (map told_by results) result marks
+ended clock_told s t u v results result marks goes told closes drains counts marks_are stream open_at events h =
+    let after = events ++ events_in (goes.turns stream) in
+    let at = closes.history stream open_at after (map told_by results) told (goes.stands stream open_at events h) in
+    let before = after ++ events_in at.turns in
+    let all = before ++ Close ∷ [] in
     let stands : StreamHasHistory stream open_at v all = drains.stands stream open_at all at.stands in
     let sent_is : sent v.marks ≡ marks_of stream open_at all = drains.all stream open_at all stands in
     let taken : take (length (sent v.marks)) (marks_of stream open_at all) ≡ marks_of stream open_at all = ap (λ (l : List MarkView). take (length l) (marks_of stream open_at all)) sent_is ∙ take-length (marks_of stream open_at all) in
     record {
-      before = at.before;
+      turns = goes.turns stream ++ at.turns;
+      timed = goes.timed stream open_at events (producer_capacity s.end.marks) at.turns h refl (subst (λ n. GoByClock stream open_at n t.now (clock_told t.clock) after at.turns) goes.marks.1 at.timed);
+      before = before;
+      before_is = append_assoc events (events_in (goes.turns stream)) (events_in at.turns) ∙ ap (λ l. events ++ l) (sym (events-joined (goes.turns stream) at.turns));
       open_before = at.open_before;
       well_timed = stands.merge.well_timed;
       arrived = at.arrived;
@@ -216,10 +224,11 @@ arrived_count stream open_at before shut few =
     ap length same ∙ (counted_arrivals stream open_at before shut ∙ omega (arith, few))
 
 module _ {F : Type 0} (told : F → List Answer) where
-  has_marks : (stream : Stream) (open_at : ℤ) (places : ℕ) (paths : List (PathJob F)) (s : StreamEnd) (results : List PathResult) (result : StreamResult) (marks : List MarkView)
+  has_marks : {C : Type 0} (clock_told : C → List ℤ) (stream : Stream) (open_at : ℤ) (places room : ℕ) (paths : List (PathJob F)) (s : StreamEnd) (t : TimedStream C) (after : List Event) (results : List PathResult) (result : StreamResult) (marks : List MarkView) (clock : List ℤ) (turns : List (List Event))
       → IsFreshStream open_at places stream (ends_of paths) s → AllZip (IsPathResult told) paths results → PathsGiveTokens results → result.counts.paths.items ≡ map (λ (r : PathResult). r.counts) results
-      → HasEnded stream open_at (map told_by results) result marks → HasMarks open_at stream (told_of told paths) result marks
-  has_marks stream open_at places paths s results result marks fresh zip given counts_are e =
+      → (e : HasEnded clock_told stream open_at t after (map told_by results) result marks) → e.before ≡ events_in turns → GoByClock stream open_at room open_at clock [] turns
+      → HasMarks open_at room stream (told_of told paths) clock result marks
+  has_marks clock_told stream open_at places room paths s t after results result marks clock turns fresh zip given counts_are e made timed =
       let all = e.before ++ Close ∷ [] in
       let total : arrival_count e.before ≡ sent_total (map (λ (r : PathResult). r.counts) results) = sym (count_all e.before) ∙ counted told stream places 0 paths s.sides.items results e.before fresh.paths zip given e.arrived in
       record {
@@ -227,6 +236,9 @@ module _ {F : Type 0} (told : F → List Answer) where
         history = record {
           well_timed = e.well_timed;
           closed = closed_after e.before;
+          turns = turns;
+          made = ap (λ l. l ++ Close ∷ []) made;
+          timed = timed;
           merge = e.counts;
           arrived = λ few.
               let sum : sent_total result.counts.paths.items ≡ sent_total (map (λ (r : PathResult). r.counts) results) = ap sent_total counts_are in
@@ -241,18 +253,30 @@ module _ {F : Type 0} (told : F → List Answer) where
   by_token None says results P given h f = tt
   by_token (Some d) says results P given h f = f d given h
 
-  -- the stream's worker, of its parts
-  stream-result : (paths : List (PathJob F)) (s t : StreamEnd) (results : List PathResult) (result : StreamResult) → AllZip (IsPathResult told) paths results → GoesOn s t → EndsStream t results result
-      → IfSome result.done (λ done. (stream : Stream) (open_at : ℤ) (places : ℕ) → IsFreshStream open_at places stream (ends_of paths) s → HasMarks open_at stream (told_of told paths) result (all_sent done.token))
-  stream-result paths s t results result zip goes ends =
+  -- the stream's worker, of its parts: it began as the first, and went on to the second
+  stream-result : {C : Type 0} (clock_told : C → List ℤ) (paths : List (PathJob F)) (end : StreamEnd) (clock : C) (s t : TimedStream C) (results : List PathResult) (result : StreamResult) → s.end ≡ end → s.clock ≡ clock → s.now ≡ end.merge.time
+      → AllZip (IsPathResult told) paths results → GoesOn clock_told s t → EndsStream clock_told t results result
+      → IfSome result.done (λ done. (stream : Stream) (open_at : ℤ) (places : ℕ) → IsFreshStream open_at places stream (ends_of paths) end → HasMarks open_at (producer_capacity end.marks) stream (told_of told paths) (clock_told clock) result (all_sent done.token))
+  stream-result {C = C} clock_told paths end clock s t results result end_is clock_is now_is zip goes ends =
       by_token result.done _ results _ ends.given ends.ended (λ d given says. λ stream open_at places fresh.
-      has_marks stream open_at places paths s results result (all_sent d.token) fresh zip given ends.paths (says stream open_at ([] ++ goes.more stream) (goes.stands stream open_at [] fresh.stands)))
+      let room = producer_capacity end.marks in
+      let first : StreamHasHistory stream open_at s.end [] = subst (λ (x : StreamEnd). StreamHasHistory stream open_at x []) (sym end_is) fresh.stands in
+      let own : producer_capacity s.end.marks ≡ room = ap (λ (x : StreamEnd). producer_capacity x.marks) end_is in
+      let after = events_in (goes.turns stream) in
+      let e = says stream open_at after (goes.stands stream open_at [] first) in
+      let rest : GoByClock stream open_at room t.now (clock_told t.clock) after e.turns = subst (λ n. GoByClock stream open_at n t.now (clock_told t.clock) after e.turns) (goes.marks.1 ∙ own) e.timed in
+      let all : GoByClock stream open_at room s.now (clock_told s.clock) [] (goes.turns stream ++ e.turns) = goes.timed stream open_at [] room e.turns first own rest in
+      let timed : GoByClock stream open_at room open_at (clock_told clock) [] (goes.turns stream ++ e.turns) =
+      subst (λ n. GoByClock stream open_at room n (clock_told clock) [] (goes.turns stream ++ e.turns)) (now_is ∙ fresh.time) (subst (λ (c : C). GoByClock stream open_at room s.now (clock_told c) [] (goes.turns stream ++ e.turns)) clock_is all) in
+      has_marks clock_told stream open_at places room paths end t after results result (all_sent d.token) (clock_told clock) (goes.turns stream ++ e.turns) fresh zip given ends.paths e
+      (e.before_is ∙ sym (events-joined (goes.turns stream) e.turns)) timed)
 
-pub is-stream-result : {F C : Type 0} (told : F → List Answer) (job : StreamJob F C) (t : StreamEnd) (results : List PathResult) (result : StreamResult) → AllZip (IsPathResult told) job.paths.items results → GoesOn job.end t → EndsStream t results result → IsStreamResult told job result
-is-stream-result told job t results result zip goes ends = record {
+pub is-stream-result : {F C : Type 0} (told : F → List Answer) (clock_told : C → List ℤ) (job : StreamJob F C) (s t : TimedStream C) (results : List PathResult) (result : StreamResult) → s.end ≡ job.end → s.clock ≡ job.clock → s.now ≡ job.end.merge.time
+    → AllZip (IsPathResult told) job.paths.items results → GoesOn clock_told s t → EndsStream clock_told t results result → IsStreamResult told clock_told job result
+is-stream-result told clock_told job s t results result end_is clock_is now_is zip goes ends = record {
   faults = ends.faults ∙ sym (zip-length _ job.paths.items results zip);
-  token = its_token job.end t result.done goes.marks ends.token;
-  history = stream-result told job.paths.items job.end t results result zip goes ends;
+  token = its_token job.end t.end result.done (subst (λ (x : StreamEnd). SameProducer x.marks t.end.marks) end_is goes.marks) ends.token;
+  history = stream-result told clock_told job.paths.items job.end job.clock s t results result end_is clock_is now_is zip goes ends;
 }
   where
     its_token : (p q : StreamEnd) (done : Option StreamDone) → SameProducer p.marks q.marks → IfSome done (λ (d : StreamDone). SameRing q.marks.end d.token.end) → IfSome done (λ (d : StreamDone). SameRing p.marks.end d.token.end)

@@ -12,14 +12,14 @@ use Rattle.studio_rings.specs.Tokens.{HandsIn}
 use Rattle.studio_rings.specs.declared.path.PathDone.{PathDone}
 use Rattle.studio_rings.specs.declared.path_end.PathEnd.{PathEnd}
 use Rattle.studio_rings.specs.declared.side.Side.{Side}
-use Rattle.studio_rings.specs.declared.stream_end.StreamEnd.{StreamEnd}
 use Rattle.studio_workers.specs.Answers.{Answer}
 use Rattle.studio_workers.specs.Paths.{IsPathResult, IsTokenOf}
 use Rattle.studio_workers.specs.Streams.{AllTokensFit, ArePairs, FitsAt, HandsOne, PathsGiveTokens, all_told, told_by}
 use Rattle.studio_workers.specs.Turns.{AreSameRings, GoesOn, HaveTold}
 use Rattle.studio_workers.specs.declared.path_job.PathJob.{PathJob}
 use Rattle.studio_workers.specs.declared.path_job.PathResult.{PathResult}
-use Rattle.studio_workers.proofs.StreamTurnLemmas.{rings-self, same_marks}
+use Rattle.studio_workers.specs.declared.timed_stream.TimedStream.{TimedStream}
+use Rattle.studio_workers.proofs.StreamTurnLemmas.{goes-still, rings-self, same_marks}
 
 -- a path's ring is the same, and has the path's token where all were given
 abbrev pub IsHandedIn : Bool → PathResult → Side Packet → Side Packet → Type 0
@@ -158,16 +158,9 @@ rings-handed zero (o ∷ os) (n ∷ ns) all h = (rw h.0.ring ((refl, refl, refl,
 rings-handed (suc place) (o ∷ os) (n ∷ ns) all h = (rw h.0 ((refl, refl, refl, refl), refl), rings-handed place os ns all h.1)
 
 -- a token that is handed in leaves the history
-pub goes-handed : (s t : StreamEnd) (place : ℕ) (all : List Packet) → HandsIn s.sides.items place all t.sides.items → t.merge ≡ s.merge → t.marks ≡ s.marks → t.spec ≡ s.spec → s.merge.closed ≡ false
-    → ((stream : Stream) (open_at : ℤ) (events : List Event) → StreamHasHistory stream open_at s events → StreamHasHistory stream open_at t events) → GoesOn s t
-goes-handed s t place all hands merge marks spec shut stands = record {
-  rings = rings-handed place s.sides.items t.sides.items all hands;
-  marks = same_marks s t marks;
-  spec = spec;
-  still_open = rw merge shut;
-  more = λ stream. [];
-  stands = λ stream open_at events h. subst (StreamHasHistory stream open_at t) (sym (append-nil events)) (stands stream open_at events h);
-}
+pub goes-handed : {C : Type 0} (told : C → List ℤ) (s t : TimedStream C) (place : ℕ) (all : List Packet) → HandsIn s.end.sides.items place all t.end.sides.items → t.end.marks ≡ s.end.marks → t.end.spec ≡ s.end.spec → t.now ≡ s.now → t.clock ≡ s.clock
+    → ((stream : Stream) (open_at : ℤ) (events : List Event) → StreamHasHistory stream open_at s.end events → StreamHasHistory stream open_at t.end events) → GoesOn told s t
+goes-handed told s t place all hands marks spec now clock stands = goes-still told s t (rings-handed place s.end.sides.items t.end.sides.items all hands) (same_marks s.end t.end marks) spec now clock stands
 
 fits_one : (p : PathEnd) (done : Option PathDone) (c d : Consumer Packet _ _) → IsPair p.ring c → SameConsumer c d → IfSome done (λ x. IsTokenOf p x) → IfSome done (λ x. IsFinishedOf x.token d)
 fits_one p None c d pair same token = tt

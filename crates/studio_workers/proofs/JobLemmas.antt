@@ -68,22 +68,23 @@ AreSomeFresh paths ends = (open_at : ℤ) × (places : ℕ) × (specs : List Str
 
 module _ {F C : Type 0} where
   -- these jobs are made, and those of what is left follow them
-  abbrev pub MakesJobs : List PathEnd → List F → List StreamEnd → List (StreamJob F C) → List PathEnd → List F → List StreamEnd → Type 0
-  MakesJobs paths feeds ends jobs left_paths left_feeds left_ends = (later : List (StreamJob F C)) → AreJobsOf left_paths left_feeds left_ends later → AreJobsOf paths feeds ends (jobs ++ later)
+  abbrev pub MakesJobs : List PathEnd → List F → List C → List StreamEnd → List (StreamJob F C) → List PathEnd → List F → List C → List StreamEnd → Type 0
+  MakesJobs paths feeds clocks ends jobs left_paths left_feeds left_clocks left_ends =
+      (later : List (StreamJob F C)) → AreJobsOf left_paths left_feeds left_clocks left_ends later → AreJobsOf paths feeds clocks ends (jobs ++ later)
 
-  pub makes-one : (paths : List PathEnd) (feeds : List F) (ends : List StreamEnd) (jobs : List (StreamJob F C)) (job : StreamJob F C) (before after : List PathEnd) (some others : List F) (end : StreamEnd) (more : List StreamEnd)
-      → MakesJobs paths feeds ends jobs before some (end ∷ more) → before ≡ ends_of job.paths.items ++ after → some ≡ feeds_in job.paths.items ++ others → job.end ≡ end → length job.paths.items ≡ end.spec.paths
-      → MakesJobs paths feeds ends (jobs ++ job ∷ []) after others more
-  makes-one paths feeds ends jobs job before after some others end more made a b c d = λ later h.
-      subst (AreJobsOf paths feeds ends) (sym (append_assoc jobs (job ∷ []) later)) (made (job ∷ later) (after, others, a, b, c, d, h))
+  pub makes-one : (paths : List PathEnd) (feeds : List F) (clocks : List C) (ends : List StreamEnd) (jobs : List (StreamJob F C)) (job : StreamJob F C) (before after : List PathEnd) (some others : List F) (ticking left : List C) (end : StreamEnd) (more : List StreamEnd)
+      → MakesJobs paths feeds clocks ends jobs before some ticking (end ∷ more) → before ≡ ends_of job.paths.items ++ after → some ≡ feeds_in job.paths.items ++ others → ticking ≡ job.clock ∷ left → job.end ≡ end → length job.paths.items ≡ end.spec.paths
+      → MakesJobs paths feeds clocks ends (jobs ++ job ∷ []) after others left more
+  makes-one paths feeds clocks ends jobs job before after some others ticking left end more made a b k c d = λ later h.
+      subst (AreJobsOf paths feeds clocks ends) (sym (append_assoc jobs (job ∷ []) later)) (made (job ∷ later) (after, others, left, a, b, k, c, d, h))
 
-  pub makes-all : (paths : List PathEnd) (feeds : List F) (ends : List StreamEnd) (jobs : List (StreamJob F C)) (left_paths : List PathEnd) (left_feeds : List F) (left_ends : List StreamEnd)
-      → MakesJobs paths feeds ends jobs left_paths left_feeds left_ends → left_paths ≡ [] → left_feeds ≡ [] → left_ends ≡ [] → AreJobsOf paths feeds ends jobs
-  makes-all paths feeds ends jobs left_paths left_feeds left_ends made a b c =
-      subst (AreJobsOf paths feeds ends) (append-nil jobs) (made [] (none_left left_ends c))
+  pub makes-all : (paths : List PathEnd) (feeds : List F) (clocks : List C) (ends : List StreamEnd) (jobs : List (StreamJob F C)) (left_paths : List PathEnd) (left_feeds : List F) (left_clocks : List C) (left_ends : List StreamEnd)
+      → MakesJobs paths feeds clocks ends jobs left_paths left_feeds left_clocks left_ends → left_paths ≡ [] → left_feeds ≡ [] → left_clocks ≡ [] → left_ends ≡ [] → AreJobsOf paths feeds clocks ends jobs
+  makes-all paths feeds clocks ends jobs left_paths left_feeds left_clocks left_ends made a b k c =
+      subst (AreJobsOf paths feeds clocks ends) (append-nil jobs) (made [] (none_left left_ends c))
     where
-      none_left : (l : List StreamEnd) → l ≡ [] → AreJobsOf {F = F} {C = C} left_paths left_feeds l []
-      none_left [] e = (a, b)
+      none_left : (l : List StreamEnd) → l ≡ [] → AreJobsOf {F = F} {C = C} left_paths left_feeds left_clocks l []
+      none_left [] e = (a, b, k)
       none_left (x ∷ xs) e = absurd (let f = ap length e in omega (arith, f))
 
   pub room-more : (jobs : List (StreamJob F C)) (job : StreamJob F C) → HaveRoom jobs → HasRoom job → HaveRoom (jobs ++ job ∷ [])

@@ -1,11 +1,12 @@
 -- Turns and looks of a stream's end, one after another.
-use Rattle.std.proofs.Common.{◌≡◌, ℕ, suc, ◌^◌, Bool, true, false, List, [], ◌∷◌, ◌++◌, ℤ, pos, ◌≤ℤ◌, IfSome, IsSomeAnd, MatchOption, Option, Some, None, refl, sym, ap, subst, ◌∙◌, append_assoc, append-nil, ◌⊎◌, inl, inr}
-use Rattle.rtrb.specs.Ring.{all_sent, received, SameConsumer, SameProducer}
+use Rattle.std.proofs.Common.{◌≡◌, ℕ, suc, ◌+◌, ◌≤◌, ◌^◌, Bool, true, false, List, [], ◌∷◌, ◌++◌, length, ℤ, pos, ◌≤ℤ◌, IfSome, IsSomeAnd, MatchOption, Option, Some, None, refl, sym, ap, subst, ◌∙◌, append_assoc, append-nil, arith, ◌⊎◌, inl, inr}
+use Rattle.rtrb.specs.Ring.{all_sent, known_free, producer_capacity, received, sent, SameConsumer, SameProducer}
 use Rattle.rtrb.specs.declared.consumer.Consumer.{Consumer}
 use Rattle.rtrb.specs.declared.finished.Finished.{Finished}
 use Rattle.stream_rules.specs.declared.stream_spec.Stream.{Stream}
 use Rattle.stream_rules.specs.declared.packet.Packet.{Packet}
 use Rattle.stream_rules.specs.declared.event.Event.{Event}
+use Rattle.stream_rules.specs.Marks.{marks_of}
 use Rattle.path_merge.specs.MergeState.{MergeState}
 use Rattle.path_merge.specs.Clock.{clock_fault_of}
 use Rattle.path_merge.specs.declared.clock.ClockFault.{ClockFault}
@@ -13,14 +14,19 @@ use Rattle.path_merge.proofs.RunLemmas.{still_no_fault}
 use Rattle.studio_rings.specs.Fitting.{fitting}
 use Rattle.studio_rings.specs.Side.{IsDrained}
 use Rattle.studio_rings.specs.Looks.{AllDrained, AllLookAt}
-use Rattle.studio_rings.specs.Turns.{AllTakePackets, turn_events}
+use Rattle.studio_rings.specs.Stop.{StopsFor}
+use Rattle.studio_rings.specs.Turns.{AllTakePackets, arrivals_from, turn_events}
 use Rattle.studio_rings.specs.Streams.{AllDelivered, StreamHasHistory, TakesTurn}
 use Rattle.studio_rings.specs.declared.side.Side.{Side}
 use Rattle.studio_rings.specs.declared.stream_end.StreamEnd.{StreamEnd}
+use Rattle.studio_rings.specs.declared.turn.StopReason.{StopReason}
+use Rattle.studio_rings.specs.declared.turn.StopReason.TheVariants.{CaughtUp, Batch, NoRoom}
 use Rattle.studio_rings.specs.declared.turn.TurnNote.{TurnNote}
 use Rattle.studio_rings.proofs.CloseLemmas.{delivered-looked}
 use Rattle.studio_rings.proofs.TurnLemmas.{producers}
+use Rattle.studio_workers.specs.Clocks.{GoByClock, IsTurnAt, TellsTime, events_in, time_with}
 use Rattle.studio_workers.specs.Turns.{AreSameRings, Closes, ClosesLater, GoesOn, HaveArrived, HaveTold, KeepsTokens}
+use Rattle.studio_workers.specs.declared.timed_stream.TimedStream.{TimedStream}
 
 -- rings that are the same as ones that are the same
 pub consumers : {T A P : Type 0} (a b c : Consumer T A P) → SameConsumer a b → SameConsumer b c → SameConsumer a c
@@ -94,55 +100,112 @@ tokens-taken [] [] (packets ∷ more) h lists told = absurd h
 tokens-taken (o ∷ os) [] taken h lists told = absurd h
 tokens-taken (o ∷ os) (n ∷ ns) [] h lists told = absurd h
 
-pub goes-none : (s : StreamEnd) → s.merge.closed ≡ false → GoesOn s s
-goes-none s shut = record {
-  rings = rings-self s.sides.items;
-  marks = ((refl, refl, refl, refl), refl);
-  spec = refl;
-  still_open = shut;
-  more = λ stream. [];
-  stands = λ stream open_at events h. subst (StreamHasHistory stream open_at s) (sym (append-nil events)) h;
-}
+pub events-joined : (xs ys : List (List Event)) → events_in (xs ++ ys) ≡ events_in xs ++ events_in ys
+events-joined [] ys = refl
+events-joined (x ∷ xs) ys = ap (λ l. x ++ l) (events-joined xs ys) ∙ sym (append_assoc x (events_in xs) (events_in ys))
 
-pub goes-trans : (s t u : StreamEnd) → GoesOn s t → GoesOn t u → GoesOn s u
-goes-trans s t u f g = record {
-  rings = rings-trans s.sides.items t.sides.items u.sides.items f.rings g.rings;
-  marks = producers s.marks t.marks u.marks f.marks g.marks;
-  spec = g.spec ∙ f.spec;
-  still_open = g.still_open;
-  more = λ stream. f.more stream ++ g.more stream;
-  stands = λ stream open_at events h.
-      subst (StreamHasHistory stream open_at u) (append_assoc events (f.more stream) (g.more stream))
-      (g.stands stream open_at (events ++ f.more stream) (f.stands stream open_at events h));
-}
+-- no turn goes by any clock
+none_made : (stream : Stream) (open_at : ℤ) (places : ℕ) (time : ℤ) (told : List ℤ) (before : List Event) → GoByClock stream open_at places time told before []
+none_made stream open_at places time [] before = tt
+none_made stream open_at places time (answer ∷ told) before = tt
 
-pub goes-turn : (s t : StreamEnd) (now : ℤ) (note : TurnNote) → TakesTurn s now note t → GoesOn s t
-goes-turn s t now note n = record {
-  rings = rings-taken s.sides.items t.sides.items n.taken n.took;
-  marks = n.ring;
-  spec = n.spec;
-  still_open = n.still_open;
-  more = λ stream. turn_events stream n.taken note.reached;
-  stands = n.stands;
-}
+-- a turn after one answer more, and those that follow it
+one_more : (stream : Stream) (open_at : ℤ) (places : ℕ) (time answer now : ℤ) (told rest : List ℤ) (before turn : List Event) (later : List (List Event))
+    → TellsTime told answer rest → now ≡ time_with time answer → IsTurnAt stream open_at places now before turn
+    → GoByClock stream open_at places now rest (before ++ (turn ++ [])) later → GoByClock stream open_at places time told before (turn ∷ later)
+one_more stream open_at places time answer now [] rest before turn later tells is at more = tt
+one_more stream open_at places time answer now (next ∷ told) rest before turn later tells is at more =
+    let same : now ≡ time_with time next = is ∙ ap (time_with time) tells.0 in (
+      subst (λ t. IsTurnAt stream open_at places t before turn) same at,
+      subst (λ t. GoByClock stream open_at places t told (before ++ turn) later) same
+          (subst (λ l. GoByClock stream open_at places now l (before ++ turn) later) tells.1
+          (subst (λ l. GoByClock stream open_at places now rest (before ++ l) later) (append-nil turn) more)),
+    )
 
--- a look that found a path open
-pub goes-look : (s t : StreamEnd) → AllLookAt s.sides.items t.sides.items → t.merge ≡ s.merge → t.marks ≡ s.marks → t.spec ≡ s.spec → s.merge.closed ≡ false → GoesOn s t
-goes-look s t looked merge marks spec shut = record {
-  rings = rings-looked s.sides.items t.sides.items looked;
-  marks = rw marks (((refl, refl, refl, refl), refl));
-  spec = spec;
-  still_open = rw merge shut;
-  more = λ stream. [];
-  stands = λ stream open_at events h.
-      subst (StreamHasHistory stream open_at t) (sym (append-nil events))
-      (record {
+stopped : (why : StopReason) (reached now : ℤ) (marks free : ℕ) (A B : Type 0) → StopsFor why reached now marks free → (marks ≡ 64 → A) → (free ≡ 0 → B) → (reached ≡ now) ⊎ (A ⊎ B)
+stopped CaughtUp reached now marks free A B h batch room = inl h
+stopped Batch reached now marks free A B h batch room = inr (inl (batch h))
+stopped NoRoom reached now marks free A B h batch room = inr (inr (room h))
+
+-- all marks of an open stream's history were sent
+sent_all : (stream : Stream) (open_at : ℤ) (s : StreamEnd) (events : List Event) → s.merge.closed ≡ false → StreamHasHistory stream open_at s events → length (sent s.marks) ≡ length (marks_of stream open_at events)
+sent_all stream open_at s events shut h = h.merge.all_given (sym h.merge.closed ∙ shut)
+
+pub is-turn-at : (stream : Stream) (open_at : ℤ) (places : ℕ) (s t : StreamEnd) (now : ℤ) (note : TurnNote) (events : List Event) (n : TakesTurn s now note t)
+    → s.merge.closed ≡ false → producer_capacity s.marks ≡ places → StreamHasHistory stream open_at s events → IsTurnAt stream open_at places now events (turn_events stream n.taken note.reached)
+is-turn-at stream open_at places s t now note events n shut room h =
+    let turn = turn_events stream n.taken note.reached in
+    let before : length (sent s.marks) ≡ length (marks_of stream open_at events) = sent_all stream open_at s events shut h in
+    let after : length (sent t.marks) ≡ length (marks_of stream open_at (events ++ turn)) = sent_all stream open_at t (events ++ turn) n.still_open (n.stands stream open_at events h) in
+    let gained : length (sent t.marks) ≡ length (sent s.marks) + note.marks = n.marks in
+    let same : t.marks.capacity ≡ s.marks.capacity = n.ring.1 in
+    let within : t.marks.capacity ≤ t.marks.end.limit = t.marks.counts.0 in
+    record {
+      front = arrivals_from stream 0 n.taken;
+      reached = note.reached;
+      ends = refl;
+      most = n.not_after;
+      caught_up = stopped note.why_stopped note.reached now note.marks (known_free t.marks) _ _ n.stop (λ e. omega (arith, e, before, after, gained)) (λ e. omega (arith, e, after, same, within, room));
+    }
+
+module _ {C : Type 0} (told : C → List ℤ) where
+  -- the history, the clock and the time are as they were
+  pub goes-still : (s t : TimedStream C) → AreSameRings s.end.sides.items t.end.sides.items → SameProducer s.end.marks t.end.marks → t.end.spec ≡ s.end.spec → t.now ≡ s.now → t.clock ≡ s.clock
+      → ((stream : Stream) (open_at : ℤ) (events : List Event) → StreamHasHistory stream open_at s.end events → StreamHasHistory stream open_at t.end events) → GoesOn told s t
+  goes-still s t rings marks spec now clock stands = record {
+    rings = rings;
+    marks = marks;
+    spec = spec;
+    turns = λ stream. [];
+    stands = λ stream open_at events h. subst (StreamHasHistory stream open_at t.end) (sym (append-nil events)) (stands stream open_at events h);
+    timed = λ stream open_at events places later h room g.
+        subst (λ es. GoByClock stream open_at places s.now (told s.clock) es later) (append-nil events)
+        (subst (λ n. GoByClock stream open_at places n (told s.clock) (events ++ []) later) now
+        (subst (λ (c : C). GoByClock stream open_at places t.now (told c) (events ++ []) later) clock g));
+  }
+
+  pub goes-none : (s : TimedStream C) → GoesOn told s s
+  goes-none s = goes-still s s (rings-self s.end.sides.items) ((refl, refl, refl, refl), refl) refl refl refl (λ stream open_at events h. h)
+
+  pub goes-trans : (s t u : TimedStream C) → GoesOn told s t → GoesOn told t u → GoesOn told s u
+  goes-trans s t u f g = record {
+    rings = rings-trans s.end.sides.items t.end.sides.items u.end.sides.items f.rings g.rings;
+    marks = producers s.end.marks t.end.marks u.end.marks f.marks g.marks;
+    spec = g.spec ∙ f.spec;
+    turns = λ stream. f.turns stream ++ g.turns stream;
+    stands = λ stream open_at events h. subst (StreamHasHistory stream open_at u.end) (whole stream events) (g.stands stream open_at (events ++ events_in (f.turns stream)) (f.stands stream open_at events h));
+    timed = λ stream open_at events places later h room last.
+        subst (λ l. GoByClock stream open_at places s.now (told s.clock) events l) (sym (append_assoc (f.turns stream) (g.turns stream) later))
+        (f.timed stream open_at events places (g.turns stream ++ later) h room
+        (g.timed stream open_at (events ++ events_in (f.turns stream)) places later (f.stands stream open_at events h) (f.marks.1 ∙ room)
+        (subst (λ es. GoByClock stream open_at places u.now (told u.clock) es later) (sym (whole stream events)) last)));
+  }
+    where
+      whole : (stream : Stream) (events : List Event) → (events ++ events_in (f.turns stream)) ++ events_in (g.turns stream) ≡ events ++ events_in (f.turns stream ++ g.turns stream)
+      whole stream events = append_assoc events (events_in (f.turns stream)) (events_in (g.turns stream)) ∙ ap (λ l. events ++ l) (sym (events-joined (f.turns stream) (g.turns stream)))
+
+  -- a turn at the clock's next answer
+  pub goes-turn : (s t : TimedStream C) (answer now : ℤ) (note : TurnNote) → TellsTime (told s.clock) answer (told t.clock) → t.now ≡ time_with s.now answer → now ≡ t.now → TakesTurn s.end now note t.end → GoesOn told s t
+  goes-turn s t answer now note tells is same n = record {
+    rings = rings-taken s.end.sides.items t.end.sides.items n.taken n.took;
+    marks = n.ring;
+    spec = n.spec;
+    turns = λ stream. turn_events stream n.taken note.reached ∷ [];
+    stands = λ stream open_at events h. subst (λ l. StreamHasHistory stream open_at t.end (events ++ l)) (sym (append-nil (turn_events stream n.taken note.reached))) (n.stands stream open_at events h);
+    timed = λ stream open_at events places later h room last.
+        one_more stream open_at places s.now answer t.now (told s.clock) (told t.clock) events (turn_events stream n.taken note.reached) later tells is
+        (subst (λ u. IsTurnAt stream open_at places u events (turn_events stream n.taken note.reached)) same (is-turn-at stream open_at places s.end t.end now note events n s.open_yet room h)) last;
+  }
+
+  -- a look that found a path open
+  pub goes-look : (s t : TimedStream C) → AllLookAt s.end.sides.items t.end.sides.items → t.end.merge ≡ s.end.merge → t.end.marks ≡ s.end.marks → t.end.spec ≡ s.end.spec → t.now ≡ s.now → t.clock ≡ s.clock → GoesOn told s t
+  goes-look s t looked merge marks spec now clock = goes-still s t (rings-looked s.end.sides.items t.end.sides.items looked) (rw marks (((refl, refl, refl, refl), refl))) spec now clock
+      (λ stream open_at events h. record {
         some_frames = h.some_frames;
         merge = rw (merge, marks) h.merge;
-        delivered = delivered-looked stream 0 s.sides.items t.sides.items events looked h.delivered;
+        delivered = delivered-looked stream 0 s.end.sides.items t.end.sides.items events looked h.delivered;
         marks = rw marks h.marks;
-      });
-}
+      })
 
 -- all that was told arrived, where all was received
 arrived : (stream : Stream) (path : ℕ) (olds news : List (Side Packet)) (lists : List (List Packet)) (events : List Event)
@@ -172,16 +235,19 @@ same_marks s t same = rw same (((refl, refl, refl, refl), refl))
 pub is_closed_by : (m w : MergeState) → w ≡ record m { closed = true } → w.closed ≡ true
 is_closed_by m w same = ap (λ (x : MergeState). x.closed) same
 
--- an end that went on and was closed
-pub closes-later : (s t u : StreamEnd) → GoesOn s t → KeepsTokens s.sides.items t.sides.items → t.merge.closed ≡ false → Closes t u → ClosesLater s u
-closes-later s t u goes tokens shut closes = record {
-  marks = producers s.marks t.marks u.marks goes.marks closes.marks;
-  history = λ stream open_at events lists told h.
+-- a stream that went on and was closed
+pub closes-later : {C : Type 0} (told : C → List ℤ) (s t : TimedStream C) (u : StreamEnd) → GoesOn told s t → KeepsTokens s.end.sides.items t.end.sides.items → Closes t.end u → ClosesLater told s u
+closes-later told s t u goes tokens closes = record {
+  marks = producers s.end.marks t.end.marks u.marks goes.marks closes.marks;
+  history = λ stream open_at events lists all h.
+      let before = events ++ events_in (goes.turns stream) in
       let now = goes.stands stream open_at events h in
       record {
-        before = events ++ goes.more stream;
-        open_before = sym now.merge.closed ∙ shut;
-        stands = closes.stands stream open_at (events ++ goes.more stream) now;
-        arrived = closes.arrived stream open_at (events ++ goes.more stream) lists (tokens lists told) now;
+        turns = goes.turns stream;
+        timed = subst (λ l. GoByClock stream open_at (producer_capacity s.end.marks) s.now (told s.clock) events l) (append-nil (goes.turns stream))
+            (goes.timed stream open_at events (producer_capacity s.end.marks) [] h refl (none_made stream open_at (producer_capacity s.end.marks) t.now (told t.clock) before));
+        open_before = sym now.merge.closed ∙ t.open_yet;
+        arrived = closes.arrived stream open_at before lists (tokens lists all) now;
+        stands = closes.stands stream open_at before now;
       };
 }

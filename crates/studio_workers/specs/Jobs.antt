@@ -11,14 +11,14 @@ module _ {F : Type 0} where
   feeds_in paths = map (λ (path : PathJob F). path.feed) paths
 
 module _ {F C : Type 0} where
-  -- the paths' ends and the feeds go to the streams in their order, to each as many as it has paths
-  abbrev pub AreJobsOf : List PathEnd → List F → List StreamEnd → List (StreamJob F C) → Type 0
-  AreJobsOf paths feeds [] [] = (paths ≡ []) × (feeds ≡ [])
-  AreJobsOf paths feeds (end ∷ ends) (job ∷ jobs) =
-      (rest : List PathEnd) × (others : List F) × (paths ≡ ends_of job.paths.items ++ rest) × (feeds ≡ feeds_in job.paths.items ++ others)
-      × (job.end ≡ end) × (length job.paths.items ≡ end.spec.paths) × AreJobsOf rest others ends jobs
-  AreJobsOf paths feeds [] (job ∷ jobs) = ⊥
-  AreJobsOf paths feeds (end ∷ ends) [] = ⊥
+  -- the paths' ends, the feeds and the clocks go to the streams in their order: to each as many as it has paths, and one clock
+  abbrev pub AreJobsOf : List PathEnd → List F → List C → List StreamEnd → List (StreamJob F C) → Type 0
+  AreJobsOf paths feeds clocks [] [] = (paths ≡ []) × (feeds ≡ []) × (clocks ≡ [])
+  AreJobsOf paths feeds clocks (end ∷ ends) (job ∷ jobs) =
+      (rest : List PathEnd) × (others : List F) × (left : List C) × (paths ≡ ends_of job.paths.items ++ rest) × (feeds ≡ feeds_in job.paths.items ++ others)
+      × (clocks ≡ job.clock ∷ left) × (job.end ≡ end) × (length job.paths.items ≡ end.spec.paths) × AreJobsOf rest others left ends jobs
+  AreJobsOf paths feeds clocks [] (job ∷ jobs) = ⊥
+  AreJobsOf paths feeds clocks (end ∷ ends) [] = ⊥
 
   -- there is a flag for each path, and room for what it comes to
   pub record HasRoom (job : StreamJob F C) : Type 0 where

@@ -1,4 +1,5 @@
 pub mod Answers
+pub mod Clocks
 pub mod Paths
 pub mod Turns
 pub mod Runs

@@ -5,6 +5,7 @@ use Rattle.stream_rules.specs.History.{is_closed, is_well_timed}
 use Rattle.stream_rules.specs.Marks.{marks_of}
 use Rattle.stream_rules.specs.Counts.{counts_of, tally_of}
 use Rattle.stream_rules.specs.declared.event.Event.{Event}
+use Rattle.stream_rules.specs.declared.event.Event.TheVariants.{Close}
 use Rattle.studio_spec.specs.Studio.{Studio}
 use Rattle.studio_mix.specs.Feed.{Feed}
 use Rattle.studio_mix.specs.Blocks.{AreBlocks}
@@ -13,6 +14,7 @@ use Rattle.stream_rules.specs.declared.path_counts.PathCounts.{PathCounts}
 use Rattle.stream_rules.specs.declared.stream_counts.StreamCounts.{StreamCounts}
 use Rattle.studio_rings.specs.Streams.{packets_by}
 use Rattle.studio_workers.specs.Answers.{Answer, CountsOthers, IsPartOf, reaches_end, told_datagrams, told_packets}
+use Rattle.studio_workers.specs.Clocks.{GoByClock, events_in}
 use Rattle.studio_workers.specs.Sinks.{Hands}
 use Rattle.studio_workers.specs.declared.report.WorkReport.{WorkReport}
 
@@ -35,24 +37,28 @@ HavePathHistories stream path (told ∷ more) [] events = ⊥
 abbrev pub sent_total : List PathCounts → ℕ
 sent_total paths = sum_by (λ (counts : PathCounts). counts.sent) paths
 
--- a stream had this history, and came to its end
-pub record HasStreamHistory (open_at : ℤ) (stream : Stream) (told : List (List Answer)) (counts : StreamCounts) (events : List Event) : Type 0 where
+-- a stream had this history, and came to its end by turns that go by what its clock tells
+pub record HasStreamHistory (open_at : ℤ) (places : ℕ) (stream : Stream) (told : List (List Answer)) (clock : List ℤ) (counts : StreamCounts) (events : List Event) : Type 0 where
   pub well_timed : is_well_timed open_at events ≡ true
   pub closed : is_closed events ≡ true
+  pub turns : List (List Event)
+  pub made : events ≡ events_in turns ++ Close ∷ []
+  pub timed : GoByClock stream open_at places open_at clock [] turns
   pub merge : tally_of counts.merge ≡ counts_of stream open_at events (marks_of stream open_at events)
   pub arrived : sent_total counts.paths.items ≤ 2 ^ 62 → counts.merge.arrived ≡ sent_total counts.paths.items
   pub paths : HavePathHistories stream 0 told counts.paths.items events
 
--- so it is of each stream; the feeds stand stream by stream, as many as the stream has paths
-abbrev pub HaveStreamHistories : ℤ → List Stream → List (List Answer) → List StreamCounts → List (List Event) → Type 0
-HaveStreamHistories open_at [] told [] [] = told ≡ []
-HaveStreamHistories open_at (stream ∷ streams) told (counts ∷ rest) (events ∷ histories) =
-    (own : List (List Answer)) × (others : List (List Answer)) × (told ≡ own ++ others) × (length own ≡ stream.paths)
-    × HasStreamHistory open_at stream own counts events × HaveStreamHistories open_at streams others rest histories
-HaveStreamHistories open_at [] told (counts ∷ rest) histories = ⊥
-HaveStreamHistories open_at [] told [] (events ∷ histories) = ⊥
-HaveStreamHistories open_at (stream ∷ streams) told [] histories = ⊥
-HaveStreamHistories open_at (stream ∷ streams) told (counts ∷ rest) [] = ⊥
+-- so it is of each stream; the feeds stand stream by stream, as many as the stream has paths, and there is a clock for each
+abbrev pub HaveStreamHistories : ℤ → ℕ → List Stream → List (List Answer) → List (List ℤ) → List StreamCounts → List (List Event) → Type 0
+HaveStreamHistories open_at places [] told clocks [] [] = (told ≡ []) × (clocks ≡ [])
+HaveStreamHistories open_at places (stream ∷ streams) told clocks (counts ∷ rest) (events ∷ histories) =
+    (own : List (List Answer)) × (others : List (List Answer)) × (clock : List ℤ) × (left : List (List ℤ))
+    × (told ≡ own ++ others) × (length own ≡ stream.paths) × (clocks ≡ clock ∷ left)
+    × HasStreamHistory open_at places stream own clock counts events × HaveStreamHistories open_at places streams others left rest histories
+HaveStreamHistories open_at places [] told clocks (counts ∷ rest) histories = ⊥
+HaveStreamHistories open_at places [] told clocks [] (events ∷ histories) = ⊥
+HaveStreamHistories open_at places (stream ∷ streams) told clocks [] histories = ⊥
+HaveStreamHistories open_at places (stream ∷ streams) told clocks (counts ∷ rest) [] = ⊥
 
 -- each stream, with all marks of its history
 abbrev pub feeds_of : ℤ → List Stream → List (List Event) → List Feed
@@ -60,10 +66,10 @@ feeds_of open_at [] histories = []
 feeds_of open_at (stream ∷ streams) [] = []
 feeds_of open_at (stream ∷ streams) (events ∷ histories) = record { stream = stream; marks = marks_of stream open_at events } ∷ feeds_of open_at streams histories
 
--- what a settled run came to: each stream has a whole history, and a sink that tells at the end was handed the datagrams of exactly the ready blocks of their marks, in order
-pub record IsSettledRun (studio : Studio) (told : List (List Answer)) (report : WorkReport) (before after : Option (List (List ℕ))) : Type 0 where
+-- what a settled run over rings of so many places came to: each stream has a whole history, and a sink that tells at the end was handed the datagrams of exactly the ready blocks of their marks, in order
+pub record IsSettledRun (studio : Studio) (places : ℕ) (told : List (List Answer)) (clocks : List (List ℤ)) (report : WorkReport) (before after : Option (List (List ℕ))) : Type 0 where
   pub histories : List (List Event)
-  pub streams : HaveStreamHistories studio.open_at studio.streams told report.streams.items histories
+  pub streams : HaveStreamHistories studio.open_at places studio.streams told clocks report.streams.items histories
   pub datagrams : List (List ℕ)
   pub blocks : AreBlocks studio (feeds_of studio.open_at studio.streams histories) datagrams
   pub count : length datagrams < 2 ^ 64 → report.blocks ≡ length datagrams

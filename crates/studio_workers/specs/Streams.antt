@@ -1,7 +1,7 @@
 -- What a stream's worker starts from, and what it comes to.
 use Rattle.std.specs.Prelude.{◌≡◌, ℕ, ◌<◌, ◌≤◌, ◌^◌, Bool, true, false, List, [], ◌∷◌, ◌++◌, length, map, slice_get, ℤ, pos, ◌≤ℤ◌, vec_len, vec_capacity, Option, Some, None, IsSome, IfSome}
 use Rattle.rtrb.specs.Ends.{SameRing}
-use Rattle.rtrb.specs.Ring.{all_sent, IsFinishedOf, IsPair}
+use Rattle.rtrb.specs.Ring.{all_sent, producer_capacity, IsFinishedOf, IsPair}
 use Rattle.stream_rules.specs.declared.stream_spec.Stream.{Stream}
 use Rattle.stream_rules.specs.Counts.{tally_of, counts_of}
 use Rattle.stream_rules.specs.Marks.{marks_of}
@@ -16,14 +16,15 @@ use Rattle.studio_rings.specs.Tokens.{HandsIn}
 use Rattle.studio_rings.specs.declared.path.PathDone.{PathDone}
 use Rattle.studio_rings.specs.declared.path_end.PathEnd.{PathEnd}
 use Rattle.studio_rings.specs.declared.side.Side.{Side}
-use Rattle.studio_rings.specs.declared.stream_end.StreamEnd.{StreamEnd}
 use Rattle.studio_workers.specs.Answers.{Answer}
+use Rattle.studio_workers.specs.Clocks.{GoByClock, events_in}
 use Rattle.studio_workers.specs.Runs.{HasStreamHistory}
 use Rattle.studio_workers.specs.Turns.{HaveArrived}
 use Rattle.studio_workers.specs.declared.path_job.PathJob.{PathJob}
 use Rattle.studio_workers.specs.declared.path_job.PathResult.{PathResult}
 use Rattle.studio_workers.specs.declared.stream_job.StreamJob.{StreamJob}
 use Rattle.studio_workers.specs.declared.stream_job.StreamResult.{StreamResult}
+use Rattle.studio_workers.specs.declared.timed_stream.TimedStream.{TimedStream}
 
 abbrev pub all_told : Option PathDone → List Packet
 all_told None = []
@@ -55,9 +56,12 @@ abbrev pub HandsOne : Option PathDone → ℕ → List (Side Packet) → Bool �
 HandsOne None place olds given news = (given ≡ false) × (news ≡ olds)
 HandsOne (Some done) place olds given news = (given ≡ true) × HandsIn olds place (all_sent done.token) news
 
--- a stream had a history that was closed, of which these packets arrived and these marks were sent
-pub record HasEnded (stream : Stream) (open_at : ℤ) (lists : List (List Packet)) (result : StreamResult) (marks : List MarkView) : Type 0 where
+-- after these events a stream made turns that go by its clock, and was closed; of its whole history these packets arrived, and these marks were sent
+pub record HasEnded {C : Type 0} (clock_told : C → List ℤ) (stream : Stream) (open_at : ℤ) (s : TimedStream C) (events : List Event) (lists : List (List Packet)) (result : StreamResult) (marks : List MarkView) : Type 0 where
+  pub turns : List (List Event)
+  pub timed : GoByClock stream open_at (producer_capacity s.end.marks) s.now (clock_told s.clock) events turns
   pub before : List Event
+  pub before_is : before ≡ events ++ events_in turns
   pub open_before : is_closed before ≡ false
   pub well_timed : is_well_timed open_at (before ++ Close ∷ []) ≡ true
   pub arrived : HaveArrived stream 0 lists before
@@ -65,18 +69,18 @@ pub record HasEnded (stream : Stream) (open_at : ℤ) (lists : List (List Packet
   pub counts : tally_of result.counts.merge ≡ counts_of stream open_at (before ++ Close ∷ []) (marks_of stream open_at (before ++ Close ∷ []))
 
 -- a stream came to its end, where its paths came to these results; without a token nothing is said
-pub record EndsStream (s : StreamEnd) (results : List PathResult) (result : StreamResult) : Type 0 where
+pub record EndsStream {C : Type 0} (clock_told : C → List ℤ) (s : TimedStream C) (results : List PathResult) (result : StreamResult) : Type 0 where
   pub paths : result.counts.paths.items ≡ map (λ (r : PathResult). r.counts) results
   pub faults : vec_len result.faults ≡ length results
-  pub token : IfSome result.done (λ done. SameRing s.marks.end done.token.end)
+  pub token : IfSome result.done (λ done. SameRing s.end.marks.end done.token.end)
   pub given : IfSome result.done (λ done. PathsGiveTokens results)
-  pub ended : IfSome result.done (λ done. (stream : Stream) (open_at : ℤ) (events : List Event) → StreamHasHistory stream open_at s events
-      → HasEnded stream open_at (map told_by results) result (all_sent done.token))
+  pub ended : IfSome result.done (λ done. (stream : Stream) (open_at : ℤ) (events : List Event) → StreamHasHistory stream open_at s.end events
+      → HasEnded clock_told stream open_at s events (map told_by results) result (all_sent done.token))
 
 -- a stream's whole history, of which these are all marks
-pub record HasMarks (open_at : ℤ) (stream : Stream) (told : List (List Answer)) (result : StreamResult) (marks : List MarkView) : Type 0 where
+pub record HasMarks (open_at : ℤ) (places : ℕ) (stream : Stream) (told : List (List Answer)) (clock : List ℤ) (result : StreamResult) (marks : List MarkView) : Type 0 where
   pub events : List Event
-  pub history : HasStreamHistory open_at stream told result.counts events
+  pub history : HasStreamHistory open_at places stream told clock result.counts events
   pub marks_are : marks ≡ marks_of stream open_at events
 
 module _ {F : Type 0} where
@@ -113,8 +117,8 @@ module _ {F C : Type 0} where
   AllReady (job ∷ jobs) = IsReady job × AllReady jobs
 
   -- what a stream's worker came to: a number of faults for each path, and the token of its end, which tells all marks of a whole history
-  pub record IsStreamResult (told : F → List Answer) (job : StreamJob F C) (result : StreamResult) : Type 0 where
+  pub record IsStreamResult (told : F → List Answer) (clock_told : C → List ℤ) (job : StreamJob F C) (result : StreamResult) : Type 0 where
     pub faults : vec_len result.faults ≡ length job.paths.items
     pub token : IfSome result.done (λ done. SameRing job.end.marks.end done.token.end)
     pub history : IfSome result.done (λ done. (stream : Stream) (open_at : ℤ) (places : ℕ) → IsFreshStream open_at places stream (ends_of job.paths.items) job.end
-        → HasMarks open_at stream (told_of told job.paths.items) result (all_sent done.token))
+        → HasMarks open_at (producer_capacity job.end.marks) stream (told_of told job.paths.items) (clock_told job.clock) result (all_sent done.token))

@@ -1,6 +1,6 @@
 -- What the turns of a stream's worker come to.
 use Rattle.std.specs.Prelude.{◌≡◌, ℕ, suc, ◌≤◌, true, false, List, [], ◌∷◌, ◌++◌, ℤ, IfSome}
-use Rattle.rtrb.specs.Ring.{all_sent, sent, SameConsumer, SameProducer}
+use Rattle.rtrb.specs.Ring.{all_sent, sent, producer_capacity, SameConsumer, SameProducer}
 use Rattle.stream_rules.specs.declared.stream_spec.Stream.{Stream}
 use Rattle.stream_rules.specs.History.{is_closed}
 use Rattle.stream_rules.specs.Marks.{marks_of}
@@ -11,6 +11,8 @@ use Rattle.studio_rings.specs.Fitting.{fitting}
 use Rattle.studio_rings.specs.Streams.{StreamHasHistory, packets_by}
 use Rattle.studio_rings.specs.declared.side.Side.{Side}
 use Rattle.studio_rings.specs.declared.stream_end.StreamEnd.{StreamEnd}
+use Rattle.studio_workers.specs.Clocks.{GoByClock, events_in}
+use Rattle.studio_workers.specs.declared.timed_stream.TimedStream.{TimedStream}
 
 module _ {T : Type 0} where
   -- each ring is the one that it was
@@ -31,15 +33,6 @@ module _ {T : Type 0} where
   abbrev pub KeepsTokens : List (Side T) → List (Side T) → Type 0
   KeepsTokens olds news = (lists : List (List T)) → HaveTold olds lists → HaveTold news lists
 
--- an end that is not closed went on: its history grew
-pub record GoesOn (s t : StreamEnd) : Type 0 where
-  pub rings : AreSameRings s.sides.items t.sides.items
-  pub marks : SameProducer s.marks t.marks
-  pub spec : t.spec ≡ s.spec
-  pub still_open : t.merge.closed ≡ false
-  pub more : Stream → List Event
-  pub stands : (stream : Stream) (open_at : ℤ) (events : List Event) → StreamHasHistory stream open_at s events → StreamHasHistory stream open_at t (events ++ more stream)
-
 -- the arrivals are just these packets, path by path from this one on: those that have the stream's length
 abbrev pub HaveArrived : Stream → ℕ → List (List Packet) → List Event → Type 0
 HaveArrived stream path [] events = (other : ℕ) → path ≤ other → packets_by other events ≡ []
@@ -53,18 +46,34 @@ pub record Closes (s t : StreamEnd) : Type 0 where
   pub arrived : (stream : Stream) (open_at : ℤ) (events : List Event) (lists : List (List Packet)) → HaveTold s.sides.items lists
       → StreamHasHistory stream open_at s events → HaveArrived stream 0 lists events
 
--- an end has a history that was closed, and before the close these packets arrived
-pub record HasClosedHistory (stream : Stream) (open_at : ℤ) (t : StreamEnd) (lists : List (List Packet)) : Type 0 where
-  pub before : List Event
-  pub open_before : is_closed before ≡ false
-  pub stands : StreamHasHistory stream open_at t (before ++ Close ∷ [])
-  pub arrived : HaveArrived stream 0 lists before
+module _ {C : Type 0} where
+  -- a stream that is not closed went on: its history grew by turns that go by its clock
+  pub record GoesOn (told : C → List ℤ) (s t : TimedStream C) : Type 0 where
+    pub rings : AreSameRings s.end.sides.items t.end.sides.items
+    pub marks : SameProducer s.end.marks t.end.marks
+    pub spec : t.end.spec ≡ s.end.spec
+    pub turns : Stream → List (List Event)
+    pub stands : (stream : Stream) (open_at : ℤ) (events : List Event)
+        → StreamHasHistory stream open_at s.end events → StreamHasHistory stream open_at t.end (events ++ events_in (turns stream))
+    pub timed : (stream : Stream) (open_at : ℤ) (events : List Event) (places : ℕ) (later : List (List Event))
+        → StreamHasHistory stream open_at s.end events → producer_capacity s.end.marks ≡ places
+        → GoByClock stream open_at places t.now (told t.clock) (events ++ events_in (turns stream)) later
+        → GoByClock stream open_at places s.now (told s.clock) events (turns stream ++ later)
 
--- an end went on, and was closed once all that the tokens tell had arrived
-pub record ClosesLater (s t : StreamEnd) : Type 0 where
-  pub marks : SameProducer s.marks t.marks
-  pub history : (stream : Stream) (open_at : ℤ) (events : List Event) (lists : List (List Packet)) → HaveTold s.sides.items lists
-      → StreamHasHistory stream open_at s events → HasClosedHistory stream open_at t lists
+module _ {C : Type 0} where
+  -- after these events the stream made turns that go by its clock, these packets had arrived, and its end was closed
+  pub record HasClosedHistory (told : C → List ℤ) (stream : Stream) (open_at : ℤ) (s : TimedStream C) (events : List Event) (t : StreamEnd) (lists : List (List Packet)) : Type 0 where
+    pub turns : List (List Event)
+    pub timed : GoByClock stream open_at (producer_capacity s.end.marks) s.now (told s.clock) events turns
+    pub open_before : is_closed (events ++ events_in turns) ≡ false
+    pub arrived : HaveArrived stream 0 lists (events ++ events_in turns)
+    pub stands : StreamHasHistory stream open_at t ((events ++ events_in turns) ++ Close ∷ [])
+
+  -- a stream went on, and was closed once all that the tokens tell had arrived
+  pub record ClosesLater (told : C → List ℤ) (s : TimedStream C) (t : StreamEnd) : Type 0 where
+    pub marks : SameProducer s.end.marks t.marks
+    pub history : (stream : Stream) (open_at : ℤ) (events : List Event) (lists : List (List Packet)) → HaveTold s.end.sides.items lists
+        → StreamHasHistory stream open_at s.end events → HasClosedHistory told stream open_at s events t lists
 
 -- an end handed on all marks that its history has
 pub record Drains (s t : StreamEnd) : Type 0 where

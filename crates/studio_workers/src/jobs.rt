@@ -58,7 +58,7 @@ fn stream_job<F: Drop, C: Drop>(
     clock: C,
     paths: Vec<PathJob<F>>,
 ) -> Result<StreamJob<F, C>, AllocError>
-    ensures parts { IfOk result (λ job. (job.end ≡ end) × (job.paths ≡ paths)) }
+    ensures parts { IfOk result (λ job. (job.end ≡ end) × (job.clock ≡ clock) × (job.paths ≡ paths)) }
     ensures room { IfOk result (λ job. HasRoom job) }
 {
     let count = paths.len();
@@ -88,7 +88,7 @@ pub(crate) fn stream_jobs<F: Drop, C: Drop>(
     requires streams { (open_at : ℤ) × (places : ℕ) × (specs : List Stream) × AllFreshStreams open_at places specs paths.items streams.items }
     requires feeds { length feeds.items ≡ length paths.items }
     requires clocks { length clocks.items ≡ length streams.items }
-    ensures jobs { IfOk result (λ jobs. AreJobsOf paths.items feeds.items streams.items jobs.items) }
+    ensures jobs { IfOk result (λ jobs. AreJobsOf paths.items feeds.items clocks.items streams.items jobs.items) }
     ensures room { IfOk result (λ jobs. HaveRoom jobs.items) }
     ensures count { IfOk result (λ jobs. vec_len jobs ≡ vec_len streams) }
 {

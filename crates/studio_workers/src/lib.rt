@@ -25,6 +25,7 @@ mod stream_job;
 mod stream_nest;
 mod stream_worker;
 mod timed_stream;
+mod timed_turn;
 
 pub use clock::Clock;
 pub use feed::{Feed, FeedAnswer};

@@ -27,7 +27,7 @@ fn run_turns<R: Wait, C: Clock>(
     ended: &[AtomicBool],
     stop: &AtomicBool,
 ) -> TimedStream<C>
-    ensures { GoesOn stream.end result.end }
+    ensures { GoesOn C.told stream result }
 {
     let mut stream = stream;
     for _ in rt.forever() {
@@ -63,7 +63,7 @@ pub(crate) fn run_paths<R: Threads + Wait + Sync, F: Feed + Send, C: Clock>(
     requires room { vec_len results + vec_len jobs ≤ vec_capacity results }
     requires flags { vec_len jobs ≤ length ended.now }
     ensures results { IfOk result (λ r. (own : List PathResult) × (r.0.items ≡ results.items ++ own) × AllZip (IsPathResult F.told) jobs.items own) }
-    ensures stream { IfOk result (λ r. GoesOn stream.end r.1.end) }
+    ensures stream { IfOk result (λ r. GoesOn C.told stream r.1) }
     ensures len { IfOk result (λ r. vec_len r.0 ≡ vec_len results + vec_len jobs) }
     ensures capacity { IfOk result (λ r. vec_capacity r.0 ≡ vec_capacity results) }
 {
@@ -85,7 +85,7 @@ pub(crate) fn run_paths<R: Threads + Wait + Sync, F: Feed + Send, C: Clock>(
             requires flags { vec_len jobs ≤ length ended.now }
             requires promise { promise.job.value ≡ job }
             ensures results { IfOk result (λ r. (own : List PathResult) × (r.0.items ≡ results.items ++ own) × AllZip (IsPathResult F.told) (jobs.items ++ job ∷ []) own) }
-            ensures stream { IfOk result (λ r. GoesOn stream.end r.1.end) }
+            ensures stream { IfOk result (λ r. GoesOn C.told stream r.1) }
             ensures len { IfOk result (λ r. vec_len r.0 ≡ vec_len results + vec_len jobs + 1) }
             ensures capacity { IfOk result (λ r. vec_capacity r.0 ≡ vec_capacity results) }
         {

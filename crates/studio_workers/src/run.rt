@@ -48,7 +48,7 @@ fn take_memory<F: Drop, C: Drop>(
     requires streams { (open_at : ℤ) × (places : ℕ) × (specs : List Stream) × AllFreshStreams open_at places specs paths.items streams.items }
     requires feeds { length feeds.items ≡ length paths.items }
     requires clocks { length clocks.items ≡ length streams.items }
-    ensures jobs { IfOk result (λ m. AreJobsOf paths.items feeds.items streams.items m.jobs.items × HaveRoom m.jobs.items) }
+    ensures jobs { IfOk result (λ m. AreJobsOf paths.items feeds.items clocks.items streams.items m.jobs.items × HaveRoom m.jobs.items) }
     ensures results { IfOk result (λ m. (vec_len m.results ≡ 0) × (vec_len m.jobs ≤ vec_capacity m.results)) }
     ensures ended { IfOk result (λ m. vec_len m.ended ≡ vec_len m.jobs) }
     ensures dones { IfOk result (λ m. (vec_len m.parts.dones ≡ 0) × (vec_len m.jobs ≤ vec_capacity m.parts.dones)) }
@@ -121,7 +121,7 @@ pub fn run_workers<R: Threads + Wait + Sync, F: Feed + Send, C: Clock + Send, K:
     ensures balance { IfOk result (λ r. Balances r.0.blocks r.0.sent_a r.0.fault_a r.0.sent_b r.0.fault_b) }
     ensures faults { IfOk result (λ r. length r.0.feed_faults.items ≡ length feeds.items) }
     ensures settled { IfOk result (λ r. r.0.settled ≡ true → (studio : Studio) (places : ℕ) → AreOpenedTogether studio places ends
-        → IsSettledRun studio (map F.told feeds.items) r.0 (K.handed sink) (K.handed r.1)) }
+        → IsSettledRun studio places (map F.told feeds.items) (map C.told clocks.items) r.0 (K.handed sink) (K.handed r.1)) }
 {
     let Ends {
         paths,

@@ -27,7 +27,7 @@ struct StreamPromise<F, C> {
 }
 
 impl<F: Feed, C: Clock> Promise<Result<StreamResult, Stopped>> for StreamPromise<F, C> {
-    ghost kept_by = { λ p r. IfOk r (λ result. IsStreamResult F.told p.job.value result) };
+    ghost kept_by = { λ p r. IfOk r (λ result. IsStreamResult F.told C.told p.job.value result) };
 }
 
 /// The last job.
@@ -55,7 +55,7 @@ pub(crate) fn run_streams<R: Threads + Wait + Sync, F: Feed + Send, C: Clock + S
     requires ready { AllReady jobs.items }
     requires room { vec_len results + vec_len jobs ≤ vec_capacity results }
     requires flags { vec_len jobs ≤ length ended.now }
-    ensures results { IfOk result (λ r. (own : List StreamResult) × (r.0.items ≡ results.items ++ own) × AllZip (IsStreamResult F.told) jobs.items own) }
+    ensures results { IfOk result (λ r. (own : List StreamResult) × (r.0.items ≡ results.items ++ own) × AllZip (IsStreamResult F.told C.told) jobs.items own) }
     ensures mixes { IfOk result (λ r. Mixes K.handed mix sink 0 true r.1.end r.1.sink r.1.counts.blocks) }
     ensures len { IfOk result (λ r. vec_len r.0 ≡ vec_len results + vec_len jobs) }
     ensures capacity { IfOk result (λ r. vec_capacity r.0 ≡ vec_capacity results) }
@@ -79,7 +79,7 @@ pub(crate) fn run_streams<R: Threads + Wait + Sync, F: Feed + Send, C: Clock + S
             requires room { vec_len results + vec_len jobs + 1 ≤ vec_capacity results }
             requires flags { vec_len jobs ≤ length ended.now }
             requires promise { promise.job.value ≡ job }
-            ensures results { IfOk result (λ r. (own : List StreamResult) × (r.0.items ≡ results.items ++ own) × AllZip (IsStreamResult F.told) (jobs.items ++ job ∷ []) own) }
+            ensures results { IfOk result (λ r. (own : List StreamResult) × (r.0.items ≡ results.items ++ own) × AllZip (IsStreamResult F.told C.told) (jobs.items ++ job ∷ []) own) }
             ensures mixes { IfOk result (λ r. Mixes K.handed mix sink 0 true r.1.end r.1.sink r.1.counts.blocks) }
             ensures len { IfOk result (λ r. vec_len r.0 ≡ vec_len results + vec_len jobs + 1) }
             ensures capacity { IfOk result (λ r. vec_capacity r.0 ≡ vec_capacity results) }
@@ -89,7 +89,7 @@ pub(crate) fn run_streams<R: Threads + Wait + Sync, F: Feed + Send, C: Clock + S
                 move || -> Result<StreamResult, Stopped>
                     requires sync { IsSync R.row }
                     requires own { IsReady job }
-                    ensures { IfOk result (λ r. IsStreamResult F.told job r) }
+                    ensures { IfOk result (λ r. IsStreamResult F.told C.told job r) }
                 { run_stream(rt, job, flag, stop) },
             ) else {
                 stop.store(true, Ordering::SeqCst);

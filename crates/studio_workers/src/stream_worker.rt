@@ -22,7 +22,7 @@ const DRAIN_PAUSE: u64 = 2_000;
 /// Hands in the token of the path at a place, and says whether it gave one.
 fn hand_in_one<C: Clock>(stream: &mut TimedStream<C>, place: usize, done: Option<PathDone>) -> bool
     requires { FitsAt done place stream.old.end.sides.items }
-    ensures later { GoesOn stream.old.end stream.new.end }
+    ensures later { GoesOn C.told stream.old stream.new }
     ensures handed { HandsOne done place stream.old.end.sides.items result stream.new.end.sides.items }
 {
     match done {
@@ -45,7 +45,7 @@ fn hand_in<C: Clock>(
     requires tokens { AllTokensFit results.items stream.old.end.sides.items }
     requires counts { (vec_len counts.old ≡ 0) × (vec_len results ≤ vec_capacity counts.old) }
     requires faults { (vec_len faults.old ≡ 0) × (vec_len results ≤ vec_capacity faults.old) }
-    ensures later { GoesOn stream.old.end stream.new.end }
+    ensures later { GoesOn C.told stream.old stream.new }
     ensures given { result ≡ true → PathsGiveTokens results.items }
     ensures told { result ≡ true → HaveTold stream.new.end.sides.items (map told_by results.items) }
     ensures counts { counts.new.items ≡ map (λ (r : PathResult). r.counts) results.items }
@@ -73,7 +73,7 @@ fn close_when_taken<R: Wait, C: Clock>(
     stream: TimedStream<C>,
     stop: &AtomicBool,
 ) -> Result<StreamEnd, Stopped>
-    ensures { IfOk result (λ end. ClosesLater stream.end end) }
+    ensures { IfOk result (λ end. ClosesLater C.told stream end) }
 {
     let mut stream = stream;
     for _ in rt.forever() {
@@ -120,7 +120,7 @@ fn end_stream<R: Wait, C: Clock>(
     requires tokens { AllTokensFit results.items stream.end.sides.items }
     requires counts { (vec_len counts ≡ 0) × (vec_len results ≤ vec_capacity counts) }
     requires faults { (vec_len faults ≡ 0) × (vec_len results ≤ vec_capacity faults) }
-    ensures { IfOk result (λ r. EndsStream stream.end results.items r) }
+    ensures { IfOk result (λ r. EndsStream C.told stream results.items r) }
 {
     let mut stream = stream;
     let mut counts = counts;
@@ -158,7 +158,7 @@ fn run_parts<R: Threads + Wait + Sync, F: Feed + Send, C: Clock>(
     stop: &AtomicBool,
 ) -> Result<StreamResult, Stopped>
     requires { IsReady job }
-    ensures { IfOk result (λ r. IsStreamResult F.told job r) }
+    ensures { IfOk result (λ r. IsStreamResult F.told C.told job r) }
 {
     let StreamJob {
         end,
@@ -182,7 +182,7 @@ pub(crate) fn run_stream<R: Threads + Wait + Sync, F: Feed + Send, C: Clock>(
     stop: &AtomicBool,
 ) -> Result<StreamResult, Stopped>
     requires { IsReady job }
-    ensures { IfOk result (λ r. IsStreamResult F.told job r) }
+    ensures { IfOk result (λ r. IsStreamResult F.told C.told job r) }
 {
     let result = run_parts(rt, job, stop);
     ended.store(true, Ordering::SeqCst);

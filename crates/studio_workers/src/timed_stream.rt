@@ -1,13 +1,10 @@
 //! A stream's end, with the clock that its turns go by.
-ghost use Rattle.std.specs.Prelude.{◌≡◌, ◌^◌, ◌≤ℤ◌, pos, false, IfOk, IfErr};
-ghost use Rattle.studio_rings.specs.Streams.{TakesTurn};
-ghost use Rattle.studio_workers.specs.Turns.{Closes, GoesOn, KeepsTokens};
+ghost use Rattle.std.specs.Prelude.{◌≡◌, ◌^◌, ◌≤ℤ◌, pos, false};
 
 use crate::clock::Clock;
 use crate::pause::Pause;
 use path_merge::{Counts, StreamSpec};
-use std::sync::Wait;
-use studio_rings::{StopReason, StreamDone, StreamEnd, TurnNote};
+use studio_rings::{StreamDone, StreamEnd};
 
 /// The longest pause after a turn, in microseconds.
 const TURN_PAUSE: u64 = 5_000;
@@ -21,39 +18,14 @@ fn longest_pause(spec: &StreamSpec) -> u64 {
     (spare / 2 * 125 / 6).min(TURN_PAUSE)
 }
 
-/// A turn that no clock fault refuses.
-fn turn_at(end: &mut StreamEnd, now: i64) -> TurnNote
-    requires open_yet { end.old.merge.closed ≡ false }
-    requires low { end.old.merge.time ≤ℤ now }
-    requires high { now ≤ℤ pos (2 ^ 60) }
-    ensures { TakesTurn end.old now result end.new }
-{
-    match end.turn(now) {
-        Ok(note) => note,
-        Err(_) => unreachable!(),
-    }
-}
-
-/// Rests where a turn at this time left nothing to do before packets come or time passes, and longer
-/// while none come.
-fn rest_after<R: Wait>(rt: &R, pause: &mut Pause, now: i64, note: &TurnNote) {
-    if note.from.iter().any(|count| *count > 0) {
-        pause.restart();
-    }
-    let more = note.from.iter().any(|count| *count == 64);
-    if !more && note.why_stopped != StopReason::Batch {
-        pause.rest_in_step(rt, now);
-    }
-}
-
 /// A stream's end that is not closed, with its clock.
 #[derive(Drop)]
 pub(crate) struct TimedStream<C> {
     pub(crate) end: StreamEnd,
-    clock: C,
+    pub(crate) clock: C,
     /// The greatest answer of the clock so far, from the opening time to 2^60.
-    now: i64,
-    pause: Pause,
+    pub(crate) now: i64,
+    pub(crate) pause: Pause,
     ghost open_yet: { end.merge.closed ≡ false },
     ghost not_before: { end.merge.time ≤ℤ now },
     ghost not_after: { now ≤ℤ pos (2 ^ 60) },
@@ -63,7 +35,7 @@ impl<C: Clock> TimedStream<C> {
     pub(crate) fn new(end: StreamEnd, clock: C) -> TimedStream<C>
         requires open_yet { end.merge.closed ≡ false }
         requires in_time { end.merge.time ≤ℤ pos (2 ^ 60) }
-        ensures { result.end ≡ end }
+        ensures { (result.end ≡ end) × (result.clock ≡ clock) × (result.now ≡ end.merge.time) }
     {
         let pause = Pause::up_to(longest_pause(end.spec()));
         let now = end.time();
@@ -72,41 +44,6 @@ impl<C: Clock> TimedStream<C> {
             clock,
             now,
             pause,
-        }
-    }
-
-    /// Makes a turn at the greatest answer of the clock so far. It rests where there is nothing to do
-    /// before packets come or time passes.
-    pub(crate) fn turn<R: Wait>(&mut self, rt: &R)
-        ensures later { GoesOn self.old.end self.new.end }
-        ensures tokens { KeepsTokens self.old.end.sides.items self.new.end.sides.items }
-    {
-        self.now = self.clock.now().clamp(self.now, 1 << 60);
-        let note = turn_at(&mut self.end, self.now);
-        rest_after(rt, &mut self.pause, self.now, &note);
-    }
-
-    /// Closes the stream where all that its paths sent was taken.
-    pub(crate) fn try_close(self) -> Result<StreamEnd, TimedStream<C>>
-        ensures closed { IfOk result (λ end. Closes self.end end) }
-        ensures later { IfErr result (λ rest. GoesOn self.end rest.end) }
-        ensures tokens { IfErr result (λ rest. KeepsTokens self.end.sides.items rest.end.sides.items) }
-    {
-        let TimedStream {
-            end,
-            clock,
-            now,
-            pause,
-        } = self;
-        let mut end = end;
-        match end.close() {
-            Ok(()) => Ok(end),
-            Err(_) => Err(TimedStream {
-                end,
-                clock,
-                now,
-                pause,
-            }),
         }
     }
 

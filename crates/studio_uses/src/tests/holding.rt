@@ -136,6 +136,8 @@ impl<'a> CountingClock<'a> {
 }
 
 impl<'a> Clock for CountingClock<'a> {
+    ghost told = { λ clock. [] };
+
     fn now(&mut self) -> i64 {
         self.asked.fetch_add(1, Ordering::SeqCst);
         if self.first.load(Ordering::SeqCst) && self.second.load(Ordering::SeqCst) {

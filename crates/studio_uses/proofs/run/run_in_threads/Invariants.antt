@@ -1,5 +1,6 @@
-use Rattle.std.proofs.Common.{◌≡◌, length, map, take}
+use Rattle.std.proofs.Common.{◌≡◌, length, map, take, drop}
 use Rattle.studio_uses.specs.Told.{told_of}
+use Rattle.studio_uses.specs.declared.memory_clock.MemoryClock.{MemoryClock}
 use Rattle.studio_uses.proofs.run.run_in_threads.Given as goal
 
 -- a feed for each list of datagrams so far
@@ -9,6 +10,9 @@ invariant-loop-path g l = record {
   count : length l.feeds.items ≡ l.path-index;
 }
 
--- a clock for each stream so far
+-- a clock for each stream so far, with all readings
 abbrev pub invariant-loop : goal.invariant-loop
-invariant-loop g l = length l.clocks.items ≡ l.counter
+invariant-loop g l = record {
+  told : map (λ (clock : MemoryClock). drop clock.next clock.readings.now) l.clocks.items ≡ map (λ _. l.readings) l.clocks.items;
+  count : length l.clocks.items ≡ l.counter;
+}

@@ -42,13 +42,16 @@ loop-end-preserved g c =
     let owned = c.in_ok-own.ensures.count in
     let ok = own.ok.0 in
     let many : length own.items ≡ end.spec.paths = omega (arith, count, owned, ok) in
-    let paths_are : job.paths ≡ own = c.in_ok-job.ensures.parts.1 in
+    let paths_are : job.paths ≡ own = c.in_ok-job.ensures.parts.2 in
     let many' : length job.paths.items ≡ end.spec.paths = rw paths_are many in
     let ends_are : into_iter_items at.paths ≡ ends_of job.paths.items ++ into_iter_items c.next_paths.new.ends = rw paths_are c.in_ok-own.ensures.ends in
     let feeds_are : into_iter_items at.feeds ≡ feeds_in job.paths.items ++ into_iter_items c.next_paths.new.feeds = rw paths_are c.in_ok-own.ensures.feeds in
     let gone = c.in-Some.ensures.steps.1 in
     let items = ap length c.in-Some.ensures.steps.0 in
     let clock = c.in-Some-next.ensures.cases.1 in
+    let clock_items = ap length c.in-Some-next.ensures.cases.0 in
+    let clocks_len = at.invariant.clocks_len in
+    let clocks_are : into_iter_items at.clocks ≡ job.clock ∷ into_iter_items c.next-in-loop-end.new.self = rw c.in_ok-job.ensures.parts.1 c.in-Some-next.ensures.cases.0 in
     let left = c.in_ok-own.ensures.left in
     let left_ends = left.0 in
     let left_feeds = left.1 in
@@ -63,16 +66,17 @@ loop-end-preserved g c =
     let feeds_sum = ap length c.in_ok-own.ensures.feeds in
     record {
       made =
-          subst (λ (l : List (StreamJob g.row.F.Denot g.row.C.Denot)). MakesJobs (into_iter_items c.into_iter-paths.result) (into_iter_items c.into_iter-feeds.result) (into_iter_items c.into_iter-end-iterator.result) l (into_iter_items c.next_paths.new.ends) (into_iter_items c.next_paths.new.feeds) (into_iter_items c.next.new.self)) (sym c.push_reserved.ensures.items)
-          (makes-one _ _ _ at.jobs.items job _ _ _ _ end (into_iter_items c.next.new.self)
-          (subst (λ (l : List StreamEnd). MakesJobs (into_iter_items c.into_iter-paths.result) (into_iter_items c.into_iter-feeds.result) (into_iter_items c.into_iter-end-iterator.result) at.jobs.items (into_iter_items at.paths) (into_iter_items at.feeds) l) c.in-Some.ensures.steps.0 at.invariant.made)
-          ends_are feeds_are c.in_ok-job.ensures.parts.0 many');
+          subst (λ (l : List (StreamJob g.row.F.Denot g.row.C.Denot)). MakesJobs (into_iter_items c.into_iter-paths.result) (into_iter_items c.into_iter-feeds.result) (into_iter_items c.into_iter-clocks.result) (into_iter_items c.into_iter-end-iterator.result) l (into_iter_items c.next_paths.new.ends) (into_iter_items c.next_paths.new.feeds) (into_iter_items c.next-in-loop-end.new.self) (into_iter_items c.next.new.self)) (sym c.push_reserved.ensures.items)
+          (makes-one _ _ _ _ at.jobs.items job _ _ _ _ _ _ end (into_iter_items c.next.new.self)
+          (subst (λ (l : List StreamEnd). MakesJobs (into_iter_items c.into_iter-paths.result) (into_iter_items c.into_iter-feeds.result) (into_iter_items c.into_iter-clocks.result) (into_iter_items c.into_iter-end-iterator.result) at.jobs.items (into_iter_items at.paths) (into_iter_items at.feeds) (into_iter_items at.clocks) l) c.in-Some.ensures.steps.0 at.invariant.made)
+          ends_are feeds_are clocks_are c.in_ok-job.ensures.parts.0 many');
       room = subst (λ (l : List (StreamJob g.row.F.Denot g.row.C.Denot)). HaveRoom l) (sym c.push_reserved.ensures.items) (room-more at.jobs.items job at.invariant.room c.in_ok-job.ensures.room);
       fresh = fresh-left _ _ own.items end _ fresh c.in_ok-own.ensures.ends many;
       ends_len = omega (arith, gone, items, ends_len);
       paths_len = omega (arith, left_ends, paths_len, ends_sum, owned, ok, length-append (ends_of own.items) (into_iter_items c.next_paths.new.ends), map_length (λ (p : PathJob g.row.F.Denot). p.end) own.items);
       feeds_len = omega (arith, left_feeds, feeds_len, feeds_sum, owned, ok, length-append (feeds_in own.items) (into_iter_items c.next_paths.new.feeds), map_length (λ (p : PathJob g.row.F.Denot). p.feed) own.items);
       feeds_too = omega (arith, left_ends, left_feeds, feeds_too);
+      clocks_len = omega (arith, clock, clock_items, clocks_len);
       clocks = omega (arith, gone, clock, clocks);
       count = omega (arith, gone, made_count, pushed);
       places = c.push_reserved.ensures.capacity ∙ at.invariant.places;
@@ -91,6 +95,9 @@ returns-clause-jobs g c =
     let no_paths : into_iter_items at.paths ≡ [] = none_fresh fresh.0 fresh.1 fresh.2 _ fresh.3 in
     let zero = ap length no_paths in
     let no_feeds : into_iter_items at.feeds ≡ [] = no_items _ (omega (arith, zero, feeds_len, feeds_too, paths_len)) in
-    let made : MakesJobs c.args.paths.items c.args.feeds.items c.args.streams.items at.jobs.items (into_iter_items at.paths) (into_iter_items at.feeds) (into_iter_items at.end-iterator) =
-    rw (← c.into_iter-paths.ensures.rest, ← c.into_iter-feeds.ensures.rest, ← c.into_iter-end-iterator.ensures.into_iter_gives.0) at.invariant.made in
-    makes-all _ _ _ at.jobs.items _ _ _ made no_paths no_feeds no_ends
+    let clocks = at.invariant.clocks in
+    let clocks_len = at.invariant.clocks_len in
+    let no_clocks : into_iter_items at.clocks ≡ [] = no_items _ (omega (arith, none, clocks, clocks_len)) in
+    let made : MakesJobs c.args.paths.items c.args.feeds.items c.args.clocks.items c.args.streams.items at.jobs.items (into_iter_items at.paths) (into_iter_items at.feeds) (into_iter_items at.clocks) (into_iter_items at.end-iterator) =
+    rw (← c.into_iter-paths.ensures.rest, ← c.into_iter-feeds.ensures.rest, ← c.into_iter-clocks.ensures.rest, ← c.into_iter-end-iterator.ensures.into_iter_gives.0) at.invariant.made in
+    makes-all _ _ _ _ at.jobs.items _ _ _ _ made no_paths no_feeds no_clocks no_ends

@@ -6,7 +6,7 @@ use Rattle.studio_workers.proofs.stream_nest.+fn-run_streams-scope+run_streams.G
 pub scope-returns : goal.scope-returns
 scope-returns g t c =
     let w = c.in_ok-all.ensures.results in
-    let r : IsStreamResult g.F.Feed.told c.captures.job c.in_ok-result.field-0 = rw (← c.requires.promise, ← c.in-Ok.ensures.ok) c.in_ok-result.ensures in record {
+    let r : IsStreamResult g.F.Feed.told g.C.Clock.told c.captures.job c.in_ok-result.field-0 = rw (← c.requires.promise, ← c.in-Ok.ensures.ok) c.in_ok-result.ensures in record {
       results = (w.0 ++ c.in_ok-result.field-0 ∷ [], c.push_reserved.ensures.items ∙ (ap (λ l. l ++ c.in_ok-result.field-0 ∷ []) w.1 ∙ append_assoc c.captures.results.items w.0 (c.in_ok-result.field-0 ∷ [])), zip-snoc _ c.captures.jobs.items w.0 c.captures.job c.in_ok-result.field-0 w.2 r);
       mixes = c.in_ok-all.ensures.mixes;
       len = search rules;

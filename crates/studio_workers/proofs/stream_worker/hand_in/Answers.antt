@@ -16,7 +16,7 @@ loop-result-init g c = record {
   room = refl;
   faults = c.requires.faults.0;
   fault_room = refl;
-  later = goes-none _ c.args.stream.now.open_yet;
+  later = goes-none _ _;
   handed = refl;
 }
 
@@ -49,7 +49,7 @@ loop-result-preserved g c =
       room = c.push_reserved.ensures.capacity ∙ at.invariant.room;
       faults = omega (arith, two, faults);
       fault_room = c.push_reserved-in-loop-result.ensures.capacity ∙ at.invariant.fault_room;
-      later = goes-trans _ at.stream.end _ at.invariant.later c.hand_in_one-all.ensures.later;
+      later = goes-trans _ _ at.stream _ at.invariant.later c.hand_in_one-all.ensures.later;
       handed = handed-next _ _ at.yielded _ x _ _ _ at.place at.invariant.place (subst (λ (l : List PathResult). AllTokensFit l c.args.stream.now.end.sides.items) (sym all) c.requires.tokens) at.invariant.handed c.hand_in_one-all.ensures.handed;
     }
 

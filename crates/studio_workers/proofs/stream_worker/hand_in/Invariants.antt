@@ -16,6 +16,6 @@ invariant-loop-result g l = record {
   room : vec_capacity l.counts ≡ vec_capacity l.initial.counts;
   faults : vec_len l.faults ≡ l.place;
   fault_room : vec_capacity l.faults ≡ vec_capacity l.initial.faults;
-  later : GoesOn l.initial.stream.end l.stream.end;
+  later : GoesOn g.C.Clock.told l.initial.stream l.stream;
   handed : AreHandedIn l.all l.yielded l.initial.stream.end.sides.items l.stream.end.sides.items;
 }

@@ -1,3 +1,4 @@
+use Rattle.std.proofs.Common.{◌≡◌, refl, rules, to_z, of_z, w64}
 use Rattle.studio_workers.proofs.StreamTurnLemmas.{arrived-drained, goes-look, is_closed_by, looked-either, same_marks, tokens-looked}
 use Rattle.studio_workers.proofs.timed_stream.TimedStream.try_close.Goals as goal
 
@@ -15,7 +16,8 @@ returns-in-Ok-clause-closed g c =
 pub returns-in-Err-clause-later : goal.returns-in-Err-clause-later
 returns-in-Err-clause-later g c =
     let s = c.args.self.end in
-    goes-look s c.close.new.self (looked-either s c.close.new.self c.in-Err.ensures.rings) c.in-Err.ensures.err c.in-Err.ensures.others.0 c.in-Err.ensures.others.2 c.args.self.open_yet
+    let same : to_z w64 (of_z w64 c.args.self.now) ≡ c.args.self.now = search rules in
+    goes-look g.C.Clock.told c.args.self _ (looked-either s c.close.new.self c.in-Err.ensures.rings) c.in-Err.ensures.err c.in-Err.ensures.others.0 c.in-Err.ensures.others.2 same refl
 
 pub returns-in-Err-clause-tokens : goal.returns-in-Err-clause-tokens
 returns-in-Err-clause-tokens g c =

@@ -5,7 +5,7 @@ pub returns : goal.returns
 returns g c = record {
   run = λ studio places opened. record {
     balance = c.in_ok-report.ensures.balance;
-    settled = λ settled. (_, c.in_ok-report.ensures.settled settled studio places opened);
+    settled = λ settled. (places, _, _, c.in_ok-report.ensures.settled settled studio places opened);
   };
   early = search rules;
 }

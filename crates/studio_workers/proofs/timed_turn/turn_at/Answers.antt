@@ -1,6 +1,6 @@
 use Rattle.std.proofs.Common.{rules, ◌≡◌, to_z, of_z, w64}
 use Rattle.studio_workers.proofs.StreamTurnLemmas.{never}
-use Rattle.studio_workers.proofs.timed_stream.turn_at.Goals as goal
+use Rattle.studio_workers.proofs.timed_turn.turn_at.Goals as goal
 
 pub unreachable-requires : goal.unreachable-requires
 unreachable-requires c =
