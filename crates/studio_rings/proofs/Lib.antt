@@ -4,6 +4,7 @@ pub mod MarkLemmas
 pub mod LookLemmas
 pub mod StreamLemmas
 pub mod CloseLemmas
+pub mod ClockLemmas
 pub mod DrainLemmas
 pub mod TokenLemmas
 pub mod AcceptedLemmas

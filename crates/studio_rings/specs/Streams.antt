@@ -16,6 +16,7 @@ use Rattle.studio_rings.specs.Fitting.{fitting}
 use Rattle.studio_rings.specs.Turns.{AllTakePackets, turn_events}
 use Rattle.studio_rings.specs.declared.side.Side.{Side}
 use Rattle.studio_rings.specs.declared.stream_end.StreamEnd.{StreamEnd}
+use Rattle.studio_rings.specs.declared.turn.StopReason.{StopReason}
 use Rattle.studio_rings.specs.declared.turn.TurnNote.{TurnNote}
 
 -- the packets that arrived by a path, in order
@@ -41,6 +42,22 @@ pub record StreamHasHistory (stream : Stream) (open_at : ℤ) (s : StreamEnd) (e
 abbrev pub ShowsCounts : {A P : Type 0} → Producer Counts A P → Tally → Producer Counts A P → Type 0
 ShowsCounts c counts d =
     ((shown : Counts) × (tally_of shown ≡ counts) × (sent d ≡ sent c ++ shown ∷ [])) ⊎ ((sent d ≡ sent c) × (known_free d ≡ 0))
+
+-- the clock was read and no packet was taken: marks were sent up to a time, or so far as there was room
+pub record ReadsClock (s : StreamEnd) (now : ℤ) (why : StopReason) (t : StreamEnd) : Type 0 where
+  pub sides : t.sides ≡ s.sides
+  pub monitor : t.monitor ≡ s.monitor
+  pub spec : t.spec ≡ s.spec
+  pub marks : ℕ
+  pub more : length (sent t.marks) ≡ length (sent s.marks) + marks
+  pub few : marks ≤ 64
+  pub ring : SameProducer s.marks t.marks
+  pub not_before : s.merge.time ≤ℤ t.merge.time
+  pub not_after : t.merge.time ≤ℤ now
+  pub stop : StopsFor why t.merge.time now marks (known_free t.marks)
+  pub still_open : t.merge.closed ≡ false
+  pub stands : (stream : Stream) (open_at : ℤ) (events : List Event)
+      → StreamHasHistory stream open_at s events → StreamHasHistory stream open_at t (events ++ Tick t.merge.time ∷ [])
 
 pub record TakesTurn (s : StreamEnd) (now : ℤ) (note : TurnNote) (t : StreamEnd) : Type 0 where
   pub taken : List (List Packet)

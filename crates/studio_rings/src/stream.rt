@@ -10,7 +10,8 @@ ghost use Rattle.stream_rules.specs.declared.event.Event.TheVariants.{Close};
 ghost use Rattle.studio_rings.specs.Looks.{AllDrained, AllLookAt, AreOpen};
 ghost use Rattle.stream_rules.specs.Counts.{tally_of};
 ghost use Rattle.path_merge.specs.Clock.{clock_fault_of};
-ghost use Rattle.studio_rings.specs.Streams.{ShowsCounts, StreamHasHistory, TakesTurn};
+ghost use Rattle.path_merge.specs.Steps.{next_deadline_of};
+ghost use Rattle.studio_rings.specs.Streams.{ReadsClock, ShowsCounts, StreamHasHistory, TakesTurn};
 ghost use Rattle.studio_rings.specs.Tokens.{HandsIn};
 
 use crate::drain::drain_marks;
@@ -18,7 +19,7 @@ use crate::look::look_at;
 use crate::path::PathDone;
 use crate::stream_end::StreamEnd;
 use crate::take::take_all;
-use crate::turn::{TurnNote, push_marks};
+use crate::turn::{StopReason, TurnNote, push_marks};
 use path_merge::{ClockFault, Counts, Mark, StreamSpec, clock_fault};
 use rtrb::{Finished, Producer};
 
@@ -65,6 +66,28 @@ impl StreamEnd {
             reached: self.merge.time(),
             why_stopped,
         })
+    }
+
+    /// Takes no packet, and hands on marks up to `now`. By the arrival clock this sets the time of a first
+    /// packet that is taken next.
+    pub fn read_clock(&mut self, now: i64) -> Result<StopReason, ClockFault>
+        ensures read { IfOk result (λ why. ReadsClock self.old now why self.new) }
+        ensures fine { IfOk result (λ why. clock_fault_of self.old.merge.time self.old.merge.closed now ≡ None) }
+        ensures fault { IfErr result (λ fault. clock_fault_of self.old.merge.time self.old.merge.closed now ≡ Some fault) }
+        ensures err { OnErr result (self.new ≡ self.old) }
+    {
+        if let Some(fault) = clock_fault(self.merge.time(), self.merge.closed(), now) {
+            return Err(fault);
+        }
+        let (_, why_stopped) = push_marks(&mut self.marks, &mut self.merge, now);
+        Ok(why_stopped)
+    }
+
+    /// When the next slot is due: never before the first packet, nor after a close.
+    pub fn next_deadline(&self) -> Option<i64>
+        ensures { result ≡ next_deadline_of self.now.merge }
+    {
+        self.merge.next_deadline()
     }
 
     /// The merge's time.

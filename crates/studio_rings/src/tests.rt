@@ -24,6 +24,8 @@ const SECOND: [u8; 30] = [
     12,
 ];
 
+const MEDIA: StreamClock = StreamClock::Media { offset: 0 };
+
 /// One stream of L24 on two paths, in packets of six sampling instants, twelve later; its output is alike.
 fn studio(rt: &impl Abort, alloc: Global) -> Result<StudioSpec, Fail> {
     studio_of(rt, alloc, 8)
@@ -31,12 +33,11 @@ fn studio(rt: &impl Abort, alloc: Global) -> Result<StudioSpec, Fail> {
 
 /// The same, over a window of so many numbers.
 fn studio_of(rt: &impl Abort, alloc: Global, width: u16) -> Result<StudioSpec, Fail> {
-    Ok(studio_in(rt, alloc, width).ok_or("want of memory")?)
+    Ok(studio_in(rt, alloc, MEDIA, width).ok_or("want of memory")?)
 }
 
-/// The same; none where memory is refused.
-fn studio_in(rt: &impl Abort, alloc: Global, width: u16) -> Option<StudioSpec> {
-    let clock = StreamClock::Media { offset: 0 };
+/// The same by a clock; none where memory is refused.
+fn studio_in(rt: &impl Abort, alloc: Global, clock: StreamClock, width: u16) -> Option<StudioSpec> {
     let Ok(spec) = StreamSpec::new(Enc::L24, 1, 6, 96, None, clock, 12, width, 2) else {
         panic!(rt; "a stream")
     };
@@ -349,12 +350,37 @@ fn a_turn_stops_after_64_marks(rt: HostRuntime) -> Result<(), Fail> {
     Ok(())
 }
 
+/// By the arrival clock a first packet has the time of the reading before it: its slot is due twelve later.
+#[test]
+fn a_reading_sets_the_time_of_the_first_packet(rt: HostRuntime) -> Result<(), Fail> {
+    let alloc = rt.alloc();
+    let studio = studio_in(&rt, alloc, StreamClock::Arrival, 8).ok_or("want of memory")?;
+    let mut ends = open(alloc, &studio, 8)?;
+    let (Some(mut path), Some(mut stream)) = (ends.paths.pop(), ends.streams.pop()) else {
+        panic!(rt; "a path and a stream")
+    };
+    assert_eq!(rt; path.offer(&FIRST), Offer::Sent);
+    assert_eq!(rt; stream.read_clock(240).ok(), Some(StopReason::CaughtUp));
+    assert_eq!(rt; stream.next_deadline(), None);
+    let stream = &mut stream;
+    assert_eq!(rt;
+        turn(&rt, stream, 240),
+        (0, 1, 0, 240, StopReason::CaughtUp)
+    );
+    assert_eq!(rt; stream.next_deadline(), Some(252));
+    assert_eq!(rt;
+        turn(&rt, stream, 252),
+        (0, 0, 1, 252, StopReason::CaughtUp)
+    );
+    Ok(())
+}
+
 /// `rt try --test --fail-alloc N` refuses the Nth allocation: the call that meets it says so, and the next succeeds.
 #[test]
 fn each_refused_allocation_is_answered(rt: HostRuntime) -> Result<(), Fail> {
     let alloc = rt.alloc();
-    let studio = studio_in(&rt, alloc, 8)
-        .or_else(|| studio_in(&rt, alloc, 8))
+    let studio = studio_in(&rt, alloc, MEDIA, 8)
+        .or_else(|| studio_in(&rt, alloc, MEDIA, 8))
         .ok_or("with memory again")?;
     match open(alloc, &studio, 3) {
         Ok(ends) => assert_eq!(rt; ends.paths.len(), 2),

@@ -1,11 +1,12 @@
 -- Turns and looks of a stream's end, one after another.
-use Rattle.std.proofs.Common.{◌≡◌, ℕ, suc, ◌+◌, ◌≤◌, ◌^◌, Bool, true, false, List, [], ◌∷◌, ◌++◌, length, ℤ, pos, ◌≤ℤ◌, IfSome, IsSomeAnd, MatchOption, Option, Some, None, refl, sym, ap, subst, ◌∙◌, append_assoc, append-nil, arith, ◌⊎◌, inl, inr}
+use Rattle.std.proofs.Common.{◌≡◌, ℕ, suc, ◌+◌, ◌≤◌, ◌^◌, Bool, true, false, List, [], ◌∷◌, ◌++◌, length, ℤ, pos, ◌≤ℤ◌, Vec, IfSome, IsSomeAnd, MatchOption, Option, Some, None, refl, sym, ap, subst, ◌∙◌, append_assoc, append-nil, arith, ◌⊎◌, inl, inr}
 use Rattle.rtrb.specs.Ring.{all_sent, known_free, producer_capacity, received, sent, SameConsumer, SameProducer}
 use Rattle.rtrb.specs.declared.consumer.Consumer.{Consumer}
 use Rattle.rtrb.specs.declared.finished.Finished.{Finished}
 use Rattle.stream_rules.specs.declared.stream_spec.Stream.{Stream}
 use Rattle.stream_rules.specs.declared.packet.Packet.{Packet}
 use Rattle.stream_rules.specs.declared.event.Event.{Event}
+use Rattle.stream_rules.specs.declared.event.Event.TheVariants.{Tick}
 use Rattle.stream_rules.specs.Marks.{marks_of}
 use Rattle.path_merge.specs.MergeState.{MergeState}
 use Rattle.path_merge.specs.Clock.{clock_fault_of}
@@ -16,7 +17,7 @@ use Rattle.studio_rings.specs.Side.{IsDrained}
 use Rattle.studio_rings.specs.Looks.{AllDrained, AllLookAt}
 use Rattle.studio_rings.specs.Stop.{StopsFor}
 use Rattle.studio_rings.specs.Turns.{AllTakePackets, arrivals_from, turn_events}
-use Rattle.studio_rings.specs.Streams.{AllDelivered, StreamHasHistory, TakesTurn}
+use Rattle.studio_rings.specs.Streams.{AllDelivered, ReadsClock, StreamHasHistory, TakesTurn}
 use Rattle.studio_rings.specs.declared.side.Side.{Side}
 use Rattle.studio_rings.specs.declared.stream_end.StreamEnd.{StreamEnd}
 use Rattle.studio_rings.specs.declared.turn.StopReason.{StopReason}
@@ -25,7 +26,7 @@ use Rattle.studio_rings.specs.declared.turn.TurnNote.{TurnNote}
 use Rattle.studio_rings.proofs.CloseLemmas.{delivered-looked}
 use Rattle.studio_rings.proofs.TurnLemmas.{producers}
 use Rattle.studio_workers.specs.Clocks.{GoByClock, IsTurnAt, TellsTime, events_in, time_with}
-use Rattle.studio_workers.specs.Turns.{AreSameRings, Closes, ClosesLater, GoesOn, HaveArrived, HaveTold, KeepsTokens}
+use Rattle.studio_workers.specs.Turns.{AreSameRings, Closes, ClosesLater, GoesOn, HaveArrived, HaveTold, KeepsTokens, ReadsFirst}
 use Rattle.studio_workers.specs.declared.timed_stream.TimedStream.{TimedStream}
 
 -- rings that are the same as ones that are the same
@@ -90,6 +91,10 @@ rings-taken [] [] (packets ∷ more) h = absurd h
 rings-taken (o ∷ os) [] taken h = absurd h
 rings-taken (o ∷ os) (n ∷ ns) [] h = absurd h
 
+-- where the rings were left as they were first
+pub took-first : (s m t : StreamEnd) (taken : List (List Packet)) → m.sides ≡ s.sides → AllTakePackets m.sides.items t.sides.items taken → AllTakePackets s.sides.items t.sides.items taken
+took-first s m t taken same took = subst (λ (v : Vec (Side Packet) _). AllTakePackets v.items t.sides.items taken) same took
+
 pub tokens-taken : (olds news : List (Side Packet)) (taken : List (List Packet)) → AllTakePackets olds news taken → KeepsTokens olds news
 tokens-taken [] [] [] h lists told = told
 tokens-taken (o ∷ os) (n ∷ ns) (packets ∷ more) h [] told = absurd told
@@ -131,21 +136,49 @@ stopped NoRoom reached now marks free A B h batch room = inr (inr (room h))
 sent_all : (stream : Stream) (open_at : ℤ) (s : StreamEnd) (events : List Event) → s.merge.closed ≡ false → StreamHasHistory stream open_at s events → length (sent s.marks) ≡ length (marks_of stream open_at events)
 sent_all stream open_at s events shut h = h.merge.all_given (sym h.merge.closed ∙ shut)
 
-pub is-turn-at : (stream : Stream) (open_at : ℤ) (places : ℕ) (s t : StreamEnd) (now : ℤ) (note : TurnNote) (events : List Event) (n : TakesTurn s now note t)
-    → s.merge.closed ≡ false → producer_capacity s.marks ≡ places → StreamHasHistory stream open_at s events → IsTurnAt stream open_at places now events (turn_events stream n.taken note.reached)
-is-turn-at stream open_at places s t now note events n shut room h =
-    let turn = turn_events stream n.taken note.reached in
+-- nothing came first, or a reading
+pub first-none : (s : StreamEnd) (now : ℤ) → s.merge.closed ≡ false → s.merge.time ≤ℤ now → ReadsFirst s now s
+first-none s now shut low = record {
+  first = [];
+  sides = refl;
+  ring = ((refl, refl, refl, refl), refl);
+  more = omega arith;
+  spec = refl;
+  still_open = shut;
+  not_after = low;
+  stands = λ stream open_at events h. subst (StreamHasHistory stream open_at s) (sym (append-nil events)) h;
+}
+
+pub first-read : (s t : StreamEnd) (now : ℤ) (why : StopReason) → ReadsClock s now why t → ReadsFirst s now t
+first-read s t now why r = record {
+  first = Tick t.merge.time ∷ [];
+  sides = r.sides;
+  ring = r.ring;
+  more = let e = r.more in omega (arith, e);
+  spec = r.spec;
+  still_open = r.still_open;
+  not_after = r.not_after;
+  stands = r.stands;
+}
+
+pub is-turn-at : (stream : Stream) (open_at : ℤ) (places : ℕ) (s m t : StreamEnd) (now : ℤ) (note : TurnNote) (events : List Event) (f : ReadsFirst s now m) (n : TakesTurn m now note t)
+    → s.merge.closed ≡ false → producer_capacity s.marks ≡ places → StreamHasHistory stream open_at s events → IsTurnAt stream open_at places now events (f.first ++ turn_events stream n.taken note.reached)
+is-turn-at stream open_at places s m t now note events f n shut room h =
+    let turn = f.first ++ turn_events stream n.taken note.reached in
+    let whole : (events ++ f.first) ++ turn_events stream n.taken note.reached ≡ events ++ turn = append_assoc events f.first (turn_events stream n.taken note.reached) in
+    let stands : StreamHasHistory stream open_at t (events ++ turn) = subst (StreamHasHistory stream open_at t) whole (n.stands stream open_at (events ++ f.first) (f.stands stream open_at events h)) in
     let before : length (sent s.marks) ≡ length (marks_of stream open_at events) = sent_all stream open_at s events shut h in
-    let after : length (sent t.marks) ≡ length (marks_of stream open_at (events ++ turn)) = sent_all stream open_at t (events ++ turn) n.still_open (n.stands stream open_at events h) in
-    let gained : length (sent t.marks) ≡ length (sent s.marks) + note.marks = n.marks in
-    let same : t.marks.capacity ≡ s.marks.capacity = n.ring.1 in
+    let after : length (sent t.marks) ≡ length (marks_of stream open_at (events ++ turn)) = sent_all stream open_at t (events ++ turn) n.still_open stands in
+    let first : length (sent s.marks) ≤ length (sent m.marks) = f.more in
+    let gained : length (sent t.marks) ≡ length (sent m.marks) + note.marks = n.marks in
+    let same : t.marks.capacity ≡ s.marks.capacity = n.ring.1 ∙ f.ring.1 in
     let within : t.marks.capacity ≤ t.marks.end.limit = t.marks.counts.0 in
     record {
-      front = arrivals_from stream 0 n.taken;
+      front = f.first ++ arrivals_from stream 0 n.taken;
       reached = note.reached;
-      ends = refl;
+      ends = sym (append_assoc f.first (arrivals_from stream 0 n.taken) (Tick note.reached ∷ []));
       most = n.not_after;
-      caught_up = stopped note.why_stopped note.reached now note.marks (known_free t.marks) _ _ n.stop (λ e. omega (arith, e, before, after, gained)) (λ e. omega (arith, e, after, same, within, room));
+      caught_up = stopped note.why_stopped note.reached now note.marks (known_free t.marks) _ _ n.stop (λ e. omega (arith, e, before, after, first, gained)) (λ e. omega (arith, e, after, same, within, room));
     }
 
 module _ {C : Type 0} (told : C → List ℤ) where
@@ -184,18 +217,23 @@ module _ {C : Type 0} (told : C → List ℤ) where
       whole : (stream : Stream) (events : List Event) → (events ++ events_in (f.turns stream)) ++ events_in (g.turns stream) ≡ events ++ events_in (f.turns stream ++ g.turns stream)
       whole stream events = append_assoc events (events_in (f.turns stream)) (events_in (g.turns stream)) ∙ ap (λ l. events ++ l) (sym (events-joined (f.turns stream) (g.turns stream)))
 
-  -- a turn at the clock's next answer
-  pub goes-turn : (s t : TimedStream C) (answer now : ℤ) (note : TurnNote) → TellsTime (told s.clock) answer (told t.clock) → t.now ≡ time_with s.now answer → now ≡ t.now → TakesTurn s.end now note t.end → GoesOn told s t
-  goes-turn s t answer now note tells is same n = record {
-    rings = rings-taken s.end.sides.items t.end.sides.items n.taken n.took;
-    marks = n.ring;
-    spec = n.spec;
-    turns = λ stream. turn_events stream n.taken note.reached ∷ [];
-    stands = λ stream open_at events h. subst (λ l. StreamHasHistory stream open_at t.end (events ++ l)) (sym (append-nil (turn_events stream n.taken note.reached))) (n.stands stream open_at events h);
-    timed = λ stream open_at events places later h room last.
-        one_more stream open_at places s.now answer t.now (told s.clock) (told t.clock) events (turn_events stream n.taken note.reached) later tells is
-        (subst (λ u. IsTurnAt stream open_at places u events (turn_events stream n.taken note.reached)) same (is-turn-at stream open_at places s.end t.end now note events n s.open_yet room h)) last;
-  }
+  -- a turn at the clock's next answer, and what came first
+  pub goes-turn : (s t : TimedStream C) (m : StreamEnd) (answer first_at now : ℤ) (note : TurnNote) → TellsTime (told s.clock) answer (told t.clock) → t.now ≡ time_with s.now answer → first_at ≡ t.now → now ≡ t.now → ReadsFirst s.end first_at m → TakesTurn m now note t.end → GoesOn told s t
+  goes-turn s t m answer first_at now note tells is first_same same first' n' =
+      let f : ReadsFirst s.end t.now m = subst (λ u. ReadsFirst s.end u m) first_same first' in
+      let n : TakesTurn m t.now note t.end = subst (λ u. TakesTurn m u note t.end) same n' in
+      record {
+        rings = rings-taken s.end.sides.items t.end.sides.items n.taken (took-first s.end m t.end n.taken f.sides n.took);
+        marks = producers s.end.marks m.marks t.end.marks f.ring n.ring;
+        spec = n.spec ∙ f.spec;
+        turns = λ stream. (f.first ++ turn_events stream n.taken note.reached) ∷ [];
+        stands = λ stream open_at events h.
+            subst (StreamHasHistory stream open_at t.end) (append_assoc events f.first (turn_events stream n.taken note.reached) ∙ ap (λ l. events ++ l) (sym (append-nil (f.first ++ turn_events stream n.taken note.reached))))
+            (n.stands stream open_at (events ++ f.first) (f.stands stream open_at events h));
+        timed = λ stream open_at events places later h room last.
+            one_more stream open_at places s.now answer t.now (told s.clock) (told t.clock) events (f.first ++ turn_events stream n.taken note.reached) later tells is
+            (is-turn-at stream open_at places s.end m t.end t.now note events f n s.open_yet room h) last;
+      }
 
   -- a look that found a path open
   pub goes-look : (s t : TimedStream C) → AllLookAt s.end.sides.items t.end.sides.items → t.end.merge ≡ s.end.merge → t.end.marks ≡ s.end.marks → t.end.spec ≡ s.end.spec → t.now ≡ s.now → t.clock ≡ s.clock → GoesOn told s t

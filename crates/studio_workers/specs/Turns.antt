@@ -1,5 +1,5 @@
 -- What the turns of a stream's worker come to.
-use Rattle.std.specs.Prelude.{◌≡◌, ℕ, suc, ◌≤◌, true, false, List, [], ◌∷◌, ◌++◌, ℤ, IfSome}
+use Rattle.std.specs.Prelude.{◌≡◌, ℕ, suc, ◌≤◌, true, false, List, [], ◌∷◌, ◌++◌, length, ℤ, ◌≤ℤ◌, IfSome}
 use Rattle.rtrb.specs.Ring.{all_sent, sent, producer_capacity, SameConsumer, SameProducer}
 use Rattle.stream_rules.specs.declared.stream_spec.Stream.{Stream}
 use Rattle.stream_rules.specs.History.{is_closed}
@@ -45,6 +45,17 @@ pub record Closes (s t : StreamEnd) : Type 0 where
   pub stands : (stream : Stream) (open_at : ℤ) (events : List Event) → StreamHasHistory stream open_at s events → StreamHasHistory stream open_at t (events ++ Close ∷ [])
   pub arrived : (stream : Stream) (open_at : ℤ) (events : List Event) (lists : List (List Packet)) → HaveTold s.sides.items lists
       → StreamHasHistory stream open_at s events → HaveArrived stream 0 lists events
+
+-- before its packets are taken an end had these events: none, or a reading that is no later than this
+pub record ReadsFirst (s : StreamEnd) (now : ℤ) (t : StreamEnd) : Type 0 where
+  pub first : List Event
+  pub sides : t.sides ≡ s.sides
+  pub ring : SameProducer s.marks t.marks
+  pub more : length (sent s.marks) ≤ length (sent t.marks)
+  pub spec : t.spec ≡ s.spec
+  pub still_open : t.merge.closed ≡ false
+  pub not_after : t.merge.time ≤ℤ now
+  pub stands : (stream : Stream) (open_at : ℤ) (events : List Event) → StreamHasHistory stream open_at s events → StreamHasHistory stream open_at t (events ++ first)
 
 module _ {C : Type 0} where
   -- a stream that is not closed went on: its history grew by turns that go by its clock

@@ -1,11 +1,12 @@
 //! A turn of a stream at its clock's time, and its close.
 ghost use Rattle.std.specs.Prelude.{◌≡◌, ◌^◌, ◌≤ℤ◌, pos, false, IfOk, IfErr};
 ghost use Rattle.studio_rings.specs.Streams.{TakesTurn};
-ghost use Rattle.studio_workers.specs.Turns.{Closes, GoesOn, KeepsTokens};
+ghost use Rattle.studio_workers.specs.Turns.{Closes, GoesOn, KeepsTokens, ReadsFirst};
 
 use crate::clock::Clock;
 use crate::pause::Pause;
 use crate::timed_stream::TimedStream;
+use path_merge::StreamClock;
 use std::sync::Wait;
 use studio_rings::{StopReason, StreamEnd, TurnNote};
 
@@ -18,6 +19,22 @@ fn turn_at(end: &mut StreamEnd, now: i64) -> TurnNote
 {
     match end.turn(now) {
         Ok(note) => note,
+        Err(_) => unreachable!(),
+    }
+}
+
+/// Reads the clock before a first packet is taken: by the arrival clock the packet has this time.
+fn read_first(end: &mut StreamEnd, now: i64)
+    requires open_yet { end.old.merge.closed ≡ false }
+    requires low { end.old.merge.time ≤ℤ now }
+    requires high { now ≤ℤ pos (2 ^ 60) }
+    ensures { ReadsFirst end.old now end.new }
+{
+    if end.spec().clock() != StreamClock::Arrival || end.next_deadline().is_some() {
+        return;
+    }
+    match end.read_clock(now) {
+        Ok(_) => {}
         Err(_) => unreachable!(),
     }
 }
@@ -42,6 +59,7 @@ impl<C: Clock> TimedStream<C> {
         ensures tokens { KeepsTokens self.old.end.sides.items self.new.end.sides.items }
     {
         self.now = self.clock.now().clamp(self.now, 1 << 60);
+        read_first(&mut self.end, self.now);
         let note = turn_at(&mut self.end, self.now);
         rest_after(rt, &mut self.pause, self.now, &note);
     }
