@@ -15,6 +15,3 @@ mod schedule;
 pub use matrix::{Matrix, MatrixFault};
 pub use mix::{mix_block, mix_frame};
 pub use schedule::{Schedule, ScheduleFault, mix_span};
-
-#[cfg(test)]
-mod tests;

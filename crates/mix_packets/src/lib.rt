@@ -8,8 +8,6 @@
 mod laws;
 mod out_spec;
 mod packer;
-#[cfg(test)]
-mod tests;
 
 pub use laws::datagrams_count_up;
 pub use out_spec::{OutFault, OutSpec, Output};

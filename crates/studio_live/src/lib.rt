@@ -18,8 +18,6 @@ mod signal;
 mod sink;
 mod standard;
 mod stats;
-#[cfg(test)]
-mod tests;
 mod watch;
 
 pub use clock::{SystemClock, reading_after};
@@ -29,4 +27,5 @@ pub use options::LiveOptions;
 pub use ports::LivePorts;
 pub use report::write_report;
 pub use run::run_studio_live;
+pub use signal::has_ending_signal;
 pub use sink::UdpSink;

@@ -46,8 +46,9 @@ fn read_file(file: i32, octets: &mut [u8; 4096]) -> usize
     count
 }
 
-/// Whether one of the signals that wait for the process asks it to end.
-pub(crate) fn has_ending_signal(status: &str) -> bool {
+/// Whether one of the signals that wait for a process asks it to end, by the text that the system gives of it: its line
+/// `ShdPnd:`.
+pub fn has_ending_signal(status: &str) -> bool {
     for line in status.lines() {
         if let Some(set) = line.strip_prefix("ShdPnd:") {
             return match u64::from_str_radix(set.trim(), 16) {

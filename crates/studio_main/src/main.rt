@@ -1,30 +1,28 @@
-//! The program: lists the marks of a trace or plays it to its report, runs a studio live, or says what a configuration
-//! means.
+//! The program, over the host's words, files and streams.
 #![tactic(auto)]
 
-mod config;
-mod fault;
-mod live;
-mod summary;
-#[cfg(test)]
-mod tests;
-mod words;
-
-use crate::config::{Configs, HostConfigs, config_of, standard_studio, studio_of};
-use crate::fault::Fault;
-use crate::live::run_config;
-use crate::summary::write_summary;
-use crate::words::{Asked, asked_for, told};
 use std::alloc::Global;
-use std::env;
-use std::io::{ErrorKind, Read, Write};
-use std::net::Net;
+use std::io::ErrorKind;
 use std::process::ExitCode;
 use std::rt::Env;
-use std::sync::Wait;
-use std::thread::Threads;
-use std::time::Clock;
-use studio_run::{list_marks, list_marks_and_counts, play};
+use std::{env, fs};
+use studio_commands::{Configs, Fault, run};
+use studio_run::{ReadFault, read_text};
+
+/// The files of the host.
+#[derive(Clone, Copy)]
+struct HostConfigs<'a> {
+    rt: &'a HostRuntime,
+}
+
+impl Configs for HostConfigs<'_> {
+    fn octets(&self, alloc: Global, path: &str) -> Result<Vec<u8>, ReadFault> {
+        let Ok(mut file) = fs::open(self.rt, path) else {
+            return Err(ReadFault::Device);
+        };
+        read_text(alloc, &mut file)
+    }
+}
 
 fn main(rt: HostRuntime) -> ExitCode {
     let alloc = rt.alloc();
@@ -55,63 +53,4 @@ fn words_of(rt: &(impl Env + AllocGlobal)) -> Result<Vec<String>, Fault> {
         words.push(word).map_err(|_| Fault::Memory)?;
     }
     Ok(words)
-}
-
-/// Runs the program: its text goes to `output`, and the line of a fault to `faults`. Answers the
-/// exit status.
-pub fn run<R: Threads + Wait + Sync + Net + Clock, C: Configs, I: Read, W: Write, E: Write + Send>(
-    rt: &R,
-    configs: &C,
-    alloc: Global,
-    words: &[String],
-    input: &mut I,
-    output: &mut W,
-    faults: &mut E,
-) -> u8 {
-    let asked = match asked_for(alloc, words) {
-        Ok(asked) => asked,
-        Err(error) => return told(&error, output, faults),
-    };
-    match answer(rt, configs, alloc, asked, input, output, faults) {
-        Ok(()) => 0,
-        Err(fault) => fault.tell(faults),
-    }
-}
-
-/// Does what the words ask for. Counts that are told beside a listing go where faults go.
-fn answer<R: Threads + Wait + Sync + Net + Clock, C: Configs, I: Read, W: Write, E: Write + Send>(
-    rt: &R,
-    configs: &C,
-    alloc: Global,
-    asked: Asked<'_>,
-    input: &mut I,
-    output: &mut W,
-    faults: &mut E,
-) -> Result<(), Fault> {
-    match asked {
-        Asked::Standard => {
-            let studio = standard_studio(alloc)?;
-            list_marks(alloc, &studio, input, output).map_err(Fault::from)
-        }
-        Asked::Marks(path) => {
-            let studio = studio_of(configs, alloc, path)?;
-            list_marks(alloc, &studio, input, output).map_err(Fault::from)
-        }
-        Asked::MarksAndCounts(path) => {
-            let studio = studio_of(configs, alloc, path)?;
-            list_marks_and_counts(alloc, &studio, input, output, faults).map_err(Fault::from)
-        }
-        Asked::Play(path) => {
-            let studio = studio_of(configs, alloc, path)?;
-            play(alloc, &studio, input, output).map_err(Fault::from)
-        }
-        Asked::Check(path) => {
-            let studio = studio_of(configs, alloc, path)?;
-            write_summary(&studio, output)
-        }
-        Asked::Live(path, options) => {
-            let config = config_of(configs, alloc, path)?;
-            run_config(rt, alloc, config.as_slice(), &options, output, faults)
-        }
-    }
 }

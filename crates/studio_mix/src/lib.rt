@@ -11,8 +11,6 @@ mod lanes;
 mod laws;
 mod lay;
 mod mixer;
-#[cfg(test)]
-mod tests;
 
 pub use laws::ready_blocks_stay;
 pub use mixer::Mixer;

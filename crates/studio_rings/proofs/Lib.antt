@@ -12,4 +12,3 @@ pub mod MixTurnLemmas
 pub mod MixLemmas
 pub mod GivenLemmas
 pub mod OpenLemmas
-pub mod PairLemmas

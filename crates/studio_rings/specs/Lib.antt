@@ -12,7 +12,6 @@ pub mod Given
 pub mod Tokens
 pub mod Opened
 pub mod Opening
-pub mod Paired
 pub use Rattle.rtp_wire.specs.Datagram
 pub use Rattle.stream_rules.specs.StreamSpecFacts
 pub use Rattle.stream_rules.specs.StreamSpec

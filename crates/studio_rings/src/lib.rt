@@ -23,8 +23,6 @@ mod stream;
 mod stream_end;
 mod take;
 mod take_marks;
-#[cfg(test)]
-mod tests;
 mod turn;
 
 pub use ends::{Ends, OpenFault};

@@ -25,8 +25,6 @@ mod running_counts;
 mod studio_counts;
 mod studio_listing;
 mod studio_report;
-#[cfg(test)]
-mod tests;
 mod trace;
 mod traced_events;
 

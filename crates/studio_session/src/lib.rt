@@ -19,8 +19,6 @@ mod session;
 mod source;
 mod studio;
 mod tally;
-#[cfg(test)]
-mod tests;
 
 pub use cursor::Cursor;
 pub use event::{Outline, StudioEvent};

@@ -16,8 +16,4 @@ mod words;
 
 pub use fault::{Kind, Place, SpecError};
 pub use keys::Key;
-#[cfg(test)]
-pub(crate) use output::read_output;
-#[cfg(test)]
-pub(crate) use stream::read_stream;
 pub use top::channel_total;

@@ -12,6 +12,3 @@ mod studio;
 pub use config::{Key, Kind, Place, SpecError, channel_total};
 pub use ports::Ports;
 pub use studio::StudioSpec;
-
-#[cfg(test)]
-mod tests;

@@ -16,8 +16,6 @@ mod mix;
 mod receive;
 mod report;
 mod run;
-#[cfg(test)]
-mod tests;
 
 pub use arrival::Arrival;
 pub use memory_clock::MemoryClock;

@@ -1,0 +1,6 @@
+//! The tests, command by command.
+mod commands;
+mod fakes;
+mod live;
+mod outcome;
+mod statuses;

@@ -1,0 +1,65 @@
+//! Configurations, from the octets of a file to a studio.
+use crate::fault::{ConfigFault, Fault};
+use std::alloc::Global;
+use studio_run::ReadFault;
+use studio_spec::{Kind, SpecError, StudioSpec};
+
+/// The most octets of a configuration.
+const MOST_OCTETS: usize = 1_048_576;
+
+/// Where configurations are read from.
+pub trait Configs {
+    /// The octets of the configuration at a path.
+    fn octets(&self, alloc: Global, path: &str) -> Result<Vec<u8>, ReadFault>;
+}
+
+/// The octets of the configuration at a path.
+pub fn config_of<C: Configs>(configs: &C, alloc: Global, path: &str) -> Result<Vec<u8>, Fault> {
+    configs.octets(alloc, path).map_err(|fault| match fault {
+        ReadFault::Device => Fault::Config(ConfigFault::Unread),
+        ReadFault::TooMany => Fault::Config(ConfigFault::TooLong),
+        ReadFault::Memory => Fault::Memory,
+    })
+}
+
+/// The studio of the configuration at a path.
+pub fn studio_of<C: Configs>(configs: &C, alloc: Global, path: &str) -> Result<StudioSpec, Fault> {
+    let octets = config_of(configs, alloc, path)?;
+    studio_in(alloc, octets.as_slice())
+}
+
+/// The studio that the octets of a configuration say.
+pub fn studio_in(alloc: Global, octets: &[u8]) -> Result<StudioSpec, Fault> {
+    if octets.len() > MOST_OCTETS {
+        return Err(Fault::Config(ConfigFault::TooLong));
+    }
+    let Ok(text) = str::from_utf8(octets) else {
+        return Err(Fault::Config(ConfigFault::NotToml));
+    };
+    let table = toml::table_from_str(alloc, text).map_err(|error| {
+        if error.is_memory() {
+            Fault::Memory
+        } else {
+            Fault::Config(ConfigFault::NotToml)
+        }
+    })?;
+    StudioSpec::from_table(alloc, &table).map_err(fault_of)
+}
+
+/// What is wrong with a studio, or want of memory.
+pub fn fault_of(error: SpecError) -> Fault {
+    if error.kind == Kind::Memory {
+        Fault::Memory
+    } else {
+        Fault::Config(ConfigFault::Studio(error))
+    }
+}
+
+/// The studio of a run without words: one stream of L24, mono, in packets of 6 sampling instants on
+/// two paths.
+pub fn standard_studio(alloc: Global) -> Result<StudioSpec, Fault> {
+    let text = "open_at = 0\n[[stream]]\nencoding = \"L24\"\nchannels = 1\nframes = 6\npt = 96\n\
+        clock = \"media\"\nlatency = 12\nwindow = 8\n[output]\nencoding = \"L24\"\nchannels = 1\n\
+        frames = 6\npt = 97\nssrc = 2\nseq = 0\nstart = 0\ngains = [[65536]]\n";
+    studio_in(alloc, text.as_bytes())
+}

@@ -1,0 +1,72 @@
+//! From the words of a command line to its exit status.
+use crate::config::{Configs, config_of, standard_studio, studio_of};
+use crate::fault::Fault;
+use crate::live::run_config;
+use crate::summary::write_summary;
+use crate::words::{Asked, asked_for, told};
+use std::alloc::Global;
+use std::io::{Read, Write};
+use std::net::Net;
+use std::sync::Wait;
+use std::thread::Threads;
+use std::time::Clock;
+use studio_run::{list_marks, list_marks_and_counts, play};
+
+/// Runs the program: its text goes to `output`, and the line of a fault to `faults`. Answers the
+/// exit status.
+pub fn run<R: Threads + Wait + Sync + Net + Clock, C: Configs, I: Read, W: Write, E: Write + Send>(
+    rt: &R,
+    configs: &C,
+    alloc: Global,
+    words: &[String],
+    input: &mut I,
+    output: &mut W,
+    faults: &mut E,
+) -> u8 {
+    let asked = match asked_for(alloc, words) {
+        Ok(asked) => asked,
+        Err(error) => return told(&error, output, faults),
+    };
+    match answer(rt, configs, alloc, asked, input, output, faults) {
+        Ok(()) => 0,
+        Err(fault) => fault.tell(faults),
+    }
+}
+
+/// Does what the words ask for. Counts that are told beside a listing go where faults go.
+fn answer<R: Threads + Wait + Sync + Net + Clock, C: Configs, I: Read, W: Write, E: Write + Send>(
+    rt: &R,
+    configs: &C,
+    alloc: Global,
+    asked: Asked<'_>,
+    input: &mut I,
+    output: &mut W,
+    faults: &mut E,
+) -> Result<(), Fault> {
+    match asked {
+        Asked::Standard => {
+            let studio = standard_studio(alloc)?;
+            list_marks(alloc, &studio, input, output).map_err(Fault::from)
+        }
+        Asked::Marks(path) => {
+            let studio = studio_of(configs, alloc, path)?;
+            list_marks(alloc, &studio, input, output).map_err(Fault::from)
+        }
+        Asked::MarksAndCounts(path) => {
+            let studio = studio_of(configs, alloc, path)?;
+            list_marks_and_counts(alloc, &studio, input, output, faults).map_err(Fault::from)
+        }
+        Asked::Play(path) => {
+            let studio = studio_of(configs, alloc, path)?;
+            play(alloc, &studio, input, output).map_err(Fault::from)
+        }
+        Asked::Check(path) => {
+            let studio = studio_of(configs, alloc, path)?;
+            write_summary(&studio, output)
+        }
+        Asked::Live(path, options) => {
+            let config = config_of(configs, alloc, path)?;
+            run_config(rt, alloc, config.as_slice(), &options, output, faults)
+        }
+    }
+}

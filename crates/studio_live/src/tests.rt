@@ -1,3 +1,0 @@
-//! Tests, and what they share.
-mod loopback;
-mod signals;

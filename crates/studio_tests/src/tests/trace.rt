@@ -1,0 +1,214 @@
+//! The trace reader: its words, its faults and its limits.
+use super::page::repeated;
+use path_merge::Path;
+use std::alloc::Global;
+use std::test::Fail;
+use studio_run::{StudioEvent, TraceFault, TraceKind, TracedEvents, read_trace};
+use studio_session::{EventSource, MOST_ARRIVAL_OCTETS, Outline};
+
+/// What the reader answers to a text: how many events, or the fault.
+fn events_of(alloc: Global, text: &[u8]) -> Result<usize, TraceFault> {
+    Ok(read_trace(alloc, text)?.len())
+}
+
+/// The same of the events that are left in their text.
+fn places_of(alloc: Global, text: &[u8]) -> Result<usize, TraceFault> {
+    Ok(TracedEvents::new(alloc, text)?.count())
+}
+
+fn fault(line: u32, kind: TraceKind) -> TraceFault {
+    TraceFault { line, kind }
+}
+
+/// Each word of a trace, with the limits of its numbers, digits of both cases, comments and empty lines.
+#[test]
+fn reads_each_word(rt: HostRuntime) -> Result<(), Fail> {
+    let text =
+        "# tick 9\ntick 0\n\ntick 9223372036854775807\na 0 0aFf\nb 15 00\n#\nc 1 7E\nd 10 e700\nclose\n";
+    let events = read_trace(rt.alloc(), text.as_bytes())?;
+    let arrivals = [
+        (2, 0, 0, [0x0a, 0xff].as_slice()),
+        (3, 15, 1, [0x00].as_slice()),
+        (4, 1, 2, [0x7e].as_slice()),
+        (5, 10, 3, [0xe7, 0x00].as_slice()),
+    ];
+    for (place, stream, number, octets) in arrivals {
+        let path = Path::new(number).ok_or("there are four paths")?;
+        let octets = octets.to_vec(rt.alloc())?;
+        let wanted = StudioEvent::Arrive {
+            stream,
+            path,
+            octets,
+        };
+        assert!(rt; events.get(place) == Some(&wanted), "event {place}");
+    }
+    assert!(rt;
+        events.get(0) == Some(&StudioEvent::Tick(0)),
+        "the least time"
+    );
+    assert!(rt;
+        events.get(1) == Some(&StudioEvent::Tick(i64::MAX)),
+        "the greatest time"
+    );
+    assert!(rt; events.get(6) == Some(&StudioEvent::Close), "the close");
+    assert_eq!(rt; events.len(), 7, "comments and empty lines give no event");
+    Ok(())
+}
+
+/// Datagrams for the last streams, with digits of both cases, come out of their lines octet by octet.
+#[test]
+fn datagrams_are_decoded_from_their_places(rt: HostRuntime) -> Result<(), Fail> {
+    let text =
+        "tick 7\n# a comment\na 15 806000050000000300000001000aFf7E80e7000000000001\nclose\nd 0 7E\n";
+    let events = TracedEvents::new(rt.alloc(), text.as_bytes())?;
+    let (a, d) = (
+        Path::new(0).ok_or("four paths")?,
+        Path::new(3).ok_or("four paths")?,
+    );
+    assert_eq!(rt; events.count(), 4, "a comment gives no event");
+    let outlines = [
+        Outline::Tick(7),
+        Outline::Arrive {
+            stream: 15,
+            path: a,
+        },
+        Outline::Close,
+        Outline::Arrive { stream: 0, path: d },
+    ];
+    for (place, wanted) in outlines.iter().enumerate() {
+        assert!(rt; place < events.count(), "place {place}");
+        assert!(rt; events.outline(place) == *wanted, "event {place}");
+    }
+    let mut room = [0; MOST_ARRIVAL_OCTETS];
+    assert_eq!(rt;
+        events.octets(1, &mut room),
+        [
+            0x80, 0x60, 0, 5, 0, 0, 0, 3, 0, 0, 0, 1, 0x00, 0x0a, 0xff, 0x7e, 0x80, 0xe7, 0, 0, 0,
+            0, 0, 1
+        ]
+        .as_slice(),
+        "digits of either case"
+    );
+    assert_eq!(rt;
+        events.octets(3, &mut room),
+        [0x7e].as_slice(),
+        "a shorter one in the same room"
+    );
+    Ok(())
+}
+
+/// Each kind of fault, by the line that it names.
+#[test]
+fn trace_faults(rt: HostRuntime) {
+    let table = [
+        ("close", 1, TraceKind::Cut),
+        ("# a comment", 1, TraceKind::Cut),
+        ("tick 1\n\n#\ntick 2", 4, TraceKind::Cut),
+        ("tock\n", 1, TraceKind::Word),
+        ("close\r\n", 1, TraceKind::Word),
+        ("\r\n", 1, TraceKind::Word),
+        (" close\n", 1, TraceKind::Word),
+        ("e 0 00\n", 1, TraceKind::Word),
+        ("ticks 0 0 0\n", 1, TraceKind::Word),
+        ("tick\n", 1, TraceKind::Fields),
+        ("tick  5\n", 1, TraceKind::Fields),
+        ("tick 5 \n", 1, TraceKind::Fields),
+        ("close \n", 1, TraceKind::Fields),
+        ("a 0\n", 1, TraceKind::Fields),
+        ("a 99 zz 0\n", 1, TraceKind::Fields),
+        ("tick \n", 1, TraceKind::Number),
+        ("tick 01\n", 1, TraceKind::Number),
+        ("tick 00\n", 1, TraceKind::Number),
+        ("tick +1\n", 1, TraceKind::Number),
+        ("tick -1\n", 1, TraceKind::Number),
+        ("tick 1a\n", 1, TraceKind::Number),
+        ("tick 9223372036854775808\n", 1, TraceKind::Number),
+        ("tick 18446744073709551616\n", 1, TraceKind::Number),
+        ("a 16 00\n", 1, TraceKind::Number),
+        ("a 16 0\n", 1, TraceKind::Number),
+        ("a  00\n", 1, TraceKind::Number),
+        ("a 0 0\n", 1, TraceKind::Hex),
+        ("a 0 \n", 1, TraceKind::Hex),
+        ("a 0 0g\n", 1, TraceKind::Hex),
+        ("close\n#\nclose 1\nclose 2\n", 3, TraceKind::Fields),
+    ];
+    for (text, line, kind) in table {
+        let answer = events_of(rt.alloc(), text.as_bytes());
+        assert_eq!(rt; answer, Err(fault(line, kind)), "in {text:?}");
+    }
+}
+
+/// A line of 4,096 octets is read, of 4,097 too long, and cut without its line feed.
+#[test]
+fn trace_limits(rt: HostRuntime) -> Result<(), Fail> {
+    let alloc = rt.alloc();
+    let table = [
+        ("x", 4095, "\n", Ok(0)),
+        ("x", 4096, "\n", Err(fault(2, TraceKind::TooLong))),
+        ("x", 4095, "", Err(fault(2, TraceKind::Cut))),
+        ("x", 4096, "", Err(fault(2, TraceKind::TooLong))),
+    ];
+    for (unit, times, last, wanted) in table {
+        let comment = repeated(alloc, unit.as_bytes(), times, last.as_bytes())?;
+        let text = repeated(alloc, b"\n#", 1, comment.as_slice())?;
+        assert_eq!(rt;
+            events_of(rt.alloc(), text.as_slice()),
+            wanted,
+            "a long line"
+        );
+    }
+    let full = 1_000_000;
+    let table = [
+        ("", Ok(full)),
+        ("#\n\n", Ok(full)),
+        ("close\n", Err(fault(1_000_001, TraceKind::TooMany))),
+        ("close 1\n", Err(fault(1_000_001, TraceKind::Fields))),
+        ("a 0 0g\n", Err(fault(1_000_001, TraceKind::Hex))),
+        ("a 0 00\n", Err(fault(1_000_001, TraceKind::TooMany))),
+    ];
+    for (last, wanted) in table {
+        let text = repeated(alloc, b"close\n", full, last.as_bytes())?;
+        assert_eq!(rt;
+            events_of(rt.alloc(), text.as_slice()),
+            wanted,
+            "many events"
+        );
+    }
+    Ok(())
+}
+
+/// The longest text is read, and one octet more is too many.
+#[test]
+fn a_trace_of_2_to_26_octets_is_read(rt: HostRuntime) -> Result<(), Fail> {
+    let most = repeated(rt.alloc(), b"\n\n\n\n\n\n\n\n", 8_388_608, b"")?;
+    assert_eq!(rt;
+        events_of(rt.alloc(), most.as_slice()),
+        Ok(0),
+        "67,108,864 octets"
+    );
+    let more = repeated(rt.alloc(), b"close\n..", 8_388_608, b"\n")?;
+    assert_eq!(rt;
+        events_of(rt.alloc(), more.as_slice()),
+        Err(fault(0, TraceKind::TooMany)),
+        "67,108,865 octets"
+    );
+    Ok(())
+}
+
+/// A trace with a fault behind its events, read by both readers with any one allocation refused: want of memory at most once, or the fault.
+#[test]
+fn each_refused_allocation_of_a_trace_is_answered(rt: HostRuntime) {
+    let text = "tick 0\na 0 00\nb 1 0102\ntick 6\na 0 03\nclose\ntock\n".as_bytes();
+    let mut refused = false;
+    for _ in 0..2 {
+        let answers = [events_of(rt.alloc(), text), places_of(rt.alloc(), text)];
+        for answer in answers {
+            if answer == Err(fault(0, TraceKind::Memory)) {
+                assert!(rt; !refused, "one is refused at most");
+                refused = true;
+            } else {
+                assert_eq!(rt; answer, Err(fault(7, TraceKind::Word)));
+            }
+        }
+    }
+}

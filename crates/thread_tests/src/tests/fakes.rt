@@ -1,0 +1,78 @@
+//! A feed and a sink that fail.
+ghost use Rattle.std.specs.Prelude.{[], map, Some};
+
+use std::alloc::Global;
+use std::process::Abort;
+use studio_uses::MemoryFeed;
+use studio_workers::{Feed, FeedAnswer, SendAnswer, Sink};
+
+/// Fails so often before its first answer, and so often before each later one.
+#[derive(Drop)]
+pub(super) struct FaultyFeed<'a> {
+    feed: MemoryFeed<'a>,
+    left: u32,
+    later: u32,
+}
+
+impl<'a> FaultyFeed<'a> {
+    pub(super) fn new(first: u32, later: u32, datagrams: &'a [Vec<u8>]) -> FaultyFeed<'a> {
+        FaultyFeed {
+            feed: MemoryFeed::new(datagrams),
+            left: first,
+            later,
+        }
+    }
+}
+
+impl<'a> Feed for FaultyFeed<'a> {
+    ghost told = { λ feed. [] };
+
+    fn next(&mut self, buf: &mut [u8]) -> FeedAnswer {
+        if self.left > 0 {
+            self.left -= 1;
+            return FeedAnswer::Fault;
+        }
+        self.left = self.later;
+        self.feed.next(buf)
+    }
+}
+
+/// Keeps what it is handed, and tells it. Address B doesn't take the datagram of this number.
+#[derive(Drop)]
+pub(super) struct FailingSink<'a, R: Abort> {
+    rt: &'a R,
+    alloc: Global,
+    handed: Vec<Vec<u8>>,
+    number: usize,
+}
+
+impl<'a, R: Abort> FailingSink<'a, R> {
+    pub(super) fn new(rt: &'a R, alloc: Global, number: usize) -> FailingSink<'a, R> {
+        FailingSink {
+            rt,
+            alloc,
+            handed: Vec::new(alloc),
+            number,
+        }
+    }
+
+    /// All datagrams, in order.
+    pub(super) fn handed(&self) -> &[Vec<u8>] {
+        self.handed.as_slice()
+    }
+}
+
+impl<'a, R: Abort> Sink for FailingSink<'a, R> {
+    ghost handed = { λ sink. Some (map (λ datagram. datagram.items) sink.handed.items) };
+
+    fn send(&mut self, datagram: &[u8]) -> SendAnswer {
+        let b = self.handed.len() != self.number;
+        let Ok(copy) = Vec::from_slice(self.alloc, datagram) else {
+            panic!(self.rt; "no memory for a datagram")
+        };
+        if self.handed.push(copy).is_err() {
+            panic!(self.rt; "no memory for a datagram")
+        }
+        SendAnswer { a: true, b }
+    }
+}

@@ -1,0 +1,111 @@
+//! Refused allocations: `rt try --test --fail-alloc N` refuses the Nth of each test.
+//!
+//! The tests of this file pass for every N: the call that meets it says so, and the next succeeds.
+
+use super::callers::{REPORT, TRACE, arrival, on_paths, path};
+use super::workers::{FIRST, SECOND, one_stream, stream};
+use std::alloc::Global;
+use std::process::Abort;
+use std::sync::Wait;
+use std::test::Fail;
+use std::thread::Threads;
+use studio_rings::OpenFault;
+use studio_run::PlayFault;
+use studio_spec::StudioSpec;
+use studio_uses::{
+    MemorySink, ReceiveFault, RunFault, receive_stream, report_trace, run_in_threads,
+};
+use studio_workers::WorkFault;
+
+/// One stream received with any one allocation refused: want of memory, and then its marks.
+#[test]
+fn each_refused_allocation_of_arrivals_is_answered(rt: HostRuntime) -> Result<(), Fail> {
+    let alloc = rt.alloc();
+    let spec = stream(6, 12, 2)?;
+    let arrivals = [arrival(0, path(0)?, &FIRST), arrival(12, path(1)?, &SECOND)];
+    match receive_stream(alloc, spec, 0, &arrivals) {
+        Ok(marks) => assert_eq!(rt; marks.len(), 3),
+        Err(fault) => {
+            assert!(rt;
+                matches!(fault, ReceiveFault::Memory),
+                "only memory can lack"
+            );
+            let marks = receive_stream(alloc, spec, 0, &arrivals)?;
+            assert_eq!(rt; marks.len(), 3, "with memory again");
+        }
+    }
+    Ok(())
+}
+
+/// A report that can't grow is one that can't be written.
+#[test]
+fn each_refused_allocation_of_a_report_is_answered(rt: HostRuntime) -> Result<(), Fail> {
+    let alloc = rt.alloc();
+    let studio = one_stream(&rt, alloc)
+        .or_else(|| one_stream(&rt, alloc))
+        .ok_or("with memory again")?;
+    match report_trace(alloc, &studio, TRACE.as_bytes()) {
+        Ok(report) => assert_eq!(rt; str::from_utf8(report.as_slice()), Ok(REPORT)),
+        Err(fault) => {
+            let wants = matches!(fault, PlayFault::Memory) || matches!(fault, PlayFault::Write);
+            assert!(rt; wants, "only memory can lack");
+            let report = report_trace(alloc, &studio, TRACE.as_bytes())?;
+            assert_eq!(rt;
+                str::from_utf8(report.as_slice()),
+                Ok(REPORT),
+                "with memory again"
+            );
+        }
+    }
+    Ok(())
+}
+
+/// A run of two blocks, or its fault. What the sink could not keep is told as a fault of both addresses.
+fn attempt<R: Threads + Wait + Abort + Sync>(
+    rt: &R,
+    alloc: Global,
+    studio: &StudioSpec,
+    lists: &[Vec<Vec<u8>>],
+) -> Option<RunFault> {
+    match run_in_threads(rt, alloc, studio, lists, &[0], MemorySink::new(alloc)) {
+        Ok((report, sink)) => {
+            assert!(rt; report.settled);
+            assert_eq!(rt; report.blocks, 2);
+            let kept = sink.kept().len() as u64;
+            assert_eq!(rt; (report.sent_a, report.sent_b), (kept, kept));
+            assert_eq!(rt; sink.is_whole(), kept == 2);
+            None
+        }
+        Err(fault) => Some(fault),
+    }
+}
+
+/// Whether a run says that it wants memory. A thread may be refused too.
+fn wants_memory(fault: RunFault) -> bool {
+    match fault {
+        RunFault::Paths => false,
+        RunFault::Open(fault) => fault == OpenFault::Memory,
+        RunFault::Work(WorkFault::Memory) => true,
+        RunFault::Work(WorkFault::Start) => true,
+        RunFault::Memory(_) => true,
+    }
+}
+
+/// A run by workers with any one allocation refused: each block is kept or told as a fault, or the run answers want of memory, and then succeeds.
+#[test]
+fn each_refused_allocation_of_a_run_is_answered(rt: HostRuntime) -> Result<(), Fail> {
+    let alloc = rt.alloc();
+    let studio = one_stream(&rt, alloc)
+        .or_else(|| one_stream(&rt, alloc))
+        .ok_or("with memory again")?;
+    let lists = on_paths(alloc, 2)
+        .ok()
+        .or_else(|| on_paths(alloc, 2).ok())
+        .ok_or("with memory again")?;
+    if let Some(fault) = attempt(&rt, alloc, &studio, lists.as_slice()) {
+        assert!(rt; wants_memory(fault), "only memory can lack");
+        let again = attempt(&rt, alloc, &studio, lists.as_slice());
+        assert!(rt; again.is_none(), "with memory again");
+    }
+    Ok(())
+}

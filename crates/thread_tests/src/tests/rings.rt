@@ -1,0 +1,383 @@
+//! One stream through its rings, by worked examples.
+ghost use Rattle.std.specs.Prelude.{IfOk};
+ghost use Rattle.rtrb.specs.Ring.{SameProducer};
+ghost use Rattle.thread_tests.specs.OneStream.{AreOfOneStream};
+
+use super::workers::{FIRST, SECOND};
+use gain_mix::{Matrix, Schedule};
+use mix_packets::OutSpec;
+use path_merge::{ClockFault, StreamClock, StreamSpec};
+use rtp_wire::Enc;
+use std::alloc::Global;
+use std::process::Abort;
+use std::test::Fail;
+use studio_rings::*;
+use studio_spec::StudioSpec;
+
+const MEDIA: StreamClock = StreamClock::Media { offset: 0 };
+
+/// One stream of L24 on two paths, in packets of six sampling instants, twelve later; its output is alike.
+fn studio(rt: &impl Abort, alloc: Global) -> Result<StudioSpec, Fail> {
+    studio_of(rt, alloc, 8)
+}
+
+/// The same, over a window of so many numbers.
+pub(super) fn studio_of(rt: &impl Abort, alloc: Global, width: u16) -> Result<StudioSpec, Fail> {
+    Ok(studio_in(rt, alloc, MEDIA, width).ok_or("want of memory")?)
+}
+
+/// The same by a clock; none where memory is refused.
+fn studio_in(rt: &impl Abort, alloc: Global, clock: StreamClock, width: u16) -> Option<StudioSpec> {
+    let Ok(spec) = StreamSpec::new(Enc::L24, 1, 6, 96, None, clock, 12, width, 2) else {
+        panic!(rt; "a stream")
+    };
+    let Ok(output) = OutSpec::new(Enc::L24, 1, 6, 97, 2, 65_535, 0, 0) else {
+        panic!(rt; "an output")
+    };
+    let gains = Matrix::new(alloc, 1, 1, &[65_536]).ok()?;
+    let schedule = Schedule::new(gains, Vec::new(alloc)).ok()?;
+    assert!(rt; schedule.outs() == usize::from(output.channels()));
+    assert!(rt; schedule.ins() == usize::from(spec.channels()));
+    let mut streams = Vec::new(alloc);
+    streams.push(spec).ok()?;
+    Some(StudioSpec::new(0, streams, output, schedule))
+}
+
+/// The ends of that studio.
+#[derive(Drop)]
+struct OneStream {
+    first: PathEnd,
+    second: PathEnd,
+    stream: StreamEnd,
+    monitor: MonitorEnd,
+    mix: MixEnd,
+}
+
+fn one_stream(rt: &impl Abort, alloc: Global, ring_len: usize) -> Result<OneStream, Fail>
+    ensures { IfOk result (λ ends. AreOfOneStream ends.first ends.second ends.stream ends.mix) }
+{
+    let studio = studio(rt, alloc)?;
+    let Ends {
+        mut paths,
+        mut streams,
+        mut monitors,
+        mix,
+    } = open(alloc, &studio, ring_len)?;
+    assert!(rt; paths.len() == 2);
+    assert!(rt; streams.len() == 1);
+    let (Some(second), Some(first)) = (paths.pop(), paths.pop()) else {
+        panic!(rt; "two paths")
+    };
+    let (Some(stream), Some(monitor)) = (streams.pop(), monitors.pop()) else {
+        panic!(rt; "one stream")
+    };
+    Ok(OneStream {
+        first,
+        second,
+        stream,
+        monitor,
+        mix,
+    })
+}
+
+/// What a turn took of the first two paths, how many marks it handed on, where it stopped, and why.
+fn turn(rt: &impl Abort, stream: &mut StreamEnd, now: i64) -> (u32, u32, u32, i64, StopReason)
+    ensures { SameProducer stream.old.marks stream.new.marks }
+{
+    match stream.turn(now) {
+        Ok(note) => {
+            let [first, second, _, _] = note.from;
+            (first, second, note.marks, note.reached, note.why_stopped)
+        }
+        Err(_) => { panic!(rt; "the readings are in order") }
+    }
+}
+
+/// A turn of the mixer, which takes this many marks and gives a datagram with these samples, or none.
+fn mixes(rt: &impl Abort, mix: &mut MixEnd, taken: u32, samples: Option<&[u8]>) {
+    let mut out = [0u8; 1452];
+    let _short = mix.datagram_len();
+    let note = mix.turn(&mut out);
+    assert_eq!(rt; (note.taken, note.strange), (taken, 0));
+    assert_eq!(rt; note.len.is_some(), samples.is_some());
+    if let Some(samples) = samples {
+        assert_eq!(rt; note.len, Some(30));
+        assert!(rt; &out[12..30] == samples, "the samples of the block");
+    }
+}
+
+/// Rings of one place: full, stopped for want of room, caught up, and a reading that goes back.
+#[test]
+fn rings_of_one_place_lose_nothing(rt: HostRuntime) -> Result<(), Fail> {
+    let mut ends = one_stream(&rt, rt.alloc(), 1)?;
+    let stream = &mut ends.stream;
+    assert_eq!(rt; ends.first.offer(&FIRST), Offer::Sent);
+    assert_eq!(rt; ends.first.offer(&SECOND), Offer::Full);
+    assert_eq!(rt; turn(&rt, stream, 0), (1, 0, 0, 0, StopReason::CaughtUp));
+    assert_eq!(rt; ends.first.offer(&SECOND), Offer::Sent);
+    assert_eq!(rt; turn(&rt, stream, 18), (1, 0, 1, 12, StopReason::NoRoom));
+    mixes(&rt, &mut ends.mix, 1, Some(&FIRST[12..]));
+    assert_eq!(rt; turn(&rt, stream, 18), (0, 0, 1, 18, StopReason::NoRoom));
+    mixes(&rt, &mut ends.mix, 1, Some(&SECOND[12..]));
+    assert_eq!(rt; turn(&rt, stream, 18), (0, 0, 0, 18, StopReason::CaughtUp));
+    assert!(rt; matches!(stream.turn(17), Err(ClockFault::WentBack)));
+    assert!(rt; !ends.mix.settled(), "no stream has finished");
+    let (done, counts) = ends.first.finish();
+    assert!(rt; done.is_some());
+    let all = (counts.offered, counts.sent, counts.full);
+    assert_eq!(rt; all, (3, 2, 1));
+    Ok(())
+}
+
+/// Each turn that was taken sends its counts, and a refused one none.
+#[test]
+fn counts_reach_the_monitor(rt: HostRuntime) -> Result<(), Fail> {
+    let mut ends = one_stream(&rt, rt.alloc(), 1)?;
+    assert_eq!(rt; ends.first.offer(&FIRST), Offer::Sent);
+    assert_eq!(rt;
+        turn(&rt, &mut ends.stream, 0),
+        (1, 0, 0, 0, StopReason::CaughtUp)
+    );
+    let Some(counts) = ends.monitor.next() else {
+        panic!(rt; "the first turn's counts")
+    };
+    assert_eq!(rt; (counts.arrived, counts.taken, counts.got), (1, 1, 0));
+    assert_eq!(rt; counts.taken_by, [1, 0, 0, 0]);
+    assert!(rt; ends.monitor.next().is_none(), "one turn, one item");
+    assert_eq!(rt; ends.first.offer(&SECOND), Offer::Sent);
+    assert_eq!(rt;
+        turn(&rt, &mut ends.stream, 18),
+        (1, 0, 1, 12, StopReason::NoRoom)
+    );
+    assert!(rt; ends.stream.turn(11).is_err());
+    let Some(counts) = ends.monitor.next() else {
+        panic!(rt; "the second turn's counts")
+    };
+    assert_eq!(rt; (counts.arrived, counts.taken, counts.got), (2, 2, 1));
+    assert_eq!(rt; counts.taken_by, [2, 0, 0, 0]);
+    assert!(rt; ends.monitor.next().is_none(), "a refused turn shows none");
+    Ok(())
+}
+
+/// A close before a path's end leaves it open, and drains nothing.
+#[test]
+fn an_open_path_holds_up_the_close(rt: HostRuntime) -> Result<(), Fail> {
+    let mut ends = one_stream(&rt, rt.alloc(), 1)?;
+    let Err(open) = ends.stream.close() else {
+        panic!(rt; "no path has finished")
+    };
+    assert_eq!(rt; open.still_open, [true, true, false, false]);
+    assert!(rt;
+        !ends.stream.drain_turn(),
+        "nothing to drain before a close"
+    );
+    let (done, _) = ends.second.finish();
+    assert!(rt; done.is_some());
+    Ok(())
+}
+
+/// Streams of six and of 48 sampling instants a packet, added into packets of 48.
+fn six_and_forty_eight(rt: &impl Abort, alloc: Global) -> Result<StudioSpec, Fail> {
+    let clock = StreamClock::Media { offset: 0 };
+    let first = StreamSpec::new(Enc::L24, 1, 6, 96, None, clock, 12, 8, 1)?;
+    let second = StreamSpec::new(Enc::L24, 1, 48, 96, None, clock, 48, 8, 1)?;
+    let output = OutSpec::new(Enc::L24, 1, 48, 97, 2, 65_535, 0, 0)?;
+    let gains = Matrix::new(alloc, 1, 2, &[65_536, 65_536])?;
+    let schedule = Schedule::new(gains, Vec::new(alloc))?;
+    assert!(rt; schedule.outs() == usize::from(output.channels()));
+    assert!(rt; schedule.ins() == usize::from(first.channels()) + usize::from(second.channels()));
+    let mut streams = Vec::new(alloc);
+    streams.push(first)?;
+    streams.push(second)?;
+    Ok(StudioSpec::new(0, streams, output, schedule))
+}
+
+/// A header, and so many times these samples, one after another.
+fn datagram(alloc: Global, head: [u8; 12], runs: &[(u8, [u8; 3])]) -> Result<Vec<u8>, Fail> {
+    let mut octets = Vec::from_slice(alloc, &head)?;
+    for (times, sample) in runs {
+        for _ in 0..*times {
+            octets.extend_from_slice(sample)?;
+        }
+    }
+    Ok(octets)
+}
+
+/// A turn of the mixer that gives this datagram.
+fn gives(rt: &impl Abort, mix: &mut MixEnd, datagram: &[u8]) {
+    let mut out = [0u8; 1452];
+    let _short = mix.datagram_len();
+    let note = mix.turn(&mut out);
+    assert_eq!(rt; (note.strange, note.len), (0, Some(156)));
+    assert!(rt; out.starts_with(datagram), "the datagram of the block");
+}
+
+/// A turn of the mixer that takes this many marks and gives none.
+fn gives_none(rt: &impl Abort, mix: &mut MixEnd, taken: u32) {
+    let mut out = [0u8; 1452];
+    let _short = mix.datagram_len();
+    let note = mix.turn(&mut out);
+    assert_eq!(rt; (note.taken, note.strange, note.len), (taken, 0, None));
+}
+
+/// Eight packets of 1000 from 0 on, and one of 1 from 20 on; one stream gives its marks, then the mixer
+/// takes, then the other gives.
+fn mixes_in_order(rt: &impl Abort, alloc: Global, last_first: bool) -> Result<(), Fail> {
+    let studio = six_and_forty_eight(rt, alloc)?;
+    let Ends {
+        mut paths,
+        mut streams,
+        monitors: _,
+        mut mix,
+    } = open(alloc, &studio, 64)?;
+    let (Some(mut of_second), Some(mut of_first)) = (paths.pop(), paths.pop()) else {
+        panic!(rt; "two paths")
+    };
+    for number in 0..8u8 {
+        let head = [0x80, 0x60, 0, number + 1, 0, 0, 0, number * 6, 0, 0, 0, 1];
+        let octets = datagram(alloc, head, &[(6, [0, 3, 0xe8])])?;
+        assert_eq!(rt; of_first.offer(&octets), Offer::Sent);
+    }
+    let head = [0x80, 0x60, 0, 100, 0, 0, 0, 20, 0, 0, 0, 1];
+    let octets = datagram(alloc, head, &[(48, [0, 0, 1])])?;
+    assert_eq!(rt; of_second.offer(&octets), Offer::Sent);
+    let (Some(second), Some(first)) = (streams.pop(), streams.pop()) else {
+        panic!(rt; "two streams")
+    };
+    let (mut early, mut late) = if last_first {
+        (second, first)
+    } else {
+        (first, second)
+    };
+    assert!(rt; early.turn(0).is_ok() && early.turn(200).is_ok());
+    gives_none(rt, &mut mix, if last_first { 1 } else { 8 });
+    assert!(rt; late.turn(0).is_ok() && late.turn(200).is_ok());
+    let head = [0x80, 0x61, 0xff, 0xff, 0, 0, 0, 0, 0, 0, 0, 2];
+    let sums = [(20, [0, 3, 0xe8]), (28, [0, 3, 0xe9])];
+    gives(rt, &mut mix, &datagram(alloc, head, &sums)?);
+    let head = [0x80, 0x61, 0, 0, 0, 0, 0, 48, 0, 0, 0, 2];
+    let rest = [(20, [0, 0, 1]), (28, [0, 0, 0])];
+    gives(rt, &mut mix, &datagram(alloc, head, &rest)?);
+    let head = [0x80, 0x61, 0, 1, 0, 0, 0, 96, 0, 0, 0, 2];
+    gives(rt, &mut mix, &datagram(alloc, head, &[(48, [0, 0, 0])])?);
+    gives_none(rt, &mut mix, 8);
+    Ok(())
+}
+
+/// Two streams whose turns come in both orders give the same datagrams.
+#[test]
+fn the_order_of_the_streams_changes_no_datagram(rt: HostRuntime) -> Result<(), Fail> {
+    mixes_in_order(&rt, rt.alloc(), false)?;
+    mixes_in_order(&rt, rt.alloc(), true)
+}
+
+/// Both packets are sent, and the ends finish one after the other.
+#[test]
+fn tokens_carry_the_end_to_the_mixer(rt: HostRuntime) -> Result<(), Fail> {
+    let OneStream {
+        mut first,
+        mut second,
+        mut stream,
+        monitor: _,
+        mut mix,
+    } = one_stream(&rt, rt.alloc(), 64)?;
+    assert_eq!(rt; first.offer(&FIRST), Offer::Sent);
+    assert_eq!(rt; second.offer(&SECOND), Offer::Sent);
+    let (first_done, _) = first.finish();
+    let (second_done, _) = second.finish();
+    let (Some(first_done), Some(second_done)) = (first_done, second_done) else {
+        panic!(rt; "the stream's end is there")
+    };
+    stream.path_done(0, first_done);
+    stream.path_done(1, second_done);
+    let Err(open) = stream.close() else {
+        panic!(rt; "no packet was taken")
+    };
+    assert_eq!(rt; open.still_open, [true, true, false, false]);
+    let took = turn(&rt, &mut stream, 0);
+    assert_eq!(rt; took, (1, 1, 0, 0, StopReason::CaughtUp));
+    assert!(rt; stream.close().is_ok(), "both paths are drained");
+    assert!(rt; stream.drain_turn(), "two slots and the end");
+    let (done, counts) = stream.finish();
+    let Some(done) = done else {
+        panic!(rt; "the mixer's end is there")
+    };
+    assert_eq!(rt; (counts.arrived, counts.taken, counts.got), (2, 2, 2));
+    mix.stream_done(0, done);
+    assert!(rt; !mix.settled(), "three marks are to be taken");
+    mixes(&rt, &mut mix, 1, Some(&FIRST[12..]));
+    mixes(&rt, &mut mix, 1, Some(&SECOND[12..]));
+    mixes(&rt, &mut mix, 1, None);
+    assert!(rt; mix.settled());
+    Ok(())
+}
+
+/// Rings of no place, or of 65,537, are refused.
+#[test]
+fn ring_lengths_are_bounded(rt: HostRuntime) -> Result<(), Fail> {
+    let studio = studio(&rt, rt.alloc())?;
+    for len in [0usize, 65_537] {
+        match open(rt.alloc(), &studio, len) {
+            Ok(_) => { panic!(rt; "no ring has that many places") }
+            Err(fault) => assert_eq!(rt; fault, OpenFault::RingLength),
+        }
+    }
+    Ok(())
+}
+
+/// A turn over 99 marks stops after 64, and the next one reaches its reading.
+#[test]
+fn a_turn_stops_after_64_marks(rt: HostRuntime) -> Result<(), Fail> {
+    let mut ends = one_stream(&rt, rt.alloc(), 128)?;
+    let stream = &mut ends.stream;
+    assert_eq!(rt; ends.first.offer(&FIRST), Offer::Sent);
+    assert_eq!(rt; turn(&rt, stream, 0), (1, 0, 0, 0, StopReason::CaughtUp));
+    assert_eq!(rt; turn(&rt, stream, 600), (0, 0, 64, 390, StopReason::Batch));
+    assert_eq!(rt;
+        turn(&rt, stream, 600),
+        (0, 0, 35, 600, StopReason::CaughtUp)
+    );
+    Ok(())
+}
+
+/// By the arrival clock a first packet has the time of the reading before it: its slot is due twelve later.
+#[test]
+fn a_reading_sets_the_time_of_the_first_packet(rt: HostRuntime) -> Result<(), Fail> {
+    let alloc = rt.alloc();
+    let studio = studio_in(&rt, alloc, StreamClock::Arrival, 8).ok_or("want of memory")?;
+    let mut ends = open(alloc, &studio, 8)?;
+    let (Some(mut path), Some(mut stream)) = (ends.paths.pop(), ends.streams.pop()) else {
+        panic!(rt; "a path and a stream")
+    };
+    assert_eq!(rt; path.offer(&FIRST), Offer::Sent);
+    assert_eq!(rt; stream.read_clock(240).ok(), Some(StopReason::CaughtUp));
+    assert_eq!(rt; stream.next_deadline(), None);
+    let stream = &mut stream;
+    assert_eq!(rt;
+        turn(&rt, stream, 240),
+        (0, 1, 0, 240, StopReason::CaughtUp)
+    );
+    assert_eq!(rt; stream.next_deadline(), Some(252));
+    assert_eq!(rt;
+        turn(&rt, stream, 252),
+        (0, 0, 1, 252, StopReason::CaughtUp)
+    );
+    Ok(())
+}
+
+/// `rt try --test --fail-alloc N` refuses the Nth allocation: the call that meets it says so, and the next succeeds.
+#[test]
+fn each_refused_allocation_is_answered(rt: HostRuntime) -> Result<(), Fail> {
+    let alloc = rt.alloc();
+    let studio = studio_in(&rt, alloc, MEDIA, 8)
+        .or_else(|| studio_in(&rt, alloc, MEDIA, 8))
+        .ok_or("with memory again")?;
+    match open(alloc, &studio, 3) {
+        Ok(ends) => assert_eq!(rt; ends.paths.len(), 2),
+        Err(fault) => {
+            assert_eq!(rt; fault, OpenFault::Memory);
+            assert!(rt; open(rt.alloc(), &studio, 3).is_ok(), "with memory again");
+        }
+    }
+    Ok(())
+}

@@ -1,0 +1,140 @@
+//! One stream on two paths by four threads: two that offer, one that merges, one that mixes.
+use super::rings::studio_of;
+use path_merge::Counts;
+use std::alloc::Global;
+use std::process::Abort;
+use std::sync::Wait;
+use std::test::Fail;
+use std::thread;
+use std::thread::{Parker, Threads};
+use std::time::Duration;
+use studio_rings::{Ends, MixEnd, Offer, PathCounts, PathEnd, StreamEnd, open};
+
+/// The packets that each path sends.
+const PACKETS: u8 = 100;
+
+/// The packet of a number: six samples that say it.
+fn packet(number: u8) -> [u8; 30] {
+    let [high, low] = u16::from(number).wrapping_mul(6).to_be_bytes();
+    let mut octets = [0u8; 30];
+    octets[0] = 0x80;
+    octets[1] = 0x60;
+    octets[3] = number;
+    octets[6] = high;
+    octets[7] = low;
+    octets[11] = 1;
+    for place in 0..6usize {
+        octets[12 + 3 * place + 2] = number;
+    }
+    octets
+}
+
+/// Waits a little.
+fn pause(rt: &impl Wait, parker: &Parker) {
+    let _ = parker.park_timeout(rt, Duration::from_micros(50));
+}
+
+/// Offers each packet until it is sent.
+fn send_all(rt: &impl Wait, mut path: PathEnd) -> PathCounts {
+    let parker = Parker::new();
+    for number in 0..PACKETS {
+        for _ in rt.forever() {
+            if path.offer(&packet(number)) != Offer::Full {
+                break;
+            }
+            pause(rt, &parker);
+        }
+    }
+    let (_, counts) = path.finish();
+    counts
+}
+
+/// Takes turns, up to the packets that came by both paths, until all came and all marks are handed on.
+fn merge_all(rt: &impl Wait, mut stream: StreamEnd) -> Counts {
+    let parker = Parker::new();
+    let last = i64::from(PACKETS) * 6;
+    let mut first = 0u32;
+    let mut second = 0u32;
+    for _ in rt.forever() {
+        let now = i64::from(first.min(second)).wrapping_mul(6);
+        if let Ok(note) = stream.turn(now) {
+            first = first.wrapping_add(note.from[0]);
+            second = second.wrapping_add(note.from[1]);
+            if note.reached == last {
+                break;
+            }
+        }
+        pause(rt, &parker);
+    }
+    let (_, counts) = stream.finish();
+    counts
+}
+
+/// Takes turns until so many datagrams came, each with its packet's samples.
+fn mix_all(rt: &(impl Wait + Abort), mut mix: MixEnd, blocks: u8) {
+    let parker = Parker::new();
+    for number in 0..blocks {
+        for _ in rt.forever() {
+            let mut out = [0u8; 1452];
+            let _short = mix.datagram_len();
+            let note = mix.turn(&mut out);
+            assert_eq!(rt; note.strange, 0);
+            if note.len.is_some() {
+                let expected = packet(number);
+                assert!(rt;
+                    out[12..30] == expected[12..30],
+                    "the samples of the packet"
+                );
+                break;
+            }
+            pause(rt, &parker);
+        }
+    }
+}
+
+/// The four threads, over rings of so many places. The last packet's deadline is not reached.
+fn by_threads(
+    rt: &(impl Threads + Wait + Abort + Sync),
+    alloc: Global,
+    places: usize,
+) -> Result<(), Fail> {
+    let studio = studio_of(rt, alloc, 128)?;
+    let Ends {
+        mut paths,
+        mut streams,
+        monitors: _,
+        mix,
+    } = open(alloc, &studio, places)?;
+    let (Some(second), Some(first), Some(stream)) = (paths.pop(), paths.pop(), streams.pop()) else {
+        panic!(rt; "one stream of two paths")
+    };
+    thread::scope(thread::scope_env(), rt, |scope| {
+        let Ok(by_first) = scope.spawn(move || send_all(rt, first)) else {
+            panic!(rt; "no thread")
+        };
+        let Ok(by_second) = scope.spawn(move || send_all(rt, second)) else {
+            panic!(rt; "no thread")
+        };
+        let Ok(merged) = scope.spawn(move || merge_all(rt, stream)) else {
+            panic!(rt; "no thread")
+        };
+        mix_all(rt, mix, PACKETS - 1);
+        for sender in [by_first, by_second] {
+            let counts = sender.join(rt);
+            let sent = counts.offered.wrapping_sub(counts.full);
+            assert_eq!(rt; (counts.sent, sent), (100, 100));
+        }
+        let counts = merged.join(rt);
+        assert_eq!(rt; (counts.arrived, counts.got, counts.lost), (200, 99, 0));
+    });
+    Ok(())
+}
+
+/// Rings of 1 to 4,096 places between threads: each datagram has its packet's samples.
+#[test]
+fn threads_over_rings_of_any_length_lose_nothing(rt: HostRuntime) -> Result<(), Fail> {
+    for places in [1usize, 2, 3, 64, 4_096] {
+        by_threads(&rt, rt.alloc(), places)?;
+    }
+    Ok(())
+}

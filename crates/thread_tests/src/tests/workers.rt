@@ -1,0 +1,289 @@
+//! Whole runs of the workers over feeds, clocks and a sink in memory.
+
+use super::fakes::{FailingSink, FaultyFeed};
+use gain_mix::{Matrix, Schedule};
+use mix_packets::OutSpec;
+use path_merge::{Counts, SpecFault, StreamClock, StreamSpec};
+use rtp_wire::Enc;
+use std::alloc::{AllocError, Global};
+use std::process::Abort;
+use std::sync::Wait;
+use std::test::Fail;
+use std::thread::Threads;
+use studio_rings::open;
+use studio_spec::StudioSpec;
+use studio_uses::{MemoryClock, MemoryFeed, MemorySink};
+use studio_workers::{Clock, Feed, Sink, WorkReport, run_workers};
+
+pub(super) const FIRST: [u8; 30] = [
+    0x80, 0x60, 0, 1, 0, 0, 0, 0, 0, 0, 0, 1, 0, 0, 1, 0, 0, 2, 0, 0, 3, 0, 0, 4, 0, 0, 5, 0, 0, 6,
+];
+
+pub(super) const SECOND: [u8; 30] = [
+    0x80, 0x60, 0, 2, 0, 0, 0, 6, 0, 0, 0, 1, 0, 0, 7, 0, 0, 8, 0, 0, 9, 0, 0, 10, 0, 0, 11, 0, 0,
+    12,
+];
+
+/// A stream of one channel of L24, by the media clock.
+pub(super) fn stream(frames: u16, latency: u32, paths: u8) -> Result<StreamSpec, SpecFault> {
+    let clock = StreamClock::Media { offset: 0 };
+    StreamSpec::new(Enc::L24, 1, frames, 96, None, clock, latency, 8, paths)
+}
+
+/// One stream on two paths, in packets of six sampling instants; its output is alike. None where memory was refused.
+pub(super) fn one_stream(rt: &impl Abort, alloc: Global) -> Option<StudioSpec> {
+    let spec = stream(6, 12, 2).ok()?;
+    let output = OutSpec::new(Enc::L24, 1, 6, 97, 2, 65_535, 0, 0).ok()?;
+    let gains = Matrix::new(alloc, 1, 1, &[65_536]).ok()?;
+    let schedule = Schedule::new(gains, Vec::new(alloc)).ok()?;
+    assert!(rt; schedule.outs() == usize::from(output.channels()));
+    assert!(rt; schedule.ins() == usize::from(spec.channels()));
+    let mut streams = Vec::new(alloc);
+    streams.push(spec).ok()?;
+    Some(StudioSpec::new(0, streams, output, schedule))
+}
+
+/// Two streams of six and of 48 sampling instants a packet, on two paths and on one, added into packets of 48.
+pub(super) fn six_and_forty_eight(rt: &impl Abort, alloc: Global) -> Result<StudioSpec, Fail> {
+    let (first, second) = (stream(6, 12, 2)?, stream(48, 48, 1)?);
+    let output = OutSpec::new(Enc::L24, 1, 48, 97, 2, 65_535, 0, 0)?;
+    let gains = Matrix::new(alloc, 1, 2, &[65_536, 65_536])?;
+    let schedule = Schedule::new(gains, Vec::new(alloc))?;
+    assert!(rt; schedule.outs() == usize::from(output.channels()));
+    assert!(rt; schedule.ins() == usize::from(first.channels()) + usize::from(second.channels()));
+    let mut streams = Vec::new(alloc);
+    streams.push(first)?;
+    streams.push(second)?;
+    Ok(StudioSpec::new(0, streams, output, schedule))
+}
+
+/// Runs the workers of a studio over rings of so many places.
+pub(super) fn run<R: Threads + Wait + Abort + Sync, F: Feed + Send, C: Clock + Send, K: Sink>(
+    rt: &R,
+    alloc: Global,
+    studio: &StudioSpec,
+    places: usize,
+    feeds: Vec<F>,
+    clocks: Vec<C>,
+    sink: K,
+) -> Result<(WorkReport, K), Fail> {
+    let _sound = studio.streams();
+    let ends = open(alloc, studio, places)?;
+    assert!(rt; feeds.len() == ends.paths.len(), "a feed for each path");
+    assert!(rt;
+        clocks.len() == ends.streams.len(),
+        "a clock for each stream"
+    );
+    Ok(run_workers(rt, alloc, ends, feeds, clocks, sink)?)
+}
+
+/// A clock for each of so many streams, with these readings.
+pub(super) fn clocks<'a>(
+    alloc: Global,
+    streams: usize,
+    readings: &'a [i64],
+) -> Result<Vec<MemoryClock<'a>>, AllocError> {
+    let mut clocks = Vec::new(alloc);
+    for _ in 0..streams {
+        clocks.push(MemoryClock::new(readings))?;
+    }
+    Ok(clocks)
+}
+
+/// The counts of the only stream.
+pub(super) fn only(rt: &impl Abort, report: &WorkReport) -> Counts {
+    assert!(rt; report.settled, "all rings are finished and drained");
+    assert_eq!(rt; report.streams.len(), 1);
+    report.streams[0].merge
+}
+
+/// Blocks, and how many of them were sent and failed at each address.
+fn sends(report: &WorkReport) -> (u64, [u64; 2], [u64; 2]) {
+    let sent = [report.sent_a, report.sent_b];
+    let faults = [report.fault_a, report.fault_b];
+    (report.blocks, sent, faults)
+}
+
+/// The datagrams of the two packets: the same samples behind headers of the output.
+const OUTPUT: [[u8; 30]; 2] = [
+    [
+        0x80, 0x61, 0xff, 0xff, 0, 0, 0, 0, 0, 0, 0, 2, 0, 0, 1, 0, 0, 2, 0, 0, 3, 0, 0, 4, 0, 0,
+        5, 0, 0, 6,
+    ],
+    [
+        0x80, 0x61, 0, 0, 0, 0, 0, 6, 0, 0, 0, 2, 0, 0, 7, 0, 0, 8, 0, 0, 9, 0, 0, 10, 0, 0, 11, 0,
+        0, 12,
+    ],
+];
+
+/// These are both datagrams.
+pub(super) fn gave_both(rt: &impl Abort, kept: &[Vec<u8>]) {
+    assert_eq!(rt; kept.len(), 2);
+    let [first, second] = &OUTPUT;
+    assert!(rt; kept[0].as_slice() == first.as_slice(), "the first");
+    assert!(rt; kept[1].as_slice() == second.as_slice(), "the second");
+}
+
+/// Both packets.
+pub(super) fn two_packets(alloc: Global) -> Result<[Vec<u8>; 2], AllocError> {
+    let first = Vec::from_slice(alloc, &FIRST)?;
+    let second = Vec::from_slice(alloc, &SECOND)?;
+    Ok([first, second])
+}
+
+/// Both packets on both paths, by clocks with these readings, over rings of so many places.
+fn runs_alike<R: Threads + Wait + Abort + Sync>(
+    rt: &R,
+    alloc: Global,
+    readings: &[i64],
+    places: usize,
+) -> Result<(), Fail> {
+    let studio = one_stream(rt, alloc).ok_or("a studio")?;
+    let packets = two_packets(alloc)?;
+    let mut feeds = Vec::new(alloc);
+    for _ in 0..2 {
+        feeds.push(MemoryFeed::new(&packets))?;
+    }
+    let clocks = clocks(alloc, 1, readings)?;
+    let sink = MemorySink::new(alloc);
+    let (report, sink) = run(rt, alloc, &studio, places, feeds, clocks, sink)?;
+    let counts = only(rt, &report);
+    let arrivals = (counts.arrived, counts.taken, counts.double);
+    assert_eq!(rt; arrivals, (4, 2, 2), "{places} places");
+    assert_eq!(rt; (counts.got, counts.lost), (2, 0), "{places} places");
+    assert_eq!(rt; sends(&report), (2, [2, 2], [0, 0]));
+    assert_eq!(rt; report.feed_faults.as_slice(), [0u64, 0].as_slice());
+    gave_both(rt, sink.kept());
+    Ok(())
+}
+
+/// Both datagrams on both paths are taken once, doubled once, and sent to both addresses.
+#[test]
+fn both_paths_alike(rt: HostRuntime) -> Result<(), Fail> {
+    runs_alike(&rt, rt.alloc(), &[0], 4)
+}
+
+/// It counts by the greatest answer so far, and from the opening time on.
+#[test]
+fn a_clock_that_goes_back(rt: HostRuntime) -> Result<(), Fail> {
+    for places in [1usize, 2, 64] {
+        runs_alike(&rt, rt.alloc(), &[-5, 11, 5, i64::MIN, 11, 0], places)?;
+    }
+    Ok(())
+}
+
+/// A header, and so many times these samples, one after another.
+fn datagram(alloc: Global, head: [u8; 12], runs: &[(u8, [u8; 3])]) -> Result<Vec<u8>, AllocError> {
+    let mut octets = Vec::from_slice(alloc, &head)?;
+    for (times, sample) in runs {
+        for _ in 0..*times {
+            octets.extend_from_slice(sample)?;
+        }
+    }
+    Ok(octets)
+}
+
+/// The datagram of the 48 sampling instants from 0 on: their sums.
+pub(super) fn sums(alloc: Global) -> Result<Vec<u8>, AllocError> {
+    let head = [0x80, 0x61, 0xff, 0xff, 0, 0, 0, 0, 0, 0, 0, 2];
+    datagram(alloc, head, &[(20, [0, 3, 0xe8]), (28, [0, 3, 0xe9])])
+}
+
+/// The datagram of the next 48, which the thousands don't reach.
+pub(super) fn ones_alone(alloc: Global) -> Result<Vec<u8>, AllocError> {
+    let head = [0x80, 0x61, 0, 0, 0, 0, 0, 48, 0, 0, 0, 2];
+    datagram(alloc, head, &[(20, [0, 0, 1]), (28, [0, 0, 0])])
+}
+
+/// Eight packets of 1000 from 0 on, on both paths, and one of 1 from 20 on.
+#[test]
+fn two_streams_by_workers(rt: HostRuntime) -> Result<(), Fail> {
+    let alloc = rt.alloc();
+    let studio = six_and_forty_eight(&rt, alloc)?;
+    let mut thousands = Vec::new(alloc);
+    for number in 0..8u8 {
+        let head = [0x80, 0x60, 0, number + 1, 0, 0, 0, number * 6, 0, 0, 0, 1];
+        thousands.push(datagram(alloc, head, &[(6, [0, 3, 0xe8])])?)?;
+    }
+    let head = [0x80, 0x60, 0, 100, 0, 0, 0, 20, 0, 0, 0, 1];
+    let ones = [datagram(alloc, head, &[(48, [0, 0, 1])])?];
+    let mut feeds = Vec::new(alloc);
+    feeds.push(MemoryFeed::new(thousands.as_slice()))?;
+    feeds.push(MemoryFeed::new(thousands.as_slice()))?;
+    feeds.push(MemoryFeed::new(&ones))?;
+    let clocks = clocks(alloc, 2, &[0])?;
+    let sink = MemorySink::new(alloc);
+    let (report, sink) = run(&rt, alloc, &studio, 64, feeds, clocks, sink)?;
+    assert!(rt; report.settled);
+    assert_eq!(rt; report.streams.len(), 2);
+    let counts = report.streams[0].merge;
+    let arrivals = (counts.arrived, counts.taken, counts.double);
+    assert_eq!(rt; (arrivals, counts.got), ((16, 8, 8), 8));
+    assert_eq!(rt; report.streams[1].merge.got, 1);
+    assert_eq!(rt; sends(&report), (2, [2, 2], [0, 0]));
+    let kept = sink.kept();
+    assert_eq!(rt; kept.len(), 2);
+    assert_eq!(rt; kept[0], sums(alloc)?);
+    assert_eq!(rt; kept[1], ones_alone(alloc)?);
+    Ok(())
+}
+
+/// An address that refuses a datagram counts a fault, and the other address gets all.
+#[test]
+fn an_address_that_fails(rt: HostRuntime) -> Result<(), Fail> {
+    let alloc = rt.alloc();
+    let studio = one_stream(&rt, alloc).ok_or("a studio")?;
+    let packets = two_packets(alloc)?;
+    let mut feeds = Vec::new(alloc);
+    feeds.push(MemoryFeed::new(&packets))?;
+    feeds.push(MemoryFeed::new(&[]))?;
+    let clocks = clocks(alloc, 1, &[0])?;
+    let sink = FailingSink::new(&rt, alloc, 1);
+    let (report, sink) = run(&rt, alloc, &studio, 64, feeds, clocks, sink)?;
+    assert_eq!(rt; only(&rt, &report).got, 2);
+    assert_eq!(rt; sends(&report), (2, [2, 1], [0, 1]));
+    gave_both(&rt, sink.handed());
+    Ok(())
+}
+
+/// Runs one stream whose feeds fail: each so often before its first answer, and so often before each later one.
+/// Answers what arrived, was taken and double, and how often each feed failed.
+fn counts_with_faults<R: Threads + Wait + Abort + Sync>(
+    rt: &R,
+    alloc: Global,
+    feeds_of: [(u32, u32); 2],
+) -> Result<([u64; 3], [u64; 2]), Fail> {
+    let studio = one_stream(rt, alloc).ok_or("a studio")?;
+    let packets = two_packets(alloc)?;
+    let mut feeds = Vec::new(alloc);
+    for (first, later) in feeds_of {
+        feeds.push(FaultyFeed::new(first, later, &packets))?;
+    }
+    let clocks = clocks(alloc, 1, &[0])?;
+    let sink = MemorySink::new(alloc);
+    let (report, sink) = run(rt, alloc, &studio, 4, feeds, clocks, sink)?;
+    let counts = only(rt, &report);
+    assert_eq!(rt; (counts.got, report.blocks), (2, 2));
+    gave_both(rt, sink.kept());
+    let faults = match report.feed_faults.as_slice() {
+        [first, second] => [*first, *second],
+        _ => { panic!(rt; "two feeds") }
+    };
+    Ok(([counts.arrived, counts.taken, counts.double], faults))
+}
+
+/// A feed that fails is asked again, up to 999 times in a row; after 1,000 its path has ended.
+#[test]
+fn a_feed_ends_after_1000_faults(rt: HostRuntime) -> Result<(), Fail> {
+    let cases = [
+        ([(999, 0), (0, 0)], [4, 2, 2], [999, 0]),
+        ([(1_000, 0), (0, 0)], [2, 2, 0], [1_000, 0]),
+        ([(0, 0), (1_000, 0)], [2, 2, 0], [0, 1_000]),
+        ([(1, 1), (999, 1)], [4, 2, 2], [3, 1_001]),
+    ];
+    for (feeds, arrivals, faults) in cases {
+        let counts = counts_with_faults(&rt, rt.alloc(), feeds)?;
+        assert_eq!(rt; counts, (arrivals, faults), "{feeds:?}");
+    }
+    Ok(())
+}
