@@ -2,8 +2,8 @@
 ghost use Rattle.std.specs.Prelude.{◌≡◌, true, ℕ, ℤ, pos, ◌≤ℤ◌, length, IfOk, IfErr, OnOk};
 ghost use Rattle.std.specs.Thread.{IsSync};
 ghost use Rattle.studio_spec.specs.Studio.{IsStudio, Studio};
-ghost use Rattle.studio_rings.specs.Opened.{AreOpened};
-ghost use Rattle.studio_workers.specs.Settled.{AreOpenedTogether};
+ghost use Rattle.studio_rings.specs.FreshEnds.{AreOpened};
+ghost use Rattle.studio_workers.specs.StreamResults.{AreOpenedTogether};
 ghost use Rattle.studio_live.specs.Run.{FailsRun, IsEarly, IsRunOf, WritesRun};
 
 use crate::clock::SystemClock;

@@ -10,5 +10,5 @@ pub mod TokenLemmas
 pub mod AcceptedLemmas
 pub mod MixTurnLemmas
 pub mod MixLemmas
-pub mod GivenLemmas
+pub mod DatagramLemmas
 pub mod OpenLemmas

@@ -16,7 +16,7 @@ use Rattle.studio_mix.specs.Mixer.{HasFeeds, MixerState}
 use Rattle.studio_rings.specs.Fitting.{fitting}
 use Rattle.studio_rings.specs.Streams.{AllDelivered, StreamHasHistory}
 use Rattle.studio_rings.specs.AcceptedFeeds.{accepted_feeds}
-use Rattle.studio_rings.specs.Opened.{AllFreshPaths, AllFreshRings, AllFreshStreams, AreFreshRings, IsFreshPath, IsFreshStream}
+use Rattle.studio_rings.specs.FreshEnds.{AllFreshPaths, AllFreshRings, AllFreshStreams, AreFreshRings, IsFreshPath, IsFreshStream}
 use Rattle.studio_rings.specs.Opening.{AddsStream, AllUnread, AreFreshEnds}
 use Rattle.studio_rings.specs.declared.side.Side.{Side}
 use Rattle.studio_rings.specs.declared.path_end.PathEnd.{PathEnd}

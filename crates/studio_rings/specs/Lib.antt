@@ -8,9 +8,9 @@ pub mod Streams
 pub mod AcceptedFeeds
 pub mod Mixes
 pub mod MixEnds
-pub mod Given
+pub mod Datagrams
 pub mod Tokens
-pub mod Opened
+pub mod FreshEnds
 pub mod Opening
 pub use Rattle.rtp_wire.specs.Datagram
 pub use Rattle.stream_rules.specs.StreamSpecFacts

@@ -3,7 +3,7 @@ use Rattle.std.specs.Prelude.{◌≡◌, ℕ, List, [], ◌∷◌, ◌++◌, ℤ
 use Rattle.rtrb.specs.Ring.{received}
 use Rattle.stream_rules.specs.declared.stream_spec.Stream.{Stream}
 use Rattle.stream_rules.specs.MarkFacts.{MarkView}
-use Rattle.studio_rings.specs.Opened.{AllFreshRings, AllFreshStreams, AreFreshRings, IsFreshStream}
+use Rattle.studio_rings.specs.FreshEnds.{AllFreshRings, AllFreshStreams, AreFreshRings, IsFreshStream}
 use Rattle.studio_rings.specs.declared.side.Side.{Side}
 use Rattle.studio_rings.specs.declared.path_end.PathEnd.{PathEnd}
 use Rattle.studio_rings.specs.declared.stream_end.StreamEnd.{StreamEnd}

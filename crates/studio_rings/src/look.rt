@@ -1,5 +1,5 @@
 //! Which rings are finished and drained.
-ghost use Rattle.std.specs.Prelude.{◌≡◌, ◌≤◌, ◌↔◌, IsTrue, length, vec_len, false};
+ghost use Rattle.std.specs.Prelude.{◌≡◌, ◌≤◌, ◌↔◌, length, vec_len, false};
 ghost use Rattle.studio_rings.specs.Looks.{AllDrained, AllFalse, AllLookAt, AreOpen};
 
 use crate::side::Side;

@@ -11,7 +11,7 @@ ghost use Rattle.studio_rings.specs.AcceptedFeeds.{accepted_feeds, received_tota
 ghost use Rattle.studio_rings.specs.Looks.{AllDrained, AllLookAt};
 ghost use Rattle.studio_rings.specs.Mixes.{AllTakeSome};
 ghost use Rattle.studio_rings.specs.MixEnds.{MixHasFeeds, MixesBlock};
-ghost use Rattle.studio_rings.specs.Given.{AreAllGiven, AreAllTold, HasGiven, given_after};
+ghost use Rattle.studio_rings.specs.Datagrams.{AreAllGiven, AreAllTold, HasGiven, given_after};
 ghost use Rattle.studio_rings.specs.Tokens.{HandsIn};
 
 use crate::look::look_at;

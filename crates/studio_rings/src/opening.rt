@@ -1,9 +1,9 @@
 //! Opens the rings of a studio.
-ghost use Rattle.std.specs.Prelude.{◌≡◌, ◌<◌, ◌≤◌, [], List, ◌++◌, IfOk, IfErr, OnOk, length, vec_len, None, ℤ, pos, ◌≤ℤ◌, ◌^◌};
-ghost use Rattle.studio_spec.specs.Studio.{Studio, IsStudio};
+ghost use Rattle.std.specs.Prelude.{◌≡◌, ◌<◌, ◌≤◌, [], List, ◌++◌, IfOk, IfErr, OnOk, length, vec_len, ℤ, pos, ◌≤ℤ◌, ◌^◌};
+ghost use Rattle.studio_spec.specs.Studio.{IsStudio};
 ghost use Rattle.studio_rings.specs.declared.path_end.PathEnd.{PathEnd};
-ghost use Rattle.studio_rings.specs.Given.{HasGiven};
-ghost use Rattle.studio_rings.specs.Opened.{AllFreshPaths, AreFreshRings, AreOpened, IsFreshPath, IsFreshStream, open_fault_of};
+ghost use Rattle.studio_rings.specs.Datagrams.{HasGiven};
+ghost use Rattle.studio_rings.specs.FreshEnds.{AllFreshPaths, AreFreshRings, AreOpened, IsFreshPath, IsFreshStream, open_fault_of};
 ghost use Rattle.studio_rings.specs.Opening.{AddsStream, AllUnread, AreFreshEnds};
 
 use crate::ends::{Ends, OpenFault};

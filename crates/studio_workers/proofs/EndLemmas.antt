@@ -22,7 +22,7 @@ use Rattle.path_merge.proofs.RestartOfferLemmas.{counted_arrivals}
 use Rattle.stream_rules.specs.PathCounts.{path_tally_of}
 use Rattle.stream_rules.specs.declared.path_counts.PathCounts.{PathCounts}
 use Rattle.studio_rings.specs.Fitting.{fitting}
-use Rattle.studio_rings.specs.Opened.{AllFreshPaths, IsFreshPath, IsFreshStream}
+use Rattle.studio_rings.specs.FreshEnds.{AllFreshPaths, IsFreshPath, IsFreshStream}
 use Rattle.studio_rings.specs.Streams.{StreamHasHistory, packets_by}
 use Rattle.studio_rings.specs.declared.path.PathDone.{PathDone}
 use Rattle.studio_rings.specs.declared.side.Side.{Side}

@@ -1,8 +1,8 @@
 pub mod FeedLemmas
 pub mod StreamTurnLemmas
 pub mod ZipLemmas
-pub mod MixingLemmas
-pub mod SettlingLemmas
+pub mod MixWorkerLemmas
+pub mod StreamTokenLemmas
 pub mod HandLemmas
 pub mod EndLemmas
 pub mod NestLemmas

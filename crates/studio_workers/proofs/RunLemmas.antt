@@ -15,8 +15,8 @@ use Rattle.studio_spec.specs.Studio.{Studio}
 use Rattle.studio_mix.specs.Feed.{Feed}
 use Rattle.stream_rules.specs.declared.stream_counts.StreamCounts.{StreamCounts}
 use Rattle.studio_mix.specs.Blocks.{AreBlocks}
-use Rattle.studio_rings.specs.Given.{AreAllGiven}
-use Rattle.studio_rings.specs.Opened.{AllFreshPaths, AllFreshRings, AllFreshStreams, AreFreshRings, AreOpened, IsFreshStream}
+use Rattle.studio_rings.specs.Datagrams.{AreAllGiven}
+use Rattle.studio_rings.specs.FreshEnds.{AllFreshPaths, AllFreshRings, AllFreshStreams, AreFreshRings, AreOpened, IsFreshStream}
 use Rattle.studio_rings.specs.declared.ends.Ends.{Ends}
 use Rattle.studio_rings.specs.declared.monitor_end.MonitorEnd.{MonitorEnd}
 use Rattle.studio_rings.specs.declared.path_end.PathEnd.{PathEnd}
@@ -26,10 +26,10 @@ use Rattle.studio_rings.specs.declared.stream_end.StreamEnd.{StreamEnd}
 use Rattle.studio_rings.specs.declared.mix_end.MixEnd.{MixEnd}
 use Rattle.studio_workers.specs.Answers.{Answer}
 use Rattle.studio_workers.specs.Jobs.{AreJobsOf, HaveRoom, feeds_in}
-use Rattle.studio_workers.specs.Mixing.{Mixes}
+use Rattle.studio_workers.specs.MixWorker.{Mixes}
 use Rattle.studio_workers.specs.Runs.{HaveStreamHistories, IsSettledRun, feeds_of}
-use Rattle.studio_workers.specs.Settled.{AreOpenedTogether, counts_in, dones_in, fault_numbers}
-use Rattle.studio_workers.specs.Settling.{AllGiveTokens, AllTellMarks, AreTold}
+use Rattle.studio_workers.specs.StreamResults.{AreOpenedTogether, counts_in, dones_in, fault_numbers}
+use Rattle.studio_workers.specs.StreamTokens.{AllGiveTokens, AllTellMarks, AreTold}
 use Rattle.studio_workers.specs.Streams.{AllReady, ArePairs, HasMarks, IsStreamResult, ends_of, told_of}
 use Rattle.studio_workers.specs.declared.path_job.PathJob.{PathJob}
 use Rattle.studio_workers.specs.declared.stream_job.StreamJob.{StreamJob}
@@ -37,7 +37,7 @@ use Rattle.studio_workers.specs.declared.stream_job.StreamResult.{StreamResult}
 use Rattle.studio_workers.specs.declared.report.WorkReport.{WorkReport}
 use Rattle.studio_workers.proofs.EndLemmas.{some_of}
 use Rattle.studio_workers.proofs.JobLemmas.{cut_once, map_length}
-use Rattle.studio_workers.proofs.SettlingLemmas.{AreTokensFor}
+use Rattle.studio_workers.proofs.StreamTokenLemmas.{AreTokensFor}
 
 module _ {F : Type 0} where
   pairs_of : (stream : Stream) (places : ℕ) (paths : List (PathJob F)) (sides : List (Side Packet)) → AllFreshPaths stream places (ends_of paths) sides → ArePairs paths sides

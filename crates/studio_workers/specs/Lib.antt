@@ -7,9 +7,9 @@ pub mod Streams
 pub mod Jobs
 pub mod Balances
 pub mod Sinks
-pub mod Mixing
-pub mod Settling
-pub mod Settled
+pub mod MixWorker
+pub mod StreamTokens
+pub mod StreamResults
 pub use Rattle.stream_rules.specs.StreamSpecFacts
 pub use Rattle.stream_rules.specs.History
 pub use Rattle.stream_rules.specs.Marks
@@ -19,4 +19,4 @@ pub use Rattle.studio_mix.specs.Feed
 pub use Rattle.stream_rules.specs.Reception
 pub use Rattle.stream_rules.specs.PathCounts
 pub use Rattle.studio_mix.specs.Blocks
-pub use Rattle.studio_rings.specs.Opened
+pub use Rattle.studio_rings.specs.FreshEnds

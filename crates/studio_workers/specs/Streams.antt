@@ -10,7 +10,7 @@ use Rattle.stream_rules.specs.declared.packet.Packet.{Packet}
 use Rattle.stream_rules.specs.declared.event.Event.{Event}
 use Rattle.stream_rules.specs.declared.event.Event.TheVariants.{Close}
 use Rattle.stream_rules.specs.History.{is_closed, is_well_timed}
-use Rattle.studio_rings.specs.Opened.{IsFreshStream}
+use Rattle.studio_rings.specs.FreshEnds.{IsFreshStream}
 use Rattle.studio_rings.specs.Streams.{StreamHasHistory}
 use Rattle.studio_rings.specs.Tokens.{HandsIn}
 use Rattle.studio_rings.specs.declared.path.PathDone.{PathDone}

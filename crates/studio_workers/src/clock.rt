@@ -1,5 +1,5 @@
 //! What tells the time.
-ghost use Rattle.std.specs.Prelude.{◌≡◌, List, ℤ};
+ghost use Rattle.std.specs.Prelude.{List, ℤ};
 ghost use Rattle.studio_workers.specs.Clocks.{TellsTime};
 
 /// A receiver's clock, in sampling instants. A worker goes by the greatest answer so far.

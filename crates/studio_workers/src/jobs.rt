@@ -2,7 +2,7 @@
 ghost use Rattle.std.specs.Prelude.{◌≡◌, ◌+◌, ◌≤◌, ◌++◌, List, ℕ, ℤ, length, vec_len, IfOk};
 ghost use Rattle.std.specs.Vec.Iter.{into_iter_items, into_iter_len};
 ghost use Rattle.stream_rules.specs.declared.stream_spec.Stream.{Stream};
-ghost use Rattle.studio_rings.specs.Opened.{AllFreshStreams};
+ghost use Rattle.studio_rings.specs.FreshEnds.{AllFreshStreams};
 ghost use Rattle.studio_workers.specs.Jobs.{AreJobsOf, HasRoom, HaveRoom, feeds_in};
 ghost use Rattle.studio_workers.specs.Streams.{ends_of};
 

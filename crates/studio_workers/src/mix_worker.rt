@@ -1,6 +1,6 @@
 //! The worker of the mixer.
 ghost use Rattle.std.specs.Prelude.{true};
-ghost use Rattle.studio_workers.specs.Mixing.{Mixes};
+ghost use Rattle.studio_workers.specs.MixWorker.{Mixes};
 
 use crate::pause::Pause;
 use crate::send_counts::SendCounts;

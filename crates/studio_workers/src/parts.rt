@@ -1,6 +1,6 @@
 //! What the streams' workers came to, in the parts of a report.
-ghost use Rattle.std.specs.Prelude.{◌≡◌, ◌≤◌, map, vec_len, vec_capacity, IfOk};
-ghost use Rattle.studio_workers.specs.Settled.{counts_in, dones_in, fault_numbers};
+ghost use Rattle.std.specs.Prelude.{◌≡◌, ◌≤◌, vec_len, vec_capacity, IfOk};
+ghost use Rattle.studio_workers.specs.StreamResults.{counts_in, dones_in, fault_numbers};
 
 use crate::stream_job::StreamResult;
 use std::alloc::{AllocError, Global};

@@ -4,13 +4,13 @@ ghost use Rattle.stream_rules.specs.declared.stream_spec.Stream.{Stream};
 ghost use Rattle.studio_spec.specs.Studio.{IsStudio, Studio};
 ghost use Rattle.studio_mix.specs.Feed.{Feed as FeedMarks};
 ghost use Rattle.studio_mix.specs.Blocks.{AreBlocks};
-ghost use Rattle.studio_rings.specs.Given.{AreAllGiven};
-ghost use Rattle.studio_rings.specs.Opened.{AllFreshStreams};
+ghost use Rattle.studio_rings.specs.Datagrams.{AreAllGiven};
+ghost use Rattle.studio_rings.specs.FreshEnds.{AllFreshStreams};
 ghost use Rattle.studio_workers.specs.Balances.{Balances};
 ghost use Rattle.studio_workers.specs.Jobs.{AreJobsOf, HaveRoom};
 ghost use Rattle.studio_workers.specs.Runs.{IsSettledRun};
-ghost use Rattle.studio_workers.specs.Settled.{AreOpenedTogether};
-ghost use Rattle.studio_workers.specs.Settling.{AllGiveTokens, AreAllDrained, AreTokensOf, AreTold};
+ghost use Rattle.studio_workers.specs.StreamResults.{AreOpenedTogether};
+ghost use Rattle.studio_workers.specs.StreamTokens.{AllGiveTokens, AreAllDrained, AreTokensOf, AreTold};
 
 use crate::clock::Clock;
 use crate::feed::Feed;

@@ -1,10 +1,10 @@
 //! The end of the mixer's end: the tokens of all streams, and whether that is all.
-ghost use Rattle.std.specs.Prelude.{◌≡◌, ◌↔◌, ℕ, List, IsTrue, true, vec_len};
+ghost use Rattle.std.specs.Prelude.{◌≡◌, ◌↔◌, ℕ, List, IsTrue, true};
 ghost use Rattle.studio_spec.specs.Studio.{Studio};
 ghost use Rattle.studio_mix.specs.Feed.{Feed};
 ghost use Rattle.studio_mix.specs.Blocks.{AreBlocks};
-ghost use Rattle.studio_rings.specs.Given.{AreAllGiven};
-ghost use Rattle.studio_workers.specs.Settling.{AllGiveTokens, AreAllDrained, AreTokensOf, AreTold, HaveTokens};
+ghost use Rattle.studio_rings.specs.Datagrams.{AreAllGiven};
+ghost use Rattle.studio_workers.specs.StreamTokens.{AllGiveTokens, AreAllDrained, AreTokensOf, AreTold, HaveTokens};
 
 use studio_rings::{MixEnd, StreamDone};
 

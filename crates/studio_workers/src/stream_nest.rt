@@ -3,7 +3,7 @@ ghost use Rattle.std.specs.Prelude.{◌≡◌, ◌+◌, ◌≤◌, ◌++◌, [],
 ghost use Rattle.std.specs.Option.{option_to_list};
 ghost use Rattle.std.specs.Thread.{IsSync};
 ghost use Rattle.std.specs.List.{AllZip};
-ghost use Rattle.studio_workers.specs.Mixing.{Mixes};
+ghost use Rattle.studio_workers.specs.MixWorker.{Mixes};
 ghost use Rattle.studio_workers.specs.Streams.{AllReady, IsReady, IsStreamResult};
 
 use crate::clock::Clock;

@@ -7,7 +7,7 @@ use Rattle.rtrb.specs.declared.producer.Producer.{Producer}
 use Rattle.stream_rules.specs.declared.stream_spec.Stream.{Stream}
 use Rattle.stream_rules.specs.MarkFacts.{MarkView}
 use Rattle.stream_rules.specs.declared.packet.Packet.{Packet}
-use Rattle.studio_rings.specs.Opened.{AllFreshPaths, AllFreshRings, AllFreshStreams}
+use Rattle.studio_rings.specs.FreshEnds.{AllFreshPaths, AllFreshRings, AllFreshStreams}
 use Rattle.thread_tests.specs.OneStream.{AreOfOneStream}
 use Rattle.studio_rings.specs.Tokens.{HandsIn}
 use Rattle.studio_rings.specs.declared.side.Side.{Side}

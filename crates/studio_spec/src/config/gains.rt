@@ -1,5 +1,5 @@
 //! Gains of a table as a matrix.
-ghost use Rattle.std.specs.Prelude.{◌≡◌, ◌≤◌, ◌++◌, ◌*◌, ◌⊎◌, ◌&&◌, ◌==◌, true, Some, None, OnOk, IfOk, IfErr, map, length};
+ghost use Rattle.std.specs.Prelude.{◌≡◌, ◌≤◌, ◌++◌, ◌⊎◌, ◌&&◌, ◌==◌, true, Some, None, OnOk, IfOk, IfErr, map, length};
 ghost use Rattle.std.specs.List.{list_all, flat_map};
 ghost use Rattle.gain_mix.specs.Gain.{ins_of};
 ghost use Rattle.gain_mix.specs.Matrix.{has_range};

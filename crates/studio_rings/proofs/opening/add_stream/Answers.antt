@@ -1,6 +1,6 @@
 use Rattle.std.proofs.Common.{◌≡◌, subst, to_z, of_z, w64}
 use Rattle.std.proofs.lemmas.Int.{to_z-of_z}
-use Rattle.studio_rings.specs.Opened.{IsFreshStream}
+use Rattle.studio_rings.specs.FreshEnds.{IsFreshStream}
 use Rattle.studio_rings.proofs.opening.add_stream.Goals as goal
 
 pub returns : goal.returns

@@ -1,6 +1,6 @@
 use Rattle.std.proofs.Common.{rules, ◌≡◌, ◌∙◌, ◌<◌, arith, length, vec_len, refl, subst}
 use Rattle.mix_packets.specs.declared.out_spec.Output.{Output}
-use Rattle.studio_rings.proofs.GivenLemmas.{given-fresh}
+use Rattle.studio_rings.proofs.DatagramLemmas.{given-fresh}
 use Rattle.studio_rings.proofs.OpenLemmas.{feeds-unread, lanes_count, unread_count}
 use Rattle.studio_rings.proofs.opening.open_mix.Goals as goal
 

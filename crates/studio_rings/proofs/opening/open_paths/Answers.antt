@@ -1,5 +1,5 @@
 use Rattle.std.proofs.Common.{arith, ◌+◌, ◌++◌, ◌∷◌, [], ap, sym, subst, ◌∙◌, append_assoc, length-append}
-use Rattle.studio_rings.specs.Opened.{AllFreshPaths}
+use Rattle.studio_rings.specs.FreshEnds.{AllFreshPaths}
 use Rattle.studio_rings.proofs.OpenLemmas.{fresh_paths-snoc}
 use Rattle.studio_rings.proofs.opening.open_paths.Goals as goal
 

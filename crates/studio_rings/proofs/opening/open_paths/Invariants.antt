@@ -1,5 +1,5 @@
 use Rattle.std.proofs.Common.{◌≡◌, List, ◌++◌, length, vec_len}
-use Rattle.studio_rings.specs.Opened.{AllFreshPaths}
+use Rattle.studio_rings.specs.FreshEnds.{AllFreshPaths}
 use Rattle.studio_rings.specs.declared.path_end.PathEnd.{PathEnd}
 use Rattle.studio_rings.proofs.opening.open_paths.Given as goal
 

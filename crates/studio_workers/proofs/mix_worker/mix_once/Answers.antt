@@ -1,5 +1,5 @@
 use Rattle.std.proofs.Common.{rules, refl}
-use Rattle.studio_workers.proofs.MixingLemmas.{mixes-idle, mixes-one}
+use Rattle.studio_workers.proofs.MixWorkerLemmas.{mixes-idle, mixes-one}
 use Rattle.studio_workers.proofs.mix_worker.mix_once.Goals as goal
 
 pub returns-then-is_none : goal.returns-then-is_none

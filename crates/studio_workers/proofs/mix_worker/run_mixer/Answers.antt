@@ -1,6 +1,6 @@
 use Rattle.std.proofs.Common.{sym, subst}
-use Rattle.studio_workers.specs.Mixing.{Mixes}
-use Rattle.studio_workers.proofs.MixingLemmas.{mixes-more, mixes-none, mixes-on}
+use Rattle.studio_workers.specs.MixWorker.{Mixes}
+use Rattle.studio_workers.proofs.MixWorkerLemmas.{mixes-more, mixes-none, mixes-on}
 use Rattle.studio_workers.proofs.mix_worker.run_mixer.Goals as goal
 
 pub loop-init : goal.loop-init

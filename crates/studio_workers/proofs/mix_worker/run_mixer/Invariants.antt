@@ -1,5 +1,5 @@
 use Rattle.std.proofs.Common.{false}
-use Rattle.studio_workers.specs.Mixing.{Mixes}
+use Rattle.studio_workers.specs.MixWorker.{Mixes}
 use Rattle.studio_workers.proofs.mix_worker.run_mixer.Given as goal
 
 abbrev pub invariant-loop : goal.invariant-loop

@@ -1,6 +1,6 @@
 use Rattle.std.proofs.Common.{◌≡◌, ◌+◌, ◌≤◌, ◌++◌, length, vec_len, vec_capacity}
 use Rattle.std.specs.Vec.Iter.{into_iter_items, into_iter_len}
-use Rattle.studio_workers.specs.Settled.{counts_in, dones_in, fault_numbers}
+use Rattle.studio_workers.specs.StreamResults.{counts_in, dones_in, fault_numbers}
 use Rattle.studio_workers.proofs.parts.take_apart.Given as goal
 
 abbrev pub invariant-loop-result : goal.invariant-loop-result

@@ -3,8 +3,8 @@ use Rattle.std.specs.Vec.Iter.{into_iter_items}
 use Rattle.studio_rings.specs.Tokens.{HandsIn}
 use Rattle.studio_rings.specs.declared.mix_end.MixEnd.{MixEnd}
 use Rattle.studio_rings.specs.declared.stream.StreamDone.{StreamDone}
-use Rattle.studio_workers.specs.Settling.{AreTokensOf}
-use Rattle.studio_workers.proofs.SettlingLemmas.{hands-none, hands-some, place-within, token-at, tokens-more}
+use Rattle.studio_workers.specs.StreamTokens.{AreTokensOf}
+use Rattle.studio_workers.proofs.StreamTokenLemmas.{hands-none, hands-some, place-within, token-at, tokens-more}
 use Rattle.studio_workers.proofs.settle.hand_in_all.Goals as goal
 use Rattle.studio_workers.proofs.settle.hand_in_all.Goals.{in-Some-done, in_default}
 

@@ -1,6 +1,6 @@
 use Rattle.std.proofs.Common.{◌≡◌, length, ◌++◌}
 use Rattle.std.specs.Vec.Iter.{into_iter_items}
-use Rattle.studio_workers.specs.Settling.{HaveTokens}
+use Rattle.studio_workers.specs.StreamTokens.{HaveTokens}
 use Rattle.studio_workers.proofs.settle.hand_in_all.Given as goal
 
 abbrev pub invariant-loop-done : goal.invariant-loop-done

@@ -1,6 +1,6 @@
 use Rattle.std.proofs.Common.{sym, subst}
 use Rattle.studio_mix.specs.Blocks.{AreBlocks}
-use Rattle.studio_workers.proofs.SettlingLemmas.{all-gave, all-tell, drained-exactly, feeds-settled}
+use Rattle.studio_workers.proofs.StreamTokenLemmas.{all-gave, all-tell, drained-exactly, feeds-settled}
 use Rattle.studio_workers.proofs.settle.settle.Goals as goal
 
 pub returns-clause-exactly : goal.returns-clause-exactly

@@ -1,7 +1,7 @@
 use Rattle.std.proofs.Common.{◌≡◌, Bool, true, false, not, refl, subst, sym, ◌∙◌}
 use Rattle.studio_mix.specs.Mixer.{HasFeeds}
 use Rattle.studio_mix.specs.Blocks.{AreBlocks}
-use Rattle.studio_rings.proofs.GivenLemmas.{given-same, told-all}
+use Rattle.studio_rings.proofs.DatagramLemmas.{given-same, told-all}
 use Rattle.studio_rings.proofs.TokenLemmas.{feeds-looked}
 use Rattle.studio_rings.proofs.mix_end.MixEnd.settled.Goals as goal
 

@@ -1,7 +1,7 @@
 use Rattle.std.proofs.Common.{rules, refl, subst, sym, IsSome, IfSome, ◌≡◌}
 use Rattle.rtrb.specs.Ring.{all_sent}
 use Rattle.studio_mix.specs.Mixer.{HasFeeds}
-use Rattle.studio_rings.proofs.GivenLemmas.{given-same}
+use Rattle.studio_rings.proofs.DatagramLemmas.{given-same}
 use Rattle.studio_rings.proofs.TokenLemmas.{feeds-handed, hands_in}
 use Rattle.studio_rings.proofs.mix_end.MixEnd.stream_done.Goals as goal
 

@@ -1,5 +1,5 @@
 use Rattle.std.proofs.Common.{length}
-use Rattle.studio_rings.proofs.GivenLemmas.{given-all, given-turn}
+use Rattle.studio_rings.proofs.DatagramLemmas.{given-all, given-turn}
 use Rattle.studio_rings.proofs.MixLemmas.{mixes}
 use Rattle.studio_rings.proofs.mix_end.MixEnd.turn.Goals as goal
 

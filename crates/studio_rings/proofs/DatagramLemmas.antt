@@ -26,7 +26,7 @@ use Rattle.studio_rings.specs.Looks.{AllDrained}
 use Rattle.studio_rings.specs.Mixes.{AllTakeSome}
 use Rattle.studio_rings.specs.AcceptedFeeds.{accepted_feeds}
 use Rattle.studio_rings.specs.MixEnds.{MixHasFeeds, MixesBlock, given}
-use Rattle.studio_rings.specs.Given.{AllTell, AreAllGiven, HasGiven, given_after}
+use Rattle.studio_rings.specs.Datagrams.{AllTell, AreAllGiven, HasGiven, given_after}
 use Rattle.studio_rings.specs.declared.side.Side.{Side}
 use Rattle.studio_rings.specs.declared.mix.MixNote.{MixNote}
 use Rattle.studio_rings.specs.declared.mix_end.MixEnd.{MixEnd}

@@ -7,11 +7,11 @@ use Rattle.mix_packets.specs.OutSpec.{datagram_length}
 use Rattle.studio_spec.specs.Studio.{Studio}
 use Rattle.studio_rings.specs.Mixes.{AllTakeSome}
 use Rattle.studio_rings.specs.MixEnds.{MixHasFeeds, MixesBlock}
-use Rattle.studio_rings.specs.Given.{AreAllGiven, HasGiven, given_after}
+use Rattle.studio_rings.specs.Datagrams.{AreAllGiven, HasGiven, given_after}
 use Rattle.studio_rings.specs.declared.side.Side.{Side}
 use Rattle.studio_rings.specs.declared.mix.MixNote.{MixNote}
 use Rattle.studio_rings.specs.declared.mix_end.MixEnd.{MixEnd}
-use Rattle.studio_workers.specs.Mixing.{AreSameSides, Mixes}
+use Rattle.studio_workers.specs.MixWorker.{AreSameSides, Mixes}
 use Rattle.studio_workers.specs.Sinks.{Hands}
 
 consumers : {T A P : Type 0} (a b c : Consumer T A P) → SameConsumer a b → SameConsumer b c → SameConsumer a c

@@ -3,7 +3,7 @@ use Rattle.std.specs.Prelude.{◌≡◌, ℕ, ◌+◌, ◌<◌, ◌^◌, Bool, t
 use Rattle.rtrb.specs.Ring.{SameConsumer}
 use Rattle.stream_rules.specs.MarkFacts.{MarkView}
 use Rattle.studio_spec.specs.Studio.{Studio}
-use Rattle.studio_rings.specs.Given.{AreAllGiven, HasGiven}
+use Rattle.studio_rings.specs.Datagrams.{AreAllGiven, HasGiven}
 use Rattle.studio_rings.specs.declared.side.Side.{Side}
 use Rattle.studio_rings.specs.declared.mix_end.MixEnd.{MixEnd}
 use Rattle.studio_workers.specs.Sinks.{Hands}

@@ -1,8 +1,8 @@
 -- What the results of all streams come to.
 use Rattle.std.specs.Prelude.{ℕ, List, [], map, vec_len, sum_by, Option}
 use Rattle.studio_spec.specs.Studio.{Studio}
-use Rattle.studio_rings.specs.Given.{HasGiven}
-use Rattle.studio_rings.specs.Opened.{AllFreshRings, AllFreshStreams}
+use Rattle.studio_rings.specs.Datagrams.{HasGiven}
+use Rattle.studio_rings.specs.FreshEnds.{AllFreshRings, AllFreshStreams}
 use Rattle.studio_rings.specs.declared.ends.Ends.{Ends}
 use Rattle.studio_rings.specs.declared.monitor_end.MonitorEnd.{MonitorEnd}
 use Rattle.studio_rings.specs.declared.stream.StreamDone.{StreamDone}

@@ -13,14 +13,14 @@ use Rattle.studio_rings.specs.Side.{IsDrained}
 use Rattle.studio_rings.specs.Looks.{AllDrained, AllLookAt, LooksAt}
 use Rattle.studio_rings.specs.Tokens.{HandsIn}
 use Rattle.studio_rings.specs.AcceptedFeeds.{accepted_feeds}
-use Rattle.studio_rings.specs.Given.{AllTell}
-use Rattle.studio_rings.specs.Opened.{AllFreshRings}
+use Rattle.studio_rings.specs.Datagrams.{AllTell}
+use Rattle.studio_rings.specs.FreshEnds.{AllFreshRings}
 use Rattle.studio_rings.specs.declared.side.Side.{Side}
 use Rattle.studio_rings.specs.declared.monitor_end.MonitorEnd.{MonitorEnd}
 use Rattle.studio_rings.specs.declared.stream_end.StreamEnd.{StreamEnd}
 use Rattle.studio_rings.specs.declared.stream.StreamDone.{StreamDone}
-use Rattle.studio_workers.specs.Mixing.{AreSameSides}
-use Rattle.studio_workers.specs.Settling.{AllGiveTokens, AllTellMarks, AreAllDrained, AreTokensOf, HasTokenOf, HaveTokens}
+use Rattle.studio_workers.specs.MixWorker.{AreSameSides}
+use Rattle.studio_workers.specs.StreamTokens.{AllGiveTokens, AllTellMarks, AreAllDrained, AreTokensOf, HasTokenOf, HaveTokens}
 
 -- one token is handed in at a place, if there is one
 abbrev pub HandsInOne : Option StreamDone → List (Side MarkView) → ℕ → List (Side MarkView) → Type 0
