@@ -1,7 +1,7 @@
 //! Feeds that wait for each other, and a sink that waits for a clock: workers run at the same time.
 ghost use Rattle.std.specs.Prelude.{[], None};
 
-use super::workers::{clocks, gave_both, one_stream, only, run, two_packets};
+use super::workers::{SECOND, clocks, gave_both, one_stream, only, run, two_packets};
 use std::alloc::Global;
 use std::sync::Wait;
 use std::sync::atomic::{AtomicBool, AtomicU64, Ordering};
@@ -218,5 +218,64 @@ fn mixing_goes_on_beside_reception(rt: HostRuntime) -> Result<(), Fail> {
     let counts = only(&rt, &report);
     assert_eq!(rt; (counts.arrived, counts.got), (4, 2));
     gave_both(&rt, sink.sink.kept());
+    Ok(())
+}
+
+/// Answers only once both feeds told their end.
+#[derive(Drop)]
+struct LateClock<'a, R: Wait> {
+    rt: &'a R,
+    pause: Parker,
+    first: &'a AtomicBool,
+    second: &'a AtomicBool,
+}
+
+impl<'a, R: Wait> Clock for LateClock<'a, R> {
+    ghost told = { λ clock. [] };
+
+    fn now(&mut self) -> i64 {
+        for _ in 0..WAITS {
+            if self.first.load(Ordering::SeqCst) && self.second.load(Ordering::SeqCst) {
+                break;
+            }
+            self.pause.park_timeout(self.rt, Duration::from_millis(1));
+        }
+        0
+    }
+}
+
+/// Behind rings of one place that nobody empties, each packet of both feeds but the first is refused 1,001 times.
+#[test]
+fn packets_are_refused_at_full_rings(rt: HostRuntime) -> Result<(), Fail> {
+    let alloc = rt.alloc();
+    let studio = one_stream(&rt, alloc).ok_or("a studio")?;
+    let [first, second] = two_packets(alloc)?;
+    let packets = [first, second, Vec::from_slice(alloc, &SECOND)?];
+    let both_told = [AtomicBool::new(false), AtomicBool::new(false)];
+    let ends = AtomicBool::new(true);
+    let mut feeds = Vec::new(alloc);
+    for told in &both_told {
+        feeds.push(LastingFeed::new(&packets, told, &ends))?;
+    }
+    let [first, second] = &both_told;
+    let mut clocks = Vec::new(alloc);
+    clocks.push(LateClock {
+        rt: &rt,
+        pause: Parker::new(),
+        first,
+        second,
+    })?;
+    let sink = MemorySink::new(alloc);
+    let (report, _) = run(&rt, alloc, &studio, 1, feeds, clocks, sink)?;
+    let counts = only(&rt, &report);
+    assert_eq!(rt;
+        (counts.arrived, counts.taken, counts.double, counts.got),
+        (2, 1, 1, 1)
+    );
+    let paths = report.streams[0].paths.as_slice();
+    assert_eq!(rt; paths.len(), 2);
+    for path in paths {
+        assert_eq!(rt; (path.offered, path.sent, path.full), (2_003, 1, 2_002));
+    }
     Ok(())
 }

@@ -312,6 +312,28 @@ fn tokens_carry_the_end_to_the_mixer(rt: HostRuntime) -> Result<(), Fail> {
     Ok(())
 }
 
+/// One path has finished: the close names the other, whose packets still come.
+#[test]
+fn a_path_that_goes_on_keeps_its_stream_open(rt: HostRuntime) -> Result<(), Fail> {
+    let mut ends = one_stream(&rt, rt.alloc(), 64)?;
+    assert_eq!(rt; ends.first.offer(&FIRST), Offer::Sent);
+    let (done, _) = ends.first.finish();
+    let Some(done) = done else {
+        panic!(rt; "the stream's end is there")
+    };
+    ends.stream.path_done(0, done);
+    let took = turn(&rt, &mut ends.stream, 0);
+    assert_eq!(rt; took, (1, 0, 0, 0, StopReason::CaughtUp));
+    let Err(open) = ends.stream.close() else {
+        panic!(rt; "the second path goes on")
+    };
+    assert_eq!(rt; open.still_open, [false, true, false, false]);
+    assert_eq!(rt; ends.second.offer(&SECOND), Offer::Sent);
+    let took = turn(&rt, &mut ends.stream, 0);
+    assert_eq!(rt; took, (0, 1, 0, 0, StopReason::CaughtUp));
+    Ok(())
+}
+
 /// Rings of no place, or of 65,537, are refused.
 #[test]
 fn ring_lengths_are_bounded(rt: HostRuntime) -> Result<(), Fail> {
