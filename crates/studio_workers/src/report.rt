@@ -1,4 +1,6 @@
 //! What came of a run.
+ghost use Rattle.std.specs.Prelude.{◌≡◌};
+ghost use Rattle.studio_workers.specs.declared.report.WorkFault.TheVariants as fault;
 
 use std::alloc::AllocError;
 use stream_rules::StreamCounts;
@@ -35,6 +37,8 @@ pub enum WorkFault {
 }
 
 impl From<AllocError> for WorkFault {
+    ghost from_gives = { λ _ to. to ≡ fault.Memory };
+
     fn from(_error: AllocError) -> WorkFault {
         WorkFault::Memory
     }
