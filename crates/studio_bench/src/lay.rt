@@ -1,7 +1,7 @@
 //! Blocks of a mixer whose streams share its inputs: what laying their frames side by side adds.
 use crate::datagrams::number;
+use crate::studio::studio_of;
 use anyhow::bail;
-use gain_mix::{Matrix, Schedule};
 use mix_packets::OutSpec;
 use path_merge::{Body, Mark, StreamClock, StreamSpec};
 use rtp_wire::{Enc, Payload};
@@ -10,7 +10,6 @@ use std::env::Args;
 use std::rt::Clock;
 use std::time::Instant;
 use studio_mix::Mixer;
-use studio_spec::{StudioSpec, channel_total};
 
 /// The sampling instants of a block, and those of a stream's packets.
 const BLOCK: u16 = 48;
@@ -33,48 +32,45 @@ pub fn time_laying(
 ) -> anyhow::Result<()> {
     let streams = number(words)?;
     let channels = number(words)?;
-    let Ok(per_stream) = u8::try_from(channels) else {
-        bail!("too many channels");
-    };
-    let clock = StreamClock::Media { offset: 0 };
-    let spec = StreamSpec::new(Enc::L24, per_stream, PACKET, 96, None, clock, 12, 16, 2)?;
-    let studio = studio(alloc, spec, streams)?;
-    let mut mixer = Mixer::new(alloc, &studio)?;
-    let mut out = [0u8; 1452];
+    let spec = stream_of(channels)?;
+    let mut mixer = mixer_of(alloc, spec, streams)?;
     let mut nanos: u128 = 0;
     for block in 0..BLOCKS {
         feed_block(&mut mixer, &spec, block)?;
-        let _room = mixer.output().datagram_len();
-        let start = Instant::now(rt)?;
-        let len = mixer.next_block(&mut out);
-        nanos = nanos.wrapping_add(start.elapsed(rt)?.as_nanos());
-        if len.is_none() {
-            bail!("the block is not ready");
-        }
+        nanos = nanos.wrapping_add(time_block(rt, &mut mixer)?);
     }
     println!(rt; "lay {streams} {channels} {}", nanos / u128::from(BLOCKS))?;
     Ok(())
 }
 
-/// Like streams, mixed into eight outputs of blocks of 48.
-fn studio(alloc: Global, spec: StreamSpec, count: u32) -> anyhow::Result<StudioSpec> {
+/// A stream of so many channels.
+fn stream_of(channels: u32) -> anyhow::Result<StreamSpec> {
+    let Ok(channels) = u8::try_from(channels) else {
+        bail!("too many channels");
+    };
+    let clock = StreamClock::Media { offset: 0 };
+    let spec = StreamSpec::new(Enc::L24, channels, PACKET, 96, None, clock, 12, 16, 2)?;
+    Ok(spec)
+}
+
+/// The mixer of so many streams.
+fn mixer_of(alloc: Global, spec: StreamSpec, streams: u32) -> anyhow::Result<Mixer> {
     let output = OutSpec::new(Enc::L24, OUTPUTS, BLOCK, 97, 2, 0, 0, 0)?;
-    let mut streams = Vec::new(alloc);
-    for _ in 0..count {
-        streams.push(spec)?;
+    let studio = studio_of(alloc, spec, streams, output, 1000)?;
+    Ok(Mixer::new(alloc, &studio)?)
+}
+
+/// Mixes the next block, and answers the nanoseconds that it took.
+fn time_block(rt: &impl Clock, mixer: &mut Mixer) -> anyhow::Result<u128> {
+    let mut out = [0u8; 1452];
+    let _room = mixer.output().datagram_len();
+    let start = Instant::now(rt)?;
+    let len = mixer.next_block(&mut out);
+    let nanos = start.elapsed(rt)?.as_nanos();
+    if len.is_none() {
+        bail!("the block is not ready");
     }
-    if streams.is_empty() || streams.len() > 16 {
-        bail!("streams are 1 to 16");
-    }
-    let ins = channel_total(&streams);
-    let mut gains = Vec::new(alloc);
-    gains.resize(ins.saturating_mul(usize::from(OUTPUTS)), 1000)?;
-    let matrix = Matrix::new(alloc, usize::from(OUTPUTS), ins, &gains)?;
-    let schedule = Schedule::new(matrix, Vec::new(alloc))?;
-    if schedule.outs() != usize::from(output.channels()) || schedule.ins() != ins {
-        bail!("the gains do not fit");
-    }
-    Ok(StudioSpec::new(0, streams, output, schedule))
+    Ok(nanos)
 }
 
 /// The marks of a block, of each stream.

@@ -10,6 +10,7 @@ mod merge;
 mod mix;
 mod rings;
 mod samples;
+mod studio;
 mod workers;
 
 use anyhow::bail;

@@ -39,18 +39,33 @@ pub fn time_merge(
     let halves = number(words)?;
     let spec = stream(octets, width)?;
     let datagrams = make_datagrams(alloc, &spec)?;
-    let first = make_steps(alloc, 0..HALF)?;
-    let second = make_steps(alloc, HALF..NUMBERS)?;
-    let mut merge = Merge::new(alloc, spec, 0)?;
-    let mut sum = merge_all(&mut merge, &spec, &datagrams, &first);
-    let mut picos = 0;
-    if halves == 2 {
-        let start = Instant::now(rt)?;
-        sum = sum.wrapping_add(merge_all(&mut merge, &spec, &datagrams, &second));
-        picos = start.elapsed(rt)?.as_nanos() * 1000 / u128::from(NUMBERS);
-    }
+    let merge = Merge::new(alloc, spec, 0)?;
+    let (picos, sum) = time_halves(rt, alloc, merge, &spec, &datagrams, halves)?;
     println!(rt; "merge {octets} {width} {picos} {sum}")?;
     Ok(())
+}
+
+/// Fills the window by the first half, and times the second where there is one.
+fn time_halves(
+    rt: &impl Clock,
+    alloc: Global,
+    mut merge: Merge<SlotWindow>,
+    spec: &StreamSpec,
+    datagrams: &Datagrams,
+    halves: u32,
+) -> anyhow::Result<(u128, u64)>
+    requires { merge.spec ≡ spec.now }
+{
+    let first = make_steps(alloc, 0..HALF)?;
+    let second = make_steps(alloc, HALF..NUMBERS)?;
+    let sum = merge_all(&mut merge, spec, datagrams, &first);
+    if halves != 2 {
+        return Ok((0, sum));
+    }
+    let start = Instant::now(rt)?;
+    let more = merge_all(&mut merge, spec, datagrams, &second);
+    let picos = start.elapsed(rt)?.as_nanos() * 1000 / u128::from(NUMBERS);
+    Ok((picos, sum.wrapping_add(more)))
 }
 
 /// What happens at these numbers: each path loses one packet in a hundred, the first one swaps two in fifty,

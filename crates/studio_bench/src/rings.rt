@@ -1,7 +1,7 @@
 //! Packets from a path's end to the mixer's: ready datagrams in, marks taken, by one thread or by two.
 use crate::datagrams::{Datagrams, NUMBERS, make_datagrams, number, stream};
+use crate::studio::studio_of;
 use anyhow::bail;
-use gain_mix::{Matrix, Schedule};
 use mix_packets::OutSpec;
 use path_merge::StreamSpec;
 use rtp_wire::Enc;
@@ -13,7 +13,6 @@ use std::thread::Threads;
 use std::time::Instant;
 use std::{hint, thread};
 use studio_rings::{Ends, MixEnd, Offer, PathEnd, StreamEnd, open};
-use studio_spec::StudioSpec;
 
 /// The places of each ring.
 const PLACES: usize = 64;
@@ -49,51 +48,62 @@ pub fn time_rings(
     let threads = number(words)?;
     let spec = stream(octets, WIDTH)?;
     let datagrams = make_datagrams(alloc, &spec)?;
-    let studio = studio(alloc, spec)?;
+    let (path, taker) = open_ends(alloc, spec)?;
+    let (taker, nanos) = timed(rt, threads, path, &datagrams, taker)?;
+    println!(rt;
+        "rings {octets} {threads} {} {} {}",
+        nanos / u128::from(NUMBERS),
+        taker.marks,
+        taker.datagrams
+    )?;
+    Ok(())
+}
+
+/// The ends of one stream, whose output has one channel in the same packets.
+fn open_ends(alloc: Global, spec: StreamSpec) -> anyhow::Result<(PathEnd, Taker)> {
+    let output = OutSpec::new(Enc::L24, 1, spec.frames(), 97, 2, 0, 0, 0)?;
+    let studio = studio_of(alloc, spec, 1, output, 32_768)?;
+    let ends = open(alloc, &studio, PLACES)?;
+    taken_apart(ends, spec.frames())
+}
+
+/// The first path's end, and the ends behind it.
+fn taken_apart(ends: Ends, frames: u16) -> anyhow::Result<(PathEnd, Taker)> {
     let Ends {
         mut paths,
         mut streams,
         monitors: _,
         mix,
-    } = open(alloc, &studio, PLACES)?;
+    } = ends;
     let (Some(path), Some(stream)) = (paths.pop(), streams.pop()) else {
         bail!("one stream");
     };
     let taker = Taker {
         stream,
         mix,
-        frames: spec.frames(),
+        frames,
         came: 0,
         marks: 0,
         datagrams: 0,
     };
-    let start = Instant::now(rt)?;
-    let taker = match threads {
-        1 => by_one(path, &datagrams, taker),
-        2 => by_two(rt, path, &datagrams, taker)?,
-        _ => bail!("threads are 1 or 2"),
-    };
-    let nanos = start.elapsed(rt)?.as_nanos() / u128::from(NUMBERS);
-    println!(rt;
-        "rings {octets} {threads} {nanos} {} {}",
-        taker.marks, taker.datagrams
-    )?;
-    Ok(())
+    Ok((path, taker))
 }
 
-/// One stream, and an output of one channel in the same packets.
-fn studio(alloc: Global, spec: StreamSpec) -> anyhow::Result<StudioSpec> {
-    let output = OutSpec::new(Enc::L24, 1, spec.frames(), 97, 2, 0, 0, 0)?;
-    let ins = usize::from(spec.channels());
-    let mut gains = Vec::new(alloc);
-    gains.resize(ins, 32_768)?;
-    let schedule = Schedule::new(Matrix::new(alloc, 1, ins, &gains)?, Vec::new(alloc))?;
-    if schedule.outs() != usize::from(output.channels()) || schedule.ins() != ins {
-        bail!("the gains do not fit");
-    }
-    let mut streams = Vec::new(alloc);
-    streams.push(spec)?;
-    Ok(StudioSpec::new(0, streams, output, schedule))
+/// Hands all datagrams through, by one thread or two, and says how many nanoseconds that took.
+fn timed(
+    rt: &(impl Clock + Threads + Wait + Sync),
+    threads: u32,
+    path: PathEnd,
+    datagrams: &Datagrams,
+    taker: Taker,
+) -> anyhow::Result<(Taker, u128)> {
+    let start = Instant::now(rt)?;
+    let taker = match threads {
+        1 => by_one(path, datagrams, taker),
+        2 => by_two(rt, path, datagrams, taker)?,
+        _ => bail!("threads are 1 or 2"),
+    };
+    Ok((taker, start.elapsed(rt)?.as_nanos()))
 }
 
 impl Taker {

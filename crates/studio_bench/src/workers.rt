@@ -6,8 +6,8 @@ mod plain;
 
 use self::plain::{FRAMES, GAIN, OCTETS, PATHS, STREAMS};
 use crate::datagrams::number;
+use crate::studio::studio_of;
 use anyhow::bail;
-use gain_mix::{Matrix, Schedule};
 use mix_packets::OutSpec;
 use path_merge::{StreamClock, StreamSpec};
 use rtp_wire::Enc;
@@ -19,7 +19,7 @@ use std::sync::atomic::{AtomicU64, Ordering};
 use std::thread::Threads;
 use std::time::{Duration, Instant};
 use studio_rings::open;
-use studio_spec::{StudioSpec, channel_total};
+use studio_spec::StudioSpec;
 use studio_workers::{Clock, Feed, FeedAnswer, SendAnswer, Sink, WorkReport, run_workers};
 
 /// A stream's latency, in sampling instants, and its window in packets.
@@ -203,14 +203,7 @@ pub fn run_long<R: Threads + Wait + Sync + SystemTime + Print>(
 ) -> anyhow::Result<()> {
     let seconds = number(words)?;
     let places = number(words)?;
-    let studio = studio(alloc)?;
     let progress = Progress::new(alloc)?;
-    let ends = open(alloc, &studio, places as usize)?;
-    let feeds = feeds_of(alloc, &progress)?;
-    let clocks = clocks_of(alloc, &progress)?;
-    if feeds.len() != ends.paths.len() || clocks.len() != ends.streams.len() {
-        bail!("a feed for each path, and a clock for each stream");
-    }
     let sink = ComparingSink {
         rt,
         progress: &progress,
@@ -220,8 +213,7 @@ pub fn run_long<R: Threads + Wait + Sync + SystemTime + Print>(
         lost: 0,
         differences: 0,
     };
-    let _sound = studio.streams();
-    let (report, sink) = run_workers(rt, alloc, ends, feeds, clocks, sink)?;
+    let (report, sink) = run_over(rt, alloc, places as usize, &progress, sink)?;
     let good = is_as_told(&report, &sink);
     println!(rt;
         "workers {seconds} {places} blocks {} lost {} differences {} {}",
@@ -234,6 +226,25 @@ pub fn run_long<R: Threads + Wait + Sync + SystemTime + Print>(
         bail!("the run differs from the plain program");
     }
     Ok(())
+}
+
+/// Runs the workers over rings of so many places.
+fn run_over<'a, R: Threads + Wait + Sync + SystemTime>(
+    rt: &'a R,
+    alloc: Global,
+    places: usize,
+    progress: &'a Progress,
+    sink: ComparingSink<'a, R>,
+) -> anyhow::Result<(WorkReport, ComparingSink<'a, R>)> {
+    let studio = studio(alloc)?;
+    let feeds = feeds_of(alloc, progress)?;
+    let clocks = clocks_of(alloc, progress)?;
+    let ends = open(alloc, &studio, places)?;
+    if feeds.len() != ends.paths.len() || clocks.len() != ends.streams.len() {
+        bail!("a feed for each path, and a clock for each stream");
+    }
+    let _sound = studio.streams();
+    Ok(run_workers(rt, alloc, ends, feeds, clocks, sink)?)
 }
 
 /// Whether a run came to all blocks, each as the plain program has it, and counted what was lost.
@@ -259,22 +270,8 @@ fn studio(alloc: Global) -> anyhow::Result<StudioSpec> {
     let frames = FRAMES as u16;
     let paths = PATHS as u8;
     let spec = StreamSpec::new(Enc::L24, 1, frames, 96, None, clock, LATENCY, WINDOW, paths)?;
-    let mut streams = Vec::new(alloc);
-    for _ in 0..STREAMS {
-        streams.push(spec)?;
-    }
-    if streams.is_empty() || streams.len() > 16 {
-        bail!("streams are 1 to 16");
-    }
-    let ins = channel_total(&streams);
-    let mut gains = Vec::new(alloc);
-    gains.resize(ins, GAIN)?;
     let output = OutSpec::new(Enc::L24, 1, frames, 97, 200, 0, 0, 0)?;
-    let schedule = Schedule::new(Matrix::new(alloc, 1, ins, &gains)?, Vec::new(alloc))?;
-    if schedule.outs() != usize::from(output.channels()) || schedule.ins() != ins {
-        bail!("the gains do not fit");
-    }
-    Ok(StudioSpec::new(0, streams, output, schedule))
+    studio_of(alloc, spec, STREAMS as u32, output, GAIN)
 }
 
 /// A feed for each path, stream by stream.
