@@ -7,5 +7,6 @@ mod memory;
 mod mixing;
 mod rings;
 mod signals;
+mod studios;
 mod threads;
 mod workers;

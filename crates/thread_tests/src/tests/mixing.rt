@@ -46,7 +46,7 @@ fn thousands(rt: &impl Abort, alloc: Global) -> Result<Vec<Mark>, Fail> {
 #[test]
 fn two_streams_to_their_datagrams(rt: HostRuntime) -> Result<(), Fail> {
     let alloc = rt.alloc();
-    let studio = six_and_forty_eight(&rt, alloc)?;
+    let studio = six_and_forty_eight(&rt, alloc, 2)?;
     let format = stream(48, 48, 1)?.format();
     let ones = [
         got(&rt, format, 65_636, 20, 48, [0, 0, 1]),

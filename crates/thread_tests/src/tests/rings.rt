@@ -3,9 +3,8 @@ ghost use Rattle.std.specs.Prelude.{IfOk};
 ghost use Rattle.rtrb.specs.Ring.{SameProducer};
 ghost use Rattle.thread_tests.specs.OneStream.{AreOfOneStream};
 
-use super::workers::{FIRST, SECOND};
-use gain_mix::{Matrix, Schedule};
-use mix_packets::OutSpec;
+use super::studios::sum_of;
+use super::workers::{FIRST, SECOND, six_and_forty_eight};
 use path_merge::{ClockFault, StreamClock, StreamSpec};
 use rtp_wire::Enc;
 use std::alloc::Global;
@@ -31,16 +30,7 @@ fn studio_in(rt: &impl Abort, alloc: Global, clock: StreamClock, width: u16) -> 
     let Ok(spec) = StreamSpec::new(Enc::L24, 1, 6, 96, None, clock, 12, width, 2) else {
         panic!(rt; "a stream")
     };
-    let Ok(output) = OutSpec::new(Enc::L24, 1, 6, 97, 2, 65_535, 0, 0) else {
-        panic!(rt; "an output")
-    };
-    let gains = Matrix::new(alloc, 1, 1, &[65_536]).ok()?;
-    let schedule = Schedule::new(gains, Vec::new(alloc)).ok()?;
-    assert!(rt; schedule.outs() == usize::from(output.channels()));
-    assert!(rt; schedule.ins() == usize::from(spec.channels()));
-    let mut streams = Vec::new(alloc);
-    streams.push(spec).ok()?;
-    Some(StudioSpec::new(0, streams, output, schedule))
+    sum_of(rt, alloc, &[spec], 6)
 }
 
 /// The ends of that studio.
@@ -159,7 +149,7 @@ fn counts_reach_the_monitor(rt: HostRuntime) -> Result<(), Fail> {
     Ok(())
 }
 
-/// A close before a path's end leaves it open, and drains nothing.
+/// A close before both paths' ends names those that go on, and drains nothing.
 #[test]
 fn an_open_path_holds_up_the_close(rt: HostRuntime) -> Result<(), Fail> {
     let mut ends = one_stream(&rt, rt.alloc(), 1)?;
@@ -171,25 +161,19 @@ fn an_open_path_holds_up_the_close(rt: HostRuntime) -> Result<(), Fail> {
         !ends.stream.drain_turn(),
         "nothing to drain before a close"
     );
-    let (done, _) = ends.second.finish();
-    assert!(rt; done.is_some());
+    assert_eq!(rt; ends.first.offer(&FIRST), Offer::Sent);
+    let (Some(done), _) = ends.first.finish() else {
+        panic!(rt; "the stream's end is there")
+    };
+    ends.stream.path_done(0, done);
+    let took = turn(&rt, &mut ends.stream, 0);
+    assert_eq!(rt; took, (1, 0, 0, 0, StopReason::CaughtUp));
+    let Err(open) = ends.stream.close() else {
+        panic!(rt; "the second path goes on")
+    };
+    assert_eq!(rt; open.still_open, [false, true, false, false]);
+    assert_eq!(rt; ends.second.offer(&SECOND), Offer::Sent);
     Ok(())
-}
-
-/// Streams of six and of 48 sampling instants a packet, added into packets of 48.
-fn six_and_forty_eight(rt: &impl Abort, alloc: Global) -> Result<StudioSpec, Fail> {
-    let clock = StreamClock::Media { offset: 0 };
-    let first = StreamSpec::new(Enc::L24, 1, 6, 96, None, clock, 12, 8, 1)?;
-    let second = StreamSpec::new(Enc::L24, 1, 48, 96, None, clock, 48, 8, 1)?;
-    let output = OutSpec::new(Enc::L24, 1, 48, 97, 2, 65_535, 0, 0)?;
-    let gains = Matrix::new(alloc, 1, 2, &[65_536, 65_536])?;
-    let schedule = Schedule::new(gains, Vec::new(alloc))?;
-    assert!(rt; schedule.outs() == usize::from(output.channels()));
-    assert!(rt; schedule.ins() == usize::from(first.channels()) + usize::from(second.channels()));
-    let mut streams = Vec::new(alloc);
-    streams.push(first)?;
-    streams.push(second)?;
-    Ok(StudioSpec::new(0, streams, output, schedule))
 }
 
 /// A header, and so many times these samples, one after another.
@@ -220,19 +204,46 @@ fn gives_none(rt: &impl Abort, mix: &mut MixEnd, taken: u32) {
     assert_eq!(rt; (note.taken, note.strange, note.len), (taken, 0, None));
 }
 
-/// Eight packets of 1000 from 0 on, and one of 1 from 20 on; one stream gives its marks, then the mixer
-/// takes, then the other gives.
-fn mixes_in_order(rt: &impl Abort, alloc: Global, last_first: bool) -> Result<(), Fail> {
-    let studio = six_and_forty_eight(rt, alloc)?;
+/// The ends of two streams of one path each.
+#[derive(Drop)]
+struct TwoStreams {
+    of_first: PathEnd,
+    of_second: PathEnd,
+    first: StreamEnd,
+    second: StreamEnd,
+    mix: MixEnd,
+}
+
+fn two_streams(rt: &impl Abort, alloc: Global) -> Result<TwoStreams, Fail> {
+    let studio = six_and_forty_eight(rt, alloc, 1)?;
     let Ends {
         mut paths,
         mut streams,
         monitors: _,
-        mut mix,
+        mix,
     } = open(alloc, &studio, 64)?;
-    let (Some(mut of_second), Some(mut of_first)) = (paths.pop(), paths.pop()) else {
+    let (Some(of_second), Some(of_first)) = (paths.pop(), paths.pop()) else {
         panic!(rt; "two paths")
     };
+    let (Some(second), Some(first)) = (streams.pop(), streams.pop()) else {
+        panic!(rt; "two streams")
+    };
+    Ok(TwoStreams {
+        of_first,
+        of_second,
+        first,
+        second,
+        mix,
+    })
+}
+
+/// Offers eight packets of 1000 from 0 on, and one of 1 from 20 on.
+fn offer_thousands_and_ones(
+    rt: &impl Abort,
+    alloc: Global,
+    of_first: &mut PathEnd,
+    of_second: &mut PathEnd,
+) -> Result<(), Fail> {
     for number in 0..8u8 {
         let head = [0x80, 0x60, 0, number + 1, 0, 0, 0, number * 6, 0, 0, 0, 1];
         let octets = datagram(alloc, head, &[(6, [0, 3, 0xe8])])?;
@@ -241,26 +252,36 @@ fn mixes_in_order(rt: &impl Abort, alloc: Global, last_first: bool) -> Result<()
     let head = [0x80, 0x60, 0, 100, 0, 0, 0, 20, 0, 0, 0, 1];
     let octets = datagram(alloc, head, &[(48, [0, 0, 1])])?;
     assert_eq!(rt; of_second.offer(&octets), Offer::Sent);
-    let (Some(second), Some(first)) = (streams.pop(), streams.pop()) else {
-        panic!(rt; "two streams")
-    };
-    let (mut early, mut late) = if last_first {
-        (second, first)
-    } else {
-        (first, second)
-    };
-    assert!(rt; early.turn(0).is_ok() && early.turn(200).is_ok());
-    gives_none(rt, &mut mix, if last_first { 1 } else { 8 });
-    assert!(rt; late.turn(0).is_ok() && late.turn(200).is_ok());
+    Ok(())
+}
+
+/// The mixer gives their sums, the rest of the ones, and silence.
+fn gives_the_sums(rt: &impl Abort, alloc: Global, mix: &mut MixEnd) -> Result<(), Fail> {
     let head = [0x80, 0x61, 0xff, 0xff, 0, 0, 0, 0, 0, 0, 0, 2];
     let sums = [(20, [0, 3, 0xe8]), (28, [0, 3, 0xe9])];
-    gives(rt, &mut mix, &datagram(alloc, head, &sums)?);
+    gives(rt, mix, &datagram(alloc, head, &sums)?);
     let head = [0x80, 0x61, 0, 0, 0, 0, 0, 48, 0, 0, 0, 2];
     let rest = [(20, [0, 0, 1]), (28, [0, 0, 0])];
-    gives(rt, &mut mix, &datagram(alloc, head, &rest)?);
+    gives(rt, mix, &datagram(alloc, head, &rest)?);
     let head = [0x80, 0x61, 0, 1, 0, 0, 0, 96, 0, 0, 0, 2];
-    gives(rt, &mut mix, &datagram(alloc, head, &[(48, [0, 0, 0])])?);
-    gives_none(rt, &mut mix, 8);
+    gives(rt, mix, &datagram(alloc, head, &[(48, [0, 0, 0])])?);
+    Ok(())
+}
+
+/// Both streams have packets; one gives its marks, then the mixer takes, then the other gives.
+fn mixes_in_order(rt: &impl Abort, alloc: Global, last_first: bool) -> Result<(), Fail> {
+    let mut ends = two_streams(rt, alloc)?;
+    offer_thousands_and_ones(rt, alloc, &mut ends.of_first, &mut ends.of_second)?;
+    let (early, late, taken) = if last_first {
+        (&mut ends.second, &mut ends.first, 1)
+    } else {
+        (&mut ends.first, &mut ends.second, 8)
+    };
+    assert!(rt; early.turn(0).is_ok() && early.turn(200).is_ok());
+    gives_none(rt, &mut ends.mix, taken);
+    assert!(rt; late.turn(0).is_ok() && late.turn(200).is_ok());
+    gives_the_sums(rt, alloc, &mut ends.mix)?;
+    gives_none(rt, &mut ends.mix, 8);
     Ok(())
 }
 
@@ -309,28 +330,6 @@ fn tokens_carry_the_end_to_the_mixer(rt: HostRuntime) -> Result<(), Fail> {
     mixes(&rt, &mut mix, 1, Some(&SECOND[12..]));
     mixes(&rt, &mut mix, 1, None);
     assert!(rt; mix.settled());
-    Ok(())
-}
-
-/// One path has finished: the close names the other, whose packets still come.
-#[test]
-fn a_path_that_goes_on_keeps_its_stream_open(rt: HostRuntime) -> Result<(), Fail> {
-    let mut ends = one_stream(&rt, rt.alloc(), 64)?;
-    assert_eq!(rt; ends.first.offer(&FIRST), Offer::Sent);
-    let (done, _) = ends.first.finish();
-    let Some(done) = done else {
-        panic!(rt; "the stream's end is there")
-    };
-    ends.stream.path_done(0, done);
-    let took = turn(&rt, &mut ends.stream, 0);
-    assert_eq!(rt; took, (1, 0, 0, 0, StopReason::CaughtUp));
-    let Err(open) = ends.stream.close() else {
-        panic!(rt; "the second path goes on")
-    };
-    assert_eq!(rt; open.still_open, [false, true, false, false]);
-    assert_eq!(rt; ends.second.offer(&SECOND), Offer::Sent);
-    let took = turn(&rt, &mut ends.stream, 0);
-    assert_eq!(rt; took, (0, 1, 0, 0, StopReason::CaughtUp));
     Ok(())
 }
 

@@ -1,8 +1,7 @@
 //! Whole runs of the workers over feeds, clocks and a sink in memory.
 
 use super::fakes::{FailingSink, FaultyFeed};
-use gain_mix::{Matrix, Schedule};
-use mix_packets::OutSpec;
+use super::studios::sum_of;
 use path_merge::{Counts, SpecFault, StreamClock, StreamSpec};
 use rtp_wire::Enc;
 use std::alloc::{AllocError, Global};
@@ -33,28 +32,17 @@ pub(super) fn stream(frames: u16, latency: u32, paths: u8) -> Result<StreamSpec,
 /// One stream on two paths, in packets of six sampling instants; its output is alike. None where memory was refused.
 pub(super) fn one_stream(rt: &impl Abort, alloc: Global) -> Option<StudioSpec> {
     let spec = stream(6, 12, 2).ok()?;
-    let output = OutSpec::new(Enc::L24, 1, 6, 97, 2, 65_535, 0, 0).ok()?;
-    let gains = Matrix::new(alloc, 1, 1, &[65_536]).ok()?;
-    let schedule = Schedule::new(gains, Vec::new(alloc)).ok()?;
-    assert!(rt; schedule.outs() == usize::from(output.channels()));
-    assert!(rt; schedule.ins() == usize::from(spec.channels()));
-    let mut streams = Vec::new(alloc);
-    streams.push(spec).ok()?;
-    Some(StudioSpec::new(0, streams, output, schedule))
+    sum_of(rt, alloc, &[spec], 6)
 }
 
-/// Two streams of six and of 48 sampling instants a packet, on two paths and on one, added into packets of 48.
-pub(super) fn six_and_forty_eight(rt: &impl Abort, alloc: Global) -> Result<StudioSpec, Fail> {
-    let (first, second) = (stream(6, 12, 2)?, stream(48, 48, 1)?);
-    let output = OutSpec::new(Enc::L24, 1, 48, 97, 2, 65_535, 0, 0)?;
-    let gains = Matrix::new(alloc, 1, 2, &[65_536, 65_536])?;
-    let schedule = Schedule::new(gains, Vec::new(alloc))?;
-    assert!(rt; schedule.outs() == usize::from(output.channels()));
-    assert!(rt; schedule.ins() == usize::from(first.channels()) + usize::from(second.channels()));
-    let mut streams = Vec::new(alloc);
-    streams.push(first)?;
-    streams.push(second)?;
-    Ok(StudioSpec::new(0, streams, output, schedule))
+/// Two streams of six and of 48 sampling instants a packet, on so many paths and on one, added into packets of 48.
+pub(super) fn six_and_forty_eight(
+    rt: &impl Abort,
+    alloc: Global,
+    paths: u8,
+) -> Result<StudioSpec, Fail> {
+    let specs = [stream(6, 12, paths)?, stream(48, 48, 1)?];
+    Ok(sum_of(rt, alloc, &specs, 48).ok_or("want of memory")?)
 }
 
 /// Runs the workers of a studio over rings of so many places.
@@ -138,15 +126,8 @@ fn runs_alike<R: Threads + Wait + Abort + Sync>(
     readings: &[i64],
     places: usize,
 ) -> Result<(), Fail> {
-    let studio = one_stream(rt, alloc).ok_or("a studio")?;
     let packets = two_packets(alloc)?;
-    let mut feeds = Vec::new(alloc);
-    for _ in 0..2 {
-        feeds.push(MemoryFeed::new(&packets))?;
-    }
-    let clocks = clocks(alloc, 1, readings)?;
-    let sink = MemorySink::new(alloc);
-    let (report, sink) = run(rt, alloc, &studio, places, feeds, clocks, sink)?;
+    let (report, sink) = run_alike(rt, alloc, &packets, readings, places)?;
     let counts = only(rt, &report);
     let arrivals = (counts.arrived, counts.taken, counts.double);
     assert_eq!(rt; arrivals, (4, 2, 2), "{places} places");
@@ -155,6 +136,31 @@ fn runs_alike<R: Threads + Wait + Abort + Sync>(
     assert_eq!(rt; report.feed_faults.as_slice(), [0u64, 0].as_slice());
     gave_both(rt, sink.kept());
     Ok(())
+}
+
+/// Runs one stream whose paths both bring these packets.
+fn run_alike<R: Threads + Wait + Abort + Sync>(
+    rt: &R,
+    alloc: Global,
+    packets: &[Vec<u8>],
+    readings: &[i64],
+    places: usize,
+) -> Result<(WorkReport, MemorySink), Fail> {
+    let studio = one_stream(rt, alloc).ok_or("a studio")?;
+    let mut feeds = Vec::new(alloc);
+    for _ in 0..2 {
+        feeds.push(MemoryFeed::new(packets))?;
+    }
+    let clocks = clocks(alloc, 1, readings)?;
+    run(
+        rt,
+        alloc,
+        &studio,
+        places,
+        feeds,
+        clocks,
+        MemorySink::new(alloc),
+    )
 }
 
 /// Both datagrams on both paths are taken once, doubled once, and sent to both addresses.
@@ -199,7 +205,7 @@ pub(super) fn ones_alone(alloc: Global) -> Result<Vec<u8>, AllocError> {
 #[test]
 fn two_streams_by_workers(rt: HostRuntime) -> Result<(), Fail> {
     let alloc = rt.alloc();
-    let studio = six_and_forty_eight(&rt, alloc)?;
+    let studio = six_and_forty_eight(&rt, alloc, 2)?;
     let mut thousands = Vec::new(alloc);
     for number in 0..8u8 {
         let head = [0x80, 0x60, 0, number + 1, 0, 0, 0, number * 6, 0, 0, 0, 1];
