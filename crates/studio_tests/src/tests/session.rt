@@ -93,70 +93,7 @@ fn push_eight_thousands(
 
 const FIRST: [u8; 12] = [0x80, 0x61, 0xff, 0xff, 0, 0, 0, 0, 0, 0, 0, 2];
 
-const NEXT: [u8; 12] = [0x80, 0x61, 0, 0, 0, 0, 0, 48, 0, 0, 0, 2];
-
 const FOURTH: [u8; 12] = [0x80, 0x61, 0, 2, 0, 0, 0, 144, 0, 0, 0, 2];
-
-/// The datagrams of two streams and a close give two datagrams and each stream's counts.
-#[test]
-fn two_streams_are_mixed_from_datagrams_to_datagrams(rt: HostRuntime) -> Result<(), Fail> {
-    let alloc = rt.alloc();
-    let spec = six_and_forty_eight(&rt, alloc)?;
-    let Some(path) = Path::new(0) else {
-        panic!(rt; "a path")
-    };
-    let mut events = Vec::new(alloc);
-    push_eight_thousands(alloc, path, &mut events)?;
-    let head = [0x80, 0x60, 0, 100, 0, 0, 0, 20, 0, 0, 0, 1];
-    let octets = datagram(alloc, head, &[(48, [0, 0, 1])])?;
-    events.push(StudioEvent::Arrive {
-        stream: 1,
-        path,
-        octets,
-    })?;
-    events.push(StudioEvent::Close)?;
-    let Ok(report) = run_studio(alloc, &spec, events.as_slice()) else {
-        panic!(rt; "a report")
-    };
-    assert_eq!(rt; report.datagrams.len(), 2, "the greatest end is 68");
-    let sums = [(20, [0, 3, 0xe8]), (28, [0, 3, 0xe9])];
-    assert_eq!(rt; report.datagrams[0], datagram(alloc, FIRST, &sums)?);
-    let rest = [(20, [0, 0, 1]), (28, [0, 0, 0])];
-    assert_eq!(rt; report.datagrams[1], datagram(alloc, NEXT, &rest)?);
-    let Some(counts) = report.streams.first() else {
-        panic!(rt; "two streams")
-    };
-    let merge = counts.merge;
-    assert_eq!(rt;
-        (merge.arrived, merge.taken, merge.got, merge.lost),
-        (8, 8, 8, 0)
-    );
-    Ok(())
-}
-
-/// A stream that gets nothing is silent up to a reading, so a block comes out.
-#[test]
-fn a_silent_stream_does_not_hold_up_a_session(rt: HostRuntime) -> Result<(), Fail> {
-    let alloc = rt.alloc();
-    let spec = six_and_forty_eight(&rt, alloc)?;
-    let Some(path) = Path::new(0) else {
-        panic!(rt; "a path")
-    };
-    let mut events = Vec::new(alloc);
-    push_eight_thousands(alloc, path, &mut events)?;
-    events.push(StudioEvent::Tick(96))?;
-    let Ok(report) = run_studio(alloc, &spec, events.as_slice()) else {
-        panic!(rt; "a report")
-    };
-    assert_eq!(rt;
-        report.datagrams.len(),
-        1,
-        "the second stream is silent until 48"
-    );
-    let sums = [(48, [0, 3, 0xe8])];
-    assert_eq!(rt; report.datagrams[0], datagram(alloc, FIRST, &sums)?);
-    Ok(())
-}
 
 /// A list, run twice with any one allocation refused: want of memory at most once.
 #[test]
@@ -215,28 +152,6 @@ fn the_first_fault_is_answered_by_its_place(rt: HostRuntime) -> Result<(), Fail>
     Ok(())
 }
 
-/// A packet of the first stream, of one sample throughout.
-fn six_of(
-    alloc: Global,
-    path: Path,
-    seq: u16,
-    ts: u32,
-    sample: [u8; 3],
-) -> Result<StudioEvent, AllocError> {
-    let [s, t] = seq.to_be_bytes();
-    let [a, b, c, d] = ts.to_be_bytes();
-    let octets = datagram(
-        alloc,
-        [0x80, 0x60, s, t, a, b, c, d, 0, 0, 0, 1],
-        &[(6, sample)],
-    )?;
-    Ok(StudioEvent::Arrive {
-        stream: 0,
-        path,
-        octets,
-    })
-}
-
 /// At 60 the second stream is final nowhere; at 100,000 its one packet is, to 192.
 #[test]
 fn a_long_latency_delays_blocks_and_loses_nothing(rt: HostRuntime) -> Result<(), Fail> {
@@ -281,73 +196,6 @@ fn a_long_latency_delays_blocks_and_loses_nothing(rt: HostRuntime) -> Result<(),
         (8, 16_657),
         "the slots from 0 to 99,984"
     );
-    Ok(())
-}
-
-/// The packet comes first on the fourth path; each path counts its own copy.
-#[test]
-fn four_paths_are_counted_apart(rt: HostRuntime) -> Result<(), Fail> {
-    let alloc = rt.alloc();
-    let spec = sum_of(&rt, alloc, stream(6, 12, 8, 4)?, stream(48, 48, 8, 1)?)?;
-    let mut events = Vec::new(alloc);
-    for number in [3u8, 0, 2, 1] {
-        let Some(path) = Path::new(number) else {
-            panic!(rt; "a path")
-        };
-        events.push(six_of(alloc, path, 1, 0, [0, 0, 7])?)?;
-    }
-    events.push(StudioEvent::Close)?;
-    let Ok(report) = run_studio(alloc, &spec, events.as_slice()) else {
-        panic!(rt; "a report")
-    };
-    assert_eq!(rt; report.datagrams.len(), 1);
-    let rest = [(6, [0, 0, 7]), (42, [0, 0, 0])];
-    assert_eq!(rt; report.datagrams[0], datagram(alloc, FIRST, &rest)?);
-    let (Some(counts), Some(other)) = (report.streams.first(), report.streams.last()) else {
-        panic!(rt; "two streams")
-    };
-    assert_eq!(rt; counts.merge.taken_by, [0, 0, 0, 1]);
-    assert_eq!(rt; counts.merge.double, 3);
-    assert_eq!(rt; counts.paths.len(), 4);
-    for path in counts.paths.iter() {
-        assert_eq!(rt; (path.offered, path.sent), (1, 1));
-    }
-    assert_eq!(rt; other.paths.len(), 1);
-    Ok(())
-}
-
-/// Number 1 at 0; then nine packets in sequence off its grid, of which the eighth is at 20.
-#[test]
-fn silence_stands_between_two_epochs(rt: HostRuntime) -> Result<(), Fail> {
-    let alloc = rt.alloc();
-    let spec = six_and_forty_eight(&rt, alloc)?;
-    let Some(path) = Path::new(0) else {
-        panic!(rt; "a path")
-    };
-    let mut events = Vec::new(alloc);
-    events.push(six_of(alloc, path, 1, 0, [0, 0, 7])?)?;
-    events.push(StudioEvent::Tick(12))?;
-    for i in 0..9u16 {
-        let ts = (u32::from(i) * 6).wrapping_sub(22);
-        events.push(six_of(alloc, path, 500 + i, ts, [0, 0, 9])?)?;
-    }
-    events.push(StudioEvent::Close)?;
-    let Ok(report) = run_studio(alloc, &spec, events.as_slice()) else {
-        panic!(rt; "a report")
-    };
-    assert_eq!(rt; report.datagrams.len(), 1);
-    let values = [
-        (6, [0, 0, 7]),
-        (14, [0, 0, 0]),
-        (12, [0, 0, 9]),
-        (16, [0, 0, 0]),
-    ];
-    assert_eq!(rt; report.datagrams[0], datagram(alloc, FIRST, &values)?);
-    let Some(counts) = report.streams.first() else {
-        panic!(rt; "two streams")
-    };
-    let merge = counts.merge;
-    assert_eq!(rt; (merge.taken, merge.off_grid, merge.restarts), (3, 7, 1));
     Ok(())
 }
 

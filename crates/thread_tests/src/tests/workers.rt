@@ -201,32 +201,60 @@ pub(super) fn ones_alone(alloc: Global) -> Result<Vec<u8>, AllocError> {
     datagram(alloc, head, &[(20, [0, 0, 1]), (28, [0, 0, 0])])
 }
 
-/// Eight packets of 1000 from 0 on, on both paths, and one of 1 from 20 on.
-#[test]
-fn two_streams_by_workers(rt: HostRuntime) -> Result<(), Fail> {
-    let alloc = rt.alloc();
-    let studio = six_and_forty_eight(&rt, alloc, 2)?;
-    let mut thousands = Vec::new(alloc);
+/// Eight packets of 1000 from 0 on.
+fn thousands(alloc: Global) -> Result<Vec<Vec<u8>>, AllocError> {
+    let mut packets = Vec::new(alloc);
     for number in 0..8u8 {
         let head = [0x80, 0x60, 0, number + 1, 0, 0, 0, number * 6, 0, 0, 0, 1];
-        thousands.push(datagram(alloc, head, &[(6, [0, 3, 0xe8])])?)?;
+        packets.push(datagram(alloc, head, &[(6, [0, 3, 0xe8])])?)?;
     }
-    let head = [0x80, 0x60, 0, 100, 0, 0, 0, 20, 0, 0, 0, 1];
-    let ones = [datagram(alloc, head, &[(48, [0, 0, 1])])?];
+    Ok(packets)
+}
+
+/// Runs the streams of six and of 48: these packets on both paths, and those on one.
+fn run_two<R: Threads + Wait + Abort + Sync>(
+    rt: &R,
+    alloc: Global,
+    first: &[Vec<u8>],
+    second: &[Vec<u8>],
+) -> Result<(WorkReport, MemorySink), Fail> {
+    let studio = six_and_forty_eight(rt, alloc, 2)?;
     let mut feeds = Vec::new(alloc);
-    feeds.push(MemoryFeed::new(thousands.as_slice()))?;
-    feeds.push(MemoryFeed::new(thousands.as_slice()))?;
-    feeds.push(MemoryFeed::new(&ones))?;
+    for packets in [first, first, second] {
+        feeds.push(MemoryFeed::new(packets))?;
+    }
     let clocks = clocks(alloc, 2, &[0])?;
-    let sink = MemorySink::new(alloc);
-    let (report, sink) = run(&rt, alloc, &studio, 64, feeds, clocks, sink)?;
+    run(
+        rt,
+        alloc,
+        &studio,
+        64,
+        feeds,
+        clocks,
+        MemorySink::new(alloc),
+    )
+}
+
+/// Both streams got all, the first one's copies once.
+fn got_all(rt: &impl Abort, report: &WorkReport) {
     assert!(rt; report.settled);
     assert_eq!(rt; report.streams.len(), 2);
     let counts = report.streams[0].merge;
     let arrivals = (counts.arrived, counts.taken, counts.double);
     assert_eq!(rt; (arrivals, counts.got), ((16, 8, 8), 8));
     assert_eq!(rt; report.streams[1].merge.got, 1);
-    assert_eq!(rt; sends(&report), (2, [2, 2], [0, 0]));
+    assert_eq!(rt; sends(report), (2, [2, 2], [0, 0]));
+}
+
+/// Eight packets of 1000 from 0 on, on both paths, and one of 1 from 20 on.
+#[test]
+fn two_streams_by_workers(rt: HostRuntime) -> Result<(), Fail> {
+    let alloc = rt.alloc();
+    let thousands = thousands(alloc)?;
+    let head = [0x80, 0x60, 0, 100, 0, 0, 0, 20, 0, 0, 0, 1];
+    let ones = [datagram(alloc, head, &[(48, [0, 0, 1])])?];
+    let (report, sink) = run_two(&rt, alloc, thousands.as_slice(), &ones)?;
+    got_all(&rt, &report);
     let kept = sink.kept();
     assert_eq!(rt; kept.len(), 2);
     assert_eq!(rt; kept[0], sums(alloc)?);
