@@ -291,3 +291,34 @@ values_added channels block lead front gap stored held silent more capacity r en
     ∙ ap (λ xs. stored ++ xs) (sym (append_assoc (silence channels silent) (silence channels more) samples) ∙ ap (λ xs. xs ++ samples) both))
     ∙ sym (append_assoc (silence channels lead) stored (silence channels (silent + more) ++ samples))
     ∙ ap (λ xs. xs ++ (silence channels (silent + more) ++ samples)) (sym plain))
+
+-- silence and samples at the end, all of them stored
+pub values_appended : (channels block lead front gap : ℕ) (stored : List ℤ) → IsHeld channels block lead front gap stored → (silent capacity r : ℕ) (samples : List ℤ) (old silenced new : Buffer ℤ)
+    → old ≡ buffer stored capacity
+    → length (values_held channels lead front gap stored) + silent * channels + length samples ≤ capacity
+    → silenced ≡ buffer (stored ++ silence channels silent) capacity
+    → r ≡ min (length samples) (silenced.capacity - length silenced.items)
+    → new ≡ buffer (silenced.items ++ take r samples) silenced.capacity
+    → held_of channels block new.capacity (values_held channels lead front gap new.items) ≡ held_of channels block capacity (values_held channels lead front gap stored ++ (silence channels silent ++ samples))
+values_appended channels block lead front gap stored held silent capacity r samples old silenced new e_old room e_silenced e_r e_new =
+    let len = length_held channels lead front gap stored held.front_stored in
+    let items : silenced.items ≡ stored ++ silence channels silent = ap (λ (b : Buffer ℤ). b.items) e_silenced in
+    let cap : silenced.capacity ≡ capacity = ap (λ (b : Buffer ℤ). b.capacity) e_silenced in
+    let stored_len : length silenced.items ≡ length stored + silent * channels =
+    ap length items ∙ length-append stored (silence channels silent) ∙ ap (λ k. length stored + k) (length-replicate (silent * channels) (pos 0)) in
+    let full : r ≡ length samples = omega arith in
+    let more = silence channels silent ++ samples in
+    let new_items : new.items ≡ stored ++ more =
+    ap (λ (b : Buffer ℤ). b.items) e_new ∙ ap (λ xs. xs ++ take r samples) items ∙ ap (λ xs. (stored ++ silence channels silent) ++ xs) (ap (λ k. take k samples) full ∙ take-length samples)
+    ∙ append_assoc stored (silence channels silent) samples in
+    let new_cap : new.capacity ≡ capacity = ap (λ (b : Buffer ℤ). b.capacity) e_new ∙ cap in
+    let back = take-append-le front stored more held.front_stored in
+    let rest = drop-append-le front stored more held.front_stored in
+    ap (λ k. held_of channels block k (values_held channels lead front gap new.items)) new_cap
+    ∙ ap (held_of channels block capacity) (
+    ap (values_held channels lead front gap) new_items
+    ∙ ap (λ xs. silence channels lead ++ (xs ++ (silence channels gap ++ drop front (stored ++ more)))) back
+    ∙ ap (λ xs. silence channels lead ++ (take front stored ++ (silence channels gap ++ xs))) rest
+    ∙ ap (λ xs. silence channels lead ++ (take front stored ++ xs)) (sym (append_assoc (silence channels gap) (drop front stored) more))
+    ∙ ap (λ xs. silence channels lead ++ xs) (sym (append_assoc (take front stored) (silence channels gap ++ drop front stored) more))
+    ∙ sym (append_assoc (silence channels lead) (take front stored ++ (silence channels gap ++ drop front stored)) more))

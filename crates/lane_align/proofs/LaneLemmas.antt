@@ -29,12 +29,12 @@ fed_next stream from size lane marks t mark fed =
     ∙ ap (λ q. is_same_format mark.format (format_of stream) && can_follow stream.frames (last_kind (has_end marks) (last_slot marks) q) mark.kind) fed.quiet
     ∙ sym (next_is (format_of stream) marks mark fed.mark_list)
 
-abbrev pub lane_of : Format → ℤ → ℕ → ℤ → Option LastSlot → Option ℤ → Bool → List ℤ → LaneState
-lane_of format start block position slot quiet ended values = record { format = format; start = start; block = block; position = position; slot = slot; quiet = quiet; ended = ended; values = values }
+abbrev pub lane_of : Format → ℤ → ℕ → ℤ → Option LastSlot → Option ℤ → Bool → ℕ → List ℤ → LaneState
+lane_of format start block position slot quiet ended room values = record { format = format; start = start; block = block; position = position; slot = slot; quiet = quiet; ended = ended; room = room; values = values }
 
 -- a block is read
 abbrev pub after_block : LaneState → List ℤ → LaneState
-after_block lane values = record { format = lane.format; start = lane.start; block = lane.block; position = lane.position +ℤ pos lane.block; slot = lane.slot; quiet = lane.quiet; ended = lane.ended; values = values }
+after_block lane values = record { format = lane.format; start = lane.start; block = lane.block; position = lane.position +ℤ pos lane.block; slot = lane.slot; quiet = lane.quiet; ended = lane.ended; room = lane.room; values = values }
 
 -- what is past is a distance, and what isn't is none
 pub data Distance (z : ℤ) : Type 0 where
@@ -110,6 +110,8 @@ block_sound lane held next sound early e = record {
   channels = ap (λ (h : Held). h.channels) e ∙ sound.channels;
   held_block = ap (λ (h : Held). h.block) e ∙ sound.held_block;
   room = ap (λ (h : Held). h.room) e ∙ sound.room;
+  enough_room = sound.enough_room;
+  small_room = sound.small_room;
   left =
       let n = lane.block * lane.format.channels in
       let before = frames_left lane.format.frames lane.position lane.slot in

@@ -1,5 +1,5 @@
 -- What a slot more does to what a lane was fed.
-use Rattle.std.proofs.Common.{◌≡◌, ◌≤◌, ◌<◌, ◌+◌, ◌*◌, ◌-◌, ◌^◌, ℕ, min, Bool, true, false, not, ◌||◌, List, [], ◌∷◌, ◌++◌, length, take, drop, get_or, ℤ, pos, ◌+ℤ◌, ◌-ℤ◌, ◌≤ℤ◌, ◌<ℤ◌, Option, Some, None, unwrap_or, unsigned_abs, refl, sym, ap, subst, ◌∙◌, arith, length-append, length-drop, inl, inr}
+use Rattle.std.proofs.Common.{◌≡◌, ◌≤◌, ◌<◌, ◌+◌, ◌*◌, ◌-◌, ◌^◌, ℕ, min, Bool, true, false, not, ◌||◌, List, [], ◌∷◌, ◌++◌, length, take, drop, get_or, ℤ, pos, ◌+ℤ◌, ◌-ℤ◌, ◌≤ℤ◌, ◌<ℤ◌, Option, Some, None, unwrap_or, unsigned_abs, refl, sym, ap, subst, ◌∙◌, arith, length-append, length-drop, length-take, inl, inr}
 use Rattle.std.proofs.lemmas.Bool.{cases_lt, false≢true}
 use Rattle.std.proofs.lemmas.Bool.Decides.{nat_tests}
 use Rattle.std.specs.Int.{int_max}
@@ -180,6 +180,30 @@ slot_rest ss samples c frames k skipped e len s =
     ]
 
 -- what is added is what the slot adds
+pub slot_joined : (lane : LaneState) (held next : Held) (slot : LastSlot) (body : Body) (silent past_by skipped channels frames : ℕ) (samples : List ℤ)
+    → IsLane lane held → HasLength (payload_length lane.format) body
+    → silent ≡ frames_between lane.position slot.media - frames_left lane.format.frames lane.position lane.slot
+    → past_by ≡ frames_between slot.media lane.position
+    → channels ≡ lane.format.channels → frames ≡ lane.format.frames
+    → skipped ≡ min past_by frames
+    → take (lane.format.frames * lane.format.channels) samples ≡ body_samples lane.format body
+    → next ≡ record held { values = held.values ++ (silence held.channels silent ++ between (skipped * channels) (frames * channels) samples) }
+    → next ≡ record held { values = (with_slot lane slot body).values }
+slot_joined lane held next slot body silent past_by skipped channels frames samples sound fits gap e_past e_channels e_frames e_skipped e_samples e =
+    let c = lane.format.channels in
+    let p = lane.format.frames in
+    let rest : between (skipped * channels) (frames * channels) samples ≡ drop (frames_between slot.media lane.position * c) (body_samples lane.format body) =
+    ap (λ n. between (skipped * n) (frames * n) samples) e_channels
+    ∙ ap (λ n. between (skipped * c) (n * c) samples) e_frames
+    ∙ slot_rest (body_samples lane.format body) samples c p past_by skipped e_samples (body_length lane.format body fits) (e_skipped ∙ ap (min past_by) e_frames)
+    ∙ ap (λ n. drop (n * c) (body_samples lane.format body)) e_past in
+    e
+    ∙ ap (λ xs. record held { values = held.values ++ (silence held.channels silent ++ xs) }) rest
+    ∙ ap (λ n. record held { values = held.values ++ (silence held.channels n ++ drop (frames_between slot.media lane.position * c) (body_samples lane.format body)) }) gap
+    ∙ ap (λ n. record held { values = held.values ++ (silence n (frames_between lane.position slot.media - frames_left p lane.position lane.slot) ++ drop (frames_between slot.media lane.position * c) (body_samples lane.format body)) }) sound.channels
+    ∙ ap (λ xs. record held { values = xs ++ (silence c (frames_between lane.position slot.media - frames_left p lane.position lane.slot) ++ drop (frames_between slot.media lane.position * c) (body_samples lane.format body)) }) (sym sound.values)
+
+-- the same where a part of the silence is stored
 pub slot_added : (lane : LaneState) (held next : Held) (slot : LastSlot) (body : Body) (left before stored more block past_by skipped channels frames : ℕ) (samples : List ℤ)
     → IsLane lane held → HasLength (payload_length lane.format) body
     → left ≡ frames_left lane.format.frames lane.position lane.slot
@@ -192,25 +216,66 @@ pub slot_added : (lane : LaneState) (held next : Held) (slot : LastSlot) (body :
     → next ≡ record held { values = held.values ++ (silence held.channels (stored + more) ++ between (skipped * channels) (frames * channels) samples) }
     → next ≡ record held { values = (with_slot lane slot body).values }
 slot_added lane held next slot body left before stored more block past_by skipped channels frames samples sound fits e_left e_before e_past e_channels e_frames e_stored e_more e_skipped e_samples e =
+    let gap : stored + more ≡ frames_between lane.position slot.media - frames_left lane.format.frames lane.position lane.slot = omega arith in
+    slot_joined lane held next slot body (stored + more) past_by skipped channels frames samples sound fits gap e_past e_channels e_frames e_skipped e_samples e
+
+-- what a lane holds reaches from its position to the end of its last slot
+pub slot_length : (lane : LaneState) (held : Held) (slot : LastSlot) (body : Body)
+    → IsLane lane held → HasLength (payload_length lane.format) body → IsAfter lane.format.frames lane.slot slot.media
+    → length (with_slot lane slot body).values ≡ frames_between lane.position (slot.media +ℤ pos lane.format.frames) * lane.format.channels
+slot_length lane held slot body sound fits after =
     let c = lane.format.channels in
     let p = lane.format.frames in
-    let rest : between (skipped * channels) (frames * channels) samples ≡ drop (frames_between slot.media lane.position * c) (body_samples lane.format body) =
-    ap (λ n. between (skipped * n) (frames * n) samples) e_channels
-    ∙ ap (λ n. between (skipped * c) (n * c) samples) e_frames
-    ∙ slot_rest (body_samples lane.format body) samples c p past_by skipped e_samples (body_length lane.format body fits) (e_skipped ∙ ap (min past_by) e_frames)
-    ∙ ap (λ n. drop (n * c) (body_samples lane.format body)) e_past in
-    let gap : stored + more ≡ frames_between lane.position slot.media - frames_left p lane.position lane.slot = omega arith in
-    e
-    ∙ ap (λ xs. record held { values = held.values ++ (silence held.channels (stored + more) ++ xs) }) rest
-    ∙ ap (λ n. record held { values = held.values ++ (silence held.channels n ++ drop (frames_between slot.media lane.position * c) (body_samples lane.format body)) }) gap
-    ∙ ap (λ n. record held { values = held.values ++ (silence n (frames_between lane.position slot.media - frames_left p lane.position lane.slot) ++ drop (frames_between slot.media lane.position * c) (body_samples lane.format body)) }) sound.channels
-    ∙ ap (λ xs. record held { values = xs ++ (silence c (frames_between lane.position slot.media - frames_left p lane.position lane.slot) ++ drop (frames_between slot.media lane.position * c) (body_samples lane.format body)) }) (sym sound.values)
+    let left = frames_left p lane.position lane.slot in
+    let before = frames_between lane.position slot.media in
+    let behind' = frames_between slot.media lane.position in
+    let ss = body_samples lane.format body in
+    let ss_len = body_length lane.format body fits in
+    let gap_len : length (silence c (before - left)) ≡ (before - left) * c = length-replicate ((before - left) * c) (pos 0) in
+    let rest_len = length-drop (behind' * c) ss in
+    let inner = length-append (silence c (before - left)) (drop (behind' * c) ss) in
+    let outer = length-append lane.values (silence c (before - left) ++ drop (behind' * c) ss) in
+    let old : length lane.values ≡ left * c = ap length sound.values ∙ sound.left in
+    let own : p * c - behind' * c ≡ (p - behind') * c = times_less p behind' c in
+    let sum : left * c + ((before - left) * c + (p - behind') * c) ≡ (left + (before - left) + (p - behind')) * c = omega arith in
+    let total : left + (before - left) + (p - behind') ≡ frames_between lane.position (slot.media +ℤ pos p) = elim (distance ((slot.media +ℤ pos p) -ℤ lane.position)) [
+      | past a ↦ elim (place_of p lane.slot slot.media lane.position after) [ ahead m_is s h ↦ omega (arith, ints) | behind t_is g h ↦ omega (arith, ints) ]
+      | none a y ↦ elim (place_of p lane.slot slot.media lane.position after) [ ahead m_is s h ↦ absurd (omega (arith, ints)) | behind t_is g h ↦ omega (arith, ints) ]
+    ] in
+    (let all : length (with_slot lane slot body).values ≡ left * c + ((before - left) * c + (p - behind') * c) = omega arith in all)
+    ∙ sum
+    ∙ ap (λ n. n * c) total
+
+-- there is room for all of it where there is room to the slot's end
+pub kept_room : (lane : LaneState) (held : Held) (slot : LastSlot) (body : Body) (silent past_by skipped channels frames : ℕ) (samples : List ℤ)
+    → IsLane lane held → HasLength (payload_length lane.format) body
+    → silent ≡ frames_between lane.position slot.media - frames_left lane.format.frames lane.position lane.slot
+    → past_by ≡ frames_between slot.media lane.position
+    → channels ≡ lane.format.channels → frames ≡ lane.format.frames
+    → skipped ≡ min past_by frames
+    → take (lane.format.frames * lane.format.channels) samples ≡ body_samples lane.format body
+    → IsAfter lane.format.frames lane.slot slot.media
+    → frames_between lane.position (slot.media +ℤ pos lane.format.frames) ≤ lane.room
+    → length held.values + silent * held.channels + length (between (skipped * channels) (frames * channels) samples) ≤ held.room
+kept_room lane held slot body silent past_by skipped channels frames samples sound fits gap e_past e_channels e_frames e_skipped e_samples after room =
+    let c = lane.format.channels in
+    let rest = between (skipped * channels) (frames * channels) samples in
+    let next = record held { values = held.values ++ (silence held.channels silent ++ rest) } in
+    let joined = slot_joined lane held next slot body silent past_by skipped channels frames samples sound fits gap e_past e_channels e_frames e_skipped e_samples refl in
+    let len : length (held.values ++ (silence held.channels silent ++ rest)) ≡ frames_between lane.position (slot.media +ℤ pos lane.format.frames) * c =
+    ap (λ (h : Held). length h.values) joined ∙ slot_length lane held slot body sound fits after in
+    let outer = length-append held.values (silence held.channels silent ++ rest) in
+    let inner = length-append (silence held.channels silent) rest in
+    let gap_len : length (silence held.channels silent) ≡ silent * held.channels = length-replicate (silent * held.channels) (pos 0) in
+    let wide : frames_between lane.position (slot.media +ℤ pos lane.format.frames) * c ≤ lane.room * c = mul-le-mul_right c room in
+    let e_room : held.room ≡ lane.room * c = sound.room in
+    omega arith
 
 -- with a slot, what is true of a lane is true of it
 pub slot_sound : (lane : LaneState) (held next : Held) (slot : LastSlot) (body : Body)
     → IsLane lane held → IsSlot (Some slot) → HasLength (payload_length lane.format) body → IsAfter lane.format.frames lane.slot slot.media
     → next ≡ record held { values = (with_slot lane slot body).values } → All Is24Bits (body_samples lane.format body)
-    → IsLane (lane_of lane.format lane.start lane.block lane.position (Some slot) lane.quiet lane.ended next.values) next
+    → IsLane (lane_of lane.format lane.start lane.block lane.position (Some slot) lane.quiet lane.ended lane.room next.values) next
 slot_sound lane held next slot body sound small fits after e in_24_bits = record {
   some_channels = sound.some_channels;
   few_channels = sound.few_channels;
@@ -233,29 +298,9 @@ slot_sound lane held next slot body sound small fits after e in_24_bits = record
   channels = ap (λ (h : Held). h.channels) e ∙ sound.channels;
   held_block = ap (λ (h : Held). h.block) e ∙ sound.held_block;
   room = ap (λ (h : Held). h.room) e ∙ sound.room;
-  left =
-      let c = lane.format.channels in
-      let p = lane.format.frames in
-      let left = frames_left p lane.position lane.slot in
-      let before = frames_between lane.position slot.media in
-      let behind' = frames_between slot.media lane.position in
-      let ss = body_samples lane.format body in
-      let ss_len = body_length lane.format body fits in
-      let gap_len : length (silence c (before - left)) ≡ (before - left) * c = length-replicate ((before - left) * c) (pos 0) in
-      let rest_len = length-drop (behind' * c) ss in
-      let inner = length-append (silence c (before - left)) (drop (behind' * c) ss) in
-      let outer = length-append lane.values (silence c (before - left) ++ drop (behind' * c) ss) in
-      let old : length lane.values ≡ left * c = ap length sound.values ∙ sound.left in
-      let own : p * c - behind' * c ≡ (p - behind') * c = times_less p behind' c in
-      let sum : left * c + ((before - left) * c + (p - behind') * c) ≡ (left + (before - left) + (p - behind')) * c = omega arith in
-      let total : left + (before - left) + (p - behind') ≡ frames_between lane.position (slot.media +ℤ pos p) = elim (distance ((slot.media +ℤ pos p) -ℤ lane.position)) [
-        | past a ↦ elim (place_of p lane.slot slot.media lane.position after) [ ahead m_is s h ↦ omega (arith, ints) | behind t_is g h ↦ omega (arith, ints) ]
-        | none a y ↦ elim (place_of p lane.slot slot.media lane.position after) [ ahead m_is s h ↦ absurd (omega (arith, ints)) | behind t_is g h ↦ omega (arith, ints) ]
-      ] in
-      ap (λ (h : Held). length h.values) e
-      ∙ (let all : length (with_slot lane slot body).values ≡ left * c + ((before - left) * c + (p - behind') * c) = omega arith in all)
-      ∙ sum
-      ∙ ap (λ n. n * c) total;
+  enough_room = sound.enough_room;
+  small_room = sound.small_room;
+  left = ap (λ (h : Held). length h.values) e ∙ slot_length lane held slot body sound fits after;
 }
 
 -- there is room in the block
@@ -345,3 +390,17 @@ left_of frames t block false (Some s) (Some u) some h =
 
 pub wanted_left : (lane : LaneState) → 0 < lane.block → is_wanting lane (lane.position +ℤ pos lane.block) ≡ true → frames_left lane.format.frames lane.position lane.slot < lane.block
 wanted_left lane some h = left_of lane.format.frames lane.position lane.block lane.ended lane.slot lane.quiet some h
+
+between_few : (from to : ℕ) (samples : List ℤ) → length (between from to samples) ≤ to
+between_few from to samples = let e = length-take (to - from) (drop from samples) in omega arith
+
+-- a block and a packet have room
+pub slot_room : (held_block block held_c c p room held_room frames channels skipped : ℕ) (samples : List ℤ) → held_block ≡ block → held_c ≡ c → frames ≡ p → channels ≡ c → block + p ≤ room → held_room ≡ room * c
+    → held_block * held_c + length (between (skipped * channels) (frames * channels) samples) ≤ held_room
+slot_room held_block block held_c c p room held_room frames channels skipped samples e_block e_held e_frames e_channels enough e_room =
+    let few : length (between (skipped * channels) (frames * channels) samples) ≤ frames * channels = between_few (skipped * channels) (frames * channels) samples in
+    let a : held_block * held_c ≡ block * c = ap (λ x. x * held_c) e_block ∙ ap (λ x. block * x) e_held in
+    let b : frames * channels ≡ p * c = ap (λ x. x * channels) e_frames ∙ ap (λ x. p * x) e_channels in
+    let sum : (block + p) * c ≡ block * c + p * c = omega arith in
+    let wide : (block + p) * c ≤ room * c = mul-le-mul_right c enough in
+    omega arith

@@ -1,5 +1,5 @@
 -- What a lane is, once it was fed marks and has come to a position.
-use Rattle.std.specs.Prelude.{◌≡◌, ℕ, ◌+◌, ◌*◌, ◌^◌, ◌<◌, ◌≤◌, Bool, true, false, not, ◌&&◌, ◌-◌, List, ◌++◌, length, drop, slice_index_or, ℤ, pos, negsuc, ◌+ℤ◌, ◌-ℤ◌, ◌≤ℤ◌, ◌<ℤ◌, Option, Some, None, unwrap_or}
+use Rattle.std.specs.Prelude.{◌≡◌, ℕ, ◌+◌, ◌*◌, ◌^◌, ◌<◌, ◌≤◌, Bool, true, false, not, ◌&&◌, nat_le, ◌-◌, List, ◌++◌, length, drop, slice_index_or, ℤ, pos, negsuc, ◌+ℤ◌, ◌-ℤ◌, ◌≤ℤ◌, ◌<ℤ◌, Option, Some, None, unwrap_or}
 use Rattle.stream_rules.specs.declared.stream_spec.Stream.{Stream}
 use Rattle.stream_rules.specs.StreamSpecFacts.{format_of}
 use Rattle.stream_rules.specs.MarkFacts.{MarkView, IsTime}
@@ -26,6 +26,7 @@ pub record LaneState : Type 0 where
   pub slot : Option LastSlot
   pub quiet : Option ℤ
   pub ended : Bool
+  pub room : ℕ
   pub values : List ℤ
 
 abbrev pub cover_at : LaneState → Cover
@@ -67,6 +68,16 @@ abbrev pub IsAfter : ℕ → Option LastSlot → ℤ → Type 0
 IsAfter frames None media = Unit {0}
 IsAfter frames (Some slot) media = (slot.media +ℤ pos frames) ≤ℤ media
 
+-- the frames from the position to a slot's end
+abbrev pub frames_to : LaneState → MarkKind → ℕ
+frames_to lane (Slot epoch number media body) = frames_between lane.position (media +ℤ pos lane.format.frames)
+frames_to lane (Quiet until) = 0
+frames_to lane End = 0
+
+-- there is room for the frames of a mark
+abbrev pub has_room_for : LaneState → MarkView → Bool
+has_room_for lane mark = nat_le (frames_to lane mark.kind) lane.room
+
 -- the samples of a slot, frame by frame
 abbrev pub body_samples : Format → Body → List ℤ
 body_samples format (Got payload) = samples_of format.enc payload.items
@@ -94,11 +105,12 @@ pub record HasFeed (stream : Stream) (from : ℤ) (size : ℕ) (lane : LaneState
   pub values : (frame channel : ℕ) → channel < stream.channels
       → slice_index_or lane.values (frame * stream.channels + channel) (pos 0) ≡ value_at (format_of stream) marks (t +ℤ pos frame) channel
 
--- a stream's facts, the start and the block are those of before
+-- a stream's facts, the start, the block and the room are those of before
 pub record HasSameFacts (old new : LaneState) : Type 0 where
   pub format : new.format ≡ old.format
   pub start : new.start ≡ old.start
   pub block : new.block ≡ old.block
+  pub room : new.room ≡ old.room
 
 abbrev pub IsSlot : Option LastSlot → Type 0
 IsSlot None = Unit {0}
@@ -126,5 +138,7 @@ pub record IsLane (lane : LaneState) (held : Held) : Type 0 where
   pub values : lane.values ≡ held.values
   pub channels : held.channels ≡ lane.format.channels
   pub held_block : held.block ≡ lane.block
-  pub room : held.room ≡ (lane.block + lane.format.frames) * lane.format.channels
+  pub room : held.room ≡ lane.room * lane.format.channels
+  pub enough_room : lane.block + lane.format.frames ≤ lane.room
+  pub small_room : lane.room ≤ 2 ^ 24
   pub left : length held.values ≡ frames_left lane.format.frames lane.position lane.slot * lane.format.channels

@@ -57,7 +57,7 @@ impl FrameQueue {
         requires some_channels { 0 < channels }
         requires few_channels { channels ≤ 64 }
         requires short_block { block ≤ 192 }
-        requires few_more { more ≤ 192 }
+        requires few_more { more ≤ 2 ^ 24 }
         ensures { IfOk result (λ q. q ≡ record { channels = channels; block = block; room = (block + more) * channels; values = [] }) }
     {
         let stored = HeapCircularBuffer::with_capacity(alloc, (block + more) * channels)?;
@@ -83,6 +83,15 @@ impl FrameQueue {
         store_silence(&mut self.stored, self.channels, silent);
         self.front = self.stored.len();
         self.gap = gap;
+        self.stored.fill_from_slice(samples);
+    }
+
+    /// Adds frames of silence and then `samples`, all of them stored.
+    pub fn append(&mut self, silent: usize, samples: &[i32])
+        requires room { length self.old.values + silent * self.old.channels + length samples.now ≤ self.old.room }
+        ensures { self.new ≡ record self.old { values = self.old.values ++ (silence self.old.channels silent ++ samples.now) } }
+    {
+        store_silence(&mut self.stored, self.channels, silent);
         self.stored.fill_from_slice(samples);
     }
 

@@ -1,5 +1,5 @@
 //! One stream's marks as frames at media times.
-ghost use Rattle.std.specs.Prelude.{◌≡◌, ◌+◌, ◌*◌, ◌^◌, ◌<◌, ◌≤◌, [], ◌∷◌, ◌++◌, List, ℤ, ℕ, pos, ◌+ℤ◌, ◌≤ℤ◌, ◌<ℤ◌, true, false, not, Some, length, take, option_copied, IfOk};
+ghost use Rattle.std.specs.Prelude.{◌≡◌, ◌+◌, ◌*◌, ◌^◌, ◌<◌, ◌≤◌, [], ◌∷◌, ◌++◌, List, ℤ, ℕ, pos, ◌+ℤ◌, ◌≤ℤ◌, ◌<ℤ◌, true, false, not, ◌||◌, Some, length, take, min, option_copied, IfOk};
 ghost use Rattle.stream_rules.specs.declared.stream_spec.Stream.{Stream};
 ghost use Rattle.stream_rules.specs.StreamSpecFacts.{format_of};
 ghost use Rattle.rtp_wire.specs.PacketTime.{is_packet_time};
@@ -17,7 +17,9 @@ ghost use Rattle.lane_align.specs.Lane.{IsSlot, IsAfter, body_samples, with_slot
 
 use crate::cover::Cover;
 use crate::frames::FrameQueue;
-use crate::last_slot::LastSlot;
+use crate::last_slot::{
+    LastSlot, frames_before, frames_between, frames_left, may_follow_slot, time_reached_by,
+};
 use rtp_wire::{Enc, read_samples};
 use std::alloc::{AllocError, Global};
 use std::marker::Model;
@@ -29,7 +31,8 @@ const MOST_SAMPLES: usize = 720;
 /// The marks of one stream, taken one by one, and its values, given block by block.
 ///
 /// Inputs: `feed`, with a mark that it `accepts`, while it `wants` one for the next block, or `feed_ref`
-/// and `accepts_ref` with one that is lent. Outputs: `read_block`, once it doesn't. Readers: `cover`, `end`, `position`.
+/// and `accepts_ref` with one that is lent; `keep_ref` where it `has_room`, though it wants none.
+/// Outputs: `read_block`, once it doesn't. Readers: `cover`, `end`, `position`.
 #[derive(Drop)]
 pub struct Lane {
     format: Format,
@@ -39,6 +42,8 @@ pub struct Lane {
     slot: Option<LastSlot>,
     quiet: Option<i64>,
     ended: bool,
+    /// Frames from the position on that may be stored.
+    room: u32,
     values: FrameQueue,
 }
 
@@ -47,7 +52,7 @@ impl Model for Lane {
 
     ghost Value = { LaneState };
 
-    ghost view = { λ l. record { format = l.format; start = l.start; block = l.block; position = l.position; slot = l.slot; quiet = l.quiet; ended = l.ended; values = l.values.values } };
+    ghost view = { λ l. record { format = l.format; start = l.start; block = l.block; position = l.position; slot = l.slot; quiet = l.quiet; ended = l.ended; room = l.room; values = l.values.values } };
 
     ghost invariant = { λ l. IsLane (view l) l.values };
 }
@@ -61,58 +66,6 @@ fn is_same_format(a: Format, b: Format) -> bool
         _ => false,
     };
     same_encoding && a.channels == b.channels && a.frames == b.frames
-}
-
-/// The greater of the end of the last slot and the last Quiet's time.
-fn time_reached_by(frames: u16, slot: Option<LastSlot>, quiet: Option<i64>) -> Option<i64>
-    requires few_frames { frames ≤ 192 }
-    requires slot { IsSlot slot }
-    ensures { result ≡ time_reached frames slot quiet }
-{
-    match (slot, quiet) {
-        (None, _) => quiet,
-        (Some(slot), None) => Some(slot.media + i64::from(frames)),
-        (Some(slot), Some(until)) => Some(until.max(slot.media + i64::from(frames))),
-    }
-}
-
-/// Whether two times are the same.
-fn is_same_time(t: i64, u: i64) -> bool
-    ensures { result ≡ list.is_same_time t u }
-{
-    t == u
-}
-
-/// Whether a slot may follow this one: the next number at its end, or a slot of the next epoch from there on.
-fn may_follow_slot(slot: LastSlot, frames: u16, epoch: u64, number: u64, media: i64) -> bool
-    requires few_frames { frames ≤ 192 }
-    requires slot { IsSlot (Some slot) }
-    ensures { (before after : Body) → result ≡ list.can_follow frames (Some (Slot slot.epoch slot.number slot.media before)) (Slot epoch number media after) }
-{
-    let end = slot.media + i64::from(frames);
-    if epoch == slot.epoch {
-        return number == slot.number + 1 && is_same_time(media, end);
-    }
-    epoch == slot.epoch + 1 && end <= media
-}
-
-/// How many frames lie from one time to another; none where it isn't after it.
-fn frames_between(from: i64, to: i64) -> u64
-    ensures { result ≡ state.frames_between from to }
-{
-    if from < to { to.abs_diff(from) } else { 0 }
-}
-
-/// The frames from a time to the end of the last slot.
-fn frames_left(frames: u16, t: i64, slot: Option<LastSlot>) -> u64
-    requires few_frames { frames ≤ 192 }
-    requires slot { IsSlot slot }
-    ensures { result ≡ state.frames_left frames t slot }
-{
-    match slot {
-        None => 0,
-        Some(slot) => frames_between(t, slot.media + i64::from(frames)),
-    }
 }
 
 /// The samples of a slot, frame by frame, and silence past them.
@@ -133,7 +86,7 @@ fn slot_samples(format: Format, payload: Option<&[u8]>) -> [i32; MOST_SAMPLES]
 }
 
 impl Lane {
-    ghost use Rattle.lane_align.specs.Lane.{LaneState, HasFeed, HasSameFacts, cover_at, end_at, is_wanting, is_next, last_kind};
+    ghost use Rattle.lane_align.specs.Lane.{LaneState, HasFeed, HasSameFacts, cover_at, end_at, is_wanting, is_next, has_room_for, last_kind};
     ghost use Rattle.stream_rules.specs.MarkFacts.{IsMark};
 
     /// A lane that begins at media time `start` and gives blocks of `block` frames.
@@ -143,10 +96,32 @@ impl Lane {
         requires block { is_packet_time block ≡ true }
         ensures { IfOk result (λ lane. HasFeed spec start block lane [] start) }
     {
+        let room = u32::from(block) + u32::from(spec.frames());
+        Lane::with_room(alloc, spec, start, block, room)
+    }
+
+    /// As `new`, with room for as many frames from the position on, for marks that come before they are wanted.
+    ///
+    /// `room` is in frames: a block and a packet at least, and 2^24 at most.
+    pub fn with_room(
+        alloc: Global,
+        spec: StreamSpec,
+        start: i64,
+        block: u16,
+        room: u32,
+    ) -> Result<Lane, AllocError>
+        requires not_low { pos 0 ≤ℤ start }
+        requires not_high { start ≤ℤ pos (2 ^ 60) }
+        requires block { is_packet_time block ≡ true }
+        requires enough { block + spec.frames ≤ room }
+        requires few { room ≤ 2 ^ 24 }
+        ensures stands { IfOk result (λ lane. HasFeed spec start block lane [] start) }
+        ensures room { IfOk result (λ lane. lane.room ≡ room) }
+    {
         let format = spec.format();
         let channels = usize::from(spec.channels());
-        let frames = usize::from(spec.frames());
-        let values = FrameQueue::new(alloc, channels, usize::from(block), frames)?;
+        let more = room - u32::from(block);
+        let values = FrameQueue::new(alloc, channels, usize::from(block), more as usize)?;
         Ok(Lane {
             format,
             start,
@@ -155,6 +130,7 @@ impl Lane {
             slot: None,
             quiet: None,
             ended: false,
+            room,
             values,
         })
     }
@@ -291,6 +267,46 @@ impl Lane {
         ensures facts { HasSameFacts self.old self.new }
         ensures position { self.new.position ≡ self.old.position }
     {
+        self.take(mark);
+    }
+
+    /// Whether there is room for the frames of a mark, though none may be wanted.
+    ///
+    /// A slot needs as many as lie between the lane's position and its end; no other mark needs any.
+    pub fn has_room(&self, mark: &MarkRef<'_>) -> bool
+        ensures value { result ≡ has_room_for self.now mark.now }
+    {
+        match mark.kind() {
+            MarkKindRef::Slot { media, .. } => {
+                let end = media + i64::from(self.format.frames);
+                frames_between(self.position, end) <= u64::from(self.room)
+            }
+            MarkKindRef::Quiet { .. } => true,
+            MarkKindRef::End => true,
+        }
+    }
+
+    /// As `feed_ref`, of a mark for which the lane has room, whether or not it wants one.
+    pub fn keep_ref(&mut self, mark: &MarkRef<'_>)
+        requires accepted { is_next self.old mark.now ≡ true }
+        requires room { has_room_for self.old mark.now ≡ true }
+        ensures stands { (stream : Stream) (from : ℤ) (size : ℕ) (marks : List MarkView) (t : ℤ)
+            → HasFeed stream from size self.old marks t → HasFeed stream from size self.new (marks ++ mark.now ∷ []) t }
+        ensures facts { HasSameFacts self.old self.new }
+        ensures position { self.new.position ≡ self.old.position }
+    {
+        self.take(mark);
+    }
+
+    /// Takes the next mark.
+    fn take(&mut self, mark: &MarkRef<'_>)
+        requires accepted { is_next self.old mark.now ≡ true }
+        requires fits { (is_wanting self.old (self.old.position +ℤ pos self.old.block) || has_room_for self.old mark.now) ≡ true }
+        ensures stands { (stream : Stream) (from : ℤ) (size : ℕ) (marks : List MarkView) (t : ℤ)
+            → HasFeed stream from size self.old marks t → HasFeed stream from size self.new (marks ++ mark.now ∷ []) t }
+        ensures facts { HasSameFacts self.old self.new }
+        ensures position { self.new.position ≡ self.old.position }
+    {
         match mark.kind() {
             MarkKindRef::Slot {
                 epoch,
@@ -303,14 +319,38 @@ impl Lane {
                     number,
                     media,
                 };
-                self.take_slot(slot, payload);
+                if self.has_room(mark) {
+                    self.keep_slot(slot, payload);
+                } else {
+                    self.take_slot(slot, payload);
+                }
             }
             MarkKindRef::Quiet { until } => self.quiet = Some(until),
             MarkKindRef::End => self.ended = true,
         }
     }
 
-    /// Takes a slot after the last.
+    /// Takes a slot after the last, for which there is room with the silence before it.
+    fn keep_slot(&mut self, slot: LastSlot, payload: Option<&[u8]>)
+        requires small { IsSlot (Some slot) }
+        requires len { HasLength (payload_length self.old.format) (body_from (option_copied payload)) }
+        requires after { IsAfter self.old.format.frames self.old.slot slot.media }
+        requires room { state.frames_between self.old.position (slot.media +ℤ pos self.old.format.frames) ≤ self.old.room }
+        ensures taken { self.new ≡ with_slot self.old slot (body_from (option_copied payload.entry)) }
+        ensures left { length self.old.values ≡ state.frames_left self.old.format.frames self.old.position self.old.slot * self.old.format.channels }
+    {
+        let channels = usize::from(self.format.channels);
+        let frames = usize::from(self.format.frames);
+        let held = frames_left(self.format.frames, self.position, self.slot);
+        let before = frames_between(self.position, slot.media) - held;
+        let skipped = frames_before(self.format.frames, self.position, slot.media);
+        let samples = slot_samples(self.format, payload);
+        let rest = &samples[skipped * channels..frames * channels];
+        self.values.append(before as usize, rest);
+        self.slot = Some(slot);
+    }
+
+    /// Takes a slot after the last. Silence past the next block is kept as a number.
     fn take_slot(&mut self, slot: LastSlot, payload: Option<&[u8]>)
         requires small { IsSlot (Some slot) }
         requires len { HasLength (payload_length self.old.format) (body_from (option_copied payload)) }
@@ -324,7 +364,7 @@ impl Lane {
         let held = frames_left(self.format.frames, self.position, self.slot);
         let before = frames_between(self.position, slot.media) - held;
         let stored = before.min(u64::from(self.block) - held);
-        let skipped = frames_between(slot.media, self.position).min(frames as u64) as usize;
+        let skipped = frames_before(self.format.frames, self.position, slot.media);
         let samples = slot_samples(self.format, payload);
         let rest = &samples[skipped * channels..frames * channels];
         self.values.add(stored as usize, before - stored, rest);

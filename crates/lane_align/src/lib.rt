@@ -5,6 +5,8 @@
 //! is the caller's to drop. Once the block's end is covered, `read_block` writes its values, frame by
 //! frame, and the lane stands at the next block. `cover` says how far the values are final, `end` where
 //! the last of them lies.
+//!
+//! A lane of `Lane::with_room` also keeps marks before they are wanted: by `keep_ref`, where it `has_room`.
 #![tactic(auto)]
 
 mod cover;

@@ -48,6 +48,24 @@ impl Player {
         })
     }
 
+    /// Begins with room for as many frames, which is tested too.
+    fn with_room(
+        rt: &impl Abort,
+        alloc: Global,
+        spec: StreamSpec,
+        block: u16,
+        room: u32,
+    ) -> Result<Player, AllocError> {
+        assert!(rt; block == 6 || block == 12 || block == 16 || block == 48 || block == 192);
+        assert!(rt; u32::from(block) + u32::from(spec.frames()) <= room && room <= 16_777_216);
+        let lane = Lane::with_room(alloc, spec, 0, block, room)?;
+        Ok(Player {
+            lane,
+            block,
+            channels: spec.channels(),
+        })
+    }
+
     /// Whether a mark is wanted for the next block.
     fn wants(&self) -> bool {
         self.lane
@@ -60,6 +78,14 @@ impl Player {
         assert!(rt; self.lane.wants(end), "a mark is wanted");
         assert!(rt; self.lane.accepts(&mark), "the mark is accepted");
         self.lane.feed(mark);
+    }
+
+    /// Keeps a mark, which has to be accepted and to have room.
+    fn keep(&mut self, rt: &impl Abort, mark: Mark) {
+        let lent = mark.lent();
+        assert!(rt; self.lane.accepts_ref(&lent), "the mark is accepted");
+        assert!(rt; self.lane.has_room(&lent), "there is room");
+        self.lane.keep_ref(&lent);
     }
 
     /// The next block, which has to be covered.
@@ -359,6 +385,46 @@ fn silence_is_known_before_the_first_slot(rt: HostRuntime) -> Result<(), Fail> {
     let silent = player.next_block(&rt, rt.alloc())?;
     assert_eq!(rt; silent.as_slice(), [0; 12].as_slice());
     assert_eq!(rt; player.lane.end(), 106);
+    Ok(())
+}
+
+/// Marks of two epochs, kept before they are wanted in a room of 30 frames, which begins at the next block.
+#[test]
+fn a_room_is_filled_to_its_last_frame(rt: HostRuntime) -> Result<(), Fail> {
+    let spec = stream(&rt, Enc::L24, 1, 6);
+    let format = spec.format();
+    let mut player = Player::with_room(&rt, rt.alloc(), spec, 12, 30)?;
+    player.take(&rt, quiet(&rt, format, 14));
+    assert!(rt; !player.wants(), "the block is silent");
+    player.keep(
+        &rt,
+        slot(&rt, format, 0, 70_000, 15, Some(&[1, 2, 3, 4, 5, 6])),
+    );
+    let beyond = slot(&rt, format, 1, 9, 25, None);
+    assert!(rt; !player.lane.has_room(&beyond.lent()), "to 31 of 30");
+    player.keep(
+        &rt,
+        slot(&rt, format, 1, 9, 24, Some(&[7, 8, 9, 10, 11, 12])),
+    );
+    let next = slot(&rt, format, 1, 10, 30, Some(&[13, 14, 15, 16, 17, 18]));
+    assert!(rt; !player.lane.has_room(&next.lent()), "to 36 of 30");
+    let silent = player.next_block(&rt, rt.alloc())?;
+    assert_eq!(rt; silent.as_slice(), [0; 12].as_slice());
+    player.keep(&rt, next);
+    player.keep(&rt, slot(&rt, format, 1, 11, 36, None));
+    player.keep(&rt, Mark::end(format));
+    assert_eq!(rt; player.lane.cover(), Cover::All);
+    let first = player.next_block(&rt, rt.alloc())?;
+    assert_eq!(rt;
+        first.as_slice(),
+        [0, 0, 0, 1, 2, 3, 4, 5, 6, 0, 0, 0].as_slice()
+    );
+    let second = player.next_block(&rt, rt.alloc())?;
+    assert_eq!(rt;
+        second.as_slice(),
+        [7, 8, 9, 10, 11, 12, 13, 14, 15, 16, 17, 18].as_slice()
+    );
+    assert_eq!(rt; player.lane.end(), 42);
     Ok(())
 }
 
