@@ -7,6 +7,7 @@ use Rattle.std.proofs.lemmas.Option.{slice_get_within, get_or_from_slice_get}
 use Rattle.std.proofs.lemmas.List.{take_all, take_more, append-nil, get_or-set_same, get_or-set_other, set-get_or, length-set}
 use Rattle.std.proofs.lemmas.List.FromFn.{length-map-range_with_len}
 use Rattle.std.proofs.lemmas.List.Sums.{sum_by_more, sum_by-set}
+use Rattle.std.proofs.Math.Seq.{map-set_same}
 use Rattle.stream_rules.specs.declared.stream_spec.Stream.{Stream}
 use Rattle.stream_rules.specs.StreamSpecFacts.{format_of}
 use Rattle.stream_rules.specs.MarkFacts.{MarkView}
@@ -16,6 +17,7 @@ use Rattle.lane_align.specs.Lane.{LaneState, HasFeed, HasSameFacts}
 use Rattle.gain_mix.specs.Mix.{Is24Bits}
 use Rattle.studio_mix.specs.Feed.{Feed, studio_values}
 use Rattle.studio_mix.specs.Lanes.{AreFed, AreRead, IsLaneAt, lane_channels}
+use Rattle.studio_mix.specs.Room.{rooms_of}
 use Rattle.studio_mix.proofs.MixerLemmas.{AreFedTo, fed_set, fed_at}
 use Rattle.studio_mix.proofs.RowLemmas.{row_at}
 
@@ -42,6 +44,7 @@ pub record IsRead (first lanes : List LaneState) (ins : List ℤ) (frames width 
   pub others : (k : ℕ) (d : LaneState) → i ≤ k → get_or lanes k d ≡ get_or first k d
   pub moved : (time : ℤ) → All (IsLaneAt frames time) first → (k : ℕ) (d : LaneState) → k < i → k < length lanes → IsLaneAt frames (time +ℤ pos frames) (get_or lanes k d)
   pub channels : lane_channels lanes ≡ lane_channels first
+  pub rooms : rooms_of lanes ≡ rooms_of first
   pub fed : (from : ℤ) (feeds : List Feed) (t : ℤ) → AreFed from frames first feeds t → AreFedTo from frames lanes feeds (moved_to t frames i)
   pub laid : (from : ℤ) (feeds : List Feed) (t : ℤ) → AreFed from frames first feeds t → (f : ℕ) → f < frames
       → take at (drop (f * width) ins) ≡ studio_values (take i feeds) (t +ℤ pos f)
@@ -87,6 +90,7 @@ read_start lanes ins frames width in_24_bits = record {
   others = λ k d h. refl;
   moved = λ time each k d h. absurd (omega arith);
   channels = refl;
+  rooms = refl;
   fed = λ from feeds t fed. record { count = fed.count; each = λ i lane feed l f. subst (HasFeed feed.stream from frames lane feed.marks) (sym (not_moved t frames 0 i (omega arith))) (fed.each i lane feed l f) };
   laid = λ from feeds t fed f h. refl;
   in_24_bits = in_24_bits;
@@ -123,6 +127,7 @@ read_more first lanes ins laid frames width at i c lane next values before h is 
           let f : lane_channels (set lanes i next) + lane.format.channels ≡ lane_channels lanes + next.format.channels = ap (λ (l : LaneState). lane_channels (set lanes i next) + l.format.channels) is ∙ e in
           let g : next.format.channels ≡ lane.format.channels = ap (λ (f : Format). f.channels) facts in
           let r : lane_channels (set lanes i next) ≡ lane_channels lanes = omega (arith, f, g) in r) ∙ before.channels;
+      rooms = map-set_same (λ (l : LaneState). l.room) lanes i next lane (reads.facts.room ∙ ap (λ (l : LaneState). l.room) is) ∙ before.rooms;
       fed = λ from feeds t fed.
           let so_far = before.fed from feeds t fed in
           let many = so_far.count in
@@ -171,6 +176,7 @@ were_read first lanes ins frames width at i read all wide =
       stands = λ from feeds t fed. let many = fed.count in read_all from frames lanes feeds t i (read.fed from feeds t fed) (omega (arith, many, all));
       moved = λ time each k d h. read.moved time each k d (omega (arith, count, h, all)) h;
       channels = read.channels;
+      rooms = read.rooms;
       in_24_bits = read.in_24_bits;
     }
 

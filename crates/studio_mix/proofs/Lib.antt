@@ -5,6 +5,7 @@ pub mod RowLemmas
 pub mod BlockLemmas
 pub mod NextLemmas
 pub mod NewLemmas
+pub mod RoomLemmas
 pub mod LawLemmas
 pub mod FirstBlockLemmas
 mod WorkedCases

@@ -5,7 +5,7 @@ use Rattle.std.proofs.lemmas.Int.{ints}
 use Rattle.mix_packets.specs.declared.out_spec.Output.{Output}
 use Rattle.mix_packets.specs.Block.{block_start}
 use Rattle.std.proofs.lemmas.Option.{slice_get_read, slice_get_within, get_or_from_slice_get, slice_get-get_or}
-use Rattle.std.proofs.lemmas.List.{length_push, length-map, get_or-map, get_or_append_left, get_or-append_right, take_all}
+use Rattle.std.proofs.lemmas.List.{length_push, length-map, get_or-map, get_or_append_left, get_or-append_right, take_all, take_more, map_push}
 use Rattle.std.proofs.lemmas.List.Elements.{All-push}
 use Rattle.std.proofs.lemmas.List.Sums.{sum_by_more, sum_by_push}
 use Rattle.stream_rules.specs.declared.stream_spec.Stream.{Stream}
@@ -14,18 +14,20 @@ use Rattle.lane_align.specs.Lane.{LaneState, HasFeed}
 use Rattle.studio_spec.specs.Studio.{channel_total}
 use Rattle.studio_mix.specs.Feed.{Feed, unfed}
 use Rattle.studio_mix.specs.Lanes.{AreFed, IsLaneAt, lane_channels}
+use Rattle.studio_mix.specs.Room.{room_beside, rooms_of}
 
-pub record AreNew (start : ℤ) (block : ℕ) (streams : List Stream) (lanes : List LaneState) (i : ℕ) : Type 0 where
+pub record AreNew (start : ℤ) (block lag : ℕ) (streams : List Stream) (lanes : List LaneState) (i : ℕ) : Type 0 where
   pub count : length lanes ≡ i
   pub each : All (IsLaneAt block start) lanes
   pub channels : lane_channels lanes ≡ channel_total (take i streams)
+  pub rooms : rooms_of lanes ≡ map (room_beside lag block) (take i streams)
   pub fed : (k : ℕ) (lane : LaneState) (stream : Stream) → slice_get lanes k ≡ Some lane → slice_get streams k ≡ Some stream → HasFeed stream start block lane [] start
 
-pub new_more : (start : ℤ) (block : ℕ) (streams : List Stream) (lanes : List LaneState) (i : ℕ) (stream : Stream) (lane : LaneState)
-    → AreNew start block streams lanes i → i < length streams → stream ≡ get_or streams i stream
-    → HasFeed stream start block lane [] start → 0 < lane.format.channels → lane.format.channels ≤ 64
-    → AreNew start block streams (lanes ++ lane ∷ []) (i + 1)
-new_more start block streams lanes i stream lane before h is new some few =
+pub new_more : (start : ℤ) (block lag : ℕ) (streams : List Stream) (lanes : List LaneState) (i : ℕ) (stream : Stream) (lane : LaneState)
+    → AreNew start block lag streams lanes i → i < length streams → stream ≡ get_or streams i stream
+    → HasFeed stream start block lane [] start → lane.room ≡ room_beside lag block stream → 0 < lane.format.channels → lane.format.channels ≤ 64
+    → AreNew start block lag streams (lanes ++ lane ∷ []) (i + 1)
+new_more start block lag streams lanes i stream lane before h is new room some few =
     let count = before.count in
     record {
       count = length_push lanes lane ∙ ap (λ k. k + 1) before.count;
@@ -35,6 +37,12 @@ new_more start block streams lanes i stream lane before h is new some few =
           ∙ ap (λ k. k + lane.format.channels) before.channels
           ∙ ap (λ k. channel_total (take i streams) + k) (ap (λ (f : Format). f.channels) new.format ∙ ap (λ (s : Stream). s.channels) is)
           ∙ sym (sum_by_more (λ (s : Stream). s.channels) streams i stream h);
+      rooms =
+          map_push (λ (l : LaneState). l.room) lanes lane
+          ∙ ap (λ rs. rs ++ lane.room ∷ []) before.rooms
+          ∙ ap (λ r. map (room_beside lag block) (take i streams) ++ r ∷ []) (room ∙ ap (room_beside lag block) is)
+          ∙ sym (map_push (room_beside lag block) (take i streams) (get_or streams i stream))
+          ∙ ap (map (room_beside lag block)) (sym (take_more streams i stream h));
       fed = λ k l s l_is s_is.
           let within : k < length (lanes ++ lane ∷ []) = slice_get_within (lanes ++ lane ∷ []) k l l_is in
           let long : length (lanes ++ lane ∷ []) ≡ length lanes + 1 = length_push lanes lane in
@@ -53,9 +61,9 @@ new_more start block streams lanes i stream lane before h is new some few =
 feed_of : Stream → Feed
 feed_of stream = record { stream = stream; marks = [] }
 
-pub all_new : (start : ℤ) (block : ℕ) (streams : List Stream) (lanes : List LaneState) (i : ℕ) → AreNew start block streams lanes i → i ≡ length streams
+pub all_new : (start : ℤ) (block lag : ℕ) (streams : List Stream) (lanes : List LaneState) (i : ℕ) → AreNew start block lag streams lanes i → i ≡ length streams
     → AreFed start block lanes (unfed streams) start
-all_new start block streams lanes i new e = record {
+all_new start block lag streams lanes i new e = record {
   count = new.count ∙ e ∙ sym (length-map streams (λ stream. record { stream = stream; marks = [] }));
   each = λ k lane feed l f.
       let F : Stream → Feed = λ stream. record { stream = stream; marks = [] } in
@@ -67,9 +75,13 @@ all_new start block streams lanes i new e = record {
       subst (λ (g : Feed). HasFeed g.stream start block lane g.marks start) is (new.fed k lane stream l (slice_get-get_or streams k feed.stream within));
 }
 
-pub all_channels : (start : ℤ) (block : ℕ) (streams : List Stream) (lanes : List LaneState) (i : ℕ) → AreNew start block streams lanes i → i ≡ length streams
+pub all_channels : (start : ℤ) (block lag : ℕ) (streams : List Stream) (lanes : List LaneState) (i : ℕ) → AreNew start block lag streams lanes i → i ≡ length streams
     → lane_channels lanes ≡ channel_total streams
-all_channels start block streams lanes i new e = new.channels ∙ ap channel_total (take_all i streams (omega arith))
+all_channels start block lag streams lanes i new e = new.channels ∙ ap channel_total (take_all i streams (omega arith))
+
+pub all_rooms : (start : ℤ) (block lag : ℕ) (streams : List Stream) (lanes : List LaneState) (i : ℕ) → AreNew start block lag streams lanes i → i ≡ length streams
+    → rooms_of lanes ≡ map (room_beside lag block) streams
+all_rooms start block lag streams lanes i new e = new.rooms ∙ ap (map (room_beside lag block)) (take_all i streams (omega (arith)))
 
 pub unfed_streams : (streams : List Stream) → map (λ (feed : Feed). feed.stream) (unfed streams) ≡ streams
 unfed_streams [] = refl

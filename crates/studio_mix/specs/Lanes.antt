@@ -4,6 +4,7 @@ use Rattle.lane_align.specs.Cover.{covers}
 use Rattle.lane_align.specs.Lane.{LaneState, HasFeed, cover_at, end_at}
 use Rattle.gain_mix.specs.Mix.{Is24Bits}
 use Rattle.studio_mix.specs.Feed.{Feed, studio_values}
+use Rattle.studio_mix.specs.Room.{rooms_of}
 
 -- the lanes were fed these marks, each its stream's, and stand at this time
 pub record AreFed (from : ℤ) (size : ℕ) (lanes : List LaneState) (feeds : List Feed) (t : ℤ) : Type 0 where
@@ -41,4 +42,5 @@ pub record AreRead (old new : List LaneState) (ins : List ℤ) (frames width : �
   pub stands : (from : ℤ) (feeds : List Feed) (t : ℤ) → AreFed from frames old feeds t → AreFed from frames new feeds (t +ℤ pos frames)
   pub moved : (time : ℤ) → All (IsLaneAt frames time) old → All (IsLaneAt frames (time +ℤ pos frames)) new
   pub channels : lane_channels new ≡ lane_channels old
+  pub rooms : rooms_of new ≡ rooms_of old
   pub in_24_bits : All Is24Bits ins

@@ -4,6 +4,7 @@ pub mod Ready
 pub mod Output
 pub mod Blocks
 pub mod Lanes
+pub mod Room
 pub mod Mixer
 pub use Rattle.rtp_wire.specs.Sample
 pub use Rattle.stream_rules.specs.StreamSpecFacts

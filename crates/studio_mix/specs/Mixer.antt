@@ -1,7 +1,7 @@
 -- What a mixer is, once its lanes were fed and it has come to a block.
 use Rattle.std.specs.Prelude.{◌≡◌, ℕ, ◌+◌, ◌*◌, ◌^◌, ◌≤◌, Bool, false, ℤ, pos, ◌+ℤ◌, ◌≤ℤ◌, List, length, map, slice_get, Option, Some, None, All}
 use Rattle.stream_rules.specs.MarkFacts.{MarkView}
-use Rattle.lane_align.specs.Lane.{LaneState, is_next, is_wanting}
+use Rattle.lane_align.specs.Lane.{LaneState, has_room_for, is_next, is_wanting}
 use Rattle.gain_mix.specs.Gain.{ins_of}
 use Rattle.gain_mix.specs.Mix.{Is24Bits}
 use Rattle.gain_mix.specs.Changes.{Changes}
@@ -39,6 +39,10 @@ is_wanted_by mixer stream = holds_of (λ lane. is_wanting lane (lane.position +�
 -- the mark may follow those of its stream
 abbrev pub is_next_of : MixerState → ℕ → MarkView → Bool
 is_next_of mixer stream mark = holds_of (λ lane. is_next lane mark) (slice_get mixer.lanes stream)
+
+-- there is room for the mark, though no more may be wanted
+abbrev pub has_room_of : MixerState → ℕ → MarkView → Bool
+has_room_of mixer stream mark = holds_of (λ lane. has_room_for lane mark) (slice_get mixer.lanes stream)
 
 -- what is true of every mixer
 pub record IsMixer (mixer : MixerState) (out : Output) (time : ℤ) (one ins outs : List ℤ) : Type 0 where

@@ -1,5 +1,5 @@
 //! The lanes of a studio's streams: when a block of all of them is final, and its values side by side.
-ghost use Rattle.std.specs.Prelude.{◌≡◌, ◌+◌, ◌*◌, ◌^◌, ◌≤◌, ◌≤ℤ◌, pos, true, length, All, IfOk};
+ghost use Rattle.std.specs.Prelude.{◌≡◌, ◌+◌, ◌*◌, ◌^◌, ◌≤◌, ◌≤ℤ◌, pos, true, length, map, All, IfOk};
 ghost use Rattle.std.specs.List.{list_all, list_any};
 ghost use Rattle.rtp_wire.specs.PacketTime.{is_packet_time};
 ghost use Rattle.lane_align.specs.Cover.{covers};
@@ -7,31 +7,37 @@ ghost use Rattle.lane_align.specs.Lane.{LaneState, cover_at};
 ghost use Rattle.gain_mix.specs.Mix.{Is24Bits};
 ghost use Rattle.studio_spec.specs.Studio.{channel_total};
 ghost use Rattle.studio_mix.specs.Feed.{unfed};
+ghost use Rattle.studio_mix.specs.Room.{room_beside, rooms_of};
 ghost use Rattle.studio_mix.specs.Lanes.{AreFed, AreRead, IsLaneAt, IsReadyLane, lane_channels, reaches_past};
 
 use crate::lay::lay_stream;
+use crate::room::room_beside;
 use lane_align::{Cover, Lane};
 use std::alloc::{AllocError, Global};
 use stream_rules::StreamSpec;
 
-/// A lane for each stream, that was fed nothing.
+/// A lane for each stream, that was fed nothing, with room beside a stream of this lag, in frames.
 pub(crate) fn new_lanes(
     alloc: Global,
     streams: &[StreamSpec],
     start: i64,
     block: u16,
+    lag: u32,
 ) -> Result<Vec<Lane>, AllocError>
     requires not_low { pos 0 ≤ℤ start }
     requires not_high { start ≤ℤ pos (2 ^ 60) }
     requires block { is_packet_time block ≡ true }
+    requires short { lag ≤ 2 ^ 23 }
     ensures fed { IfOk result (λ lanes. AreFed start block lanes.items (unfed streams.now) start) }
     ensures each { IfOk result (λ lanes. All (IsLaneAt block start) lanes.items) }
     ensures channels { IfOk result (λ lanes. lane_channels lanes.items ≡ channel_total streams.now) }
     ensures count { IfOk result (λ lanes. length lanes.items ≡ length streams.now) }
+    ensures rooms { IfOk result (λ lanes. rooms_of lanes.items ≡ map (room_beside lag block) streams.now) }
 {
     let mut lanes = Vec::new(alloc);
     for stream in streams {
-        let lane = Lane::new(alloc, *stream, start, block)?;
+        let room = room_beside(stream, block, lag);
+        let lane = Lane::with_room(alloc, *stream, start, block, room)?;
         let _format = lane.format();
         lanes.push(lane)?;
     }

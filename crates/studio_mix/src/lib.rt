@@ -5,12 +5,15 @@
 //! the next datagram to the front of the caller's slice once every stream is final to its block's end,
 //! and else changes nothing. After all streams have ended it gives the blocks that are left, and then
 //! none.
+//!
+//! A mixer of `Mixer::with_room` also keeps marks before they are wanted: by `keep_ref`, where it `has_room`.
 #![tactic(auto)]
 
 mod lanes;
 mod laws;
 mod lay;
 mod mixer;
+mod room;
 
 pub use laws::ready_blocks_stay;
 pub use mixer::Mixer;

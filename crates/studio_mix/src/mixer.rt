@@ -1,17 +1,19 @@
 //! The lanes of a studio's streams, mixed block by block.
-ghost use Rattle.std.specs.Prelude.{◌≡◌, ℕ, ℤ, pos, ◌+◌, ◌*◌, ◌^◌, ◌<◌, ◌≤◌, ◌≤ℤ◌, true, not, List, ◌∷◌, [], ◌++◌, length, drop, replicate, slice_get, slice_set, All, Some, None, is_some, IfOk, IfSome};
+ghost use Rattle.std.specs.Prelude.{◌≡◌, ℕ, ℤ, pos, ◌+◌, ◌*◌, ◌^◌, ◌<◌, ◌≤◌, ◌≤ℤ◌, true, not, List, ◌∷◌, [], ◌++◌, length, map, drop, replicate, slice_get, slice_set, All, Some, None, is_some, IfOk, IfSome};
 ghost use Rattle.stream_rules.specs.StreamSpecFacts.{format_of};
 ghost use Rattle.stream_rules.specs.MarkList.{is_mark_list};
 ghost use Rattle.lane_align.specs.Cover.{covers, cover_of};
 ghost use Rattle.mix_packets.specs.OutSpec.{datagram_length};
 ghost use Rattle.mix_packets.specs.Block.{block_start};
 ghost use Rattle.studio_mix.specs.Lanes.{IsReadyLane};
+ghost use Rattle.studio_mix.specs.Room.{room_beside, room_of, rooms_of};
 ghost use Rattle.studio_spec.specs.Studio.{Studio};
 ghost use Rattle.studio_mix.specs.Feed.{Feed, unfed};
 ghost use Rattle.studio_mix.specs.Ready.{is_ready};
 ghost use Rattle.studio_mix.specs.Output.{datagram_of};
 
 use crate::lanes::{are_covered, new_lanes, reach_past, read_lanes};
+use crate::room::greatest_lag;
 use gain_mix::{Schedule, mix_span};
 use lane_align::Lane;
 use mix_packets::{OutSpec, Packer};
@@ -23,7 +25,8 @@ use studio_spec::StudioSpec;
 /// The lanes of a studio's streams, and its output, block by block.
 ///
 /// Inputs: `feed`, with a mark that it `accepts`, while it `wants` one of that stream, or `feed_ref` and
-/// `accepts_ref` with one that is lent. Outputs: `next_block`. Readers: `streams`, `output`. No call but `new` takes memory.
+/// `accepts_ref` with one that is lent; `keep_ref` where it `has_room`, though it wants none. Outputs: `next_block`.
+/// Readers: `streams`, `output`. No call but `new` and `with_room` takes memory.
 #[derive(Drop)]
 pub struct Mixer {
     lanes: Vec<Lane>,
@@ -49,16 +52,36 @@ impl Model for Mixer {
 }
 
 impl Mixer {
-    ghost use Rattle.studio_mix.specs.Mixer.{MixerState, HasFeeds, is_wanted_by, is_next_of};
+    ghost use Rattle.studio_mix.specs.Mixer.{MixerState, HasFeeds, has_room_of, is_wanted_by, is_next_of};
 
     /// A mixer of a studio's streams: nothing was fed yet.
     pub fn new(alloc: Global, spec: &StudioSpec) -> Result<Mixer, AllocError>
         ensures { IfOk result (λ mixer. HasFeeds spec.now mixer (unfed spec.now.streams) 0) }
     {
+        Mixer::beside(alloc, spec, 0)
+    }
+
+    /// As `new`, with room for what the streams' merges give up to one time, though only some of it is wanted.
+    ///
+    /// A lane's room, in frames: a block, a packet, and by how much the stream that lags most, by its latency
+    /// and a window of packets, may lie behind this one.
+    pub fn with_room(alloc: Global, spec: &StudioSpec) -> Result<Mixer, AllocError>
+        ensures stands { IfOk result (λ mixer. HasFeeds spec.now mixer (unfed spec.now.streams) 0) }
+        ensures rooms { IfOk result (λ mixer. rooms_of mixer.lanes ≡ map (room_of spec.now) spec.now.streams) }
+    {
+        Mixer::beside(alloc, spec, greatest_lag(spec.streams()))
+    }
+
+    /// A mixer with room in each lane beside a stream of this lag, in frames.
+    fn beside(alloc: Global, spec: &StudioSpec, lag: u32) -> Result<Mixer, AllocError>
+        requires short { lag ≤ 2 ^ 23 }
+        ensures stands { IfOk result (λ mixer. HasFeeds spec.now mixer (unfed spec.now.streams) 0) }
+        ensures rooms { IfOk result (λ mixer. rooms_of mixer.lanes ≡ map (room_beside lag spec.now.output.frames) spec.now.streams) }
+    {
         let output = *spec.output();
         let start = output.start();
         let frames = usize::from(output.frames());
-        let lanes = new_lanes(alloc, spec.streams(), start, output.frames())?;
+        let lanes = new_lanes(alloc, spec.streams(), start, output.frames(), lag)?;
         let schedule = spec.schedule().copied(alloc)?;
         let one = silence(alloc, frames * 64)?;
         let ins = silence(alloc, frames * schedule.ins())?;
@@ -139,6 +162,7 @@ impl Mixer {
             → HasFeeds studio self.new (slice_set feeds stream (record { stream = feed.stream; marks = feed.marks ++ mark ∷ [] })) number }
         ensures packer { self.new.packer ≡ self.old.packer }
         ensures streams { length self.new.lanes ≡ length self.old.lanes }
+        ensures rooms { rooms_of self.new.lanes ≡ rooms_of self.old.lanes }
     {
         self.feed_ref(stream, &mark.lent());
     }
@@ -152,9 +176,34 @@ impl Mixer {
             → HasFeeds studio self.new (slice_set feeds stream (record { stream = feed.stream; marks = feed.marks ++ mark.now ∷ [] })) number }
         ensures packer { self.new.packer ≡ self.old.packer }
         ensures streams { length self.new.lanes ≡ length self.old.lanes }
+        ensures rooms { rooms_of self.new.lanes ≡ rooms_of self.old.lanes }
     {
         let lane = &mut self.lanes[stream];
         lane.feed_ref(mark);
+    }
+
+    /// Whether a stream's lane has room for a mark, though none may be wanted.
+    pub fn has_room(&self, stream: usize, mark: &MarkRef<'_>) -> bool
+        requires { stream < length self.now.lanes }
+        ensures value { result ≡ has_room_of self.now stream mark.now }
+    {
+        let lane = &self.lanes[stream];
+        lane.has_room(mark)
+    }
+
+    /// As `feed_ref`, of a mark for which there is room, whether or not one is wanted.
+    pub fn keep_ref(&mut self, stream: usize, mark: &MarkRef<'_>)
+        requires accepted { is_next_of self.old stream mark.now ≡ true }
+        requires room { has_room_of self.old stream mark.now ≡ true }
+        ensures stands { (studio : Studio) (feeds : List Feed) (number : ℕ) (feed : Feed)
+            → HasFeeds studio self.old feeds number → slice_get feeds stream ≡ Some feed
+            → HasFeeds studio self.new (slice_set feeds stream (record { stream = feed.stream; marks = feed.marks ++ mark.now ∷ [] })) number }
+        ensures packer { self.new.packer ≡ self.old.packer }
+        ensures streams { length self.new.lanes ≡ length self.old.lanes }
+        ensures rooms { rooms_of self.new.lanes ≡ rooms_of self.old.lanes }
+    {
+        let lane = &mut self.lanes[stream];
+        lane.keep_ref(mark);
     }
 
     /// Whether the next block is final.
@@ -184,6 +233,7 @@ impl Mixer {
         ensures early { IfSome result (λ _. block_start self.old.packer.spec self.old.packer.number ≤ℤ pos (2 ^ 61 + 192)) }
         ensures spec { self.new.packer.spec ≡ self.old.packer.spec }
         ensures streams { length self.new.lanes ≡ length self.old.lanes }
+        ensures rooms { rooms_of self.new.lanes ≡ rooms_of self.old.lanes }
     {
         if !self.is_ready() {
             return None;

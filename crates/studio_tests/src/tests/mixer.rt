@@ -184,6 +184,30 @@ fn two_streams_are_mixed_by_media_time(rt: HostRuntime) -> Result<(), Fail> {
     Ok(())
 }
 
+/// Beside a stream that lags by 432 frames, one of latency 12 has room for 474 frames: for a slot of 6 at 468.
+#[test]
+fn a_lane_has_room_beside_the_stream_that_lags_most(rt: HostRuntime) -> Result<(), Fail> {
+    let alloc = rt.alloc();
+    let spec = six_and_forty_eight(&rt, alloc)?;
+    let first = stream(&rt, 1, 6, 12).format();
+    let second = stream(&rt, 1, 48, 48).format();
+    let rows = [(0, first, 468), (1, second, 432)];
+    for (number, format, media) in rows {
+        let mut mixer = Mixer::with_room(alloc, &spec)?;
+        assert!(rt; mixer.streams() == 2);
+        let within = Mark::slot(format, 0, 65_537, media, Body::Lost);
+        let beyond = Mark::slot(format, 0, 65_537, media + 1, Body::Lost);
+        assert!(rt; !mixer.has_room(number, &beyond.lent()), "stream {number}");
+        assert!(rt; mixer.has_room(number, &within.lent()), "stream {number}");
+        assert!(rt; mixer.accepts(number, &within));
+        mixer.keep_ref(number, &within.lent());
+        let plain = Mixer::new(alloc, &spec)?;
+        assert!(rt; plain.streams() == 2);
+        assert!(rt; !plain.has_room(number, &within.lent()), "stream {number}");
+    }
+    Ok(())
+}
+
 /// A stream that told silence until the block's end lets the other's block go out.
 #[test]
 fn a_silent_stream_does_not_hold_up_the_mix(rt: HostRuntime) -> Result<(), Fail> {

@@ -1,6 +1,9 @@
-use Rattle.std.proofs.Common.{sym, subst}
+use Rattle.std.proofs.Common.{sym, ap, subst, ◌∙◌}
+use Rattle.std.proofs.Math.Seq.{map-set_same}
+use Rattle.lane_align.specs.Lane.{LaneState}
 use Rattle.mix_packets.specs.Block.{block_start}
 use Rattle.studio_mix.specs.Mixer.{MixerState, HasFeeds}
+use Rattle.studio_mix.specs.Room.{rooms_of}
 use Rattle.studio_mix.proofs.MixerLemmas.{fed_at, fed_more, all_at}
 use Rattle.studio_mix.proofs.mixer.Mixer.feed_ref.Goals as goal
 
@@ -12,3 +15,9 @@ returns-clause-stands c = λ studio feeds number feed fed at.
     fed_more studio mixer feeds number c.args.stream c.feed_ref.new.self feed c.args.mark.now fed' at
     (c.feed_ref.ensures.stands feed.stream studio.output.start studio.output.frames feed.marks (block_start studio.output number)
     (fed_at _ _ i.lanes.items feeds (λ k. block_start studio.output number) c.args.stream c.index_mut-lane.result.now feed (all_at _ _ _ _ _ fed'.lanes) c.index_mut-lane.ensures.value at))
+
+pub returns-clause-rooms : goal.returns-clause-rooms
+returns-clause-rooms c =
+    let i = c.self.inside in
+    map-set_same (λ (l : LaneState). l.room) i.lanes.items c.args.stream c.feed_ref.new.self c.index_mut-lane.result.now (c.feed_ref.ensures.facts.room ∙ ap (λ (l : LaneState). l.room) c.index_mut-lane.ensures.value)
+    ∙ ap (λ (m : MixerState). rooms_of m.lanes) c.self.view_is

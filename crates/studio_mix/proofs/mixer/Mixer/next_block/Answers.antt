@@ -13,6 +13,7 @@ use Rattle.studio_mix.specs.Mixed.{mixed_samples}
 use Rattle.studio_mix.specs.Output.{block_samples, datagram_of}
 use Rattle.studio_mix.specs.Lanes.{AreFed, IsLaneAt, IsReadyLane, lane_channels}
 use Rattle.studio_mix.specs.Mixer.{MixerState, HasFeeds}
+use Rattle.studio_mix.specs.Room.{rooms_of}
 use Rattle.studio_mix.proofs.MixerLemmas.{block_begin}
 use Rattle.studio_mix.proofs.NextLemmas.{lent, mixed_fits, mixed_rows, next_fed, next_sound, next_datagram}
 use Rattle.studio_mix.proofs.mixer.Mixer.next_block.Goals as goal
@@ -123,3 +124,9 @@ returns-clause-some c = λ studio feeds number fed.
           (subst (λ ls. AreFed studio.output.start studio.output.frames ls feeds (block_start studio.output number +ℤ pos studio.output.frames)) (sym lanes)
           (subst (λ n. AreFed studio.output.start n c.read_lanes.new.lanes feeds (block_start studio.output number +ℤ pos n)) frames moved)),
     )
+
+pub returns-clause-rooms : goal.returns-clause-rooms
+returns-clause-rooms c =
+    let i = c.self.inside in
+    let lanes = lent i.lanes.len (length c.read_lanes.new.lanes) c.read_lanes.new.lanes i.lanes.items (c.read_lanes.auto.lanes ∙ c.as_mut_slice.ensures.len) in
+    ap rooms_of lanes ∙ c.read_lanes.ensures.rooms ∙ ap rooms_of c.as_mut_slice.ensures.value ∙ ap (λ (m : MixerState). rooms_of m.lanes) c.self.view_is

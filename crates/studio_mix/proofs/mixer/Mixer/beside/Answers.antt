@@ -1,4 +1,4 @@
-use Rattle.std.proofs.Common.{lit<, ◌≡◌, ◌*◌, pos, length, All, sym, ap, subst, ◌∙◌, arith, to_z, of_z, w64}
+use Rattle.std.proofs.Common.{lit<, ◌≡◌, ◌*◌, pos, length, map, All, sym, ap, subst, ◌∙◌, arith, to_z, of_z, w64}
 use Rattle.std.proofs.lemmas.Int.{ints}
 use Rattle.std.proofs.lemmas.List.{length-replicate}
 use Rattle.std.proofs.lemmas.List.Elements.{All-replicate}
@@ -11,8 +11,9 @@ use Rattle.mix_packets.specs.Packer.{PackerState}
 use Rattle.studio_spec.specs.Studio.{channel_total}
 use Rattle.studio_mix.specs.Feed.{unfed}
 use Rattle.studio_mix.specs.Lanes.{AreFed, IsLaneAt}
+use Rattle.studio_mix.specs.Room.{room_beside}
 use Rattle.studio_mix.proofs.NewLemmas.{first_start, unfed_streams}
-use Rattle.studio_mix.proofs.mixer.Mixer.new.Goals as goal
+use Rattle.studio_mix.proofs.mixer.Mixer.beside.Goals as goal
 
 pub invariant_of-result : goal.invariant_of-result
 invariant_of-result c =
@@ -41,8 +42,8 @@ invariant_of-result c =
       in_24_bits = subst (All Is24Bits) (sym c.in_ok-ins.ensures) (All-replicate Is24Bits _ (pos 0) (lit< tt));
     }
 
-pub returns : goal.returns
-returns c =
+pub returns-clause-stands : goal.returns-clause-stands
+returns-clause-stands c =
     let out = c.output.result.now in
     let sound = c.start-start.ensures.sound in
     let low = sound.start_low in
@@ -62,3 +63,10 @@ returns c =
           (subst (λ n. AreFed out.start n c.in_ok-lanes.lanes.items (unfed c.streams.result.now) out.start) c.frames-2.ensures.value
           (subst (λ t. AreFed t c.frames-2.result c.in_ok-lanes.lanes.items (unfed c.streams.result.now) t) start fed))));
     }
+
+pub returns-clause-rooms : goal.returns-clause-rooms
+returns-clause-rooms c =
+    c.in_ok-lanes.ensures.rooms
+    ∙ ap (λ n. map (room_beside c.args.lag n) c.streams.result.now) c.frames-2.ensures.value
+    ∙ ap (λ (o : Output). map (room_beside c.args.lag o.frames) c.streams.result.now) c.output.ensures
+    ∙ ap (map (room_beside c.args.lag c.args.spec.now.output.frames)) c.streams.ensures.value

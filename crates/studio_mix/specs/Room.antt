@@ -1,0 +1,26 @@
+-- How much room a lane needs for marks that come before they are wanted.
+use Rattle.std.specs.Prelude.{ℕ, ◌+◌, ◌*◌, ◌-◌, max, List, [], ◌∷◌, map}
+use Rattle.stream_rules.specs.declared.stream_spec.Stream.{Stream}
+use Rattle.lane_align.specs.Lane.{LaneState}
+use Rattle.studio_spec.specs.Studio.{Studio}
+
+-- how far the marks of a stream may lie behind the time: its latency and a window of packets
+abbrev pub lag_of : Stream → ℕ
+lag_of stream = stream.latency + stream.window * stream.frames
+
+-- the greatest of the streams' lags
+abbrev pub greatest_lag : List Stream → ℕ
+greatest_lag [] = 0
+greatest_lag (stream ∷ streams) = max (lag_of stream) (greatest_lag streams)
+
+-- by so much may a stream's marks lie before those of a stream of this lag, and a packet and a block
+abbrev pub room_beside : ℕ → ℕ → Stream → ℕ
+room_beside lag block stream = lag - stream.latency + stream.frames + block
+
+-- the room that a stream's lane needs in a studio
+abbrev pub room_of : Studio → Stream → ℕ
+room_of studio stream = room_beside (greatest_lag studio.streams) studio.output.frames stream
+
+-- the room of each lane
+abbrev pub rooms_of : List LaneState → List ℕ
+rooms_of lanes = map (λ (lane : LaneState). lane.room) lanes
