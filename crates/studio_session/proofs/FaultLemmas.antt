@@ -1,5 +1,5 @@
 -- A list of events with no fault.
-use Rattle.std.proofs.Common.{◌≡◌, inl, inr, get_or, ◌<◌, ◌+◌, ℕ, zero, suc, Bool, true, false, nat_eq, nat_lt, ◌&&◌, if◌then◌else◌, List, [], ◌∷◌, ◌++◌, drop, ℤ, Option, Some, None, slice_get, refl, sym, ap, subst, ◌∙◌, arith}
+use Rattle.std.proofs.Common.{◌≡◌, inl, inr, get_or, ◌<◌, ◌+◌, ◌^◌, pos, int_le, int_lt, ℕ, zero, suc, Bool, true, false, nat_eq, nat_lt, ◌&&◌, if◌then◌else◌, List, [], ◌∷◌, ◌++◌, drop, ℤ, Option, Some, None, slice_get, refl, sym, ap, subst, ◌∙◌, arith}
 use Rattle.std.proofs.lemmas.Bool.{cases_lt}
 use Rattle.std.proofs.lemmas.Bool.Decides.{nat_tests}
 use Rattle.std.proofs.lemmas.Option.{get_or_from_slice_get}
@@ -16,7 +16,10 @@ use Rattle.studio_session.specs.declared.fault.StudioFault.{StudioFault}
 use Rattle.studio_session.specs.declared.fault.StudioFault.TheVariants.{Clock, Memory, Path as NoPath, Stream as NoStream}
 use Rattle.stream_rules.specs.declared.reception.Reception.{Reception}
 use Rattle.stream_rules.specs.declared.reception.Reception.TheVariants.{Sent, Bad, WrongType, WrongLength}
-use Rattle.studio_session.specs.Fault.{IsRunFault, clock_fault, closed_past, event_fault, or_later, outline_fault, path_fault, session_fault_from, session_fault_of, time_after, time_past, closed_after}
+use Rattle.studio_session.specs.Fault.{IsRunFault, clock_fault, closed_past, event_fault, or_later, outline_fault, path_fault, closed_at, time_at, session_fault_from, session_fault_of, time_after, time_past, closed_after}
+use Rattle.path_merge.specs.Clock.{clock_fault_of}
+use Rattle.path_merge.specs.declared.clock.ClockFault.TheVariants.{WentBack, TooFar, Closed}
+use Rattle.std.proofs.lemmas.Int.{ints}
 use Rattle.stream_rules.specs.Reception.{reception_of}
 use Rattle.studio_session.specs.Session.{Datagram, Other, event_in, stream_history}
 
@@ -185,3 +188,57 @@ run_fault studio events (Clock place) e = e
 run_fault studio events (NoStream place) e = e
 run_fault studio events (NoPath place) e = e
 run_fault studio events (Memory a) e = absurd (subst IsOfEvent e (of_events studio.streams 0 studio.open_at false events))
+
+-- one more event with no fault
+fault_more : (streams : List Stream) (place : ℕ) (time : ℤ) (closed : Bool) (events : List TraceEvent) (event : TraceEvent) → session_fault_from streams place time closed events ≡ None
+    → ((p : ℕ) → event_fault streams p (time_at time events) (closed_at closed events) event ≡ None) → session_fault_from streams place time closed (events ++ event ∷ []) ≡ None
+fault_more streams place time closed [] event none last = fault_later streams place time closed event [] (last place)
+fault_more streams place time closed (e ∷ events) event none last =
+    let here = first_none (event_fault streams place time closed e) _ none in
+    let rest = later_none (event_fault streams place time closed e) _ none in
+    fault_later streams place time closed e (events ++ event ∷ []) here
+    ∙ fault_more streams (suc place) (time_after time e) (closed_after closed e) events event rest last
+
+pub lawful_more : (studio : Studio) (events : List TraceEvent) (event : TraceEvent) → session_fault_of studio events ≡ None
+    → ((p : ℕ) → event_fault studio.streams p (time_at studio.open_at events) (closed_at false events) event ≡ None) → session_fault_of studio (events ++ event ∷ []) ≡ None
+lawful_more studio events event none last = fault_more studio.streams 0 studio.open_at false events event none last
+
+pub time_more : (time : ℤ) (events : List TraceEvent) (event : TraceEvent) → time_at time (events ++ event ∷ []) ≡ time_after (time_at time events) event
+time_more time [] event = refl
+time_more time (e ∷ events) event = time_more (time_after time e) events event
+
+pub closed_more : (closed : Bool) (events : List TraceEvent) (event : TraceEvent) → closed_at closed (events ++ event ∷ []) ≡ closed_after (closed_at closed events) event
+closed_more closed [] event = refl
+closed_more closed (e ∷ events) event = closed_more (closed_after closed e) events event
+
+-- and the streams can be run over one more
+pub runnable_more : (studio : Studio) (events : List TraceEvent) (event : TraceEvent) → IsRunnableBy studio events → session_fault_of studio (events ++ event ∷ []) ≡ None → IsRunnableBy studio (events ++ event ∷ [])
+runnable_more studio events event run none = record {
+  some_frames = run.some_frames;
+  each = λ i stream at. record { some_frames = (run.each i stream at).some_frames; well_timed = timed_from studio.streams stream i 0 studio.open_at false (events ++ event ∷ []) none };
+}
+
+-- a reading that no clock refuses has no fault
+pub reading_fault : (streams : List Stream) (time : ℤ) (closed : Bool) (u : ℤ) → clock_fault_of time closed u ≡ None → (p : ℕ) → event_fault streams p time closed (Reading u) ≡ None
+reading_fault streams time true u none p = absurd (no_reading time u none)
+  where
+    no_reading : (time u : ℤ) → clock_fault_of time true u ≡ None → ⊥
+    no_reading time u none = by_tests (int_lt u time) (int_lt (pos (2 ^ 60)) u) none
+      where
+        by_tests : (back far : Bool) → (if back then Some WentBack else if far then Some TooFar else Some Closed) ≡ None → ⊥
+        by_tests true far e = (let f : Some WentBack ≡ None = e in cc)
+        by_tests false true e = (let f : Some TooFar ≡ None = e in cc)
+        by_tests false false e = (let f : Some Closed ≡ None = e in cc)
+reading_fault streams time false u none p = ap (clock_fault p) (in_turn (int_lt u time) (int_lt (pos (2 ^ 60)) u) refl refl none)
+  where
+    in_turn : (back far : Bool) → int_lt u time ≡ back → int_lt (pos (2 ^ 60)) u ≡ far → (if back then Some WentBack else if far then Some TooFar else None) ≡ None → (int_le time u && int_le u (pos (2 ^ 60))) ≡ true
+    in_turn true far b f e = absurd (let g : Some WentBack ≡ None = e in cc)
+    in_turn false true b f e = absurd (let g : Some TooFar ≡ None = e in cc)
+    in_turn false false b f e = grind (arith, ints, nat_tests, b, f)
+
+-- nor has a datagram on a path that its stream has
+pub arrival_fault : (streams : List Stream) (time : ℤ) (closed : Bool) (number path : ℕ) (octets : List ℕ) (stream : Stream) → slice_get streams number ≡ Some stream → path < stream.paths
+    → (p : ℕ) → event_fault streams p time closed (Arrival number path octets) ≡ None
+arrival_fault streams time closed number path octets stream at less p =
+    let test : nat_lt path stream.paths ≡ true = grind (arith, nat_tests, less) in
+    ap (λ o. path_fault p o path) at ∙ ap (λ b. if b then None else Some (NoPath p)) test

@@ -9,3 +9,4 @@ pub mod RunLemmas
 pub mod SourceLemmas
 pub mod FaultLemmas
 pub mod ReportLemmas
+pub mod HandedLemmas

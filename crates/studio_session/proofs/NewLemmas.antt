@@ -1,7 +1,8 @@
 -- A session before its first event.
-use Rattle.std.proofs.Common.{◌≡◌, inl, inr, ◌<◌, ◌+◌, ◌-◌, ℕ, List, [], ◌∷◌, ◌++◌, length, get_or, ℤ, All, refl, sym, ap, subst, ◌∙◌, arith}
+use Rattle.std.proofs.Common.{◌≡◌, inl, inr, ◌<◌, ◌+◌, ◌-◌, ℕ, List, [], ◌∷◌, ◌++◌, length, get_or, ℤ, None, All, refl, sym, ap, subst, ◌∙◌, arith}
 use Rattle.std.proofs.lemmas.Bool.{cases_lt}
 use Rattle.std.proofs.lemmas.List.{length_push, length-map, get_or-map, get_or_append_left, get_or-append_right}
+use Rattle.std.proofs.lemmas.List.Elements.{All-push}
 use Rattle.std.proofs.lemmas.Option.{slice_get_read, slice_get_within, get_or_from_slice_get, slice_get-get_or}
 use Rattle.stream_rules.specs.declared.stream_spec.Stream.{Stream}
 use Rattle.studio_spec.specs.Studio.{Studio}
@@ -13,13 +14,14 @@ use Rattle.studio_session.specs.Play.{AreNew, HasPathsBy, HasPlayed, IsGiven}
 
 -- one cursor more
 pub new_more : (streams : List Stream) (open_at : ℤ) (cursors : List CursorState) (i : ℕ) (stream : Stream) (cursor : CursorState)
-    → AreNew streams open_at cursors i → stream ≡ get_or streams i stream → cursor.place ≡ 0
+    → AreNew streams open_at cursors i → stream ≡ get_or streams i stream → cursor.place ≡ 0 → cursor.reading ≡ None
     → ((events : List TraceEvent) → HasPulled stream i open_at events cursor 0)
     → AreNew streams open_at (cursors ++ cursor ∷ []) (i + 1)
-new_more streams open_at cursors i stream cursor before is place pulled =
+new_more streams open_at cursors i stream cursor before is place rests pulled =
     let count = before.count_is in
     record {
       count_is = length_push cursors cursor ∙ ap (λ k. k + 1) before.count_is;
+      settled = All-push (λ (c : CursorState). c.reading ≡ None) cursors cursor before.settled rests;
       each = λ k c s c_is s_is.
           let within : k < length (cursors ++ cursor ∷ []) = slice_get_within (cursors ++ cursor ∷ []) k c c_is in
           let long : length (cursors ++ cursor ∷ []) ≡ length cursors + 1 = length_push cursors cursor in

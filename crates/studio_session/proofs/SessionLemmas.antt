@@ -77,7 +77,7 @@ filled_more studio events mixer new cursors next i moved filled within last =
     }
 
 -- all marks of a stream, by its place
-whole_at : (open_at : ℤ) (events : List TraceEvent) (number : ℕ) (streams : List Stream) (i : ℕ) (stream : Stream) → slice_get streams i ≡ Some stream
+pub whole_at : (open_at : ℤ) (events : List TraceEvent) (number : ℕ) (streams : List Stream) (i : ℕ) (stream : Stream) → slice_get streams i ≡ Some stream
     → slice_get (feeds_from open_at events number streams) i ≡ Some (record { stream = stream; marks = stream_marks stream (number + i) open_at events })
 whole_at open_at events number [] i stream at = absurd (let e : None ≡ Some stream = at in cc)
 whole_at open_at events number (s ∷ streams) zero stream at =
@@ -88,7 +88,7 @@ whole_at open_at events number (s ∷ streams) (suc i) stream at =
     whole_at open_at events (suc number) streams i stream at
     ∙ ap (λ n. Some (record { stream = stream; marks = stream_marks stream n open_at events })) (let e : suc number + i ≡ number + suc i = omega arith in e)
 
-length_whole : (open_at : ℤ) (events : List TraceEvent) (number : ℕ) (streams : List Stream) → length (feeds_from open_at events number streams) ≡ length streams
+pub length_whole : (open_at : ℤ) (events : List TraceEvent) (number : ℕ) (streams : List Stream) → length (feeds_from open_at events number streams) ≡ length streams
 length_whole open_at events number [] = refl
 length_whole open_at events number (s ∷ streams) = ap suc (length_whole open_at events (suc number) streams)
 

@@ -44,6 +44,16 @@ time_after time event = time_past time (outline_of event)
 abbrev pub closed_after : Bool → TraceEvent → Bool
 closed_after closed event = closed_past closed (outline_of event)
 
+-- the last reading of some events, or the time before them
+abbrev pub time_at : ℤ → List TraceEvent → ℤ
+time_at time [] = time
+time_at time (event ∷ events) = time_at (time_after time event) events
+
+-- there was a close
+abbrev pub closed_at : Bool → List TraceEvent → Bool
+closed_at closed [] = closed
+closed_at closed (event ∷ events) = closed_at (closed_after closed event) events
+
 abbrev pub or_later : Option StudioFault → Option StudioFault → Option StudioFault
 or_later (Some fault) later = Some fault
 or_later None later = later

@@ -4,6 +4,7 @@ pub mod Counts
 pub mod Fault
 pub mod Way
 pub mod Cursor
+pub mod Handed
 pub mod Play
 pub mod Run
 pub mod Report

@@ -1,5 +1,5 @@
 -- A session: its streams' merges, and the mixer that takes their marks.
-use Rattle.std.specs.Prelude.{◌≡◌, ◌⊎◌, ℕ, suc, ◌+◌, ◌<◌, true, List, [], ◌∷◌, ◌++◌, length, take, drop, slice_get, slice_set, ℤ, Some}
+use Rattle.std.specs.Prelude.{◌≡◌, ◌⊎◌, ℕ, suc, ◌+◌, ◌<◌, true, List, [], ◌∷◌, ◌++◌, length, take, drop, slice_get, slice_set, ℤ, Some, None, All}
 use Rattle.stream_rules.specs.declared.stream_spec.Stream.{Stream}
 use Rattle.stream_rules.specs.StreamSpecFacts.{format_of}
 use Rattle.stream_rules.specs.MarkFacts.{MarkView}
@@ -49,6 +49,7 @@ pub record HasPathsBy (studio : Studio) (events : List TraceEvent) : Type 0 wher
 -- a cursor for each of the first streams, before the first event
 pub record AreNew (streams : List Stream) (open_at : ℤ) (cursors : List CursorState) (count : ℕ) : Type 0 where
   pub count_is : length cursors ≡ count
+  pub settled : All (λ (cursor : CursorState). cursor.reading ≡ None) cursors
   pub each : (i : ℕ) (cursor : CursorState) (stream : Stream) → slice_get cursors i ≡ Some cursor → slice_get streams i ≡ Some stream
       → (cursor.place ≡ 0) × ((events : List TraceEvent) → HasPulled stream i open_at events cursor 0)
 

@@ -13,6 +13,7 @@ ghost use Rattle.stream_rules.specs.PathCounts.{path_tally_of, tallies_of};
 ghost use Rattle.studio_session.specs.Counts.{HasCounted};
 ghost use Rattle.studio_session.specs.Cursor.{HasPulled, HaveFew, IsReadyFor, IsSameCursor, IsRunnable, IsOnTheWay, next_of, way_left, events_left};
 ghost use Rattle.studio_session.specs.Cursor as goal;
+ghost use Rattle.studio_session.specs.Handed.{IsHanded};
 
 use crate::event::Outline;
 use crate::source::{EventSource, MOST_ARRIVAL_OCTETS};
@@ -23,8 +24,9 @@ use stream_rules::{PathCounts, ReceptionRef, receive_ref};
 
 /// A stream of a run.
 ///
-/// `take_event` goes on in the events. What an event gives is lent mark by mark: by `mark` until `pass`
-/// answers that no more may follow.
+/// `take_event` goes on in the events; where they come one by one, and not from a source, `hand_datagram`,
+/// `hand_over`, `hand_reading` and `hand_close` take the next. What an event gives is lent mark by mark: by
+/// `mark` until `pass` answers that no more may follow.
 #[derive(Drop)]
 pub struct Cursor {
     spec: StreamSpec,
@@ -66,6 +68,7 @@ impl Cursor {
         requires not_high { open_at ≤ℤ pos (2 ^ 60) }
         ensures stands { IfOk result (λ cursor. (events : List TraceEvent) → HasPulled spec number open_at events cursor 0) }
         ensures first { IfOk result (λ cursor. cursor.place ≡ 0) }
+        ensures settled { IfOk result (λ cursor. cursor.reading ≡ None) }
     {
         let merge = Merge::new(alloc, spec, open_at)?;
         Ok(Cursor {
@@ -121,6 +124,7 @@ impl Cursor {
             → IsOnTheWay stream number open_at events self.new k (next_of self.old) }
         ensures kept { IsSameCursor self.old self.new }
         ensures settled { result ≡ false → self.new.reading ≡ None }
+        ensures rests { self.old.reading ≡ None → self.new.reading ≡ None }
         ensures all { result ≡ false → HasGivenAll self.new.merge }
         ensures fewer { result ≡ true → way_left self.new < way_left self.old }
     {
@@ -218,6 +222,7 @@ impl Cursor {
         ensures place { self.new.place ≡ self.old.place + 1 }
         ensures spec { self.new.spec ≡ self.old.spec }
         ensures number { self.new.number ≡ self.old.number }
+        ensures settled { self.new.reading ≡ None }
         ensures stands { (stream : Stream) (number : ℕ) (open_at : ℤ) (events : List TraceEvent) (k : ℕ)
             → slice_get events self.old.place ≡ Some (Arrival number path octets.now)
             → HasPulled stream number open_at events self.old k → HasPulled stream number open_at events self.new k }
@@ -226,6 +231,50 @@ impl Cursor {
         count_on(&mut self.paths, path, reception);
         offer_received(&mut self.merge, path, reception);
         self.place += 1;
+    }
+
+    /// Takes a datagram of the stream that comes after all events so far.
+    pub fn hand_datagram(&mut self, path: Path, octets: &[u8])
+        requires settled { self.old.reading ≡ None }
+        requires place { self.old.place < usize.MAX }
+        requires path { path < self.old.spec.paths }
+        ensures place { self.new.place ≡ self.old.place + 1 }
+        ensures handed { (number : ℕ) → IsHanded (Arrival number path octets.now) number self.old self.new }
+        ensures settled { self.new.reading ≡ None }
+    {
+        self.take_datagram(path, octets);
+    }
+
+    /// Passes over another stream's datagram that comes after all events so far.
+    pub fn hand_over(&mut self)
+        requires place { self.old.place < usize.MAX }
+        ensures place { self.new.place ≡ self.old.place + 1 }
+        ensures handed { (number : ℕ) (event : TraceEvent) → ((stream : Stream) → step_of stream number event ≡ Other)
+            → IsHanded event number self.old self.new }
+        ensures reading { self.new.reading ≡ self.old.reading }
+    {
+        self.pass_over();
+    }
+
+    /// Sets out for a reading of the clock that comes after all events so far.
+    pub fn hand_reading(&mut self, now: i64)
+        requires settled { self.old.reading ≡ None }
+        requires place { self.old.place < usize.MAX }
+        ensures place { self.new.place ≡ self.old.place + 1 }
+        ensures handed { (number : ℕ) → IsHanded (Reading now) number self.old self.new }
+    {
+        self.set_out(now);
+    }
+
+    /// Takes a close that comes after all events so far.
+    pub fn hand_close(&mut self)
+        requires settled { self.old.reading ≡ None }
+        requires place { self.old.place < usize.MAX }
+        ensures place { self.new.place ≡ self.old.place + 1 }
+        ensures handed { (number : ℕ) → IsHanded Closing number self.old self.new }
+        ensures settled { self.new.reading ≡ None }
+    {
+        self.close();
     }
 
     /// Sets out for a reading of the clock.
@@ -250,6 +299,7 @@ impl Cursor {
         ensures place { self.new.place ≡ self.old.place + 1 }
         ensures spec { self.new.spec ≡ self.old.spec }
         ensures number { self.new.number ≡ self.old.number }
+        ensures settled { self.new.reading ≡ None }
         ensures stands { (stream : Stream) (number : ℕ) (open_at : ℤ) (events : List TraceEvent) (k : ℕ)
             → slice_get events self.old.place ≡ Some Closing
             → HasPulled stream number open_at events self.old k → HasPulled stream number open_at events self.new k }

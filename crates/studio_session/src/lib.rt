@@ -4,7 +4,8 @@
 //! serve where there is no room for lists. An `EventSource` gives events by place. `first_fault` says
 //! which of them is at fault, if one is; then `Session::new` takes all memory. `next_datagram` is called
 //! until it answers none, and `into_cursors` gives each stream's cursor for its counts, after
-//! `finish_stream`. For marks in place of datagrams, `studio_cursors` gives a cursor for each stream, which
+//! `finish_stream`. Where events come one by one, cursors are handed each by `hand_datagram` and its like,
+//! and `pull_marks` hands on what it gives. For marks in place of datagrams, `studio_cursors` gives a cursor for each stream, which
 //! lends its marks.
 #![tactic(auto)]
 
@@ -24,6 +25,7 @@ pub use cursor::Cursor;
 pub use event::{Outline, StudioEvent};
 pub use fault::{StudioFault, first_fault};
 pub use finish::finish_stream;
+pub use pull::pull_marks;
 pub use report::Report;
 pub use run::{MOST_OUTPUT_OCTETS, all_datagrams};
 pub use session::{Session, studio_cursors};

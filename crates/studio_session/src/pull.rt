@@ -29,8 +29,8 @@ fn hand_on(mixer: &mut Mixer, stream: usize, mark: Option<MarkRef<'_>>)
     }
 }
 
-/// Hands on the marks of the events that were taken; true where none is left, false where no more is wanted.
-fn pull_marks(mixer: &mut Mixer, stream: usize, cursor: &mut Cursor) -> bool
+/// Hands on the marks of the events that a cursor took; true where none is left, false where no more is wanted.
+pub fn pull_marks(mixer: &mut Mixer, stream: usize, cursor: &mut Cursor) -> bool
     requires stream { stream < length mixer.old.lanes }
     ensures out { result ≡ true → (studio : Studio) (events : List TraceEvent) (feeds : List Feed) (next : ℕ)
         → IsRunnableBy studio events → stream < length feeds
@@ -39,6 +39,7 @@ fn pull_marks(mixer: &mut Mixer, stream: usize, cursor: &mut Cursor) -> bool
         → IsRunnableBy studio events → stream < length feeds
         → Plays studio events feeds next stream mixer.old cursor.old → PlaysFinal studio events feeds next stream mixer.new cursor.new }
     ensures settled { result ≡ true → cursor.new.reading ≡ None }
+    ensures rests { cursor.old.reading ≡ None → cursor.new.reading ≡ None }
     ensures kept { IsSameCursor cursor.old cursor.new }
     ensures packer { mixer.new.packer ≡ mixer.old.packer }
     ensures streams { length mixer.new.lanes ≡ length mixer.old.lanes }

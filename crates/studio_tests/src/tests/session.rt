@@ -1,7 +1,7 @@
 //! A studio of two streams, from datagrams to datagrams.
 use gain_mix::{Matrix, Schedule};
 use mix_packets::OutSpec;
-use path_merge::{Path, SpecFault, StreamClock, StreamSpec};
+use path_merge::{MarkKindRef, Path, SpecFault, StreamClock, StreamSpec};
 use rtp_wire::Enc;
 use std::alloc::{AllocError, Global};
 use std::process::Abort;
@@ -94,6 +94,40 @@ fn push_eight_thousands(
 const FIRST: [u8; 12] = [0x80, 0x61, 0xff, 0xff, 0, 0, 0, 0, 0, 0, 0, 2];
 
 const FOURTH: [u8; 12] = [0x80, 0x61, 0, 2, 0, 0, 0, 144, 0, 0, 0, 2];
+
+/// The media time of a cursor's next mark, where it is a slot.
+fn next_media(cursor: &Cursor) -> Option<i64> {
+    match cursor.mark()?.kind() {
+        MarkKindRef::Slot { media, .. } => Some(media),
+        _ => None,
+    }
+}
+
+/// A packet at 20, and then its deadline or a close, handed to a cursor one by one: its slot is given.
+#[test]
+fn a_cursor_is_handed_events_one_by_one(rt: HostRuntime) -> Result<(), Fail> {
+    let alloc = rt.alloc();
+    let spec = stream(48, 48, 8, 2)?;
+    let mut read = Cursor::new(alloc, spec, 0, 0)?;
+    let mut closed = Cursor::new(alloc, spec, 0, 0)?;
+    let Some(path) = Path::new(0) else {
+        panic!(rt; "a path")
+    };
+    let head = [0x80, 0x60, 0, 100, 0, 0, 0, 20, 0, 0, 0, 1];
+    let octets = datagram(alloc, head, &[(48, [0, 0, 1])])?;
+    assert!(rt; path.number() < read.spec().paths());
+    read.hand_datagram(path, octets.as_slice());
+    read.hand_over();
+    assert!(rt; path.number() < closed.spec().paths());
+    closed.hand_datagram(path, octets.as_slice());
+    assert_eq!(rt; next_media(&closed), None);
+    read.hand_reading(68);
+    assert_eq!(rt; next_media(&read), Some(20));
+    closed.hand_close();
+    assert_eq!(rt; next_media(&closed), Some(20));
+    assert_eq!(rt; closed.counts().taken, 1);
+    Ok(())
+}
 
 /// A list, run twice with any one allocation refused: want of memory at most once.
 #[test]

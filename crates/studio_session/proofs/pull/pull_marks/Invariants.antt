@@ -1,4 +1,4 @@
-use Rattle.std.proofs.Common.{◌≡◌, ℕ, ◌<◌, List, length}
+use Rattle.std.proofs.Common.{◌≡◌, ℕ, ◌<◌, List, length, None}
 use Rattle.studio_spec.specs.Studio.{Studio}
 use Rattle.studio_mix.specs.Feed.{Feed}
 use Rattle.studio_session.specs.Event.{TraceEvent}
@@ -12,6 +12,7 @@ invariant-marks l = record {
   stands : (studio : Studio) (events : List TraceEvent) (feeds : List Feed) (next : ℕ) → IsRunnableBy studio events → l.stream < length feeds
       → Plays studio events feeds next l.stream l.fn.mixer l.fn.cursor → Plays studio events feeds next l.stream l.mixer l.cursor;
   kept : IsSameCursor l.fn.cursor l.cursor;
+  rests : l.fn.cursor.reading ≡ None → l.cursor.reading ≡ None;
   packer : l.mixer.packer ≡ l.fn.mixer.packer;
   streams : length l.mixer.lanes ≡ length l.fn.mixer.lanes;
 }
