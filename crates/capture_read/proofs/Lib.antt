@@ -1,0 +1,2 @@
+pub mod OptionsLemmas
+pub mod InterfaceLemmas
