@@ -1,2 +1,4 @@
 pub mod OptionsLemmas
 pub mod InterfaceLemmas
+pub mod SectionLemmas
+pub mod CaptureLemmas

@@ -4,3 +4,8 @@ pub mod Link
 pub mod Chain
 pub mod Options
 pub mod Interface
+pub mod Packet
+pub mod Part
+pub mod Pcap
+pub mod Section
+pub mod Capture

@@ -1,15 +1,30 @@
-//! Captures of network traffic, read where they lie.
+//! The UDP packets of a capture of network traffic, read where they lie: pcap and pcapng files.
+//!
+//! `open` takes the octets of a whole file and answers a `Capture`, or the fault of its header. That is
+//! an iterator: each call of `next` steps over the records or blocks of no interest, by their lengths,
+//! and answers the next `Packet`, whose payload lies in the caller's octets. The first fault comes last,
+//! as an item of its own, with its place; then nothing more comes. A UDP datagram comes whole with its
+//! time, interface, addresses and ports; a fragment of one is told, and anything else is passed over.
+//!
+//! Nothing here takes memory, copies a payload or reads a file. What a file holds is `packets_of`, by the
+//! formats (draft-ietf-opsawg-pcap and draft-ietf-opsawg-pcapng) and tcpdump's registry of link types.
 #![tactic(auto)]
 
+mod capture;
+mod cursor;
 mod fault;
 mod interface;
 mod ipv4;
 mod link;
 mod options;
 mod order;
+mod packet;
+mod part;
+mod pcap;
+mod section;
 
+pub use capture::open;
+pub use cursor::Capture;
 pub use fault::{CaptureFault, FaultKind};
-pub use interface::Interface;
 pub use ipv4::{Body, Datagram, Ipv4};
-pub use link::Link;
-pub use order::Order;
+pub use packet::Packet;

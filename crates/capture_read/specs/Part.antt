@@ -1,0 +1,13 @@
+-- A record or a block of a capture.
+use Rattle.std.specs.Prelude.{ℕ, Option, option_map}
+use Rattle.capture_read.specs.declared.part.Part.{Part}
+use Rattle.capture_read.specs.Packet.{PacketView, packet_view}
+
+-- how many octets it takes, and the UDP packet in it, if it has one
+pub record PartView : Type 0 where
+  pub len : ℕ
+  pub packet : Option PacketView
+
+-- what the code's value stands for
+abbrev pub part_view : Part → PartView
+part_view p = record { len = p.len; packet = option_map packet_view p.packet }

@@ -1,0 +1,11 @@
+//! A record or a block of a capture, once it was read.
+use crate::packet::Packet;
+
+/// What stands at the front of the octets that are left.
+#[derive(Clone, Copy, Debug, PartialEq, Eq)]
+pub(crate) struct Part<'a> {
+    /// How many octets it takes.
+    pub(crate) len: usize,
+    /// The UDP packet in it, if it has one.
+    pub(crate) packet: Option<Packet<'a>>,
+}
