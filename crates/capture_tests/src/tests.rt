@@ -1,0 +1,4 @@
+//! The tests, from whole files to broken ones.
+mod broken;
+mod files;
+mod told;
