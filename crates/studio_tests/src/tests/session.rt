@@ -108,13 +108,13 @@ fn next_media(cursor: &Cursor) -> Option<i64> {
 fn a_cursor_is_handed_events_one_by_one(rt: HostRuntime) -> Result<(), Fail> {
     let alloc = rt.alloc();
     let spec = stream(48, 48, 8, 2)?;
-    let mut read = Cursor::new(alloc, spec, 0, 0)?;
-    let mut closed = Cursor::new(alloc, spec, 0, 0)?;
     let Some(path) = Path::new(0) else {
         panic!(rt; "a path")
     };
     let head = [0x80, 0x60, 0, 100, 0, 0, 0, 20, 0, 0, 0, 1];
     let octets = datagram(alloc, head, &[(48, [0, 0, 1])])?;
+    let mut read = Cursor::new(alloc, spec, 0, 0)?;
+    let mut closed = Cursor::new(alloc, spec, 0, 0)?;
     assert!(rt; path.number() < read.spec().paths());
     read.hand_datagram(path, octets.as_slice());
     read.hand_over();
