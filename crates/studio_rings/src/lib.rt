@@ -1,9 +1,10 @@
 //! The ends of a studio's rings: each path, each stream and the mixer in a thread of its own.
 //!
 //! `open` takes all memory and gives the ends. Of a path: `offer` each datagram, and at the end `finish`,
-//! which gives the proof of it. Of a stream: a `turn` for each reading of the clock; at the end
-//! `path_done` with each path's proof, `close` until it is `Ok` (turns take what is left), `drain_turn`
-//! until it is true, and `finish`. Of the mixer: a `turn` with room for a datagram, again and again; at
+//! which gives the proof of it. Of a stream: a `turn` for each reading of the clock, and
+//! before the first of a stream by the arrival clock `read_clock`, whose reading is then the first packet's
+//! time; at the end `path_done` with each path's proof, `close` until it is `Ok` (turns take what is left),
+//! `drain_turn` until it is true, and `finish`. Of the mixer: a `turn` with room for a datagram, again and again; at
 //! the end `stream_done` with each stream's proof, and turns until `settled` is true and one gives
 //! nothing. Of a monitor: `next`. The caller sees that a proof goes to the ends it was opened with.
 //! `studio_workers` does all of this in threads.
