@@ -194,7 +194,8 @@ fn a_lane_has_room_beside_the_stream_that_lags_most(rt: HostRuntime) -> Result<(
     let rows = [(0, first, 468), (1, second, 432)];
     for (number, format, media) in rows {
         let mut mixer = Mixer::with_room(alloc, &spec)?;
-        assert!(rt; mixer.streams() == 2);
+        assert!(rt; number < mixer.streams());
+        assert!(rt; 0 <= media && media < 1_000);
         let within = Mark::slot(format, 0, 65_537, media, Body::Lost);
         let beyond = Mark::slot(format, 0, 65_537, media + 1, Body::Lost);
         assert!(rt; !mixer.has_room(number, &beyond.lent()), "stream {number}");
@@ -202,7 +203,7 @@ fn a_lane_has_room_beside_the_stream_that_lags_most(rt: HostRuntime) -> Result<(
         assert!(rt; mixer.accepts(number, &within));
         mixer.keep_ref(number, &within.lent());
         let plain = Mixer::new(alloc, &spec)?;
-        assert!(rt; plain.streams() == 2);
+        assert!(rt; number < plain.streams());
         assert!(rt; !plain.has_room(number, &within.lent()), "stream {number}");
     }
     Ok(())
