@@ -149,7 +149,7 @@ fn counts_reach_the_monitor(rt: HostRuntime) -> Result<(), Fail> {
     Ok(())
 }
 
-/// A close before both paths' ends names those that go on, and drains nothing.
+/// A close before a path's end leaves it open, and drains nothing.
 #[test]
 fn an_open_path_holds_up_the_close(rt: HostRuntime) -> Result<(), Fail> {
     let mut ends = one_stream(&rt, rt.alloc(), 1)?;
@@ -161,18 +161,34 @@ fn an_open_path_holds_up_the_close(rt: HostRuntime) -> Result<(), Fail> {
         !ends.stream.drain_turn(),
         "nothing to drain before a close"
     );
-    assert_eq!(rt; ends.first.offer(&FIRST), Offer::Sent);
-    let (Some(done), _) = ends.first.finish() else {
+    let (done, _) = ends.second.finish();
+    assert!(rt; done.is_some());
+    Ok(())
+}
+
+/// The first path has finished: the close names the second, whose packets still come.
+#[test]
+fn a_path_that_goes_on_holds_up_the_close(rt: HostRuntime) -> Result<(), Fail> {
+    let OneStream {
+        mut first,
+        mut second,
+        mut stream,
+        monitor: _,
+        mix: _,
+    } = one_stream(&rt, rt.alloc(), 1)?;
+    assert_eq!(rt; first.offer(&FIRST), Offer::Sent);
+    let (first_done, _) = first.finish();
+    let Some(first_done) = first_done else {
         panic!(rt; "the stream's end is there")
     };
-    ends.stream.path_done(0, done);
-    let took = turn(&rt, &mut ends.stream, 0);
+    stream.path_done(0, first_done);
+    let took = turn(&rt, &mut stream, 0);
     assert_eq!(rt; took, (1, 0, 0, 0, StopReason::CaughtUp));
-    let Err(open) = ends.stream.close() else {
+    let Err(open) = stream.close() else {
         panic!(rt; "the second path goes on")
     };
     assert_eq!(rt; open.still_open, [false, true, false, false]);
-    assert_eq!(rt; ends.second.offer(&SECOND), Offer::Sent);
+    assert_eq!(rt; second.offer(&SECOND), Offer::Sent);
     Ok(())
 }
 
