@@ -8,11 +8,11 @@
 mod config;
 mod fault;
 mod live;
-mod run;
+mod program;
 mod summary;
 mod words;
 
 pub use config::Configs;
 pub use fault::{ConfigFault, Fault};
 pub use live::run_config;
-pub use run::run;
+pub use program::run;

@@ -184,6 +184,12 @@ fn two_streams_are_mixed_by_media_time(rt: HostRuntime) -> Result<(), Fail> {
     Ok(())
 }
 
+/// A lost slot at a time.
+fn lost(rt: &impl Abort, format: Format, media: i64) -> Mark {
+    assert!(rt; -1_000_000 < media && media < 1_000_000);
+    Mark::slot(format, 0, 65_537, media, Body::Lost)
+}
+
 /// Beside a stream that lags by 432 frames, one of latency 12 has room for 474 frames: for a slot of 6 at 468.
 #[test]
 fn a_lane_has_room_beside_the_stream_that_lags_most(rt: HostRuntime) -> Result<(), Fail> {
@@ -191,13 +197,11 @@ fn a_lane_has_room_beside_the_stream_that_lags_most(rt: HostRuntime) -> Result<(
     let spec = six_and_forty_eight(&rt, alloc)?;
     let first = stream(&rt, 1, 6, 12).format();
     let second = stream(&rt, 1, 48, 48).format();
-    let rows = [(0, first, 468), (1, second, 432)];
-    for (number, format, media) in rows {
+    let rows = [(0, first, 468, 469), (1, second, 432, 433)];
+    for (number, format, last, next) in rows {
+        let (within, beyond) = (lost(&rt, format, last), lost(&rt, format, next));
         let mut mixer = Mixer::with_room(alloc, &spec)?;
         assert!(rt; number < mixer.streams());
-        assert!(rt; 0 <= media && media < 1_000);
-        let within = Mark::slot(format, 0, 65_537, media, Body::Lost);
-        let beyond = Mark::slot(format, 0, 65_537, media + 1, Body::Lost);
         assert!(rt; !mixer.has_room(number, &beyond.lent()), "stream {number}");
         assert!(rt; mixer.has_room(number, &within.lent()), "stream {number}");
         assert!(rt; mixer.accepts(number, &within));
