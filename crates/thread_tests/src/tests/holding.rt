@@ -1,7 +1,7 @@
 //! Feeds that wait for each other, and a sink that waits for a clock: workers run at the same time.
 ghost use Rattle.std.specs.Prelude.{[], None};
 
-use super::workers::{SECOND, clocks, gave_both, one_stream, only, run, two_packets};
+use super::workers::{FIRST, SECOND, clocks, gave_both, one_stream, only, run, two_packets};
 use std::alloc::Global;
 use std::sync::Wait;
 use std::sync::atomic::{AtomicBool, AtomicU64, Ordering};
@@ -249,21 +249,23 @@ impl<'a, R: Wait> Clock for LateClock<'a, R> {
 fn packets_are_refused_at_full_rings(rt: HostRuntime) -> Result<(), Fail> {
     let alloc = rt.alloc();
     let studio = one_stream(&rt, alloc).ok_or("a studio")?;
-    let [first, second] = two_packets(alloc)?;
-    let packets = [first, second, Vec::from_slice(alloc, &SECOND)?];
-    let both_told = [AtomicBool::new(false), AtomicBool::new(false)];
+    let packets = [
+        Vec::from_slice(alloc, &FIRST)?,
+        Vec::from_slice(alloc, &SECOND)?,
+        Vec::from_slice(alloc, &SECOND)?,
+    ];
+    let first = AtomicBool::new(false);
+    let second = AtomicBool::new(false);
     let ends = AtomicBool::new(true);
     let mut feeds = Vec::new(alloc);
-    for told in &both_told {
-        feeds.push(LastingFeed::new(&packets, told, &ends))?;
-    }
-    let [first, second] = &both_told;
+    feeds.push(LastingFeed::new(&packets, &first, &ends))?;
+    feeds.push(LastingFeed::new(&packets, &second, &ends))?;
     let mut clocks = Vec::new(alloc);
     clocks.push(LateClock {
         rt: &rt,
         pause: Parker::new(),
-        first,
-        second,
+        first: &first,
+        second: &second,
     })?;
     let sink = MemorySink::new(alloc);
     let (report, _) = run(&rt, alloc, &studio, 1, feeds, clocks, sink)?;

@@ -284,20 +284,36 @@ fn gives_the_sums(rt: &impl Abort, alloc: Global, mix: &mut MixEnd) -> Result<()
     Ok(())
 }
 
-/// Both streams have packets; one gives its marks, then the mixer takes, then the other gives.
-fn mixes_in_order(rt: &impl Abort, alloc: Global, last_first: bool) -> Result<(), Fail> {
-    let mut ends = two_streams(rt, alloc)?;
-    offer_thousands_and_ones(rt, alloc, &mut ends.of_first, &mut ends.of_second)?;
-    let (early, late, taken) = if last_first {
-        (&mut ends.second, &mut ends.first, 1)
-    } else {
-        (&mut ends.first, &mut ends.second, 8)
-    };
+/// One stream gives its marks, then the mixer takes so many, then the other gives.
+fn give_in_turn(
+    rt: &impl Abort,
+    early: &mut StreamEnd,
+    late: &mut StreamEnd,
+    mix: &mut MixEnd,
+    taken: u32,
+) {
     assert!(rt; early.turn(0).is_ok() && early.turn(200).is_ok());
-    gives_none(rt, &mut ends.mix, taken);
+    gives_none(rt, mix, taken);
     assert!(rt; late.turn(0).is_ok() && late.turn(200).is_ok());
-    gives_the_sums(rt, alloc, &mut ends.mix)?;
-    gives_none(rt, &mut ends.mix, 8);
+}
+
+/// Both streams have packets, and give their marks in this order.
+fn mixes_in_order(rt: &impl Abort, alloc: Global, last_first: bool) -> Result<(), Fail> {
+    let TwoStreams {
+        mut of_first,
+        mut of_second,
+        mut first,
+        mut second,
+        mut mix,
+    } = two_streams(rt, alloc)?;
+    offer_thousands_and_ones(rt, alloc, &mut of_first, &mut of_second)?;
+    if last_first {
+        give_in_turn(rt, &mut second, &mut first, &mut mix, 1);
+    } else {
+        give_in_turn(rt, &mut first, &mut second, &mut mix, 8);
+    }
+    gives_the_sums(rt, alloc, &mut mix)?;
+    gives_none(rt, &mut mix, 8);
     Ok(())
 }
 
