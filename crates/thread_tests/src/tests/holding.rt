@@ -274,7 +274,10 @@ fn packets_are_refused_at_full_rings(rt: HostRuntime) -> Result<(), Fail> {
         (counts.arrived, counts.taken, counts.double, counts.got),
         (2, 1, 1, 1)
     );
-    let paths = report.streams[0].paths.as_slice();
+    let Some(stream) = report.streams.first() else {
+        panic!(rt; "one stream")
+    };
+    let paths = stream.paths.as_slice();
     assert_eq!(rt; paths.len(), 2);
     for path in paths {
         assert_eq!(rt; (path.offered, path.sent, path.full), (2_003, 1, 2_002));
