@@ -3,13 +3,14 @@ ghost use Rattle.std.specs.Prelude.{[], None};
 
 use super::workers::{FIRST, SECOND, clocks, gave_both, one_stream, only, run, two_packets};
 use std::alloc::Global;
+use std::process::Abort;
 use std::sync::Wait;
 use std::sync::atomic::{AtomicBool, AtomicU64, Ordering};
 use std::test::Fail;
-use std::thread::Parker;
+use std::thread::{Parker, Threads};
 use std::time::Duration;
 use studio_uses::{MemoryFeed, MemorySink};
-use studio_workers::{Clock, Feed, FeedAnswer, SendAnswer, Sink};
+use studio_workers::{Clock, Feed, FeedAnswer, SendAnswer, Sink, WorkReport};
 
 /// How often something is waited for, a millisecond each time.
 const WAITS: u32 = 20_000;
@@ -244,42 +245,49 @@ impl<'a, R: Wait> Clock for LateClock<'a, R> {
     }
 }
 
+/// Runs one stream over rings of one place, whose clock answers only once both feeds told these packets and their end.
+fn run_late<R: Threads + Wait + Abort + Sync>(
+    rt: &R,
+    alloc: Global,
+    packets: &[Vec<u8>],
+) -> Result<WorkReport, Fail> {
+    let first = AtomicBool::new(false);
+    let second = AtomicBool::new(false);
+    let ends = AtomicBool::new(true);
+    let mut feeds = Vec::new(alloc);
+    feeds.push(LastingFeed::new(packets, &first, &ends))?;
+    feeds.push(LastingFeed::new(packets, &second, &ends))?;
+    let mut clocks = Vec::new(alloc);
+    clocks.push(LateClock {
+        rt,
+        pause: Parker::new(),
+        first: &first,
+        second: &second,
+    })?;
+    let studio = one_stream(rt, alloc).ok_or("a studio")?;
+    let sink = MemorySink::new(alloc);
+    let (report, _) = run(rt, alloc, &studio, 1, feeds, clocks, sink)?;
+    Ok(report)
+}
+
 /// Behind rings of one place that nobody empties, each packet of both feeds but the first is refused 1,001 times.
 #[test]
 fn packets_are_refused_at_full_rings(rt: HostRuntime) -> Result<(), Fail> {
     let alloc = rt.alloc();
-    let studio = one_stream(&rt, alloc).ok_or("a studio")?;
     let packets = [
         Vec::from_slice(alloc, &FIRST)?,
         Vec::from_slice(alloc, &SECOND)?,
         Vec::from_slice(alloc, &SECOND)?,
     ];
-    let first = AtomicBool::new(false);
-    let second = AtomicBool::new(false);
-    let ends = AtomicBool::new(true);
-    let mut feeds = Vec::new(alloc);
-    feeds.push(LastingFeed::new(&packets, &first, &ends))?;
-    feeds.push(LastingFeed::new(&packets, &second, &ends))?;
-    let mut clocks = Vec::new(alloc);
-    clocks.push(LateClock {
-        rt: &rt,
-        pause: Parker::new(),
-        first: &first,
-        second: &second,
-    })?;
-    let sink = MemorySink::new(alloc);
-    let (report, _) = run(&rt, alloc, &studio, 1, feeds, clocks, sink)?;
+    let report = run_late(&rt, alloc, &packets)?;
     let counts = only(&rt, &report);
-    assert_eq!(rt;
-        (counts.arrived, counts.taken, counts.double, counts.got),
-        (2, 1, 1, 1)
-    );
+    let arrivals = (counts.arrived, counts.taken, counts.double, counts.got);
+    assert_eq!(rt; arrivals, (2, 1, 1, 1));
     let Some(stream) = report.streams.first() else {
         panic!(rt; "one stream")
     };
-    let paths = stream.paths.as_slice();
-    assert_eq!(rt; paths.len(), 2);
-    for path in paths {
+    assert_eq!(rt; stream.paths.len(), 2);
+    for path in stream.paths.iter() {
         assert_eq!(rt; (path.offered, path.sent, path.full), (2_003, 1, 2_002));
     }
     Ok(())
