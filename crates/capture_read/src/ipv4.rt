@@ -11,6 +11,7 @@ use std::net::Ipv4Addr;
 const IPV4_HEADER: usize = 20;
 
 const UDP_HEADER: usize = 8;
+
 /// UDP's number among the protocols of an IPv4 header.
 const UDP: u8 = 17;
 

@@ -5,8 +5,8 @@
 //! which of them is at fault, if one is; then `Session::new` takes all memory. `next_datagram` is called
 //! until it answers none, and `into_cursors` gives each stream's cursor for its counts, after
 //! `finish_stream`. Where events come one by one, cursors are handed each by `hand_datagram` and its like,
-//! and `pull_marks` hands on what it gives. For marks in place of datagrams, `studio_cursors` gives a cursor for each stream, which
-//! lends its marks.
+//! and `pull_marks` hands on what it gives. For marks in place of datagrams, `studio_cursors` gives a cursor
+//! for each stream, which lends its marks.
 #![tactic(auto)]
 
 mod cursor;
