@@ -1,5 +1,5 @@
 -- UDP datagrams in IPv4 packets (RFC 791, 3.1; RFC 768).
-use Rattle.std.specs.Prelude.{◌+◌, ◌*◌, ◌/◌, ◌%◌, ◌^◌, ℕ, Bool, List, [], ◌∷◌, length, slice_index, slice_range, Option, Some, None, option_map, nat_lt, nat_le, ◌==◌, not, ◌&&◌, if◌then◌else◌}
+use Rattle.std.specs.Prelude.{◌+◌, ◌*◌, ◌/◌, ◌%◌, ◌^◌, ℕ, Bool, List, [], ◌∷◌, length, slice_index, slice_range, Option, Some, None, nat_lt, nat_le, ◌==◌, not, ◌&&◌, ◌||◌, if◌then◌else◌}
 use Rattle.std.specs.Net.Addr.{ipv4_octets}
 use Rattle.capture_read.specs.declared.order.Order.TheVariants.{Big}
 use Rattle.capture_read.specs.declared.ipv4.Ipv4.{Ipv4}
@@ -18,6 +18,7 @@ pub record UdpView : Type 0 where
 pub data BodyView : Type 0 where
   Whole : UdpView → BodyView
   Part : BodyView
+  Cut : BodyView
 
 -- an IPv4 packet of UDP: the four octets of each address, and what it carries
 pub record Ipv4View : Type 0 where
@@ -37,14 +38,9 @@ header_length octets = 4 * (slice_index octets 0 % 16)
 abbrev pub total_length : List ℕ → ℕ
 total_length octets = number_at Big 2 2 octets
 
--- a whole header of version 4 stands first, and its protocol is UDP's, 17
+-- the fixed fields of a header of version 4 stand first, and its protocol is UDP's, 17
 abbrev pub has_udp_header : List ℕ → Bool
-has_udp_header octets =
-    nat_le 20 (length octets)
-    && (slice_index octets 0 / 16 == 4)
-    && nat_le 20 (header_length octets)
-    && nat_le (header_length octets) (length octets)
-    && (slice_index octets 9 == 17)
+has_udp_header octets = nat_le 20 (length octets) && (slice_index octets 0 / 16 == 4) && (slice_index octets 9 == 17)
 
 -- the packet is a fragment: more fragments follow, or its offset isn't 0; two bits stand before these fourteen
 abbrev pub is_fragment : List ℕ → Bool
@@ -62,19 +58,23 @@ udp_of octets =
       payload = slice_range octets 8 (number_at Big 2 4 octets);
     })))
 
--- what stands behind the header, if the packet's length isn't a lie
-unfoldable pub body_of : List ℕ → Option BodyView
+-- a whole datagram, if there is one
+abbrev pub whole_or_cut : Option UdpView → BodyView
+whole_or_cut None = Cut
+whole_or_cut (Some datagram) = Whole datagram
+
+-- what an IPv4 packet carries: it is cut where fewer octets are there than it says, and where its lengths can't be
+unfoldable pub body_of : List ℕ → BodyView
 body_of octets =
-    if is_fragment octets then Some Part
-    else (if nat_lt (total_length octets) (header_length octets) then None
-    else (if nat_lt (length octets) (total_length octets) then None
-    else option_map Whole (udp_of (slice_range octets (header_length octets) (total_length octets)))))
+    if is_fragment octets then Part
+    else (if nat_lt (header_length octets) 20 || nat_lt (total_length octets) (header_length octets) || nat_lt (length octets) (total_length octets) then Cut
+    else whole_or_cut (udp_of (slice_range octets (header_length octets) (total_length octets))))
 
 -- the UDP packet that octets begin with; what follows its length is a network's padding
 unfoldable pub ipv4_of : List ℕ → Option Ipv4View
 ipv4_of octets =
     if has_udp_header octets
-    then option_map (λ body. record { source = address_at 12 octets; destination = address_at 16 octets; body = body }) (body_of octets)
+    then Some (record { source = address_at 12 octets; destination = address_at 16 octets; body = body_of octets })
     else None
 
 -- what the code's values stand for
@@ -84,6 +84,7 @@ udp_view d = record { source_port = d.source_port; destination_port = d.destinat
 abbrev pub body_view : Body → BodyView
 body_view (body.Datagram d) = Whole (udp_view d)
 body_view body.Fragment = Part
+body_view body.Cut = Cut
 
 abbrev pub ipv4_view : Ipv4 → Ipv4View
 ipv4_view p = record { source = ipv4_octets p.source; destination = ipv4_octets p.destination; body = body_view p.body }

@@ -30,6 +30,8 @@ pub enum Body<'a> {
     Datagram(Datagram<'a>),
     /// A fragment of a datagram, which isn't put together.
     Fragment,
+    /// Less than a datagram: it was captured in part, or a length of its headers is wrong.
+    Cut,
 }
 
 /// A UDP datagram. Its checksum isn't looked at, since senders often leave it to their network card.
@@ -41,7 +43,7 @@ pub struct Datagram<'a> {
     pub payload: &'a [u8],
 }
 
-/// The UDP packet that octets begin with, unless they are something else or are cut.
+/// The UDP packet that octets begin with, unless they are something else.
 #[tactic(auto, unfolding(crate::specs::Ipv4::ipv4_of))]
 pub(crate) fn read_ipv4(octets: &[u8]) -> Option<Ipv4<'_>>
     ensures { option_map ipv4_view result ≡ ipv4_of octets.now }
@@ -49,23 +51,18 @@ pub(crate) fn read_ipv4(octets: &[u8]) -> Option<Ipv4<'_>>
     if !begins_with_header(octets) {
         return None;
     }
-    let body = read_body(octets)?;
     Some(Ipv4 {
         source: read_address(octets, 12),
         destination: read_address(octets, 16),
-        body,
+        body: read_body(octets),
     })
 }
 
-/// Whether a whole header of version 4 and protocol UDP stands first.
+/// Whether the fixed fields of a header of version 4 and protocol UDP stand first.
 fn begins_with_header(octets: &[u8]) -> bool
     ensures { result ≡ spec.has_udp_header octets.now }
 {
-    octets.len() >= IPV4_HEADER
-        && octets[0] / 16 == 4
-        && header_length(octets) >= IPV4_HEADER
-        && octets.len() >= header_length(octets)
-        && octets[9] == UDP
+    octets.len() >= IPV4_HEADER && octets[0] / 16 == 4 && octets[9] == UDP
 }
 
 /// The octets of the header, with its options.
@@ -89,22 +86,24 @@ fn read_address(octets: &[u8], place: usize) -> Ipv4Addr
     )
 }
 
-/// What stands behind a whole header, unless the packet is cut.
+/// What an IPv4 packet carries, of which the fixed fields are there.
 #[tactic(auto, unfolding(crate::specs::Ipv4::body_of))]
-fn read_body(octets: &[u8]) -> Option<Body<'_>>
+fn read_body(octets: &[u8]) -> Body<'_>
     requires { spec.has_udp_header octets.now ≡ true }
-    ensures { option_map body_view result ≡ body_of octets.now }
+    ensures { body_view result ≡ body_of octets.now }
 {
     if Order::Big.read_u16(octets, 6) % 16384 != 0 {
-        return Some(Body::Fragment);
+        return Body::Fragment;
     }
     let begin = header_length(octets);
     let end = usize::from(Order::Big.read_u16(octets, 2));
-    if end < begin || octets.len() < end {
-        return None;
+    if begin < IPV4_HEADER || end < begin || octets.len() < end {
+        return Body::Cut;
     }
-    let datagram = read_udp(&octets[begin..end])?;
-    Some(Body::Datagram(datagram))
+    match read_udp(&octets[begin..end]) {
+        Some(datagram) => Body::Datagram(datagram),
+        None => Body::Cut,
+    }
 }
 
 /// The datagram that octets are, unless they are too few or its length lies.

@@ -4,7 +4,7 @@
 //! an iterator: each call of `next` steps over the records or blocks of no interest, by their lengths,
 //! and answers the next `Packet`, whose payload lies in the caller's octets. The first fault comes last,
 //! as an item of its own, with its place; then nothing more comes. A UDP datagram comes whole with its
-//! time, interface, addresses and ports; a fragment of one is told, and anything else is passed over.
+//! time, interface, addresses and ports; that one is a fragment or cut is told, and anything else is passed over.
 //!
 //! Nothing here takes memory, copies a payload or reads a file. What a file holds is `packets_of`, by the
 //! formats (draft-ietf-opsawg-pcap and draft-ietf-opsawg-pcapng) and tcpdump's registry of link types.

@@ -99,23 +99,25 @@ fn frames_of_each_link(rt: HostRuntime) -> Result<(), Fail> {
     Ok(())
 }
 
-/// A fragment, first or later, is told; TCP, version 6, a cut packet, and lengths of UDP that lie are passed over, and padding is left out.
+/// A fragment, first or later, and a packet whose lengths can't be are told; TCP and version 6 are passed over, and padding is left out.
 #[test]
 fn packets_that_are_no_datagrams(rt: HostRuntime) -> Result<(), Fail> {
     let alloc = rt.alloc();
     let datagram = format!(in alloc; "1000002000 0 {IP_TEXT}\n")?;
     let fragment = "1000002000 0 10.0.0.1 > 239.1.2.3 fragment\n";
-    let rows: [(usize, u8, &str); 10] = [
+    let cut = "1000002000 0 10.0.0.1 > 239.1.2.3 cut\n";
+    let rows: [(usize, u8, &str); 11] = [
         (0, 0x45, datagram.as_str()),
         (6, 0x20, fragment),
         (7, 1, fragment),
         (9, 6, ""),
         (0, 0x65, ""),
-        (0, 0x44, ""),
-        (3, 33, ""),
-        (3, 19, ""),
-        (25, 7, ""),
-        (25, 13, ""),
+        (0, 0x44, cut),
+        (0, 0x4f, cut),
+        (3, 33, cut),
+        (3, 19, cut),
+        (25, 7, cut),
+        (25, 13, cut),
     ];
     for (place, octet, want) in rows {
         let mut packet = joined(alloc, &[&IP])?;
@@ -124,6 +126,11 @@ fn packets_that_are_no_datagrams(rt: HostRuntime) -> Result<(), Fail> {
         }
         let file = pcap(alloc, [101, 0], &[], &packet)?;
         assert_eq!(rt; told(alloc, &file)?.as_str(), want, "{octet} at {place}");
+    }
+    for k in 0..IP.len() {
+        let file = pcap(alloc, [101, 0], &[], IP.get(..k).unwrap_or(&[]))?;
+        let want = if k < 20 { "" } else { cut };
+        assert_eq!(rt; told(alloc, &file)?.as_str(), want, "the first {k}");
     }
     let padded = joined(alloc, &[&IP, &[9, 9, 9]])?;
     let file = pcap(alloc, [101, 0], &[], &padded)?;

@@ -50,6 +50,7 @@ fn packet_line(alloc: Global, packet: &Packet<'_>) -> Result<String, AllocError>
         Body::Fragment => format!(in alloc;
             "{time} {interface} {source} > {destination} fragment\n"
         ),
+        Body::Cut => format!(in alloc; "{time} {interface} {source} > {destination} cut\n"),
         Body::Datagram(datagram) => {
             let from = datagram.source_port;
             let to = datagram.destination_port;
