@@ -1,3 +1,4 @@
+pub mod OctetLemmas
 pub mod SortedLemmas
 pub mod RingLemmas
 pub mod SlotWindowLemmas

@@ -6,6 +6,7 @@
 //! `SortedWindow` keeps its packets sorted, the plain form beside it. Only their `new` takes memory.
 #![tactic(auto)]
 
+mod octets;
 mod slot;
 mod slots;
 mod sorted;

@@ -4,6 +4,7 @@ ghost use Rattle.stream_rules.specs.declared.packet.Packet.{Packet};
 ghost use Rattle.stream_rules.specs.PacketRef.{packet_of};
 ghost use Rattle.stream_rules.specs.Put.{put_answer};
 
+use crate::octets::are_same;
 use rtp_wire::Payload;
 use std::marker::Model;
 use stream_rules::{Packet, PacketRef, Put};
@@ -41,14 +42,14 @@ impl Slot {
     }
 
     /// How a packet would be put.
-    #[inline]
+    #[inline(always)]
     pub(crate) fn answer(&self, packet: PacketRef<'_>) -> Put
         ensures { result ≡ put_answer self.now (packet_of packet.entry) }
     {
         if !self.held {
             return Put::Taken;
         }
-        if self.packet.payload.as_slice() == packet.payload {
+        if are_same(self.packet.payload.as_slice(), packet.payload) {
             Put::Double
         } else {
             Put::Unlike
@@ -56,7 +57,7 @@ impl Slot {
     }
 
     /// Writes a packet over what it holds.
-    #[inline]
+    #[inline(always)]
     pub(crate) fn write(&mut self, packet: PacketRef<'_>)
         requires { length packet.payload.now ≤ 1440 }
         ensures { self.new ≡ Some (packet_of packet.entry) }

@@ -16,10 +16,10 @@ use stream_rules::{Packet, PacketRef, Put, StreamSpec};
 #[derive(Drop)]
 pub struct SlotWindow {
     base: u64,
-    /// The slot of the base.
-    front: usize,
     /// How far the end is past the base.
     span: usize,
+    /// The slot of the base.
+    front: usize,
     slots: Vec<Slot>,
 }
 
@@ -47,8 +47,8 @@ impl SlotWindow {
         }
         Ok(SlotWindow {
             base: 0,
-            front: 0,
             span: 0,
+            front: 0,
             slots,
         })
     }
