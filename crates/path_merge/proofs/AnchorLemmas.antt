@@ -113,6 +113,7 @@ Follows stream open_at events path packet (Some (place, a)) b = Restarts stream 
 -- what an anchor has that a packet makes
 pub record IsMade (stream : Stream) (open_at : ℤ) (events : List Event) (path : ℕ) (packet : Packet) (old : Option (ℕ × Anchor)) (b : Anchor) : Type 0 where
   pub early : (time_of open_at events -ℤ pos stream.latency) <ℤ b.media
+  pub within : b.media <ℤ (time_of open_at events -ℤ pos stream.latency +ℤ pos (stream.window * stream.frames))
   pub next : IsNextEpoch stream open_at (anchor_in old) (Some b)
   pub follows : Follows stream open_at events path packet old b
 
@@ -138,6 +139,7 @@ module _ (stream : Stream) (open_at : ℤ) (some : 0 < stream.frames) where
           let small = complete_small stream (heard_since stream open_at place a events path) (is_off stream a (next_number stream a (time_of open_at events)) packet) packet (ap (completes_probation stream) (sym (here wanted)) ∙ completes) in
           record {
             early = on.after;
+            within = on.before;
             next = refl;
             follows = record {
               not_back = on.not_back;
@@ -155,7 +157,7 @@ module _ (stream : Stream) (open_at : ℤ) (some : 0 < stream.frames) where
     where
       by_first : (c : Bool) → can_anchor stream (time_of open_at events) packet ≡ c → ((b : Anchor) → IsMade stream open_at events path packet None b → P ((length events, b) ∷ [])) → P (placed (length events) (if c then anchor_from stream (time_of open_at events) packet ∷ [] else []))
       by_first false can made = none
-      by_first true can made = made (anchor_from stream (time_of open_at events) packet) (record { early = (is_first stream (time_of open_at events) packet can).after; next = refl; follows = tt })
+      by_first true can made = made (anchor_from stream (time_of open_at events) packet) (record { early = (is_first stream (time_of open_at events) packet can).after; within = (is_first stream (time_of open_at events) packet can).before; next = refl; follows = tt })
 
       by_next : (place : ℕ) (a : Anchor) → place < length events → is_counting events ≡ true → (c : Bool) → can_restart stream open_at place a events path packet ≡ c → ((b : Anchor) → IsMade stream open_at events path packet (Some (place, a)) b → P ((length events, b) ∷ [])) → P (placed (length events) (if c then restart_from stream (time_of open_at events) a (next_number stream a (time_of open_at events)) packet ∷ [] else []))
       by_next place a within counts false can made = none

@@ -69,6 +69,10 @@ IsWithinReach stream anchor reach time (Closes ∷ sent) = Unit {0}
 abbrev pub IsOneEpoch : Stream → ℤ → List Event → Type 0
 IsOneEpoch stream open_at events = length (anchors_of stream open_at events) ≤ 1
 
+-- these events open no epoch after those before
+abbrev pub OpensNoEpoch : Stream → ℤ → List Event → List Event → Type 0
+OpensNoEpoch stream open_at before events = length (anchors_of stream open_at (before ++ events)) ≤ length (anchors_of stream open_at before)
+
 -- an arrival is a copy of its own number, where that is from the one next due to the window's end: nothing is extended, and no timestamp is looked at
 abbrev pub sent_copies_at : Stream → Anchor → ℤ → List Event → SentEvent → List (ℕ × Packet)
 sent_copies_at stream anchor open_at before (Arrives path packet) =

@@ -66,7 +66,7 @@ impl Counts {
     }
 
     /// Counts an arrival on a path.
-    #[inline]
+    #[inline(always)]
     pub fn add_fate(&mut self, path: Path, fate: Fate)
         requires { self.old.arrived < 2 ^ 62 }
         ensures { tally_of self.new ≡ with_fate (tally_of self.old) path fate }

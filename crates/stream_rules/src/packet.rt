@@ -47,7 +47,7 @@ impl Packet {
     }
 
     /// Becomes a packet that is lent: its samples alone are copied.
-    #[inline]
+    #[inline(always)]
     pub fn become_copy(&mut self, packet: PacketRef<'_>)
         requires { length packet.payload.now ≤ 1440 }
         ensures { self.new ≡ packet_of packet.entry }
@@ -77,7 +77,7 @@ impl PacketRef<'_> {
 }
 
 /// Becomes these octets. Where there are as many as before, they alone are written: `clear` blanks what it drops.
-#[inline]
+#[inline(always)]
 fn refill(payload: &mut Payload, octets: &[u8])
     requires { length octets.now ≤ 1440 }
     ensures { payload.new.items ≡ octets.now }
@@ -85,7 +85,16 @@ fn refill(payload: &mut Payload, octets: &[u8])
     if payload.len() == octets.len() {
         payload.as_mut_slice().copy_from_slice(octets);
     } else {
-        payload.clear();
-        let _ = payload.try_extend_from_slice(octets);
+        fill_anew(payload, octets);
     }
+}
+
+/// Becomes these octets, of another number than before: in most slots once.
+#[inline(never)]
+fn fill_anew(payload: &mut Payload, octets: &[u8])
+    requires { length octets.now ≤ 1440 }
+    ensures { payload.new.items ≡ octets.now }
+{
+    payload.clear();
+    let _ = payload.try_extend_from_slice(octets);
 }

@@ -39,6 +39,7 @@ impl Probation {
     }
 
     /// Hears a packet, and whether it is off.
+    #[inline(always)]
     pub fn hear(&mut self, frames: u32, off: bool, packet: &PacketRef<'_>)
         requires { frames ≤ 192 }
         ensures { (stream : Stream) → stream.frames ≡ frames → self.new ≡ probation_after stream self.old (off, packet_of packet.now) }
@@ -75,6 +76,7 @@ impl Probation {
 }
 
 /// Hears a packet on its path, unless the stream asks for another source, and answers whether it completes that path's probation.
+#[inline(always)]
 pub fn hear_on(
     probations: &mut [Probation; 4],
     path: Path,

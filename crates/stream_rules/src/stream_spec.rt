@@ -99,19 +99,26 @@ impl Stream {
 #[derive(Clone, Copy, Debug)]
 pub struct StreamSpec {
     stream: Stream,
+    /// The octets of each packet's samples.
+    payload_len: usize,
 }
 
 impl Model for StreamSpec {
     ghost use Rattle.stream_rules.specs.declared.stream_spec.Stream.{Stream};
-    ghost use Rattle.stream_rules.specs.StreamSpecFacts.{HasNoFault};
+    ghost use Rattle.std.specs.Prelude.{◌≡◌};
+    ghost use Rattle.stream_rules.specs.MarkFacts.{payload_length};
+    ghost use Rattle.stream_rules.specs.StreamSpecFacts.{HasNoFault, format_of};
 
     ghost Value = { Stream };
 
     ghost view = { λ s. s.stream };
 
-    ghost invariant = { λ s. HasNoFault s.stream };
+    ghost invariant = { λ s. record {
+      fine : HasNoFault s.stream;
+      len : s.payload_len ≡ payload_length (format_of s.stream);
+    } };
 
-    ghost inverse = { λ s. record { stream = s } };
+    ghost inverse = { λ s. record { stream = s; payload_len = payload_length (format_of s) } };
 }
 
 /// Whether a reorder window may have this many packets: a power of two from 8 to 16,384.
@@ -173,7 +180,11 @@ impl StreamSpec {
     {
         check_packets(stream.format(), stream.pt)?;
         check_times(stream.frames, stream.latency, stream.window, stream.paths)?;
-        Ok(StreamSpec { stream })
+        let payload_len = stream.format().payload_len();
+        Ok(StreamSpec {
+            stream,
+            payload_len,
+        })
     }
 
     /// As `of`, with the stream's parts in their order.
@@ -287,7 +298,7 @@ impl StreamSpec {
         ensures value { result ≡ payload_length (format_of self.now) }
         ensures short { result ≤ 1440 }
     {
-        self.format().payload_len()
+        self.payload_len
     }
 
     /// Takes an RTP packet of the stream's type and length.

@@ -77,10 +77,9 @@ pub(crate) fn make_datagrams(alloc: Global, spec: &StreamSpec) -> anyhow::Result
 }
 
 impl Datagrams {
-    /// The datagram of a number, or no octets.
-    pub(crate) fn of(&self, number: u32) -> &[u8] {
+    /// The datagram of a number, if there is one.
+    pub(crate) fn of(&self, number: u32) -> Option<&[u8]> {
         let begin = (number as usize).wrapping_mul(self.len);
-        let end = begin.wrapping_add(self.len);
-        self.octets.as_slice().get(begin..end).unwrap_or(b"")
+        self.octets.as_slice().get(begin..)?.get(..self.len)
     }
 }

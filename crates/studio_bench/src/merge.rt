@@ -105,7 +105,10 @@ fn merge_all(
     let mut sum = 0u64;
     for step in steps {
         let found = match step {
-            Step::Arrive(path, number) => arrive(merge, spec, *path, datagrams.of(*number)),
+            Step::Arrive(path, number) => match datagrams.of(*number) {
+                Some(datagram) => arrive(merge, spec, *path, datagram),
+                None => 0,
+            },
             Step::Tick => give(merge, spec),
         };
         sum = sum.wrapping_add(found);
@@ -113,7 +116,8 @@ fn merge_all(
     sum
 }
 
-/// Offers the packet of a datagram.
+/// Offers the packet of a datagram. A call of its own, as a receiver makes it for each datagram.
+#[inline(never)]
 fn arrive(merge: &mut Merge<SlotWindow>, spec: &StreamSpec, path: Path, datagram: &[u8]) -> u64
     requires { merge.old.spec ≡ spec.now }
     ensures { merge.new.spec ≡ merge.old.spec }

@@ -130,7 +130,7 @@ impl Taker {
 /// One thread offers a batch, and takes it.
 fn by_one(mut path: PathEnd, datagrams: &Datagrams, mut taker: Taker) -> Taker {
     for number in 0..NUMBERS {
-        let _ = path.offer(datagrams.of(number));
+        let _ = path.offer(datagrams.of(number).unwrap_or(b""));
         if number % BATCH == BATCH - 1 {
             taker.take();
         }
@@ -157,7 +157,7 @@ fn by_two(
 fn offer_all(rt: &impl Wait, mut path: PathEnd, datagrams: &Datagrams) {
     for number in 0..NUMBERS {
         for _ in rt.forever() {
-            if path.offer(datagrams.of(number)) != Offer::Full {
+            if path.offer(datagrams.of(number).unwrap_or(b"")) != Offer::Full {
                 break;
             }
             hint::spin_loop();

@@ -62,12 +62,16 @@ impl<V: Window> Merge<V> {
         }
         match self.anchor {
             Some(anchor) => self.offer_next(anchor, path, &packet),
-            None => self.offer_first(path, &packet),
+            None => {
+                // A copy, so that the frequent way keeps its packet in registers; so also of a rare one below.
+                let first = packet;
+                self.offer_first(path, &first)
+            }
         }
     }
 
     /// Takes an arrival at an anchored merge.
-    #[inline]
+    #[inline(always)]
     fn offer_next(&mut self, anchor: Anchor, path: Path, packet: &PacketRef<'_>) -> Fate
         requires anchored { self.old.anchor ≡ Some anchor }
         requires open_yet { self.old.closed ≡ false }
@@ -77,7 +81,54 @@ impl<V: Window> Merge<V> {
         ensures restart { opens_epoch self.old anchor path (packet_of packet.now) ≡ true → IsRestartStep self.old.spec self.old self.new anchor path (packet_of packet.now) result }
     {
         let next = self.window.base();
-        let place = place_of(&self.spec, &anchor, next, self.next_media, packet);
+        match place_of(&self.spec, &anchor, next, self.next_media, packet) {
+            Ok(number) => self.offer_at(anchor, Ok(number), path, packet),
+            Err(_) => {
+                let rare = *packet;
+                self.offer_elsewhere(path, &rare)
+            }
+        }
+    }
+
+    /// Takes an arrival at an anchored merge, wherever it belongs: most have a place in the window, and are taken
+    /// before.
+    #[inline(never)]
+    fn offer_elsewhere(&mut self, path: Path, packet: &PacketRef<'_>) -> Fate
+        requires open_yet { self.old.closed ≡ false }
+        requires room { self.old.counts.arrived < 2 ^ 62 }
+        requires fits { Fits self.old.spec (packet_of packet.now) }
+        ensures next { (a : Anchor) → self.old.anchor ≡ Some a → opens_epoch self.old a path (packet_of packet.now) ≡ false → IsNextStep self.old.spec self.old self.new a path (packet_of packet.now) result }
+        ensures restart { (a : Anchor) → self.old.anchor ≡ Some a → opens_epoch self.old a path (packet_of packet.now) ≡ true → IsRestartStep self.old.spec self.old self.new a path (packet_of packet.now) result }
+    {
+        match self.anchor {
+            Some(anchor) => {
+                let next = self.window.base();
+                let place = place_of(&self.spec, &anchor, next, self.next_media, packet);
+                self.offer_at(anchor, place, path, packet)
+            }
+            // Never at an anchored merge.
+            None => Fate::Late,
+        }
+    }
+
+    /// Takes an arrival at an anchored merge, by its place.
+    #[inline(always)]
+    fn offer_at(
+        &mut self,
+        anchor: Anchor,
+        place: Result<u64, Fate>,
+        path: Path,
+        packet: &PacketRef<'_>,
+    ) -> Fate
+        requires anchored { self.old.anchor ≡ Some anchor }
+        requires open_yet { self.old.closed ≡ false }
+        requires room { self.old.counts.arrived < 2 ^ 62 }
+        requires fits { Fits self.old.spec (packet_of packet.now) }
+        requires place { place ≡ fate.place_of self.old.spec anchor self.old.base (packet_of packet.now) }
+        ensures next { opens_epoch self.old anchor path (packet_of packet.now) ≡ false → IsNextStep self.old.spec self.old self.new anchor path (packet_of packet.now) result }
+        ensures restart { opens_epoch self.old anchor path (packet_of packet.now) ≡ true → IsRestartStep self.old.spec self.old self.new anchor path (packet_of packet.now) result }
+    {
+        let _ = &self.spec;
         match self.hear(anchor, path, is_off_place(&place), packet) {
             Some(media) => {
                 self.restart(anchor, media, path, packet);
@@ -88,7 +139,7 @@ impl<V: Window> Merge<V> {
     }
 
     /// Hears a packet on its path, and answers the media time of the epoch that it opens.
-    #[inline]
+    #[inline(always)]
     fn hear(&mut self, anchor: Anchor, path: Path, off: bool, packet: &PacketRef<'_>) -> Option<i64>
         requires anchored { self.old.anchor ≡ Some anchor }
         requires open_yet { self.old.closed ≡ false }
@@ -104,7 +155,7 @@ impl<V: Window> Merge<V> {
     }
 
     /// Puts a packet at its place, or refuses one that has none, and counts it.
-    #[inline]
+    #[inline(always)]
     fn put_or_refuse(
         &mut self,
         anchor: Anchor,

@@ -1,6 +1,6 @@
-use Rattle.std.proofs.Common.{◌≡◌, ◌<◌, ◌^◌, None, ap, sym, ◌∙◌, arith}
+use Rattle.std.proofs.Common.{◌≡◌, ◌<◌, ◌^◌, None, ap, sym, ◌∙◌, arith, rules}
 use Rattle.stream_rules.specs.declared.mark.Format.{Format}
-use Rattle.stream_rules.specs.StreamSpecFacts.{packets_fault_of, format_of}
+use Rattle.stream_rules.specs.StreamSpecFacts.{HasNoFault, packets_fault_of, format_of}
 use Rattle.stream_rules.proofs.StreamSpecLemmas.{HasNoFault-of}
 use Rattle.stream_rules.proofs.stream_spec.StreamSpec.of.Goals as goal
 
@@ -10,4 +10,5 @@ invariant_of-result c =
     let packets : packets_fault_of (format_of stream) stream.pt ≡ None = ap (λ (f : Format). packets_fault_of f stream.pt) (sym c.format.ensures) ∙ c.in_ok-check_packets.ensures.ok in
     let fits = c.well_formed in
     let small : stream.latency < 2 ^ 32 = omega arith in
-    HasNoFault-of stream packets c.in_ok-check_times.ensures.ok small
+    let fine : HasNoFault stream = HasNoFault-of stream packets c.in_ok-check_times.ensures.ok small in
+    record { fine = fine; len = search rules }

@@ -1,0 +1,56 @@
+use Rattle.std.proofs.Common.{◌≡◌, Some, None, false, true, arith, ap, sym, subst, ◌∙◌}
+use Rattle.std.proofs.lemmas.Int.{ints}
+use Rattle.stream_rules.specs.declared.anchor.Anchor.{Anchor}
+use Rattle.stream_rules.specs.PacketRef.{packet_of}
+use Rattle.stream_rules.specs.Fate.{place_of}
+use Rattle.path_merge.specs.MergeState.{MergeState}
+use Rattle.path_merge.specs.Steps.{IsNextStep, IsRestartStep, opens_epoch}
+use Rattle.path_merge.proofs.SoundLemmas.{anchored_at, base_small, due_times, media_small}
+use Rattle.path_merge.proofs.merge.Merge.offer_elsewhere.Goals as goal
+
+pub place_of-place-requires-clause-high : goal.place_of-place-requires-clause-high
+place_of-place-requires-clause-high g c =
+    let is_a = c.in-Some.is in
+    omega (arith, c.base-next.ensures, (base_small _ c.self.inside.next_media c.in-Some.anchor c.self.invariant is_a).1)
+
+pub place_of-place-requires-clause-media_low : goal.place_of-place-requires-clause-media_low
+place_of-place-requires-clause-media_low g c =
+    let is_a = c.in-Some.is in
+    let t = media_small _ c.self.inside.next_media c.in-Some.anchor c.self.invariant is_a in
+    omega (arith, ints, t.1, t.2)
+
+pub place_of-place-requires-clause-anchor_low : goal.place_of-place-requires-clause-anchor_low
+place_of-place-requires-clause-anchor_low g c =
+    let is_a = c.in-Some.is in
+    omega (arith, ints, (anchored_at _ c.self.inside.next_media _ c.in-Some.anchor is_a c.self.invariant.anchored).bounds.media_low)
+
+pub place_of-place-requires-clause-media_high : goal.place_of-place-requires-clause-media_high
+place_of-place-requires-clause-media_high g c =
+    let is_a = c.in-Some.is in
+    let open_yet = ap (λ (m : MergeState). m.closed) c.self.view_is ∙ c.requires.open_yet in
+    let t = due_times _ c.self.inside.next_media c.in-Some.anchor c.self.invariant is_a open_yet in
+    omega (arith, ints, t.media_low, t.media_high)
+
+pub offer_at-requires-clause-place : goal.offer_at-requires-clause-place
+offer_at-requires-clause-place g c =
+    c.place_of-place.ensures ∙ ap (λ b. place_of c.self.inside.spec c.in-Some.anchor b (packet_of c.args.packet.now)) c.base-next.ensures ∙ ap (λ (m : MergeState). place_of m.spec c.in-Some.anchor m.base (packet_of c.args.packet.now)) c.self.view_is
+
+pub returns-in-Some-clause-next : goal.returns-in-Some-clause-next
+returns-in-Some-clause-next g c = λ a is.
+    let here : c.args.self.now.anchor ≡ Some c.in-Some.anchor = ap (λ (m : MergeState). m.anchor) (sym c.self.view_is) ∙ c.in-Some.is in
+    let both : Some c.in-Some.anchor ≡ Some a = sym here ∙ is in
+    let same : c.in-Some.anchor ≡ a = cc in
+    subst (λ (x : Anchor). opens_epoch c.args.self.now x c.args.path (packet_of c.args.packet.now) ≡ false → IsNextStep c.args.self.now.spec c.args.self.now c.offer_at.new.self x c.args.path (packet_of c.args.packet.now) c.offer_at.result) same c.offer_at.ensures.next
+
+pub returns-in-Some-clause-restart : goal.returns-in-Some-clause-restart
+returns-in-Some-clause-restart g c = λ a is.
+    let here : c.args.self.now.anchor ≡ Some c.in-Some.anchor = ap (λ (m : MergeState). m.anchor) (sym c.self.view_is) ∙ c.in-Some.is in
+    let both : Some c.in-Some.anchor ≡ Some a = sym here ∙ is in
+    let same : c.in-Some.anchor ≡ a = cc in
+    subst (λ (x : Anchor). opens_epoch c.args.self.now x c.args.path (packet_of c.args.packet.now) ≡ true → IsRestartStep c.args.self.now.spec c.args.self.now c.offer_at.new.self x c.args.path (packet_of c.args.packet.now) c.offer_at.result) same c.offer_at.ensures.restart
+
+pub returns-in-None-clause-next : goal.returns-in-None-clause-next
+returns-in-None-clause-next g c = λ a is. absurd (let none : None ≡ Some a = sym (ap (λ (m : MergeState). m.anchor) (sym c.self.view_is) ∙ c.in-None.is) ∙ is in cc)
+
+pub returns-in-None-clause-restart : goal.returns-in-None-clause-restart
+returns-in-None-clause-restart g c = λ a is. absurd (let none : None ≡ Some a = sym (ap (λ (m : MergeState). m.anchor) (sym c.self.view_is) ∙ c.in-None.is) ∙ is in cc)
