@@ -30,6 +30,7 @@ pub mod AgainLemmas
 pub mod WayLemmas
 pub mod AnchorLemmas
 pub mod ShapeLemmas
+pub mod KeepUpLemmas
 pub mod AfterCloseLemmas
 pub mod MarkListLemmas
 pub mod SpanLemmas
@@ -37,3 +38,4 @@ pub mod FullNumberLemmas
 pub mod SentHistoryLemmas
 pub mod NearLemmas
 pub mod GainLemmas
+pub mod LentLemmas

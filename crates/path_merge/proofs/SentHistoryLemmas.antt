@@ -5,19 +5,19 @@ use Rattle.std.proofs.lemmas.Bool.Decides.{nat_tests}
 use Rattle.std.proofs.lemmas.Int.{ints}
 use Rattle.path_merge.proofs.AliasLemmas.{size_is}
 use Rattle.path_merge.proofs.AfterCloseLemmas.{closed_stays}
-use Rattle.path_merge.proofs.EpochLemmas.{anchor_is, deaf_anchors, no_anchors}
-use Rattle.path_merge.proofs.HistoryLemmas.{anchors_of-push, arrival_count-append, by_last_event, is_closed-append, or_else, time_of-append}
+use Rattle.path_merge.proofs.EpochLemmas.{anchor_is, deaf_anchors, last-push, no_anchors}
+use Rattle.path_merge.proofs.HistoryLemmas.{anchors_of-push, arrival_count-append, at_places-append, by_last_event, is_closed-append, or_else, time_of-append}
 use Rattle.path_merge.proofs.CopiesLemmas.{first_with-append}
 use Rattle.path_merge.proofs.FullNumberLemmas.{CountsAsSent, far_counts, near_counts, one_copy}
-use Rattle.stream_rules.specs.Anchor.{anchor_from, next_number}
+use Rattle.stream_rules.specs.Anchor.{anchor_from, can_anchor, next_number, restart_from}
 use Rattle.stream_rules.specs.Copies.{copies_at, copies_in, copies_of, copies_of_all, copies_with, first_copy, with_epoch}
-use Rattle.stream_rules.specs.Epochs.{anchor_in, anchor_of, anchors_at, anchors_of, last_of}
+use Rattle.stream_rules.specs.Epochs.{anchor_in, anchor_of, anchors_after, anchors_at, anchors_of, can_restart, last_of, placed}
 use Rattle.stream_rules.specs.Grid.{copies_under, extended_number, first_with, is_in_time}
 use Rattle.stream_rules.specs.History.{arrival_count, at_places, is_closed, is_counting, time_of}
 use Rattle.stream_rules.specs.Marks.{marks_at, marks_from, marks_of, marks_under}
 use Rattle.stream_rules.specs.MarkFacts.{MarkView}
 use Rattle.path_merge.proofs.AnewLemmas.{itself_eq}
-use Rattle.stream_rules.specs.Sent.{Arrives, BeginsWith, Closes, HasEqualCopies, IsNear, IsOneEpoch, IsWithinReach, SentEvent, SentPacket, Ticks, anchor_after, marks_by_number, sent_copies, sent_copies_after, sent_copies_at, sent_marks_after, wire_event, wire_history, wire_packet}
+use Rattle.stream_rules.specs.Sent.{Arrives, BeginsWith, Closes, HasEqualCopies, IsNear, IsOneEpoch, IsWithinReach, OpensNoEpoch, SentEvent, SentPacket, Ticks, anchor_after, marks_by_number, sent_copies, sent_copies_after, sent_copies_at, sent_marks_after, wire_event, wire_history, wire_packet}
 use Rattle.stream_rules.specs.declared.stream_spec.Stream.{Stream}
 use Rattle.stream_rules.specs.StreamSpecFacts.{IsStream}
 use Rattle.stream_rules.specs.declared.anchor.Anchor.{Anchor}
@@ -81,6 +81,58 @@ module _ (stream : Stream) (open_at : ℤ) where
       either : (b : Bool) → (if b then true else true) ≡ true
       either true = refl
       either false = refl
+
+-- an anchor's number is 65,536 at least
+abbrev IsHigh : Option (ℕ × Anchor) → Type 0
+IsHigh None = Unit {0}
+IsHigh (Some made) = 65536 ≤ made.1.number
+
+module _ (stream : Stream) (open_at : ℤ) where
+  made_high : (given : List (ℕ × Anchor)) (events : List Event) (event : Event) → IsHigh (last_of (anchors_at stream open_at given events event))
+  made_high given events (Tick u) = tt
+  made_high given events Close = tt
+  made_high given events (Arrive path packet) = by_counting (is_counting events) (last_of given)
+    where
+      by_test : (a : Anchor) (b : Bool) → 65536 ≤ a.number → IsHigh (last_of (placed (length events) (if b then a ∷ [] else [])))
+      by_test a true high = high
+      by_test a false high = tt
+
+      by_counting : (b : Bool) (o : Option (ℕ × Anchor)) → IsHigh (last_of (if b then placed (length events) (anchors_after stream open_at o events path packet) else []))
+      by_counting false o = tt
+      by_counting true None = by_test (anchor_from stream (time_of open_at events) packet) (can_anchor stream (time_of open_at events) packet) (omega arith)
+      by_counting true (Some (place, a)) = by_test (restart_from stream (time_of open_at events) a (next_number stream a (time_of open_at events)) packet) (can_restart stream open_at place a events path packet) (omega arith)
+
+  last_high : (events : List Event) → IsHigh (last_of (anchors_of stream open_at events))
+  last_high = by_last_event (λ events. IsHigh (last_of (anchors_of stream open_at events))) (rw (no_anchors stream open_at) tt) (λ events event before.
+      rw (last-push stream open_at events event) (either (last_of (anchors_of stream open_at events)) (last_of (anchors_at stream open_at (anchors_of stream open_at events) events event)) (made_high (anchors_of stream open_at events) events event) before))
+    where
+      either : (old made : Option (ℕ × Anchor)) → IsHigh made → IsHigh old → IsHigh (or_else made old)
+      either old None high before = before
+      either old (Some a) high before = high
+
+  -- so is every number that is due under it
+  next_high : (events : List Event) (anchor : Anchor) → anchor_of stream open_at events ≡ Some anchor → (at : ℤ) → 65536 ≤ next_number stream anchor at
+  next_high events anchor is at = let high = by_last (last_of (anchors_of stream open_at events)) (last_high events) (sym (anchor_is stream open_at events) ∙ is) in omega (arith, high)
+    where
+      by_last : (o : Option (ℕ × Anchor)) → IsHigh o → anchor_in o ≡ Some anchor → 65536 ≤ anchor.number
+      by_last None high e = cc
+      by_last (Some (place, a)) high e = subst (λ found. IfSome found (λ b. 65536 ≤ b.number)) e high
+
+  -- an event that opens no epoch, nor any after it, leaves the anchors
+  anchors_stay : (before : List Event) (event : Event) (rest : List Event) → OpensNoEpoch stream open_at before (event ∷ rest) → anchors_of stream open_at (before ++ event ∷ []) ≡ anchors_of stream open_at before
+  anchors_stay before event rest none =
+      let push = anchors_of-push stream open_at before event in
+      let made = anchors_at stream open_at (anchors_of stream open_at before) before event in
+      let whole = ap (λ l. length (anchors_of stream open_at l)) (append_assoc before (event ∷ []) rest) in
+      push ∙ ap (λ l. anchors_of stream open_at before ++ l) (nil_of_length made (omega (arith, ap length push, length-append (anchors_of stream open_at before) made, anchors_grow stream open_at (before ++ event ∷ []) rest, whole, none))) ∙ append-nil (anchors_of stream open_at before)
+
+  anchor_stays : (before : List Event) (event : Event) (rest : List Event) → OpensNoEpoch stream open_at before (event ∷ rest) → anchor_of stream open_at (before ++ event ∷ []) ≡ anchor_of stream open_at before
+  anchor_stays before event rest none = anchor_is stream open_at (before ++ event ∷ []) ∙ ap (λ l. anchor_in (last_of l)) (anchors_stay before event rest none) ∙ sym (anchor_is stream open_at before)
+
+  none_after : (before : List Event) (event : Event) (rest : List Event) → OpensNoEpoch stream open_at before (event ∷ rest) → OpensNoEpoch stream open_at (before ++ event ∷ []) rest
+  none_after before event rest none =
+      let whole = ap (λ l. length (anchors_of stream open_at l)) (append_assoc before (event ∷ []) rest) in
+      omega (arith, whole, ap length (anchors_stay before event rest none), none)
 
 module _ (stream : Stream) (anchor : Anchor) (open_at : ℤ) where
   -- after these events, what is received of the rest is what was sent
@@ -206,26 +258,24 @@ module _ (stream : Stream) (anchor : Anchor) (open_at : ℤ) where
 
   -- within a reach at which arrivals count as they were sent
   module _ (reach : ℕ) (counts : (next : ℕ) (packet : SentPacket) → 65536 ≤ next → IsNear reach next packet.number → CountsAsSent stream anchor next packet) where
-    arrived : (before : List Event) (path : ℕ) (packet : SentPacket) (place : ℕ) → ((at : ℤ) → 65536 ≤ next_number stream anchor at) → anchors_of stream open_at (before ++ Arrive path (wire_packet stream anchor packet) ∷ []) ≡ (place, anchor) ∷ [] → IsNear reach (next_number stream anchor (time_of open_at before)) packet.number → copies_at stream open_at before (Arrive path (wire_packet stream anchor packet)) ≡ with_epoch (Some anchor) (sent_copies_at stream anchor open_at before (Arrives path packet))
-    arrived before path packet place high is near = rw (anchor_alone stream open_at (before ++ Arrive path (wire_packet stream anchor packet) ∷ []) place anchor is) (ap (with_epoch (Some anchor)) (by_counting (is_counting before)))
+    arrived : (before : List Event) (path : ℕ) (packet : SentPacket) → ((at : ℤ) → 65536 ≤ next_number stream anchor at) → anchor_of stream open_at (before ++ Arrive path (wire_packet stream anchor packet) ∷ []) ≡ Some anchor → IsNear reach (next_number stream anchor (time_of open_at before)) packet.number → copies_at stream open_at before (Arrive path (wire_packet stream anchor packet)) ≡ with_epoch (Some anchor) (sent_copies_at stream anchor open_at before (Arrives path packet))
+    arrived before path packet high is near = rw is (ap (with_epoch (Some anchor)) (by_counting (is_counting before)))
       where
         by_counting : (b : Bool) → one_copy (b && is_in_time stream anchor (next_number stream anchor (time_of open_at before)) (wire_packet stream anchor packet)) (extended_number (wire_packet stream anchor packet) (next_number stream anchor (time_of open_at before))) (wire_packet stream anchor packet) ≡ one_copy (b && (int_le (pos (next_number stream anchor (time_of open_at before))) packet.number && int_lt packet.number (pos (next_number stream anchor (time_of open_at before) + stream.window)))) (unsigned_abs packet.number) (wire_packet stream anchor packet)
         by_counting false = refl
         by_counting true = counts (next_number stream anchor (time_of open_at before)) packet (high (time_of open_at before)) near
 
-    -- from the anchor on
-    after_base : (before : List Event) (after : List SentEvent) (place : ℕ) → ((at : ℤ) → 65536 ≤ next_number stream anchor at) → anchors_of stream open_at before ≡ (place, anchor) ∷ [] → is_closed before ≡ false → IsWithinReach stream anchor reach (time_of open_at before) after → IsOneEpoch stream open_at (before ++ wire_history stream anchor after) → IsRecovered before after
-    after_base before [] place high is still within one = none_left before
-    after_base before (Arrives path packet ∷ after) place high is still within one =
-        let one' = next_of stream open_at before (Arrive path (wire_packet stream anchor packet)) (wire_history stream anchor after) (IsOneEpoch stream open_at) one in
-        let is' = base_stays before (Arrive path (wire_packet stream anchor packet)) (wire_history stream anchor after) place is one' in
-        recovered_next before (Arrives path packet) after (arrived before path packet place high is' within.0)
-        (after_base (before ++ Arrive path (wire_packet stream anchor packet) ∷ []) after place high is' (open_next stream open_at before (Arrive path (wire_packet stream anchor packet)) still refl) (subst (λ t. IsWithinReach stream anchor reach t after) (sym (time_of-append open_at before (Arrive path (wire_packet stream anchor packet) ∷ []))) within.1) one')
-    after_base before (Ticks u ∷ after) place high is still within one =
-        let one' = next_of stream open_at before (Tick u) (wire_history stream anchor after) (IsOneEpoch stream open_at) one in
+    -- under the anchor, until another epoch opens
+    after_base : (before : List Event) (after : List SentEvent) → ((at : ℤ) → 65536 ≤ next_number stream anchor at) → anchor_of stream open_at before ≡ Some anchor → is_closed before ≡ false → IsWithinReach stream anchor reach (time_of open_at before) after → OpensNoEpoch stream open_at before (wire_history stream anchor after) → IsRecovered before after
+    after_base before [] high is still within none = none_left before
+    after_base before (Arrives path packet ∷ after) high is still within none =
+        let stays = anchor_stays stream open_at before (Arrive path (wire_packet stream anchor packet)) (wire_history stream anchor after) none ∙ is in
+        recovered_next before (Arrives path packet) after (arrived before path packet high stays within.0)
+        (after_base (before ++ Arrive path (wire_packet stream anchor packet) ∷ []) after high stays (open_next stream open_at before (Arrive path (wire_packet stream anchor packet)) still refl) (subst (λ t. IsWithinReach stream anchor reach t after) (sym (time_of-append open_at before (Arrive path (wire_packet stream anchor packet) ∷ []))) within.1) (none_after stream open_at before (Arrive path (wire_packet stream anchor packet)) (wire_history stream anchor after) none))
+    after_base before (Ticks u ∷ after) high is still within none =
         recovered_next before (Ticks u) after refl
-        (after_base (before ++ Tick u ∷ []) after place high (base_stays before (Tick u) (wire_history stream anchor after) place is one') (open_next stream open_at before (Tick u) still refl) (subst (λ t. IsWithinReach stream anchor reach t after) (sym (time_of-append open_at before (Tick u ∷ []))) within) one')
-    after_base before (Closes ∷ after) place high is still within one = recovered_next before Closes after refl (after_close (before ++ Close ∷ []) after (close_shuts stream open_at before))
+        (after_base (before ++ Tick u ∷ []) after high (anchor_stays stream open_at before (Tick u) (wire_history stream anchor after) none ∙ is) (open_next stream open_at before (Tick u) still refl) (subst (λ t. IsWithinReach stream anchor reach t after) (sym (time_of-append open_at before (Tick u ∷ []))) within) (none_after stream open_at before (Tick u) (wire_history stream anchor after) none))
+    after_base before (Closes ∷ after) high is still within none = recovered_next before Closes after refl (after_close (before ++ Close ∷ []) after (close_shuts stream open_at before))
 
     -- up to the anchor, and from there
     before_base : (before : List Event) (after : List SentEvent) → anchors_of stream open_at before ≡ [] → is_closed before ≡ false → arrival_count before ≡ 0 → BeginsWith stream anchor (time_of open_at before) after → IsWithinReach stream anchor reach (time_of open_at before) after → IsOneEpoch stream open_at (before ++ wire_history stream anchor after) → IsRecovered before after
@@ -234,8 +284,9 @@ module _ (stream : Stream) (anchor : Anchor) (open_at : ℤ) where
         let one' = next_of stream open_at before (Arrive path (wire_packet stream anchor packet)) (wire_history stream anchor after) (IsOneEpoch stream open_at) one in
         let is' = base_first before path packet after is still none begins in
         let high = base_high (time_of open_at before) (wire_packet stream anchor packet) begins.1 in
-        recovered_next before (Arrives path packet) after (arrived before path packet (length before) high is' within.0)
-        (after_base (before ++ Arrive path (wire_packet stream anchor packet) ∷ []) after (length before) high is' (open_next stream open_at before (Arrive path (wire_packet stream anchor packet)) still refl) (subst (λ t. IsWithinReach stream anchor reach t after) (sym (time_of-append open_at before (Arrive path (wire_packet stream anchor packet) ∷ []))) within.1) one')
+        let in_force = anchor_alone stream open_at (before ++ Arrive path (wire_packet stream anchor packet) ∷ []) (length before) anchor is' in
+        recovered_next before (Arrives path packet) after (arrived before path packet high in_force within.0)
+        (after_base (before ++ Arrive path (wire_packet stream anchor packet) ∷ []) after high in_force (open_next stream open_at before (Arrive path (wire_packet stream anchor packet)) still refl) (subst (λ t. IsWithinReach stream anchor reach t after) (sym (time_of-append open_at before (Arrive path (wire_packet stream anchor packet) ∷ []))) within.1) (omega (arith, one', ap length is')))
     before_base before (Ticks u ∷ after) is still none begins within one =
         let one' = next_of stream open_at before (Tick u) (wire_history stream anchor after) (IsOneEpoch stream open_at) one in
         let time = sym (time_of-append open_at before (Tick u ∷ [])) in
@@ -258,6 +309,13 @@ module _ (stream : Stream) (anchor : Anchor) (open_at : ℤ) where
 
   pub marks_recovered : IsStream stream → (sent : List SentEvent) → BeginsWith stream anchor open_at sent → IsWithinReach stream anchor 33554432 open_at sent → IsOneEpoch stream open_at (wire_history stream anchor sent) → marks_of stream open_at (wire_history stream anchor sent) ≡ marks_by_number stream anchor open_at sent
   marks_recovered ok = marks_within 33554432 (far_counts stream anchor ok.packet_time ok.narrow)
+
+  -- in every epoch, what is received under its anchor counts under the numbers that it was sent as
+  pub epoch_recovered : IsStream stream → (before : List Event) (sent : List SentEvent) → anchor_of stream open_at before ≡ Some anchor → is_closed before ≡ false → IsWithinReach stream anchor 33554432 (time_of open_at before) sent → OpensNoEpoch stream open_at before (wire_history stream anchor sent) → copies_of_all stream open_at (before ++ wire_history stream anchor sent) ≡ copies_of_all stream open_at before ++ with_epoch (Some anchor) (sent_copies_after stream anchor open_at before sent)
+  unfolding copies_of_all
+  epoch_recovered ok before sent is still within none =
+      at_places-append (copies_at stream open_at) [] before (wire_history stream anchor sent)
+      ∙ ap (λ l. at_places (copies_at stream open_at) [] before ++ l) (after_base 33554432 (far_counts stream anchor ok.packet_time ok.narrow) before sent (next_high stream open_at before anchor is) is still within none)
 
   -- the payload of a number whose packets all have one
   sent_payload : (number : ℕ) (payload : List ℕ) (before : List Event) (after : List SentEvent) → HasEqualCopies number payload after → IfSome (first_with number (sent_copies_after stream anchor open_at before after)) (λ packet. packet.payload.items ≡ payload)

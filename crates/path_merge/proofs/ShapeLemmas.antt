@@ -1,5 +1,5 @@
 -- The marks of an open history are a mark list.
-use Rattle.std.proofs.Common.{◌≡◌, ℕ, zero, suc, ◌+◌, ◌-◌, ◌*◌, ◌<◌, ◌≤◌, max, Bool, true, false, not, ◌&&◌, ◌||◌, List, [], ◌∷◌, ◌++◌, length, Option, Some, None, ◌⊎◌, inl, inr, ℤ, pos, ◌+ℤ◌, ◌-ℤ◌, ◌≤ℤ◌, refl, sym, ap, subst, ◌∙◌, arith, append-nil, if◌then◌else◌}
+use Rattle.std.proofs.Common.{◌≡◌, ℕ, zero, suc, ◌+◌, ◌-◌, ◌*◌, ◌<◌, ◌≤◌, max, Bool, true, false, not, ◌&&◌, ◌||◌, List, [], ◌∷◌, ◌++◌, length, Option, Some, None, ◌⊎◌, inl, inr, ℤ, pos, ◌+ℤ◌, ◌-ℤ◌, ◌≤ℤ◌, ◌<ℤ◌, refl, sym, ap, subst, ◌∙◌, arith, append-nil, if◌then◌else◌}
 use Rattle.std.specs.Prelude.{int_lt, int_le, nat_eq}
 use Rattle.std.proofs.lemmas.Bool.Decides.{nat_tests}
 use Rattle.std.proofs.lemmas.Int.{ints}
@@ -92,11 +92,12 @@ pub record IsBeforeNext (stream : Stream) (a : Anchor) (time : ℤ) (epoch n : �
   pub next : suc n ≡ next_number stream a time
   pub media_is : media ≡ media_time_of stream a n
 
--- the last slot is of the epoch before, and ends before this one, whose own packet is still held
+-- the last slot is of the epoch before, and ends before this one, but not by a window; this one's own packet is still held
 pub record IsEpochBefore (stream : Stream) (a : Anchor) (time : ℤ) (held : ℕ) (epoch : ℕ) (media : ℤ) : Type 0 where
   pub epoch_is : a.epoch ≡ epoch + 1
   pub next : next_number stream a time ≡ a.number
   pub not_back : (media +ℤ pos stream.frames) ≤ℤ a.media
+  pub within : a.media <ℤ (media +ℤ pos stream.frames +ℤ pos (stream.window * stream.frames))
   pub own_held : a.number < held
 
 -- where the last mark stands, of an open history whose copies end here; a Quiet is not past the silence so far
@@ -207,7 +208,7 @@ module _ (stream : Stream) (open_at : ℤ) where
   stands_later o t u held None le same stands = tt
   stands_later None t u held (Some (Slot e n m b)) le same stands = stands
   stands_later (Some a) t u held (Some (Slot e n m b)) le same (inl stands) = inl (record { epoch_is = stands.epoch_is; from_anchor = stands.from_anchor; next = stands.next ∙ sym same; media_is = stands.media_is })
-  stands_later (Some a) t u held (Some (Slot e n m b)) le same (inr stands) = inr (record { epoch_is = stands.epoch_is; next = same ∙ stands.next; not_back = stands.not_back; own_held = stands.own_held })
+  stands_later (Some a) t u held (Some (Slot e n m b)) le same (inr stands) = inr (record { epoch_is = stands.epoch_is; next = same ∙ stands.next; not_back = stands.not_back; within = stands.within; own_held = stands.own_held })
   stands_later None t u held (Some (Quiet q)) le same stands = omega (arith, ints, stands, le)
   stands_later (Some a) t u held (Some (Quiet q)) le same stands = omega (arith, ints, stands, le)
   stands_later None t u held (Some End) le same stands = stands
@@ -264,7 +265,7 @@ module _ (stream : Stream) (open_at : ℤ) where
   stands_held o time held more None le stands = tt
   stands_held None time held more (Some (Slot e n m b)) le stands = stands
   stands_held (Some a) time held more (Some (Slot e n m b)) le (inl stands) = inl stands
-  stands_held (Some a) time held more (Some (Slot e n m b)) le (inr stands) = inr (record { epoch_is = stands.epoch_is; next = stands.next; not_back = stands.not_back; own_held = omega (arith, stands.own_held, le) })
+  stands_held (Some a) time held more (Some (Slot e n m b)) le (inr stands) = inr (record { epoch_is = stands.epoch_is; next = stands.next; not_back = stands.not_back; within = stands.within; own_held = omega (arith, stands.own_held, le) })
   stands_held None time held more (Some (Quiet q)) le stands = stands
   stands_held (Some a) time held more (Some (Quiet q)) le stands = stands
   stands_held None time held more (Some End) le stands = stands
@@ -278,10 +279,12 @@ module _ (stream : Stream) (open_at : ℤ) where
       let copies : end_of_copies (copies_since stream open_at (length events) b (events ++ Arrive path packet ∷ [])) ≡ max (suc b.number) 0 = ap end_of_copies (copies_since-made stream open_at events (Arrive path packet) b ∙ made.follows.own) in
       let next = ap (media_time_of stream a) stands.next in
       let ends = ap (λ z. z +ℤ pos stream.frames) stands.media_is ∙ sym (media_time_of-suc stream a n stands.from_anchor) ∙ next in
+      let least = least_due stream a (time_of open_at events) some in
       inr (record {
         epoch_is = omega (arith, made.next, stands.epoch_is);
         next = next_number-fresh stream b (time_of open_at events) some made.early;
         not_back = omega (arith, ints, ends, made.follows.not_back);
+        within = omega (arith, ints, ends, made.within, least.to_come);
         own_held = omega (arith, copies);
       })
   stands_opened some events path packet (Some (place, a)) b (Some (Slot e n m body)) made (inr stands) = absurd (omega (arith, stands.own_held, stands.next, made.follows.all_given))

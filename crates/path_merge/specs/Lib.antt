@@ -28,4 +28,5 @@ pub mod Steps
 pub mod Next
 pub mod Goal
 pub mod Way
+pub mod KeepUp
 pub mod Run

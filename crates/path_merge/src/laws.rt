@@ -1,5 +1,5 @@
 //! What the definitions promise together. Nothing is computed here: the clauses are the laws.
-ghost use Rattle.std.specs.Prelude.{◌≡◌, ℕ, ◌+◌, ◌^◌, ◌<◌, ◌≤◌, ℤ, pos, ◌+ℤ◌, ◌≤ℤ◌, ◌<ℤ◌, List, [], ◌∷◌, ◌++◌, length, take, true, false, Some, IfSome};
+ghost use Rattle.std.specs.Prelude.{◌≡◌, ℕ, ◌+◌, ◌^◌, ◌<◌, ◌≤◌, ℤ, pos, ◌+ℤ◌, ◌≤ℤ◌, ◌<ℤ◌, List, [], ◌∷◌, ◌++◌, length, take, true, false, None, Some, IfSome};
 ghost use Rattle.std.specs.Int.{int_rem_euclid};
 ghost use Rattle.stream_rules.specs.declared.stream_spec.Stream.{Stream};
 ghost use Rattle.stream_rules.specs.StreamSpecFacts.{IsStream, format_of};
@@ -14,12 +14,15 @@ ghost use Rattle.stream_rules.specs.History.{time_of, is_closed, is_well_timed};
 ghost use Rattle.stream_rules.specs.Anchor.{deadline_of, next_number};
 ghost use Rattle.stream_rules.specs.Grid.{is_on_grid};
 ghost use Rattle.stream_rules.specs.Epochs.{anchor_of, last_of};
-ghost use Rattle.stream_rules.specs.Copies.{copies_of, first_copy};
+ghost use Rattle.stream_rules.specs.Copies.{copies_of, copies_of_all, first_copy, with_epoch};
 ghost use Rattle.stream_rules.specs.Marks.{end_mark, marks_of};
 ghost use Rattle.stream_rules.specs.EpochLaws.{HasSpans};
-ghost use Rattle.stream_rules.specs.Sent.{BeginsWith, HasEqualCopies, IsOneEpoch, IsWithinReach, SentEvent, marks_by_number, timestamp_in_step, wire_history};
+ghost use Rattle.stream_rules.specs.Sent.{BeginsWith, HasEqualCopies, IsOneEpoch, IsWithinReach, OpensNoEpoch, SentEvent, marks_by_number, sent_copies_after, timestamp_in_step, wire_history};
 ghost use Rattle.stream_rules.specs.Counts.{counts_of};
 ghost use Rattle.path_merge.specs.Merge.{HasHistory};
+ghost use Rattle.path_merge.specs.KeepUp.{IsDue, KeepUp};
+ghost use Rattle.path_merge.specs.Clock.{clock_fault_of};
+ghost use Rattle.path_merge.specs.Next.{next_mark};
 ghost use Rattle.path_merge.specs.Steps.{IsAlike};
 ghost use Rattle.stream_rules.specs.Laws.{AreInOrder, IsDeadlineOnTheWay, IsLeastDue, IsOpen, slot_names, slot_times, slots_left, slots_reached};
 
@@ -92,6 +95,17 @@ pub fn marks_are_a_mark_list()
         AreInOrder stream.frames (slot_times (marks_of stream open_at events)) }
 {}
 
+/// The marks of an open history keep up with the clock: every mark's deadline came after the opening time and
+/// not after the last reading; and once a reading is past the opening time, the last mark ends at most the
+/// latency and a window of packets before it. What a merge lends for a reading in order is due by that.
+pub fn marks_keep_up_with_the_clock()
+    ensures history { (stream : Stream) (open_at : ℤ) (events : List Event) → 0 < stream.frames → IsOpen open_at events →
+        KeepUp stream open_at (time_of open_at events) (marks_of stream open_at events) }
+    ensures lent { (stream : Stream) (open_at now : ℤ) (merge : MergeState) (events : List Event) (k : ℕ) (mark : MarkView) →
+        0 < stream.frames → HasHistory stream open_at merge events k → clock_fault_of merge.time merge.closed now ≡ None →
+        next_mark merge now ≡ Some mark → IsDue stream open_at now mark.kind }
+{}
+
 /// After a close nothing more is handed on, whatever comes: the last mark is the end.
 pub fn nothing_follows_a_close()
     ensures same { (stream : Stream) (open_at : ℤ) (events more : List Event) → is_closed events ≡ true →
@@ -136,6 +150,18 @@ pub fn sent_numbers_are_recovered()
         IsStream stream → BeginsWith stream anchor open_at sent → IsWithinReach stream anchor (2 ^ 25) open_at sent →
         IsOneEpoch stream open_at (wire_history stream anchor sent) → HasEqualCopies number payload sent →
         IfSome (first_copy stream open_at (wire_history stream anchor sent) number) (λ packet. packet.payload.items ≡ payload) }
+{}
+
+/// The same in every epoch, whatever came before: until another epoch opens, packets under an epoch's anchor, whose
+/// numbers lie from 2^25 below the one due next to just below 2^25 above it, are copies of the numbers that they were
+/// sent as.
+pub fn each_epoch_recovers_its_numbers()
+    ensures { (stream : Stream) (anchor : Anchor) (open_at : ℤ) (before : List Event) (sent : List SentEvent) →
+        IsStream stream → anchor_of stream open_at before ≡ Some anchor → is_closed before ≡ false →
+        IsWithinReach stream anchor (2 ^ 25) (time_of open_at before) sent →
+        OpensNoEpoch stream open_at before (wire_history stream anchor sent) →
+        copies_of_all stream open_at (before ++ wire_history stream anchor sent)
+        ≡ copies_of_all stream open_at before ++ with_epoch (Some anchor) (sent_copies_after stream anchor open_at before sent) }
 {}
 
 /// Where each number lies from 2^15 below the one due next to just below 2^15 above it, the received
