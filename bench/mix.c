@@ -3,6 +3,7 @@
 // Each form is written as one would write it for the compiler to put into vectors:
 //   rows   one output after another, the inputs side by side
 //   four   four outputs at a time, the inputs side by side
+//   eight  eight outputs at a time, the inputs side by side
 //   lanes  the outputs side by side, by gains that stand column by column
 // Prints for each form and shape: form, outputs, inputs, frames a second, a sum of the outputs.
 #include <stdint.h>
@@ -56,6 +57,33 @@ __attribute__((noinline)) static void four(const int32_t *restrict gains, const 
   }
 }
 
+__attribute__((noinline)) static void eight(const int32_t *restrict gains, const int32_t (*restrict columns)[LANES],
+                                            const int32_t *restrict in, int32_t *restrict out, size_t outs, size_t ins) {
+  (void)columns;
+  for (size_t f = 0; f < FRAMES; f++) {
+    const int32_t *restrict x = in + f * ins;
+    size_t o = 0;
+    for (; o + 8 <= outs; o += 8) {
+      const int32_t *restrict g = gains + o * ins;
+      int64_t s0 = 0, s1 = 0, s2 = 0, s3 = 0, s4 = 0, s5 = 0, s6 = 0, s7 = 0;
+      for (size_t i = 0; i < ins; i++) {
+        int64_t v = x[i];
+        s0 += g[i] * v;
+        s1 += g[ins + i] * v;
+        s2 += g[2 * ins + i] * v;
+        s3 += g[3 * ins + i] * v;
+        s4 += g[4 * ins + i] * v;
+        s5 += g[5 * ins + i] * v;
+        s6 += g[6 * ins + i] * v;
+        s7 += g[7 * ins + i] * v;
+      }
+      int64_t sums[8] = {s0, s1, s2, s3, s4, s5, s6, s7};
+      for (size_t k = 0; k < 8; k++) out[f * outs + o + k] = rounded(sums[k]);
+    }
+    for (; o < outs; o++) out[f * outs + o] = rounded(weighted(gains + o * ins, x, ins));
+  }
+}
+
 __attribute__((noinline)) static void lanes(const int32_t *restrict gains, const int32_t (*restrict columns)[LANES],
                                             const int32_t *restrict in, int32_t *restrict out, size_t outs, size_t ins) {
   (void)gains;
@@ -89,7 +117,7 @@ int main(void) {
   static const struct {
     const char *name;
     void (*mix)(const int32_t *, const int32_t (*)[LANES], const int32_t *, int32_t *, size_t, size_t);
-  } forms[] = {{"rows", rows}, {"four", four}, {"lanes", lanes}};
+  } forms[] = {{"rows", rows}, {"four", four}, {"eight", eight}, {"lanes", lanes}};
   for (size_t k = 0; k < sizeof forms / sizeof *forms; k++)
     for (size_t s = 0; s < sizeof shapes / sizeof *shapes; s++) {
       size_t outs = shapes[s][0], ins = shapes[s][1];

@@ -1,10 +1,13 @@
 -- Frames that stand one after another, and a frame that is written among them.
-use Rattle.std.proofs.Common.{◌≡◌, ℕ, ◌+◌, ◌*◌, ◌<◌, ◌≤◌, ℤ, pos, List, [], Some, get_or, set, length, take, drop, arith, sym, ap, ◌∙◌, below_more}
+use Rattle.std.proofs.Common.{◌≡◌, ℕ, ◌+◌, ◌*◌, ◌<◌, ◌≤◌, ℤ, pos, List, [], Some, get_or, set, length, take, drop, arith, refl, sym, ap, ◌∙◌, below_more}
 use Rattle.std.proofs.lemmas.List.{drop-take, drop_at, length-take-le, length-map, length-set, get_or-set_same, get_or-map, take_more_same, take-set, take_all}
 use Rattle.std.proofs.lemmas.Option.{get_or_from_slice_get}
 use Rattle.std.specs.List.{slice_get}
 use Rattle.std.proofs.lemmas.Slice.{take-put_mid_below, take-put_mid}
 use borrow.Rule.Slice.PartMut.{put_mid}
+use Rattle.gain_mix.specs.declared.four.FourRows.{FourRows}
+use Rattle.gain_mix.specs.declared.four.FourSums.{FourSums}
+use Rattle.gain_mix.specs.Four.{AreRowsAt, AreWeighted, sample_of, with_four}
 use Rattle.gain_mix.specs.Gain.{ins_of}
 use Rattle.gain_mix.specs.Mix.{frame_at, mixed_frame, output_sample, IsMixed, HasMixed}
 use Rattle.gain_mix.proofs.RowLemmas.{row_end}
@@ -51,6 +54,15 @@ HasMixed-more rows values s i j samples row y before next h at is =
       count = length-set samples i y ∙ before.count;
       so_far = rw next (take_more_same (set samples i y) mixed i (pos 0) in_set in_mixed (take-set samples i y ∙ before.so_far) fits);
     }
+
+-- four samples more
+pub HasMixed-four : (matrix : List (List ℤ)) (values : List ℤ) (s i : ℕ) (samples : List ℤ) (rows : FourRows) (sums : FourSums) → i + 4 ≤ length matrix → AreRowsAt matrix i rows → AreWeighted rows values sums → HasMixed matrix values s i samples → HasMixed matrix values s (i + 4) (with_four s sums i samples)
+HasMixed-four matrix values s i samples rows sums within at weighted before =
+    let f = sample_of s in
+    let one = HasMixed-more matrix values s i (i + 1) samples rows.first.now (f sums.first) before refl (omega arith) at.first (ap f weighted.first.sum_is) in
+    let two = HasMixed-more matrix values s (i + 1) (i + 2) _ rows.second.now (f sums.second) one (omega arith) (omega arith) at.second (ap f weighted.second.sum_is) in
+    let three = HasMixed-more matrix values s (i + 2) (i + 3) _ rows.third.now (f sums.third) two (omega arith) (omega arith) at.third (ap f weighted.third.sum_is) in
+    HasMixed-more matrix values s (i + 3) (i + 4) _ rows.fourth.now (f sums.fourth) three (omega arith) (omega arith) at.fourth (ap f weighted.fourth.sum_is)
 
 -- no sample is left
 pub HasMixed-whole : (rows : List (List ℤ)) (values : List ℤ) (s n : ℕ) (samples : List ℤ) → HasMixed rows values s n samples → length samples ≤ n → samples ≡ mixed_frame rows values s

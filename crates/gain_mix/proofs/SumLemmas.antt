@@ -5,6 +5,7 @@ use Rattle.std.proofs.lemmas.Int.{ints, unsigned_abs-mul, to_z-of_z, fits_signed
 use Rattle.std.proofs.lemmas.List.{take_all}
 use Rattle.std.proofs.Math.Nat.{mul-le-mul_left, mul-le-mul_right}
 use Rattle.std.proofs.lemmas.List.Elements.{All-get_or}
+use Rattle.gain_mix.specs.Four.{IsSumTo}
 use Rattle.gain_mix.specs.Gain.{IsGain, IsRow}
 use Rattle.gain_mix.specs.Mix.{Is24Bits, IsWeighted, weighted_sum, rounded_sum, saturated_sum, output_sample}
 
@@ -33,11 +34,7 @@ pub unsigned_abs-product : (g x : ℤ) → IsGain g → Is24Bits x → unsigned_
 unsigned_abs-product g x h k =
     rw (unsigned_abs-mul g x) (product_bound 1048576 8388608 (unsigned_abs g) (unsigned_abs x) h (Is24Bits-bound x k))
 
--- one input more: its product, the sum, and how large both are
-pub record IsSumTo (gs xs : List ℤ) (i : ℕ) (sum : ℤ) : Type 0 where
-  pub sum_is : sum ≡ weighted_sum (take i gs) (take i xs)
-  pub bounded : unsigned_abs sum ≤ i * 8796093022208
-
+-- the sum and its bound, with one input more
 pub IsSumTo-more : (gs xs : List ℤ) (i : ℕ) (sum : ℤ) → All IsGain gs → All Is24Bits xs → i < length gs → i < length xs → IsSumTo gs xs i sum → IsSumTo gs xs (i + 1) (sum +ℤ (get_or gs i (pos 0) *ℤ get_or xs i (pos 0)))
 IsSumTo-more gs xs i sum gains values h k s =
     let g = get_or gs i (pos 0) in
@@ -49,7 +46,7 @@ IsSumTo-more gs xs i sum gains values h k s =
     }
 
 -- the same, where the numbers are those of the code
-pub IsSumTo-step : (gs xs : List ℤ) (i : ℕ) (sum r : ℤ) → IsRow (length xs) gs → All Is24Bits xs → i < length xs → FitsSigned w64 r → r ≡ sum +ℤ (to_z w32 (of_z w32 (get_or gs i (pos 0))) *ℤ to_z w32 (of_z w32 (get_or xs i (pos 0)))) → IsSumTo gs xs i sum → IsSumTo gs xs (i + 1) (to_z w64 (of_z w64 r))
+pub IsSumTo-step : (gs xs : List ℤ) (i : ℕ) (sum r : ℤ) → IsRow (length xs) gs → All Is24Bits xs → i < length xs → FitsSigned w64 r → r ≡ sum +ℤ (to_z w64 (of_z w64 (get_or gs i (pos 0))) *ℤ to_z w32 (of_z w32 (get_or xs i (pos 0)))) → IsSumTo gs xs i sum → IsSumTo gs xs (i + 1) (to_z w64 (of_z w64 r))
 IsSumTo-step gs xs i sum r row values h fits e s =
     let g = get_or gs i (pos 0) in
     let x = get_or xs i (pos 0) in
@@ -57,10 +54,18 @@ IsSumTo-step gs xs i sum r row values h fits e s =
     let in_row : i < length gs = omega arith in
     let gain_bound = All-get_or IsGain gs i (pos 0) in_row row.in_range in
     let value_bound = Is24Bits-bound x (All-get_or Is24Bits xs i (pos 0) h values) in
-    let gain_fits : FitsSigned w32 g = fits_signed_from_abs w32 g (omega (arith, gain_bound)) in
+    let gain_fits : FitsSigned w64 g = fits_signed_from_abs w64 g (omega (arith, gain_bound)) in
     let value_fits : FitsSigned w32 x = fits_signed_from_abs w32 x (omega (arith, value_bound)) in
     let exact : r ≡ sum +ℤ (g *ℤ x) = simp to_z-of_z at e in
     rw (to_z-of_z w64 r fits, exact) (IsSumTo-more gs xs i sum row.in_range values in_row h s)
+
+-- the same, where the sum was stored
+pub IsSumTo-next : (gs xs : List ℤ) (i : ℕ) (sum r : ℤ) → IsRow (length xs) gs → length xs ≤ 1024 → All Is24Bits xs → i < length xs → FitsSigned w64 r → r ≡ to_z w64 (of_z w64 sum) +ℤ (to_z w64 (of_z w64 (get_or gs i (pos 0))) *ℤ to_z w32 (of_z w32 (get_or xs i (pos 0)))) → IsSumTo gs xs i sum → IsSumTo gs xs (i + 1) (to_z w64 (of_z w64 r))
+IsSumTo-next gs xs i sum r row few values h fits e s =
+    let product = to_z w64 (of_z w64 (get_or gs i (pos 0))) *ℤ to_z w32 (of_z w32 (get_or xs i (pos 0))) in
+    let bound = s.bounded in
+    let stored : FitsSigned w64 sum = fits_signed_from_abs w64 sum (omega arith) in
+    IsSumTo-step gs xs i sum r row values h fits (e ∙ ap (λ (z : ℤ). z +ℤ product) (to_z-of_z w64 sum stored)) s
 
 -- all inputs are in
 pub IsSumTo-whole : (gs xs : List ℤ) (sum : ℤ) → IsRow (length xs) gs → length xs ≤ 1024 → IsSumTo gs xs (length xs) sum → IsWeighted gs xs sum

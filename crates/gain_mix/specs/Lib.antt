@@ -1,4 +1,5 @@
 pub mod Changes
+pub mod Four
 pub mod Gain
 pub mod Matrix
 pub mod Mix

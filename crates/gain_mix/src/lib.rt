@@ -8,6 +8,7 @@
 //! frame; the shift is 16 for outputs of 24 bits and 24 for outputs of 16. The caller keeps both slices.
 #![tactic(auto)]
 
+mod four;
 mod matrix;
 mod mix;
 mod schedule;

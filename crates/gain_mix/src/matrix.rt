@@ -1,9 +1,11 @@
 //! The matrix of gains: one row for each output, one gain in it for each input.
-ghost use Rattle.std.specs.Prelude.{◌≡◌, ◌*◌, ◌<◌, ◌≤◌, length, All, IfSome, IfNone, MatchResult, slice_get};
+ghost use Rattle.std.specs.Prelude.{◌≡◌, ◌+◌, ◌*◌, ◌<◌, ◌≤◌, length, All, IfOk, IfSome, IfNone, MatchResult, slice_get};
+ghost use Rattle.gain_mix.specs.Four.{AreRows, AreRowsAt};
 ghost use Rattle.gain_mix.specs.Gain.{IsGain, IsRow, ins_of, rows_of};
 ghost use Rattle.gain_mix.specs.Matrix.{matrix_fault_of, has_shape, has_range};
 
-use std::alloc::Global;
+use crate::four::FourRows;
+use std::alloc::{AllocError, Global};
 use std::marker::Model;
 use thiserror::Error;
 
@@ -27,17 +29,20 @@ pub struct Matrix {
     outs: usize,
     ins: usize,
     gains: Vec<i32>,
+    /// The same gains in the width of sums, so that no product has to widen one.
+    wide: Vec<i64>,
 }
 
 impl Model for Matrix {
     ghost use Rattle.std.specs.Prelude.{List, ℤ};
+    ghost use Rattle.std.specs.Prelude.{◌≡◌};
     ghost use Rattle.gain_mix.specs.Gain.{IsMatrix, rows_of};
 
     ghost Value = { List (List ℤ) };
 
     ghost view = { λ m. rows_of m.ins m.outs m.gains.items };
 
-    ghost invariant = { λ m. IsMatrix m.outs m.ins m.gains.items };
+    ghost invariant = { λ m. IsMatrix m.outs m.ins m.gains.items × (m.wide.items ≡ m.gains.items) };
 }
 
 impl Matrix {
@@ -50,8 +55,14 @@ impl Matrix {
         if let Some(fault) = fault_of(outs, ins, gains) {
             return Err(fault);
         }
+        let wide = wide_gains(alloc, gains).map_err(|_| MatrixFault::Memory)?;
         let gains = Vec::from_slice(alloc, gains).map_err(|_| MatrixFault::Memory)?;
-        Ok(Matrix { outs, ins, gains })
+        Ok(Matrix {
+            outs,
+            ins,
+            gains,
+            wide,
+        })
     }
 
     /// How many outputs there are.
@@ -86,15 +97,42 @@ impl Matrix {
     }
 
     /// The gains of one output.
-    pub(crate) fn row(&self, output: usize) -> &[i32]
+    pub(crate) fn row(&self, output: usize) -> &[i64]
         requires { output < length self.now }
         ensures row { slice_get self.now output ≡ Some result.now }
         ensures gains { IsRow (ins_of self.now) result.now }
         ensures few { ins_of self.now ≤ 1024 }
+        ensures few_outs { length self.now ≤ 8 }
     {
         let start = output * self.ins;
-        &self.gains[start..start + self.ins]
+        &self.wide[start..start + self.ins]
     }
+
+    /// The gains of four outputs, from one on.
+    pub(crate) fn four_rows(&self, output: usize) -> FourRows<'_>
+        requires { output + 4 ≤ length self.now }
+        ensures rows { AreRows (ins_of self.now) result }
+        ensures at { AreRowsAt self.now output result }
+        ensures few { ins_of self.now ≤ 1024 }
+    {
+        FourRows {
+            first: self.row(output),
+            second: self.row(output + 1),
+            third: self.row(output + 2),
+            fourth: self.row(output + 3),
+        }
+    }
+}
+
+/// The same gains in 64 bits.
+fn wide_gains(alloc: Global, gains: &[i32]) -> Result<Vec<i64>, AllocError>
+    ensures { IfOk result (λ wide. wide.items ≡ gains.now) }
+{
+    let mut wide = Vec::with_capacity(alloc, gains.len())?;
+    for gain in gains {
+        wide.push(i64::from(*gain))?;
+    }
+    Ok(wide)
 }
 
 /// The first fault of these gains, memory aside.

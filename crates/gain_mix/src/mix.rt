@@ -1,24 +1,27 @@
 //! Output samples: gains times inputs, rounded half up and saturated once.
 ghost use Rattle.std.specs.Prelude.{◌≡◌, ℤ, pos, true, ◌<◌, ◌≤◌, ◌+◌, ◌*◌, ◌^◌, ◌⊎◌, ◌+ℤ◌, ◌*ℤ◌, length, All};
 ghost use Rattle.std.specs.Int.RustNames.{unsigned_abs};
+ghost use Rattle.gain_mix.specs.Four.{AreRows, AreSumsTo, AreWeighted, AreBounded, with_four};
 ghost use Rattle.gain_mix.specs.Gain.{IsGain, IsRow, ins_of};
 ghost use Rattle.gain_mix.specs.Mix.{Is24Bits, IsWeighted, HasMixed, rounded_sum, saturated_sum, mixed_frame, IsMixed};
 
+use crate::four::{FourRows, FourSums};
 use crate::matrix::Matrix;
 
-/// The sum with one input more.
+/// The sum with one input more. The casts say that both factors have 32 bits: of such a product
+/// processors have many side by side, of one of 64 bits not.
 #[inline(always)]
-fn add_input(sum: i64, gain: i32, value: i32) -> i64
+fn add_input(sum: i64, gain: i64, value: i32) -> i64
     requires bounded { unsigned_abs sum ≤ 2 ^ 53 }
     requires in_range { IsGain gain }
     requires in_24_bits { Is24Bits value }
     ensures { result ≡ sum +ℤ (gain *ℤ value) }
 {
-    sum + i64::from(gain) * i64::from(value)
+    sum + i64::from(gain as i32) * i64::from(value)
 }
 
 /// The sum over all inputs of gain times value.
-fn weigh(gains: &[i32], values: &[i32]) -> i64
+fn weigh(gains: &[i64], values: &[i32]) -> i64
     requires row { IsRow (length values.now) gains.now }
     requires few { length values.now ≤ 1024 }
     requires in_24_bits { All Is24Bits values.now }
@@ -32,36 +35,54 @@ fn weigh(gains: &[i32], values: &[i32]) -> i64
 }
 
 /// The sums of four outputs, by one pass over the inputs.
-fn weigh_four(
-    first: &[i32],
-    second: &[i32],
-    third: &[i32],
-    fourth: &[i32],
-    values: &[i32],
-) -> (i64, i64, i64, i64)
-    requires first { IsRow (length values.now) first.now }
-    requires second { IsRow (length values.now) second.now }
-    requires third { IsRow (length values.now) third.now }
-    requires fourth { IsRow (length values.now) fourth.now }
+fn weigh_four(rows: &FourRows<'_>, values: &[i32]) -> FourSums
+    requires rows { AreRows (length values.now) rows.now }
     requires few { length values.now ≤ 1024 }
     requires in_24_bits { All Is24Bits values.now }
-    ensures first { IsWeighted first.now values.now result.0 }
-    ensures second { IsWeighted second.now values.now result.1 }
-    ensures third { IsWeighted third.now values.now result.2 }
-    ensures fourth { IsWeighted fourth.now values.now result.3 }
+    ensures { AreWeighted rows.now values.now result }
 {
-    let mut a: i64 = 0;
-    let mut b: i64 = 0;
-    let mut c: i64 = 0;
-    let mut d: i64 = 0;
-    for i in 0..values.len() {
-        let value = values[i];
-        a = add_input(a, first[i], value);
-        b = add_input(b, second[i], value);
-        c = add_input(c, third[i], value);
-        d = add_input(d, fourth[i], value);
+    let mut sums = FourSums::NONE;
+    for input in 0..values.len() {
+        sums = add_to_four(sums, rows, input, values);
     }
-    (a, b, c, d)
+    sums
+}
+
+/// The sums of eight outputs, by one pass over the inputs.
+fn weigh_eight(low: &FourRows<'_>, high: &FourRows<'_>, values: &[i32]) -> (FourSums, FourSums)
+    requires low { AreRows (length values.now) low.now }
+    requires high { AreRows (length values.now) high.now }
+    requires few { length values.now ≤ 1024 }
+    requires in_24_bits { All Is24Bits values.now }
+    ensures low { AreWeighted low.now values.now result.0 }
+    ensures high { AreWeighted high.now values.now result.1 }
+{
+    let mut low_sums = FourSums::NONE;
+    let mut high_sums = FourSums::NONE;
+    for input in 0..values.len() {
+        low_sums = add_to_four(low_sums, low, input, values);
+        high_sums = add_to_four(high_sums, high, input, values);
+    }
+    (low_sums, high_sums)
+}
+
+/// The sums of four outputs with one input more.
+#[inline(always)]
+fn add_to_four(sums: FourSums, rows: &FourRows<'_>, input: usize, values: &[i32]) -> FourSums
+    requires rows { AreRows (length values.now) rows.now }
+    requires within { input < length values.now }
+    requires few { length values.now ≤ 1024 }
+    requires in_24_bits { All Is24Bits values.now }
+    requires so_far { AreSumsTo rows.now values.now input sums }
+    ensures { AreSumsTo rows.now values.now (input + 1) result }
+{
+    let value = values[input];
+    FourSums {
+        first: add_input(sums.first, rows.first[input], value),
+        second: add_input(sums.second, rows.second[input], value),
+        third: add_input(sums.third, rows.third[input], value),
+        fourth: add_input(sums.fourth, rows.fourth[input], value),
+    }
 }
 
 /// The sum in output samples: rounded half up, then saturated.
@@ -96,6 +117,10 @@ pub fn mix_frame(matrix: &Matrix, ins: &[i32], outs: &mut [i32], shift: u32)
 {
     let count = outs.len();
     let mut output = 0;
+    while 8 <= count - output {
+        mix_eight(matrix, ins, outs, output, shift);
+        output += 8;
+    }
     while 4 <= count - output {
         mix_four(matrix, ins, outs, output, shift);
         output += 4;
@@ -104,6 +129,22 @@ pub fn mix_frame(matrix: &Matrix, ins: &[i32], outs: &mut [i32], shift: u32)
         mix_one(matrix, ins, outs, output, shift);
         output += 1;
     }
+}
+
+/// Mixes eight outputs from `output` on, where those before it are mixed.
+fn mix_eight(matrix: &Matrix, ins: &[i32], outs: &mut [i32], output: usize, shift: u32)
+    requires ins_len { length ins.now ≡ ins_of matrix.now }
+    requires within { output + 8 ≤ length matrix.now }
+    requires in_24_bits { All Is24Bits ins.now }
+    requires shift { (shift ≡ 16) ⊎ (shift ≡ 24) }
+    requires before { HasMixed matrix.now ins.now shift output outs.old }
+    ensures { HasMixed matrix.now ins.now shift (output + 8) outs.new }
+{
+    let low = matrix.four_rows(output);
+    let high = matrix.four_rows(output + 4);
+    let (low_sums, high_sums) = weigh_eight(&low, &high, ins);
+    put_four(low_sums, outs, output, shift);
+    put_four(high_sums, outs, output + 4, shift);
 }
 
 /// Mixes four outputs from `output` on, where those before it are mixed.
@@ -115,15 +156,22 @@ fn mix_four(matrix: &Matrix, ins: &[i32], outs: &mut [i32], output: usize, shift
     requires before { HasMixed matrix.now ins.now shift output outs.old }
     ensures { HasMixed matrix.now ins.now shift (output + 4) outs.new }
 {
-    let first = matrix.row(output);
-    let second = matrix.row(output + 1);
-    let third = matrix.row(output + 2);
-    let fourth = matrix.row(output + 3);
-    let (a, b, c, d) = weigh_four(first, second, third, fourth, ins);
-    outs[output] = round(a, shift);
-    outs[output + 1] = round(b, shift);
-    outs[output + 2] = round(c, shift);
-    outs[output + 3] = round(d, shift);
+    let rows = matrix.four_rows(output);
+    put_four(weigh_four(&rows, ins), outs, output, shift);
+}
+
+/// Puts the samples of four sums in their places, from `output` on.
+#[inline(always)]
+fn put_four(sums: FourSums, outs: &mut [i32], output: usize, shift: u32)
+    requires within { output + 4 ≤ length outs.old }
+    requires bounded { AreBounded sums }
+    requires shift { (shift ≡ 16) ⊎ (shift ≡ 24) }
+    ensures { outs.new ≡ with_four shift sums output outs.old }
+{
+    outs[output] = round(sums.first, shift);
+    outs[output + 1] = round(sums.second, shift);
+    outs[output + 2] = round(sums.third, shift);
+    outs[output + 3] = round(sums.fourth, shift);
 }
 
 /// Mixes one output, where those before it are mixed.

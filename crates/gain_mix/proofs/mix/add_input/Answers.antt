@@ -1,4 +1,4 @@
-use Rattle.std.proofs.Common.{arith, ◌≡◌, ◌+ℤ◌, ◌*ℤ◌, ◌∙◌, FitsSigned, w32, w64}
+use Rattle.std.proofs.Common.{arith, ap, ◌≡◌, ◌+ℤ◌, ◌*ℤ◌, ◌∙◌, ℤ, FitsSigned, to_z, of_z, w32, w64}
 use Rattle.std.proofs.lemmas.Int.{to_z-of_z, fits_signed_from_abs}
 use Rattle.gain_mix.proofs.SumLemmas.{unsigned_abs-product, unsigned_abs-add, Is24Bits-bound}
 use Rattle.gain_mix.proofs.mix.add_input.Goals as goal
@@ -11,10 +11,11 @@ returns c =
     let p = unsigned_abs-product g x c.requires.in_range c.requires.in_24_bits in
     let t = unsigned_abs-add s (g *ℤ x) in
     let sum_fits : FitsSigned w64 s = c.ranges.sum in
+    let narrow : FitsSigned w32 g = fits_signed_from_abs w32 g (omega (arith, c.requires.in_range)) in
     let gain_fits : FitsSigned w64 g = fits_signed_from_abs w64 g (omega (arith, c.requires.in_range)) in
     let value_fits : FitsSigned w64 x = fits_signed_from_abs w64 x (omega (arith, Is24Bits-bound x c.requires.in_24_bits)) in
     let product_fits : FitsSigned w64 (g *ℤ x) = fits_signed_from_abs w64 (g *ℤ x) (omega arith) in
     let all_fits : FitsSigned w64 (s +ℤ (g *ℤ x)) = fits_signed_from_abs w64 (s +ℤ (g *ℤ x)) (omega arith) in
-    let a : c.from.result ≡ g = c.from.ensures ∙ to_z-of_z w32 g c.ranges.gain in
+    let a : c.from.result ≡ g = c.from.ensures ∙ ap (λ (z : ℤ). to_z w32 (of_z w32 z)) (to_z-of_z w64 g c.ranges.gain) ∙ to_z-of_z w32 g narrow in
     let b : c.from-2.result ≡ x = c.from-2.ensures ∙ to_z-of_z w32 x c.ranges.value in
     rw (a, b) (simp to_z-of_z)

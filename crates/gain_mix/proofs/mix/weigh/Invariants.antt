@@ -1,4 +1,4 @@
-use Rattle.gain_mix.proofs.SumLemmas.{IsSumTo}
+use Rattle.gain_mix.specs.Four.{IsSumTo}
 use Rattle.gain_mix.proofs.mix.weigh.Given as goal
 
 abbrev pub invariant-loop-input : goal.invariant-loop-input
