@@ -1,4 +1,5 @@
 pub mod BufferLemmas
+pub mod CommonLineLemmas
 pub mod CountedListingLemmas
 pub mod DecimalLemmas
 pub mod DigitLemmas

@@ -104,8 +104,6 @@ fn decoded<'a>(digits: &[u8], room: &'a mut DatagramRoom) -> &'a [u8]
     requires good { IsSome (octets_of digits.now) }
     ensures { result.now ≡ octets_by digits.now }
 {
-    let Some(length) = decode_octets(digits, room) else {
-        unreachable!()
-    };
+    let length = decode_octets(digits, room);
     &room[..length]
 }
