@@ -117,6 +117,14 @@ impl Mixer {
         &self.output
     }
 
+    /// The media time at which the next block ends.
+    pub fn block_end(&self) -> i64
+        ensures { (studio : Studio) (feeds : List Feed) (number : ℕ)
+            → HasFeeds studio self.now feeds number → result ≡ block_start studio.output (number + 1) }
+    {
+        self.time + i64::from(self.output.frames())
+    }
+
     /// Whether the next block needs more marks of a stream.
     pub fn wants(&self, stream: usize) -> bool
         requires { stream < length self.now.lanes }

@@ -15,7 +15,7 @@ use Rattle.studio_mix.specs.Feed.{Feed, AreLonger, IsLonger}
 use Rattle.studio_mix.specs.Mixer.{MixerState}
 use Rattle.studio_mix.proofs.LawLemmas.{ready_longer, ready_covered, datagram_longer}
 use Rattle.studio_session.specs.Handed.{AreHanded, HaveTaken}
-use Rattle.studio_session.specs.Play.{HasPlayed, IsRunnableBy, feeds_of, stream_marks}
+use Rattle.studio_session.specs.Play.{HasPlayed, IsGiven, IsRunnableBy, feeds_of, stream_marks}
 use Rattle.studio_session.proofs.PlayLemmas.{stream_at}
 use Rattle.studio_session.proofs.SessionLemmas.{length_whole, whole_at}
 use Rattle.stream_rules.specs.declared.stream_spec.Stream.{Stream}
@@ -65,6 +65,26 @@ first_longer marks some all is longer =
     let within : k ≤ length some = omega (arith, n) in
     is ∙ ap (take k) (sym longer) ∙ take-take k (length some) all within
 
+-- the marks that one stream gave are the first of all with an event more
+pub given_handed : (studio : Studio) (events : List TraceEvent) (event : TraceEvent) (mixer : MixerState) (first cursors : List CursorState) (next : ℕ)
+    → IsRunnableBy studio (events ++ event ∷ []) → HaveTaken events first → AreHanded event first cursors (length first)
+    → (played : HasPlayed studio events (record { mixer = mixer; cursors = first }) next)
+    → (i : ℕ) (cursor : CursorState) (feed : Feed) → slice_get cursors i ≡ Some cursor → slice_get played.feeds i ≡ Some feed → IsGiven i studio.open_at (events ++ event ∷ []) cursor feed
+given_handed studio events event mixer first cursors next run taken handed played i cursor feed c_is f_is =
+    let within : i < length cursors = slice_get_within cursors i cursor c_is in
+    let long = handed.length_is in
+    let here : i < length first = omega (arith, within, long) in
+    let old = get_or first i cursor in
+    let o_is : slice_get first i ≡ Some old = slice_get-get_or first i cursor here in
+    let one = handed.each i old cursor here o_is c_is in
+    let before = played.given i old feed o_is f_is in
+    let runs : IsRunnable feed.stream i studio.open_at (events ++ event ∷ []) = run.each i feed.stream (stream_at studio mixer played.feeds next i feed played.fed f_is) in
+    record {
+      pulled = one.stands feed.stream studio.open_at events (length feed.marks) runs (taken i cursor here) before.pulled;
+      first = first_longer feed.marks (stream_marks feed.stream i studio.open_at events) (stream_marks feed.stream i studio.open_at (events ++ event ∷ [])) before.first
+          (marks_longer feed.stream i studio.open_at events (event ∷ []) runs);
+    }
+
 -- what was played of a list of events was played of one with an event more
 pub played_handed : (studio : Studio) (events : List TraceEvent) (event : TraceEvent) (mixer : MixerState) (first cursors : List CursorState) (next : ℕ)
     → IsRunnableBy studio (events ++ event ∷ []) → HaveTaken events first → AreHanded event first cursors (length first)
@@ -74,20 +94,7 @@ played_handed studio events event mixer first cursors next run taken handed play
   feeds = played.feeds;
   fed = played.fed;
   count = handed.length_is ∙ played.count;
-  given = λ i cursor feed c_is f_is.
-      let within : i < length cursors = slice_get_within cursors i cursor c_is in
-      let long = handed.length_is in
-      let here : i < length first = omega (arith, within, long) in
-      let old = get_or first i cursor in
-      let o_is : slice_get first i ≡ Some old = slice_get-get_or first i cursor here in
-      let one = handed.each i old cursor here o_is c_is in
-      let before = played.given i old feed o_is f_is in
-      let runs : IsRunnable feed.stream i studio.open_at (events ++ event ∷ []) = run.each i feed.stream (stream_at studio mixer played.feeds next i feed played.fed f_is) in
-      record {
-        pulled = one.stands feed.stream studio.open_at events (length feed.marks) runs (taken i cursor here) before.pulled;
-        first = first_longer feed.marks (stream_marks feed.stream i studio.open_at events) (stream_marks feed.stream i studio.open_at (events ++ event ∷ [])) before.first
-            (marks_longer feed.stream i studio.open_at events (event ∷ []) runs);
-      };
+  given = given_handed studio events event mixer first cursors next run taken handed played;
 }
 
 -- and each cursor took all of them

@@ -5,6 +5,7 @@ pub mod Fault
 pub mod Way
 pub mod Cursor
 pub mod Handed
+pub mod Receipt
 pub mod Play
 pub mod Run
 pub mod Report
@@ -31,4 +32,5 @@ pub use Rattle.studio_mix.specs.Output
 pub use Rattle.mix_packets.specs.Packer
 pub use Rattle.stream_rules.specs.Reception
 pub use Rattle.stream_rules.specs.PathCounts
+pub use Rattle.stream_rules.specs.Fate
 pub use Rattle.studio_mix.specs.Blocks

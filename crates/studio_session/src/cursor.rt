@@ -1,11 +1,12 @@
 //! One stream of a run: its merge, and how far it has come in the events.
-ghost use Rattle.std.specs.Prelude.{◌≡◌, ℕ, ◌+◌, ◌<◌, ◌≤◌, ◌^◌, ◌++◌, List, ℤ, pos, ◌≤ℤ◌, length, slice_get, true, false, None, Some, IfOk};
+ghost use Rattle.std.specs.Prelude.{◌≡◌, ℕ, ◌+◌, ◌<◌, ◌≤◌, ◌^◌, ◌++◌, List, ℤ, pos, ◌≤ℤ◌, length, slice_get, take, true, false, None, Some, IfOk};
 ghost use Rattle.stream_rules.specs.declared.stream_spec.Stream.{Stream};
 ghost use Rattle.stream_rules.specs.declared.event.Event.{Event};
 ghost use Rattle.stream_rules.specs.Counts.{tally_of};
 ghost use Rattle.path_merge.specs.Merge.{HasHistory};
 ghost use Rattle.path_merge.specs.Clock.{clock_fault_of};
 ghost use Rattle.path_merge.specs.Goal.{CanReach, HasGivenAll};
+ghost use Rattle.path_merge.specs.Steps.{next_deadline_of};
 ghost use Rattle.studio_session.specs.Event.{TraceEvent, Arrival, Reading, Closing, outline_of};
 ghost use Rattle.stream_rules.specs.Reception.{reception_from, FitsReception};
 ghost use Rattle.studio_session.specs.Session.{Datagram, Other, step_of, event_in};
@@ -14,8 +15,10 @@ ghost use Rattle.studio_session.specs.Counts.{HasCounted};
 ghost use Rattle.studio_session.specs.Cursor.{HasPulled, HaveFew, IsReadyFor, IsSameCursor, IsRunnable, IsOnTheWay, next_of, way_left, events_left};
 ghost use Rattle.studio_session.specs.Cursor as goal;
 ghost use Rattle.studio_session.specs.Handed.{IsHanded};
+ghost use Rattle.studio_session.specs.Receipt.{receipt_in, receipt_of};
 
 use crate::event::Outline;
+use crate::receipt::Receipt;
 use crate::source::{EventSource, MOST_ARRIVAL_OCTETS};
 use path_merge::{Counts, Goal, MarkRef, Merge, Path, SlotWindow, StreamSpec};
 use std::alloc::{AllocError, Global};
@@ -100,6 +103,13 @@ impl Cursor {
         ensures { tally_of result ≡ self.now.merge.counts }
     {
         self.merge.counts()
+    }
+
+    /// When its next slot is due: never before the first packet, nor after a close.
+    pub fn next_deadline(&self) -> Option<i64>
+        ensures { result ≡ next_deadline_of self.now.merge }
+    {
+        self.merge.next_deadline()
     }
 
     /// What became of a path's datagrams so far.
@@ -204,7 +214,7 @@ impl Cursor {
             Outline::Arrive { stream, path } => {
                 if stream == self.number {
                     let mut room = [0; MOST_ARRIVAL_OCTETS];
-                    self.take_datagram(path, source.octets(self.place, &mut room));
+                    let _ = self.take_datagram(path, source.octets(self.place, &mut room));
                 } else {
                     self.pass_over();
                 }
@@ -214,8 +224,8 @@ impl Cursor {
         }
     }
 
-    /// Takes a datagram of the stream.
-    fn take_datagram(&mut self, path: Path, octets: &[u8])
+    /// Takes a datagram of the stream, and answers what became of it.
+    fn take_datagram(&mut self, path: Path, octets: &[u8]) -> Receipt
         requires settled { self.old.reading ≡ None }
         requires place { self.old.place < usize.MAX }
         requires path { path < self.old.spec.paths }
@@ -226,23 +236,30 @@ impl Cursor {
         ensures stands { (stream : Stream) (number : ℕ) (open_at : ℤ) (events : List TraceEvent) (k : ℕ)
             → slice_get events self.old.place ≡ Some (Arrival number path octets.now)
             → HasPulled stream number open_at events self.old k → HasPulled stream number open_at events self.new k }
+        ensures receipt { (stream : Stream) (number : ℕ) (open_at : ℤ) (events : List TraceEvent) (k : ℕ)
+            → HasPulled stream number open_at events self.old k
+            → result ≡ receipt_of stream number open_at (take self.old.place events) path octets.now }
     {
         let reception = receive_ref(&self.spec, octets);
         count_on(&mut self.paths, path, reception);
-        offer_received(&mut self.merge, path, reception);
+        let receipt = offer_received(&mut self.merge, path, reception);
         self.place += 1;
+        receipt
     }
 
-    /// Takes a datagram of the stream that comes after all events so far.
-    pub fn hand_datagram(&mut self, path: Path, octets: &[u8])
+    /// Takes a datagram of the stream that comes after all events so far, and answers what became of it.
+    pub fn hand_datagram(&mut self, path: Path, octets: &[u8]) -> Receipt
         requires settled { self.old.reading ≡ None }
         requires place { self.old.place < usize.MAX }
         requires path { path < self.old.spec.paths }
         ensures place { self.new.place ≡ self.old.place + 1 }
         ensures handed { (number : ℕ) → IsHanded (Arrival number path octets.now) number self.old self.new }
+        ensures receipt { (stream : Stream) (number : ℕ) (open_at : ℤ) (events : List TraceEvent) (k : ℕ)
+            → self.old.place ≡ length events → HasPulled stream number open_at events self.old k
+            → result ≡ receipt_of stream number open_at events path octets.now }
         ensures settled { self.new.reading ≡ None }
     {
-        self.take_datagram(path, octets);
+        self.take_datagram(path, octets)
     }
 
     /// Passes over another stream's datagram that comes after all events so far.
@@ -322,21 +339,22 @@ fn count_on(paths: &mut [PathCounts; 4], path: Path, reception: ReceptionRef<'_>
 }
 
 /// Offers the packet of a datagram to the merge, if it is one.
-fn offer_received(merge: &mut Merge<SlotWindow>, path: Path, reception: ReceptionRef<'_>)
+fn offer_received(merge: &mut Merge<SlotWindow>, path: Path, reception: ReceptionRef<'_>) -> Receipt
     requires path { path < merge.old.spec.paths }
     requires fits { FitsReception merge.old.spec (reception_from reception) }
     ensures spec { merge.new.spec ≡ merge.old.spec }
     ensures stands { (stream : Stream) (open_at : ℤ) (events : List Event) (k : ℕ)
         → HasHistory stream open_at merge.old events k
         → HasHistory stream open_at merge.new (events ++ event_in (Datagram path (reception_from reception.entry))) k }
+    ensures receipt { (stream : Stream) (open_at : ℤ) (events : List Event) (k : ℕ)
+        → HasHistory stream open_at merge.old events k
+        → result ≡ receipt_in stream open_at events path (reception_from reception.entry) }
 {
     match reception {
-        ReceptionRef::Sent(packet) => {
-            let _ = merge.offer_ref(path, packet);
-        }
-        ReceptionRef::Bad => {}
-        ReceptionRef::WrongType => {}
-        ReceptionRef::WrongLength => {}
+        ReceptionRef::Sent(packet) => Receipt::Offered(merge.offer_ref(path, packet)),
+        ReceptionRef::Bad => Receipt::Bad,
+        ReceptionRef::WrongType => Receipt::WrongType,
+        ReceptionRef::WrongLength => Receipt::WrongLength,
     }
 }
 

@@ -1,5 +1,5 @@
 //! Why a list of events can't be run.
-ghost use Rattle.std.specs.Prelude.{◌≡◌, ℕ, false, Some, None, slice_get};
+ghost use Rattle.std.specs.Prelude.{◌≡◌, ℕ, [], false, Some, None, slice_get};
 ghost use Rattle.stream_rules.specs.declared.stream_spec.Stream.{Stream};
 ghost use Rattle.stream_rules.specs.StreamSpecFacts.{IsStream};
 ghost use Rattle.stream_rules.specs.History.{is_tick_in_order};
@@ -45,14 +45,22 @@ pub fn first_fault<E: EventSource>(spec: &StudioSpec, source: &E) -> Option<Stud
     fault_from(spec.streams(), spec.open_at(), source)
 }
 
-/// What holds of every output, for the contract above.
+/// What holds of every studio before its first event. Nothing is computed here.
+pub fn is_runnable(spec: &StudioSpec)
+    ensures { IsRunnableBy spec.now [] }
+{
+    are_streams(spec.streams());
+    is_output(spec.output());
+}
+
+/// What holds of every output, for the contracts above.
 pub(crate) fn is_output(output: &OutSpec)
     ensures { IsOutput output.now }
 {
     let _ = output.frames();
 }
 
-/// What holds of every stream, for the contract above.
+/// What holds of every stream, for the contracts above.
 fn are_streams(streams: &[StreamSpec])
     ensures { (i : ℕ) (stream : Stream) → slice_get streams.now i ≡ Some stream → IsStream stream }
 {
