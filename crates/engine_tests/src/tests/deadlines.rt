@@ -1,0 +1,24 @@
+//! The reading before which no datagram comes.
+use super::studios::{packet, path, six, turn};
+use std::test::Fail;
+use studio_engine::Engine;
+
+/// With no packet the first block of six is silence at 18, a latency past its end; with one at 0 it comes at 12.
+#[test]
+fn the_next_deadline_is_that_of_the_block(rt: HostRuntime) -> Result<(), Fail> {
+    let alloc = rt.alloc();
+    let mut engine = Engine::new(alloc, &six(&rt, alloc)?)?;
+    assert_eq!(rt; engine.next_deadline(), Some(18));
+    let first = packet(alloc, 1, 0, 1, 6, [0, 0, 1])?;
+    let _ = engine.arrive(0, path(&rt, 0), first.as_slice());
+    assert_eq!(rt; engine.next_deadline(), Some(12));
+    let given = turn(&rt, alloc, &mut engine, 12)?;
+    assert!(rt; matches!(given, Ok(Some(_))));
+    assert_eq!(rt; engine.next_deadline(), None, "the turn isn't finished");
+    let given = turn(&rt, alloc, &mut engine, 12)?;
+    assert!(rt; matches!(given, Ok(None)));
+    assert_eq!(rt; engine.next_deadline(), Some(18));
+    assert!(rt; engine.close().is_ok());
+    assert_eq!(rt; engine.next_deadline(), None);
+    Ok(())
+}

@@ -1,0 +1,269 @@
+-- An engine's events, one more at the end, and its datagrams, one more.
+use Rattle.std.proofs.Common.{◌≡◌, inl, inr, ◌<◌, ◌≤◌, ◌+◌, ℕ, zero, suc, Bool, true, false, nat_lt, ◌^◌, get_or, List, [], ◌∷◌, ◌++◌, length, drop, ℤ, ◌<ℤ◌, if◌then◌else◌, Option, Some, None, IfSome, slice_get, refl, sym, ap, subst, ◌∙◌, arith}
+use Rattle.std.specs.Ordering.{int_eq}
+use Rattle.std.proofs.lemmas.Bool.{false≢true}
+use Rattle.std.proofs.lemmas.Bool.Decides.{nat_tests}
+use Rattle.std.proofs.lemmas.Int.{ints}
+use Rattle.std.proofs.lemmas.List.{length_push, length-map}
+use Rattle.std.proofs.lemmas.Option.{slice_get_within, slice_get-get_or}
+use Rattle.stream_rules.specs.declared.stream_spec.Stream.{Stream}
+use Rattle.mix_packets.specs.OutSpec.{datagram_length}
+use Rattle.studio_spec.specs.Studio.{IsStudio, Studio}
+use Rattle.studio_mix.specs.Feed.{unfed}
+use Rattle.studio_mix.specs.Mixer.{MixerState, HasFeeds}
+use Rattle.studio_session.specs.Event.{TraceEvent, Arrival, Reading, Closing}
+use Rattle.studio_session.specs.Fault.{closed_after, closed_at, event_fault, session_fault_of, time_after, time_at}
+use Rattle.studio_session.specs.Cursor.{CursorState, HasPulled}
+use Rattle.studio_session.specs.Handed.{AreHanded, HaveTaken}
+use Rattle.studio_session.specs.Play.{AreNew, HasPlayed, IsRunnableBy, SessionState, feeds_of}
+use Rattle.studio_session.specs.Run.{HasGivenBlocks}
+use Rattle.studio_session.proofs.FaultLemmas.{arrival_fault, closed_more, lawful_more, runnable_more, time_more}
+use Rattle.studio_session.proofs.HandedLemmas.{blocks_handed, given_handed}
+use Rattle.studio_session.proofs.NewLemmas.{played_none}
+use Rattle.studio_session.proofs.ReportLemmas.{pulled_of}
+use Rattle.studio_engine.specs.Engine.{AreAtRest, EngineState, HaveCome, IsEngine, arrive_fault_of, session_of, stream_fault_of}
+use Rattle.studio_engine.specs.declared.fault.ArriveFault.{ArriveFault}
+use Rattle.studio_engine.specs.declared.fault.ArriveFault.TheVariants.{Unfinished, Stream as NoStream, Path as NoPath, Full}
+use Rattle.studio_engine.specs.Give.{GivesBlock, HasNoBlock, HasNoMore}
+use Rattle.studio_engine.specs.Session.{Gives, HasGivenReady, HasSession, turned}
+
+-- before the first event
+pub session_new : (studio : Studio) (mixer : MixerState) (cursors : List CursorState) (time : ℤ) → IsRunnableBy studio [] → HasFeeds studio mixer (unfed studio.streams) 0
+    → AreNew studio.streams studio.open_at cursors (length studio.streams) → time ≡ studio.open_at
+    → HasSession studio (record { mixer = mixer; cursors = cursors; time = time; turning = false; closed = false; settled = false; count = 0 }) [] []
+session_new studio mixer cursors time run fed new is = record {
+  lawful = refl;
+  runnable = run;
+  time = is;
+  closed = refl;
+  count = refl;
+  given = record {
+    played = played_none studio [] mixer cursors fed new;
+    first = record {
+      ready = λ n h. let below : n < 0 = grind (arith, nat_tests, h) in absurd (omega (arith, below));
+      each = λ n datagram at. let below : n < 0 = slice_get_within [] n datagram at in absurd (omega (arith, below));
+    };
+  };
+  settled = λ e. absurd (false≢true e);
+}
+
+-- it is an engine
+pub engine_new : (studio : Studio) (mixer : MixerState) (cursors : List CursorState) (time : ℤ) → IsStudio studio → HasFeeds studio mixer (unfed studio.streams) 0
+    → AreNew studio.streams studio.open_at cursors (length studio.streams) → time ≡ studio.open_at
+    → IsEngine (record { mixer = mixer; cursors = cursors; time = time; turning = false; closed = false; settled = false; count = 0 })
+engine_new studio mixer cursors time sound fed new is =
+    let low = sound.open_low in
+    let high = sound.open_high in
+    let long : length (unfed studio.streams) ≡ length studio.streams = length-map studio.streams (λ stream. record { stream = stream; marks = [] }) in
+    record {
+      streams = new.count_is ∙ sym long ∙ sym fed.lanes.count;
+      taken = λ i d within.
+          let count = new.count_is in
+          let here : i < length studio.streams = omega (arith, within, count) in
+          let some = stream_at studio.streams i here in
+          (new.each i (get_or cursors i d) some.0 (slice_get-get_or cursors i d within) some.1).0;
+      rested = λ e. new.settled;
+      not_early = omega (arith, ints, is, low);
+      not_late = omega (arith, ints, is, high);
+      few = omega (arith, ints, is, low);
+      few_open = λ e. omega (arith, ints, is, low);
+      open_yet = λ e. refl;
+      shut = λ e. absurd (false≢true e);
+    }
+  where
+    stream_at : (streams : List Stream) (i : ℕ) → i < length streams → (stream : Stream) × (slice_get streams i ≡ Some stream)
+    stream_at [] i h = absurd (omega (arith, h))
+    stream_at (stream ∷ streams) zero h = (stream, refl)
+    stream_at (stream ∷ streams) (suc i) h = stream_at streams i (omega (arith, h))
+
+-- an engine stays one when its mixer and its cursors move, and none of the events comes
+pub engine_kept : (old : EngineState) (mixer : MixerState) (cursors kept : List CursorState) (turning settled : Bool) → kept ≡ cursors → IsEngine old
+    → length mixer.lanes ≡ length old.mixer.lanes → length cursors ≡ length old.cursors → HaveCome old.count cursors
+    → (turning ≡ false → AreAtRest cursors) → (turning ≡ true → old.closed ≡ false) → (settled ≡ true → old.closed ≡ true)
+    → IsEngine (record { mixer = mixer; cursors = kept; time = old.time; turning = turning; closed = old.closed; settled = settled; count = old.count })
+engine_kept old mixer cursors kept turning settled same is lanes count come rested open_yet shut = record {
+  streams = ap length same ∙ count ∙ is.streams ∙ sym lanes;
+  taken = subst (HaveCome old.count) (sym same) come;
+  rested = λ e. subst AreAtRest (sym same) (rested e);
+  not_early = is.not_early;
+  not_late = is.not_late;
+  few = is.few;
+  few_open = is.few_open;
+  open_yet = open_yet;
+  shut = shut;
+}
+
+-- every cursor took the events that the engine took
+pub taken_of : (events : List TraceEvent) (cursors : List CursorState) (count : ℕ) → count ≡ length events → HaveCome count cursors → HaveTaken events cursors
+taken_of events cursors count is come = subst (λ n. HaveCome n cursors) is come
+
+-- one event more
+pub session_handed : (studio : Studio) (old : EngineState) (kept : List CursorState) (event : TraceEvent) (time : ℤ) (turning closed : Bool) (count : ℕ) (events : List TraceEvent) (datagrams : List (List ℕ))
+    → AreHanded event old.cursors kept (length old.cursors) → HaveCome old.count old.cursors → count ≡ old.count + 1
+    → time ≡ time_after old.time event → closed ≡ closed_after old.closed event
+    → ((p : ℕ) → event_fault studio.streams p old.time old.closed event ≡ None)
+    → HasSession studio old events datagrams
+    → HasSession studio (record { mixer = old.mixer; cursors = kept; time = time; turning = turning; closed = closed; settled = old.settled; count = count }) (events ++ event ∷ []) datagrams
+session_handed studio old kept event time turning closed count events datagrams handed come count_is time_is closed_is fine s =
+    let lawful : session_fault_of studio (events ++ event ∷ []) ≡ None = lawful_more studio events event s.lawful
+    (λ p. ap (λ t. event_fault studio.streams p t (closed_at false events) event) (sym s.time) ∙ ap (λ b. event_fault studio.streams p old.time b event) (sym s.closed) ∙ fine p) in
+    let run : IsRunnableBy studio (events ++ event ∷ []) = runnable_more studio events event s.runnable lawful in
+    let taken = taken_of events old.cursors old.count s.count come in
+    let played = s.given.played in
+    let first = blocks_handed studio events (event ∷ []) datagrams run s.given.first in
+    record {
+      lawful = lawful;
+      runnable = run;
+      time = time_is ∙ ap (λ t. time_after t event) s.time ∙ sym (time_more studio.open_at events event);
+      closed = closed_is ∙ ap (λ b. closed_after b event) s.closed ∙ sym (closed_more false events event);
+      count = count_is ∙ ap (λ n. n + 1) s.count ∙ sym (length_push events event);
+      given = record {
+        played = record {
+          feeds = played.feeds;
+          fed = played.fed;
+          count = handed.length_is ∙ played.count;
+          given = given_handed studio events event old.mixer old.cursors kept (length datagrams) run taken handed played;
+        };
+        first = first;
+      };
+      settled = s.settled;
+    }
+
+-- each stream's cursor gave some marks of the events
+pub pulled_at : (studio : Studio) (engine : EngineState) (events : List TraceEvent) (datagrams : List (List ℕ)) (i : ℕ) (spec : Stream) → HasSession studio engine events datagrams → slice_get studio.streams i ≡ Some spec
+    → (cursor : CursorState) × (k : ℕ) × (slice_get engine.cursors i ≡ Some cursor) × HasPulled spec i studio.open_at events cursor k
+pulled_at studio engine events datagrams i spec s at =
+    let pulled = pulled_of studio events (session_of engine) (length datagrams) s.given.played in
+    let within : i < length studio.streams = slice_get_within studio.streams i spec at in
+    let count = pulled.count in
+    let found = cursor_at engine.cursors i (omega (arith, within, count)) in
+    let some = pulled.each i spec found.0 at found.1 in
+    (found.0, some.given, found.1, some.pulled)
+  where
+    cursor_at : (cursors : List CursorState) (i : ℕ) → i < length cursors → (cursor : CursorState) × (slice_get cursors i ≡ Some cursor)
+    cursor_at [] i h = absurd (omega (arith, h))
+    cursor_at (cursor ∷ cursors) zero h = (cursor, refl)
+    cursor_at (cursor ∷ cursors) (suc i) h = cursor_at cursors i (omega (arith, h))
+
+-- an arrival that is taken has no fault
+pub taken_arrival : (studio : Studio) (engine : EngineState) (events : List TraceEvent) (datagrams : List (List ℕ)) (stream path : ℕ) (octets : List ℕ) → HasSession studio engine events datagrams
+    → arrive_fault_of engine stream path ≡ None → (p : ℕ) → event_fault studio.streams p engine.time engine.closed (Arrival stream path octets) ≡ None
+taken_arrival studio engine events datagrams stream path octets s fine =
+    let rest = not_turning engine.turning (stream_fault_of engine.count path (slice_get engine.cursors stream)) fine in
+    let found = on_path (slice_get engine.cursors stream) refl rest in
+    let pulled = pulled_of studio events (session_of engine) (length datagrams) s.given.played in
+    let within : stream < length engine.cursors = slice_get_within engine.cursors stream found.0 found.1 in
+    let count = pulled.count in
+    let spec = stream_at studio.streams stream (omega (arith, within, count)) in
+    let is : found.0.spec ≡ spec.0 = (pulled.each stream spec.0 found.0 spec.1 found.1).pulled.spec in
+    arrival_fault studio.streams engine.time engine.closed stream path octets spec.0 spec.1 (subst (λ (x : Stream). path < x.paths) is found.2)
+  where
+    not_turning : (b : Bool) (o : Option ArriveFault) → (if b then Some Unfinished else o) ≡ None → o ≡ None
+    not_turning true o e = absurd (let f : Some Unfinished ≡ None = e in cc)
+    not_turning false o e = e
+
+    less : (paths : ℕ) (b : Bool) → nat_lt path paths ≡ b → (if b then (if nat_lt engine.count (2 ^ 62) then None else Some Full) else Some NoPath) ≡ None → path < paths
+    less paths true is e = grind (arith, nat_tests, is)
+    less paths false is e = absurd (let f : Some NoPath ≡ None = e in cc)
+
+    on_path : (o : Option CursorState) → slice_get engine.cursors stream ≡ o → stream_fault_of engine.count path o ≡ None
+        → (cursor : CursorState) × (slice_get engine.cursors stream ≡ Some cursor) × (path < cursor.spec.paths)
+    on_path None at e = absurd (let f : Some NoStream ≡ None = e in cc)
+    on_path (Some cursor) at e = (cursor, at, less cursor.spec.paths (nat_lt path cursor.spec.paths) refl e)
+
+    stream_at : (streams : List Stream) (i : ℕ) → i < length streams → (stream : Stream) × (slice_get streams i ≡ Some stream)
+    stream_at [] i h = absurd (omega (arith, h))
+    stream_at (stream ∷ streams) zero h = (stream, refl)
+    stream_at (stream ∷ streams) (suc i) h = stream_at streams i (omega (arith, h))
+
+-- the same events, with other datagrams
+session_same : (studio : Studio) (old new : EngineState) (events : List TraceEvent) (datagrams more : List (List ℕ)) → new.time ≡ old.time → new.closed ≡ old.closed → new.count ≡ old.count → new.settled ≡ false
+    → HasSession studio old events datagrams → HasGivenBlocks studio events (session_of new) more → HasSession studio new events more
+session_same studio old new events datagrams more time closed count open_yet s given = record {
+  lawful = s.lawful;
+  runnable = s.runnable;
+  time = time ∙ s.time;
+  closed = closed ∙ s.closed;
+  count = count ∙ s.count;
+  given = given;
+  settled = λ e. absurd (false≢true (sym open_yet ∙ e));
+}
+
+-- one datagram more
+pub session_gives : (studio : Studio) (old new : EngineState) (events : List TraceEvent) (datagrams : List (List ℕ)) (before after : List ℕ) (len : ℕ)
+    → new.time ≡ old.time → new.closed ≡ old.closed → new.count ≡ old.count → new.settled ≡ false
+    → HasSession studio old events datagrams → GivesBlock studio events (session_of new) datagrams before after len → Gives studio new events datagrams before after len
+session_gives studio old new events datagrams before after len time closed count open_yet s block = record {
+  datagram = block.datagram;
+  len_is = block.len_is;
+  written = block.written;
+  stands = session_same studio old new events datagrams (datagrams ++ block.datagram ∷ []) time closed count open_yet s block.given;
+}
+
+-- all that is ready was given
+pub session_stops : (studio : Studio) (old new : EngineState) (events : List TraceEvent) (datagrams : List (List ℕ))
+    → new.time ≡ old.time → new.closed ≡ old.closed → new.count ≡ old.count → new.settled ≡ false
+    → HasSession studio old events datagrams → HasNoBlock studio events (session_of new) datagrams → HasGivenReady studio new events datagrams
+session_stops studio old new events datagrams time closed count open_yet s stop = record {
+  stands = session_same studio old new events datagrams datagrams time closed count open_yet s stop.given;
+  none = stop.none;
+}
+
+-- and after a close all is given
+pub session_settles : (studio : Studio) (old new : EngineState) (events : List TraceEvent) (datagrams : List (List ℕ))
+    → new.time ≡ old.time → new.closed ≡ old.closed → new.count ≡ old.count → old.closed ≡ true
+    → HasSession studio old events datagrams → HasNoBlock studio events (session_of new) datagrams → HasSession studio new events datagrams
+session_settles studio old new events datagrams time closed count shut s stop = record {
+  lawful = s.lawful;
+  runnable = s.runnable;
+  time = time ∙ s.time;
+  closed = closed ∙ s.closed;
+  count = count ∙ s.count;
+  given = stop.given;
+  settled = λ e. stop.left (sym s.closed ∙ shut);
+}
+
+-- what was kept changes nothing that was given
+pub stops_kept : (studio : Studio) (events : List TraceEvent) (old new : SessionState) (datagrams : List (List ℕ))
+    → HasNoBlock studio events old datagrams → HasPlayed studio events new (length datagrams) → closed_at false events ≡ false → HasNoBlock studio events new datagrams
+stops_kept studio events old new datagrams stop played open_yet = record {
+  given = record { played = played; first = stop.given.first };
+  none = stop.none;
+  left = λ shut. absurd (false≢true (sym open_yet ∙ shut));
+}
+
+-- a reading that doesn't go on is no event
+pub turned_same : (old new : ℤ) (events : List TraceEvent) → new ≡ old → events ≡ turned old new events
+turned_same old new events e = by_test (int_eq old new) (grind (arith, ints, nat_tests, e))
+  where
+    by_test : (b : Bool) → b ≡ true → events ≡ (if b then events else events ++ Reading new ∷ [])
+    by_test true e = refl
+    by_test false e = absurd (false≢true e)
+
+-- a later one is
+pub turned_on : (old new : ℤ) (events : List TraceEvent) → old <ℤ new → events ++ Reading new ∷ [] ≡ turned old new events
+turned_on old new events h = by_test (int_eq old new) (grind (arith, ints, nat_tests, h))
+  where
+    by_test : (b : Bool) → b ≡ false → events ++ Reading new ∷ [] ≡ (if b then events else events ++ Reading new ∷ [])
+    by_test true e = absurd (false≢true (sym e))
+    by_test false e = refl
+
+-- a datagram of a turn after a reading
+pub gives_after : (first mid after : EngineState) (before between out : List ℕ) (o : Option ℕ) (now : ℤ) → between ≡ before → first.time <ℤ after.time → after.time ≡ now
+    → ((studio : Studio) (events : List TraceEvent) (datagrams : List (List ℕ)) → HasSession studio first events datagrams → HasSession studio mid (events ++ Reading now ∷ []) datagrams)
+    → IfSome o (λ len. (studio : Studio) (events : List TraceEvent) (datagrams : List (List ℕ)) → HasSession studio mid events datagrams → Gives studio after events datagrams between out len)
+    → IfSome o (λ len. (studio : Studio) (events : List TraceEvent) (datagrams : List (List ℕ)) → HasSession studio first events datagrams → Gives studio after (turned first.time after.time events) datagrams before out len)
+gives_after first mid after before between out None now same later time sets gives = tt
+gives_after first mid after before between out (Some len) now same later time sets gives = λ studio events datagrams s.
+    subst (λ l. Gives studio after l datagrams before out len) (turned_on first.time after.time events later)
+    (subst (λ t. Gives studio after (events ++ Reading t ∷ []) datagrams before out len) (sym time)
+    (subst (λ b. Gives studio after (events ++ Reading now ∷ []) datagrams b out len) same (gives studio (events ++ Reading now ∷ []) datagrams (sets studio events datagrams s))))
+
+-- and none
+pub ready_after : (first mid after : EngineState) (now : ℤ) → first.time <ℤ after.time → after.time ≡ now
+    → ((studio : Studio) (events : List TraceEvent) (datagrams : List (List ℕ)) → HasSession studio first events datagrams → HasSession studio mid (events ++ Reading now ∷ []) datagrams)
+    → ((studio : Studio) (events : List TraceEvent) (datagrams : List (List ℕ)) → HasSession studio mid events datagrams → HasGivenReady studio after events datagrams)
+    → (studio : Studio) (events : List TraceEvent) (datagrams : List (List ℕ)) → HasSession studio first events datagrams → HasGivenReady studio after (turned first.time after.time events) datagrams
+ready_after first mid after now later time sets ready studio events datagrams s =
+    subst (λ l. HasGivenReady studio after l datagrams) (turned_on first.time after.time events later)
+    (subst (λ t. HasGivenReady studio after (events ++ Reading t ∷ []) datagrams) (sym time) (ready studio (events ++ Reading now ∷ []) datagrams (sets studio events datagrams s)))

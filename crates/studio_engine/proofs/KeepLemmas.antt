@@ -1,0 +1,55 @@
+-- Marks that are kept, stream by stream.
+use Rattle.std.proofs.Common.{◌≡◌, inl, inr, ◌<◌, ◌≤◌, ◌+◌, ℕ, Bool, true, ◌&&◌, List, length, set, get_or, None, Some, slice_get, refl, sym, ap, subst, ◌∙◌, arith}
+use Rattle.std.proofs.lemmas.Bool.{cases_eq}
+use Rattle.std.proofs.lemmas.List.{length-set}
+use Rattle.std.proofs.lemmas.Option.{slice_get-get_or}
+use Rattle.lane_align.proofs.MarkListLemmas.{both_left, both_right}
+use Rattle.studio_spec.specs.Studio.{Studio}
+use Rattle.studio_mix.specs.Feed.{Feed}
+use Rattle.studio_mix.specs.Mixer.{MixerState}
+use Rattle.studio_mix.proofs.MixerLemmas.{set_same_at, set_other_at}
+use Rattle.studio_session.specs.Event.{TraceEvent}
+use Rattle.studio_session.specs.Cursor.{CursorState}
+use Rattle.studio_session.specs.Play.{HasPlayed, IsGiven, Plays}
+use Rattle.studio_engine.specs.Engine.{AreAtRest}
+
+-- what one stream gave joins what was played
+pub played_more : (studio : Studio) (events : List TraceEvent) (mixer new : MixerState) (cursors : List CursorState) (next i : ℕ) (moved : CursorState)
+    → (played : HasPlayed studio events (record { mixer = mixer; cursors = cursors }) next) → i < length cursors
+    → Plays studio events played.feeds next i new moved
+    → HasPlayed studio events (record { mixer = new; cursors = set cursors i moved }) next
+played_more studio events mixer new cursors next i moved played within last =
+    let feeds = played.feeds in
+    let f : Feed = last.feed in
+    let count = played.count in
+    let in_feeds : i < length feeds = omega (arith, within, count) in
+    record {
+      feeds = set feeds i f;
+      fed = last.fed;
+      count = length-set cursors i moved ∙ played.count ∙ sym (length-set feeds i f);
+      given = λ j cursor feed c_is f_is. elim (cases_eq j i) [
+        | inl e ↦
+            let c' : cursor ≡ moved = set_same_at cursors i moved cursor within (subst (λ k. slice_get (set cursors i moved) k ≡ Some cursor) e c_is) in
+            let f' : feed ≡ f = set_same_at feeds i f feed in_feeds (subst (λ k. slice_get (set feeds i f) k ≡ Some feed) e f_is) in
+            subst (λ k. IsGiven k studio.open_at events cursor feed) (sym e)
+            (subst (λ x. IsGiven i studio.open_at events x feed) (sym c')
+            (subst (λ x. IsGiven i studio.open_at events moved x) (sym f') last.given))
+        | inr ne ↦ played.given j cursor feed (set_other_at cursors i j moved cursor ne c_is) (set_other_at feeds i j f feed ne f_is)
+      ];
+    }
+
+-- one stream more has come to rest
+pub rested_more : (cursors : List CursorState) (i : ℕ) (moved : CursorState) (all kept : Bool) → i < length cursors
+    → (all ≡ true → (j : ℕ) (cursor : CursorState) → j < i → slice_get cursors j ≡ Some cursor → cursor.reading ≡ None)
+    → (kept ≡ true → moved.reading ≡ None)
+    → (all && kept) ≡ true → (j : ℕ) (cursor : CursorState) → j < i + 1 → slice_get (set cursors i moved) j ≡ Some cursor → cursor.reading ≡ None
+rested_more cursors i moved all kept within before last both j cursor h at = elim (cases_eq j i) [
+  | inl e ↦
+      let same : cursor ≡ moved = set_same_at cursors i moved cursor within (subst (λ k. slice_get (set cursors i moved) k ≡ Some cursor) e at) in
+      ap (λ (c : CursorState). c.reading) same ∙ last (both_right all kept both)
+  | inr ne ↦ before (both_left all kept both) j cursor (omega (arith, h, ne)) (set_other_at cursors i j moved cursor ne at)
+]
+
+-- so have all
+pub all_rested : (cursors : List CursorState) (n : ℕ) → length cursors ≤ n → ((j : ℕ) (cursor : CursorState) → j < n → slice_get cursors j ≡ Some cursor → cursor.reading ≡ None) → AreAtRest cursors
+all_rested cursors n all each = λ i d within. each i (get_or cursors i d) (omega (arith, within, all)) (slice_get-get_or cursors i d within)

@@ -1,0 +1,6 @@
+pub mod NearLemmas
+pub mod HandLemmas
+pub mod FillLemmas
+pub mod KeepLemmas
+pub mod EngineLemmas
+pub mod CountsLemmas

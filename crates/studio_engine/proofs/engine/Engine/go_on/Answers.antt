@@ -1,0 +1,43 @@
+use Rattle.std.proofs.Common.{◌≡◌, ◌++◌, take, drop, Bool, length, false, true, None, is_some, not, refl, sym, ap, subst, ◌∙◌}
+use Rattle.std.proofs.lemmas.Bool.{false≢true}
+use Rattle.studio_mix.proofs.NextLemmas.{lent}
+use Rattle.studio_engine.specs.Engine.{AreAtRest, EngineState, HaveCome}
+use Rattle.studio_engine.proofs.EngineLemmas.{engine_kept}
+use Rattle.studio_engine.proofs.engine.Engine.go_on.Goals as goal
+
+pub invariant_of-self-else-is_none : goal.invariant_of-self-else-is_none
+invariant_of-self-else-is_none c =
+    let i = c.self.inside in
+    let inv = c.self.invariant in
+    let inside : EngineState = record { mixer = i.mixer; cursors = i.cursors.items; time = i.time; turning = i.turning; closed = i.closed; settled = i.settled; count = i.count } in
+    let moved = c.give-given.new.cursors in
+    let lent_is = c.as_mut_slice.ensures.value in
+    let back = lent i.cursors.len (length moved) moved i.cursors.items (c.give-given.auto.cursors ∙ c.as_mut_slice.ensures.len) in
+    engine_kept inside c.give-given.new.mixer moved _ i.turning i.settled back inv
+    c.give-given.ensures.streams (c.give-given.auto.cursors ∙ ap length lent_is)
+    (c.give-given.ensures.come i.count (subst (HaveCome i.count) (sym lent_is) inv.taken))
+    (λ e. c.give-given.ensures.rested (subst AreAtRest (sym lent_is) (inv.rested e)))
+    inv.open_yet inv.shut
+
+pub invariant_of-self : goal.invariant_of-self
+invariant_of-self c =
+    let i = c.self.inside in
+    let inv = c.self.invariant in
+    let inside : EngineState = record { mixer = i.mixer; cursors = i.cursors.items; time = i.time; turning = i.turning; closed = i.closed; settled = i.settled; count = i.count } in
+    let moved = c.give-given.new.cursors in
+    let kept = c.keep-there.new.cursors in
+    let lent_is = c.as_mut_slice.ensures.value in
+    let back = lent i.cursors.len (length moved) moved i.cursors.items (c.give-given.auto.cursors ∙ c.as_mut_slice.ensures.len) in
+    let again = c.as_mut_slice-then-is_none.ensures.value ∙ back in
+    let long : length kept ≡ i.cursors.len = c.keep-there.auto.cursors ∙ ap length again ∙ c.give-given.auto.cursors ∙ c.as_mut_slice.ensures.len in
+    let back2 = lent i.cursors.len (length kept) kept (take i.cursors.len (moved ++ drop (length moved) i.cursors.items)) long in
+    let open_yet : i.closed ≡ false = ap (λ (e : EngineState). e.closed) c.self.view_is ∙ c.requires.open_yet in
+    engine_kept inside c.keep-there.new.mixer kept _ (not c.keep-there.result) i.settled back2 inv
+    (c.keep-there.ensures.streams ∙ c.give-given.ensures.streams) (c.keep-there.auto.cursors ∙ ap length again ∙ c.give-given.auto.cursors ∙ ap length lent_is)
+    (c.keep-there.ensures.come i.count (subst (HaveCome i.count) (sym again) (c.give-given.ensures.come i.count (subst (HaveCome i.count) (sym lent_is) inv.taken))))
+    (λ e. c.keep-there.ensures.rested (not_false c.keep-there.result e))
+    (λ e. open_yet) inv.shut
+  where
+    not_false : (b : Bool) → not b ≡ false → b ≡ true
+    not_false true e = refl
+    not_false false e = absurd (false≢true (sym e))

@@ -1,0 +1,55 @@
+use Rattle.std.proofs.Common.{◌≡◌, ◌<ℤ◌, ◌≤ℤ◌, ℕ, ℤ, List, Option, Some, None, IfSome, refl, sym, ap, subst, ◌∙◌, arith, to_z, of_z, w64}
+use Rattle.std.proofs.lemmas.Int.{ints, to_z-of_z}
+use Rattle.path_merge.specs.Clock.{clock_fault_of}
+use Rattle.path_merge.proofs.RunLemmas.{no_fault}
+use Rattle.studio_spec.specs.Studio.{Studio}
+use Rattle.studio_session.specs.Event.{TraceEvent, Reading}
+use Rattle.studio_engine.specs.Engine.{EngineState}
+use Rattle.studio_engine.specs.Session.{Gives, HasGivenReady, HasSession, turned}
+use Rattle.studio_engine.proofs.EngineLemmas.{gives_after, ready_after, turned_same}
+use Rattle.studio_engine.proofs.engine.Engine.turn.Goals as goal
+
+pub returns-then-self-clause-none : goal.returns-then-self-clause-none
+returns-then-self-clause-none c = λ none studio events datagrams s.
+    subst (λ l. HasGivenReady studio c.go_on.new.self l datagrams) (turned_same c.args.self.now.time c.go_on.new.self.time events c.go_on.ensures.time)
+    (c.go_on.ensures.none c.in_default-go_on.is studio events datagrams s)
+
+pub returns-then-now-self-clause-none : goal.returns-then-now-self-clause-none
+returns-then-now-self-clause-none c = λ none studio events datagrams s.
+    subst (λ l. HasGivenReady studio c.go_on.new.self l datagrams) (turned_same c.args.self.now.time c.go_on.new.self.time events c.go_on.ensures.time)
+    (c.go_on.ensures.none c.in_default-go_on.is studio events datagrams s)
+
+pub returns-clause-some : goal.returns-clause-some
+returns-clause-some c =
+    let now = to_z w64 (of_z w64 c.args.now) in
+    let same : now ≡ c.args.now = to_z-of_z w64 c.args.now c.ranges.now in
+    let time : c.go_on-2.new.self.time ≡ now = c.go_on-2.ensures.time ∙ c.set_out.ensures.time in
+    let low = c.self.invariant.not_early in
+    let high = c.self.invariant.not_late in
+    let time_is : c.self.inside.time ≡ to_z w64 (of_z w64 c.self.inside.time) = omega (arith, ints, low, high) in
+    let free = no_fault c.args.self.now.time c.args.self.now.closed now (ap (λ (e : EngineState). clock_fault_of e.time e.closed now) (sym c.self.view_is) ∙ ap (λ t. clock_fault_of t c.self.inside.closed now) time_is ∙ sym c.clock_fault.ensures ∙ c.in_default.is) in
+    let was : c.self-2.inside.time ≡ c.args.self.now.time = ap (λ (e : EngineState). e.time) c.self-2.view_is ∙ c.go_on.ensures.time in
+    let reached = free.0 in
+    let other = c.if-now-self.false in
+    let later : c.args.self.now.time <ℤ c.go_on-2.new.self.time = omega (arith, ints, reached, other, was, time, same) in
+    gives_after c.args.self.now c.set_out.new.self c.go_on-2.new.self c.args.out.now c.go_on.new.out c.go_on-2.new.out c.go_on-2.result now
+    (c.go_on.ensures.kept c.in_default-go_on.is) later time
+    (λ studio events datagrams s. c.set_out.ensures.stands studio events datagrams (c.go_on.ensures.none c.in_default-go_on.is studio events datagrams s).stands)
+    c.go_on-2.ensures.some
+
+pub returns-clause-none : goal.returns-clause-none
+returns-clause-none c = λ none.
+    let now = to_z w64 (of_z w64 c.args.now) in
+    let same : now ≡ c.args.now = to_z-of_z w64 c.args.now c.ranges.now in
+    let time : c.go_on-2.new.self.time ≡ now = c.go_on-2.ensures.time ∙ c.set_out.ensures.time in
+    let low = c.self.invariant.not_early in
+    let high = c.self.invariant.not_late in
+    let time_is : c.self.inside.time ≡ to_z w64 (of_z w64 c.self.inside.time) = omega (arith, ints, low, high) in
+    let free = no_fault c.args.self.now.time c.args.self.now.closed now (ap (λ (e : EngineState). clock_fault_of e.time e.closed now) (sym c.self.view_is) ∙ ap (λ t. clock_fault_of t c.self.inside.closed now) time_is ∙ sym c.clock_fault.ensures ∙ c.in_default.is) in
+    let was : c.self-2.inside.time ≡ c.args.self.now.time = ap (λ (e : EngineState). e.time) c.self-2.view_is ∙ c.go_on.ensures.time in
+    let reached = free.0 in
+    let other = c.if-now-self.false in
+    let later : c.args.self.now.time <ℤ c.go_on-2.new.self.time = omega (arith, ints, reached, other, was, time, same) in
+    ready_after c.args.self.now c.set_out.new.self c.go_on-2.new.self now later time
+    (λ studio events datagrams s. c.set_out.ensures.stands studio events datagrams (c.go_on.ensures.none c.in_default-go_on.is studio events datagrams s).stands)
+    (c.go_on-2.ensures.none none)

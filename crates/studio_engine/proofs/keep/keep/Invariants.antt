@@ -1,0 +1,19 @@
+use Rattle.std.proofs.Common.{◌≡◌, ◌<◌, ℕ, true, List, length, None, Some, slice_get}
+use Rattle.studio_spec.specs.Studio.{Studio}
+use Rattle.studio_session.specs.Event.{TraceEvent}
+use Rattle.studio_session.specs.Cursor.{CursorState}
+use Rattle.studio_session.specs.Play.{HasPlayed, IsRunnableBy}
+use Rattle.studio_engine.specs.Engine.{HaveCome}
+use Rattle.studio_engine.proofs.keep.keep.Given as goal
+
+-- the marks of the streams so far were kept
+abbrev pub invariant-loop-stream : goal.invariant-loop-stream
+invariant-loop-stream l = record {
+  stands : (studio : Studio) (events : List TraceEvent) (next : ℕ) → IsRunnableBy studio events
+      → HasPlayed studio events (record { mixer = l.fn.mixer; cursors = l.fn.cursors }) next
+      → HasPlayed studio events (record { mixer = l.mixer; cursors = l.cursors }) next;
+  come : (count : ℕ) → HaveCome count l.fn.cursors → HaveCome count l.cursors;
+  rested : l.all ≡ true → (i : ℕ) (cursor : CursorState) → i < l.stream → slice_get l.cursors i ≡ Some cursor → cursor.reading ≡ None;
+  packer : l.mixer.packer ≡ l.fn.mixer.packer;
+  streams : length l.mixer.lanes ≡ length l.fn.mixer.lanes;
+}

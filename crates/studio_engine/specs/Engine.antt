@@ -1,0 +1,57 @@
+-- What contracts see of an engine.
+use Rattle.std.specs.Prelude.{◌≡◌, ℕ, ◌^◌, Bool, true, false, nat_lt, List, length, slice_get, ℤ, pos, ◌+ℤ◌, ◌≤ℤ◌, Option, Some, None, All, if◌then◌else◌}
+use Rattle.studio_mix.specs.Mixer.{MixerState}
+use Rattle.studio_session.specs.Cursor.{CursorState}
+use Rattle.studio_session.specs.Play.{SessionState}
+use Rattle.studio_engine.specs.declared.fault.ArriveFault.{ArriveFault}
+use Rattle.studio_engine.specs.declared.fault.ArriveFault.TheVariants.{Unfinished, Stream as NoStream, Path as NoPath, Full}
+
+-- `count` is how many events it took
+pub record EngineState : Type 0 where
+  pub mixer : MixerState
+  pub cursors : List CursorState
+  pub time : ℤ
+  pub turning : Bool
+  pub closed : Bool
+  pub settled : Bool
+  pub count : ℕ
+
+-- the session that it plays
+abbrev pub session_of : EngineState → SessionState
+session_of engine = record { mixer = engine.mixer; cursors = engine.cursors }
+
+-- every cursor took so many events
+abbrev pub HaveCome : ℕ → List CursorState → Type 0
+HaveCome count cursors = All (λ (cursor : CursorState). cursor.place ≡ count) cursors
+
+-- no cursor is on its way to a reading
+abbrev pub AreAtRest : List CursorState → Type 0
+AreAtRest cursors = All (λ (cursor : CursorState). cursor.reading ≡ None) cursors
+
+pub record IsEngine (engine : EngineState) : Type 0 where
+  pub streams : length engine.cursors ≡ length engine.mixer.lanes
+  pub taken : HaveCome engine.count engine.cursors
+  pub rested : engine.turning ≡ false → AreAtRest engine.cursors
+  pub not_early : pos 0 ≤ℤ engine.time
+  pub not_late : engine.time ≤ℤ pos (2 ^ 60)
+  pub few : pos engine.count ≤ℤ ((pos (2 ^ 62) +ℤ engine.time) +ℤ pos 1)
+  pub few_open : engine.closed ≡ false → pos engine.count ≤ℤ (pos (2 ^ 62) +ℤ engine.time)
+  pub open_yet : engine.turning ≡ true → engine.closed ≡ false
+  pub shut : engine.settled ≡ true → engine.closed ≡ true
+
+-- every stream gave all its marks of the events so far: no turn is under way, and after a close all was given
+pub record HasAllMarks (engine : EngineState) : Type 0 where
+  pub rested : engine.turning ≡ false
+  pub given : engine.closed ≡ true → engine.settled ≡ true
+
+-- the stream lacks the path, or so many events were taken
+abbrev pub path_fault_of : ℕ → ℕ → ℕ → Option ArriveFault
+path_fault_of count path paths = if nat_lt path paths then (if nat_lt count (2 ^ 62) then None else Some Full) else Some NoPath
+
+abbrev pub stream_fault_of : ℕ → ℕ → Option CursorState → Option ArriveFault
+stream_fault_of count path None = Some NoStream
+stream_fault_of count path (Some cursor) = path_fault_of count path cursor.spec.paths
+
+-- why a datagram for a stream and a path isn't taken: the first of these
+abbrev pub arrive_fault_of : EngineState → ℕ → ℕ → Option ArriveFault
+arrive_fault_of engine stream path = if engine.turning then Some Unfinished else stream_fault_of engine.count path (slice_get engine.cursors stream)

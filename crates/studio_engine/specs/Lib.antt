@@ -1,0 +1,23 @@
+pub mod Near
+pub mod Engine
+pub mod Give
+pub mod Session
+pub use Rattle.stream_rules.specs.MarkFacts
+pub use Rattle.stream_rules.specs.PathCounts
+pub use Rattle.stream_rules.specs.Counts as MergeCounts
+pub use Rattle.path_merge.specs.Clock
+pub use Rattle.mix_packets.specs.OutSpec
+pub use Rattle.studio_spec.specs.Studio
+pub use Rattle.studio_mix.specs.Mixer
+pub use Rattle.studio_mix.specs.Feed
+pub use Rattle.studio_mix.specs.Ready
+pub use Rattle.studio_mix.specs.Blocks
+pub use Rattle.studio_session.specs.Event
+pub use Rattle.studio_session.specs.Cursor
+pub use Rattle.studio_session.specs.Counts
+pub use Rattle.studio_session.specs.Fault
+pub use Rattle.studio_session.specs.Handed
+pub use Rattle.studio_session.specs.Receipt
+pub use Rattle.studio_session.specs.Play
+pub use Rattle.studio_session.specs.Run
+pub use Rattle.studio_session.specs.Report

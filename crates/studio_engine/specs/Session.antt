@@ -1,0 +1,43 @@
+-- An engine that was handed a list of events.
+use Rattle.std.specs.Prelude.{◌≡◌, ℕ, Bool, true, false, List, [], ◌∷◌, ◌++◌, length, drop, ℤ, None, if◌then◌else◌}
+use Rattle.std.specs.Ordering.{int_eq}
+use Rattle.mix_packets.specs.OutSpec.{datagram_length}
+use Rattle.studio_spec.specs.Studio.{Studio}
+use Rattle.studio_mix.specs.Ready.{is_ready}
+use Rattle.studio_session.specs.Event.{TraceEvent, Reading, Closing}
+use Rattle.studio_session.specs.Fault.{closed_at, session_fault_of, time_at}
+use Rattle.studio_session.specs.Play.{IsRunnableBy, feeds_of}
+use Rattle.studio_session.specs.Run.{HasGivenBlocks}
+use Rattle.studio_engine.specs.Engine.{EngineState, session_of}
+use Rattle.studio_engine.specs.Give.{HasNoMore}
+
+-- the engine of this studio was handed these events, of which none is at fault, and gave these datagrams: those of the first blocks, each of which is ready
+pub record HasSession (studio : Studio) (engine : EngineState) (events : List TraceEvent) (datagrams : List (List ℕ)) : Type 0 where
+  pub lawful : session_fault_of studio events ≡ None
+  pub runnable : IsRunnableBy studio events
+  pub time : engine.time ≡ time_at studio.open_at events
+  pub closed : engine.closed ≡ closed_at false events
+  pub count : engine.count ≡ length events
+  pub given : HasGivenBlocks studio events (session_of engine) datagrams
+  pub settled : engine.settled ≡ true → HasNoMore studio given.played.feeds (length datagrams)
+
+-- it gave one datagram more, at the front of the room
+pub record Gives (studio : Studio) (engine : EngineState) (events : List TraceEvent) (datagrams : List (List ℕ)) (before after : List ℕ) (len : ℕ) : Type 0 where
+  pub datagram : List ℕ
+  pub len_is : len ≡ datagram_length studio.output
+  pub written : after ≡ datagram ++ drop len before
+  pub stands : HasSession studio engine events (datagrams ++ datagram ∷ [])
+
+-- it gave all blocks that are ready
+pub record HasGivenReady (studio : Studio) (engine : EngineState) (events : List TraceEvent) (datagrams : List (List ℕ)) : Type 0 where
+  pub stands : HasSession studio engine events datagrams
+  pub none : is_ready studio.output (feeds_of studio events) (length datagrams) ≡ false
+
+-- the events after a turn that took the time from one reading to another: one that doesn't go on is none
+abbrev pub turned : ℤ → ℤ → List TraceEvent → List TraceEvent
+turned old new events = if int_eq old new then events else events ++ Reading new ∷ []
+
+-- and after a close: a second one is none
+abbrev pub shut : Bool → List TraceEvent → List TraceEvent
+shut true events = events
+shut false events = events ++ Closing ∷ []

@@ -1,0 +1,24 @@
+//! Why an engine doesn't take what it is handed.
+use thiserror::Error;
+
+/// Why a datagram wasn't taken: the first of these. Nothing has changed.
+#[derive(Clone, Copy, Debug, PartialEq, Eq, Error)]
+pub enum ArriveFault {
+    /// The last turn hasn't answered none yet.
+    #[error("the turn isn't finished")]
+    Unfinished,
+    /// There is no such stream.
+    #[error("there is no such stream")]
+    Stream,
+    /// The stream lacks the path.
+    #[error("the stream lacks the path")]
+    Path,
+    /// 2^62 events were taken.
+    #[error("the engine has taken 2^62 events")]
+    Full,
+}
+
+/// The last turn hasn't answered none yet. Nothing has changed.
+#[derive(Clone, Copy, Debug, PartialEq, Eq, Error)]
+#[error("the turn isn't finished")]
+pub struct Unfinished;
