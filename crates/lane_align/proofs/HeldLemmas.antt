@@ -6,7 +6,7 @@ use Rattle.std.proofs.Math.Seq.{take-append-add, drop-append-add, take-length, d
 use Rattle.std.proofs.Math.Nat.{mul-le-mul_right}
 use borrow.Rule.Slice.PartMut.{put_mid}
 use Rattle.circular_buffer.specs.Buffer.{Buffer, buffer}
-use Rattle.lane_align.specs.Held.{Held, silence, first_values, values_held, IsHeld}
+use Rattle.lane_align.specs.HeldValues.{Held, silence, first_values, values_held, IsHeld}
 
 -- one frame more
 pub silence_more : (items : List ℤ) (channels i : ℕ) → (items ++ silence channels i) ++ replicate channels (pos 0) ≡ items ++ silence channels (i + 1)

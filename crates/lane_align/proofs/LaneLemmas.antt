@@ -13,7 +13,7 @@ use Rattle.stream_rules.specs.MarkList.{can_follow, is_same_format, is_mark_list
 use Rattle.stream_rules.specs.declared.mark.Format.{Format}
 use Rattle.lane_align.specs.declared.last_slot.LastSlot.{LastSlot}
 use Rattle.lane_align.specs.Cover.{last_slot}
-use Rattle.lane_align.specs.Held.{Held, first_values}
+use Rattle.lane_align.specs.HeldValues.{Held, first_values}
 use Rattle.lane_align.specs.Value.{value_at, frames_from}
 use Rattle.lane_align.specs.Lane.{LaneState, HasFeed, IsLane, is_next, last_kind, natural, frames_left}
 use Rattle.lane_align.proofs.MarkListLemmas.{next_is}

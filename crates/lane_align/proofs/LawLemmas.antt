@@ -13,7 +13,7 @@ use Rattle.stream_rules.specs.declared.mark.MarkKind.TheVariants.{Slot, Quiet, E
 use Rattle.lane_align.specs.declared.last_slot.LastSlot.{LastSlot}
 use Rattle.lane_align.specs.Cover.{last_slot, last_quiet, time_reached, cover_to, cover_of, covers}
 use Rattle.lane_align.specs.Value.{sample_in, sample_among, value_at}
-use Rattle.lane_align.specs.Accepted.{accepted_with, accepted_after, accepted_marks}
+use Rattle.lane_align.specs.AcceptedMarks.{accepted_with, accepted_after, accepted_marks}
 use Rattle.lane_align.proofs.MarkListLemmas.{kind_after, both_left, both_right, or_none, list_before, list_after, Agrees, fresh, quiet, slot, ended, agrees_of}
 use Rattle.lane_align.proofs.FeedLemmas.{sample_among_more, sample_before, slot_later, after_end}
 

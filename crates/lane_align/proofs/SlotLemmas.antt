@@ -21,7 +21,7 @@ use Rattle.stream_rules.specs.declared.mark.Body.TheVariants.{Lost}
 use Rattle.stream_rules.specs.declared.mark.MarkKind.TheVariants.{Slot, Quiet, End}
 use Rattle.lane_align.specs.declared.last_slot.LastSlot.{LastSlot}
 use Rattle.lane_align.specs.Cover.{slot_of, quiet_of, last_slot, last_quiet, time_reached, cover_to, covers}
-use Rattle.lane_align.specs.Held.{Held, silence}
+use Rattle.lane_align.specs.HeldValues.{Held, silence}
 use Rattle.lane_align.specs.Value.{sample_of, sample_in, sample_among, value_at}
 use Rattle.lane_align.specs.Lane.{LaneState, HasFeed, IsLane, IsSlot, IsAfter, last_kind, is_next, is_wanting, frames_between, frames_left, body_samples, with_slot}
 use Rattle.lane_align.proofs.MarkListLemmas.{or_none, both_right}

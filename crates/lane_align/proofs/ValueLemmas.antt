@@ -6,7 +6,7 @@ use Rattle.std.proofs.lemmas.List.FromFn.{fill_by_all}
 use Rattle.std.specs.List.{range_with_len, flat_map}
 use Rattle.stream_rules.specs.MarkFacts.{MarkView}
 use Rattle.stream_rules.specs.declared.mark.Format.{Format}
-use Rattle.lane_align.specs.Held.{first_values}
+use Rattle.lane_align.specs.HeldValues.{first_values}
 use Rattle.lane_align.specs.Value.{value_at, frames_from}
 
 -- past the end there is silence

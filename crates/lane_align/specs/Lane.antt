@@ -13,7 +13,7 @@ use Rattle.lane_align.specs.declared.cover.Cover.{Cover}
 use Rattle.lane_align.specs.declared.last_slot.LastSlot.{LastSlot}
 use Rattle.lane_align.specs.Value.{value_at}
 use Rattle.lane_align.specs.Cover.{last_slot, last_quiet, time_reached, cover_to, covers}
-use Rattle.lane_align.specs.Held.{Held, silence}
+use Rattle.lane_align.specs.HeldValues.{Held, silence}
 use Rattle.std.specs.List.{All}
 use Rattle.rtp_wire.specs.Sample.{Is24Bits, samples_of}
 

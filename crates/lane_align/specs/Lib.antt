@@ -1,7 +1,7 @@
 pub mod Value
 pub mod Cover
-pub mod Accepted
-pub mod Held
+pub mod AcceptedMarks
+pub mod HeldValues
 pub mod Lane
 pub use Rattle.rtp_wire.specs.Sample
 pub use Rattle.stream_rules.specs.StreamSpecFacts

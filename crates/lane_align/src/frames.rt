@@ -1,6 +1,6 @@
 //! The values that a lane holds, with long silences as numbers.
 ghost use Rattle.std.specs.Prelude.{◌≡◌, ◌+◌, ◌*◌, ◌^◌, ◌<◌, ◌≤◌, [], ◌++◌, length, drop, IfOk};
-ghost use Rattle.lane_align.specs.Held.{Held, silence, first_values};
+ghost use Rattle.lane_align.specs.HeldValues.{Held, silence, first_values};
 ghost use Rattle.circular_buffer.specs.Buffer.{buffer};
 
 use circular_buffer::HeapCircularBuffer;
@@ -26,7 +26,7 @@ pub struct FrameQueue {
 }
 
 impl Model for FrameQueue {
-    ghost use Rattle.lane_align.specs.Held.{Held, IsHeld, values_held};
+    ghost use Rattle.lane_align.specs.HeldValues.{Held, IsHeld, values_held};
 
     ghost Value = { Held };
 

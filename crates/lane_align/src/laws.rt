@@ -5,7 +5,7 @@ ghost use Rattle.stream_rules.specs.MarkList.{is_mark_list, has_end};
 ghost use Rattle.stream_rules.specs.declared.mark.Format.{Format};
 ghost use Rattle.lane_align.specs.Value.{value_at};
 ghost use Rattle.lane_align.specs.Cover.{cover_of, covers};
-ghost use Rattle.lane_align.specs.Accepted.{accepted_marks, accepted_with};
+ghost use Rattle.lane_align.specs.AcceptedMarks.{accepted_marks, accepted_with};
 
 /// No value before the cover changes when accepted marks are added; what is covered stays so, and
 /// nothing is added after an end.

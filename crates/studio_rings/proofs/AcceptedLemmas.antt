@@ -11,7 +11,7 @@ use Rattle.stream_rules.specs.declared.mark.Format.{Format}
 use Rattle.studio_spec.specs.Studio.{Studio}
 use Rattle.studio_mix.specs.Feed.{Feed}
 use Rattle.studio_mix.specs.Mixer.{MixerState, HasFeeds}
-use Rattle.lane_align.specs.Accepted.{accepted_after, accepted_with}
+use Rattle.lane_align.specs.AcceptedMarks.{accepted_after, accepted_with}
 use Rattle.lane_align.specs.Cover.{covers, cover_of}
 use Rattle.mix_packets.specs.Block.{block_start}
 use Rattle.studio_rings.specs.Mixes.{TakesMarks, TakesWanted, fed_more}

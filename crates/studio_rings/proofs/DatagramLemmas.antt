@@ -11,7 +11,7 @@ use Rattle.stream_rules.specs.StreamSpecFacts.{format_of}
 use Rattle.stream_rules.specs.MarkFacts.{MarkView}
 use Rattle.stream_rules.specs.MarkList.{is_mark_list}
 use Rattle.stream_rules.specs.declared.mark.Format.{Format}
-use Rattle.lane_align.specs.Accepted.{accepted_after, accepted_marks}
+use Rattle.lane_align.specs.AcceptedMarks.{accepted_after, accepted_marks}
 use Rattle.lane_align.proofs.LawLemmas.{accepted_all, accepted_listed}
 use Rattle.mix_packets.specs.OutSpec.{datagram_length}
 use Rattle.studio_spec.specs.Studio.{Studio}

@@ -8,7 +8,7 @@ use Rattle.rtrb.specs.Ring.{received}
 use Rattle.stream_rules.specs.declared.stream_spec.Stream.{Stream}
 use Rattle.stream_rules.specs.StreamSpecFacts.{format_of}
 use Rattle.stream_rules.specs.MarkFacts.{MarkView}
-use Rattle.lane_align.specs.Accepted.{accepted_marks}
+use Rattle.lane_align.specs.AcceptedMarks.{accepted_marks}
 use Rattle.mix_packets.specs.Block.{block_start}
 use Rattle.studio_spec.specs.Studio.{Studio}
 use Rattle.studio_mix.specs.Feed.{Feed}

@@ -9,7 +9,7 @@ use Rattle.stream_rules.specs.Marks.{marks_of}
 use Rattle.path_merge.specs.Merge.{HasHistory}
 use Rattle.stream_rules.specs.MarkFacts.{MarkView}
 use Rattle.stream_rules.specs.declared.packet.Packet.{Packet}
-use Rattle.lane_align.specs.Accepted.{accepted_marks}
+use Rattle.lane_align.specs.AcceptedMarks.{accepted_marks}
 use Rattle.studio_spec.specs.Studio.{Studio}
 use Rattle.studio_mix.specs.Feed.{Feed, unfed}
 use Rattle.studio_mix.specs.Mixer.{HasFeeds, MixerState}

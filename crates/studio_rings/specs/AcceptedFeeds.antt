@@ -4,7 +4,7 @@ use Rattle.stream_rules.specs.declared.stream_spec.Stream.{Stream}
 use Rattle.stream_rules.specs.StreamSpecFacts.{format_of}
 use Rattle.stream_rules.specs.MarkFacts.{MarkView}
 use Rattle.rtrb.specs.Ring.{received}
-use Rattle.lane_align.specs.Accepted.{accepted_marks}
+use Rattle.lane_align.specs.AcceptedMarks.{accepted_marks}
 use Rattle.studio_mix.specs.Feed.{Feed}
 use Rattle.studio_rings.specs.declared.side.Side.{Side}
 

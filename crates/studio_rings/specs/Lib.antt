@@ -19,7 +19,7 @@ pub use Rattle.stream_rules.specs.MarkFacts
 pub use Rattle.path_merge.specs.Merge
 pub use Rattle.stream_rules.specs.Marks
 pub use Rattle.path_merge.specs.Steps
-pub use Rattle.lane_align.specs.Accepted
+pub use Rattle.lane_align.specs.AcceptedMarks
 pub use Rattle.lane_align.specs.Cover
 pub use Rattle.mix_packets.specs.OutSpec
 pub use Rattle.mix_packets.specs.Block

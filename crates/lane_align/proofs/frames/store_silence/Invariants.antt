@@ -1,5 +1,5 @@
 use Rattle.std.proofs.Common.{◌≡◌, ◌++◌}
-use Rattle.lane_align.specs.Held.{silence}
+use Rattle.lane_align.specs.HeldValues.{silence}
 use Rattle.circular_buffer.specs.Buffer.{buffer}
 use Rattle.lane_align.proofs.frames.store_silence.Given as goal
 

@@ -1,5 +1,5 @@
 use Rattle.std.proofs.Common.{◌+◌, ◌*◌, ◌≤◌, ◌++◌, ap, sym, subst, refl, ◌∙◌, length}
-use Rattle.lane_align.specs.Held.{Held, silence}
+use Rattle.lane_align.specs.HeldValues.{Held, silence}
 use Rattle.lane_align.proofs.HeldLemmas.{values_appended, held_of}
 use Rattle.lane_align.proofs.frames.FrameQueue.append.Goals as goal
 

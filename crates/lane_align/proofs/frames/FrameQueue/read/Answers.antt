@@ -1,7 +1,7 @@
 use Rattle.std.proofs.Common.{◌≡◌, ◌+◌, ◌*◌, ◌-◌, ℤ, pos, ap, sym, ◌∙◌, min, length, take, drop, replicate, arith, length-take, length-drop}
 use Rattle.std.proofs.lemmas.List.{length-replicate}
 use Rattle.circular_buffer.specs.Buffer.{Buffer}
-use Rattle.lane_align.specs.Held.{Held, first_values, values_held}
+use Rattle.lane_align.specs.HeldValues.{Held, first_values, values_held}
 use Rattle.lane_align.proofs.HeldLemmas.{values_read, rest_read, held_of}
 use Rattle.lane_align.proofs.frames.FrameQueue.read.Goals as goal
 

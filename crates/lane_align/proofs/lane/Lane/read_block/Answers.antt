@@ -1,6 +1,6 @@
 use Rattle.std.proofs.Common.{◌≡◌, ◌*◌, ◌^◌, pos, ◌+ℤ◌, ◌<ℤ◌, length, drop, ap, sym, subst, ◌∙◌, arith, to_z, of_z, w64}
 use Rattle.std.proofs.lemmas.Int.{ints}
-use Rattle.lane_align.specs.Held.{Held, first_values}
+use Rattle.lane_align.specs.HeldValues.{Held, first_values}
 use Rattle.lane_align.specs.Lane.{LaneState, HasFeed, IsLane}
 use Rattle.lane_align.proofs.LaneLemmas.{block_values, block_read, block_sound, lane_of}
 use Rattle.lane_align.proofs.lane.Lane.read_block.Goals as goal

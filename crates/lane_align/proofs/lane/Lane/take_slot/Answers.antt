@@ -3,7 +3,7 @@ use Rattle.std.proofs.Common.{◌≡◌, ◌≤◌, ◌<◌, ◌+◌, ◌-◌, �
 use Rattle.std.proofs.lemmas.Int.{ints}
 use Rattle.stream_rules.specs.MarkFacts.{HasLength, payload_length}
 use Rattle.stream_rules.specs.MarkRef.{body_from}
-use Rattle.lane_align.specs.Held.{Held}
+use Rattle.lane_align.specs.HeldValues.{Held}
 use Rattle.lane_align.specs.Lane.{LaneState, IsAfter, is_wanting, frames_between, frames_left, with_slot}
 use Rattle.lane_align.proofs.LaneLemmas.{lane_of}
 use Rattle.lane_align.proofs.SlotLemmas.{slot_added, slot_sound, block_room, block_full, short_gap, wanted_left, slot_room}
