@@ -3,6 +3,7 @@ ghost use Rattle.std.specs.Prelude.{◌≡◌, ℕ, ◌<◌, List, length, true,
 ghost use Rattle.studio_spec.specs.Studio.{Studio};
 ghost use Rattle.studio_mix.specs.Feed.{Feed};
 ghost use Rattle.studio_mix.specs.Mixer.{is_wanted_by};
+ghost use Rattle.studio_mix.specs.Room.{rooms_of};
 ghost use Rattle.studio_session.specs.Event.{TraceEvent};
 ghost use Rattle.studio_session.specs.Cursor.{IsReadyFor, IsSameCursor};
 ghost use Rattle.studio_session.specs.Play.{IsRunnableBy, TakesMark, Plays, PlaysOut, PlaysFinal};
@@ -20,6 +21,7 @@ fn hand_on(mixer: &mut Mixer, stream: usize, mark: Option<MarkRef<'_>>)
     ensures none { mark.entry ≡ None → mixer.new ≡ mixer.old }
     ensures packer { mixer.new.packer ≡ mixer.old.packer }
     ensures streams { length mixer.new.lanes ≡ length mixer.old.lanes }
+    ensures rooms { rooms_of mixer.new.lanes ≡ rooms_of mixer.old.lanes }
 {
     let Some(mark) = mark else {
         return;
@@ -43,6 +45,7 @@ pub fn pull_marks(mixer: &mut Mixer, stream: usize, cursor: &mut Cursor) -> bool
     ensures kept { IsSameCursor cursor.old cursor.new }
     ensures packer { mixer.new.packer ≡ mixer.old.packer }
     ensures streams { length mixer.new.lanes ≡ length mixer.old.lanes }
+    ensures rooms { rooms_of mixer.new.lanes ≡ rooms_of mixer.old.lanes }
 {
     'marks: loop {
         if !mixer.wants(stream) {

@@ -22,6 +22,7 @@ marks-preserved c =
       rests = λ none. c.pass.ensures.rests (inv.rests none);
       packer = c.hand_on.ensures.packer ∙ inv.packer;
       streams = c.hand_on.ensures.streams ∙ inv.streams;
+      rooms = c.hand_on.ensures.rooms ∙ inv.rooms;
     }
 
 pub returns-then-not-pass-clause-out : goal.returns-then-not-pass-clause-out
