@@ -1,15 +1,12 @@
 -- The counts of an engine's streams.
-use Rattle.std.proofs.Common.{◌≡◌, inl, inr, ◌<◌, ◌≤◌, ℕ, zero, suc, ◌+◌, ℤ, Bool, true, false, ◌&&◌, List, [], ◌∷◌, ◌++◌, length, take, drop, Some, None, slice_get, refl, sym, ap, subst, ◌∙◌, arith}
-use Rattle.std.specs.List.{list_all}
-use Rattle.std.proofs.lemmas.Bool.{cases_Bool, false≢true}
+use Rattle.std.proofs.Common.{◌≡◌, inl, inr, ◌<◌, ℕ, zero, suc, ◌+◌, ℤ, true, false, ◌&&◌, List, [], ◌∷◌, ◌++◌, length, take, drop, Some, None, slice_get, refl, sym, ap, subst, ◌∙◌, arith}
+use Rattle.std.proofs.lemmas.Bool.{cases_Bool}
 use Rattle.std.proofs.lemmas.List.{take_all, take-append-drop, append-nil}
 use Rattle.std.proofs.lemmas.Option.{slice_get_within, get_or_from_slice_get}
 use Rattle.stream_rules.specs.declared.stream_spec.Stream.{Stream}
-use Rattle.stream_rules.specs.declared.event.Event.{Event}
 use Rattle.stream_rules.specs.StreamSpecFacts.{format_of}
 use Rattle.stream_rules.specs.MarkFacts.{MarkView}
 use Rattle.stream_rules.specs.MarkList.{has_end, is_mark_list}
-use Rattle.stream_rules.specs.Marks.{marks_of}
 use Rattle.stream_rules.specs.History.{is_closed}
 use Rattle.stream_rules.specs.Counts.{counts_of}
 use Rattle.stream_rules.specs.PathCounts.{PathTally}
@@ -26,8 +23,7 @@ use Rattle.mix_packets.specs.Block.{block_start}
 use Rattle.lane_align.specs.Cover.{last_quiet, last_slot, time_reached}
 use Rattle.studio_session.specs.Event.{TraceEvent}
 use Rattle.studio_session.specs.Session.{stream_history}
-use Rattle.studio_session.specs.Fault.{closed_at}
-use Rattle.studio_session.specs.Counts.{AreTallies, path_counts_of}
+use Rattle.studio_session.specs.Counts.{path_counts_of}
 use Rattle.studio_session.specs.Cursor.{CursorState}
 use Rattle.studio_session.specs.Play.{feeds_of, stream_marks}
 use Rattle.studio_session.specs.Report.{merge_tally_of}

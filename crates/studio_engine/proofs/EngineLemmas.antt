@@ -1,5 +1,5 @@
 -- An engine's events, one more at the end, and its datagrams, one more.
-use Rattle.std.proofs.Common.{◌≡◌, inl, inr, ◌<◌, ◌≤◌, ◌+◌, ℕ, zero, suc, Bool, true, false, nat_lt, ◌^◌, get_or, List, [], ◌∷◌, ◌++◌, length, drop, ℤ, ◌<ℤ◌, if◌then◌else◌, Option, Some, None, IfSome, slice_get, refl, sym, ap, subst, ◌∙◌, arith}
+use Rattle.std.proofs.Common.{◌≡◌, ◌<◌, ◌+◌, ℕ, zero, suc, Bool, true, false, not, nat_lt, ◌^◌, get_or, List, [], ◌∷◌, ◌++◌, length, ℤ, ◌<ℤ◌, if◌then◌else◌, Option, Some, None, IfSome, slice_get, refl, sym, ap, subst, ◌∙◌, arith}
 use Rattle.std.specs.Ordering.{int_eq}
 use Rattle.std.proofs.lemmas.Bool.{false≢true}
 use Rattle.std.proofs.lemmas.Bool.Decides.{nat_tests}
@@ -7,15 +7,15 @@ use Rattle.std.proofs.lemmas.Int.{ints}
 use Rattle.std.proofs.lemmas.List.{length_push, length-map}
 use Rattle.std.proofs.lemmas.Option.{slice_get_within, slice_get-get_or}
 use Rattle.stream_rules.specs.declared.stream_spec.Stream.{Stream}
-use Rattle.mix_packets.specs.OutSpec.{datagram_length}
 use Rattle.studio_spec.specs.Studio.{IsStudio, Studio}
 use Rattle.studio_mix.specs.Feed.{unfed}
 use Rattle.studio_mix.specs.Mixer.{MixerState, HasFeeds}
-use Rattle.studio_session.specs.Event.{TraceEvent, Arrival, Reading, Closing}
-use Rattle.studio_session.specs.Fault.{closed_after, closed_at, event_fault, session_fault_of, time_after, time_at}
+use Rattle.studio_mix.specs.Room.{rooms_of}
+use Rattle.studio_session.specs.Event.{TraceEvent, Arrival, Reading}
+use Rattle.studio_session.specs.Fault.{closed_after, closed_at, event_fault, session_fault_of, time_after}
 use Rattle.studio_session.specs.Cursor.{CursorState, HasPulled}
 use Rattle.studio_session.specs.Handed.{AreHanded, HaveTaken}
-use Rattle.studio_session.specs.Play.{AreNew, HasPlayed, IsRunnableBy, SessionState, feeds_of}
+use Rattle.studio_session.specs.Play.{AreNew, HasPlayed, IsRunnableBy, SessionState}
 use Rattle.studio_session.specs.Run.{HasGivenBlocks}
 use Rattle.studio_session.proofs.FaultLemmas.{arrival_fault, closed_more, lawful_more, runnable_more, time_more}
 use Rattle.studio_session.proofs.HandedLemmas.{blocks_handed, given_handed}
@@ -24,19 +24,21 @@ use Rattle.studio_session.proofs.ReportLemmas.{pulled_of}
 use Rattle.studio_engine.specs.Engine.{AreAtRest, EngineState, HaveCome, IsEngine, arrive_fault_of, session_of, stream_fault_of}
 use Rattle.studio_engine.specs.declared.fault.ArriveFault.{ArriveFault}
 use Rattle.studio_engine.specs.declared.fault.ArriveFault.TheVariants.{Unfinished, Stream as NoStream, Path as NoPath, Full}
-use Rattle.studio_engine.specs.Give.{GivesBlock, HasNoBlock, HasNoMore}
+use Rattle.studio_engine.specs.Give.{GivesBlock, HasNoBlock}
+use Rattle.studio_engine.specs.Near.{HasRooms, IsAwaited}
 use Rattle.studio_engine.specs.Session.{Gives, HasGivenReady, HasSession, turned}
 
 -- before the first event
-pub session_new : (studio : Studio) (mixer : MixerState) (cursors : List CursorState) (time : ℤ) → IsRunnableBy studio [] → HasFeeds studio mixer (unfed studio.streams) 0
+pub session_new : (studio : Studio) (mixer : MixerState) (cursors : List CursorState) (time : ℤ) → IsRunnableBy studio [] → HasFeeds studio mixer (unfed studio.streams) 0 → HasRooms studio mixer
     → AreNew studio.streams studio.open_at cursors (length studio.streams) → time ≡ studio.open_at
     → HasSession studio (record { mixer = mixer; cursors = cursors; time = time; turning = false; closed = false; settled = false; count = 0 }) [] []
-session_new studio mixer cursors time run fed new is = record {
+session_new studio mixer cursors time run fed roomy new is = record {
   lawful = refl;
   runnable = run;
   time = is;
   closed = refl;
   count = refl;
+  rooms = roomy;
   given = record {
     played = played_none studio [] mixer cursors fed new;
     first = record {
@@ -117,6 +119,7 @@ session_handed studio old kept event time turning closed count events datagrams 
       time = time_is ∙ ap (λ t. time_after t event) s.time ∙ sym (time_more studio.open_at events event);
       closed = closed_is ∙ ap (λ b. closed_after b event) s.closed ∙ sym (closed_more false events event);
       count = count_is ∙ ap (λ n. n + 1) s.count ∙ sym (length_push events event);
+      rooms = s.rooms;
       given = record {
         played = record {
           feeds = played.feeds;
@@ -176,49 +179,56 @@ taken_arrival studio engine events datagrams stream path octets s fine =
     stream_at (stream ∷ streams) zero h = (stream, refl)
     stream_at (stream ∷ streams) (suc i) h = stream_at streams i (omega (arith, h))
 
+-- the same rooms
+still_roomy : (studio : Studio) (old new : MixerState) → rooms_of new.lanes ≡ rooms_of old.lanes → HasRooms studio old → HasRooms studio new
+still_roomy studio old new same roomy = record { rooms = same ∙ roomy.rooms }
+
 -- the same events, with other datagrams
 session_same : (studio : Studio) (old new : EngineState) (events : List TraceEvent) (datagrams more : List (List ℕ)) → new.time ≡ old.time → new.closed ≡ old.closed → new.count ≡ old.count → new.settled ≡ false
+    → rooms_of new.mixer.lanes ≡ rooms_of old.mixer.lanes
     → HasSession studio old events datagrams → HasGivenBlocks studio events (session_of new) more → HasSession studio new events more
-session_same studio old new events datagrams more time closed count open_yet s given = record {
+session_same studio old new events datagrams more time closed count open_yet rooms s given = record {
   lawful = s.lawful;
   runnable = s.runnable;
   time = time ∙ s.time;
   closed = closed ∙ s.closed;
   count = count ∙ s.count;
+  rooms = still_roomy studio old.mixer new.mixer rooms s.rooms;
   given = given;
   settled = λ e. absurd (false≢true (sym open_yet ∙ e));
 }
 
 -- one datagram more
 pub session_gives : (studio : Studio) (old new : EngineState) (events : List TraceEvent) (datagrams : List (List ℕ)) (before after : List ℕ) (len : ℕ)
-    → new.time ≡ old.time → new.closed ≡ old.closed → new.count ≡ old.count → new.settled ≡ false
+    → new.time ≡ old.time → new.closed ≡ old.closed → new.count ≡ old.count → new.settled ≡ false → rooms_of new.mixer.lanes ≡ rooms_of old.mixer.lanes
     → HasSession studio old events datagrams → GivesBlock studio events (session_of new) datagrams before after len → Gives studio new events datagrams before after len
-session_gives studio old new events datagrams before after len time closed count open_yet s block = record {
+session_gives studio old new events datagrams before after len time closed count open_yet rooms s block = record {
   datagram = block.datagram;
   len_is = block.len_is;
   written = block.written;
-  stands = session_same studio old new events datagrams (datagrams ++ block.datagram ∷ []) time closed count open_yet s block.given;
+  stands = session_same studio old new events datagrams (datagrams ++ block.datagram ∷ []) time closed count open_yet rooms s block.given;
 }
 
 -- all that is ready was given
 pub session_stops : (studio : Studio) (old new : EngineState) (events : List TraceEvent) (datagrams : List (List ℕ))
-    → new.time ≡ old.time → new.closed ≡ old.closed → new.count ≡ old.count → new.settled ≡ false
+    → new.time ≡ old.time → new.closed ≡ old.closed → new.count ≡ old.count → new.settled ≡ false → rooms_of new.mixer.lanes ≡ rooms_of old.mixer.lanes
     → HasSession studio old events datagrams → HasNoBlock studio events (session_of new) datagrams → HasGivenReady studio new events datagrams
-session_stops studio old new events datagrams time closed count open_yet s stop = record {
-  stands = session_same studio old new events datagrams datagrams time closed count open_yet s stop.given;
+session_stops studio old new events datagrams time closed count open_yet rooms s stop = record {
+  stands = session_same studio old new events datagrams datagrams time closed count open_yet rooms s stop.given;
   none = stop.none;
 }
 
 -- and after a close all is given
 pub session_settles : (studio : Studio) (old new : EngineState) (events : List TraceEvent) (datagrams : List (List ℕ))
-    → new.time ≡ old.time → new.closed ≡ old.closed → new.count ≡ old.count → old.closed ≡ true
+    → new.time ≡ old.time → new.closed ≡ old.closed → new.count ≡ old.count → old.closed ≡ true → rooms_of new.mixer.lanes ≡ rooms_of old.mixer.lanes
     → HasSession studio old events datagrams → HasNoBlock studio events (session_of new) datagrams → HasSession studio new events datagrams
-session_settles studio old new events datagrams time closed count shut s stop = record {
+session_settles studio old new events datagrams time closed count shut rooms s stop = record {
   lawful = s.lawful;
   runnable = s.runnable;
   time = time ∙ s.time;
   closed = closed ∙ s.closed;
   count = count ∙ s.count;
+  rooms = still_roomy studio old.mixer new.mixer rooms s.rooms;
   given = stop.given;
   settled = λ e. stop.left (sym s.closed ∙ shut);
 }
@@ -231,6 +241,15 @@ stops_kept studio events old new datagrams stop played open_yet = record {
   none = stop.none;
   left = λ shut. absurd (false≢true (sym open_yet ∙ shut));
 }
+
+-- where no block is ready before a close, all marks so far are kept, and no stream is on its way any more
+pub comes_to_rest : (studio : Studio) (old : EngineState) (mixer : MixerState) (cursors : List CursorState) (events : List TraceEvent) (datagrams : List (List ℕ)) (there : Bool) → HasSession studio old events datagrams
+    → old.closed ≡ false → rooms_of mixer.lanes ≡ rooms_of old.mixer.lanes → HaveCome old.count cursors → HasNoBlock studio events (record { mixer = mixer; cursors = cursors }) datagrams
+    → ((next : ℕ) → IsAwaited studio events next → HasRooms studio mixer → HaveTaken events cursors → HasPlayed studio events (record { mixer = mixer; cursors = cursors }) next → there ≡ true)
+    → not there ≡ false
+comes_to_rest studio old mixer cursors events datagrams there s open_yet rooms come stop keeps =
+    ap not (keeps (length datagrams) (record { runs = s.runnable; open_yet = sym s.closed ∙ open_yet; unready = stop.none }) (still_roomy studio old.mixer mixer rooms s.rooms)
+    (taken_of events cursors old.count s.count come) stop.given.played)
 
 -- a reading that doesn't go on is no event
 pub turned_same : (old new : ℤ) (events : List TraceEvent) → new ≡ old → events ≡ turned old new events

@@ -1,7 +1,7 @@
 -- The next datagram of the events so far.
-use Rattle.std.proofs.Common.{◌≡◌, inl, inr, ◌<◌, ◌≤◌, ◌+◌, ℕ, suc, Bool, true, false, not, ◌&&◌, ◌||◌, nat_lt, nat_eq, if◌then◌else◌, List, [], ◌∷◌, ◌++◌, length, take, drop, ℤ, Option, Some, None, is_some, IfSome, slice_get, refl, sym, ap, subst, ◌∙◌, arith}
+use Rattle.std.proofs.Common.{◌≡◌, inl, inr, ◌<◌, ◌≤◌, ◌+◌, ℕ, suc, ◌^◌, pos, ◌≤ℤ◌, Bool, true, false, not, ◌&&◌, ◌||◌, nat_lt, nat_eq, if◌then◌else◌, List, [], ◌∷◌, ◌++◌, length, drop, ℤ, Option, Some, None, is_some, IfSome, slice_get, refl, sym, ap, subst, ◌∙◌, arith}
 use Rattle.std.specs.List.{list_all}
-use Rattle.std.proofs.lemmas.Bool.{cases_Bool, false≢true}
+use Rattle.std.proofs.lemmas.Bool.{false≢true}
 use Rattle.std.proofs.lemmas.Option.{slice_get_within}
 use Rattle.stream_rules.specs.declared.stream_spec.Stream.{Stream}
 use Rattle.stream_rules.specs.StreamSpecFacts.{format_of}
@@ -17,12 +17,12 @@ use Rattle.stream_rules.specs.declared.reception.Reception.TheVariants.{Sent, Ba
 use Rattle.lane_align.specs.Cover.{covers, cover_of, cover_to, last_quiet, last_slot, time_reached}
 use Rattle.mix_packets.specs.OutSpec.{datagram_length}
 use Rattle.mix_packets.specs.Block.{block_start}
+use Rattle.mix_packets.specs.Packer.{PackerState}
 use Rattle.studio_spec.specs.Studio.{Studio}
 use Rattle.studio_mix.specs.Feed.{Feed}
 use Rattle.studio_mix.specs.Mixer.{MixerState, HasFeeds}
 use Rattle.studio_mix.specs.Ready.{are_covered, block_count, have_ended, is_ready}
 use Rattle.studio_mix.specs.Output.{datagram_of}
-use Rattle.studio_mix.specs.Blocks.{AreFirstBlocks}
 use Rattle.studio_mix.proofs.LawLemmas.{ready_longer, ready_covered}
 use Rattle.path_merge.proofs.AfterCloseLemmas.{ends}
 use Rattle.studio_session.specs.Event.{TraceEvent, Arrival, Reading, Closing}
@@ -30,12 +30,12 @@ use Rattle.studio_session.specs.Session.{Datagram, Other, event_in, stream_histo
 use Rattle.studio_session.specs.Fault.{closed_at}
 use Rattle.studio_session.specs.Cursor.{CursorState}
 use Rattle.studio_session.specs.Handed.{HaveTaken}
-use Rattle.studio_session.specs.Play.{HasFilled, HasPlayed, IsFinal, IsRunnableBy, Plays, PlaysFinal, PlaysOut, SessionState, feeds_of, stream_marks}
-use Rattle.studio_session.specs.Run.{HasGivenBlocks}
+use Rattle.studio_session.specs.Play.{HasFilled, HasPlayed, IsFinal, IsRunnableBy, PlaysFinal, PlaysOut, SessionState, feeds_of, stream_marks}
+use Rattle.studio_session.specs.Run.{HasGivenBlocks, blocks_left}
 use Rattle.studio_session.proofs.PlayLemmas.{plays_all}
-use Rattle.studio_session.proofs.RunLemmas.{blocks_more}
+use Rattle.studio_session.proofs.RunLemmas.{blocks_more, fewer_left}
 use Rattle.studio_session.proofs.SessionLemmas.{are_longer, datagram_same, ready_same}
-use Rattle.studio_engine.specs.Give.{GivesBlock, HasNoBlock, HasNoMore}
+use Rattle.studio_engine.specs.Give.{GivesBlock, HasNoBlock}
 
 -- a stream that isn't wanted any more is final, and so is one that gave all marks of the events
 pub final_either : (studio : Studio) (events : List TraceEvent) (feeds : List Feed) (next number : ℕ) (mixer : MixerState) (cursor : CursorState) (all : Bool) → length events ≤ cursor.place
@@ -163,3 +163,9 @@ no_block studio events mixer cursors old count datagrams ready run all given fil
             none = not_ready;
           };
     }
+
+-- fewer blocks are left behind one that was given
+pub fewer_given : (old filled new : PackerState) (o : Option ℕ) → filled ≡ old → 0 < filled.spec.frames → new.spec ≡ filled.spec → IfSome o (λ (len : ℕ). new.number ≡ filled.number + 1)
+    → IfSome o (λ (len : ℕ). block_start filled.spec filled.number ≤ℤ pos (2 ^ 61 + 192)) → IfSome o (λ (len : ℕ). blocks_left new < blocks_left old)
+fewer_given old filled new None same some spec number early = tt
+fewer_given old filled new (Some len) same some spec number early = subst (λ p. blocks_left new < blocks_left p) same (fewer_left filled new some spec number early)

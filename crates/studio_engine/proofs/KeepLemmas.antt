@@ -1,17 +1,20 @@
 -- Marks that are kept, stream by stream.
-use Rattle.std.proofs.Common.{◌≡◌, inl, inr, ◌<◌, ◌≤◌, ◌+◌, ℕ, Bool, true, ◌&&◌, List, length, set, get_or, None, Some, slice_get, refl, sym, ap, subst, ◌∙◌, arith}
+use Rattle.std.proofs.Common.{◌≡◌, inl, inr, ◌<◌, ◌≤◌, ◌+◌, ℕ, Bool, true, ◌&&◌, List, length, set, get_or, Option, None, Some, IfSome, slice_get, refl, sym, ap, subst, ◌∙◌, arith}
 use Rattle.std.proofs.lemmas.Bool.{cases_eq}
 use Rattle.std.proofs.lemmas.List.{length-set}
 use Rattle.std.proofs.lemmas.Option.{slice_get-get_or}
 use Rattle.lane_align.proofs.MarkListLemmas.{both_left, both_right}
 use Rattle.studio_spec.specs.Studio.{Studio}
 use Rattle.studio_mix.specs.Feed.{Feed}
-use Rattle.studio_mix.specs.Mixer.{MixerState}
+use Rattle.stream_rules.specs.MarkFacts.{MarkView}
+use Rattle.studio_mix.specs.Mixer.{MixerState, has_room_of}
 use Rattle.studio_mix.proofs.MixerLemmas.{set_same_at, set_other_at}
 use Rattle.studio_session.specs.Event.{TraceEvent}
-use Rattle.studio_session.specs.Cursor.{CursorState}
+use Rattle.studio_session.specs.Cursor.{CursorState, next_of}
 use Rattle.studio_session.specs.Play.{HasPlayed, IsGiven, Plays}
 use Rattle.studio_engine.specs.Engine.{AreAtRest}
+use Rattle.studio_engine.specs.Near.{HasRooms, IsAwaited}
+use Rattle.studio_engine.proofs.NearLemmas.{lent_has_room}
 
 -- what one stream gave joins what was played
 pub played_more : (studio : Studio) (events : List TraceEvent) (mixer new : MixerState) (cursors : List CursorState) (next i : ℕ) (moved : CursorState)
@@ -53,3 +56,12 @@ rested_more cursors i moved all kept within before last both j cursor h at = eli
 -- so have all
 pub all_rested : (cursors : List CursorState) (n : ℕ) → length cursors ≤ n → ((j : ℕ) (cursor : CursorState) → j < n → slice_get cursors j ≡ Some cursor → cursor.reading ≡ None) → AreAtRest cursors
 all_rested cursors n all each = λ i d within. each i (get_or cursors i d) (omega (arith, within, all)) (slice_get-get_or cursors i d within)
+
+-- before a close there is room for the next mark, if there is one
+pub next_fits : (studio : Studio) (events : List TraceEvent) (mixer : MixerState) (feeds : List Feed) (next number : ℕ) (cursor : CursorState) → IsAwaited studio events next → HasRooms studio mixer
+    → number < length feeds → Plays studio events feeds next number mixer cursor → length events ≤ cursor.place → IfSome (next_of cursor) (λ mark. has_room_of mixer number mark ≡ true)
+next_fits studio events mixer feeds next number cursor awaited roomy within plays taken = by_mark (next_of cursor) refl
+  where
+    by_mark : (o : Option MarkView) → next_of cursor ≡ o → IfSome o (λ mark. has_room_of mixer number mark ≡ true)
+    by_mark None is = tt
+    by_mark (Some mark) is = lent_has_room studio events mixer feeds next number cursor mark awaited roomy within plays taken is

@@ -10,14 +10,16 @@ use Rattle.studio_session.specs.Play.{IsRunnableBy, feeds_of}
 use Rattle.studio_session.specs.Run.{HasGivenBlocks}
 use Rattle.studio_engine.specs.Engine.{EngineState, session_of}
 use Rattle.studio_engine.specs.Give.{HasNoMore}
+use Rattle.studio_engine.specs.Near.{HasRooms}
 
--- the engine of this studio was handed these events, of which none is at fault, and gave these datagrams: those of the first blocks, each of which is ready
+-- the engine of this studio, with room in its lanes, was handed these events, of which none is at fault, and gave these datagrams: those of the first blocks, each of which is ready
 pub record HasSession (studio : Studio) (engine : EngineState) (events : List TraceEvent) (datagrams : List (List ℕ)) : Type 0 where
   pub lawful : session_fault_of studio events ≡ None
   pub runnable : IsRunnableBy studio events
   pub time : engine.time ≡ time_at studio.open_at events
   pub closed : engine.closed ≡ closed_at false events
   pub count : engine.count ≡ length events
+  pub rooms : HasRooms studio engine.mixer
   pub given : HasGivenBlocks studio events (session_of engine) datagrams
   pub settled : engine.settled ≡ true → HasNoMore studio given.played.feeds (length datagrams)
 

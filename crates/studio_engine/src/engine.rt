@@ -8,6 +8,7 @@ ghost use Rattle.studio_session.specs.Event.{TraceEvent, Arrival, Reading, Closi
 ghost use Rattle.studio_session.specs.Receipt.{receipt_of};
 ghost use Rattle.studio_session.specs.Counts as received;
 ghost use Rattle.studio_session.specs.Report.{merge_tally_of};
+ghost use Rattle.studio_session.specs.Run.{blocks_left};
 ghost use Rattle.stream_rules.specs.Counts.{tally_of};
 ghost use Rattle.stream_rules.specs.PathCounts.{path_tally_of};
 ghost use Rattle.studio_engine.specs.Engine.{HasAllMarks, arrive_fault_of, path_fault_of};
@@ -138,7 +139,10 @@ impl Engine {
         ensures none { IfOk result (λ given. given ≡ None → (studio : Studio) (events : List TraceEvent) (datagrams : List (List ℕ))
             → HasSession studio self.old events datagrams
             → HasGivenReady studio self.new (turned self.old.time self.new.time events) datagrams) }
-        ensures there { IfOk result (λ given. given ≡ None → self.new.turning ≡ false → self.new.time ≡ now) }
+        ensures there { IfOk result (λ given. given ≡ None → (studio : Studio) (events : List TraceEvent) (datagrams : List (List ℕ))
+            → HasSession studio self.old events datagrams → (self.new.turning ≡ false) × (self.new.time ≡ now)) }
+        ensures fewer { IfOk result (λ given. IfSome given (λ _. blocks_left self.new.mixer.packer < blocks_left self.old.mixer.packer)) }
+        ensures left { IfOk result (λ given. given ≡ None → self.new.mixer.packer ≡ self.old.mixer.packer) }
         ensures fine { OnOk result (clock_fault_of self.old.time self.old.closed now ≡ None) }
         ensures fault { IfErr result (λ fault. clock_fault_of self.old.time self.old.closed now ≡ Some fault) }
         ensures kept { OnErr result (self.new ≡ self.old) }
@@ -150,6 +154,7 @@ impl Engine {
         if let Some(len) = self.go_on(out) {
             return Ok(Some(len));
         }
+        // No engine that has a session comes here.
         if self.turning {
             return Ok(None);
         }
@@ -170,7 +175,7 @@ impl Engine {
             → HasSession studio self.old events datagrams → HasSession studio self.new (events ++ Reading now ∷ []) datagrams }
         ensures time { self.new.time ≡ now }
         ensures closed { self.new.closed ≡ false }
-        ensures output { self.new.mixer.packer.spec ≡ self.old.mixer.packer.spec }
+        ensures packer { self.new.mixer.packer ≡ self.old.mixer.packer }
     {
         hand_reading(self.cursors.as_mut_slice(), self.count, now);
         self.time = now;
@@ -186,6 +191,10 @@ impl Engine {
             → HasSession studio self.old events datagrams → Gives studio self.new events datagrams out.old out.new len) }
         ensures none { result ≡ None → (studio : Studio) (events : List TraceEvent) (datagrams : List (List ℕ))
             → HasSession studio self.old events datagrams → HasGivenReady studio self.new events datagrams }
+        ensures finished { result ≡ None → (studio : Studio) (events : List TraceEvent) (datagrams : List (List ℕ))
+            → HasSession studio self.old events datagrams → self.new.turning ≡ false }
+        ensures fewer { IfSome result (λ _. blocks_left self.new.mixer.packer < blocks_left self.old.mixer.packer) }
+        ensures left { result ≡ None → self.new.mixer.packer ≡ self.old.mixer.packer }
         ensures kept { result ≡ None → out.new ≡ out.old }
         ensures time { self.new.time ≡ self.old.time }
         ensures closed { self.new.closed ≡ self.old.closed }
@@ -228,6 +237,8 @@ impl Engine {
         ensures none { result ≡ None → (studio : Studio) (events : List TraceEvent) (datagrams : List (List ℕ))
             → HasSession studio self.old events datagrams → HasSession studio self.new events datagrams }
         ensures settled { result ≡ None → self.new.settled ≡ self.old.closed }
+        ensures fewer { IfSome result (λ _. blocks_left self.new.mixer.packer < blocks_left self.old.mixer.packer) }
+        ensures left { result ≡ None → self.new.mixer.packer ≡ self.old.mixer.packer }
         ensures closed { self.new.closed ≡ self.old.closed }
         ensures kept { result ≡ None → out.new ≡ out.old }
         ensures output { self.new.mixer.packer.spec ≡ self.old.mixer.packer.spec }

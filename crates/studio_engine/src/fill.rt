@@ -1,11 +1,12 @@
 //! The next datagram, and the marks that its block needs, handed on stream by stream.
-ghost use Rattle.std.specs.Prelude.{◌≡◌, ℕ, ◌≤◌, List, length, None, IfSome};
+ghost use Rattle.std.specs.Prelude.{◌≡◌, ℕ, ◌<◌, ◌≤◌, List, length, None, IfSome};
 ghost use Rattle.mix_packets.specs.OutSpec.{datagram_length};
 ghost use Rattle.studio_spec.specs.Studio.{Studio};
+ghost use Rattle.studio_mix.specs.Room.{rooms_of};
 ghost use Rattle.studio_session.specs.Event.{TraceEvent};
 ghost use Rattle.studio_session.specs.Handed.{HaveTaken};
 ghost use Rattle.studio_session.specs.Play.{HasFilled, HasPlayed, IsRunnableBy};
-ghost use Rattle.studio_session.specs.Run.{HasGivenBlocks};
+ghost use Rattle.studio_session.specs.Run.{HasGivenBlocks, blocks_left};
 ghost use Rattle.studio_engine.specs.Engine.{AreAtRest, HaveCome};
 ghost use Rattle.studio_engine.specs.Give.{GivesBlock, HasNoBlock};
 
@@ -22,10 +23,18 @@ fn fill(mixer: &mut Mixer, cursors: &mut [Cursor])
     ensures rested { AreAtRest cursors.old → AreAtRest cursors.new }
     ensures packer { mixer.new.packer ≡ mixer.old.packer }
     ensures streams { length mixer.new.lanes ≡ length mixer.old.lanes }
+    ensures rooms { rooms_of mixer.new.lanes ≡ rooms_of mixer.old.lanes }
 {
     for stream in 0..cursors.len() {
         let _ = pull_marks(mixer, stream, &mut cursors[stream]);
     }
+}
+
+/// What holds of every mixer's output, for the contract below. Nothing is computed here.
+fn has_frames(mixer: &Mixer)
+    ensures { 0 < mixer.now.packer.spec.frames }
+{
+    let _ = mixer.output().frames();
 }
 
 /// Writes the next datagram of the events so far to the front of `out`, and answers its length; none where no
@@ -41,12 +50,16 @@ pub(crate) fn give(mixer: &mut Mixer, cursors: &mut [Cursor], out: &mut [u8]) ->
         → IsRunnableBy studio events → HaveTaken events cursors.old
         → HasGivenBlocks studio events (record { mixer = mixer.old; cursors = cursors.old }) datagrams
         → HasNoBlock studio events (record { mixer = mixer.new; cursors = cursors.new }) datagrams }
+    ensures fewer { IfSome result (λ _. blocks_left mixer.new.packer < blocks_left mixer.old.packer) }
+    ensures left { result ≡ None → mixer.new.packer ≡ mixer.old.packer }
     ensures kept { result ≡ None → out.new ≡ out.old }
     ensures come { (count : ℕ) → HaveCome count cursors.old → HaveCome count cursors.new }
     ensures rested { AreAtRest cursors.old → AreAtRest cursors.new }
     ensures output { mixer.new.packer.spec ≡ mixer.old.packer.spec }
     ensures streams { length mixer.new.lanes ≡ length mixer.old.lanes }
+    ensures rooms { rooms_of mixer.new.lanes ≡ rooms_of mixer.old.lanes }
 {
     fill(mixer, cursors);
+    has_frames(mixer);
     mixer.next_block(out)
 }

@@ -38,6 +38,7 @@ loop-stream-preserved c =
           All-set (λ (cursor : CursorState). cursor.reading ≡ None) cursors i moved (c.pull_marks.ensures.rests (was i item within)) was;
       packer = c.pull_marks.ensures.packer ∙ inv.packer;
       streams = c.pull_marks.ensures.streams ∙ inv.streams;
+      rooms = c.pull_marks.ensures.rooms ∙ inv.rooms;
     }
 
 pub returns-clause-stands : goal.returns-clause-stands

@@ -1,5 +1,6 @@
 use Rattle.std.proofs.Common.{◌≡◌, ℕ, List, length}
 use Rattle.studio_spec.specs.Studio.{Studio}
+use Rattle.studio_mix.specs.Room.{rooms_of}
 use Rattle.studio_session.specs.Event.{TraceEvent}
 use Rattle.studio_session.specs.Handed.{HaveTaken}
 use Rattle.studio_session.specs.Play.{HasFilled, HasPlayed, IsRunnableBy}
@@ -16,4 +17,5 @@ invariant-loop-stream l = record {
   rested : AreAtRest l.fn.cursors → AreAtRest l.cursors;
   packer : l.mixer.packer ≡ l.fn.mixer.packer;
   streams : length l.mixer.lanes ≡ length l.fn.mixer.lanes;
+  rooms : rooms_of l.mixer.lanes ≡ rooms_of l.fn.mixer.lanes;
 }

@@ -1,7 +1,7 @@
-use Rattle.std.proofs.Common.{◌≡◌, ◌≤◌, length, false, None, is_some, sym, ap, subst, ◌∙◌, arith}
-use Rattle.studio_session.specs.Play.{HasFilled}
+use Rattle.std.proofs.Common.{◌≤◌, length, is_some, sym, ap, subst, ◌∙◌, arith}
+use Rattle.studio_mix.specs.Mixer.{MixerState}
 use Rattle.studio_engine.specs.Give.{HasNoBlock}
-use Rattle.studio_engine.proofs.FillLemmas.{gives_block, no_block}
+use Rattle.studio_engine.proofs.FillLemmas.{fewer_given, gives_block, no_block}
 use Rattle.studio_engine.proofs.fill.give.Goals as goal
 
 pub returns-clause-some : goal.returns-clause-some
@@ -20,3 +20,11 @@ returns-clause-none c = λ none studio events datagrams run taken given.
     subst (λ m. HasNoBlock studio events (record { mixer = m; cursors = c.fill.new.cursors }) datagrams) (sym same)
     (no_block studio events c.fill.new.mixer c.fill.new.cursors (record { mixer = c.args.mixer.now; cursors = c.args.cursors.now }) count datagrams (is_some c.next_block.result) run all given filled
     (c.next_block.ensures.ready studio filled.played.feeds (length datagrams) filled.played.fed) (ap is_some none))
+
+pub returns-clause-fewer : goal.returns-clause-fewer
+returns-clause-fewer c =
+    fewer_given c.args.mixer.now.packer c.fill.new.mixer.packer c.next_block.new.self.packer c.next_block.result
+    c.fill.ensures.packer c.has_frames.ensures c.next_block.ensures.spec c.next_block.ensures.number c.next_block.ensures.early
+
+pub returns-clause-left : goal.returns-clause-left
+returns-clause-left c = λ none. ap (λ (m : MixerState). m.packer) (c.next_block.ensures.none none).0 ∙ c.fill.ensures.packer

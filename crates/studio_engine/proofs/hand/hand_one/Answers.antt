@@ -1,4 +1,4 @@
-use Rattle.std.proofs.Common.{◌≡◌, ◌≢◌, sym, subst}
+use Rattle.std.proofs.Common.{sym, subst}
 use Rattle.studio_session.specs.Event.{Arrival}
 use Rattle.studio_session.specs.Handed.{IsHanded}
 use Rattle.studio_engine.proofs.HandLemmas.{is_other}

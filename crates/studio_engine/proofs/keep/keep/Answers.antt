@@ -1,4 +1,4 @@
-use Rattle.std.proofs.Common.{◌≡◌, ◌<◌, ◌≤◌, length, get_or, Some, slice_get, ◌∙◌, arith}
+use Rattle.std.proofs.Common.{◌≡◌, ◌<◌, ◌&&◌, length, get_or, Some, slice_get, refl, ap, ◌∙◌, arith}
 use Rattle.std.proofs.lemmas.List.Elements.{All-set}
 use Rattle.std.proofs.lemmas.Option.{slice_get-get_or}
 use Rattle.studio_session.specs.Cursor.{CursorState}
@@ -9,10 +9,12 @@ use Rattle.studio_engine.proofs.keep.keep.Goals as goal
 pub loop-stream-init : goal.loop-stream-init
 loop-stream-init c = record {
   stands = λ studio events next run played. played;
+  full = λ studio events next awaited roomy taken played. refl;
   come = λ count before. before;
   rested = λ yes i cursor h at. absurd (omega (arith, h));
   packer = cc;
   streams = cc;
+  rooms = refl;
 }
 
 pub loop-stream-preserved : goal.loop-stream-preserved
@@ -33,12 +35,21 @@ loop-stream-preserved c =
           let here : i < length before.feeds = omega (arith, within, count) in
           played_more studio events c.loop-stream.mixer c.keep_marks-all.new.mixer cursors next i moved before within
           (c.keep_marks-all.ensures.stands studio events before.feeds next run here (plays_of studio events c.loop-stream.mixer cursors next i old before at));
+      full = λ studio events next awaited roomy taken played.
+          let before = inv.stands studio events next awaited.runs played in
+          let count = before.count in
+          let here : i < length before.feeds = omega (arith, within, count) in
+          let place : old.place ≡ length events = inv.come (length events) taken i item within in
+          ap (λ b. b && c.keep_marks-all.result) (inv.full studio events next awaited roomy taken played)
+          ∙ c.keep_marks-all.ensures.all studio events before.feeds next awaited (record { rooms = inv.rooms ∙ roomy.rooms }) here
+          (plays_of studio events c.loop-stream.mixer cursors next i old before at) (omega (arith, place));
       come = λ count before.
           let was = inv.come count before in
           All-set (λ (cursor : CursorState). cursor.place ≡ count) cursors i moved (c.keep_marks-all.ensures.kept.place ∙ was i item within) was;
       rested = rested_more cursors i moved c.loop-stream.all c.keep_marks-all.result within inv.rested c.keep_marks-all.ensures.settled;
       packer = c.keep_marks-all.ensures.packer ∙ inv.packer;
       streams = c.keep_marks-all.ensures.streams ∙ inv.streams;
+      rooms = c.keep_marks-all.ensures.rooms ∙ inv.rooms;
     }
 
 pub returns-clause-rested : goal.returns-clause-rested

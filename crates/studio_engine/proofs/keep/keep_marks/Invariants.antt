@@ -1,6 +1,7 @@
 use Rattle.std.proofs.Common.{◌≡◌, ℕ, ◌<◌, List, length, None}
 use Rattle.studio_spec.specs.Studio.{Studio}
 use Rattle.studio_mix.specs.Feed.{Feed}
+use Rattle.studio_mix.specs.Room.{rooms_of}
 use Rattle.studio_session.specs.Event.{TraceEvent}
 use Rattle.studio_session.specs.Cursor.{IsSameCursor, way_left}
 use Rattle.studio_session.specs.Play.{IsRunnableBy, Plays}
@@ -15,6 +16,7 @@ invariant-marks l = record {
   rests : l.fn.cursor.reading ≡ None → l.cursor.reading ≡ None;
   packer : l.mixer.packer ≡ l.fn.mixer.packer;
   streams : length l.mixer.lanes ≡ length l.fn.mixer.lanes;
+  rooms : rooms_of l.mixer.lanes ≡ rooms_of l.fn.mixer.lanes;
 }
 
 abbrev pub decreases-marks : goal.decreases-marks

@@ -1,10 +1,7 @@
-use Rattle.std.proofs.Common.{◌≡◌, ◌+◌, ◌<◌, length, get_or, Some, None, IfSome, false, slice_get, refl, sym, ap, subst, ◌∙◌, arith}
-use Rattle.std.proofs.lemmas.Option.{slice_get_within, slice_get-get_or}
+use Rattle.std.proofs.Common.{◌≡◌, ◌+◌, length, None, slice_get, refl, sym, ap, subst, ◌∙◌}
 use Rattle.studio_mix.proofs.NextLemmas.{lent}
 use Rattle.studio_session.specs.Event.{Arrival}
-use Rattle.studio_session.specs.Cursor.{CursorState}
 use Rattle.studio_session.specs.Handed.{AreHanded}
-use Rattle.studio_session.proofs.FaultLemmas.{arrival_fault}
 use Rattle.studio_engine.specs.Engine.{EngineState, arrive_fault_of}
 use Rattle.studio_engine.specs.Session.{HasSession}
 use Rattle.studio_engine.proofs.EngineLemmas.{pulled_at, session_handed, taken_arrival}

@@ -1,4 +1,4 @@
-use Rattle.std.proofs.Common.{◌≡◌, length, false, true, None, is_some, not, refl, sym, ap, subst, ◌∙◌}
+use Rattle.std.proofs.Common.{length, refl, sym, ap, subst, ◌∙◌}
 use Rattle.studio_mix.proofs.NextLemmas.{lent}
 use Rattle.studio_session.specs.Run.{HasGivenBlocks}
 use Rattle.studio_engine.specs.Engine.{AreAtRest, EngineState, HaveCome}
@@ -32,5 +32,5 @@ returns-clause-none c = λ none studio events datagrams s.
     let back = lent i.cursors.len (length moved) moved i.cursors.items (c.give-given.auto.cursors ∙ c.as_mut_slice.ensures.len) in
     let stop = c.give-given.ensures.none none studio events datagrams s'.runnable (taken_of events c.as_mut_slice.result.now i.count s'.count (subst (HaveCome i.count) (sym lent_is) inv.taken))
     (subst (λ l. HasGivenBlocks studio events (record { mixer = i.mixer; cursors = l }) datagrams) (sym lent_is) s'.given) in
-    session_settles studio inside _ events datagrams refl refl refl c.if-not-self.false s'
+    session_settles studio inside _ events datagrams refl refl refl c.if-not-self.false c.give-given.ensures.rooms s'
     (subst (λ l. HasNoBlock studio events (record { mixer = c.give-given.new.mixer; cursors = l }) datagrams) (sym back) stop)

@@ -1,11 +1,13 @@
-use Rattle.std.proofs.Common.{◌≡◌, ◌<ℤ◌, ◌≤ℤ◌, ℕ, ℤ, List, Option, Some, None, IfSome, refl, sym, ap, subst, ◌∙◌, arith, to_z, of_z, w64}
+use Rattle.std.proofs.Common.{◌≡◌, ◌<◌, ◌<ℤ◌, ◌∷◌, [], ◌++◌, ℕ, IfSome, sym, ap, subst, ◌∙◌, arith, to_z, of_z, w64}
+use Rattle.std.proofs.lemmas.Bool.{false≢true}
 use Rattle.std.proofs.lemmas.Int.{ints, to_z-of_z}
 use Rattle.path_merge.specs.Clock.{clock_fault_of}
 use Rattle.path_merge.proofs.RunLemmas.{no_fault}
-use Rattle.studio_spec.specs.Studio.{Studio}
-use Rattle.studio_session.specs.Event.{TraceEvent, Reading}
+use Rattle.mix_packets.specs.Packer.{PackerState}
+use Rattle.studio_session.specs.Event.{Reading}
+use Rattle.studio_session.specs.Run.{blocks_left}
 use Rattle.studio_engine.specs.Engine.{EngineState}
-use Rattle.studio_engine.specs.Session.{Gives, HasGivenReady, HasSession, turned}
+use Rattle.studio_engine.specs.Session.{HasGivenReady}
 use Rattle.studio_engine.proofs.EngineLemmas.{gives_after, ready_after, turned_same}
 use Rattle.studio_engine.proofs.engine.Engine.turn.Goals as goal
 
@@ -53,3 +55,26 @@ returns-clause-none c = λ none.
     ready_after c.args.self.now c.set_out.new.self c.go_on-2.new.self now later time
     (λ studio events datagrams s. c.set_out.ensures.stands studio events datagrams (c.go_on.ensures.none c.in_default-go_on.is studio events datagrams s).stands)
     (c.go_on-2.ensures.none none)
+
+pub returns-then-self-clause-there : goal.returns-then-self-clause-there
+returns-then-self-clause-there c = λ none studio events datagrams s.
+    absurd (false≢true (sym (c.go_on.ensures.finished c.in_default-go_on.is studio events datagrams s) ∙ ap (λ (e : EngineState). e.turning) (sym c.self-2.view_is) ∙ c.if-self.true))
+
+pub returns-then-now-self-clause-there : goal.returns-then-now-self-clause-there
+returns-then-now-self-clause-there c = λ none studio events datagrams s.
+    let is = c.if-now-self.true in
+    let was : c.self-2.inside.time ≡ c.go_on.new.self.time = ap (λ (e : EngineState). e.time) c.self-2.view_is in
+    let same : to_z w64 (of_z w64 c.args.now) ≡ c.args.now = to_z-of_z w64 c.args.now c.ranges.now in
+    (c.go_on.ensures.finished c.in_default-go_on.is studio events datagrams s, omega (arith, ints, is, was, same))
+
+pub returns-clause-there : goal.returns-clause-there
+returns-clause-there c = λ none studio events datagrams s.
+    let same = to_z-of_z w64 c.args.now c.ranges.now in (
+      c.go_on-2.ensures.finished none studio (events ++ Reading (to_z w64 (of_z w64 c.args.now)) ∷ []) datagrams
+          (c.set_out.ensures.stands studio events datagrams (c.go_on.ensures.none c.in_default-go_on.is studio events datagrams s).stands),
+      c.go_on-2.ensures.time ∙ c.set_out.ensures.time ∙ same,
+    )
+
+pub returns-clause-fewer : goal.returns-clause-fewer
+returns-clause-fewer c =
+    subst (λ (p : PackerState). IfSome c.go_on-2.result (λ (len : ℕ). blocks_left c.go_on-2.new.self.mixer.packer < blocks_left p)) (c.set_out.ensures.packer ∙ c.go_on.ensures.left c.in_default-go_on.is) c.go_on-2.ensures.fewer
