@@ -1,8 +1,11 @@
 //! The calls of an engine, one by one.
 use super::studios::{
-    datagram, drain, packet, path, six, six_and_forty_eight, stream, sum_in, turn,
+    block_of_six, datagram, drain, fail_turn, give, give_datagram, give_none, hand, packet, path,
+    six, six_and_forty_eight, stream, sum_in, take,
 };
 use path_merge::{ClockFault, Fate};
+use std::alloc::{AllocError, Global};
+use std::process::Abort;
 use std::test::Fail;
 use studio_engine::{ArriveFault, Engine, Unfinished};
 use studio_session::Receipt;
@@ -12,17 +15,12 @@ use studio_session::Receipt;
 fn each_turn_gives_one_block(rt: HostRuntime) -> Result<(), Fail> {
     let alloc = rt.alloc();
     let mut engine = Engine::new(alloc, &six(&rt, alloc)?)?;
-    let first = packet(alloc, 1, 0, 1, 6, [0, 0, 1])?;
-    let second = packet(alloc, 2, 6, 1, 6, [0, 0, 2])?;
-    let taken = Ok(Receipt::Offered(Fate::Taken));
-    assert_eq!(rt; engine.arrive(0, path(&rt, 0), first.as_slice()), taken);
-    assert_eq!(rt; engine.arrive(0, path(&rt, 0), second.as_slice()), taken);
-    assert_eq!(rt; turn(&rt, alloc, &mut engine, 11)?, Ok(None));
-    let one = datagram(alloc, 0, 0, 6, [0, 0, 1])?;
-    let two = datagram(alloc, 1, 6, 6, [0, 0, 2])?;
-    assert_eq!(rt; turn(&rt, alloc, &mut engine, 18)?, Ok(Some(one)));
-    assert_eq!(rt; turn(&rt, alloc, &mut engine, 18)?, Ok(Some(two)));
-    assert_eq!(rt; turn(&rt, alloc, &mut engine, 18)?, Ok(None));
+    take(&rt, alloc, &mut engine, 0, 1)?;
+    take(&rt, alloc, &mut engine, 0, 2)?;
+    give_none(&rt, alloc, &mut engine, 11)?;
+    give(&rt, alloc, &mut engine, 18, 0, 1)?;
+    give(&rt, alloc, &mut engine, 18, 1, 2)?;
+    give_none(&rt, alloc, &mut engine, 18)?;
     Ok(())
 }
 
@@ -31,23 +29,14 @@ fn each_turn_gives_one_block(rt: HostRuntime) -> Result<(), Fail> {
 fn a_packet_comes_between_two_turns(rt: HostRuntime) -> Result<(), Fail> {
     let alloc = rt.alloc();
     let mut engine = Engine::new(alloc, &six(&rt, alloc)?)?;
-    let first = packet(alloc, 1, 0, 1, 6, [0, 0, 1])?;
-    let second = packet(alloc, 2, 6, 1, 6, [0, 0, 2])?;
-    let _ = engine.arrive(0, path(&rt, 0), first.as_slice());
-    let one = datagram(alloc, 0, 0, 6, [0, 0, 1])?;
-    assert_eq!(rt; turn(&rt, alloc, &mut engine, 12)?, Ok(Some(one)));
-    assert_eq!(rt; turn(&rt, alloc, &mut engine, 12)?, Ok(None));
-    assert_eq!(rt;
-        engine.arrive(0, path(&rt, 1), second.as_slice()),
-        Ok(Receipt::Offered(Fate::Taken))
-    );
-    let two = datagram(alloc, 1, 6, 6, [0, 0, 2])?;
-    assert_eq!(rt; turn(&rt, alloc, &mut engine, 18)?, Ok(Some(two)));
-    assert_eq!(rt; turn(&rt, alloc, &mut engine, 18)?, Ok(None));
-    assert_eq!(rt;
-        engine.arrive(0, path(&rt, 0), second.as_slice()),
-        Ok(Receipt::Offered(Fate::Late))
-    );
+    take(&rt, alloc, &mut engine, 0, 1)?;
+    give(&rt, alloc, &mut engine, 12, 0, 1)?;
+    give_none(&rt, alloc, &mut engine, 12)?;
+    take(&rt, alloc, &mut engine, 1, 2)?;
+    give(&rt, alloc, &mut engine, 18, 1, 2)?;
+    give_none(&rt, alloc, &mut engine, 18)?;
+    let late = hand(&rt, alloc, &mut engine, 0, 2)?;
+    assert!(rt; late == Ok(Receipt::Offered(Fate::Late)));
     Ok(())
 }
 
@@ -56,58 +45,54 @@ fn a_packet_comes_between_two_turns(rt: HostRuntime) -> Result<(), Fail> {
 fn nothing_is_taken_within_a_turn(rt: HostRuntime) -> Result<(), Fail> {
     let alloc = rt.alloc();
     let mut engine = Engine::new(alloc, &six(&rt, alloc)?)?;
-    let first = packet(alloc, 1, 0, 1, 6, [0, 0, 1])?;
-    let _ = engine.arrive(0, path(&rt, 0), first.as_slice());
-    let one = datagram(alloc, 0, 0, 6, [0, 0, 1])?;
-    let lost = datagram(alloc, 1, 6, 6, [0, 0, 0])?;
-    assert_eq!(rt; turn(&rt, alloc, &mut engine, 12)?, Ok(Some(one)));
-    assert_eq!(rt;
-        engine.arrive(0, path(&rt, 0), first.as_slice()),
-        Err(ArriveFault::Unfinished)
-    );
-    assert_eq!(rt; engine.close(), Err(Unfinished));
-    assert_eq!(rt; turn(&rt, alloc, &mut engine, 18)?, Ok(Some(lost)));
-    assert_eq!(rt; turn(&rt, alloc, &mut engine, 18)?, Ok(None));
-    assert_eq!(rt; engine.close(), Ok(()));
+    take(&rt, alloc, &mut engine, 0, 1)?;
+    give(&rt, alloc, &mut engine, 12, 0, 1)?;
+    let refused = hand(&rt, alloc, &mut engine, 0, 1)?;
+    assert!(rt; refused == Err(ArriveFault::Unfinished));
+    assert!(rt; engine.close() == Err(Unfinished));
+    give(&rt, alloc, &mut engine, 18, 1, 0)?;
+    give_none(&rt, alloc, &mut engine, 18)?;
+    assert!(rt; engine.close().is_ok());
     Ok(())
 }
 
-/// A stream that is none, a path that the stream lacks, and what is no packet of the stream: each by its name.
+/// A stream that is none, and a path that the stream lacks: each by its name.
 #[test]
-fn what_is_not_taken_has_a_name(rt: HostRuntime) -> Result<(), Fail> {
+fn a_wrong_place_has_a_name(rt: HostRuntime) -> Result<(), Fail> {
     let alloc = rt.alloc();
     let mut engine = Engine::new(alloc, &six(&rt, alloc)?)?;
-    let mut octets = packet(alloc, 1, 0, 1, 6, [0, 0, 1])?;
+    let first = path(&rt, 0);
+    let none = engine.arrive(1, first, &[]);
+    assert!(rt; none == Err(ArriveFault::Stream));
+    let none = engine.arrive(0, path(&rt, 2), &[]);
+    assert!(rt; none == Err(ArriveFault::Path));
+    assert!(rt; engine.path_counts(1, first).is_none() && engine.counts(1).is_none());
+    Ok(())
+}
+
+/// Hands an engine's second path what is no packet of the stream: nothing, another type, and an octet too many.
+fn hand_strange(rt: &impl Abort, alloc: Global, engine: &mut Engine) -> Result<(), AllocError> {
+    let path = path(rt, 1);
+    assert!(rt; engine.arrive(0, path, &[]) == Ok(Receipt::Bad));
     let other_type = datagram(alloc, 1, 0, 6, [0, 0, 1])?;
-    assert_eq!(rt;
-        engine.arrive(1, path(&rt, 0), octets.as_slice()),
-        Err(ArriveFault::Stream)
-    );
-    assert_eq!(rt;
-        engine.arrive(0, path(&rt, 2), octets.as_slice()),
-        Err(ArriveFault::Path)
-    );
-    assert_eq!(rt; engine.arrive(0, path(&rt, 1), &[]), Ok(Receipt::Bad));
-    assert_eq!(rt;
-        engine.arrive(0, path(&rt, 1), other_type.as_slice()),
-        Ok(Receipt::WrongType)
-    );
-    octets.push(0)?;
-    assert_eq!(rt;
-        engine.arrive(0, path(&rt, 1), octets.as_slice()),
-        Ok(Receipt::WrongLength)
-    );
+    let strange = engine.arrive(0, path, other_type.as_slice());
+    assert!(rt; strange == Ok(Receipt::WrongType));
+    let mut long = packet(alloc, 1, 0, 1, 6, [0, 0, 1])?;
+    long.push(0)?;
+    let strange = engine.arrive(0, path, long.as_slice());
+    assert!(rt; strange == Ok(Receipt::WrongLength));
+    Ok(())
+}
+
+/// What is no packet of the stream is told by its name, and counted.
+#[test]
+fn what_is_no_packet_has_a_name(rt: HostRuntime) -> Result<(), Fail> {
+    let alloc = rt.alloc();
+    let mut engine = Engine::new(alloc, &six(&rt, alloc)?)?;
+    hand_strange(&rt, alloc, &mut engine)?;
     let counts = engine.path_counts(0, path(&rt, 1)).ok_or("the stream")?;
-    assert_eq!(rt;
-        (
-            counts.offered,
-            counts.bad,
-            counts.wrong_type,
-            counts.wrong_length
-        ),
-        (3, 1, 1, 1)
-    );
-    assert!(rt; engine.path_counts(1, path(&rt, 0)).is_none() && engine.counts(1).is_none());
+    assert!(rt; counts.offered == 3 && counts.bad == 1);
+    assert!(rt; counts.wrong_type == 1 && counts.wrong_length == 1);
     Ok(())
 }
 
@@ -116,21 +101,28 @@ fn what_is_not_taken_has_a_name(rt: HostRuntime) -> Result<(), Fail> {
 fn a_reading_out_of_order_is_refused(rt: HostRuntime) -> Result<(), Fail> {
     let alloc = rt.alloc();
     let mut engine = Engine::new(alloc, &six(&rt, alloc)?)?;
-    assert_eq!(rt; turn(&rt, alloc, &mut engine, 17)?, Ok(None));
-    assert_eq!(rt;
-        turn(&rt, alloc, &mut engine, 16)?,
-        Err(ClockFault::WentBack)
-    );
+    give_none(&rt, alloc, &mut engine, 17)?;
+    fail_turn(&rt, alloc, &mut engine, 16, ClockFault::WentBack)?;
     let far = 1_152_921_504_606_846_977;
-    assert_eq!(rt;
-        turn(&rt, alloc, &mut engine, far)?,
-        Err(ClockFault::TooFar)
-    );
-    let silence = datagram(alloc, 0, 0, 6, [0, 0, 0])?;
-    assert_eq!(rt; turn(&rt, alloc, &mut engine, 18)?, Ok(Some(silence)));
-    assert_eq!(rt; turn(&rt, alloc, &mut engine, 18)?, Ok(None));
-    assert_eq!(rt; engine.close(), Ok(()));
-    assert_eq!(rt; turn(&rt, alloc, &mut engine, 18)?, Err(ClockFault::Closed));
+    fail_turn(&rt, alloc, &mut engine, far, ClockFault::TooFar)?;
+    give(&rt, alloc, &mut engine, 18, 0, 0)?;
+    give_none(&rt, alloc, &mut engine, 18)?;
+    assert!(rt; engine.close().is_ok());
+    fail_turn(&rt, alloc, &mut engine, 18, ClockFault::Closed)?;
+    Ok(())
+}
+
+/// A drain gives this block of six, all of whose samples are this one.
+fn drain_one(
+    rt: &impl Abort,
+    alloc: Global,
+    engine: &mut Engine,
+    block: u8,
+    sample: u8,
+) -> Result<(), AllocError> {
+    let want = block_of_six(alloc, block, sample)?;
+    let given = drain(rt, alloc, engine)?;
+    assert!(rt; given == Some(want));
     Ok(())
 }
 
@@ -139,27 +131,56 @@ fn a_reading_out_of_order_is_refused(rt: HostRuntime) -> Result<(), Fail> {
 fn what_is_left_comes_after_a_close(rt: HostRuntime) -> Result<(), Fail> {
     let alloc = rt.alloc();
     let mut engine = Engine::new(alloc, &six(&rt, alloc)?)?;
-    let second = packet(alloc, 2, 6, 1, 6, [0, 0, 2])?;
-    let _ = engine.arrive(0, path(&rt, 0), second.as_slice());
-    assert_eq!(rt; drain(&rt, alloc, &mut engine)?, None);
+    take(&rt, alloc, &mut engine, 0, 2)?;
+    assert!(rt; drain(&rt, alloc, &mut engine)?.is_none());
     assert!(rt; !engine.settled());
-    assert_eq!(rt; engine.close(), Ok(()));
-    assert_eq!(rt; engine.close(), Ok(()), "a second close is none");
-    let silence = datagram(alloc, 0, 0, 6, [0, 0, 0])?;
-    let two = datagram(alloc, 1, 6, 6, [0, 0, 2])?;
-    assert_eq!(rt; drain(&rt, alloc, &mut engine)?, Some(silence));
+    assert!(rt; engine.close().is_ok());
+    assert!(rt; engine.close().is_ok(), "a second close is none");
+    drain_one(&rt, alloc, &mut engine, 0, 0)?;
     assert!(rt; !engine.settled());
-    assert_eq!(rt; drain(&rt, alloc, &mut engine)?, Some(two));
-    assert_eq!(rt; drain(&rt, alloc, &mut engine)?, None);
-    assert!(rt; engine.settled());
-    let counts = engine.counts(0).ok_or("the stream")?;
-    assert_eq!(rt; (counts.taken, counts.got, counts.lost), (1, 1, 0));
-    assert_eq!(rt;
-        engine.arrive(0, path(&rt, 0), second.as_slice()),
-        Ok(Receipt::Offered(Fate::Closed))
-    );
+    drain_one(&rt, alloc, &mut engine, 1, 2)?;
+    assert!(rt; drain(&rt, alloc, &mut engine)?.is_none());
     assert!(rt; engine.settled());
     Ok(())
+}
+
+/// Once all is settled the counts are whole, and what arrives is told that it comes after the close.
+#[test]
+fn counts_are_whole_once_settled(rt: HostRuntime) -> Result<(), Fail> {
+    let alloc = rt.alloc();
+    let mut engine = Engine::new(alloc, &six(&rt, alloc)?)?;
+    take(&rt, alloc, &mut engine, 0, 1)?;
+    assert!(rt; engine.close().is_ok());
+    drain_one(&rt, alloc, &mut engine, 0, 1)?;
+    assert!(rt; drain(&rt, alloc, &mut engine)?.is_none());
+    let counts = engine.counts(0).ok_or("the stream")?;
+    assert!(rt; counts.taken == 1 && counts.got == 1 && counts.lost == 0);
+    let closed = hand(&rt, alloc, &mut engine, 0, 1)?;
+    assert!(rt; closed == Ok(Receipt::Offered(Fate::Closed)));
+    assert!(rt; engine.settled());
+    Ok(())
+}
+
+/// Hands an engine of two streams a packet of each: of 48 from 48 on, and of six from 24 on.
+fn hand_both(rt: &impl Abort, alloc: Global, engine: &mut Engine) -> Result<(), AllocError> {
+    let path = path(rt, 0);
+    let slow = packet(alloc, 1, 48, 1, 48, [0, 0, 4])?;
+    let _ = engine.arrive(1, path, slow.as_slice());
+    let fast = packet(alloc, 1, 24, 1, 6, [0, 0, 1])?;
+    let _ = engine.arrive(0, path, fast.as_slice());
+    Ok(())
+}
+
+/// The first block of these: the packet of six from 24 on, and silence beside it.
+fn first_of_both(alloc: Global) -> Result<Vec<u8>, AllocError> {
+    let mut octets = datagram(alloc, 0, 0, 24, [0, 0, 0])?;
+    for _ in 0..6u8 {
+        octets.extend_from_slice(&[0, 0, 1])?;
+    }
+    for _ in 0..18u8 {
+        octets.extend_from_slice(&[0, 0, 0])?;
+    }
+    Ok(octets)
 }
 
 /// A block needs the stream of 48, which comes by 84 later: what the stream of six gives until then is kept for its block.
@@ -167,22 +188,12 @@ fn what_is_left_comes_after_a_close(rt: HostRuntime) -> Result<(), Fail> {
 fn marks_are_kept_until_the_slower_stream_has_come(rt: HostRuntime) -> Result<(), Fail> {
     let alloc = rt.alloc();
     let mut engine = Engine::new(alloc, &six_and_forty_eight(&rt, alloc)?)?;
-    let slow = packet(alloc, 1, 48, 1, 48, [0, 0, 4])?;
-    let fast = packet(alloc, 1, 24, 1, 6, [0, 0, 1])?;
-    let _ = engine.arrive(1, path(&rt, 0), slow.as_slice());
-    let _ = engine.arrive(0, path(&rt, 0), fast.as_slice());
-    assert_eq!(rt; turn(&rt, alloc, &mut engine, 143)?, Ok(None));
-    let mut first = datagram(alloc, 0, 0, 24, [0, 0, 0])?;
-    for _ in 0..6u8 {
-        first.extend_from_slice(&[0, 0, 1])?;
-    }
-    for _ in 0..18u8 {
-        first.extend_from_slice(&[0, 0, 0])?;
-    }
-    assert_eq!(rt; turn(&rt, alloc, &mut engine, 144)?, Ok(Some(first)));
+    hand_both(&rt, alloc, &mut engine)?;
+    give_none(&rt, alloc, &mut engine, 143)?;
+    give_datagram(&rt, alloc, &mut engine, 144, first_of_both(alloc)?)?;
     let second = datagram(alloc, 1, 48, 48, [0, 0, 4])?;
-    assert_eq!(rt; turn(&rt, alloc, &mut engine, 144)?, Ok(Some(second)));
-    assert_eq!(rt; turn(&rt, alloc, &mut engine, 144)?, Ok(None));
+    give_datagram(&rt, alloc, &mut engine, 144, second)?;
+    give_none(&rt, alloc, &mut engine, 144)?;
     Ok(())
 }
 

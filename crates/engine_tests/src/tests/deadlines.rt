@@ -1,5 +1,5 @@
 //! The reading before which no datagram comes.
-use super::studios::{packet, path, six, turn};
+use super::studios::{give, give_none, six, take};
 use std::test::Fail;
 use studio_engine::Engine;
 
@@ -9,14 +9,11 @@ fn the_next_deadline_is_that_of_the_block(rt: HostRuntime) -> Result<(), Fail> {
     let alloc = rt.alloc();
     let mut engine = Engine::new(alloc, &six(&rt, alloc)?)?;
     assert_eq!(rt; engine.next_deadline(), Some(18));
-    let first = packet(alloc, 1, 0, 1, 6, [0, 0, 1])?;
-    let _ = engine.arrive(0, path(&rt, 0), first.as_slice());
+    take(&rt, alloc, &mut engine, 0, 1)?;
     assert_eq!(rt; engine.next_deadline(), Some(12));
-    let given = turn(&rt, alloc, &mut engine, 12)?;
-    assert!(rt; matches!(given, Ok(Some(_))));
+    give(&rt, alloc, &mut engine, 12, 0, 1)?;
     assert_eq!(rt; engine.next_deadline(), None, "the turn isn't finished");
-    let given = turn(&rt, alloc, &mut engine, 12)?;
-    assert!(rt; matches!(given, Ok(None)));
+    give_none(&rt, alloc, &mut engine, 12)?;
     assert_eq!(rt; engine.next_deadline(), Some(18));
     assert!(rt; engine.close().is_ok());
     assert_eq!(rt; engine.next_deadline(), None);

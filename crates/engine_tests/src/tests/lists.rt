@@ -50,6 +50,12 @@ impl Sender {
         self.ts = self.ts.wrapping_add(u32::from(self.frames));
         Ok(octets)
     }
+
+    /// Goes on as another source at another timestamp.
+    fn restart(&mut self, ts: u32) {
+        self.ts = ts;
+        self.ssrc = self.ssrc.wrapping_add(1);
+    }
 }
 
 /// Eight packets on one path or on both, some of them lost.
@@ -77,51 +83,80 @@ fn push_packets(
     Ok(())
 }
 
+/// The senders of both streams, and the time.
+#[derive(Clone, Copy)]
+struct Senders {
+    six: Sender,
+    forty_eight: Sender,
+    paths: [Path; 2],
+    now: u32,
+}
+
+impl Senders {
+    /// Senders that begin anywhere, at 0.
+    fn new(rt: &impl Abort, dice: &mut Dice) -> Senders {
+        Senders {
+            six: Sender {
+                frames: 6,
+                seq: dice.below(65_536) as u16,
+                ts: dice.below(20),
+                ssrc: 1,
+            },
+            forty_eight: Sender {
+                frames: 48,
+                seq: dice.below(65_536) as u16,
+                ts: dice.below(200),
+                ssrc: 1,
+            },
+            paths: [path(rt, 0), path(rt, 1)],
+            now: 0,
+        }
+    }
+
+    /// Eight packets of one stream, a restart of one, or a reading near or far.
+    fn push_some(
+        &mut self,
+        alloc: Global,
+        dice: &mut Dice,
+        events: &mut Vec<StudioEvent>,
+    ) -> Result<(), AllocError> {
+        match dice.below(8) {
+            0 | 1 => push_packets(alloc, dice, 0, &mut self.six, self.paths, events),
+            2 | 3 => push_packets(alloc, dice, 1, &mut self.forty_eight, self.paths, events),
+            4 => {
+                self.six.restart(self.now.wrapping_add(dice.below(30)));
+                Ok(())
+            }
+            5 => {
+                self.forty_eight
+                    .restart(self.now.wrapping_add(dice.below(250)));
+                Ok(())
+            }
+            6 => self.push_reading(dice.below(60), events),
+            _ => self.push_reading(dice.below(3_000), events),
+        }
+    }
+
+    /// A reading so much later.
+    fn push_reading(&mut self, step: u32, events: &mut Vec<StudioEvent>) -> Result<(), AllocError> {
+        self.now = self.now.wrapping_add(step);
+        events.push(StudioEvent::Tick(i64::from(self.now)))?;
+        Ok(())
+    }
+}
+
 /// A list: packets, gaps, restarts, readings near and far, what is no packet, and perhaps a close with more behind it.
 fn random_list(rt: &impl Abort, alloc: Global, seed: u64) -> Result<Vec<StudioEvent>, AllocError> {
     let mut dice = Dice { state: seed };
-    let paths = [path(rt, 0), path(rt, 1)];
-    let mut six = Sender {
-        frames: 6,
-        seq: dice.below(65_536) as u16,
-        ts: dice.below(20),
-        ssrc: 1,
-    };
-    let mut forty_eight = Sender {
-        frames: 48,
-        seq: dice.below(65_536) as u16,
-        ts: dice.below(200),
-        ssrc: 1,
-    };
+    let mut senders = Senders::new(rt, &mut dice);
     let mut events = Vec::new(alloc);
-    let mut now = 0u32;
     for _ in 0..24u8 {
-        match dice.below(8) {
-            0 | 1 => push_packets(alloc, &mut dice, 0, &mut six, paths, &mut events)?,
-            2 | 3 => push_packets(alloc, &mut dice, 1, &mut forty_eight, paths, &mut events)?,
-            4 => {
-                six.ts = now.wrapping_add(dice.below(30));
-                six.ssrc = six.ssrc.wrapping_add(1);
-            }
-            5 => {
-                forty_eight.ts = now.wrapping_add(dice.below(250));
-                forty_eight.ssrc = forty_eight.ssrc.wrapping_add(1);
-            }
-            _ => {
-                let far = dice.below(6) == 0;
-                let step = if far {
-                    dice.below(3_000)
-                } else {
-                    dice.below(60)
-                };
-                now = now.wrapping_add(step);
-                events.push(StudioEvent::Tick(i64::from(now)))?;
-            }
-        }
+        senders.push_some(alloc, &mut dice, &mut events)?;
     }
     if dice.below(4) > 0 {
         events.push(StudioEvent::Close)?;
-        push_packets(alloc, &mut dice, 0, &mut six, paths, &mut events)?;
+        let paths = senders.paths;
+        push_packets(alloc, &mut dice, 0, &mut senders.six, paths, &mut events)?;
     }
     Ok(events)
 }
@@ -150,6 +185,54 @@ fn take_all(
     panic!(rt; "no end")
 }
 
+/// Hands an engine an event, and answers how many datagrams it has given by it.
+fn take_event(
+    rt: &impl Abort,
+    alloc: Global,
+    engine: &mut Engine,
+    event: &StudioEvent,
+    report: &Report,
+    given: usize,
+) -> Result<usize, AllocError> {
+    match event {
+        StudioEvent::Arrive {
+            stream,
+            path,
+            octets,
+        } => {
+            let taken = engine.arrive(usize::from(*stream), *path, octets.as_slice());
+            assert!(rt; taken.is_ok());
+            Ok(given)
+        }
+        StudioEvent::Tick(now) => {
+            let due = engine.next_deadline();
+            let after = take_all(rt, alloc, engine, Some(*now), report, given)?;
+            let reached = due.is_some_and(|due| due <= *now);
+            assert_eq!(rt; reached, after > given, "the next deadline");
+            Ok(after)
+        }
+        StudioEvent::Close => {
+            assert!(rt; engine.close().is_ok());
+            let after = take_all(rt, alloc, engine, None, report, given)?;
+            assert!(rt; engine.settled());
+            Ok(after)
+        }
+    }
+}
+
+/// The counts of an engine are those of a report.
+fn compare_counts(rt: &impl Abort, engine: &Engine, report: &Report) {
+    for (number, counts) in report.streams.iter().enumerate() {
+        if engine.settled() {
+            assert!(rt; engine.counts(number) == Some(counts.merge));
+        }
+        for place in 0..2u8 {
+            let told = counts.paths.get(usize::from(place)).copied();
+            assert!(rt; engine.path_counts(number, path(rt, place)) == told);
+        }
+    }
+}
+
 /// An engine that was handed a list gives the datagrams of its report, one after another, and its counts.
 fn compare(
     rt: &impl Abort,
@@ -163,40 +246,10 @@ fn compare(
     let mut engine = Engine::new(alloc, spec)?;
     let mut given = 0;
     for event in events {
-        match event {
-            StudioEvent::Arrive {
-                stream,
-                path,
-                octets,
-            } => {
-                let taken = engine.arrive(usize::from(*stream), *path, octets.as_slice());
-                assert!(rt; taken.is_ok());
-            }
-            StudioEvent::Tick(now) => {
-                let due = engine.next_deadline();
-                let before = given;
-                given = take_all(rt, alloc, &mut engine, Some(*now), &report, given)?;
-                let reached = due.is_some_and(|due| due <= *now);
-                assert_eq!(rt; reached, given > before, "the next deadline");
-            }
-            StudioEvent::Close => {
-                assert!(rt; engine.close().is_ok());
-                given = take_all(rt, alloc, &mut engine, None, &report, given)?;
-                assert!(rt; engine.settled());
-            }
-        }
+        given = take_event(rt, alloc, &mut engine, event, &report, given)?;
     }
-    assert_eq!(rt; given, report.datagrams.len());
-    for (number, counts) in report.streams.iter().enumerate() {
-        if engine.settled() {
-            assert_eq!(rt; engine.counts(number), Some(counts.merge));
-        }
-        for place in 0..2u8 {
-            let path = path(rt, place);
-            let told = counts.paths.get(usize::from(place)).copied();
-            assert_eq!(rt; engine.path_counts(number, path), told);
-        }
-    }
+    assert!(rt; given == report.datagrams.len());
+    compare_counts(rt, &engine, &report);
     Ok(())
 }
 

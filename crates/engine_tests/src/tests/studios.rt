@@ -1,12 +1,13 @@
 //! Studios for the tests, their packets, and the calls that they make of an engine.
 use gain_mix::{Matrix, Schedule};
 use mix_packets::OutSpec;
-use path_merge::{ClockFault, Path, StreamClock, StreamSpec};
+use path_merge::{ClockFault, Fate, Path, StreamClock, StreamSpec};
 use rtp_wire::Enc;
 use std::alloc::{AllocError, Global};
 use std::process::Abort;
 use std::test::Fail;
-use studio_engine::Engine;
+use studio_engine::{ArriveFault, Engine};
+use studio_session::Receipt;
 use studio_spec::StudioSpec;
 
 /// The most octets of an output's datagram.
@@ -100,6 +101,12 @@ pub fn datagram(
     Ok(octets)
 }
 
+/// Block 0 or 1 of an output of six.
+pub fn block_of_six(alloc: Global, block: u8, sample: u8) -> Result<Vec<u8>, AllocError> {
+    let ts = if block == 0 { 0 } else { 6 };
+    datagram(alloc, block, ts, 6, [0, 0, sample])
+}
+
 /// A turn, and the datagram that it gives.
 pub fn turn(
     rt: &impl Abort,
@@ -134,4 +141,81 @@ pub fn drain(
         }
         None => Ok(None),
     }
+}
+
+/// Hands an engine's first stream packet 1 or 2 of six, from 0 or from 6 on, all of whose samples are its number.
+pub fn hand(
+    rt: &impl Abort,
+    alloc: Global,
+    engine: &mut Engine,
+    on: u8,
+    number: u8,
+) -> Result<Result<Receipt, ArriveFault>, AllocError> {
+    let ts = if number == 1 { 0 } else { 6 };
+    let octets = packet(alloc, u16::from(number), ts, 1, 6, [0, 0, number])?;
+    Ok(engine.arrive(0, path(rt, on), octets.as_slice()))
+}
+
+/// An engine takes this packet.
+pub fn take(
+    rt: &impl Abort,
+    alloc: Global,
+    engine: &mut Engine,
+    on: u8,
+    number: u8,
+) -> Result<(), AllocError> {
+    let receipt = hand(rt, alloc, engine, on, number)?;
+    assert!(rt; receipt == Ok(Receipt::Offered(Fate::Taken)));
+    Ok(())
+}
+
+/// A turn gives block 0 or 1 of six, all of whose samples are this one.
+pub fn give(
+    rt: &impl Abort,
+    alloc: Global,
+    engine: &mut Engine,
+    now: i64,
+    block: u8,
+    sample: u8,
+) -> Result<(), AllocError> {
+    let want = block_of_six(alloc, block, sample)?;
+    give_datagram(rt, alloc, engine, now, want)
+}
+
+/// A turn gives this datagram.
+pub fn give_datagram(
+    rt: &impl Abort,
+    alloc: Global,
+    engine: &mut Engine,
+    now: i64,
+    want: Vec<u8>,
+) -> Result<(), AllocError> {
+    let given = turn(rt, alloc, engine, now)?;
+    assert!(rt; given == Ok(Some(want)));
+    Ok(())
+}
+
+/// A turn gives no block.
+pub fn give_none(
+    rt: &impl Abort,
+    alloc: Global,
+    engine: &mut Engine,
+    now: i64,
+) -> Result<(), AllocError> {
+    let given = turn(rt, alloc, engine, now)?;
+    assert!(rt; given == Ok(None));
+    Ok(())
+}
+
+/// A turn answers a fault.
+pub fn fail_turn(
+    rt: &impl Abort,
+    alloc: Global,
+    engine: &mut Engine,
+    now: i64,
+    fault: ClockFault,
+) -> Result<(), AllocError> {
+    let given = turn(rt, alloc, engine, now)?;
+    assert!(rt; given == Err(fault));
+    Ok(())
 }
