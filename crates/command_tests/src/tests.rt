@@ -1,4 +1,5 @@
 //! The tests, command by command.
+mod captures;
 mod commands;
 mod fakes;
 mod live;

@@ -7,9 +7,9 @@ use studio_spec::{Kind, SpecError, StudioSpec};
 /// The most octets of a configuration.
 const MOST_OCTETS: usize = 1_048_576;
 
-/// Where configurations are read from.
+/// Where configurations and captures are read from.
 pub trait Configs {
-    /// The octets of the configuration at a path.
+    /// The octets of the file at a path.
     fn octets(&self, alloc: Global, path: &str) -> Result<Vec<u8>, ReadFault>;
 }
 

@@ -1,4 +1,5 @@
 //! The faults of a run: their lines and exit statuses.
+use capture_read::CaptureFault;
 use std::io::Write;
 use studio_live::LiveFault;
 use studio_run::{PlayFault, SpecError, StudioFault};
@@ -19,6 +20,9 @@ pub enum Fault {
     /// A live run broke off.
     #[error("{0}")]
     Live(#[from] LiveFault),
+    /// The capture is at fault.
+    #[error("{0}")]
+    Capture(CaptureError),
     /// Memory was refused.
     #[error("out of memory")]
     Memory,
@@ -44,12 +48,27 @@ pub enum ConfigFault {
     Studio(SpecError),
 }
 
+/// Why a capture was not told to its end.
+#[derive(Clone, Copy, Debug, PartialEq, Eq, Error)]
+pub enum CaptureError {
+    /// It could not be read.
+    #[error("device: capture")]
+    Unread,
+    /// It has more octets than a trace may have.
+    #[error("capture: too long")]
+    TooLong,
+    /// Its first fault.
+    #[error("capture {0}")]
+    Octet(CaptureFault),
+}
+
 impl Fault {
     /// The exit status of the program.
     pub fn status(&self) -> u8 {
         match self {
             Fault::Usage => 2,
-            Fault::Config(ConfigFault::Unread) => 5,
+            Fault::Config(ConfigFault::Unread) | Fault::Capture(CaptureError::Unread) => 5,
+            Fault::Capture(_) => 1,
             Fault::Config(_) => 3,
             Fault::Play(fault) => play_status(fault),
             Fault::Live(LiveFault::Memory) | Fault::Memory => 4,

@@ -1,10 +1,11 @@
-//! The program's commands: to list the marks of a trace, to play it to its report, to run a studio live, and to say what
-//! a configuration means.
+//! The program's commands: to list the marks of a trace, to play it to its report, to run a studio live, to say what
+//! a configuration means, and what RTP audio a capture holds.
 //!
-//! `run` is the whole: from the words of a command line to its exit status. Where configurations lie is the caller's:
-//! it hands in `Configs`.
+//! `run` is the whole: from the words of a command line to its exit status. Where configurations and captures lie is the
+//! caller's: it hands in `Configs`.
 #![tactic(auto)]
 
+mod captures;
 mod config;
 mod fault;
 mod live;
@@ -13,6 +14,6 @@ mod summary;
 mod words;
 
 pub use config::Configs;
-pub use fault::{ConfigFault, Fault};
+pub use fault::{CaptureError, ConfigFault, Fault};
 pub use live::run_config;
 pub use program::run;

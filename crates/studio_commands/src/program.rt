@@ -1,4 +1,5 @@
 //! From the words of a command line to its exit status.
+use crate::captures::list_streams;
 use crate::config::{Configs, config_of, standard_studio, studio_of};
 use crate::fault::Fault;
 use crate::live::run_config;
@@ -64,6 +65,7 @@ fn answer<R: Threads + Wait + Sync + Net + Clock, C: Configs, I: Read, W: Write,
             let studio = studio_of(configs, alloc, path)?;
             write_summary(&studio, output)
         }
+        Asked::Streams(path) => list_streams(configs, alloc, path, output),
         Asked::Live(path, options) => {
             let config = config_of(configs, alloc, path)?;
             run_config(rt, alloc, config.as_slice(), &options, output, faults)

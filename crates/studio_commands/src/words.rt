@@ -21,6 +21,8 @@ pub enum Asked<'a> {
     Play(&'a str),
     /// What a configuration means.
     Check(&'a str),
+    /// What a capture holds.
+    Streams(&'a str),
     /// A run of a configuration's studio on sockets.
     Live(&'a str, LiveOptions),
 }
@@ -31,6 +33,11 @@ pub fn asked_for<'a>(alloc: Global, words: &'a [String]) -> Result<Asked<'a>, Er
     let Some((name, inner)) = matches.subcommand() else {
         return Ok(Asked::Standard);
     };
+    if name == "streams"
+        && let Some(path) = inner.get_str("FILE")
+    {
+        return Ok(Asked::Streams(path));
+    }
     match inner.get_str("CONFIG") {
         Some(path) if name == "play" => Ok(Asked::Play(path)),
         Some(path) if name == "check" => Ok(Asked::Check(path)),
@@ -80,7 +87,21 @@ fn command<'a>(alloc: Global) -> Result<Command<'a>, Error> {
         .subcommand(marks)?
         .subcommand(play)?
         .subcommand(check)?
+        .subcommand(streams_command(alloc)?)?
         .subcommand(live_command(alloc)?)?;
+    Ok(command)
+}
+
+/// The word of a capture.
+fn streams_command<'a>(alloc: Global) -> Result<Command<'a>, Error> {
+    let file = Arg::new(alloc, "FILE")
+        .help("The capture, a pcap or pcapng file")
+        .required(true);
+    let command = Command::new(alloc, "streams")
+        .about(
+            "Says what RTP audio a capture holds: counts, what fits each flow, and the skew of paths",
+        )
+        .arg(file)?;
     Ok(command)
 }
 

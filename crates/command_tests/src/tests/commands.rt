@@ -129,7 +129,8 @@ fn a_configuration_that_is_too_long_is_not_read(rt: HostRuntime) -> Result<(), F
 #[test]
 fn other_words_are_usage_faults(rt: HostRuntime) -> Result<(), Fail> {
     let alloc = rt.alloc();
-    let table: [&[&str]; 9] = [
+    let table: [&[&str]; 10] = [
+        &["streams"],
         &["live"],
         &["live", "studio.toml", "--instants", "0"],
         &["live", "studio.toml", "--instants", "1099511627777"],

@@ -1,0 +1,30 @@
+//! The RTP flows of a capture: which there are, what was lost of each, and which are paths of one stream.
+//!
+//! `table_of` reads a capture once and answers a `Table` of its flows, in the order of their first packets, with the counts
+//! of each. `text_of` tells it, a line a flow, and what fits each flow's packets. Flows of one source that share numbers are
+//! paths of one stream: `streams_of` finds them, and `skew_of` reads the capture once more for the times between them.
+//!
+//! The capture's octets are the caller's. Memory is taken for the table, the times of one pair of paths, and the text.
+#![tactic(auto)]
+
+mod fit;
+mod flow;
+mod lengths;
+mod numbers;
+mod sighting;
+mod skew;
+mod steps;
+mod streams;
+mod table;
+mod text;
+
+pub use fit::{Fit, fit_of};
+pub use flow::Flow;
+pub use lengths::Lengths;
+pub use numbers::Numbers;
+pub use sighting::{FlowKey, Sighting, sighting_in};
+pub use skew::{Skew, skew_of};
+pub use steps::Steps;
+pub use streams::{Stream, streams_of};
+pub use table::{MOST_FLOWS, Table, table_of};
+pub use text::text_of;

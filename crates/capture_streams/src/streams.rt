@@ -1,0 +1,65 @@
+//! Flows that are paths of one stream (SMPTE ST 2022-7).
+use crate::flow::Flow;
+use std::alloc::{AllocError, Global};
+
+/// The most paths of a stream.
+const MOST_PATHS: usize = 4;
+
+/// The paths of a stream: places of its flows in the table, in their order; a flow alone is a stream of one path.
+#[derive(Clone, Copy)]
+pub struct Stream {
+    places: [usize; 4],
+    len: usize,
+}
+
+impl Stream {
+    /// The places of its flows.
+    pub fn places(&self) -> &[usize] {
+        self.places.get(..self.len).unwrap_or(&[])
+    }
+
+    /// Adds a path, if there is room for one.
+    fn add(&mut self, place: usize) {
+        if let Some(free) = self.places.get_mut(self.len) {
+            *free = place;
+            self.len = self.len.saturating_add(1);
+        }
+    }
+}
+
+/// Whether two flows carry the same packets: one source and payload type, other addresses, and a number in common.
+pub fn are_paths(a: &Flow, b: &Flow) -> bool {
+    let (one, other) = (a.key(), b.key());
+    one.ssrc == other.ssrc && one.pt == other.pt && a.numbers().meets(b.numbers())
+}
+
+/// The streams of flows, in the order of their first paths. A fifth path begins a stream of its own.
+pub fn streams_of(alloc: Global, flows: &[Flow]) -> Result<Vec<Stream>, AllocError> {
+    let mut taken = Vec::from_elem(alloc, false, flows.len())?;
+    let mut streams = Vec::new(alloc);
+    for (place, flow) in flows.iter().enumerate() {
+        if taken.get(place).copied().unwrap_or(true) {
+            continue;
+        }
+        streams.push(stream_from(flows, taken.as_mut_slice(), place, flow))?;
+    }
+    Ok(streams)
+}
+
+/// The stream of which a flow is the first path; its flows are taken.
+fn stream_from(flows: &[Flow], taken: &mut [bool], first: usize, flow: &Flow) -> Stream {
+    let mut stream = Stream {
+        places: [first; 4],
+        len: 1,
+    };
+    for (place, other) in flows.iter().enumerate().skip(first.saturating_add(1)) {
+        let Some(is_taken) = taken.get_mut(place) else {
+            break;
+        };
+        if !*is_taken && stream.len < MOST_PATHS && are_paths(flow, other) {
+            stream.add(place);
+            *is_taken = true;
+        }
+    }
+    stream
+}
