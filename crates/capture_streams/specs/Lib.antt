@@ -1,0 +1,4 @@
+pub mod Sighting
+pub mod Numbers
+pub mod Flow
+pub mod Table

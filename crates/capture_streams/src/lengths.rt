@@ -1,4 +1,6 @@
 //! The payload lengths of a flow.
+ghost use Rattle.std.specs.Prelude.{◌≡◌};
+ghost use Rattle.capture_streams.specs.Flow.{lengths_first, lengths_with};
 
 /// The least and the greatest, in octets.
 #[derive(Clone, Copy)]
@@ -9,7 +11,9 @@ pub struct Lengths {
 
 impl Lengths {
     /// Those of one packet.
-    pub fn new(len: usize) -> Lengths {
+    pub fn new(len: usize) -> Lengths
+        ensures { result ≡ lengths_first len }
+    {
         Lengths {
             least: len,
             greatest: len,
@@ -17,7 +21,9 @@ impl Lengths {
     }
 
     /// Takes in a packet's.
-    pub fn add(&mut self, len: usize) {
+    pub fn add(&mut self, len: usize)
+        ensures { self.new ≡ lengths_with self.old len }
+    {
         self.least = self.least.min(len);
         self.greatest = self.greatest.max(len);
     }

@@ -1,6 +1,6 @@
 //! The RTP flows of a capture: which there are, what was lost of each, and which are paths of one stream.
 //!
-//! `table_of` reads a capture once and answers a `Table` of its flows, in the order of their first packets, with the counts
+//! `Table::of` reads a capture once and answers a `Table` of its flows, in the order of their first packets, with the counts
 //! of each. `text_of` tells it, a line a flow, and what fits each flow's packets. Flows of one source that share numbers are
 //! paths of one stream: `streams_of` finds them, and `skew_of` reads the capture once more for the times between them.
 //!
@@ -10,6 +10,7 @@
 mod fit;
 mod flow;
 mod lengths;
+mod near;
 mod numbers;
 mod sighting;
 mod skew;
@@ -26,5 +27,5 @@ pub use sighting::{FlowKey, Sighting, sighting_in};
 pub use skew::{Skew, skew_of};
 pub use steps::Steps;
 pub use streams::{Stream, streams_of};
-pub use table::{MOST_FLOWS, Table, table_of};
+pub use table::{MOST_FLOWS, Table};
 pub use text::text_of;

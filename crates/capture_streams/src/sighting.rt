@@ -1,10 +1,14 @@
 //! An RTP packet as it was captured.
+ghost use Rattle.std.specs.Prelude.{◌≡◌};
+ghost use Rattle.capture_read.specs.Packet.{packet_view};
+ghost use Rattle.capture_streams.specs.Sighting.{same_flow, sighting_of};
+
 use capture_read::{Body, Packet};
 use rtp_wire::read;
 
 /// What tells flows apart: where packets come from and go to, their source and their payload type. An address is its
 /// four octets as one number.
-#[derive(Clone, Copy, PartialEq, Eq)]
+#[derive(Clone, Copy)]
 pub struct FlowKey {
     pub from: u32,
     pub from_port: u16,
@@ -14,6 +18,20 @@ pub struct FlowKey {
     pub ssrc: u32,
     /// The payload type.
     pub pt: u8,
+}
+
+impl FlowKey {
+    /// Whether both are of one flow.
+    pub fn is_same(&self, other: &FlowKey) -> bool
+        ensures { result ≡ same_flow self.now other.now }
+    {
+        self.from == other.from
+            && self.from_port == other.from_port
+            && self.to == other.to
+            && self.to_port == other.to_port
+            && self.ssrc == other.ssrc
+            && self.pt == other.pt
+    }
 }
 
 /// An RTP packet of a flow.
@@ -30,7 +48,10 @@ pub struct Sighting {
 }
 
 /// The RTP packet in a captured one, unless it is cut, a fragment or no RTP.
-pub fn sighting_in(packet: &Packet<'_>) -> Option<Sighting> {
+#[tactic(auto, unfolding(crate::specs::Sighting::sighting_of))]
+pub fn sighting_in(packet: &Packet<'_>) -> Option<Sighting>
+    ensures { result ≡ sighting_of (packet_view packet.now) }
+{
     let Body::Datagram(datagram) = packet.ip.body else {
         return None;
     };
@@ -39,9 +60,9 @@ pub fn sighting_in(packet: &Packet<'_>) -> Option<Sighting> {
     };
     Some(Sighting {
         key: FlowKey {
-            from: packet.ip.source.to_bits(),
+            from: u32::from_be_bytes(packet.ip.source.octets()),
             from_port: datagram.source_port,
-            to: packet.ip.destination.to_bits(),
+            to: u32::from_be_bytes(packet.ip.destination.octets()),
             to_port: datagram.destination_port,
             ssrc: view.ssrc,
             pt: view.pt,

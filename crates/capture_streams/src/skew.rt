@@ -1,5 +1,5 @@
 //! The times between the arrivals of the same number on two paths.
-use crate::numbers::{CYCLE, first_number, number_near};
+use crate::near::{CYCLE, first_number, number_near};
 use crate::sighting::{FlowKey, sighting_in};
 use capture_read::Capture;
 use std::alloc::{AllocError, Global};
@@ -43,8 +43,8 @@ pub fn skew_of(
         let Some(next) = sighting_in(&packet) else {
             continue;
         };
-        let on_first = next.key == *first;
-        if !on_first && next.key != *second {
+        let on_first = next.key.is_same(first);
+        if !on_first && !next.key.is_same(second) {
             continue;
         }
         let number = match greatest {

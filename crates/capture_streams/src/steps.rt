@@ -1,4 +1,6 @@
 //! The timestamp steps of a flow.
+ghost use Rattle.std.specs.Prelude.{◌≡◌};
+ghost use Rattle.capture_streams.specs.Flow.{steps_first, steps_with};
 
 /// How far the timestamp goes from a packet to the one of the next number, where that came next.
 #[derive(Clone, Copy)]
@@ -14,7 +16,9 @@ pub struct Steps {
 
 impl Steps {
     /// Those of one packet.
-    pub fn new(seq: u16, ts: u32) -> Steps {
+    pub fn new(seq: u16, ts: u32) -> Steps
+        ensures { result ≡ steps_first seq ts }
+    {
         Steps {
             seq,
             ts,
@@ -24,7 +28,10 @@ impl Steps {
     }
 
     /// Takes in the packet that comes next.
-    pub fn add(&mut self, seq: u16, ts: u32) {
+    #[tactic(auto, unfolding(crate::specs::Flow::steps_with))]
+    pub fn add(&mut self, seq: u16, ts: u32)
+        ensures { self.new ≡ steps_with self.old seq ts }
+    {
         if seq == self.seq.wrapping_add(1) {
             let step = ts.wrapping_sub(self.ts);
             match self.first {

@@ -1,5 +1,7 @@
 //! Flows that are paths of one stream (SMPTE ST 2022-7).
 use crate::flow::Flow;
+use crate::sighting::FlowKey;
+use crate::table::Table;
 use std::alloc::{AllocError, Global};
 
 /// The most paths of a stream.
@@ -28,35 +30,38 @@ impl Stream {
 }
 
 /// Whether two flows carry the same packets: one source and payload type, other addresses, and a number in common.
-pub fn are_paths(a: &Flow, b: &Flow) -> bool {
-    let (one, other) = (a.key(), b.key());
-    one.ssrc == other.ssrc && one.pt == other.pt && a.numbers().meets(b.numbers())
+fn are_paths(a: (FlowKey, &Flow), b: (FlowKey, &Flow)) -> bool {
+    let ((one, counts), (other, others)) = (a, b);
+    one.ssrc == other.ssrc && one.pt == other.pt && counts.numbers().meets(others.numbers())
 }
 
 /// The streams of flows, in the order of their first paths. A fifth path begins a stream of its own.
-pub fn streams_of(alloc: Global, flows: &[Flow]) -> Result<Vec<Stream>, AllocError> {
-    let mut taken = Vec::from_elem(alloc, false, flows.len())?;
+pub fn streams_of(alloc: Global, table: &Table) -> Result<Vec<Stream>, AllocError> {
+    let mut taken = Vec::from_elem(alloc, false, table.flows().len())?;
     let mut streams = Vec::new(alloc);
-    for (place, flow) in flows.iter().enumerate() {
-        if taken.get(place).copied().unwrap_or(true) {
-            continue;
+    for place in 0..table.flows().len() {
+        if let Some(flow) = table.flow(place)
+            && taken.get(place).copied() == Some(false)
+        {
+            streams.push(stream_from(table, taken.as_mut_slice(), place, flow))?;
         }
-        streams.push(stream_from(flows, taken.as_mut_slice(), place, flow))?;
     }
     Ok(streams)
 }
 
 /// The stream of which a flow is the first path; its flows are taken.
-fn stream_from(flows: &[Flow], taken: &mut [bool], first: usize, flow: &Flow) -> Stream {
+fn stream_from(table: &Table, taken: &mut [bool], first: usize, flow: (FlowKey, &Flow)) -> Stream {
     let mut stream = Stream {
         places: [first; 4],
         len: 1,
     };
-    for (place, other) in flows.iter().enumerate().skip(first.saturating_add(1)) {
-        let Some(is_taken) = taken.get_mut(place) else {
-            break;
-        };
-        if !*is_taken && stream.len < MOST_PATHS && are_paths(flow, other) {
+    for place in first.saturating_add(1)..table.flows().len() {
+        if let Some(other) = table.flow(place)
+            && let Some(is_taken) = taken.get_mut(place)
+            && !*is_taken
+            && stream.len < MOST_PATHS
+            && are_paths(flow, other)
+        {
             stream.add(place);
             *is_taken = true;
         }

@@ -1,6 +1,7 @@
 //! What a capture holds, as a text.
 use crate::fit::fit_of;
 use crate::flow::Flow;
+use crate::sighting::FlowKey;
 use crate::skew::{Skew, skew_of};
 use crate::streams::{Stream, streams_of};
 use crate::table::Table;
@@ -15,10 +16,10 @@ const NAMES: [&str; 4] = ["a", "b", "c", "d"];
 /// further path's skew. The octets are the capture's.
 pub fn text_of(alloc: Global, table: &Table, octets: &[u8]) -> Result<String, AllocError> {
     let mut text = String::new(alloc);
-    let streams = streams_of(alloc, table.flows())?;
+    let streams = streams_of(alloc, table)?;
     for (number, stream) in streams.iter().enumerate() {
-        push_flows(&mut text, alloc, table.flows(), number, stream)?;
-        push_skews(&mut text, alloc, table.flows(), number, stream, octets)?;
+        push_flows(&mut text, alloc, table, number, stream)?;
+        push_skews(&mut text, alloc, table, number, stream, octets)?;
     }
     push_rest(&mut text, alloc, table)?;
     Ok(text)
@@ -28,23 +29,27 @@ pub fn text_of(alloc: Global, table: &Table, octets: &[u8]) -> Result<String, Al
 fn push_flows(
     text: &mut String,
     alloc: Global,
-    flows: &[Flow],
+    table: &Table,
     number: usize,
     stream: &Stream,
 ) -> Result<(), AllocError> {
     for (name, place) in NAMES.iter().zip(stream.places().iter()) {
-        if let Some(flow) = flows.get(*place) {
+        if let Some((key, flow)) = table.flow(*place) {
             let line = format!(in alloc; "stream {number} path {name}: ")?;
             text.push_str(&line)?;
-            push_flow(text, alloc, flow)?;
+            push_flow(text, alloc, &key, flow)?;
         }
     }
     Ok(())
 }
 
 /// A flow's addresses, counts and form.
-fn push_flow(text: &mut String, alloc: Global, flow: &Flow) -> Result<(), AllocError> {
-    let key = flow.key();
+fn push_flow(
+    text: &mut String,
+    alloc: Global,
+    key: &FlowKey,
+    flow: &Flow,
+) -> Result<(), AllocError> {
     let (from, to) = (Ipv4Addr::from_bits(key.from), Ipv4Addr::from_bits(key.to));
     let (from_port, to_port, ssrc, pt) = (key.from_port, key.to_port, key.ssrc, key.pt);
     let ends = format!(in alloc;
@@ -108,7 +113,7 @@ fn push_fits(text: &mut String, alloc: Global, len: usize, step: u32) -> Result<
 fn push_skews(
     text: &mut String,
     alloc: Global,
-    flows: &[Flow],
+    table: &Table,
     number: usize,
     stream: &Stream,
     octets: &[u8],
@@ -116,17 +121,17 @@ fn push_skews(
     let Some(first) = stream.places().first() else {
         return Ok(());
     };
-    let Some(first) = flows.get(*first) else {
+    let Some((first, _)) = table.flow(*first) else {
         return Ok(());
     };
     for (name, place) in NAMES.iter().zip(stream.places().iter()).skip(1) {
-        let Some(flow) = flows.get(*place) else {
+        let Some((second, _)) = table.flow(*place) else {
             break;
         };
         let Ok(capture) = open(octets) else {
             break;
         };
-        if let Some(skew) = skew_of(alloc, capture, &first.key(), &flow.key())? {
+        if let Some(skew) = skew_of(alloc, capture, &first, &second)? {
             push_skew(text, alloc, number, name, &skew)?;
         }
     }

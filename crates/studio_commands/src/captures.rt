@@ -1,7 +1,7 @@
 //! What a capture holds.
 use crate::config::Configs;
 use crate::fault::{CaptureError, Fault};
-use capture_streams::{table_of, text_of};
+use capture_streams::{Table, text_of};
 use std::alloc::Global;
 use std::io::Write;
 use studio_run::{ReadFault, write_text};
@@ -23,7 +23,7 @@ pub fn list_streams<C: Configs, W: Write>(
 
 /// The same of a capture's octets.
 fn write_streams<W: Write>(alloc: Global, octets: &[u8], output: &mut W) -> Result<(), Fault> {
-    let table = table_of(alloc, octets).map_err(|_| Fault::Memory)?;
+    let table = Table::of(alloc, octets).map_err(|_| Fault::Memory)?;
     let text = text_of(alloc, &table, octets).map_err(|_| Fault::Memory)?;
     write_text(output, text.as_bytes()).map_err(|_| Fault::Write)?;
     match table.fault() {
