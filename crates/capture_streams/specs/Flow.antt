@@ -1,6 +1,5 @@
 -- A flow's packets, counted.
 use Rattle.std.specs.Prelude.{ℕ, ◌+◌, ◌-◌, ◌%◌, ◌^◌, Bool, false, min, max, Option, Some, None, ◌==◌, not, ◌||◌, if◌then◌else◌}
-use Rattle.capture_streams.specs.declared.sighting.FlowKey.{FlowKey}
 use Rattle.capture_streams.specs.declared.sighting.Sighting.{Sighting}
 use Rattle.capture_streams.specs.declared.lengths.Lengths.{Lengths}
 use Rattle.capture_streams.specs.declared.steps.Steps.{Steps}

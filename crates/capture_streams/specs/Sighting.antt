@@ -1,5 +1,5 @@
 -- RTP packets among those of a capture.
-use Rattle.std.specs.Prelude.{ℕ, Bool, List, length, Option, Some, None, ◌==◌, ◌&&◌}
+use Rattle.std.specs.Prelude.{Bool, length, Option, Some, None, ◌==◌, ◌&&◌}
 use Rattle.std.specs.Int.{w32, from_be_bytes}
 use Rattle.rtp_wire.specs.declared.fault.WireFault.{WireFault}
 use Rattle.rtp_wire.specs.Datagram.{wire_fault_of, head_at, payload_at}
