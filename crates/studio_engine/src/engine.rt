@@ -1,5 +1,5 @@
 //! A studio's merges and its mixer, moved by calls.
-ghost use Rattle.std.specs.Prelude.{◌≡◌, ℕ, ◌+◌, ◌^◌, ◌<◌, ◌≤◌, ◌∷◌, ◌++◌, [], List, pos, ◌≤ℤ◌, ◌<ℤ◌, length, slice_get, true, false, None, Some, IfOk, IfErr, IfSome, OnOk, OnErr};
+ghost use Rattle.std.specs.Prelude.{◌≡◌, ◌⊎◌, ℕ, ◌+◌, ◌^◌, ◌<◌, ◌≤◌, ◌∷◌, ◌++◌, [], List, pos, ◌≤ℤ◌, ◌<ℤ◌, length, slice_get, true, false, None, Some, IfOk, IfErr, IfSome, OnOk, OnErr};
 ghost use Rattle.stream_rules.specs.declared.stream_spec.Stream.{Stream};
 ghost use Rattle.mix_packets.specs.OutSpec.{datagram_length};
 ghost use Rattle.path_merge.specs.Clock.{clock_fault_of};
@@ -141,11 +141,14 @@ impl Engine {
             → HasGivenReady studio self.new (turned self.old.time self.new.time events) datagrams) }
         ensures there { IfOk result (λ given. given ≡ None → (studio : Studio) (events : List TraceEvent) (datagrams : List (List ℕ))
             → HasSession studio self.old events datagrams → (self.new.turning ≡ false) × (self.new.time ≡ now)) }
+        ensures time { OnOk result ((self.new.time ≡ self.old.time) ⊎ (self.new.time ≡ now)) }
+        ensures len { IfOk result (λ given. IfSome given (λ len. len ≡ datagram_length self.old.mixer.packer.spec)) }
         ensures fewer { IfOk result (λ given. IfSome given (λ _. blocks_left self.new.mixer.packer < blocks_left self.old.mixer.packer)) }
         ensures left { IfOk result (λ given. given ≡ None → self.new.mixer.packer ≡ self.old.mixer.packer) }
         ensures fine { OnOk result (clock_fault_of self.old.time self.old.closed now ≡ None) }
         ensures fault { IfErr result (λ fault. clock_fault_of self.old.time self.old.closed now ≡ Some fault) }
         ensures kept { OnErr result (self.new ≡ self.old) }
+        ensures closed { self.new.closed ≡ self.old.closed }
         ensures output { self.new.mixer.packer.spec ≡ self.old.mixer.packer.spec }
     {
         if let Some(fault) = clock_fault(self.time, self.closed, now) {
@@ -193,6 +196,7 @@ impl Engine {
             → HasSession studio self.old events datagrams → HasGivenReady studio self.new events datagrams }
         ensures finished { result ≡ None → (studio : Studio) (events : List TraceEvent) (datagrams : List (List ℕ))
             → HasSession studio self.old events datagrams → self.new.turning ≡ false }
+        ensures len { IfSome result (λ len. len ≡ datagram_length self.old.mixer.packer.spec) }
         ensures fewer { IfSome result (λ _. blocks_left self.new.mixer.packer < blocks_left self.old.mixer.packer) }
         ensures left { result ≡ None → self.new.mixer.packer ≡ self.old.mixer.packer }
         ensures kept { result ≡ None → out.new ≡ out.old }
@@ -237,6 +241,7 @@ impl Engine {
         ensures none { result ≡ None → (studio : Studio) (events : List TraceEvent) (datagrams : List (List ℕ))
             → HasSession studio self.old events datagrams → HasSession studio self.new events datagrams }
         ensures settled { result ≡ None → self.new.settled ≡ self.old.closed }
+        ensures len { IfSome result (λ len. len ≡ datagram_length self.old.mixer.packer.spec) }
         ensures fewer { IfSome result (λ _. blocks_left self.new.mixer.packer < blocks_left self.old.mixer.packer) }
         ensures left { result ≡ None → self.new.mixer.packer ≡ self.old.mixer.packer }
         ensures closed { self.new.closed ≡ self.old.closed }

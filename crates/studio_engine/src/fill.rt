@@ -50,6 +50,7 @@ pub(crate) fn give(mixer: &mut Mixer, cursors: &mut [Cursor], out: &mut [u8]) ->
         → IsRunnableBy studio events → HaveTaken events cursors.old
         → HasGivenBlocks studio events (record { mixer = mixer.old; cursors = cursors.old }) datagrams
         → HasNoBlock studio events (record { mixer = mixer.new; cursors = cursors.new }) datagrams }
+    ensures len { IfSome result (λ len. len ≡ datagram_length mixer.old.packer.spec) }
     ensures fewer { IfSome result (λ _. blocks_left mixer.new.packer < blocks_left mixer.old.packer) }
     ensures left { result ≡ None → mixer.new.packer ≡ mixer.old.packer }
     ensures kept { result ≡ None → out.new ≡ out.old }

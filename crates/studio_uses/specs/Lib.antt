@@ -1,3 +1,4 @@
+pub mod Engine
 pub mod Mix
 pub mod Receive
 pub mod Report

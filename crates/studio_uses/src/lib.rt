@@ -1,5 +1,7 @@
 //! Short callers of the other crates, for programs to call or to copy from. No crate here stands on them.
 //!
+//! `send_due` and `send_rest` send what an `Engine` gives at a reading of the clock, and after a close, for a
+//! program with a loop of its own.
 //! `receive_stream` takes one stream's datagrams to marks, by `rtp_wire::read` and the plain calls of a
 //! `Merge`: `offer`, `advance` and `drain`.
 //! `mix_next` takes two streams' marks to the output's next datagram, by `feed_wanted` and a `Mixer`.
@@ -9,6 +11,7 @@
 #![tactic(auto)]
 
 mod arrival;
+mod engine;
 mod memory_clock;
 mod memory_feed;
 mod memory_sink;
@@ -18,6 +21,7 @@ mod report;
 mod run;
 
 pub use arrival::Arrival;
+pub use engine::{send_due, send_rest};
 pub use memory_clock::MemoryClock;
 pub use memory_feed::MemoryFeed;
 pub use memory_sink::MemorySink;
