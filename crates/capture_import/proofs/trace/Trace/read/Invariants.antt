@@ -1,0 +1,9 @@
+use Rattle.std.proofs.Common.{◌≡◌, ◌++◌}
+use Rattle.capture_read.specs.Capture.{packets_left}
+use Rattle.capture_import.specs.Trace.{text_from}
+use Rattle.capture_import.proofs.trace.Trace.read.Given as goal
+
+abbrev pub invariant-loop-item : goal.invariant-loop-item
+invariant-loop-item l =
+    l.self.text.items ++ text_from l.routes l.self.clock (packets_left l.capture)
+    ≡ l.fn.self.text.items ++ text_from l.routes l.fn.self.clock (packets_left l.fn.capture)
