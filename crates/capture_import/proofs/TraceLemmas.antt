@@ -1,11 +1,11 @@
 -- A trace with the lines of one more item.
-use Rattle.std.proofs.Common.{ℕ, ◌≡◌, List, [], ◌∷◌, ◌++◌, Err, refl, append_assoc}
+use Rattle.std.proofs.Common.{ℕ, ◌+◌, ◌≡◌, List, [], ◌∷◌, ◌++◌, Err, refl, append_assoc}
 use Rattle.capture_read.specs.declared.fault.CaptureFault.{CaptureFault}
 use Rattle.capture_read.specs.Capture.{Item}
 use Rattle.capture_import.specs.declared.route.Route.{Route}
 use Rattle.capture_import.specs.declared.clock.CaptureClock.{CaptureClock}
 use Rattle.capture_import.specs.Lines.{close_line}
-use Rattle.capture_import.specs.Trace.{item_clock, item_text, text_from}
+use Rattle.capture_import.specs.Trace.{events_from, item_clock, item_events, item_text, text_from}
 
 pub text_from_none : (routes : List Route) (clock : CaptureClock) → text_from routes clock [] ≡ close_line
 unfolding text_from
@@ -21,3 +21,17 @@ text_from_next routes clock then item items text longer is at =
 pub text_of_fault : (routes : List Route) (clock : CaptureClock) (fault : CaptureFault) → text_from routes clock (Err fault ∷ []) ≡ close_line
 unfolding text_from item_text item_clock
 text_of_fault routes clock fault = refl
+
+pub events_from_none : (routes : List Route) (clock : CaptureClock) → events_from routes clock [] ≡ 1
+unfolding events_from
+events_from_none routes clock = refl
+
+-- the events of one more item
+pub events_from_next : (routes : List Route) (clock then : CaptureClock) (item : Item) (items : List Item) → then ≡ item_clock routes clock item → events_from routes clock (item ∷ items) ≡ item_events routes clock item + events_from routes then items
+unfolding events_from
+events_from_next routes clock then item items at = rw at refl
+
+-- a fault is no event
+pub events_of_fault : (routes : List Route) (clock : CaptureClock) (fault : CaptureFault) → events_from routes clock (Err fault ∷ []) ≡ 1
+unfolding events_from item_events item_clock
+events_of_fault routes clock fault = refl

@@ -1,5 +1,5 @@
 -- The trace of a capture: its datagrams of the flows that have a route, in order, at readings of the clock.
-use Rattle.std.specs.Prelude.{List, [], ◌∷◌, ◌++◌, ℕ, Option, Some, None, Ok, Err, Bool, position, slice_get, option_and_then}
+use Rattle.std.specs.Prelude.{◌+◌, nat_lt, if◌then◌else◌, List, [], ◌∷◌, ◌++◌, ℕ, Option, Some, None, Ok, Err, Bool, position, slice_get, option_and_then}
 use Rattle.capture_read.specs.Ipv4.{BodyView, Whole, Part, Cut}
 use Rattle.capture_read.specs.Packet.{PacketView}
 use Rattle.capture_read.specs.Capture.{Item}
@@ -56,3 +56,21 @@ text_from routes clock (item ∷ items) = item_text routes clock item ++ text_fr
 -- the whole trace
 abbrev pub trace_of : List Route → List Item → List ℕ
 trace_of routes items = text_from routes clock_begun items
+
+-- the events of a datagram: its own, and before it that of a later reading
+abbrev pub packet_events : CaptureClock → PacketView → Option Route → ℕ
+packet_events clock packet None = 0
+packet_events clock packet (Some route) = if nat_lt clock.reading (clock_with clock packet.time).reading then 2 else 1
+
+unfoldable pub item_events : List Route → CaptureClock → Item → ℕ
+item_events routes clock (Ok packet) = packet_events clock packet (route_of routes packet)
+item_events routes clock (Err fault) = 0
+
+-- how many events the lines of what is left give, with the close
+unfoldable pub events_from : List Route → CaptureClock → List Item → ℕ
+events_from routes clock [] = 1
+events_from routes clock (item ∷ items) = item_events routes clock item + events_from routes (item_clock routes clock item) items
+
+-- those of the whole trace
+abbrev pub event_count : List Route → List Item → ℕ
+event_count routes items = events_from routes clock_begun items

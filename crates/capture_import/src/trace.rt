@@ -1,10 +1,10 @@
 //! The trace of a capture.
-ghost use Rattle.std.specs.Prelude.{◌≡◌, ◌++◌, ◌≤◌, OnOk, IfOk, Some, [], length, position};
+ghost use Rattle.std.specs.Prelude.{◌≡◌, ◌+◌, ◌++◌, ◌<◌, ◌≤◌, OnOk, IfOk, Some, [], length, position};
 ghost use Rattle.capture_read.specs.Capture.{item_view, packets_left, packets_of};
 ghost use Rattle.capture_read.specs.Packet.{packet_view};
 ghost use Rattle.capture_import.specs.Clock.{clock_begun};
 ghost use Rattle.capture_import.specs.Lines.{close_line};
-ghost use Rattle.capture_import.specs.Trace.{is_route_of, route_of, item_clock, item_text, octets_of, packet_clock, packet_text, text_from, trace_of};
+ghost use Rattle.capture_import.specs.Trace.{event_count, events_from, item_events, packet_events, is_route_of, route_of, item_clock, item_text, octets_of, packet_clock, packet_text, text_from, trace_of};
 
 use crate::clock::CaptureClock;
 use crate::fault::ImportFault;
@@ -28,10 +28,11 @@ struct Trace {
 }
 
 /// The trace of the capture that octets are, up to its end or its fault: the datagrams of the flows that have a route.
-#[tactic(auto, using(crate::proofs::TraceLemmas::text_of_fault))]
+#[tactic(auto, using(crate::proofs::TraceLemmas::text_of_fault, crate::proofs::TraceLemmas::events_of_fault))]
 pub fn trace_text(alloc: Global, octets: &[u8], routes: &[Route]) -> Result<Vec<u8>, ImportFault>
     ensures trace { IfOk result (λ text. text.items ≡ trace_of routes.now (packets_of octets.now)) }
     ensures fits { IfOk result (λ text. length text.items ≤ MOST_OCTETS) }
+    ensures few { OnOk result (event_count routes.now (packets_of octets.now) ≤ MOST_EVENTS) }
 {
     let mut trace = Trace::new(alloc);
     if let Ok(capture) = open(octets) {
@@ -45,6 +46,7 @@ impl Trace {
     fn new(alloc: Global) -> Trace
         ensures text { result.text.items ≡ [] }
         ensures clock { result.clock ≡ clock_begun }
+        ensures events { result.events ≡ 0 }
     {
         Trace {
             text: Vec::new(alloc),
@@ -54,9 +56,12 @@ impl Trace {
     }
 
     /// Adds the lines of what is left of a capture.
-    #[tactic(auto, using(crate::proofs::TraceLemmas::text_from_none, crate::proofs::TraceLemmas::text_from_next))]
+    #[tactic(auto, using(crate::proofs::TraceLemmas::text_from_none, crate::proofs::TraceLemmas::text_from_next, crate::proofs::TraceLemmas::events_from_none, crate::proofs::TraceLemmas::events_from_next))]
     fn read(&mut self, mut capture: Capture<'_>, routes: &[Route]) -> Result<(), ImportFault>
-        ensures { OnOk result (self.new.text.items ++ close_line ≡ self.old.text.items ++ text_from routes.now self.old.clock (packets_left capture.entry)) }
+        requires few { self.old.events < MOST_EVENTS }
+        ensures text { OnOk result (self.new.text.items ++ close_line ≡ self.old.text.items ++ text_from routes.now self.old.clock (packets_left capture.entry)) }
+        ensures events { OnOk result (self.new.events + 1 ≡ self.old.events + events_from routes.now self.old.clock (packets_left capture.entry)) }
+        ensures few { OnOk result (self.new.events < MOST_EVENTS) }
     {
         while let Some(item) = capture.next() {
             self.take(item, routes)?;
@@ -65,14 +70,17 @@ impl Trace {
     }
 
     /// Adds what is told of a capture.
-    #[tactic(auto, unfolding(crate::specs::Trace::item_text, crate::specs::Trace::item_clock))]
+    #[tactic(auto, unfolding(crate::specs::Trace::item_text, crate::specs::Trace::item_clock, crate::specs::Trace::item_events))]
     fn take(
         &mut self,
         item: Result<Packet<'_>, CaptureFault>,
         routes: &[Route],
     ) -> Result<(), ImportFault>
+        requires few { self.old.events < MOST_EVENTS }
         ensures text { OnOk result (self.new.text.items ≡ self.old.text.items ++ item_text routes.now self.old.clock (item_view item.entry)) }
         ensures clock { OnOk result (self.new.clock ≡ item_clock routes.now self.old.clock (item_view item.entry)) }
+        ensures events { OnOk result (self.new.events ≡ self.old.events + item_events routes.now self.old.clock (item_view item.entry)) }
+        ensures few { OnOk result (self.new.events < MOST_EVENTS) }
     {
         if let Ok(packet) = item
             && let Some(route) = route_in(routes, &packet)
@@ -86,6 +94,8 @@ impl Trace {
     fn add(&mut self, packet: &Packet<'_>, route: &Route) -> Result<(), ImportFault>
         ensures text { OnOk result (self.new.text.items ≡ self.old.text.items ++ packet_text self.old.clock (packet_view packet.now) (Some route.now)) }
         ensures clock { OnOk result (self.new.clock ≡ packet_clock self.old.clock (packet_view packet.now) (Some route.now)) }
+        ensures events { OnOk result (self.new.events ≡ self.old.events + packet_events self.old.clock (packet_view packet.now) (Some route.now)) }
+        ensures few { OnOk result (self.new.events < MOST_EVENTS) }
     {
         let earlier = self.clock.reading();
         self.clock.read(packet.time);
@@ -99,6 +109,8 @@ impl Trace {
     fn count(&mut self, events: u32) -> Result<(), ImportFault>
         ensures text { self.new.text ≡ self.old.text }
         ensures clock { self.new.clock ≡ self.old.clock }
+        ensures events { OnOk result (self.new.events ≡ self.old.events + events) }
+        ensures few { OnOk result (self.new.events < MOST_EVENTS) }
     {
         self.events = self.events.saturating_add(events);
         if self.events >= MOST_EVENTS {

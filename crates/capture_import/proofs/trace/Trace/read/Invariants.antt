@@ -1,9 +1,13 @@
-use Rattle.std.proofs.Common.{◌≡◌, ◌++◌}
+use Rattle.std.proofs.Common.{◌≡◌, ◌+◌, ◌++◌, ◌<◌}
 use Rattle.capture_read.specs.Capture.{packets_left}
-use Rattle.capture_import.specs.Trace.{text_from}
+use Rattle.capture_import.specs.Trace.{events_from, text_from}
 use Rattle.capture_import.proofs.trace.Trace.read.Given as goal
 
 abbrev pub invariant-loop-item : goal.invariant-loop-item
-invariant-loop-item l =
-    l.self.text.items ++ text_from l.routes l.self.clock (packets_left l.capture)
-    ≡ l.fn.self.text.items ++ text_from l.routes l.fn.self.clock (packets_left l.fn.capture)
+invariant-loop-item l = record {
+  text : l.self.text.items ++ text_from l.routes l.self.clock (packets_left l.capture)
+      ≡ l.fn.self.text.items ++ text_from l.routes l.fn.self.clock (packets_left l.fn.capture);
+  events : l.self.events + events_from l.routes l.self.clock (packets_left l.capture)
+      ≡ l.fn.self.events + events_from l.routes l.fn.self.clock (packets_left l.fn.capture);
+  few : l.self.events < 1000000;
+}
