@@ -1,5 +1,6 @@
 #!/usr/bin/env python3
-"""Writes capture.pcapng: a stream on two paths with losses, one on a single path, and what isn't RTP."""
+"""Writes capture.pcapng: a stream on two paths with losses, one on a single path, and what isn't RTP. The samples of the
+first count from 1; those of the second count from 1001 on the left and down from -1001 on the right."""
 import pathlib
 import struct
 
@@ -35,14 +36,15 @@ def packet(interface, micros, octets):
     return block(6, head + octets)
 
 
-def rtp(kind, number, stamp, source, octets):
-    return struct.pack(">BBHII", 128, kind, number & 0xFFFF, stamp, source) + bytes(octets)
+def rtp(kind, number, stamp, source, samples):
+    head = struct.pack(">BBHII", 128, kind, number & 0xFFFF, stamp, source)
+    return head + b"".join(sample.to_bytes(3, "big", signed=True) for sample in samples)
 
 
 def arrivals():
     """Interface, time in microseconds and frame of each packet."""
     for i in range(12):
-        content = rtp(96, 65530 + i, 600 + 6 * i, 7, 18)
+        content = rtp(96, 65530 + i, 600 + 6 * i, 7, range(6 * i + 1, 6 * i + 7))
         at = 125 * i
         if i not in (2, 8):
             yield 0, at, frame("10.0.0.1", "239.1.0.1", 5004, content)
@@ -52,7 +54,8 @@ def arrivals():
         if i == 5:
             yield 1, at + 500, frame("10.1.0.1", "239.2.0.1", 5004, content)
     for i in range(3):
-        yield 0, 1000 * i + 7, frame("10.0.0.2", "239.1.0.2", 5006, rtp(97, i, 48 * i, 8, 288))
+        pairs = [side for n in range(48 * i + 1001, 48 * i + 1049) for side in (n, -n)]
+        yield 0, 1000 * i + 7, frame("10.0.0.2", "239.1.0.2", 5006, rtp(97, i, 48 * i, 8, pairs))
     yield 0, 3000, frame("10.0.0.3", "239.255.255.255", 9875, b"v=0\r\n")
     yield 0, 3100, frame("10.0.0.2", "239.1.0.2", 5006, bytes(16), fragment=0x2000)
 

@@ -13,12 +13,21 @@ pub fn list_streams<C: Configs, W: Write>(
     path: &str,
     output: &mut W,
 ) -> Result<(), Fault> {
-    let octets = configs.octets(alloc, path).map_err(|fault| match fault {
+    let octets = capture_of(configs, alloc, path)?;
+    write_streams(alloc, octets.as_slice(), output)
+}
+
+/// The octets of the capture at a path.
+pub(crate) fn capture_of<C: Configs>(
+    configs: &C,
+    alloc: Global,
+    path: &str,
+) -> Result<Vec<u8>, Fault> {
+    configs.octets(alloc, path).map_err(|fault| match fault {
         ReadFault::Device => Fault::Capture(CaptureError::Unread),
         ReadFault::TooMany => Fault::Capture(CaptureError::TooLong),
         ReadFault::Memory => Fault::Memory,
-    })?;
-    write_streams(alloc, octets.as_slice(), output)
+    })
 }
 
 /// The same of a capture's octets.

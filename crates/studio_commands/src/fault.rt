@@ -1,4 +1,5 @@
 //! The faults of a run: their lines and exit statuses.
+use capture_import::ImportFault;
 use capture_read::CaptureFault;
 use std::io::Write;
 use studio_live::LiveFault;
@@ -11,6 +12,9 @@ pub enum Fault {
     /// A word of the command line is no text.
     #[error("usage: a word of the command line is not UTF-8")]
     Usage,
+    /// The name of a path is no address and port.
+    #[error("usage: a path is not ADDRESS:PORT")]
+    Address,
     /// The configuration is at fault.
     #[error("{0}")]
     Config(ConfigFault),
@@ -60,13 +64,16 @@ pub enum CaptureError {
     /// Its first fault.
     #[error("capture {0}")]
     Octet(CaptureFault),
+    /// It gives no trace, or no configuration.
+    #[error("capture: {0}")]
+    Import(ImportFault),
 }
 
 impl Fault {
     /// The exit status of the program.
     pub fn status(&self) -> u8 {
         match self {
-            Fault::Usage => 2,
+            Fault::Usage | Fault::Address => 2,
             Fault::Config(ConfigFault::Unread) | Fault::Capture(CaptureError::Unread) => 5,
             Fault::Capture(_) => 1,
             Fault::Config(_) => 3,

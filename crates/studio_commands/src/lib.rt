@@ -1,5 +1,5 @@
 //! The program's commands: to list the marks of a trace, to play it to its report, to run a studio live, to say what
-//! a configuration means, and what RTP audio a capture holds.
+//! a configuration means, and what RTP audio a capture holds, which is imported as a trace.
 //!
 //! `run` is the whole: from the words of a command line to its exit status. Where configurations and captures lie is the
 //! caller's: it hands in `Configs`.
@@ -8,6 +8,7 @@
 mod captures;
 mod config;
 mod fault;
+mod import;
 mod live;
 mod program;
 mod summary;

@@ -2,6 +2,7 @@
 use crate::captures::list_streams;
 use crate::config::{Configs, config_of, standard_studio, studio_of};
 use crate::fault::Fault;
+use crate::import::import_capture;
 use crate::live::run_config;
 use crate::summary::write_summary;
 use crate::words::{Asked, asked_for, told};
@@ -66,6 +67,9 @@ fn answer<R: Threads + Wait + Sync + Net + Clock, C: Configs, I: Read, W: Write,
             write_summary(&studio, output)
         }
         Asked::Streams(path) => list_streams(configs, alloc, path, output),
+        Asked::Import(path, options) => {
+            import_capture(configs, alloc, path, &options, output, faults)
+        }
         Asked::Live(path, options) => {
             let config = config_of(configs, alloc, path)?;
             run_config(rt, alloc, config.as_slice(), &options, output, faults)

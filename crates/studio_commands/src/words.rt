@@ -1,5 +1,6 @@
 //! The words of the command line.
 use crate::fault::Fault;
+use crate::import::ImportOptions;
 use clap::error::ErrorKind;
 use clap::{Arg, ArgAction, ArgMatches, Command, Error, value_parser};
 use std::alloc::Global;
@@ -9,7 +10,11 @@ use studio_live::LiveOptions;
 /// The most sampling instants of a live run.
 const MOST_INSTANTS: i64 = 1_099_511_627_776;
 
+/// The most milliseconds of an imported stream's latency: no window is longer.
+const MOST_LATENCY: i64 = 65_536;
+
 /// What the words ask for. A configuration is named by its path.
+#[derive(Drop)]
 pub enum Asked<'a> {
     /// The marks of the stream of the quick start.
     Standard,
@@ -23,6 +28,8 @@ pub enum Asked<'a> {
     Check(&'a str),
     /// What a capture holds.
     Streams(&'a str),
+    /// A capture as a trace, or the configuration that fits it.
+    Import(&'a str, ImportOptions<'a>),
     /// A run of a configuration's studio on sockets.
     Live(&'a str, LiveOptions),
 }
@@ -37,6 +44,11 @@ pub fn asked_for<'a>(alloc: Global, words: &'a [String]) -> Result<Asked<'a>, Er
         && let Some(path) = inner.get_str("FILE")
     {
         return Ok(Asked::Streams(path));
+    }
+    if name == "import"
+        && let Some(path) = inner.get_str("FILE")
+    {
+        return Ok(Asked::Import(path, import_options(alloc, inner)?));
     }
     match inner.get_str("CONFIG") {
         Some(path) if name == "play" => Ok(Asked::Play(path)),
@@ -55,6 +67,19 @@ fn options_in(matches: &ArgMatches<'_>) -> LiveOptions {
         stats: matches.get_one::<u32>("stats"),
         until_eof: matches.get_flag("until-eof"),
     }
+}
+
+/// What is imported.
+fn import_options<'a>(alloc: Global, matches: &ArgMatches<'a>) -> Result<ImportOptions<'a>, Error> {
+    let mut names = Vec::new(alloc);
+    if let Some(words) = matches.get_strs("path") {
+        names.extend_from_slice(words)?;
+    }
+    Ok(ImportOptions {
+        names,
+        config: matches.get_flag("config"),
+        latency: matches.get_one::<u32>("latency"),
+    })
 }
 
 /// The program's words.
@@ -88,6 +113,7 @@ fn command<'a>(alloc: Global) -> Result<Command<'a>, Error> {
         .subcommand(play)?
         .subcommand(check)?
         .subcommand(streams_command(alloc)?)?
+        .subcommand(import_command(alloc)?)?
         .subcommand(live_command(alloc)?)?;
     Ok(command)
 }
@@ -102,6 +128,38 @@ fn streams_command<'a>(alloc: Global) -> Result<Command<'a>, Error> {
             "Says what RTP audio a capture holds: counts, what fits each flow, and the skew of paths",
         )
         .arg(file)?;
+    Ok(command)
+}
+
+/// The word of a capture's trace.
+fn import_command<'a>(alloc: Global) -> Result<Command<'a>, Error> {
+    let file = Arg::new(alloc, "FILE")
+        .help("The capture, a pcap or pcapng file")
+        .required(true);
+    let path = Arg::new(alloc, "path")
+        .long("path")
+        .value_name("ADDRESS:PORT")
+        .help(
+            "Take the flows to this address alone; may be given again. Without it all that fit are taken",
+        )
+        .action(ArgAction::Append);
+    let config = Arg::new(alloc, "config")
+        .long("config")
+        .help("Write the configuration that fits the trace in its place")
+        .action(ArgAction::SetTrue);
+    let latency = Arg::new(alloc, "latency")
+        .long("latency")
+        .value_name("MS")
+        .help("Its latency; without it twice the greatest skew between paths, and 10 ms at least")
+        .value_parser(value_parser!(u32).range(1..=MOST_LATENCY))
+        .action(ArgAction::Set);
+    let about = "Writes a capture's RTP datagrams as a trace, for marks and play";
+    let command = Command::new(alloc, "import")
+        .about(about)
+        .arg(file)?
+        .arg(path)?
+        .arg(config)?
+        .arg(latency)?;
     Ok(command)
 }
 
