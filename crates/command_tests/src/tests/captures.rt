@@ -86,3 +86,32 @@ fn other_files_are_told_by_name(rt: HostRuntime) -> Result<(), Fail> {
     expect(&rt, &told, 0, "", "", "no packet");
     Ok(())
 }
+
+/// The trace of the first path of both, at 48 instants a millisecond, rounded down.
+const TRACE: &str =
+    "a 0 8060ffff0000000000000007010203040506\ntick 9\na 0 806000000000000300000007010203040506\n\
+    tick 14\na 0 806000010000000600000007010203040506\ntick 16\na 0 806000010000000600000007010203040506\nclose\n";
+
+/// A named flow before a fault of the capture, packets that fit no stream, and names that are none.
+#[test]
+fn a_capture_is_imported_by_its_paths_names(rt: HostRuntime) -> Result<(), Fail> {
+    let alloc = rt.alloc();
+    let octets = two_paths(alloc)?;
+    let left = "capture: flows left out: 1\n";
+    let unfit = "capture: no flow fits a stream\n";
+    let unknown = "capture: no flow goes to a named address\n";
+    let usage = "usage: a path is not ADDRESS:PORT\n";
+    let rows: [(&[&str], u8, &str, &str); 4] = [
+        (&["--path", "239.1.2.1:5004"], 0, TRACE, left),
+        (&[], 1, "", unfit),
+        (&["--path", "239.1.2.1:5005"], 1, "", unknown),
+        (&["--path", "239.1.2.1"], 2, "", usage),
+    ];
+    for (names, status, output, faults) in rows {
+        let mut words = Vec::from_slice(alloc, &["import", "a.pcap"])?;
+        words.extend_from_slice(names)?;
+        let told = outcome_with(&rt, alloc, words.as_slice(), octets.as_slice())?;
+        expect(&rt, &told, status, output, faults, "an import");
+    }
+    Ok(())
+}

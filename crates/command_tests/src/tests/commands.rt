@@ -170,6 +170,7 @@ fn help_and_version_go_to_the_output(rt: HostRuntime) -> Result<(), Fail> {
         ("play", "\nUsage: darbexum play <CONFIG>\n"),
         ("check", "\nUsage: darbexum check <CONFIG>\n"),
         ("live", "\nUsage: darbexum live [OPTIONS] <CONFIG>\n"),
+        ("import", "\nUsage: darbexum import [OPTIONS] <FILE>\n"),
     ];
     for (word, usage) in usages {
         let help = outcome_with(&rt, alloc, &[word, "--help"], b"")?;
