@@ -1,4 +1,4 @@
-//! Tests of a studio: worked cases over the public calls of the crates from `gain_mix` to `studio_run`.
+//! Tests of a studio: worked cases over the public calls of `studio_session` and `studio_run`.
 #![tactic(auto)]
 
 #[cfg(test)]

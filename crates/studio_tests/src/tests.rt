@@ -1,9 +1,5 @@
-//! The tests, from gains to the report of a trace.
-mod config;
-mod datagrams;
-mod gains;
+//! The tests, from sessions to the report of a trace.
 mod lines;
-mod mixer;
 mod page;
 mod play;
 mod session;

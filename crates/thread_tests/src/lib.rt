@@ -1,4 +1,4 @@
-//! Tests of a studio in threads: worked cases over the public calls of `studio_rings`, `studio_uses` and `studio_live`.
+//! Tests of workers: worked cases over the public calls of `studio_workers` and `studio_uses`.
 #![tactic(auto)]
 
 #[cfg(test)]

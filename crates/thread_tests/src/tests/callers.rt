@@ -1,6 +1,6 @@
 //! One stream's datagrams to its marks, a trace to its report, and a run in threads.
 
-use super::workers::{FIRST, SECOND, gave_both, one_stream, stream, two_packets};
+use super::workers::{gave_both, one_stream, two_packets};
 use path_merge::{Body, ClockFault, Mark, MarkKind, Path};
 use std::alloc::{AllocError, Global};
 use std::test::Fail;
@@ -8,6 +8,7 @@ use studio_run::{PlayFault, TraceKind};
 use studio_uses::{
     Arrival, MemorySink, ReceiveFault, receive_stream, report_trace, run_in_threads,
 };
+use test_studios::{FIRST, SECOND, stream};
 
 pub(super) const TRACE: &str = "tick 0\n\
     a 0 806000010000000000000001000001000002000003000004000005000006\n\
@@ -83,7 +84,7 @@ fn the_first_fault_of_arrivals_is_told(rt: HostRuntime) -> Result<(), Fail> {
 #[test]
 fn a_trace_in_memory_has_its_report(rt: HostRuntime) -> Result<(), Fail> {
     let alloc = rt.alloc();
-    let studio = one_stream(&rt, alloc).ok_or("a studio")?;
+    let studio = one_stream(alloc).ok_or("a studio")?;
     let report = report_trace(alloc, &studio, TRACE.as_bytes())?;
     assert_eq!(rt; str::from_utf8(report.as_slice()), Ok(REPORT));
     let Err(PlayFault::Trace(fault)) = report_trace(alloc, &studio, b"tick 0\ntock\n") else {
@@ -106,7 +107,7 @@ pub(super) fn on_paths(alloc: Global, paths: u8) -> Result<Vec<Vec<Vec<u8>>>, Al
 #[test]
 fn a_studio_runs_over_memory(rt: HostRuntime) -> Result<(), Fail> {
     let alloc = rt.alloc();
-    let studio = one_stream(&rt, alloc).ok_or("a studio")?;
+    let studio = one_stream(alloc).ok_or("a studio")?;
     let lists = on_paths(alloc, 2)?;
     let (report, sink) = run_in_threads(
         &rt,

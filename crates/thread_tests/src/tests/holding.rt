@@ -1,7 +1,7 @@
 //! Feeds that wait for each other, and a sink that waits for a clock: workers run at the same time.
 ghost use Rattle.std.specs.Prelude.{[], None};
 
-use super::workers::{FIRST, SECOND, clocks, gave_both, one_stream, only, run, two_packets};
+use super::workers::{clocks, gave_both, one_stream, only, run, two_packets};
 use std::alloc::Global;
 use std::process::Abort;
 use std::sync::Wait;
@@ -11,6 +11,7 @@ use std::thread::{Parker, Threads};
 use std::time::Duration;
 use studio_uses::{MemoryFeed, MemorySink};
 use studio_workers::{Clock, Feed, FeedAnswer, SendAnswer, Sink, WorkReport};
+use test_studios::{FIRST, SECOND};
 
 /// How often something is waited for, a millisecond each time.
 const WAITS: u32 = 20_000;
@@ -61,7 +62,7 @@ impl<'a, R: Wait> Feed for MeetingFeed<'a, R> {
 #[test]
 fn paths_are_read_at_the_same_time(rt: HostRuntime) -> Result<(), Fail> {
     let alloc = rt.alloc();
-    let studio = one_stream(&rt, alloc).ok_or("a studio")?;
+    let studio = one_stream(alloc).ok_or("a studio")?;
     let packets = two_packets(alloc)?;
     let first = AtomicBool::new(false);
     let second = AtomicBool::new(false);
@@ -199,7 +200,7 @@ impl<'a, R: Wait> Sink for HoldingSink<'a, R> {
 #[test]
 fn mixing_goes_on_beside_reception(rt: HostRuntime) -> Result<(), Fail> {
     let alloc = rt.alloc();
-    let studio = one_stream(&rt, alloc).ok_or("a studio")?;
+    let studio = one_stream(alloc).ok_or("a studio")?;
     let packets = two_packets(alloc)?;
     let first = AtomicBool::new(false);
     let second = AtomicBool::new(false);
@@ -264,7 +265,7 @@ fn run_late<R: Threads + Wait + Abort + Sync>(
         first: &first,
         second: &second,
     })?;
-    let studio = one_stream(rt, alloc).ok_or("a studio")?;
+    let studio = one_stream(alloc).ok_or("a studio")?;
     let sink = MemorySink::new(alloc);
     let (report, _) = run(rt, alloc, &studio, 1, feeds, clocks, sink)?;
     Ok(report)

@@ -3,7 +3,7 @@
 //! The tests of this file pass for every N: the call that meets it says so, and the next succeeds.
 
 use super::callers::{REPORT, TRACE, arrival, on_paths, path};
-use super::workers::{FIRST, SECOND, one_stream, stream};
+use super::workers::one_stream;
 use std::alloc::Global;
 use std::process::Abort;
 use std::sync::Wait;
@@ -16,6 +16,7 @@ use studio_uses::{
     MemorySink, ReceiveFault, RunFault, receive_stream, report_trace, run_in_threads,
 };
 use studio_workers::WorkFault;
+use test_studios::{FIRST, SECOND, stream};
 
 /// One stream received with any one allocation refused: want of memory, and then its marks.
 #[test]
@@ -41,8 +42,8 @@ fn each_refused_allocation_of_arrivals_is_answered(rt: HostRuntime) -> Result<()
 #[test]
 fn each_refused_allocation_of_a_report_is_answered(rt: HostRuntime) -> Result<(), Fail> {
     let alloc = rt.alloc();
-    let studio = one_stream(&rt, alloc)
-        .or_else(|| one_stream(&rt, alloc))
+    let studio = one_stream(alloc)
+        .or_else(|| one_stream(alloc))
         .ok_or("with memory again")?;
     match report_trace(alloc, &studio, TRACE.as_bytes()) {
         Ok(report) => assert_eq!(rt; str::from_utf8(report.as_slice()), Ok(REPORT)),
@@ -95,8 +96,8 @@ fn wants_memory(fault: RunFault) -> bool {
 #[test]
 fn each_refused_allocation_of_a_run_is_answered(rt: HostRuntime) -> Result<(), Fail> {
     let alloc = rt.alloc();
-    let studio = one_stream(&rt, alloc)
-        .or_else(|| one_stream(&rt, alloc))
+    let studio = one_stream(alloc)
+        .or_else(|| one_stream(alloc))
         .ok_or("with memory again")?;
     let lists = on_paths(alloc, 2)
         .ok()

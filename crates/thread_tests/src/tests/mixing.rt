@@ -1,6 +1,5 @@
 //! Two streams' marks to the output's datagrams.
 
-use super::workers::{ones_alone, six_and_forty_eight, stream, sums};
 use path_merge::{Body, Format, Mark};
 use rtp_wire::Payload;
 use std::alloc::Global;
@@ -8,6 +7,7 @@ use std::process::Abort;
 use std::test::Fail;
 use studio_mix::Mixer;
 use studio_uses::mix_next;
+use test_studios::{ones_alone, six_and_forty_eight, stream, sums};
 
 /// A slot that got so many times this sample.
 fn got(
@@ -46,7 +46,7 @@ fn thousands(rt: &impl Abort, alloc: Global) -> Result<Vec<Mark>, Fail> {
 #[test]
 fn two_streams_to_their_datagrams(rt: HostRuntime) -> Result<(), Fail> {
     let alloc = rt.alloc();
-    let studio = six_and_forty_eight(&rt, alloc, 2)?;
+    let studio = six_and_forty_eight(alloc, 2).ok_or("a studio")?;
     let format = stream(48, 48, 1)?.format();
     let ones = [
         got(&rt, format, 65_636, 20, 48, [0, 0, 1]),

@@ -1,9 +1,7 @@
 //! Whole runs of the workers over feeds, clocks and a sink in memory.
 
 use super::fakes::{FailingSink, FaultyFeed};
-use super::studios::sum_of;
-use path_merge::{Counts, SpecFault, StreamClock, StreamSpec};
-use rtp_wire::Enc;
+use path_merge::Counts;
 use std::alloc::{AllocError, Global};
 use std::process::Abort;
 use std::sync::Wait;
@@ -13,36 +11,14 @@ use studio_rings::open;
 use studio_spec::StudioSpec;
 use studio_uses::{MemoryClock, MemoryFeed, MemorySink};
 use studio_workers::{Clock, Feed, Sink, WorkReport, run_workers};
-
-pub(super) const FIRST: [u8; 30] = [
-    0x80, 0x60, 0, 1, 0, 0, 0, 0, 0, 0, 0, 1, 0, 0, 1, 0, 0, 2, 0, 0, 3, 0, 0, 4, 0, 0, 5, 0, 0, 6,
-];
-
-pub(super) const SECOND: [u8; 30] = [
-    0x80, 0x60, 0, 2, 0, 0, 0, 6, 0, 0, 0, 1, 0, 0, 7, 0, 0, 8, 0, 0, 9, 0, 0, 10, 0, 0, 11, 0, 0,
-    12,
-];
-
-/// A stream of one channel of L24, by the media clock.
-pub(super) fn stream(frames: u16, latency: u32, paths: u8) -> Result<StreamSpec, SpecFault> {
-    let clock = StreamClock::Media { offset: 0 };
-    StreamSpec::new(Enc::L24, 1, frames, 96, None, clock, latency, 8, paths)
-}
+use test_studios::{
+    FIRST, SECOND, datagram, ones_alone, six_and_forty_eight, stream, sum_of, sums, thousands,
+};
 
 /// One stream on two paths, in packets of six sampling instants; its output is alike. None where memory was refused.
-pub(super) fn one_stream(rt: &impl Abort, alloc: Global) -> Option<StudioSpec> {
+pub(super) fn one_stream(alloc: Global) -> Option<StudioSpec> {
     let spec = stream(6, 12, 2).ok()?;
-    sum_of(rt, alloc, &[spec], 6)
-}
-
-/// Two streams of six and of 48 sampling instants a packet, on so many paths and on one, added into packets of 48.
-pub(super) fn six_and_forty_eight(
-    rt: &impl Abort,
-    alloc: Global,
-    paths: u8,
-) -> Result<StudioSpec, Fail> {
-    let specs = [stream(6, 12, paths)?, stream(48, 48, 1)?];
-    Ok(sum_of(rt, alloc, &specs, 48).ok_or("want of memory")?)
+    sum_of(alloc, &[spec], 6)
 }
 
 /// Runs the workers of a studio over rings of so many places.
@@ -146,7 +122,7 @@ fn run_alike<R: Threads + Wait + Abort + Sync>(
     readings: &[i64],
     places: usize,
 ) -> Result<(WorkReport, MemorySink), Fail> {
-    let studio = one_stream(rt, alloc).ok_or("a studio")?;
+    let studio = one_stream(alloc).ok_or("a studio")?;
     let mut feeds = Vec::new(alloc);
     for _ in 0..2 {
         feeds.push(MemoryFeed::new(packets))?;
@@ -178,39 +154,6 @@ fn a_clock_that_goes_back(rt: HostRuntime) -> Result<(), Fail> {
     Ok(())
 }
 
-/// A header, and so many times these samples, one after another.
-fn datagram(alloc: Global, head: [u8; 12], runs: &[(u8, [u8; 3])]) -> Result<Vec<u8>, AllocError> {
-    let mut octets = Vec::from_slice(alloc, &head)?;
-    for (times, sample) in runs {
-        for _ in 0..*times {
-            octets.extend_from_slice(sample)?;
-        }
-    }
-    Ok(octets)
-}
-
-/// The datagram of the 48 sampling instants from 0 on: their sums.
-pub(super) fn sums(alloc: Global) -> Result<Vec<u8>, AllocError> {
-    let head = [0x80, 0x61, 0xff, 0xff, 0, 0, 0, 0, 0, 0, 0, 2];
-    datagram(alloc, head, &[(20, [0, 3, 0xe8]), (28, [0, 3, 0xe9])])
-}
-
-/// The datagram of the next 48, which the thousands don't reach.
-pub(super) fn ones_alone(alloc: Global) -> Result<Vec<u8>, AllocError> {
-    let head = [0x80, 0x61, 0, 0, 0, 0, 0, 48, 0, 0, 0, 2];
-    datagram(alloc, head, &[(20, [0, 0, 1]), (28, [0, 0, 0])])
-}
-
-/// Eight packets of 1000 from 0 on.
-fn thousands(alloc: Global) -> Result<Vec<Vec<u8>>, AllocError> {
-    let mut packets = Vec::new(alloc);
-    for number in 0..8u8 {
-        let head = [0x80, 0x60, 0, number + 1, 0, 0, 0, number * 6, 0, 0, 0, 1];
-        packets.push(datagram(alloc, head, &[(6, [0, 3, 0xe8])])?)?;
-    }
-    Ok(packets)
-}
-
 /// Runs the streams of six and of 48: these packets on both paths, and those on one.
 fn run_two<R: Threads + Wait + Abort + Sync>(
     rt: &R,
@@ -218,7 +161,7 @@ fn run_two<R: Threads + Wait + Abort + Sync>(
     first: &[Vec<u8>],
     second: &[Vec<u8>],
 ) -> Result<(WorkReport, MemorySink), Fail> {
-    let studio = six_and_forty_eight(rt, alloc, 2)?;
+    let studio = six_and_forty_eight(alloc, 2).ok_or("a studio")?;
     let mut feeds = Vec::new(alloc);
     for packets in [first, first, second] {
         feeds.push(MemoryFeed::new(packets))?;
@@ -266,7 +209,7 @@ fn two_streams_by_workers(rt: HostRuntime) -> Result<(), Fail> {
 #[test]
 fn an_address_that_fails(rt: HostRuntime) -> Result<(), Fail> {
     let alloc = rt.alloc();
-    let studio = one_stream(&rt, alloc).ok_or("a studio")?;
+    let studio = one_stream(alloc).ok_or("a studio")?;
     let packets = two_packets(alloc)?;
     let mut feeds = Vec::new(alloc);
     feeds.push(MemoryFeed::new(&packets))?;
@@ -287,7 +230,7 @@ fn counts_with_faults<R: Threads + Wait + Abort + Sync>(
     alloc: Global,
     feeds_of: [(u32, u32); 2],
 ) -> Result<([u64; 3], [u64; 2]), Fail> {
-    let studio = one_stream(rt, alloc).ok_or("a studio")?;
+    let studio = one_stream(alloc).ok_or("a studio")?;
     let packets = two_packets(alloc)?;
     let mut feeds = Vec::new(alloc);
     for (first, later) in feeds_of {

@@ -2,8 +2,8 @@ use Rattle.std.proofs.Common.{refl, subst, IfSome}
 use Rattle.rtrb.specs.Ring.{Finishes, SameConsumer}
 use Rattle.rtrb.specs.declared.consumer.Consumer.{Consumer}
 use Rattle.studio_rings.specs.declared.path.PathDone.{PathDone}
-use Rattle.thread_tests.proofs.OneStreamLemmas.{token_of}
-use Rattle.thread_tests.proofs.tests.rings.a_path_that_goes_on_holds_up_the_close.Goals as goal
+use Rattle.ring_tests.proofs.OneStreamLemmas.{token_of}
+use Rattle.ring_tests.proofs.tests.rings.a_path_that_goes_on_holds_up_the_close.Goals as goal
 
 same : {T A P : Type 0} (c : Consumer T A P) → SameConsumer c c
 same c = ((refl, refl, refl, refl), refl)

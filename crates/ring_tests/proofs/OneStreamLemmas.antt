@@ -8,7 +8,7 @@ use Rattle.stream_rules.specs.declared.stream_spec.Stream.{Stream}
 use Rattle.stream_rules.specs.MarkFacts.{MarkView}
 use Rattle.stream_rules.specs.declared.packet.Packet.{Packet}
 use Rattle.studio_rings.specs.FreshEnds.{AllFreshPaths, AllFreshRings, AllFreshStreams}
-use Rattle.thread_tests.specs.OneStream.{AreOfOneStream}
+use Rattle.ring_tests.specs.OneStream.{AreOfOneStream}
 use Rattle.studio_rings.specs.Tokens.{HandsIn}
 use Rattle.studio_rings.specs.declared.side.Side.{Side}
 use Rattle.studio_rings.specs.declared.path_end.PathEnd.{PathEnd}

@@ -1,6 +1,6 @@
 use Rattle.std.proofs.Common.{rules, ◌≡◌, length}
-use Rattle.thread_tests.proofs.OneStreamLemmas.{one_popped, only_stream, two_popped}
-use Rattle.thread_tests.proofs.tests.rings.one_stream.Goals as goal
+use Rattle.ring_tests.proofs.OneStreamLemmas.{one_popped, only_stream, two_popped}
+use Rattle.ring_tests.proofs.tests.rings.one_stream.Goals as goal
 
 pub returns : goal.returns
 returns g c =

@@ -1,10 +1,8 @@
 //! One stream through its rings, by worked examples.
 ghost use Rattle.std.specs.Prelude.{IfOk};
 ghost use Rattle.rtrb.specs.Ring.{SameProducer};
-ghost use Rattle.thread_tests.specs.OneStream.{AreOfOneStream};
+ghost use Rattle.ring_tests.specs.OneStream.{AreOfOneStream};
 
-use super::studios::sum_of;
-use super::workers::{FIRST, SECOND, six_and_forty_eight};
 use path_merge::{ClockFault, StreamClock, StreamSpec};
 use rtp_wire::Enc;
 use std::alloc::Global;
@@ -12,6 +10,9 @@ use std::process::Abort;
 use std::test::Fail;
 use studio_rings::*;
 use studio_spec::StudioSpec;
+use test_studios::{
+    FIRST, SECOND, datagram, ones_alone, six_and_forty_eight, sum_of, sums, thousands,
+};
 
 const MEDIA: StreamClock = StreamClock::Media { offset: 0 };
 
@@ -30,7 +31,7 @@ fn studio_in(rt: &impl Abort, alloc: Global, clock: StreamClock, width: u16) -> 
     let Ok(spec) = StreamSpec::new(Enc::L24, 1, 6, 96, None, clock, 12, width, 2) else {
         panic!(rt; "a stream")
     };
-    sum_of(rt, alloc, &[spec], 6)
+    sum_of(alloc, &[spec], 6)
 }
 
 /// The ends of that studio.
@@ -192,17 +193,6 @@ fn a_path_that_goes_on_holds_up_the_close(rt: HostRuntime) -> Result<(), Fail> {
     Ok(())
 }
 
-/// A header, and so many times these samples, one after another.
-fn datagram(alloc: Global, head: [u8; 12], runs: &[(u8, [u8; 3])]) -> Result<Vec<u8>, Fail> {
-    let mut octets = Vec::from_slice(alloc, &head)?;
-    for (times, sample) in runs {
-        for _ in 0..*times {
-            octets.extend_from_slice(sample)?;
-        }
-    }
-    Ok(octets)
-}
-
 /// A turn of the mixer that gives this datagram.
 fn gives(rt: &impl Abort, mix: &mut MixEnd, datagram: &[u8]) {
     let mut out = [0u8; 1452];
@@ -231,7 +221,7 @@ struct TwoStreams {
 }
 
 fn two_streams(rt: &impl Abort, alloc: Global) -> Result<TwoStreams, Fail> {
-    let studio = six_and_forty_eight(rt, alloc, 1)?;
+    let studio = six_and_forty_eight(alloc, 1).ok_or("a studio")?;
     let Ends {
         mut paths,
         mut streams,
@@ -260,10 +250,8 @@ fn offer_thousands_and_ones(
     of_first: &mut PathEnd,
     of_second: &mut PathEnd,
 ) -> Result<(), Fail> {
-    for number in 0..8u8 {
-        let head = [0x80, 0x60, 0, number + 1, 0, 0, 0, number * 6, 0, 0, 0, 1];
-        let octets = datagram(alloc, head, &[(6, [0, 3, 0xe8])])?;
-        assert_eq!(rt; of_first.offer(&octets), Offer::Sent);
+    for packet in thousands(alloc)?.iter() {
+        assert_eq!(rt; of_first.offer(packet), Offer::Sent);
     }
     let head = [0x80, 0x60, 0, 100, 0, 0, 0, 20, 0, 0, 0, 1];
     let octets = datagram(alloc, head, &[(48, [0, 0, 1])])?;
@@ -273,12 +261,8 @@ fn offer_thousands_and_ones(
 
 /// The mixer gives their sums, the rest of the ones, and silence.
 fn gives_the_sums(rt: &impl Abort, alloc: Global, mix: &mut MixEnd) -> Result<(), Fail> {
-    let head = [0x80, 0x61, 0xff, 0xff, 0, 0, 0, 0, 0, 0, 0, 2];
-    let sums = [(20, [0, 3, 0xe8]), (28, [0, 3, 0xe9])];
-    gives(rt, mix, &datagram(alloc, head, &sums)?);
-    let head = [0x80, 0x61, 0, 0, 0, 0, 0, 48, 0, 0, 0, 2];
-    let rest = [(20, [0, 0, 1]), (28, [0, 0, 0])];
-    gives(rt, mix, &datagram(alloc, head, &rest)?);
+    gives(rt, mix, &sums(alloc)?);
+    gives(rt, mix, &ones_alone(alloc)?);
     let head = [0x80, 0x61, 0, 1, 0, 0, 0, 96, 0, 0, 0, 2];
     gives(rt, mix, &datagram(alloc, head, &[(48, [0, 0, 0])])?);
     Ok(())

@@ -6,7 +6,7 @@ use Rattle.rtp_wire.specs.declared.encoding.Enc.TheVariants.{L24}
 use Rattle.rtp_wire.specs.Sample.{FitsEncoding}
 use Rattle.mix_packets.specs.declared.out_spec.Output.{Output}
 use Rattle.mix_packets.specs.Packer.{PackerState}
-use Rattle.studio_tests.proofs.tests.datagrams.sequence_and_timestamp_wrap.Goals as goal
+use Rattle.mix_tests.proofs.tests.datagrams.sequence_and_timestamp_wrap.Goals as goal
 
 fits : (enc : Enc) → enc ≡ L24 → FitsEncoding enc (pos 1000)
 fits enc e = subst (λ x. FitsEncoding x (pos 1000)) (sym e) (record { low = omega (arith, ints); high = omega (arith, ints) })

@@ -4,9 +4,9 @@ use Rattle.rtrb.specs.declared.consumer.Consumer.{Consumer}
 use Rattle.rtrb.specs.declared.producer.Producer.{Producer}
 use Rattle.studio_rings.specs.declared.path.PathDone.{PathDone}
 use Rattle.studio_rings.specs.declared.stream.StreamDone.{StreamDone}
-use Rattle.thread_tests.proofs.OneStreamLemmas.{second-handed, token_of}
+use Rattle.ring_tests.proofs.OneStreamLemmas.{second-handed, token_of}
 use Rattle.studio_rings.proofs.TurnLemmas.{producers}
-use Rattle.thread_tests.proofs.tests.rings.tokens_carry_the_end_to_the_mixer.Goals as goal
+use Rattle.ring_tests.proofs.tests.rings.tokens_carry_the_end_to_the_mixer.Goals as goal
 
 same : {T A P : Type 0} (c : Consumer T A P) → SameConsumer c c
 same c = ((refl, refl, refl, refl), refl)

@@ -1,0 +1,5 @@
+//! The tests, from gains to the datagrams of a mixer.
+mod config;
+mod datagrams;
+mod gains;
+mod mixer;

@@ -1,0 +1,3 @@
+//! The tests, from the rings of a stream to threads over them.
+mod rings;
+mod threads;
