@@ -41,9 +41,10 @@ test:
 	docs/check
 	rt ci
 	examples/check crates/studio_main/out/studio_main
+	examples/faults crates/studio_main/out/studio_main
 	examples/statuses crates/studio_main/out/studio_main
 	memory/check
-	@echo "gate: pages, proofs, edits, tests, examples, statuses and memory passed"
+	@echo "gate: pages, proofs, edits, tests, examples, faults, statuses and memory passed"
 
 test-memory:
 	memory/check

@@ -1,5 +1,5 @@
 //! A pcapng file of two sections, whole, cut and with wrong fields.
-use super::told::{IP, IP_TEXT, joined, told};
+use super::told::{IP, expect, joined, told};
 use std::alloc::{AllocError, Global};
 use std::test::Fail;
 
@@ -60,11 +60,40 @@ const ENDS: [usize; 10] = [28, 48, 92, 156, 220, 232, 280, 308, 328, 392];
 fn sections_interfaces_and_times(rt: HostRuntime) -> Result<(), Fail> {
     let alloc = rt.alloc();
     let file = pcapng(alloc)?;
-    let want = format!(in alloc;
-        "5000 0 {IP_TEXT}\n1000000007 1 {IP_TEXT}\n- 0 {IP_TEXT}\n4294967296000 0 {IP_TEXT}\n"
-    )?;
-    assert_eq!(rt; told(alloc, &file)?.as_str(), want.as_str());
+    expect(&rt, alloc, &file, WHOLE, "whole")?;
     Ok(())
+}
+
+/// The packets of the file.
+const WHOLE: &str = "5000 0 10.0.0.1:5004 > 239.1.2.3:5005 [1, 2, 3, 4]\n\
+    1000000007 1 10.0.0.1:5004 > 239.1.2.3:5005 [1, 2, 3, 4]\n\
+    - 0 10.0.0.1:5004 > 239.1.2.3:5005 [1, 2, 3, 4]\n\
+    4294967296000 0 10.0.0.1:5004 > 239.1.2.3:5005 [1, 2, 3, 4]\n";
+
+/// Where the last block ends that is whole in the first k octets.
+fn whole_end(k: usize) -> usize {
+    ENDS.iter()
+        .copied()
+        .filter(|end| *end <= k)
+        .max()
+        .unwrap_or(0)
+}
+
+/// What the first k octets of the file hold: what the whole blocks do, and the fault of the one behind them.
+fn cut_text(alloc: Global, file: &[u8], k: usize) -> Result<String, AllocError> {
+    let whole = whole_end(k);
+    if k < 4 {
+        return String::from_str(alloc, "octet 0: neither pcap nor pcapng\n");
+    }
+    let blocks = file.get(..whole).unwrap_or(&[]);
+    let mut text = String::new(alloc);
+    if whole > 0 {
+        text.push_str(&told(alloc, blocks)?)?;
+    }
+    if whole < k {
+        text.push_str(&format!(in alloc; "octet {whole}: it is cut\n")?)?;
+    }
+    Ok(text)
 }
 
 /// The first k octets of the file, for each k: what the whole blocks hold, and that the one behind them is cut.
@@ -72,56 +101,43 @@ fn sections_interfaces_and_times(rt: HostRuntime) -> Result<(), Fail> {
 fn each_cut_of_a_file_is_told(rt: HostRuntime) -> Result<(), Fail> {
     let alloc = rt.alloc();
     let file = pcapng(alloc)?;
-    for (k, _) in file.iter().enumerate() {
-        let whole = ENDS
-            .iter()
-            .copied()
-            .filter(|end| *end <= k)
-            .max()
-            .unwrap_or(0);
-        let before = if whole == 0 {
-            String::new(alloc)
-        } else {
-            told(alloc, file.get(..whole).unwrap_or(&[]))?
-        };
-        let want = if k < 4 {
-            format!(in alloc; "octet 0: neither pcap nor pcapng\n")?
-        } else if whole == k {
-            before
-        } else {
-            format!(in alloc; "{before}octet {whole}: it is cut\n")?
-        };
+    for k in 0..file.len() {
+        let want = cut_text(alloc, &file, k)?;
         let cut = file.get(..k).unwrap_or(&[]);
-        assert_eq!(rt; told(alloc, cut)?.as_str(), want.as_str(), "the first {k}");
+        expect(&rt, alloc, cut, &want, "cut")?;
     }
     Ok(())
 }
+
+/// A place in the file, the octet to stand there, and the fault.
+type Wrong = (usize, u8, &'static str);
+
+const WRONG: [Wrong; 13] = [
+    (0, 0, "octet 0: neither pcap nor pcapng\n"),
+    (4, 27, "octet 0: the lengths are wrong\n"),
+    (4, 8, "octet 0: the lengths are wrong\n"),
+    (4, 32, "octet 0: the lengths are wrong\n"),
+    (7, 255, "octet 0: it is cut\n"),
+    (8, 0, "octet 0: the order of octets is unknown\n"),
+    (12, 2, "octet 0: the version is unknown\n"),
+    (14, 1, "octet 0: the version is unknown\n"),
+    (66, 255, "octet 48: the options are wrong\n"),
+    (66, 2, "octet 48: the options are wrong\n"),
+    (100, 2, "octet 92: the interface is unknown\n"),
+    (107, 255, "octet 92: the time is out of range\n"),
+    (112, 33, "octet 92: the lengths are wrong\n"),
+];
 
 /// One octet of the file set wrong: the fault, and the place of its block.
 #[test]
 fn wrong_fields_are_told_with_their_place(rt: HostRuntime) -> Result<(), Fail> {
     let alloc = rt.alloc();
-    let rows: [(usize, u8, &str); 13] = [
-        (0, 0, "octet 0: neither pcap nor pcapng\n"),
-        (4, 27, "octet 0: the lengths are wrong\n"),
-        (4, 8, "octet 0: the lengths are wrong\n"),
-        (4, 32, "octet 0: the lengths are wrong\n"),
-        (7, 255, "octet 0: it is cut\n"),
-        (8, 0, "octet 0: the order of octets is unknown\n"),
-        (12, 2, "octet 0: the version is unknown\n"),
-        (14, 1, "octet 0: the version is unknown\n"),
-        (66, 255, "octet 48: the options are wrong\n"),
-        (66, 2, "octet 48: the options are wrong\n"),
-        (100, 2, "octet 92: the interface is unknown\n"),
-        (107, 255, "octet 92: the time is out of range\n"),
-        (112, 33, "octet 92: the lengths are wrong\n"),
-    ];
-    for (place, octet, want) in rows {
+    for (place, octet, want) in WRONG {
         let mut file = pcapng(alloc)?;
         if let Some(old) = file.get_mut(place) {
             *old = octet;
         }
-        assert_eq!(rt; told(alloc, &file)?.as_str(), want, "{octet} at {place}");
+        expect(&rt, alloc, &file, want, "a wrong field")?;
     }
     Ok(())
 }

@@ -1,15 +1,13 @@
 //! What a capture holds, as a text.
 use capture_read::{Body, CaptureFault, Packet, open};
 use std::alloc::{AllocError, Global};
+use std::process::Abort;
 
 /// An IPv4 packet from 10.0.0.1:5004 to 239.1.2.3:5005, of four octets.
 pub const IP: [u8; 32] = [
     0x45, 0, 0, 32, 0, 1, 0x40, 0, 64, 17, 0, 0, 10, 0, 0, 1, 239, 1, 2, 3, 0x13, 0x8c, 0x13, 0x8d,
     0, 12, 0, 0, 1, 2, 3, 4,
 ];
-
-/// How its text goes on behind its time and interface.
-pub const IP_TEXT: &str = "10.0.0.1:5004 > 239.1.2.3:5005 [1, 2, 3, 4]";
 
 /// Octets side by side.
 pub fn joined(alloc: Global, parts: &[&[u8]]) -> Result<Vec<u8>, AllocError> {
@@ -18,6 +16,18 @@ pub fn joined(alloc: Global, parts: &[&[u8]]) -> Result<Vec<u8>, AllocError> {
         octets.extend_from_slice(part)?;
     }
     Ok(octets)
+}
+
+/// Expects what a capture holds.
+pub fn expect(
+    rt: &impl Abort,
+    alloc: Global,
+    octets: &[u8],
+    want: &str,
+    case: &str,
+) -> Result<(), AllocError> {
+    assert_eq!(rt; told(alloc, octets)?.as_str(), want, "{case}");
+    Ok(())
 }
 
 /// A line for each packet, and one for the fault.

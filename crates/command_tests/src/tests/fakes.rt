@@ -35,23 +35,6 @@ impl Read for FailingReader<'_> {
     }
 }
 
-/// A reader of so many line feeds.
-#[derive(Drop)]
-pub struct LineFeeds {
-    pub left: usize,
-}
-
-impl Read for LineFeeds {
-    fn read(&mut self, buf: &mut [u8]) -> io::Result<usize> {
-        let count = self.left.min(buf.len());
-        for octet in buf[..count].iter_mut() {
-            *octet = b'\n';
-        }
-        self.left -= count;
-        Ok(count)
-    }
-}
-
 /// A writer that takes so many octets, and then fails.
 #[derive(Drop)]
 pub struct Page {

@@ -1,8 +1,7 @@
 //! Texts, fault lines and exit statuses of whole runs.
-use super::fakes::{FailingReader, FullPage, LineFeeds, Page};
+use super::fakes::{FailingReader, FullPage, Page};
 use super::outcome::{OneConfig, Outcome, STORED_LISTING, STORED_TRACE, outcome_of};
 use std::process::Abort;
-use std::test::Fail;
 use studio_commands::run;
 
 pub(super) fn expect(
@@ -16,93 +15,6 @@ pub(super) fn expect(
     assert_eq!(rt; outcome.status, status, "the status of {of:?}");
     assert_eq!(rt; outcome.output.text(), output, "the output of {of:?}");
     assert_eq!(rt; outcome.faults.text(), faults, "the faults of {of:?}");
-}
-
-/// Without words the stored trace gives its stored listing.
-#[test]
-fn lists_marks_without_words(rt: HostRuntime) {
-    let outcome = outcome_of(&rt, rt.alloc(), STORED_TRACE.as_bytes());
-    expect(&rt, &outcome, 0, STORED_LISTING, "", "the stored run");
-}
-
-/// A trace with no event lists nothing.
-#[test]
-fn empty_trace_lists_nothing(rt: HostRuntime) {
-    for text in ["", "\n", "# nothing\n\n"] {
-        let outcome = outcome_of(&rt, rt.alloc(), text.as_bytes());
-        expect(&rt, &outcome, 0, "", "", text);
-    }
-}
-
-/// Faults of events name their places, also behind comments, closes and bad datagrams.
-#[test]
-fn faults_name_their_event(rt: HostRuntime) {
-    let table = [
-        ("tick 6\ntick 5\n", "event 1: clock\n"),
-        ("tick 6\n#\n\nclose\nclose\ntick 6\n", "event 3: clock\n"),
-        ("tick 1152921504606846977\n", "event 0: clock\n"),
-        ("a 1 00\n", "event 0: stream\n"),
-        ("c 0 00\n", "event 0: path\n"),
-        ("d 0 00\n", "event 0: path\n"),
-        ("c 1 00\n", "event 0: stream\n"),
-        ("tick 6\nc 0 00\ntick 5\n", "event 1: path\n"),
-        ("tick 6\ntick 5\na 1 00\n", "event 1: clock\n"),
-        ("close\na 0 00\nb 2 00\ntick 0\n", "event 2: stream\n"),
-        // A datagram that is no packet of the stream keeps its place.
-        ("tick 6\na 0 00\nb 0 80\ntick 5\n", "event 3: clock\n"),
-    ];
-    for (text, line) in table {
-        let outcome = outcome_of(&rt, rt.alloc(), text.as_bytes());
-        expect(&rt, &outcome, 1, "", line, text);
-    }
-}
-
-/// One trace for each kind of fault, and its line.
-#[test]
-fn fault_lines(rt: HostRuntime) {
-    let table = [
-        ("tick 0\nclose", "trace line 2: cut\n"),
-        ("tock\n", "trace line 1: word\n"),
-        ("tick 1 \n", "trace line 1: fields\n"),
-        ("tick 01\n", "trace line 1: number\n"),
-        ("a 1 0\n", "trace line 1: hex\n"),
-        ("tick 6\ntick 5\ntock\n", "trace line 3: word\n"),
-    ];
-    for (text, line) in table {
-        let outcome = outcome_of(&rt, rt.alloc(), text.as_bytes());
-        expect(&rt, &outcome, 1, "", line, text);
-    }
-}
-
-/// Lines and traces of the greatest length, and one octet more.
-#[test]
-fn trace_limits(rt: HostRuntime) -> Result<(), Fail> {
-    let mut comment = String::from_str(rt.alloc(), "#")?;
-    for _ in 0..4096 {
-        comment.push_str("x")?;
-    }
-    comment.push_str("\n")?;
-    let outcome = outcome_of(&rt, rt.alloc(), comment.as_bytes());
-    expect(
-        &rt,
-        &outcome,
-        1,
-        "",
-        "trace line 1: toolong\n",
-        "a long line",
-    );
-    let outcome = outcome_of(&rt, rt.alloc(), LineFeeds { left: 67_108_864 });
-    expect(&rt, &outcome, 0, "", "", "67,108,864 octets");
-    let outcome = outcome_of(&rt, rt.alloc(), LineFeeds { left: 67_108_865 });
-    expect(
-        &rt,
-        &outcome,
-        1,
-        "",
-        "trace line 0: toomany\n",
-        "67,108,865 octets",
-    );
-    Ok(())
 }
 
 /// A reader that fails at each of its calls in turn: status 5, and no output.

@@ -3,7 +3,7 @@ ghost use Rattle.std.specs.Prelude.{IsTrue, All};
 ghost use Rattle.gain_mix.specs.Mix.{Is24Bits};
 
 use gain_mix::{Matrix, MatrixFault, Schedule, ScheduleFault, mix_block, mix_frame, mix_span};
-use std::alloc::Global;
+use std::alloc::{AllocError, Global};
 use std::process::Abort;
 use std::test::Fail;
 
@@ -25,29 +25,29 @@ fn mix(rt: &impl Abort, matrix: &Matrix, ins: &[i32], outs: &mut [i32], frames: 
     mix_block(matrix, ins, outs, frames, shift);
 }
 
+/// Gains, inputs, the shift, and their sum.
+type Sum = ([i32; 3], [i32; 3], u32, i32);
+
+const SUMS: [Sum; 9] = [
+    ([65_536, 65_536, 65_536], [8_388_607, 1, -1], 16, 8_388_607),
+    ([32_768, 0, 0], [1, 0, 0], 16, 1),
+    ([32_768, 0, 0], [-1, 0, 0], 16, 0),
+    ([32_768, 0, 0], [-3, 0, 0], 16, -1),
+    ([16_384, 0, 0], [-3, 0, 0], 16, -1),
+    ([-65_536, 0, 0], [-8_388_608, 0, 0], 16, 8_388_607),
+    ([65_536, 0, 0], [127, 0, 0], 24, 0),
+    ([65_536, 0, 0], [128, 0, 0], 24, 1),
+    ([65_536, 0, 0], [8_388_607, 0, 0], 24, 32_767),
+];
+
 /// The table of sums in MIXING.md: halves go up, and the sum alone is limited.
 #[test]
 fn rounds_half_up_and_saturates_once(rt: HostRuntime) -> Result<(), Fail> {
-    let rows: [([i32; 3], [i32; 3], u32, i32); 9] = [
-        ([65_536, 65_536, 65_536], [8_388_607, 1, -1], 16, 8_388_607),
-        ([32_768, 0, 0], [1, 0, 0], 16, 1),
-        ([32_768, 0, 0], [-1, 0, 0], 16, 0),
-        ([32_768, 0, 0], [-3, 0, 0], 16, -1),
-        ([16_384, 0, 0], [-3, 0, 0], 16, -1),
-        ([-65_536, 0, 0], [-8_388_608, 0, 0], 16, 8_388_607),
-        ([65_536, 0, 0], [127, 0, 0], 24, 0),
-        ([65_536, 0, 0], [128, 0, 0], 24, 1),
-        ([65_536, 0, 0], [8_388_607, 0, 0], 24, 32_767),
-    ];
-    for (gains, ins, shift, expected) in rows {
+    for (gains, ins, shift, sum) in SUMS {
         let matrix = Matrix::new(rt.alloc(), 1, 3, &gains)?;
         let mut outs = [0];
         mix(&rt, &matrix, &ins, &mut outs, 1, shift);
-        assert_eq!(rt;
-            outs,
-            [expected],
-            "gains {gains:?} of {ins:?} at a shift of {shift}"
-        );
+        assert_eq!(rt; outs, [sum]);
     }
     Ok(())
 }
@@ -56,37 +56,42 @@ fn rounds_half_up_and_saturates_once(rt: HostRuntime) -> Result<(), Fail> {
 #[test]
 fn gains_mix_inputs_by_row(rt: HostRuntime) -> Result<(), Fail> {
     let matrix = Matrix::new(rt.alloc(), 2, 2, &[65_536, 0, 32_768, -32_768])?;
+    let ins = [10, 3, -8_388_608, 8_388_607];
     let mut outs = [0; 4];
-    mix(
-        &rt,
-        &matrix,
-        &[10, 3, -8_388_608, 8_388_607],
-        &mut outs,
-        2,
-        16,
-    );
+    mix(&rt, &matrix, &ins, &mut outs, 2, 16);
     assert_eq!(rt; outs, [10, 4, -8_388_608, -8_388_607]);
-    assert_eq!(rt; matrix.outs(), 2);
-    assert_eq!(rt; matrix.ins(), 2);
-    assert_eq!(rt; matrix.gains(), [65_536, 0, 32_768, -32_768].as_slice());
     Ok(())
 }
 
-/// 1,024 inputs at both limits and the greatest gain: the sum is limited, or 0 with half the gains negated.
+/// A matrix tells the gains that it was made of, and their shape.
+#[test]
+fn a_matrix_tells_its_gains(rt: HostRuntime) -> Result<(), Fail> {
+    let gains = [65_536, 0, 32_768, -32_768, 1, 2];
+    let matrix = Matrix::new(rt.alloc(), 2, 3, &gains)?;
+    assert_eq!(rt; (matrix.outs(), matrix.ins()), (2, 3));
+    assert_eq!(rt; matrix.gains(), gains.as_slice());
+    Ok(())
+}
+
+/// The sum of 1,024 inputs at their lower limit, the first half with one gain and the rest with another.
+fn great_sum(rt: &impl Abort, alloc: Global, first: i32, rest: i32) -> Result<i32, MatrixFault> {
+    let mut gains = [first; 1024];
+    for gain in gains[512..].iter_mut() {
+        *gain = rest;
+    }
+    let matrix = Matrix::new(alloc, 1, 1024, &gains)?;
+    let mut outs = [1];
+    mix(rt, &matrix, &[-8_388_608; 1024], &mut outs, 1, 16);
+    Ok(outs[0])
+}
+
+/// 1,024 inputs at their limit and the greatest gain: the sum is limited, or 0 with half the gains negated.
 #[test]
 fn sums_of_1024_inputs(rt: HostRuntime) -> Result<(), Fail> {
-    let ins = [-8_388_608; 1024];
-    let mut gains = [1_048_576; 1024];
-    let mut outs = [1];
-    let matrix = Matrix::new(rt.alloc(), 1, 1024, &gains)?;
-    mix(&rt, &matrix, &ins, &mut outs, 1, 16);
-    assert_eq!(rt; outs, [-8_388_608], "the lowest sum");
-    for gain in gains[512..].iter_mut() {
-        *gain = -1_048_576;
-    }
-    let matrix = Matrix::new(rt.alloc(), 1, 1024, &gains)?;
-    mix(&rt, &matrix, &ins, &mut outs, 1, 16);
-    assert_eq!(rt; outs, [0], "half the gains negated");
+    let sum = great_sum(&rt, rt.alloc(), 1_048_576, 1_048_576)?;
+    assert_eq!(rt; sum, -8_388_608);
+    let sum = great_sum(&rt, rt.alloc(), 1_048_576, -1_048_576)?;
+    assert_eq!(rt; sum, 0);
     Ok(())
 }
 
@@ -95,48 +100,50 @@ fn matrix_fault(alloc: Global, outs: usize, ins: usize, gains: &[i32]) -> Option
     Matrix::new(alloc, outs, ins, gains).err()
 }
 
-/// Each limit of a matrix from both sides: `Shape` before `Range`.
+/// Outputs, inputs, how many gains, and the fault.
+type Shape = (usize, usize, usize, Option<MatrixFault>);
+
+const SHAPES: [Shape; 9] = [
+    (2, 2, 3, Some(MatrixFault::Shape)),
+    (2, 2, 5, Some(MatrixFault::Shape)),
+    (0, 1, 0, Some(MatrixFault::Shape)),
+    (1, 0, 0, Some(MatrixFault::Shape)),
+    (9, 1, 9, Some(MatrixFault::Shape)),
+    (1, 1025, 1025, Some(MatrixFault::Shape)),
+    (usize::MAX, usize::MAX, 1, Some(MatrixFault::Shape)),
+    (1, 1, 1, None),
+    (8, 1024, 8192, None),
+];
+
+/// Each limit of a matrix' shape from both sides.
 #[test]
 fn matrix_faults(rt: HostRuntime) {
     let gains = [0; 9225];
-    let shape = Some(MatrixFault::Shape);
-    let cases = [
-        (2, 2, 3, shape),
-        (2, 2, 5, shape),
-        (0, 1, 0, shape),
-        (1, 0, 0, shape),
-        (9, 1, 9, shape),
-        (1, 1025, 1025, shape),
-        (usize::MAX, usize::MAX, 1, shape),
-        (1, 1, 1, None),
-        (8, 1024, 8192, None),
-    ];
-    for (outs, ins, count, expected) in cases {
+    for (outs, ins, count, want) in SHAPES {
         assert!(rt; count <= gains.len());
         let fault = matrix_fault(rt.alloc(), outs, ins, &gains[..count]);
-        assert_eq!(rt; fault, expected, "{count} gains for {outs} by {ins}");
+        assert_eq!(rt; fault, want, "{outs} by {ins}");
     }
-    let range = Some(MatrixFault::Range);
-    let limits = [
-        (1_048_576, None),
-        (-1_048_576, None),
-        (1_048_577, range),
-        (-1_048_577, range),
-        (i32::MAX, range),
-        (i32::MIN, range),
-    ];
-    for (gain, expected) in limits {
-        assert_eq!(rt;
-            matrix_fault(rt.alloc(), 1, 2, &[0, gain]),
-            expected,
-            "gain {gain}"
-        );
+}
+
+const GAINS: [(i32, Option<MatrixFault>); 6] = [
+    (1_048_576, None),
+    (-1_048_576, None),
+    (1_048_577, Some(MatrixFault::Range)),
+    (-1_048_577, Some(MatrixFault::Range)),
+    (i32::MAX, Some(MatrixFault::Range)),
+    (i32::MIN, Some(MatrixFault::Range)),
+];
+
+/// Each limit of a gain from both sides, and `Shape` before `Range`.
+#[test]
+fn faults_of_gains(rt: HostRuntime) {
+    for (gain, want) in GAINS {
+        let fault = matrix_fault(rt.alloc(), 1, 2, &[0, gain]);
+        assert_eq!(rt; fault, want, "gain {gain}");
     }
-    assert_eq!(rt;
-        matrix_fault(rt.alloc(), 1, 1, &[0, 1_048_577]),
-        shape,
-        "the shape comes first"
-    );
+    let fault = matrix_fault(rt.alloc(), 1, 1, &[0, 1_048_577]);
+    assert_eq!(rt; fault, Some(MatrixFault::Shape));
 }
 
 /// A matrix whose gains are all the same.
@@ -174,41 +181,88 @@ fn fault_of_many(
     Ok(Schedule::new(even_matrix(alloc, 2, 3, 0)?, later).err())
 }
 
-/// Each limit of a schedule from both sides: `Shape`, `Time`, `Order`, and 65 changes.
+/// Two changes, each a time with its matrix' outputs and inputs, and the fault.
+type Pair = ([(i64, usize, usize); 2], Option<ScheduleFault>);
+
+/// The last time that a change may have.
+const LAST: i64 = 1 << 60;
+
+const PAIRS: [Pair; 9] = [
+    ([(0, 2, 3), (LAST, 2, 3)], None),
+    ([(3, 2, 3), (4, 2, 3)], None),
+    ([(3, 2, 3), (3, 2, 3)], Some(ScheduleFault::Order)),
+    ([(4, 2, 3), (3, 2, 3)], Some(ScheduleFault::Order)),
+    ([(-1, 2, 3), (3, 2, 3)], Some(ScheduleFault::Time)),
+    ([(3, 2, 3), (LAST + 1, 2, 3)], Some(ScheduleFault::Time)),
+    ([(LAST + 1, 2, 3), (3, 2, 3)], Some(ScheduleFault::Time)),
+    ([(-1, 2, 3), (3, 1, 3)], Some(ScheduleFault::Shape)),
+    ([(3, 2, 2), (3, 2, 3)], Some(ScheduleFault::Shape)),
+];
+
+/// Each limit of a schedule's times and shapes from both sides: `Shape`, `Time`, `Order`.
 #[test]
 fn schedule_faults(rt: HostRuntime) -> Result<(), Fail> {
-    let last = 1 << 60;
-    let shape = Some(ScheduleFault::Shape);
-    let time = Some(ScheduleFault::Time);
-    let order = Some(ScheduleFault::Order);
-    let pairs = [
-        ([(0, 2, 3), (last, 2, 3)], None),
-        ([(3, 2, 3), (4, 2, 3)], None),
-        ([(3, 2, 3), (3, 2, 3)], order),
-        ([(4, 2, 3), (3, 2, 3)], order),
-        ([(-1, 2, 3), (3, 2, 3)], time),
-        ([(3, 2, 3), (last + 1, 2, 3)], time),
-        ([(last + 1, 2, 3), (3, 2, 3)], time),
-        ([(-1, 2, 3), (3, 1, 3)], shape),
-        ([(3, 2, 2), (3, 2, 3)], shape),
-    ];
-    for (changes, expected) in pairs {
-        assert_eq!(rt;
-            schedule_fault(rt.alloc(), &changes)?,
-            expected,
-            "changes {changes:?}"
-        );
+    for (changes, want) in PAIRS {
+        let fault = schedule_fault(rt.alloc(), &changes)?;
+        assert_eq!(rt; fault, want, "{changes:?}");
     }
-    assert_eq!(rt; schedule_fault(rt.alloc(), &[])?, None, "no change");
-    let counts = [
-        (64, 2, 3, None),
-        (64, 1, 3, shape),
-        (65, 2, 3, Some(ScheduleFault::TooMany)),
-        (65, 1, 3, Some(ScheduleFault::TooMany)),
-    ];
-    for (count, outs, ins, expected) in counts {
+    let fault = schedule_fault(rt.alloc(), &[])?;
+    assert_eq!(rt; fault, None, "no change");
+    Ok(())
+}
+
+/// How many changes, their outputs and inputs, and the fault.
+type Many = (u8, usize, usize, Option<ScheduleFault>);
+
+const MANY: [Many; 4] = [
+    (64, 2, 3, None),
+    (64, 1, 3, Some(ScheduleFault::Shape)),
+    (65, 2, 3, Some(ScheduleFault::TooMany)),
+    (65, 1, 3, Some(ScheduleFault::TooMany)),
+];
+
+/// 64 changes are fine, and 65 are too many, before any other fault.
+#[test]
+fn faults_of_many_changes(rt: HostRuntime) -> Result<(), Fail> {
+    for (count, outs, ins, want) in MANY {
         let fault = fault_of_many(rt.alloc(), count, outs, ins)?;
-        assert_eq!(rt; fault, expected, "{count} changes to {outs} by {ins}");
+        assert_eq!(rt; fault, want, "{count} changes to {outs} by {ins}");
+    }
+    Ok(())
+}
+
+/// A change to a matrix of one gain.
+fn push_change(later: &mut Vec<(i64, Matrix)>, time: i64, gain: i32) -> Result<(), Fail> {
+    let matrix = even_matrix(*later.allocator(), 1, 1, gain)?;
+    later.push((time, matrix))?;
+    Ok(())
+}
+
+/// A gain of 1, from 100 on of 2, and from 103 on of -1.
+fn two_changes(alloc: Global) -> Result<Schedule, Fail> {
+    let mut later = Vec::new(alloc);
+    push_change(&mut later, 100, 131_072)?;
+    push_change(&mut later, 103, -65_536)?;
+    let first = even_matrix(alloc, 1, 1, 65_536)?;
+    Ok(Schedule::new(first, later)?)
+}
+
+/// Times, and the gain that is in force then.
+const IN_FORCE: [(i64, i32); 5] = [
+    (0, 65_536),
+    (99, 65_536),
+    (100, 131_072),
+    (102, 131_072),
+    (103, -65_536),
+];
+
+/// Each change is in force from its own time on.
+#[test]
+fn gains_are_in_force_from_their_time_on(rt: HostRuntime) -> Result<(), Fail> {
+    let schedule = two_changes(rt.alloc())?;
+    assert_eq!(rt; schedule.later().len(), 2);
+    for (t, gain) in IN_FORCE {
+        assert_eq!(rt; schedule.at(t).gains(), [gain].as_slice(), "at {t}");
     }
     Ok(())
 }
@@ -216,28 +270,13 @@ fn schedule_faults(rt: HostRuntime) -> Result<(), Fail> {
 /// The table of changes in MIXING.md: each takes effect at its own instant, within a span.
 #[test]
 fn gains_change_within_a_span(rt: HostRuntime) -> Result<(), Fail> {
-    let mut later = Vec::new(rt.alloc());
-    later.push((100, even_matrix(rt.alloc(), 1, 1, 131_072)?))?;
-    later.push((103, even_matrix(rt.alloc(), 1, 1, -65_536)?))?;
-    let schedule = Schedule::new(even_matrix(rt.alloc(), 1, 1, 65_536)?, later)?;
-    assert_eq!(rt; schedule.first().gains(), [65_536].as_slice());
-    assert_eq!(rt; schedule.later().len(), 2);
-    let in_force = [
-        (0, 65_536),
-        (99, 65_536),
-        (100, 131_072),
-        (102, 131_072),
-        (103, -65_536),
-    ];
-    for (t, gain) in in_force {
-        assert_eq!(rt; schedule.at(t).gains(), [gain].as_slice(), "at {t}");
-    }
+    let schedule = two_changes(rt.alloc())?;
     let ins = [1, 2, 3, 4, 5, 6];
     let mut outs = [0; 6];
     assert!(rt; are_24_bits(&ins));
     assert!(rt; schedule.first().ins() == 1 && schedule.first().outs() == 1);
     mix_span(&schedule, 98, &ins, &mut outs, 6, 16);
-    assert_eq!(rt; outs, [1, 2, 6, 8, 10, -6], "two changes");
+    assert_eq!(rt; outs, [1, 2, 6, 8, 10, -6]);
     Ok(())
 }
 
@@ -262,45 +301,57 @@ fn plain_sample(gains: &[i32], ins: &[i32], shift: u32) -> i128 {
         .clamp(-limit, limit - 1)
 }
 
+/// So many numbers that look like chance, from 0 up to 2^(32 - `bits`), less a number.
+fn noises(
+    alloc: Global,
+    count: usize,
+    seed: u32,
+    bits: u32,
+    less: i32,
+) -> Result<Vec<i32>, AllocError> {
+    let mut seed = seed;
+    let mut values = Vec::new(alloc);
+    for _ in 0..count {
+        seed = noise(seed);
+        values.push((seed >> bits) as i32 - less)?;
+    }
+    Ok(values)
+}
+
+/// Mixes one frame, and compares each output with its plain form.
+fn compare(rt: &impl Abort, matrix: &Matrix, ins: &[i32], shift: u32) {
+    let mut samples = [0; 8];
+    let outs = matrix.outs();
+    assert!(rt; 0 < matrix.ins() && outs <= 8);
+    mix(rt, matrix, ins, &mut samples[..outs], 1, shift);
+    for (row, sample) in matrix.gains().chunks_exact(matrix.ins()).zip(&samples) {
+        let want = plain_sample(row, ins, shift);
+        assert_eq!(rt; i128::from(*sample), want, "{outs} outputs at {shift}");
+    }
+}
+
+/// Outputs and inputs.
+const KERNELS: [(usize, usize); 9] = [
+    (1, 1),
+    (2, 3),
+    (3, 64),
+    (4, 17),
+    (5, 5),
+    (7, 31),
+    (8, 128),
+    (8, 8),
+    (6, 100),
+];
+
 /// Nine shapes and both shifts, with numbers like chance, give the sum, half, division and limit of the definition.
 #[test]
 fn the_kernel_and_the_plain_form_agree(rt: HostRuntime) -> Result<(), Fail> {
-    let shapes = [
-        (1, 1),
-        (2, 3),
-        (3, 64),
-        (4, 17),
-        (5, 5),
-        (7, 31),
-        (8, 128),
-        (8, 8),
-        (6, 100),
-    ];
-    let mut seed = 1;
-    for (outs, ins) in shapes {
-        let mut gains = Vec::new(rt.alloc());
-        for _ in 0..outs * ins {
-            seed = noise(seed);
-            gains.push((seed >> 11) as i32 - 1_048_576)?;
-        }
-        let mut values = Vec::new(rt.alloc());
-        for _ in 0..ins {
-            seed = noise(seed);
-            values.push((seed >> 8) as i32 - 8_388_608)?;
-        }
+    for (outs, ins) in KERNELS {
+        let gains = noises(rt.alloc(), outs * ins, 1, 11, 1_048_576)?;
+        let values = noises(rt.alloc(), ins, 2, 8, 8_388_608)?;
         let matrix = Matrix::new(rt.alloc(), outs, ins, &gains)?;
-        for shift in [16, 24] {
-            let mut samples = [0; 8];
-            assert!(rt; outs <= 8);
-            mix(&rt, &matrix, &values, &mut samples[..outs], 1, shift);
-            for (row, sample) in gains.chunks_exact(ins).zip(&samples) {
-                assert_eq!(rt;
-                    i128::from(*sample),
-                    plain_sample(row, &values, shift),
-                    "{outs} by {ins} at {shift}"
-                );
-            }
-        }
+        compare(&rt, &matrix, &values, 16);
+        compare(&rt, &matrix, &values, 24);
     }
     Ok(())
 }

@@ -67,40 +67,33 @@ fn quiet(rt: &impl Abort, format: Format, until: i64) -> Mark {
     Mark::quiet(format, until)
 }
 
-/// Feeds a stream's marks while they are wanted, or one of them.
-fn feed(rt: &impl Abort, mixer: &mut Mixer, stream: usize, marks: &mut IntoIter<Mark>, one: bool) {
-    for _ in 0..100u8 {
-        assert!(rt; stream < mixer.streams());
-        if !mixer.wants(stream) {
-            return;
-        }
-        let Some(mark) = marks.next() else {
-            return;
-        };
+/// Feeds a stream's next mark, where one is wanted.
+fn feed(rt: &impl Abort, mixer: &mut Mixer, stream: usize, marks: &mut IntoIter<Mark>) {
+    assert!(rt; stream < mixer.streams());
+    if !mixer.wants(stream) {
+        return;
+    }
+    if let Some(mark) = marks.next() {
         assert!(rt; mixer.accepts(stream, &mark));
         mixer.feed(stream, mark);
-        if one {
-            return;
-        }
     }
 }
 
-/// All datagrams of two streams' marks, fed stream by stream or in turn.
+/// All datagrams of two streams' marks, fed in turn.
 fn mix(
     rt: &impl Abort,
     alloc: Global,
     spec: &StudioSpec,
     first: Vec<Mark>,
     second: Vec<Mark>,
-    in_turn: bool,
 ) -> Result<Vec<Vec<u8>>, AllocError> {
     let mut mixer = Mixer::new(alloc, spec)?;
     let mut first = first.into_iter();
     let mut second = second.into_iter();
     let mut datagrams = Vec::new(alloc);
     for _ in 0..100u8 {
-        feed(rt, &mut mixer, 0, &mut first, in_turn);
-        feed(rt, &mut mixer, 1, &mut second, in_turn);
+        feed(rt, &mut mixer, 0, &mut first);
+        feed(rt, &mut mixer, 1, &mut second);
         let mut out = [0u8; 1452];
         let _short = mixer.output().datagram_len();
         if let Some(len) = mixer.next_block(&mut out) {
@@ -144,46 +137,6 @@ fn six_and_forty_eight_in(rt: &impl Abort, alloc: Global) -> Option<StudioSpec> 
     studio(rt, alloc, streams, output, schedule).ok()
 }
 
-/// Eight packets from 0 on, of 1000 throughout.
-fn eight_thousands(rt: &impl Abort, alloc: Global) -> Result<Vec<Mark>, AllocError> {
-    let format = stream(rt, 1, 6, 12).format();
-    let mut marks = Vec::new(alloc);
-    for i in 0..8u8 {
-        let number = 65_537 + u64::from(i);
-        marks.push(got(rt, format, 0, number, i64::from(i) * 6, 6, &[1000]))?;
-    }
-    Ok(marks)
-}
-
-const FIRST: [u8; 12] = [0x80, 0x61, 0xff, 0xff, 0, 0, 0, 0, 0, 0, 0, 2];
-
-const NEXT: [u8; 12] = [0x80, 0x61, 0, 0, 0, 0, 0, 48, 0, 0, 0, 2];
-
-/// The example of MIXING.md: two streams of unlike packets give its two datagrams.
-#[test]
-fn two_streams_are_mixed_by_media_time(rt: HostRuntime) -> Result<(), Fail> {
-    let alloc = rt.alloc();
-    let spec = six_and_forty_eight(&rt, alloc)?;
-    for in_turn in [false, true] {
-        let mut first = eight_thousands(&rt, alloc)?;
-        first.push(Mark::end(stream(&rt, 1, 6, 12).format()))?;
-        let format = stream(&rt, 1, 48, 48).format();
-        let mut second = Vec::new(alloc);
-        second.push(got(&rt, format, 0, 65_636, 20, 48, &[1]))?;
-        second.push(Mark::end(format))?;
-        let mixed = mix(&rt, alloc, &spec, first, second, in_turn)?;
-        assert_eq!(rt; mixed.len(), 2, "the greatest end is 68");
-        let sums = [
-            (20, [[0, 3, 0xe8]].as_slice()),
-            (28, [[0, 3, 0xe9]].as_slice()),
-        ];
-        assert_eq!(rt; mixed[0], datagram(alloc, FIRST, &sums)?);
-        let rest = [(20, [[0, 0, 1]].as_slice()), (28, [[0, 0, 0]].as_slice())];
-        assert_eq!(rt; mixed[1], datagram(alloc, NEXT, &rest)?);
-    }
-    Ok(())
-}
-
 /// A lost slot at a time.
 fn lost(rt: &impl Abort, format: Format, media: i64) -> Mark {
     assert!(rt; -1_000_000 < media && media < 1_000_000);
@@ -213,100 +166,66 @@ fn a_lane_has_room_beside_the_stream_that_lags_most(rt: HostRuntime) -> Result<(
     Ok(())
 }
 
-/// A stream that told silence until the block's end lets the other's block go out.
-#[test]
-fn a_silent_stream_does_not_hold_up_the_mix(rt: HostRuntime) -> Result<(), Fail> {
-    let alloc = rt.alloc();
-    let spec = six_and_forty_eight(&rt, alloc)?;
-    let format = stream(&rt, 1, 6, 12).format();
-    for in_turn in [false, true] {
-        let mut first = eight_thousands(&rt, alloc)?;
-        for i in 8..15u8 {
-            let media = i64::from(i) * 6;
-            first.push(Mark::slot(format, 0, 65_537 + u64::from(i), media, Body::Lost))?;
-        }
-        let mut second = Vec::new(alloc);
-        second.push(quiet(&rt, stream(&rt, 1, 48, 48).format(), 48))?;
-        let mixed = mix(&rt, alloc, &spec, first, second, in_turn)?;
-        assert_eq!(rt; mixed.len(), 1);
-        let sums = [(48, [[0, 3, 0xe8]].as_slice())];
-        assert_eq!(rt; mixed[0], datagram(alloc, FIRST, &sums)?);
-    }
-    Ok(())
+/// A stream of two channels in packets of 6, and one of a channel in packets of 16.
+fn unlike_streams(rt: &impl Abort) -> [StreamSpec; 2] {
+    [stream(rt, 2, 6, 12), stream(rt, 1, 16, 12)]
 }
 
-/// A gain that changes at the third instant of a block changes there.
-#[test]
-fn gains_change_within_a_block(rt: HostRuntime) -> Result<(), Fail> {
-    let alloc = rt.alloc();
-    let six = stream(&rt, 1, 6, 12);
-    let streams = [six, six];
-    let format = six.format();
-    let output = OutSpec::new(Enc::L24, 1, 6, 97, 2, 0, 0, 0)?;
-    let whole = Matrix::new(alloc, 1, 2, &[65_536, 65_536])?;
-    let mut later = Vec::new(alloc);
-    later.push((3, Matrix::new(alloc, 1, 2, &[32_768, 65_536])?))?;
-    let spec = studio(&rt, alloc, streams, output, Schedule::new(whole, later)?)?;
-    let mut first = Vec::new(alloc);
-    first.push(got(&rt, format, 0, 65_537, 0, 1, &[1, 2, 3, 4, 5, 6]))?;
-    first.push(Mark::end(format))?;
-    let mut second = Vec::new(alloc);
-    second.push(Mark::end(format))?;
-    let mixed = mix(&rt, alloc, &spec, first, second, false)?;
-    assert_eq!(rt; mixed.len(), 1);
-    let head = [0x80, 0x61, 0, 0, 0, 0, 0, 0, 0, 0, 0, 2];
-    let samples = [
-        [0, 0, 1],
-        [0, 0, 2],
-        [0, 0, 3],
-        [0, 0, 2],
-        [0, 0, 3],
-        [0, 0, 3],
-    ];
-    assert_eq!(rt;
-        mixed[0],
-        datagram(alloc, head, &[(1, samples.as_slice())])?
-    );
-    Ok(())
+/// The two, mixed to two outputs, the longer packets added to the first and taken from the second.
+fn unlike_studio(rt: &impl Abort, alloc: Global) -> Result<StudioSpec, Fail> {
+    let output = OutSpec::new(Enc::L24, 2, 12, 97, 2, 0, 0, 0)?;
+    let gains = Matrix::new(alloc, 2, 3, &[65_536, 0, 65_536, 0, 65_536, -65_536])?;
+    let schedule = Schedule::new(gains, Vec::new(alloc))?;
+    Ok(studio(rt, alloc, unlike_streams(rt), output, schedule)?)
 }
+
+/// Two epochs, with silence from 6 to 12.
+fn epochs_apart(rt: &impl Abort, alloc: Global, format: Format) -> Result<Vec<Mark>, AllocError> {
+    let mut marks = Vec::new(alloc);
+    marks.push(got(rt, format, 0, 65_537, 0, 6, &[1, 2]))?;
+    marks.push(got(rt, format, 1, 70_000, 12, 6, &[3, 5]))?;
+    marks.push(Mark::end(format))?;
+    Ok(marks)
+}
+
+/// Silence to 2, and a packet at 3.
+fn a_later_packet(rt: &impl Abort, alloc: Global, format: Format) -> Result<Vec<Mark>, AllocError> {
+    let mut marks = Vec::new(alloc);
+    marks.push(quiet(rt, format, 2))?;
+    marks.push(got(rt, format, 0, 65_600, 3, 16, &[4]))?;
+    marks.push(Mark::end(format))?;
+    Ok(marks)
+}
+
+/// The samples of a datagram's frames, so many times each.
+type Runs<'a> = [(u8, &'a [[u8; 3]]); 3];
+
+const BEFORE: Runs = [
+    (3, &[[0, 0, 1], [0, 0, 2]]),
+    (3, &[[0, 0, 5], [0xff, 0xff, 0xfe]]),
+    (6, &[[0, 0, 4], [0xff, 0xff, 0xfc]]),
+];
+
+const AFTER: Runs = [
+    (6, &[[0, 0, 7], [0, 0, 1]]),
+    (1, &[[0, 0, 4], [0xff, 0xff, 0xfc]]),
+    (5, &[[0, 0, 0], [0, 0, 0]]),
+];
 
 /// Two channels with silence between two epochs, and one of longer packets that begins later: two outputs, sample by sample.
 #[test]
 fn streams_of_unlike_channels_and_an_epoch_apart(rt: HostRuntime) -> Result<(), Fail> {
     let alloc = rt.alloc();
-    let of_two = stream(&rt, 2, 6, 12);
-    let of_one = stream(&rt, 1, 16, 12);
-    let streams = [of_two, of_one];
-    let wide = of_two.format();
-    let long = of_one.format();
-    let output = OutSpec::new(Enc::L24, 2, 12, 97, 2, 0, 0, 0)?;
-    let gains = Matrix::new(alloc, 2, 3, &[65_536, 0, 65_536, 0, 65_536, -65_536])?;
-    let schedule = Schedule::new(gains, Vec::new(alloc))?;
-    let spec = studio(&rt, alloc, streams, output, schedule)?;
-    let mut first = Vec::new(alloc);
-    first.push(got(&rt, wide, 0, 65_537, 0, 6, &[1, 2]))?;
-    first.push(got(&rt, wide, 1, 70_000, 12, 6, &[3, 5]))?;
-    first.push(Mark::end(wide))?;
-    let mut second = Vec::new(alloc);
-    second.push(quiet(&rt, long, 2))?;
-    second.push(got(&rt, long, 0, 65_600, 3, 16, &[4]))?;
-    second.push(Mark::end(long))?;
-    let mixed = mix(&rt, alloc, &spec, first, second, true)?;
-    assert_eq!(rt; mixed.len(), 2, "the greatest end is 19");
+    let spec = unlike_studio(&rt, alloc)?;
+    let [wide, long] = unlike_streams(&rt);
+    let first = epochs_apart(&rt, alloc, wide.format())?;
+    let second = a_later_packet(&rt, alloc, long.format())?;
+    let mixed = mix(&rt, alloc, &spec, first, second)?;
     let head = [0x80, 0x61, 0, 0, 0, 0, 0, 0, 0, 0, 0, 2];
-    let before = [
-        (3, [[0, 0, 1], [0, 0, 2]].as_slice()),
-        (3, [[0, 0, 5], [0xff, 0xff, 0xfe]].as_slice()),
-        (6, [[0, 0, 4], [0xff, 0xff, 0xfc]].as_slice()),
-    ];
-    assert_eq!(rt; mixed[0], datagram(alloc, head, &before)?);
     let next = [0x80, 0x61, 0, 1, 0, 0, 0, 12, 0, 0, 0, 2];
-    let after = [
-        (6, [[0, 0, 7], [0, 0, 1]].as_slice()),
-        (1, [[0, 0, 4], [0xff, 0xff, 0xfc]].as_slice()),
-        (5, [[0, 0, 0], [0, 0, 0]].as_slice()),
-    ];
-    assert_eq!(rt; mixed[1], datagram(alloc, next, &after)?);
+    assert_eq!(rt; mixed.len(), 2, "the greatest end is 19");
+    assert!(rt; mixed[0] == datagram(alloc, head, &BEFORE)?);
+    assert!(rt; mixed[1] == datagram(alloc, next, &AFTER)?);
     Ok(())
 }
 

@@ -71,34 +71,6 @@ impl Read for NoReader {
     }
 }
 
-/// Two packets, two readings and a close give two datagrams and the counts.
-#[test]
-fn plays_a_trace_to_its_report(rt: HostRuntime) -> Result<(), Fail> {
-    let alloc = rt.alloc();
-    let studio = studio(&rt, alloc)?;
-    let mut page = Vec::new(alloc);
-    assert!(rt;
-        play(alloc, &studio, &mut TRACE.as_bytes(), &mut page).is_ok(),
-        "a report"
-    );
-    assert_eq!(rt; str::from_utf8(page.as_slice()), Ok(REPORT));
-    Ok(())
-}
-
-/// The same trace gives two slots and the end.
-#[test]
-fn lists_the_marks_of_a_trace(rt: HostRuntime) -> Result<(), Fail> {
-    let alloc = rt.alloc();
-    let studio = studio(&rt, alloc)?;
-    let mut page = Vec::new(alloc);
-    assert!(rt;
-        list_marks(alloc, &studio, &mut TRACE.as_bytes(), &mut page).is_ok(),
-        "a listing"
-    );
-    assert_eq!(rt; str::from_utf8(page.as_slice()), Ok(LISTING));
-    Ok(())
-}
-
 /// The listing and the counts go to two writers, each whole.
 #[test]
 fn counts_are_told_beside_the_listing(rt: HostRuntime) -> Result<(), Fail> {

@@ -1,5 +1,4 @@
 //! The trace reader: its words, its faults and its limits.
-use super::page::repeated;
 use path_merge::Path;
 use std::alloc::Global;
 use std::test::Fail;
@@ -93,104 +92,6 @@ fn datagrams_are_decoded_from_their_places(rt: HostRuntime) -> Result<(), Fail> 
         events.octets(3, &mut room),
         [0x7e].as_slice(),
         "a shorter one in the same room"
-    );
-    Ok(())
-}
-
-/// Each kind of fault, by the line that it names.
-#[test]
-fn trace_faults(rt: HostRuntime) {
-    let table = [
-        ("close", 1, TraceKind::Cut),
-        ("# a comment", 1, TraceKind::Cut),
-        ("tick 1\n\n#\ntick 2", 4, TraceKind::Cut),
-        ("tock\n", 1, TraceKind::Word),
-        ("close\r\n", 1, TraceKind::Word),
-        ("\r\n", 1, TraceKind::Word),
-        (" close\n", 1, TraceKind::Word),
-        ("e 0 00\n", 1, TraceKind::Word),
-        ("ticks 0 0 0\n", 1, TraceKind::Word),
-        ("tick\n", 1, TraceKind::Fields),
-        ("tick  5\n", 1, TraceKind::Fields),
-        ("tick 5 \n", 1, TraceKind::Fields),
-        ("close \n", 1, TraceKind::Fields),
-        ("a 0\n", 1, TraceKind::Fields),
-        ("a 99 zz 0\n", 1, TraceKind::Fields),
-        ("tick \n", 1, TraceKind::Number),
-        ("tick 01\n", 1, TraceKind::Number),
-        ("tick 00\n", 1, TraceKind::Number),
-        ("tick +1\n", 1, TraceKind::Number),
-        ("tick -1\n", 1, TraceKind::Number),
-        ("tick 1a\n", 1, TraceKind::Number),
-        ("tick 9223372036854775808\n", 1, TraceKind::Number),
-        ("tick 18446744073709551616\n", 1, TraceKind::Number),
-        ("a 16 00\n", 1, TraceKind::Number),
-        ("a 16 0\n", 1, TraceKind::Number),
-        ("a  00\n", 1, TraceKind::Number),
-        ("a 0 0\n", 1, TraceKind::Hex),
-        ("a 0 \n", 1, TraceKind::Hex),
-        ("a 0 0g\n", 1, TraceKind::Hex),
-        ("close\n#\nclose 1\nclose 2\n", 3, TraceKind::Fields),
-    ];
-    for (text, line, kind) in table {
-        let answer = events_of(rt.alloc(), text.as_bytes());
-        assert_eq!(rt; answer, Err(fault(line, kind)), "in {text:?}");
-    }
-}
-
-/// A line of 4,096 octets is read, of 4,097 too long, and cut without its line feed.
-#[test]
-fn trace_limits(rt: HostRuntime) -> Result<(), Fail> {
-    let alloc = rt.alloc();
-    let table = [
-        ("x", 4095, "\n", Ok(0)),
-        ("x", 4096, "\n", Err(fault(2, TraceKind::TooLong))),
-        ("x", 4095, "", Err(fault(2, TraceKind::Cut))),
-        ("x", 4096, "", Err(fault(2, TraceKind::TooLong))),
-    ];
-    for (unit, times, last, wanted) in table {
-        let comment = repeated(alloc, unit.as_bytes(), times, last.as_bytes())?;
-        let text = repeated(alloc, b"\n#", 1, comment.as_slice())?;
-        assert_eq!(rt;
-            events_of(rt.alloc(), text.as_slice()),
-            wanted,
-            "a long line"
-        );
-    }
-    let full = 1_000_000;
-    let table = [
-        ("", Ok(full)),
-        ("#\n\n", Ok(full)),
-        ("close\n", Err(fault(1_000_001, TraceKind::TooMany))),
-        ("close 1\n", Err(fault(1_000_001, TraceKind::Fields))),
-        ("a 0 0g\n", Err(fault(1_000_001, TraceKind::Hex))),
-        ("a 0 00\n", Err(fault(1_000_001, TraceKind::TooMany))),
-    ];
-    for (last, wanted) in table {
-        let text = repeated(alloc, b"close\n", full, last.as_bytes())?;
-        assert_eq!(rt;
-            events_of(rt.alloc(), text.as_slice()),
-            wanted,
-            "many events"
-        );
-    }
-    Ok(())
-}
-
-/// The longest text is read, and one octet more is too many.
-#[test]
-fn a_trace_of_2_to_26_octets_is_read(rt: HostRuntime) -> Result<(), Fail> {
-    let most = repeated(rt.alloc(), b"\n\n\n\n\n\n\n\n", 8_388_608, b"")?;
-    assert_eq!(rt;
-        events_of(rt.alloc(), most.as_slice()),
-        Ok(0),
-        "67,108,864 octets"
-    );
-    let more = repeated(rt.alloc(), b"close\n..", 8_388_608, b"\n")?;
-    assert_eq!(rt;
-        events_of(rt.alloc(), more.as_slice()),
-        Err(fault(0, TraceKind::TooMany)),
-        "67,108,865 octets"
     );
     Ok(())
 }
