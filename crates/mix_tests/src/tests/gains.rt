@@ -301,19 +301,24 @@ fn plain_sample(gains: &[i32], ins: &[i32], shift: u32) -> i128 {
         .clamp(-limit, limit - 1)
 }
 
-/// So many numbers that look like chance, from 0 up to 2^(32 - `bits`), less a number.
-fn noises(
-    alloc: Global,
-    count: usize,
-    seed: u32,
-    bits: u32,
-    less: i32,
-) -> Result<Vec<i32>, AllocError> {
-    let mut seed = seed;
+/// So many gains that look like chance.
+fn noisy_gains(alloc: Global, count: usize) -> Result<Vec<i32>, AllocError> {
+    let mut seed = 1;
+    let mut gains = Vec::new(alloc);
+    for _ in 0..count {
+        seed = noise(seed);
+        gains.push((seed >> 11) as i32 - 1_048_576)?;
+    }
+    Ok(gains)
+}
+
+/// So many values of 24 bits that look like chance.
+fn noisy_values(alloc: Global, count: usize) -> Result<Vec<i32>, AllocError> {
+    let mut seed = 2;
     let mut values = Vec::new(alloc);
     for _ in 0..count {
         seed = noise(seed);
-        values.push((seed >> bits) as i32 - less)?;
+        values.push((seed >> 8) as i32 - 8_388_608)?;
     }
     Ok(values)
 }
@@ -347,8 +352,8 @@ const KERNELS: [(usize, usize); 9] = [
 #[test]
 fn the_kernel_and_the_plain_form_agree(rt: HostRuntime) -> Result<(), Fail> {
     for (outs, ins) in KERNELS {
-        let gains = noises(rt.alloc(), outs * ins, 1, 11, 1_048_576)?;
-        let values = noises(rt.alloc(), ins, 2, 8, 8_388_608)?;
+        let gains = noisy_gains(rt.alloc(), outs * ins)?;
+        let values = noisy_values(rt.alloc(), ins)?;
         let matrix = Matrix::new(rt.alloc(), outs, ins, &gains)?;
         compare(&rt, &matrix, &values, 16);
         compare(&rt, &matrix, &values, 24);
