@@ -8,6 +8,5 @@ mod numbers;
 mod runs;
 mod steps;
 mod streams;
-mod texts;
 mod windows;
 mod wire;

@@ -134,26 +134,3 @@ fn samples_stand_frame_by_frame_at_their_extremes(rt: HostRuntime) -> Result<(),
     assert_eq!(rt; &out[21..], [0, 0, 0, 0, 0, 1, 1, 2, 3].as_slice());
     Ok(())
 }
-
-/// The text of each fault of an output.
-#[test]
-fn faults_say_what_is_wrong(rt: HostRuntime) -> Result<(), Fail> {
-    let rows = [
-        (OutFault::Channels, "channels are not from 1 to 8"),
-        (OutFault::Frames, "frames per packet are not allowed"),
-        (
-            OutFault::PayloadType,
-            "the payload type is not from 96 to 127",
-        ),
-        (
-            OutFault::TooLong,
-            "a payload would have more than 1440 octets",
-        ),
-        (OutFault::Start, "the start is not from 0 to 2^60"),
-    ];
-    for (fault, want) in rows {
-        let text = format!(in rt.alloc(); "{fault}")?;
-        assert_eq!(rt; text.as_str(), want);
-    }
-    Ok(())
-}

@@ -379,37 +379,3 @@ fn each_refused_allocation_is_answered(rt: HostRuntime) -> Result<(), Fail> {
     }
     Ok(())
 }
-
-/// The text of each fault of a matrix.
-#[test]
-fn matrix_faults_say_what_is_wrong(rt: HostRuntime) -> Result<(), Fail> {
-    let rows = [
-        (MatrixFault::Shape, "the matrix has another shape"),
-        (MatrixFault::Range, "a gain is out of range"),
-        (MatrixFault::Memory, "out of memory"),
-    ];
-    for (fault, want) in rows {
-        let text = format!(in rt.alloc(); "{fault}")?;
-        assert_eq!(rt; text.as_str(), want);
-    }
-    Ok(())
-}
-
-/// The text of each fault of a schedule.
-#[test]
-fn schedule_faults_say_what_is_wrong(rt: HostRuntime) -> Result<(), Fail> {
-    let rows = [
-        (ScheduleFault::TooMany, "there are too many changes"),
-        (
-            ScheduleFault::Shape,
-            "a matrix has another shape than the first",
-        ),
-        (ScheduleFault::Time, "a time is out of range"),
-        (ScheduleFault::Order, "the times do not rise"),
-    ];
-    for (fault, want) in rows {
-        let text = format!(in rt.alloc(); "{fault}")?;
-        assert_eq!(rt; text.as_str(), want);
-    }
-    Ok(())
-}

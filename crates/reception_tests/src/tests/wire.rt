@@ -1,7 +1,6 @@
 //! Vectors for headers, payloads and samples.
 use rtp_wire::{
-    Enc, RtpHead, WireFault, is_packet_time, read, read_samples, sample, write_head, write_sample,
-    write_samples,
+    Enc, RtpHead, WireFault, read, read_samples, sample, write_head, write_sample, write_samples,
 };
 use std::alloc::{AllocError, Global};
 use std::test::Fail;
@@ -134,14 +133,4 @@ fn blocks_are_their_samples_side_by_side(rt: HostRuntime) {
     assert_eq!(rt; written, [0, 1, 2, 0xff, 0xff, 0xfe, 0x55, 0x55]);
     assert_eq!(rt; write_samples(Enc::L16, &[258, -2], &mut written), 4);
     assert_eq!(rt; written, [1, 2, 0xff, 0xfe, 0xff, 0xfe, 0x55, 0x55]);
-}
-
-/// 0 to 999 sampling instants: 6, 12, 16, 48 and 192 alone are packet times.
-#[test]
-fn packet_times(rt: HostRuntime) {
-    let known = [6u16, 12, 16, 48, 192];
-    for frames in 0..1000u16 {
-        let want = known.contains(&frames);
-        assert_eq!(rt; is_packet_time(frames), want, "{frames} sampling instants");
-    }
 }
