@@ -1,7 +1,4 @@
 //! The tests, command by command.
-mod captures;
-mod commands;
 mod fakes;
-mod live;
 mod outcome;
 mod statuses;

@@ -1,6 +1,6 @@
 //! Runs of the program, and what came of them.
 use super::fakes::Page;
-use std::alloc::{AllocError, Global};
+use std::alloc::Global;
 use std::io::Read;
 use std::net::Net;
 use std::sync::Wait;
@@ -20,18 +20,12 @@ pub(super) const STORED_LISTING: &str = "0 slot 65537 0 got 00000100000200000300
     0 slot 65538 6 got 00000700000800000900000a00000b00000c\n\
     0 end\n";
 
-/// A configuration's text for every path but `none`.
-#[derive(Clone, Copy)]
-pub(super) struct OneConfig<'a> {
-    pub(super) text: &'a [u8],
-}
+/// No configuration at any path.
+pub(super) struct NoConfigs;
 
-impl Configs for OneConfig<'_> {
-    fn octets(&self, alloc: Global, path: &str) -> Result<Vec<u8>, ReadFault> {
-        if path == "none" {
-            return Err(ReadFault::Device);
-        }
-        self.text.to_vec(alloc).map_err(|_| ReadFault::Memory)
+impl Configs for NoConfigs {
+    fn octets(&self, _alloc: Global, _path: &str) -> Result<Vec<u8>, ReadFault> {
+        Err(ReadFault::Device)
     }
 }
 
@@ -51,10 +45,9 @@ pub(super) fn outcome_of<R: Threads + Wait + Sync + Net + Clock, I: Read + Drop>
 ) -> Outcome {
     let mut output = Page::new(usize::MAX);
     let mut faults = Page::new(usize::MAX);
-    let configs = OneConfig { text: b"" };
     let status = run(
         rt,
-        &configs,
+        &NoConfigs,
         alloc,
         &[],
         &mut input,
@@ -66,35 +59,4 @@ pub(super) fn outcome_of<R: Threads + Wait + Sync + Net + Clock, I: Read + Drop>
         output,
         faults,
     }
-}
-
-/// Runs the program with words, over the stored trace and a configuration.
-pub(super) fn outcome_with<R: Threads + Wait + Sync + Net + Clock>(
-    rt: &R,
-    alloc: Global,
-    words: &[&str],
-    config: &[u8],
-) -> Result<Outcome, AllocError> {
-    let mut owned = Vec::new(alloc);
-    for word in words {
-        owned.push(String::from_str(alloc, word)?)?;
-    }
-    let mut input = STORED_TRACE.as_bytes();
-    let mut output = Page::new(usize::MAX);
-    let mut faults = Page::new(usize::MAX);
-    let configs = OneConfig { text: config };
-    let status = run(
-        rt,
-        &configs,
-        alloc,
-        owned.as_slice(),
-        &mut input,
-        &mut output,
-        &mut faults,
-    );
-    Ok(Outcome {
-        status,
-        output,
-        faults,
-    })
 }

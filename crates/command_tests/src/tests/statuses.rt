@@ -1,17 +1,10 @@
 //! Texts, fault lines and exit statuses of whole runs.
 use super::fakes::{FailingReader, FullPage, Page};
-use super::outcome::{OneConfig, Outcome, STORED_LISTING, STORED_TRACE, outcome_of};
+use super::outcome::{NoConfigs, Outcome, STORED_LISTING, STORED_TRACE, outcome_of};
 use std::process::Abort;
 use studio_commands::run;
 
-pub(super) fn expect(
-    rt: &impl Abort,
-    outcome: &Outcome,
-    status: u8,
-    output: &str,
-    faults: &str,
-    of: &str,
-) {
+fn expect(rt: &impl Abort, outcome: &Outcome, status: u8, output: &str, faults: &str, of: &str) {
     assert_eq!(rt; outcome.status, status, "the status of {of:?}");
     assert_eq!(rt; outcome.output.text(), output, "the output of {of:?}");
     assert_eq!(rt; outcome.faults.text(), faults, "the faults of {of:?}");
@@ -55,7 +48,7 @@ fn a_failed_write_leaves_a_prefix(rt: HostRuntime) {
         let mut faults = Page::new(512);
         let status = run(
             &rt,
-            &OneConfig { text: b"" },
+            &NoConfigs,
             rt.alloc(),
             &[],
             &mut input,
@@ -84,7 +77,7 @@ fn a_write_of_nothing_is_a_fault(rt: HostRuntime) {
     let mut faults = Page::new(512);
     let status = run(
         &rt,
-        &OneConfig { text: b"" },
+        &NoConfigs,
         rt.alloc(),
         &[],
         &mut input,
