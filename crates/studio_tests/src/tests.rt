@@ -1,7 +1,4 @@
-//! The tests, from sessions to the report of a trace.
-mod lines;
-mod page;
+//! The tests, from a cursor to the report of a trace.
 mod play;
 mod session;
-mod text;
 mod trace;

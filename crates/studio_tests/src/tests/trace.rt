@@ -2,7 +2,7 @@
 use path_merge::Path;
 use std::alloc::Global;
 use std::test::Fail;
-use studio_run::{StudioEvent, TraceFault, TraceKind, TracedEvents, read_trace};
+use studio_run::{TraceFault, TraceKind, TracedEvents, read_trace};
 use studio_session::{EventSource, MOST_ARRIVAL_OCTETS, Outline};
 
 /// What the reader answers to a text: how many events, or the fault.
@@ -17,41 +17,6 @@ fn places_of(alloc: Global, text: &[u8]) -> Result<usize, TraceFault> {
 
 fn fault(line: u32, kind: TraceKind) -> TraceFault {
     TraceFault { line, kind }
-}
-
-/// Each word of a trace, with the limits of its numbers, digits of both cases, comments and empty lines.
-#[test]
-fn reads_each_word(rt: HostRuntime) -> Result<(), Fail> {
-    let text =
-        "# tick 9\ntick 0\n\ntick 9223372036854775807\na 0 0aFf\nb 15 00\n#\nc 1 7E\nd 10 e700\nclose\n";
-    let events = read_trace(rt.alloc(), text.as_bytes())?;
-    let arrivals = [
-        (2, 0, 0, [0x0a, 0xff].as_slice()),
-        (3, 15, 1, [0x00].as_slice()),
-        (4, 1, 2, [0x7e].as_slice()),
-        (5, 10, 3, [0xe7, 0x00].as_slice()),
-    ];
-    for (place, stream, number, octets) in arrivals {
-        let path = Path::new(number).ok_or("there are four paths")?;
-        let octets = octets.to_vec(rt.alloc())?;
-        let wanted = StudioEvent::Arrive {
-            stream,
-            path,
-            octets,
-        };
-        assert!(rt; events.get(place) == Some(&wanted), "event {place}");
-    }
-    assert!(rt;
-        events.get(0) == Some(&StudioEvent::Tick(0)),
-        "the least time"
-    );
-    assert!(rt;
-        events.get(1) == Some(&StudioEvent::Tick(i64::MAX)),
-        "the greatest time"
-    );
-    assert!(rt; events.get(6) == Some(&StudioEvent::Close), "the close");
-    assert_eq!(rt; events.len(), 7, "comments and empty lines give no event");
-    Ok(())
 }
 
 /// Datagrams for the last streams, with digits of both cases, come out of their lines octet by octet.
