@@ -47,25 +47,6 @@ fn out_spec_faults(rt: HostRuntime) {
     }
 }
 
-/// Readers of two outputs: their payloads' octets, and the shift to their samples.
-#[test]
-fn an_output_says_what_it_was_made_of(rt: HostRuntime) -> Result<(), Fail> {
-    let spec = OutSpec::new(Enc::L16, 3, 12, 101, 4_000_000_000, 65_535, 7, 9)?;
-    assert_eq!(rt;
-        (spec.enc(), spec.channels(), spec.frames()),
-        (Enc::L16, 3, 12)
-    );
-    assert_eq!(rt;
-        (spec.pt(), spec.ssrc(), spec.seq0()),
-        (101, 4_000_000_000, 65_535)
-    );
-    assert_eq!(rt; (spec.start(), spec.offset()), (7, 9));
-    assert_eq!(rt; (spec.datagram_len(), spec.shift()), (84, 24));
-    let spec = OutSpec::new(Enc::L24, 1, 48, 97, 2, 0, 0, 0)?;
-    assert_eq!(rt; (spec.datagram_len(), spec.shift()), (156, 16));
-    Ok(())
-}
-
 /// Sequence number 65535 and timestamp 2^32 - 48 are followed by 0 and 0.
 #[test]
 fn sequence_and_timestamp_wrap(rt: HostRuntime) -> Result<(), Fail> {
