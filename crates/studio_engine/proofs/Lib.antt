@@ -4,3 +4,4 @@ pub mod FillLemmas
 pub mod KeepLemmas
 pub mod EngineLemmas
 pub mod CountsLemmas
+pub mod DeadlineLemmas

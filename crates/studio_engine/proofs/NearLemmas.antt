@@ -62,7 +62,7 @@ datagram_open path WrongType history = refl
 datagram_open path WrongLength history = refl
 
 -- every stream has the readings of the events
-stream_time : (stream : Stream) (number : ℕ) (time : ℤ) (events : List TraceEvent) → time_of time (stream_history stream number events) ≡ time_at time events
+pub stream_time : (stream : Stream) (number : ℕ) (time : ℤ) (events : List TraceEvent) → time_of time (stream_history stream number events) ≡ time_at time events
 stream_time stream number time [] = refl
 stream_time stream number time (Reading u ∷ events) = stream_time stream number u events
 stream_time stream number time (Closing ∷ events) = stream_time stream number time events
@@ -79,7 +79,7 @@ stays_closed (Closing ∷ events) = stays_closed events
 stays_closed (Arrival s path octets ∷ events) = stays_closed events
 
 -- and their close
-stream_open : (stream : Stream) (number : ℕ) (events : List TraceEvent) → closed_at false events ≡ false → is_closed (stream_history stream number events) ≡ false
+pub stream_open : (stream : Stream) (number : ℕ) (events : List TraceEvent) → closed_at false events ≡ false → is_closed (stream_history stream number events) ≡ false
 stream_open stream number [] open_yet = refl
 stream_open stream number (Reading u ∷ events) open_yet = stream_open stream number events open_yet
 stream_open stream number (Closing ∷ events) open_yet = absurd (let shut = stays_closed events in cc)

@@ -2,6 +2,7 @@ pub mod Near
 pub mod Engine
 pub mod Give
 pub mod Session
+pub mod Deadline
 pub use Rattle.stream_rules.specs.MarkFacts
 pub use Rattle.stream_rules.specs.PathCounts
 pub use Rattle.stream_rules.specs.Counts as MergeCounts

@@ -11,6 +11,7 @@ ghost use Rattle.studio_session.specs.Report.{merge_tally_of};
 ghost use Rattle.studio_session.specs.Run.{blocks_left};
 ghost use Rattle.stream_rules.specs.Counts.{tally_of};
 ghost use Rattle.stream_rules.specs.PathCounts.{path_tally_of};
+ghost use Rattle.studio_engine.specs.Deadline.{IsUnreadyBefore};
 ghost use Rattle.studio_engine.specs.Engine.{HasAllMarks, arrive_fault_of, path_fault_of};
 ghost use Rattle.studio_engine.specs.Session.{Gives, HasGivenReady, HasSession, shut, turned};
 
@@ -262,6 +263,11 @@ impl Engine {
         ensures later { IfSome result (λ reading. self.now.time <ℤ reading) }
         ensures rested { IfSome result (λ _. self.now.turning ≡ false) }
         ensures open_yet { IfSome result (λ _. self.now.closed ≡ false) }
+        ensures before { IfSome result (λ reading. (studio : Studio) (events : List TraceEvent) (datagrams : List (List ℕ))
+            → HasSession studio self.now events datagrams → IsUnreadyBefore studio events (length datagrams) reading) }
+        ensures never { result ≡ None → self.now.turning ≡ false → self.now.closed ≡ false
+            → (studio : Studio) (events : List TraceEvent) (datagrams : List (List ℕ))
+            → HasSession studio self.now events datagrams → IsUnreadyBefore studio events (length datagrams) (pos (2 ^ 60 + 1)) }
     {
         if self.turning {
             return None;
