@@ -43,8 +43,9 @@ test:
 	examples/check crates/studio_main/out/studio_main
 	examples/faults crates/studio_main/out/studio_main
 	examples/statuses crates/studio_main/out/studio_main
+	tests/loopback crates/studio_main/out/studio_main
 	memory/check
-	@echo "gate: pages, proofs, edits, tests, examples, faults, statuses and memory passed"
+	@echo "gate: pages, proofs, edits, tests, examples, faults, statuses, live runs and memory passed"
 
 test-memory:
 	memory/check
