@@ -36,16 +36,17 @@ bin/darbexum-live: darbexum-live
 run:
 	@examples/run
 
-# The examples and the faults are tried with the program that the gate has built.
+# The scripts drive the program that the gate has built.
 test:
 	docs/check
 	rt ci
 	examples/check crates/studio_main/out/studio_main
 	examples/faults crates/studio_main/out/studio_main
 	examples/statuses crates/studio_main/out/studio_main
+	tests/captures crates/studio_main/out/studio_main
 	tests/loopback crates/studio_main/out/studio_main
 	memory/check
-	@echo "gate: pages, proofs, edits, tests, examples, faults, statuses, live runs and memory passed"
+	@echo "gate: pages, proofs, edits, tests, examples, faults, statuses, captures, live runs and memory passed"
 
 test-memory:
 	memory/check

@@ -1,0 +1,251 @@
+"""Captures in the making: their records and blocks, and what is told of each.
+
+Each datagram of a file has a number of its own, by which a trace shows that it came whole and in its place. A time shows in a trace's
+readings, 3 sampling instants in 62,500 nanoseconds since the first datagram.
+"""
+import struct
+from typing import NamedTuple
+
+LITTLE, BIG = "<", ">"
+MICROSECONDS, NANOSECONDS = 0xA1B2C3D4, 0xA1B23C4D
+RAW = 101
+TO = "239.1.2.3:5005"
+
+# A link's number, what stands before the IP packet, and whether the packet is found.
+LINKS = [
+    (0, "02000000", True),
+    (0, "00000002", True),
+    (0, "1e000000", False),
+    (1, "0000000000000000000000000800", True),
+    (1, "000000000000000000000000810000050800", True),
+    (1, "00000000000000000000000088a80001810000050800", True),
+    (1, "0000000000000000000000008100000581000005810000050800", False),
+    (1, "00000000000000000000000086dd", False),
+    (1, "0000000000000000000000000806", False),
+    (101, "", True),
+    (108, "00000002", True),
+    (108, "02000000", False),
+    (113, "00000000000000000000000000000800", True),
+    (113, "000000000000000000000000000086dd", False),
+    (147, "", False),
+    (228, "", True),
+    (276, "0800000000000000000000000000000000000000", True),
+    (276, "86dd000000000000000000000000000000000000", False),
+]
+
+# An interface's resolution and offset, where it has them, a packet's units, and the sampling instants since 1 s.
+TIMES = [
+    (None, None, 1_000_000, 0),
+    (9, 1, 20_833, 0),
+    (9, 1, 20_834, 1),
+    (3, 0, 1_001, 48),
+    (128 + 10, -1, 2048 + 128, 6000),
+    (12, 0, 1_200_000_000_000 - 1, 9599),
+    (12, 0, 1_200_000_000_000, 9600),
+    (None, -1, 2_500_000, 24000),
+    (0, -1, 3, 48000),
+    (127, 3, 2**64 - 1, 96000),
+    (255, 4, 2**64 - 1, 144000),
+    (128, None, 6, 240000),
+    (6, 0, 1_000_000, 0),
+    (None, None, 2**32, 206_110_430),
+]
+
+# A pcap file's number and order; of its packets the second, the units beyond it, and the sampling instants since the first.
+FORMS = [
+    (MICROSECONDS, LITTLE, [(1, 2, 0), (1, 22, 0), (1, 23, 1), (2, 1002, 48048)]),
+    (MICROSECONDS, BIG, [(1, 2, 0), (1, 22, 0), (1, 23, 1), (2, 1002, 48048)]),
+    (NANOSECONDS, LITTLE, [(1, 2, 0), (1, 20_835, 0), (1, 20_836, 1), (2, 1002, 48000)]),
+    (NANOSECONDS, BIG, [(1, 2, 0), (1, 20_835, 0), (1, 20_836, 1), (2, 1002, 48000)]),
+]
+
+WHOLE, OTHER, NOTHING = "a datagram", "cut or in fragments", "nothing"
+
+# A place in an IP packet of 42 octets, what stands there in place of its own, and what is found.
+ODD = [
+    (0, "45", WHOLE),
+    (6, "00", WHOLE),
+    (6, "20", OTHER),
+    (7, "01", OTHER),
+    (6, "2001", OTHER),
+    (9, "06", NOTHING),
+    (0, "65", NOTHING),
+    (0, "44", OTHER),
+    (0, "4f", OTHER),
+    (3, "2b", OTHER),
+    (3, "13", OTHER),
+    (3, "1b", OTHER),
+    (24, "0007", OTHER),
+    (24, "0017", OTHER),
+    (28, "40", OTHER),
+]
+
+
+class Part(NamedTuple):
+    """A part of a file, mostly a record or a block, and what is told of it."""
+
+    octets: bytes
+    datagram: bytes = b""
+    # When it came, in sampling instants since the first; 0 without a time.
+    instants: int = 0
+    # UDP packets that are cut, in fragments or no RTP.
+    others: int = 0
+
+
+def rtp(number):
+    """An RTP packet of two octets, of one sampling instant."""
+    return struct.pack(">BBHIIH", 128, 96, number, number, 7, number + 1000)
+
+
+def ip_around(datagram, options=b""):
+    """An IPv4 packet of UDP from 10.0.0.1:5004 to 239.1.2.3:5005, which isn't to be fragmented."""
+    udp = struct.pack(">HHHH", 5004, 5005, len(datagram) + 8, 0) + datagram
+    head = struct.pack(">BBHHHBBH", 0x45 + len(options) // 4, 0, len(udp) + len(options) + 20, 1, 0x4000, 64, 17, 0)
+    return head + bytes([10, 0, 0, 1, 239, 1, 2, 3]) + options + udp
+
+
+def pcap_head(magic=MICROSECONDS, order=LITTLE, link=RAW, version=(2, 4)):
+    return struct.pack(order + "IHHIIII", magic, *version, 0, 0, 65535, link)
+
+
+def record(frame, seconds=1, units=2, order=LITTLE):
+    return struct.pack(order + "IIII", seconds, units, len(frame), len(frame)) + frame
+
+
+def block(order, kind, body):
+    body += bytes(-len(body) % 4)
+    length = struct.pack(order + "I", len(body) + 12)
+    return struct.pack(order + "I", kind) + length + body + length
+
+
+def section(order, minor=0):
+    return block(order, 0x0A0D0D0A, struct.pack(order + "IHHq", 0x1A2B3C4D, 1, minor, -1))
+
+
+def option(order, code, value):
+    return struct.pack(order + "HH", code, len(value)) + value + bytes(-len(value) % 4)
+
+
+def interface(order, link=RAW, resolution=None, offset=None, limit=0, options=b""):
+    if resolution is not None:
+        options += option(order, 9, bytes([resolution]))
+    if offset is not None:
+        options += option(order, 14, struct.pack(order + "q", offset))
+    if options:
+        options += option(order, 0, b"")
+    return block(order, 1, struct.pack(order + "HHI", link, 0, limit) + options)
+
+
+def enhanced(order, number, units, frame):
+    return block(order, 6, struct.pack(order + "IIIII", number, units >> 32, units % 2**32, len(frame), len(frame)) + frame)
+
+
+def simple(order, frame, original=None):
+    return block(order, 3, struct.pack(order + "I", original or len(frame)) + frame)
+
+
+def sent(micros, network, number, stamp, source=7, length=18):
+    """The record of an RTP packet from 10.0.0.N to 239.1.2.N, both at port 5004, whose payload's octets are 17."""
+    datagram = struct.pack(">BBHII", 128, 96, number, stamp, source) + b"\x11" * length
+    udp = struct.pack(">HHHH", 5004, 5004, len(datagram) + 8, 0) + datagram
+    head = struct.pack(">BBHHHBBH", 0x45, 0, len(udp) + 20, 0, 0, 32, 17, 0)
+    return record(head + bytes([10, 0, 0, network, 239, 1, 2, network]) + udp, 1, micros)
+
+
+def pcap_of(*records):
+    return pcap_head() + b"".join(records)
+
+
+def two_paths(skew=1000):
+    """Two paths over the wrap of the numbers; the third packet's time goes back, and one is lost on the second path."""
+    first, second = [sent(0, 1, 65535, 100), sent(skew, 2, 65535, 100)], [sent(500, 1, 0, 106), sent(1041, 2, 0, 106)]
+    return pcap_of(*first, *second, sent(2000, 1, 1, 112))
+
+
+def sources(count):
+    """Two packets of each of so many sources."""
+    return pcap_of(*(sent(0, 1, number, 6 * number, source) for source in range(count) for number in (0, 1)))
+
+
+def times(order, first=1, rows=TIMES):
+    """A section with an interface for each time, and their packets; the datagrams' numbers begin with the first."""
+    parts = [Part(section(order))]
+    parts += [Part(interface(order, RAW, resolution, offset)) for resolution, offset, _, _ in rows]
+    for place, (_, _, units, instants) in enumerate(rows):
+        datagram = rtp(first + place)
+        parts.append(Part(enhanced(order, place, units, ip_around(datagram)), datagram, instants))
+    return parts
+
+
+def links(order, first=1):
+    """A section with an interface for each link, and their packets, one a millisecond."""
+    parts = [Part(section(order))]
+    parts += [Part(interface(order, link)) for link, _, _ in LINKS]
+    for place, (_, before, is_found) in enumerate(LINKS):
+        datagram = rtp(first if is_found else 0)
+        octets = enhanced(order, place, 1_000_000 + 1000 * place, bytes.fromhex(before) + ip_around(datagram))
+        parts.append(Part(octets, datagram if is_found else b"", 48 * place))
+        first += is_found
+    return parts
+
+
+def odd_packets(first=1):
+    """IP packets with changes, with options, with padding, cut, and of no RTP, as parts that aren't framed yet."""
+    for place, digits, found in ODD:
+        datagram = rtp(first if found == WHOLE else 0)
+        packet = bytearray(ip_around(datagram))
+        packet[place : place + len(digits) // 2] = bytes.fromhex(digits)
+        if found == WHOLE:
+            yield Part(bytes(packet), datagram)
+            first += 1
+        else:
+            yield Part(bytes(packet), others=found == OTHER)
+    yield Part(ip_around(rtp(first), options=b"\x01\x01\x01\x01"), rtp(first))
+    yield Part(ip_around(rtp(first + 1)) + b"\x09\x09\x09", rtp(first + 1))
+    yield Part(ip_around(rtp(0))[:-1], others=1)
+    yield Part(ip_around(rtp(0))[:20], others=1)
+    yield Part(ip_around(rtp(0))[:19])
+    yield Part(ip_around(b"v=0\r\n"), others=1)
+
+
+def odd(order, first=1):
+    """A section with such packets, each in a block without a time, behind one with a time; then one that a limit cuts."""
+    parts = [Part(section(order)), Part(interface(order, limit=64))]
+    parts.append(Part(enhanced(order, 0, 1_000_000, ip_around(rtp(first))), rtp(first)))
+    parts += [part._replace(octets=simple(order, part.octets)) for part in odd_packets(first + 1)]
+    parts += [Part(block(order, 5, b"statistics")), Part(section(order, minor=2)), Part(interface(order, limit=30))]
+    return [*parts, Part(simple(order, ip_around(rtp(0))[:30], original=42), others=1)]
+
+
+def small():
+    """A file of two sections in both orders, with three interfaces, a block of another type and a packet without a time."""
+    return [
+        Part(section(LITTLE) + interface(LITTLE) + interface(LITTLE, RAW, 9, 1)),
+        Part(enhanced(LITTLE, 0, 5, ip_around(rtp(1))), rtp(1)),
+        Part(enhanced(LITTLE, 1, 7, ip_around(rtp(2))), rtp(2), 48000 - 1),
+        Part(block(LITTLE, 5, b"")),
+        Part(simple(LITTLE, ip_around(rtp(3))), rtp(3)),
+        Part(section(BIG) + interface(BIG)),
+        Part(enhanced(BIG, 0, 2**32, ip_around(rtp(4))), rtp(4), 206_158_429),
+    ]
+
+
+def pcap(magic, order, rows):
+    """A pcap file with a packet for each row."""
+    parts = [Part(pcap_head(magic, order))]
+    for place, (seconds, units, instants) in enumerate(rows):
+        datagram = rtp(place + 1)
+        parts.append(Part(record(ip_around(datagram), seconds, units, order), datagram, instants))
+    return parts
+
+
+def great():
+    """A file with all of these."""
+    parts = times(BIG, rows=TIMES[:5])
+    for more, order in ((links, LITTLE), (odd, LITTLE)):
+        parts += more(order, 1 + sum(bool(part.datagram) for part in parts))
+    return parts
+
+
+def octets_of(parts):
+    return b"".join(part.octets for part in parts)
