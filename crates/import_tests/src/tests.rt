@@ -1,4 +1,0 @@
-//! The tests, over captures that are made octet by octet.
-mod configs;
-mod made;
-mod traces;
