@@ -5,11 +5,9 @@
 #![tactic(auto)]
 
 mod datagrams;
-mod lay;
 mod merge;
 mod mix;
 mod rings;
-mod samples;
 mod studio;
 mod workers;
 
@@ -23,11 +21,9 @@ fn main(rt: HostRuntime) -> anyhow::Result<()> {
         return Ok(());
     };
     match word.as_str() {
-        "lay" => lay::time_laying(&rt, rt.alloc(), &mut words),
         "merge" => merge::time_merge(&rt, rt.alloc(), &mut words),
         "mix" => mix::time_shapes(&rt, rt.alloc()),
         "rings" => rings::time_rings(&rt, rt.alloc(), &mut words),
-        "samples" => samples::time_samples(&rt),
         "workers" => workers::run_long(&rt, rt.alloc(), &mut words),
         _ => bail!("no kernel has this name"),
     }
