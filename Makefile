@@ -43,10 +43,11 @@ test:
 	examples/check crates/studio_main/out/studio_main
 	examples/faults crates/studio_main/out/studio_main
 	examples/statuses crates/studio_main/out/studio_main
+	examples/blocks crates/studio_main/out/studio_main
 	tests/captures crates/studio_main/out/studio_main
 	tests/loopback crates/studio_main/out/studio_main
 	memory/check
-	@echo "gate: pages, proofs, edits, tests, examples, faults, statuses, captures, live runs and memory passed"
+	@echo "gate: pages, proofs, edits, tests, examples, faults, statuses, blocks, captures, live runs and memory passed"
 
 test-memory:
 	memory/check
