@@ -1,0 +1,3 @@
+pub mod FileLemmas
+pub mod HeadLemmas
+pub mod SamplesLemmas

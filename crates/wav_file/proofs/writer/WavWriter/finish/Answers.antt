@@ -1,0 +1,5 @@
+use Rattle.wav_file.proofs.FileLemmas.{at_ok, finished}
+use Rattle.wav_file.proofs.writer.WavWriter.finish.Goals as goal
+
+pub returns : goal.returns
+returns g c = at_ok c.break_off.result (λ sizes octets begun. finished _ _ _ c.args.self octets begun c.in_ok-pad.ensures sizes) c.break_off.ensures

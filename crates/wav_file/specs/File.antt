@@ -1,0 +1,39 @@
+-- A WAV file while it is written, and whole.
+use Rattle.std.specs.Prelude.{◌≡◌, ◌≤◌, ℕ, ◌%◌, ◌==◌, List, [], ◌∷◌, ◌++◌, length, drop, ⊤, Option, Some, None, if◌then◌else◌}
+use Rattle.wav_file.specs.declared.format.WavFormat.{WavFormat}
+use Rattle.wav_file.specs.Head.{head_octets}
+
+-- what contracts see of a file that is written: its format, and how many octets of data it has
+pub record WavState : Type 0 where
+  pub format : WavFormat
+  pub count : ℕ
+
+-- a writer holds these octets, if it tells its own
+abbrev pub Holds : Option (List ℕ) → List ℕ → Type 0
+Holds None octets = ⊤
+Holds (Some held) octets = held ≡ octets
+
+-- known octets got these over their first
+abbrev pub Overwrites : Option (List ℕ) → Option (List ℕ) → List ℕ → Type 0
+Overwrites None new octets = ⊤
+Overwrites (Some old) None octets = ⊥
+Overwrites (Some old) (Some new) octets = length octets ≤ length old → new ≡ octets ++ drop (length octets) old
+
+-- known octets became these
+abbrev pub Becomes : Option (List ℕ) → Option (List ℕ) → List ℕ → Type 0
+Becomes None new octets = ⊤
+Becomes (Some old) None octets = ⊥
+Becomes (Some old) (Some new) octets = new ≡ octets
+
+-- the octet 0 that follows data of an odd length
+abbrev pub pad_octets : ℕ → List ℕ
+pad_octets count = if count % 2 == 1 then 0 ∷ [] else []
+
+-- the whole file
+abbrev pub wav_octets : WavFormat → List ℕ → List ℕ
+wav_octets format octets = head_octets format (length octets) ++ octets ++ pad_octets (length octets)
+
+-- the file so far: a head that says no data, the data, and a rest that doesn't count
+pub record IsBegun (written : Option (List ℕ)) (wav : WavState) (octets rest : List ℕ) : Type 0 where
+  pub holds : Holds written (head_octets wav.format 0 ++ octets ++ rest)
+  pub count : wav.count ≡ length octets

@@ -1,0 +1,44 @@
+-- The head of a WAV file: RIFF WAVE (Microsoft), and RF64 where 32 bits don't hold its size (EBU Tech 3306).
+use Rattle.std.specs.Prelude.{ℕ, ◌+◌, ◌-◌, ◌*◌, ◌/◌, ◌%◌, ◌^◌, Bool, List, ◌++◌, codes, nat_le, if◌then◌else◌}
+use Rattle.byteorder.specs.Endian.{little_bytes}
+use Rattle.rtp_wire.specs.Sample.{octets_per_sample}
+use Rattle.wav_file.specs.declared.format.WavFormat.{WavFormat}
+
+-- the octets of one sampling instant
+abbrev pub frame_length : WavFormat → ℕ
+frame_length format = format.channels * octets_per_sample format.enc
+
+-- the octets behind the file's size, where its data has so many: 72 of the head, the data, and one more where those are odd
+abbrev pub riff_size : ℕ → ℕ
+riff_size count = 72 + count + count % 2
+
+-- 32 bits don't hold it
+abbrev pub is_long : ℕ → Bool
+is_long count = nat_le (2 ^ 32) (riff_size count)
+
+-- a size of 32 bits; of a long file all ones
+abbrev pub size_octets : ℕ → ℕ → List ℕ
+size_octets count size = little_bytes 4 (if is_long count then 2 ^ 32 - 1 else size)
+
+-- a chunk of 28 octets that has the sizes of all and of the data, and the sampling instants; no table follows
+abbrev pub room_chunk : List ℕ → ℕ → ℕ → ℕ → List ℕ
+room_chunk name all count frames = name ++ (little_bytes 4 28 ++ little_bytes 8 all ++ little_bytes 8 count ++ little_bytes 8 frames ++ little_bytes 4 0)
+
+-- where a file is long it says them; else it keeps room for them
+abbrev pub room_octets : WavFormat → ℕ → List ℕ
+room_octets format count =
+    if is_long count
+    then room_chunk (codes "ds64") (riff_size count) count (count / frame_length format)
+    else room_chunk (codes "JUNK") 0 0 0
+
+-- the chunk of the format: linear PCM, 48,000 sampling instants a second
+abbrev pub format_octets : WavFormat → List ℕ
+format_octets format =
+    codes "fmt " ++ little_bytes 4 16 ++ little_bytes 2 1 ++ little_bytes 2 format.channels ++ little_bytes 4 48000
+    ++ little_bytes 4 (48000 * frame_length format) ++ little_bytes 2 (frame_length format) ++ little_bytes 2 (8 * octets_per_sample format.enc)
+
+-- the 80 octets before data of so many
+abbrev pub head_octets : WavFormat → ℕ → List ℕ
+head_octets format count =
+    (if is_long count then codes "RF64" else codes "RIFF") ++ size_octets count (riff_size count) ++ codes "WAVE"
+    ++ room_octets format count ++ format_octets format ++ codes "data" ++ size_octets count count

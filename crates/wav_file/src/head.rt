@@ -1,0 +1,130 @@
+//! The head of a file.
+ghost use Rattle.std.specs.Prelude.{◌≡◌, ◌+◌, ◌++◌, ◌^◌, ◌<◌, ◌≤◌, ◌/◌, length};
+ghost use Rattle.arrayvec.specs.ArrayVec.{array_vec_len};
+ghost use Rattle.wav_file.specs.Head.{format_octets, frame_length, head_octets, is_long, riff_size, room_chunk, room_octets, size_octets};
+
+use crate::format::WavFormat;
+use arrayvec::ArrayVec;
+
+/// The octets of a head.
+type Head = ArrayVec<u8, 80>;
+
+/// The head of a file whose data has so many octets.
+pub(crate) fn head_of(format: WavFormat, count: u64) -> Head
+    requires { count < 2 ^ 63 }
+    ensures head { result.items ≡ head_octets format count }
+    ensures length { array_vec_len result ≡ 80 }
+{
+    let mut head = Head::new();
+    push(&mut head, if is_long(count) { b"RF64" } else { b"RIFF" });
+    push_size(&mut head, count, riff_size(count));
+    push(&mut head, b"WAVE");
+    push_room(&mut head, format, count);
+    push_format(&mut head, format);
+    push(&mut head, b"data");
+    push_size(&mut head, count, count);
+    head
+}
+
+/// The octets behind the file's size.
+fn riff_size(count: u64) -> u64
+    requires { count < 2 ^ 63 }
+    ensures { result ≡ riff_size count }
+{
+    72 + count + count % 2
+}
+
+/// Whether 32 bits don't hold that.
+fn is_long(count: u64) -> bool
+    requires { count < 2 ^ 63 }
+    ensures { result ≡ is_long count }
+{
+    riff_size(count) >= 4_294_967_296
+}
+
+/// The sampling instants of so many octets.
+fn frames_in(format: WavFormat, count: u64) -> u64
+    ensures { result ≡ count / frame_length format }
+{
+    count
+        .checked_div(u64::from(format.frame_len()))
+        .unwrap_or(0)
+}
+
+/// Adds octets.
+fn push(head: &mut Head, octets: &[u8])
+    requires { array_vec_len head.old + length octets.now ≤ 80 }
+    ensures items { head.new.items ≡ head.old.items ++ octets.now }
+    ensures length { array_vec_len head.new ≡ array_vec_len head.old + length octets.now }
+{
+    let Ok(()) = head.try_extend_from_slice(octets) else {
+        unreachable!()
+    };
+}
+
+/// Adds a size of 32 bits.
+fn push_size(head: &mut Head, count: u64, size: u64)
+    requires room { array_vec_len head.old + 4 ≤ 80 }
+    requires count { count < 2 ^ 63 }
+    requires size { size ≤ riff_size count }
+    ensures items { head.new.items ≡ head.old.items ++ size_octets count size }
+    ensures length { array_vec_len head.new ≡ array_vec_len head.old + 4 }
+{
+    let size = if is_long(count) {
+        u32::MAX
+    } else {
+        size as u32
+    };
+    push(head, &size.to_le_bytes());
+}
+
+/// Adds the chunk that keeps room for the sizes of a long file, and has them there.
+fn push_room(head: &mut Head, format: WavFormat, count: u64)
+    requires room { array_vec_len head.old + 36 ≤ 80 }
+    requires count { count < 2 ^ 63 }
+    ensures items { head.new.items ≡ head.old.items ++ room_octets format count }
+    ensures length { array_vec_len head.new ≡ array_vec_len head.old + 36 }
+{
+    if is_long(count) {
+        push_sizes(
+            head,
+            b"ds64",
+            riff_size(count),
+            count,
+            frames_in(format, count),
+        );
+    } else {
+        push_sizes(head, b"JUNK", 0, 0, 0);
+    }
+}
+
+/// Adds a chunk of this name, with the sizes of a long file and its sampling instants.
+fn push_sizes(head: &mut Head, name: &[u8; 4], all: u64, count: u64, frames: u64)
+    requires room { array_vec_len head.old + 36 ≤ 80 }
+    ensures items { head.new.items ≡ head.old.items ++ room_chunk name.now all count frames }
+    ensures length { array_vec_len head.new ≡ array_vec_len head.old + 36 }
+{
+    push(head, name);
+    push(head, &28_u32.to_le_bytes());
+    push(head, &all.to_le_bytes());
+    push(head, &count.to_le_bytes());
+    push(head, &frames.to_le_bytes());
+    push(head, &0_u32.to_le_bytes());
+}
+
+/// Adds the chunk of the format.
+fn push_format(head: &mut Head, format: WavFormat)
+    requires { array_vec_len head.old + 24 ≤ 80 }
+    ensures items { head.new.items ≡ head.old.items ++ format_octets format }
+    ensures length { array_vec_len head.new ≡ array_vec_len head.old + 24 }
+{
+    let frame = format.frame_len();
+    push(head, b"fmt ");
+    push(head, &16_u32.to_le_bytes());
+    push(head, &1_u16.to_le_bytes());
+    push(head, &u16::from(format.channels).to_le_bytes());
+    push(head, &48_000_u32.to_le_bytes());
+    push(head, &(48_000 * u32::from(frame)).to_le_bytes());
+    push(head, &frame.to_le_bytes());
+    push(head, &(8 * format.enc.octets() as u16).to_le_bytes());
+}

@@ -1,0 +1,45 @@
+//! Writers whose first octets can be written over.
+ghost use Rattle.std.specs.Prelude.{OnOk};
+ghost use Rattle.wav_file.specs.File.{Overwrites};
+
+use std::io;
+use std::io::{Seek, SeekFrom, Write};
+
+/// A writer whose first octets can be written over, as a file's.
+pub trait Overwrite: Write {
+    /// Writes these octets over the first. What is written later goes to the end again.
+    fn overwrite(&mut self, octets: &[u8]) -> io::Result<()>
+        ensures bytes { OnOk result (Overwrites (Self.contents self.old) (Self.contents self.new) octets.now) };
+}
+
+/// A file, or another writer that seeks, from its beginning. It doesn't tell its octets.
+#[derive(Drop)]
+pub struct OverFile<F> {
+    file: F,
+}
+
+impl<F: Write + Seek> OverFile<F> {
+    /// What is written to a file that is empty.
+    pub fn new(file: F) -> Self {
+        OverFile { file }
+    }
+}
+
+impl<F: Write + Seek> Write for OverFile<F> {
+    fn write(&mut self, buf: &[u8]) -> io::Result<usize> {
+        self.file.write(buf)
+    }
+
+    fn flush(&mut self) -> io::Result<()> {
+        self.file.flush()
+    }
+}
+
+impl<F: Write + Seek> Overwrite for OverFile<F> {
+    fn overwrite(&mut self, octets: &[u8]) -> io::Result<()> {
+        self.file.seek(SeekFrom::Start(0))?;
+        self.file.write_all(octets)?;
+        self.file.seek(SeekFrom::End(0))?;
+        Ok(())
+    }
+}

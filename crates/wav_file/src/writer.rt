@@ -1,0 +1,119 @@
+//! A WAV file while it is written.
+ghost use Rattle.std.specs.Prelude.{◌≡◌, ◌+◌, ◌≤◌, ◌++◌, ℕ, List, [], length, take, OnOk, OnErr, IfOk};
+ghost use Rattle.std.specs.Io.KnownBytes.{Appends};
+ghost use Rattle.wav_file.specs.Samples.{little_samples};
+ghost use Rattle.wav_file.specs.Head.{head_octets};
+ghost use Rattle.wav_file.specs.File.{Becomes, IsBegun, pad_octets, wav_octets};
+
+use crate::format::WavFormat;
+use crate::head::head_of;
+use crate::overwrite::Overwrite;
+use crate::samples::swap;
+use std::io::Write;
+use std::marker::Model;
+use thiserror::Error;
+
+/// The most octets of data to which more are added.
+const MOST_OCTETS: u64 = 1 << 62;
+
+/// A write failed, or took no octet, or the file has more than 2^62 octets of data.
+#[derive(Clone, Copy, Debug, PartialEq, Eq, Error)]
+#[error("write")]
+pub struct WavFault;
+
+/// A file whose head was written, and says no data yet.
+///
+/// Input: `push`. Output: `finish`, after the last of them, or `break_off` after one that failed.
+#[derive(Debug, Drop)]
+pub struct WavWriter {
+    format: WavFormat,
+    /// The octets of data.
+    count: u64,
+}
+
+impl Model for WavWriter {
+    ghost use Rattle.std.specs.Prelude.{◌≤◌, ◌+◌, ◌^◌};
+    ghost use Rattle.wav_file.specs.File.{WavState};
+
+    ghost Value = { WavState };
+
+    ghost view = { λ w. record { format = w.format; count = w.count } };
+
+    ghost invariant = { λ w. w.count ≤ 2 ^ 62 + 1440 };
+}
+
+impl WavWriter {
+    /// Writes the head to a writer that holds nothing.
+    pub fn begin<W: Write>(format: WavFormat, writer: &mut W) -> Result<WavWriter, WavFault>
+        ensures ok { OnOk result (Appends (W.contents writer.old) (W.contents writer.new) (head_octets format 0)) }
+        ensures fault { OnErr result ((n : ℕ) × Appends (W.contents writer.old) (W.contents writer.new) (take n (head_octets format 0))) }
+        ensures empty { IfOk result (λ wav. wav ≡ record { format = format; count = 0 }) }
+    {
+        write_octets(writer, head_of(format, 0).as_slice())?;
+        Ok(WavWriter { format, count: 0 })
+    }
+
+    /// Writes the samples of a packet's payload.
+    pub fn push<W: Write>(&mut self, writer: &mut W, payload: &[u8]) -> Result<(), WavFault>
+        requires short { length payload.now ≤ 1440 }
+        ensures ok { OnOk result (Appends (W.contents writer.old) (W.contents writer.new) (little_samples self.old.format.enc payload.now)) }
+        ensures fault { OnErr result ((n : ℕ) × Appends (W.contents writer.old) (W.contents writer.new) (take n (little_samples self.old.format.enc payload.now))) }
+        ensures counted { OnOk result (self.new ≡ record { format = self.old.format; count = self.old.count + length (little_samples self.old.format.enc payload.now) }) }
+        ensures same { OnErr result (self.new ≡ self.old) }
+    {
+        if self.count > MOST_OCTETS {
+            return Err(WavFault);
+        }
+        let samples = swap(self.format.enc, payload);
+        write_octets(writer, samples.as_slice())?;
+        self.count += samples.len() as u64;
+        Ok(())
+    }
+
+    /// Sets the sizes at the end of the data.
+    pub fn finish<W: Overwrite>(self, writer: &mut W) -> Result<(), WavFault>
+        ensures { OnOk result ((octets : List ℕ) → IsBegun (W.Write.contents writer.old) self octets []
+            → Becomes (W.Write.contents writer.old) (W.Write.contents writer.new) (wav_octets self.format octets)) }
+    {
+        self.pad(writer)?;
+        self.break_off(writer)
+    }
+
+    /// Sets the sizes to those of the data, whatever stands behind it: a part of a payload, after a fault.
+    pub fn break_off<W: Overwrite>(self, writer: &mut W) -> Result<(), WavFault>
+        ensures { OnOk result ((octets rest : List ℕ) → IsBegun (W.Write.contents writer.old) self octets rest
+            → Becomes (W.Write.contents writer.old) (W.Write.contents writer.new) (head_octets self.format (length octets) ++ octets ++ rest)) }
+    {
+        let head = head_of(self.format, self.count);
+        match writer.overwrite(head.as_slice()) {
+            Ok(()) => Ok(()),
+            Err(_) => Err(WavFault),
+        }
+    }
+
+    /// Writes an octet more after data of an odd length.
+    fn pad<W: Write>(&self, writer: &mut W) -> Result<(), WavFault>
+        ensures { OnOk result (Appends (W.contents writer.old) (W.contents writer.new) (pad_octets self.now.count)) }
+    {
+        if self.count % 2 == 1 {
+            write_octets(writer, &[0])
+        } else {
+            Ok(())
+        }
+    }
+}
+
+/// Writes octets to their end. On a fault a part from their front was written.
+fn write_octets<W: Write>(writer: &mut W, octets: &[u8]) -> Result<(), WavFault>
+    ensures ok { OnOk result (Appends (W.contents writer.old) (W.contents writer.new) octets.now) }
+    ensures fault { OnErr result ((n : ℕ) × Appends (W.contents writer.old) (W.contents writer.new) (take n octets.now)) }
+{
+    let mut done = 0;
+    while done < octets.len() {
+        match writer.write(&octets[done..]) {
+            Ok(0) | Err(_) => return Err(WavFault),
+            Ok(count) => done += count,
+        }
+    }
+    Ok(())
+}
