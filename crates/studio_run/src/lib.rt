@@ -2,9 +2,9 @@
 //!
 //! `list_marks` and `play` are the whole: from a reader's octets to a writer's. They read to the end and
 //! find the first fault, and all memory is taken before the first write. `list_marks_and_counts` writes
-//! the counts to a second writer after the listing. Their parts stand beside them: `read_text`,
-//! `TracedEvents` (the events of a text by their places), and the lines through a `TextBuffer`, whose
-//! `finish` writes what is held at the end. The types of a studio and of its run are named here again.
+//! the counts to a second writer after the listing. Their parts stand beside them: `read_text` and `read_all`,
+//! `TracedEvents` and `runnable_events` (the events of a text by their places), and the lines through a `TextBuffer`,
+//! whose `finish` writes what is held at the end. The types of a studio and of its run are named here again.
 #![tactic(auto)]
 
 mod buffer;
@@ -35,10 +35,11 @@ pub use events::read_trace;
 pub use laws::{a_report_is_the_only_one, events_have_a_report};
 pub use listing::write_mark;
 pub use live_report::{SinkCounts, write_feed_faults, write_sink_counts};
-pub use player::{PlayFault, list_marks, play};
+pub use player::{PlayFault, list_marks, play, read_all, runnable_events};
 pub use report::{write_datagram, write_merge_counts, write_path_counts};
 pub use running_counts::write_running_counts;
 pub use stream_rules::{PathCounts, StreamCounts};
+pub use studio_counts::write_counts;
 pub use studio_mix::Mixer;
 pub use studio_session::{Report, StudioEvent, StudioFault, run_studio};
 pub use studio_spec::{Ports, SpecError, StudioSpec};

@@ -108,7 +108,7 @@ fn write_trace<R: Read, W: Write>(
 }
 
 /// Reads a trace to its end.
-pub(crate) fn read_all<R: Read>(alloc: Global, reader: &mut R) -> Result<Vec<u8>, PlayFault>
+pub fn read_all<R: Read>(alloc: Global, reader: &mut R) -> Result<Vec<u8>, PlayFault>
     ensures ok { IfOk result (λ trace. Consumes (R.remaining reader.old) (R.remaining reader.new) trace.items) }
     ensures end { OnOk result (IsAtEnd (R.remaining reader.new)) }
     ensures fault { IfErr result (StopsReading (R.remaining reader.old) (R.remaining reader.new)) }
@@ -141,7 +141,7 @@ fn write_text_of<W: Write>(
 }
 
 /// The events of a trace, if none is at fault.
-pub(crate) fn runnable_events<'a>(
+pub fn runnable_events<'a>(
     alloc: Global,
     spec: &StudioSpec,
     trace: &'a [u8],

@@ -67,7 +67,7 @@ fn write_stream_counts<E: EventSource, W: Write>(
 }
 
 /// Writes the lines of all streams' counts.
-pub(crate) fn write_counts<E: EventSource, W: Write>(
+pub fn write_counts<E: EventSource, W: Write>(
     text: &mut TextBuffer,
     writer: &mut W,
     source: &E,

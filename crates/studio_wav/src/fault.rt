@@ -1,0 +1,72 @@
+//! Why a run was not recorded.
+ghost use Rattle.std.specs.Prelude.{◌≡◌};
+ghost use Rattle.studio_run.specs.declared.player.PlayFault.TheVariants as play;
+ghost use Rattle.studio_wav.specs.declared.fault.RecordFault.TheVariants as fault;
+ghost use Rattle.studio_wav.specs.declared.fault.FileFault.TheVariants as file;
+
+use std::alloc::AllocError;
+use studio_run::{PlayFault, WriteFault};
+use thiserror::Error;
+use wav_file::WavFault;
+
+/// What failed of a WAV file.
+#[derive(Clone, Copy, Debug, PartialEq, Eq, Error)]
+pub enum FileFault {
+    /// It could not be made.
+    #[error("not made")]
+    Unmade,
+    /// A write failed, or took no octet, or it has too many.
+    #[error("write")]
+    Write,
+}
+
+/// Why a report and a WAV file were not written whole.
+#[derive(Debug, Drop, Error)]
+pub enum RecordFault {
+    /// The report's fault.
+    #[error("{0}")]
+    Play(PlayFault),
+    /// The file's.
+    #[error("{0}")]
+    File(FileFault),
+}
+
+impl From<PlayFault> for RecordFault {
+    ghost from_gives = { λ from to. to ≡ fault.Play from };
+
+    fn from(fault: PlayFault) -> RecordFault {
+        RecordFault::Play(fault)
+    }
+}
+
+impl From<AllocError> for RecordFault {
+    ghost from_gives = { λ _ to. to ≡ fault.Play play.Memory };
+
+    fn from(_error: AllocError) -> RecordFault {
+        RecordFault::Play(PlayFault::Memory)
+    }
+}
+
+impl From<WriteFault> for RecordFault {
+    ghost from_gives = { λ _ to. to ≡ fault.Play play.Write };
+
+    fn from(_fault: WriteFault) -> RecordFault {
+        RecordFault::Play(PlayFault::Write)
+    }
+}
+
+impl From<WavFault> for RecordFault {
+    ghost from_gives = { λ _ to. to ≡ fault.File file.Write };
+
+    fn from(_fault: WavFault) -> RecordFault {
+        RecordFault::File(FileFault::Write)
+    }
+}
+
+impl From<FileFault> for RecordFault {
+    ghost from_gives = { λ from to. to ≡ fault.File from };
+
+    fn from(fault: FileFault) -> RecordFault {
+        RecordFault::File(fault)
+    }
+}
