@@ -34,8 +34,8 @@ const MOST_EVENTS: usize = 4_611_686_018_427_387_904;
 
 /// A studio as one object.
 ///
-/// Inputs: `arrive`, `turn` and `close`. Outputs: `turn`, and `drain` after a close. Readers: `next_deadline`,
-/// `counts`, `path_counts`, `settled`. No call but `new` takes memory.
+/// Inputs: `arrive`, `turn` and `close`. Outputs: `turn`, and `drain` after a close. Readers: `time`,
+/// `next_deadline`, `counts`, `path_counts`, `settled`. No call but `new` takes memory.
 #[derive(Drop)]
 pub struct Engine {
     mixer: Mixer,
@@ -285,9 +285,18 @@ impl Engine {
         self.mixer.output()
     }
 
+    /// The last reading of the clock that was taken, or the opening time.
+    pub fn time(&self) -> i64
+        ensures value { result ≡ self.now.time }
+        ensures not_late { result ≤ℤ pos (2 ^ 60) }
+    {
+        self.time
+    }
+
     /// Whether it was closed, and all was given.
     pub fn settled(&self) -> bool
-        ensures { result ≡ self.now.settled }
+        ensures value { result ≡ self.now.settled }
+        ensures whole { result ≡ true → HasAllMarks self.now }
     {
         self.settled
     }

@@ -31,4 +31,5 @@ pub use clock::Clock;
 pub use feed::{Feed, FeedAnswer};
 pub use report::{WorkFault, WorkReport};
 pub use run::run_workers;
+pub use send_counts::SendCounts;
 pub use sink::{SendAnswer, Sink};

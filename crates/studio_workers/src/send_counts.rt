@@ -5,20 +5,20 @@ use crate::sink::SendAnswer;
 
 /// The datagrams that a sink was handed. At each address they balance in every value.
 #[derive(Clone, Copy, Debug)]
-pub(crate) struct SendCounts {
+pub struct SendCounts {
     /// All of them.
-    pub(crate) blocks: u64,
-    pub(crate) sent_a: u64,
-    pub(crate) sent_b: u64,
-    pub(crate) fault_a: u64,
-    pub(crate) fault_b: u64,
+    pub blocks: u64,
+    pub sent_a: u64,
+    pub sent_b: u64,
+    pub fault_a: u64,
+    pub fault_b: u64,
     ghost balanced_a: { sent_a + fault_a ≡ blocks },
     ghost balanced_b: { sent_b + fault_b ≡ blocks },
 }
 
 impl SendCounts {
     /// None was handed yet.
-    pub(crate) fn new() -> SendCounts
+    pub fn new() -> SendCounts
         ensures { result.blocks ≡ 0 }
     {
         SendCounts {
@@ -31,7 +31,7 @@ impl SendCounts {
     }
 
     /// Counts one more. After as many as there are numbers it counts no further.
-    pub(crate) fn add(&mut self, answer: SendAnswer)
+    pub fn add(&mut self, answer: SendAnswer)
         ensures { self.old.blocks + 1 < 2 ^ 64 → self.new.blocks ≡ self.old.blocks + 1 }
     {
         if self.blocks == u64::MAX {
