@@ -1,4 +1,6 @@
 pub mod ViewLemmas
+pub mod AddressLemmas
+mod AddressCases
 pub mod FaultLemmas
 pub mod GainLemmas
 pub mod PortLemmas

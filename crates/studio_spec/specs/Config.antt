@@ -1,11 +1,13 @@
 -- A whole configuration: the studio that it says, or its first fault.
 use Rattle.std.specs.Prelude.{ℕ, ◌-◌, pos, List, [], ◌∷◌, ◌++◌, map, length, Option, None}
+use Rattle.std.specs.declared.net.ipv4_addr.Ipv4Addr.{Ipv4Addr}
 use Rattle.toml.specs.Data.{Members}
 use Rattle.stream_rules.specs.declared.stream_spec.Stream.{Stream}
 use Rattle.studio_spec.specs.Ports.{absent_rows}
 use Rattle.studio_spec.specs.Studio.{Studio, channel_total}
 use Rattle.studio_spec.specs.Values.{number_at, number_or, tables_at, table_at}
 use Rattle.studio_spec.specs.Rows.{Row, required, whole, few_tables, a_table, first_in, table_fault}
+use Rattle.studio_spec.specs.NetworkTable.{binds_of, senders_of}
 use Rattle.studio_spec.specs.StreamTable.{stream_of, ports_of, stream_fault}
 use Rattle.studio_spec.specs.OutputTable.{output_of, schedule_of, each_fault, output_fault}
 use Rattle.studio_spec.specs.declared.config.keys.Key.TheVariants as key
@@ -24,9 +26,16 @@ top_rows =
 abbrev pub streams_of : Members → List Stream
 streams_of members = map stream_of (tables_at members key.Stream)
 
--- the ports of up to sixteen streams, of which those that aren't there have none
+-- a row for each of up to sixteen streams, of which those that aren't there have nothing
+abbrev pub row_table : {A : Type 0} → (Members → List (Option A)) → List Members → List (List (Option A))
+row_table row streams = map row streams ++ absent_rows (16 - length streams)
+
+-- their ports, and their addresses
 abbrev pub port_table : List Members → List (List (Option ℕ))
-port_table streams = map ports_of streams ++ absent_rows (16 - length streams)
+port_table = row_table ports_of
+
+abbrev pub bind_table : List Members → List (List (Option Ipv4Addr))
+bind_table = row_table binds_of
 
 -- the studio that a configuration says
 abbrev pub studio_of : Members → Studio
@@ -39,6 +48,10 @@ studio_of members = record {
     paths = port_table (tables_at members key.Stream);
     to_a = number_at (table_at members key.Output) key.ToA;
     to_b = number_at (table_at members key.Output) key.ToB;
+  };
+  networks = record {
+    paths = bind_table (tables_at members key.Stream);
+    output = senders_of (table_at members key.Output);
   };
 }
 

@@ -1,8 +1,11 @@
 pub mod Ports
+pub mod Address
+pub mod Networks
 pub mod Studio
 pub mod Keys
 pub mod Values
 pub mod Rows
+pub mod NetworkTable
 pub mod StreamTable
 pub mod OutputTable
 pub mod Config

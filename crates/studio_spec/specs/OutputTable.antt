@@ -12,6 +12,7 @@ use Rattle.mix_packets.specs.OutSpec.{out_fault_of}
 use Rattle.toml.specs.Data.{Members}
 use Rattle.studio_spec.specs.Values.{number_or, encoding_at, tables_at, gains_at}
 use Rattle.studio_spec.specs.Rows.{Row, required, optional, whole, tables, gains, key_of, first_of, first_in, at_key, at_table, row_fault, rows_fault, unknown_fault, table_fault}
+use Rattle.studio_spec.specs.NetworkTable.{sender_rows}
 use Rattle.studio_spec.specs.StreamTable.{packet_rows}
 use Rattle.studio_spec.specs.declared.config.keys.Key.TheVariants as key
 use Rattle.studio_spec.specs.declared.config.fault.Place.{Place}
@@ -44,7 +45,7 @@ address_rows =
     ∷ []
 
 abbrev pub output_rows : List Row
-output_rows = packet_rows ++ number_rows ++ gains_row ∷ change_row ∷ address_rows
+output_rows = packet_rows ++ number_rows ++ gains_row ∷ change_row ∷ address_rows ++ sender_rows
 
 -- a change: its time, and the gains from then on
 abbrev pub change_rows : List Row
@@ -119,6 +120,7 @@ output_fault ins members =
     ∷ row_fault place.Output members change_row
     ∷ each_fault change_fault 0 (tables_at members key.Change)
     ∷ rows_fault place.Output members address_rows
+    ∷ rows_fault place.Output members sender_rows
     ∷ unknown_fault place.Output (map key_of output_rows) members
     ∷ at_table place.Output (option_map kind.Output (out_fault_of (output_of members)))
     ∷ schedule_fault (number_or members key.Channels 0) ins members

@@ -1,12 +1,12 @@
 -- The ports of streams, path by path.
 use Rattle.std.specs.Prelude.{ℕ, zero, suc, List, [], ◌∷◌, Option, None, slice_get, unwrap_or}
 
--- four paths of which no port is known
-abbrev pub absent_row : List (Option ℕ)
+-- four paths of which nothing is known
+abbrev pub absent_row : {A : Type 0} → List (Option A)
 absent_row = None ∷ None ∷ None ∷ None ∷ []
 
--- so many streams of which no port is known
-abbrev pub absent_rows : ℕ → List (List (Option ℕ))
+-- so many streams of which nothing is known
+abbrev pub absent_rows : {A : Type 0} → ℕ → List (List (Option A))
 absent_rows zero = []
 absent_rows (suc streams) = absent_row ∷ absent_rows streams
 

@@ -1,8 +1,9 @@
 -- The tables of a configuration, one row a key, and the first fault of a table by its rows.
-use Rattle.std.specs.Prelude.{ℕ, ℤ, pos, negsuc, Bool, ◌&&◌, nat_le, List, [], ◌∷◌, length, map, codes, Option, Some, None, if◌then◌else◌}
+use Rattle.std.specs.Prelude.{ℕ, ℤ, pos, negsuc, Bool, ◌&&◌, nat_le, List, [], ◌∷◌, length, map, codes, Option, Some, None, is_some, if◌then◌else◌}
 use Rattle.std.specs.List.{list_any, list_all}
 use Rattle.std.specs.Str.{bytes_eq}
 use Rattle.toml.specs.Data.{Data, Members, no_members, member, as_integer, as_str}
+use Rattle.studio_spec.specs.Address.{address_of}
 use Rattle.studio_spec.specs.Keys.{name_of}
 use Rattle.studio_spec.specs.Values.{items_in, is_table, are_tables, are_gains, value_at}
 use Rattle.studio_spec.specs.declared.config.keys.Key.{Key}
@@ -17,6 +18,8 @@ pub data Range : Type 0 where
   whole : ℕ → ℕ → Range
   -- one of these texts
   one_of : List (List ℕ) → Range
+  -- the text of an IPv4 address
+  an_address : Range
   -- a table
   a_table : Range
   -- an array of tables
@@ -71,10 +74,16 @@ abbrev pub text_fault : List (List ℕ) → Option (List ℕ) → Option Kind
 text_fault texts (Some text) = range_fault (list_any (λ t. bytes_eq text t) texts)
 text_fault texts None = Some WrongKind
 
+-- the fault of a text that has to be an IPv4 address
+abbrev pub address_fault : Option (List ℕ) → Option Kind
+address_fault (Some text) = range_fault (is_some (address_of text))
+address_fault None = Some WrongKind
+
 -- the first fault of a value: its kind, then its range
 abbrev pub value_fault : Range → Data → Option Kind
 value_fault (whole least greatest) d = whole_fault least greatest (as_integer d)
 value_fault (one_of texts) d = text_fault texts (as_str d)
+value_fault an_address d = address_fault (as_str d)
 value_fault a_table d = kind_fault (is_table d)
 value_fault tables d = kind_fault (are_tables d)
 value_fault (few_tables least greatest) d =

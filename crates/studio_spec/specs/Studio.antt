@@ -5,6 +5,7 @@ use Rattle.gain_mix.specs.Gain.{ins_of}
 use Rattle.gain_mix.specs.Changes.{Changes}
 use Rattle.mix_packets.specs.declared.out_spec.Output.{Output}
 use Rattle.studio_spec.specs.declared.ports.Ports.{Ports}
+use Rattle.studio_spec.specs.declared.networks.Networks.{Networks}
 
 -- what contracts see of a specification
 pub record Studio : Type 0 where
@@ -13,6 +14,7 @@ pub record Studio : Type 0 where
   pub output : Output
   pub schedule : Changes
   pub ports : Ports
+  pub networks : Networks
 
 -- the channels of all streams
 abbrev pub channel_total : List Stream → ℕ

@@ -2,9 +2,11 @@
 use Rattle.std.specs.Prelude.{ℕ, ℤ, pos, negsuc, Bool, ◌&&◌, List, [], ◌∷◌, map, codes, Option, Some, None, is_some, option_and_then, option_map, unwrap_or, if◌then◌else◌}
 use Rattle.std.specs.List.{list_all}
 use Rattle.std.specs.Str.{bytes_eq}
+use Rattle.std.specs.declared.net.ipv4_addr.Ipv4Addr.{Ipv4Addr}
 use Rattle.rtp_wire.specs.declared.encoding.Enc.{Enc}
 use Rattle.rtp_wire.specs.declared.encoding.Enc.TheVariants.{L16, L24}
 use Rattle.toml.specs.Data.{Data, Items, no_items, item, Members, no_members, as_array, as_integer, as_str, as_table, get_member}
+use Rattle.studio_spec.specs.Address.{address_of}
 use Rattle.studio_spec.specs.Keys.{name_of}
 use Rattle.studio_spec.specs.declared.config.keys.Key.{Key}
 
@@ -98,6 +100,13 @@ encoding_in d = encoding_of (text_in d)
 
 abbrev pub encoding_at : Members → Key → Enc
 encoding_at members key = encoding_of (text_at members key)
+
+-- the address that a value is, if it is one, and that at a key
+abbrev pub address_in : Data → Option Ipv4Addr
+address_in d = option_and_then address_of (as_str d)
+
+abbrev pub address_at : Members → Key → Option Ipv4Addr
+address_at members key = option_and_then address_in (value_at members key)
 
 -- a text names the media clock
 abbrev pub is_media : List ℕ → Bool

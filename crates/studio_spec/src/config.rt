@@ -1,4 +1,5 @@
 //! A studio's specification, read from the tables of its configuration.
+mod addresses;
 mod change;
 mod fault;
 mod gain_rows;
@@ -6,6 +7,7 @@ mod gains;
 mod keys;
 mod known;
 mod lookup;
+mod networks;
 mod numbers;
 mod output;
 mod packets;

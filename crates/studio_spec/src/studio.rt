@@ -2,15 +2,17 @@
 ghost use Rattle.std.specs.Prelude.{◌≡◌, ◌^◌, ◌≤◌, pos, ◌≤ℤ◌, None, length};
 ghost use Rattle.gain_mix.specs.Gain.{ins_of};
 ghost use Rattle.studio_spec.specs.Ports.{absent_rows};
+ghost use Rattle.studio_spec.specs.Networks.{absent_networks};
 ghost use Rattle.studio_spec.specs.Studio.{Studio, IsStudio, channel_total};
 
+use crate::networks::Networks;
 use crate::ports::Ports;
 use gain_mix::Schedule;
 use mix_packets::OutSpec;
 use std::marker::Model;
 use stream_rules::StreamSpec;
 
-/// The streams of a studio, its output, the gains between them, and the ports that are known.
+/// The streams of a studio, its output, the gains between them, and the ports and addresses that are known.
 #[derive(Drop)]
 pub struct StudioSpec {
     open_at: i64,
@@ -18,6 +20,7 @@ pub struct StudioSpec {
     output: OutSpec,
     schedule: Schedule,
     ports: Ports,
+    networks: Networks,
 }
 
 impl Model for StudioSpec {
@@ -25,13 +28,13 @@ impl Model for StudioSpec {
 
     ghost Value = { Studio };
 
-    ghost view = { λ s. record { open_at = s.open_at; streams = s.streams.items; output = s.output; schedule = s.schedule; ports = s.ports } };
+    ghost view = { λ s. record { open_at = s.open_at; streams = s.streams.items; output = s.output; schedule = s.schedule; ports = s.ports; networks = s.networks } };
 
     ghost invariant = { λ s. IsStudio (view s) };
 }
 
 impl StudioSpec {
-    /// A studio whose merges open at a time, in sampling instants; it knows no ports.
+    /// A studio whose merges open at a time, in sampling instants; it knows no ports and no addresses.
     pub fn new(
         open_at: i64,
         streams: Vec<StreamSpec>,
@@ -44,7 +47,7 @@ impl StudioSpec {
         requires few { length streams.items ≤ 16 }
         requires outs { length schedule.first ≡ output.channels }
         requires ins { ins_of schedule.first ≡ channel_total streams.items }
-        ensures { result ≡ record { open_at = open_at; streams = streams.items; output = output; schedule = schedule; ports = record { paths = absent_rows 16; to_a = None; to_b = None } } }
+        ensures { result ≡ record { open_at = open_at; streams = streams.items; output = output; schedule = schedule; ports = record { paths = absent_rows 16; to_a = None; to_b = None }; networks = absent_networks } }
     {
         StudioSpec {
             open_at,
@@ -52,6 +55,7 @@ impl StudioSpec {
             output,
             schedule,
             ports: Ports::absent(),
+            networks: Networks::absent(),
         }
     }
 
@@ -60,6 +64,14 @@ impl StudioSpec {
         ensures { result ≡ record self { ports = ports } }
     {
         self.ports = ports;
+        self
+    }
+
+    /// The same studio with these addresses.
+    pub fn with_networks(mut self, networks: Networks) -> StudioSpec
+        ensures { result ≡ record self { networks = networks } }
+    {
+        self.networks = networks;
         self
     }
 
@@ -98,5 +110,12 @@ impl StudioSpec {
         ensures { result.now ≡ self.now.ports }
     {
         &self.ports
+    }
+
+    /// The addresses that are known.
+    pub fn networks(&self) -> &Networks
+        ensures { result.now ≡ self.now.networks }
+    {
+        &self.networks
     }
 }

@@ -5,6 +5,7 @@ ghost use Rattle.gain_mix.specs.Gain.{ins_of};
 ghost use Rattle.mix_packets.specs.OutSpec.{out_fault_of};
 ghost use Rattle.studio_spec.specs.Values.{number_at, number_or};
 ghost use Rattle.studio_spec.specs.Rows.{at_table, rows_fault};
+ghost use Rattle.studio_spec.specs.NetworkTable.{senders_of};
 ghost use Rattle.studio_spec.specs.OutputTable.{number_rows, address_rows, output_of, schedule_of, output_fault};
 ghost use Rattle.studio_spec.specs.Config.{no_memory};
 ghost use Rattle.studio_spec.specs.declared.config.keys.Key.TheVariants as key;
@@ -16,9 +17,11 @@ use crate::config::fault::{Kind, Place, SpecError};
 use crate::config::gain_rows::check_gains;
 use crate::config::keys::Key;
 use crate::config::known::check_known;
+use crate::config::networks::read_senders;
 use crate::config::numbers::{port, whole, whole_or};
 use crate::config::packets::read_packets;
 use crate::config::tables::optional_tables;
+use crate::networks::Senders;
 use gain_mix::Schedule;
 use mix_packets::{OutSpec, Output};
 use std::alloc::Global;
@@ -40,16 +43,17 @@ pub(crate) struct Addresses {
     pub to_b: Option<u16>,
 }
 
-/// An output, the gains and their changes, and where its packets go.
+/// An output, the gains and their changes, and to which ports and how its packets are sent.
 #[derive(Drop)]
 pub(crate) struct OutputEntry {
     pub spec: OutSpec,
     pub schedule: Schedule,
     pub addresses: Addresses,
+    pub senders: Senders,
 }
 
 /// The keys of the output's table.
-const KEYS: [Key; 12] = [
+const KEYS: [Key; 17] = [
     Key::Encoding,
     Key::Channels,
     Key::Frames,
@@ -62,6 +66,11 @@ const KEYS: [Key; 12] = [
     Key::Change,
     Key::ToA,
     Key::ToB,
+    Key::FromA,
+    Key::FromB,
+    Key::ToAddressA,
+    Key::ToAddressB,
+    Key::Ttl,
 ];
 
 /// Reads the output's table, where the streams have so many channels.
@@ -77,6 +86,7 @@ pub(crate) fn read_output(
     ensures schedule { IfOk result (λ o. o.schedule ≡ schedule_of (table_view table.now)) }
     ensures to_a { IfOk result (λ o. number_at (table_view table.now) key.ToA ≡ o.addresses.to_a) }
     ensures to_b { IfOk result (λ o. number_at (table_view table.now) key.ToB ≡ o.addresses.to_b) }
+    ensures senders { IfOk result (λ o. o.senders ≡ senders_of (table_view table.now)) }
     ensures outs { IfOk result (λ o. length o.schedule.first ≡ o.spec.channels) }
     ensures ins { IfOk result (λ o. ins_of o.schedule.first ≡ ins) }
     ensures fault { IfErr result (λ e. (e ≡ no_memory) ⊎ (output_fault ins (table_view table.now) ≡ Some e)) }
@@ -88,6 +98,7 @@ pub(crate) fn read_output(
     let changes = optional_tables(table, place, Key::Change)?;
     check_changes(changes)?;
     let addresses = read_addresses(table, place)?;
+    let senders = read_senders(table, place)?;
     check_known(table, place, &KEYS)?;
     let spec = check_output(Output {
         enc: packets.enc,
@@ -104,6 +115,7 @@ pub(crate) fn read_output(
         spec,
         schedule,
         addresses,
+        senders,
     })
 }
 

@@ -7,7 +7,7 @@ ghost use Rattle.studio_spec.specs.Studio.{channel_total};
 ghost use Rattle.studio_spec.specs.Values.{members_in, is_table};
 ghost use Rattle.studio_spec.specs.StreamTable.{stream_of, stream_fault};
 ghost use Rattle.studio_spec.specs.OutputTable.{each_fault};
-ghost use Rattle.studio_spec.specs.Config.{port_table, studio_of, config_fault_of, no_memory};
+ghost use Rattle.studio_spec.specs.Config.{port_table, bind_table, studio_of, config_fault_of, no_memory};
 ghost use Rattle.studio_spec.specs.declared.config.fault.Place.TheVariants as at;
 
 use crate::config::fault::{Place, SpecError};
@@ -17,6 +17,7 @@ use crate::config::numbers::whole;
 use crate::config::output::read_output;
 use crate::config::stream::read_stream;
 use crate::config::tables::{few_tables, table_in, table_of};
+use crate::networks::Networks;
 use crate::ports::Ports;
 use crate::studio::StudioSpec;
 use std::alloc::Global;
@@ -42,28 +43,33 @@ impl StudioSpec {
         let output_table = table_in(table, place, Key::Output)?;
         check_known(table, place, &KEYS)?;
         let mut ports = Ports::absent();
-        let streams = read_streams(alloc, tables, &mut ports)?;
+        let mut networks = Networks::absent();
+        let streams = read_streams(alloc, tables, &mut ports, &mut networks)?;
         let ins = channel_total(&streams);
         let output = read_output(alloc, output_table, ins)?;
         ports.to_a = output.addresses.to_a;
         ports.to_b = output.addresses.to_b;
+        networks.output = output.senders;
         let studio = StudioSpec::new(open_at, streams, output.spec, output.schedule);
-        Ok(studio.with_ports(ports))
+        Ok(studio.with_ports(ports).with_networks(networks))
     }
 }
 
-/// Reads the tables of streams, and writes down where their paths come in.
+/// Reads the tables of streams, and writes down at which ports and addresses their paths are received.
 fn read_streams(
     alloc: Global,
     tables: &[Value],
     ports: &mut Ports,
+    networks: &mut Networks,
 ) -> Result<Vec<StreamSpec>, SpecError>
     requires tables { list_all (λ t. is_table (view t)) tables.now ≡ true }
     requires few { length tables.now ≤ 16 }
     requires absent { ports.old.paths ≡ absent_rows 16 }
+    requires unbound { networks.old.paths ≡ absent_rows 16 }
     ensures ok { OnOk result (each_fault (λ n. stream_fault (at.Stream n)) 0 (map (λ t. members_in (view t)) tables.now) ≡ None) }
     ensures streams { IfOk result (λ s. s.items ≡ map stream_of (map (λ t. members_in (view t)) tables.now)) }
     ensures ports { OnOk result (ports.new.paths ≡ port_table (map (λ t. members_in (view t)) tables.now)) }
+    ensures binds { OnOk result (networks.new.paths ≡ bind_table (map (λ t. members_in (view t)) tables.now)) }
     ensures fault { IfErr result (λ e. (e ≡ no_memory) ⊎ (each_fault (λ n. stream_fault (at.Stream n)) 0 (map (λ t. members_in (view t)) tables.now) ≡ Some e)) }
 {
     let mut streams = Vec::new(alloc);
@@ -71,6 +77,7 @@ fn read_streams(
         let entry = read_stream(table_of(stream), Place::Stream(number))?;
         streams.push(entry.spec)?;
         ports.set_row(number, entry.ports);
+        networks.set_binds(number, entry.binds);
     }
     Ok(streams)
 }

@@ -1,0 +1,66 @@
+//! The addresses of a studio's paths, and how its output is sent.
+ghost use Rattle.std.specs.Prelude.{◌≡◌, ◌<◌, length, slice_set};
+ghost use Rattle.studio_spec.specs.Networks.{absent_networks, path_address};
+
+use std::net::Ipv4Addr;
+use stream_rules::Path;
+
+/// Addresses that are known: each stream's, path by path, and the output's.
+#[derive(Clone, Copy, Debug, PartialEq, Eq)]
+pub struct Networks {
+    /// At which address each path of each stream is received: an interface's, or a group's.
+    pub paths: [[Option<Ipv4Addr>; 4]; 16],
+    /// How the output is sent.
+    pub output: Senders,
+}
+
+/// How the two copies of the output are sent, as far as it is known.
+#[derive(Clone, Copy, Debug, PartialEq, Eq)]
+pub struct Senders {
+    /// The sender's own address of the first copy.
+    pub from_a: Option<Ipv4Addr>,
+    /// The sender's own address of the second copy.
+    pub from_b: Option<Ipv4Addr>,
+    /// Where the first copy goes.
+    pub to_a: Option<Ipv4Addr>,
+    /// Where the second copy goes.
+    pub to_b: Option<Ipv4Addr>,
+    /// The time to live of both.
+    pub ttl: Option<u8>,
+}
+
+impl Networks {
+    /// No address is known.
+    pub fn absent() -> Networks
+        ensures { result ≡ absent_networks }
+    {
+        Networks {
+            paths: [[None; 4]; 16],
+            output: Senders {
+                from_a: None,
+                from_b: None,
+                to_a: None,
+                to_b: None,
+                ttl: None,
+            },
+        }
+    }
+
+    /// Writes down at which addresses the paths of a stream are received.
+    pub(crate) fn set_binds(&mut self, stream: usize, row: [Option<Ipv4Addr>; 4])
+        requires { stream < length self.old.paths }
+        ensures { self.new.paths ≡ slice_set self.old.paths stream row }
+    {
+        self.paths[stream] = row;
+    }
+
+    /// At which address a path of a stream is received.
+    pub fn address(&self, stream: usize, path: Path) -> Option<Ipv4Addr>
+        ensures { result ≡ path_address self.now.paths stream path }
+    {
+        match self.paths.get(stream) {
+            Some(row) => row[usize::from(path.number())],
+            None => None,
+        }
+    }
+}
