@@ -16,7 +16,7 @@ const RECEIVE_WAIT: u64 = 100;
 /// How many octets a socket is asked to hold. The system gives less where its own bound is lower.
 const RECEIVE_ROOM: u32 = 8 << 20;
 
-/// A socket on 127.0.0.1, whose receives wait. It ends once it is told to stop, or once its clock has reached a time.
+/// A socket whose receives wait. It ends once it is told to stop, or once its clock has reached a time.
 #[derive(Drop)]
 pub struct UdpFeed<'a, R: Clock> {
     socket: UdpSocket,
@@ -76,9 +76,13 @@ impl<R: Clock> Feed for UdpFeed<'_, R> {
     }
 }
 
-/// A socket that is bound to a port on 127.0.0.1, whose receives wait for a datagram, but not for long.
-pub(crate) fn receiving_socket<R: Net>(rt: &R, port: u16) -> io::Result<UdpSocket> {
-    let socket = UdpSocket::bind(rt, SocketAddr::from((Ipv4Addr::LOCALHOST, port)))?;
+/// A socket that is bound to an address and a port, whose receives wait for a datagram, but not for long.
+pub(crate) fn receiving_socket<R: Net>(
+    rt: &R,
+    address: Ipv4Addr,
+    port: u16,
+) -> io::Result<UdpSocket> {
+    let socket = UdpSocket::bind(rt, SocketAddr::from((address, port)))?;
     socket.set_read_timeout(Some(Duration::from_millis(RECEIVE_WAIT)))?;
     ask_for_room(&socket);
     Ok(socket)

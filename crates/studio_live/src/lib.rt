@@ -1,10 +1,12 @@
 //! A studio on real sockets: what a live run takes from the system, and the run itself.
 //!
 //! `LivePorts::of` finds the ports that a studio needs, or names the first that is absent. `run_studio_live`
-//! then binds a socket for each path, starts the workers with a watcher beside them, and writes the report
-//! once all feeds have ended. Its caller hands in the runtime, the memory and both writers.
+//! then binds a socket for each path, at the address that `addresses_of` says, and two for the output, starts the
+//! workers with a watcher beside them, and writes the report once all feeds have ended. Its caller hands in the
+//! runtime, the memory and both writers.
 #![tactic(auto)]
 
+mod addresses;
 mod clock;
 mod fault;
 mod feed;
@@ -20,6 +22,7 @@ mod standard;
 mod stats;
 mod watch;
 
+pub use addresses::addresses_of;
 pub use clock::{SystemClock, reading_after};
 pub use fault::LiveFault;
 pub use feed::UdpFeed;

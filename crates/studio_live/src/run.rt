@@ -6,6 +6,7 @@ ghost use Rattle.studio_rings.specs.FreshEnds.{AreOpened};
 ghost use Rattle.studio_workers.specs.StreamResults.{AreOpenedTogether};
 ghost use Rattle.studio_live.specs.Run.{FailsRun, IsEarly, IsRunOf, WritesRun};
 
+use crate::addresses::addresses_of;
 use crate::clock::SystemClock;
 use crate::fault::LiveFault;
 use crate::feed::{UdpFeed, receiving_socket};
@@ -49,7 +50,7 @@ struct Start {
     ghost from_zero: { pos 0 ≤ℤ open_at },
 }
 
-/// Runs a studio on sockets on 127.0.0.1 until its feeds have ended, and then writes the report. Beside the
+/// Runs a studio on sockets at its addresses until its feeds have ended, and then writes the report. Beside the
 /// workers a watcher ends the feeds as the options say, or where a signal that asks for it was held back;
 /// and it writes each stream's counts to `faults`, if they are asked for. Since it mustn't wait, `faults` is
 /// standard error, and lines that this wouldn't take at once are dropped.
@@ -116,8 +117,8 @@ fn work_of<'a, R: Net + Clock>(
     ensures early { IfErr result IsEarly }
 {
     open_standard();
-    let sockets = receiving_sockets(rt, alloc, ports.paths.as_slice())?;
-    let sink = UdpSink::bind(rt, ports.to_a, ports.to_b)?;
+    let sockets = receiving_sockets(rt, alloc, studio, ports.paths.as_slice())?;
+    let sink = UdpSink::bind(rt, ports.to_a, ports.to_b, &studio.networks().output)?;
     let ends = open(alloc, studio, PLACES)?;
     if sockets.len() != ends.paths.len() {
         return Err(LiveFault::Socket);
@@ -155,18 +156,23 @@ fn without_monitors(alloc: Global, ends: Ends) -> (Ends, Vec<MonitorEnd>)
     (rest, monitors)
 }
 
-/// A socket for each port.
+/// A socket for each port, at the address of its path.
 fn receiving_sockets<R: Net>(
     rt: &R,
     alloc: Global,
+    studio: &StudioSpec,
     ports: &[u16],
 ) -> Result<Vec<UdpSocket>, LiveFault>
     ensures sockets { IfOk result (λ sockets. length sockets.items ≡ length ports.now) }
     ensures early { IfErr result IsEarly }
 {
+    let addresses = addresses_of(alloc, studio)?;
     let mut sockets = Vec::with_capacity(alloc, ports.len())?;
-    for port in ports {
-        let socket = receiving_socket(rt, *port)?;
+    for (place, port) in ports.iter().enumerate() {
+        let Some(address) = addresses.get(place) else {
+            return Err(LiveFault::Socket);
+        };
+        let socket = receiving_socket(rt, *address, *port)?;
         sockets.push(socket)?;
     }
     Ok(sockets)

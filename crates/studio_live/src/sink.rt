@@ -1,28 +1,71 @@
-//! Where the output's datagrams go: two ports.
+//! Where the output's datagrams go: to two addresses, each from a socket of its own.
 ghost use Rattle.std.specs.Prelude.{None};
 
 use mio::net::UdpSocket;
 use std::io;
 use std::net::{Ipv4Addr, Net, SocketAddr};
+use studio_spec::Senders;
 use studio_workers::{SendAnswer, Sink};
 
-/// A socket that sends each datagram to two ports on 127.0.0.1. A send that fails, or that would wait,
-/// is a fault of its port alone.
+/// A socket that sends to one address and port.
+#[derive(Drop)]
+struct Sender {
+    socket: UdpSocket,
+    to: SocketAddr,
+}
+
+impl Sender {
+    /// A sender from an address, by a port of the system's choice, to an address and port: 127.0.0.1
+    /// for either address that isn't given.
+    fn bind<R: Net>(
+        rt: &R,
+        from: Option<Ipv4Addr>,
+        to: Option<Ipv4Addr>,
+        port: u16,
+        ttl: Option<u8>,
+    ) -> io::Result<Sender> {
+        let from = from.unwrap_or(Ipv4Addr::LOCALHOST);
+        let to = to.unwrap_or(Ipv4Addr::LOCALHOST);
+        let socket = UdpSocket::bind(rt, SocketAddr::from((from, 0)))?;
+        if let Some(ttl) = ttl {
+            set_time_to_live(&socket, to, u32::from(ttl))?;
+        }
+        Ok(Sender {
+            socket,
+            to: SocketAddr::from((to, port)),
+        })
+    }
+
+    /// Whether the system took a datagram.
+    fn sends(&self, datagram: &[u8]) -> bool {
+        self.socket.send_to(datagram, self.to).is_ok()
+    }
+}
+
+/// Sets the time to live of what a socket sends to an address, which may be a group's.
+fn set_time_to_live(socket: &UdpSocket, to: Ipv4Addr, ttl: u32) -> io::Result<()> {
+    if to.is_multicast() {
+        socket.set_multicast_ttl_v4(ttl)
+    } else {
+        socket.set_ttl(ttl)
+    }
+}
+
+/// Two sockets, each of which sends its copy of each datagram. A send that fails, or that would wait, is
+/// a fault of its copy alone.
 #[derive(Drop)]
 pub struct UdpSink {
-    socket: UdpSocket,
-    to_a: SocketAddr,
-    to_b: SocketAddr,
+    a: Sender,
+    b: Sender,
 }
 
 impl UdpSink {
-    /// A sink to two ports, from a port of the system's choice.
-    pub fn bind<R: Net>(rt: &R, to_a: u16, to_b: u16) -> io::Result<UdpSink> {
-        let socket = UdpSocket::bind(rt, SocketAddr::from((Ipv4Addr::LOCALHOST, 0)))?;
+    /// A sink to two ports at the addresses of these senders.
+    pub fn bind<R: Net>(rt: &R, to_a: u16, to_b: u16, senders: &Senders) -> io::Result<UdpSink> {
+        let ttl = senders.ttl;
         Ok(UdpSink {
-            socket,
-            to_a: SocketAddr::from((Ipv4Addr::LOCALHOST, to_a)),
-            to_b: SocketAddr::from((Ipv4Addr::LOCALHOST, to_b)),
+            a: Sender::bind(rt, senders.from_a, senders.to_a, to_a, ttl)?,
+            b: Sender::bind(rt, senders.from_b, senders.to_b, to_b, ttl)?,
         })
     }
 }
@@ -32,8 +75,8 @@ impl Sink for UdpSink {
 
     fn send(&mut self, datagram: &[u8]) -> SendAnswer {
         SendAnswer {
-            a: self.socket.send_to(datagram, self.to_a).is_ok(),
-            b: self.socket.send_to(datagram, self.to_b).is_ok(),
+            a: self.a.sends(datagram),
+            b: self.b.sends(datagram),
         }
     }
 }
