@@ -4,16 +4,19 @@ use gain_mix::Matrix;
 use mix_packets::OutSpec;
 use rtp_wire::Enc;
 use std::io::Write;
+use std::net::Ipv4Addr;
 use stream_rules::{Path, StreamClock, StreamSpec};
-use studio_spec::{Ports, StudioSpec};
+use studio_spec::{Networks, Ports, Senders, StudioSpec};
 
-/// Writes a line for each stream and its paths, one for the output, and the gains by time.
+/// Writes a line for each stream and its paths, one for the output and its copies, and the gains by time.
 pub fn write_summary<W: Write>(studio: &StudioSpec, output: &mut W) -> Result<(), Fault> {
     for (number, stream) in studio.streams().iter().enumerate() {
         write_stream(number, stream, output)?;
-        write_ports(number, stream.paths(), studio.ports(), output)?;
+        let paths = stream.paths();
+        write_paths(number, paths, studio.ports(), studio.networks(), output)?;
     }
-    write_output(studio.output(), studio.ports(), output)?;
+    write_output(studio.output(), output)?;
+    write_copies(studio.ports(), &studio.networks().output, output)?;
     line(writeln!(output, "gains from the start"))?;
     write_gains(studio.schedule().first(), output)?;
     for (time, gains) in studio.schedule().later() {
@@ -57,11 +60,12 @@ fn write_stream<W: Write>(number: usize, stream: &StreamSpec, output: &mut W) ->
     line(writeln!(output, ", window of {window} packets ({ms}.{us:03} ms)"))
 }
 
-/// The ports of a stream's paths, each in a line.
-fn write_ports<W: Write>(
+/// The ports of a stream's paths, each in a line, with the address where one is said.
+fn write_paths<W: Write>(
     number: usize,
     paths: u8,
     ports: &Ports,
+    networks: &Networks,
     output: &mut W,
 ) -> Result<(), Fault> {
     for (place, name) in ["a", "b", "c", "d"]
@@ -73,14 +77,16 @@ fn write_ports<W: Write>(
             return Ok(());
         };
         match ports.port(number, path) {
-            Some(port) => line(writeln!(output, "  path {name}: port {port}"))?,
-            None => line(writeln!(output, "  path {name}: no port"))?,
+            Some(port) => line(write!(output, "  path {name}: port {port}"))?,
+            None => line(write!(output, "  path {name}: no port"))?,
         }
+        write_address(" at", networks.address(number, path), output)?;
+        line(writeln!(output))?;
     }
     Ok(())
 }
 
-fn write_output<W: Write>(spec: &OutSpec, ports: &Ports, output: &mut W) -> Result<(), Fault> {
+fn write_output<W: Write>(spec: &OutSpec, output: &mut W) -> Result<(), Fault> {
     let enc = name_of(spec.enc());
     let (channels, frames, pt) = (spec.channels(), spec.frames(), spec.pt());
     let (ms, us) = millis(u64::from(frames));
@@ -89,13 +95,39 @@ fn write_output<W: Write>(spec: &OutSpec, ports: &Ports, output: &mut W) -> Resu
         output,
         "output: {enc}, channels {channels}, packets of {frames} ({ms}.{us:03} ms), type {pt}, source {ssrc}, \
         first number {seq}, from {start}"
-    ))?;
-    for (name, port) in [("a", ports.to_a), ("b", ports.to_b)] {
-        if let Some(port) = port {
-            line(writeln!(output, "  to {name}: port {port}"))?;
+    ))
+}
+
+/// The ports of the output's copies, each in a line, with what is said of its addresses.
+fn write_copies<W: Write>(ports: &Ports, senders: &Senders, output: &mut W) -> Result<(), Fault> {
+    for (name, port, to, from) in [
+        ("a", ports.to_a, senders.to_a, senders.from_a),
+        ("b", ports.to_b, senders.to_b, senders.from_b),
+    ] {
+        let Some(port) = port else {
+            continue;
+        };
+        line(write!(output, "  to {name}: port {port}"))?;
+        write_address(" at", to, output)?;
+        write_address(", from", from, output)?;
+        if let Some(ttl) = senders.ttl {
+            line(write!(output, ", time to live {ttl}"))?;
         }
+        line(writeln!(output))?;
     }
     Ok(())
+}
+
+/// An address behind a word, if there is one.
+fn write_address<W: Write>(
+    word: &str,
+    address: Option<Ipv4Addr>,
+    output: &mut W,
+) -> Result<(), Fault> {
+    match address {
+        Some(address) => line(write!(output, "{word} {address}")),
+        None => Ok(()),
+    }
 }
 
 /// A line for each output channel, with a gain for each input channel; 65536 is one.

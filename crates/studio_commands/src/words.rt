@@ -181,7 +181,7 @@ fn live_command<'a>(alloc: Global) -> Result<Command<'a>, Error> {
         .long("until-eof")
         .help("End where standard input does")
         .action(ArgAction::SetTrue);
-    let about = "Receives from sockets on 127.0.0.1, and sends the mix to two ports";
+    let about = "Receives from sockets, and sends the mix to two ports, at the configuration's addresses or 127.0.0.1";
     let command = with_config(alloc, "live", about)?
         .arg(instants)?
         .arg(stats)?
