@@ -46,8 +46,9 @@ test:
 	examples/blocks crates/studio_main/out/studio_main
 	tests/captures crates/studio_main/out/studio_main
 	tests/loopback crates/studio_main/out/studio_main
+	tests/networks crates/studio_main/out/studio_main
 	memory/check
-	@echo "gate: pages, proofs, edits, tests, examples, faults, statuses, blocks, captures, live runs and memory passed"
+	@echo "gate: pages, proofs, edits, tests, examples, faults, statuses, blocks, captures, live runs, networks and memory passed"
 
 test-memory:
 	memory/check
