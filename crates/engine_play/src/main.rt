@@ -1,0 +1,151 @@
+//! A trace, handed to an engine event by event, and the report of what the engine gave, in the words of `play`.
+//!
+//! Its word names the configuration; the trace comes by standard input. At the first event that is at fault it
+//! breaks off.
+#![tactic(auto)]
+
+use anyhow::{anyhow, bail};
+use path_merge::{Path, StreamSpec};
+use std::alloc::Global;
+use std::io::Write;
+use std::{env, fs};
+use studio_engine::Engine;
+use studio_run::{
+    StudioEvent, StudioSpec, TextBuffer, read_text, read_trace, write_datagram, write_merge_counts,
+    write_path_counts,
+};
+
+/// The octets of the longest datagram of an output.
+const MOST_OCTETS: usize = 1452;
+
+/// The lines of a report, on their way to a writer.
+#[derive(Drop)]
+struct Lines<'a, W: Write> {
+    text: TextBuffer,
+    output: &'a mut W,
+}
+
+fn main(rt: HostRuntime) -> anyhow::Result<()> {
+    let alloc = rt.alloc();
+    let mut words = env::args(&rt)?;
+    let _program = words.next();
+    let Some(path) = words.next() else {
+        bail!("usage: engine_play CONFIG");
+    };
+    let config = read_text(alloc, &mut fs::open(&rt, path.as_str())?)?;
+    let spec = studio_of(alloc, config.as_slice())?;
+    let trace = read_text(alloc, &mut rt.stdin())?;
+    let events = read_trace(alloc, trace.as_slice())?;
+    let mut engine = Engine::new(alloc, &spec)?;
+    let mut lines = Lines {
+        text: TextBuffer::new(alloc)?,
+        output: &mut rt.stdout(),
+    };
+    for event in events.as_slice() {
+        take_event(&mut engine, event, &mut lines)?;
+    }
+    write_counts(&engine, &spec, &mut lines)?;
+    finish(&mut lines)
+}
+
+/// The studio that the octets of a configuration say.
+fn studio_of(alloc: Global, octets: &[u8]) -> anyhow::Result<StudioSpec> {
+    let text = str::from_utf8(octets)?;
+    let Ok(table) = toml::table_from_str(alloc, text) else {
+        bail!("config: not TOML");
+    };
+    StudioSpec::from_table(alloc, &table).map_err(|error| anyhow!("config {error}"))
+}
+
+/// Hands an event on, and writes the datagrams that it gives.
+fn take_event<W: Write>(
+    engine: &mut Engine,
+    event: &StudioEvent,
+    lines: &mut Lines<'_, W>,
+) -> anyhow::Result<()> {
+    match event {
+        StudioEvent::Arrive {
+            stream,
+            path,
+            octets,
+        } => {
+            engine.arrive(usize::from(*stream), *path, octets.as_slice())?;
+        }
+        StudioEvent::Tick(now) => write_all(engine, Some(*now), lines)?,
+        StudioEvent::Close => {
+            engine.close()?;
+            write_all(engine, None, lines)?;
+        }
+    }
+    Ok(())
+}
+
+/// Writes the datagrams of a turn, or those that a drain gives.
+fn write_all<W: Write>(
+    engine: &mut Engine,
+    now: Option<i64>,
+    lines: &mut Lines<'_, W>,
+) -> anyhow::Result<()> {
+    for _ in 0..u64::MAX {
+        if !write_next(engine, now, lines)? {
+            break;
+        }
+    }
+    Ok(())
+}
+
+/// Writes the next datagram; false where there is none.
+fn write_next<W: Write>(
+    engine: &mut Engine,
+    now: Option<i64>,
+    lines: &mut Lines<'_, W>,
+) -> anyhow::Result<bool> {
+    let mut out = [0; MOST_OCTETS];
+    let _short = engine.output().datagram_len();
+    let given = match now {
+        Some(now) => engine.turn(now, &mut out)?,
+        None => engine.drain(&mut out),
+    };
+    let Some(len) = given else {
+        return Ok(false);
+    };
+    write_datagram(&mut lines.text, lines.output, &out[..len])?;
+    Ok(true)
+}
+
+/// Writes the lines of each stream's counts.
+fn write_counts<W: Write>(
+    engine: &Engine,
+    spec: &StudioSpec,
+    lines: &mut Lines<'_, W>,
+) -> anyhow::Result<()> {
+    for (number, stream) in (0..u8::MAX).zip(spec.streams()) {
+        write_stream(engine, number, stream, lines)?;
+    }
+    Ok(())
+}
+
+fn write_stream<W: Write>(
+    engine: &Engine,
+    number: u8,
+    stream: &StreamSpec,
+    lines: &mut Lines<'_, W>,
+) -> anyhow::Result<()> {
+    let place = usize::from(number);
+    for path in (0..stream.paths()).flat_map(Path::new) {
+        if let Some(counts) = engine.path_counts(place, path) {
+            write_path_counts(&mut lines.text, lines.output, number, path, &counts)?;
+        }
+    }
+    if let Some(counts) = engine.counts(place) {
+        let paths = stream.paths();
+        write_merge_counts(&mut lines.text, lines.output, number, paths, &counts)?;
+    }
+    Ok(())
+}
+
+/// Writes the lines that are held.
+fn finish<W: Write>(lines: &mut Lines<'_, W>) -> anyhow::Result<()> {
+    lines.text.finish(lines.output)?;
+    Ok(())
+}
