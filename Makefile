@@ -47,8 +47,9 @@ test:
 	tests/captures crates/studio_main/out/studio_main
 	tests/loopback crates/studio_main/out/studio_main
 	tests/networks crates/studio_main/out/studio_main
+	DARBEXUM=crates/studio_main/out/studio_main diff/run engine 500
 	memory/check
-	@echo "gate: pages, proofs, edits, tests, examples, faults, statuses, blocks, captures, live runs, networks and memory passed"
+	@echo "gate: pages, proofs, edits, tests, examples, faults, statuses, blocks, captures, live runs, networks, engine and memory passed"
 
 test-memory:
 	memory/check

@@ -1,4 +1,4 @@
-//! Tests of an engine: its calls one by one, and random lists of events beside `run_studio`.
+//! Tests of an engine: its calls one by one.
 #![tactic(auto)]
 
 #[cfg(test)]

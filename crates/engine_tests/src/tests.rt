@@ -1,5 +1,4 @@
-//! The tests, from single calls to whole lists.
+//! The tests, call by call.
 mod calls;
 mod deadlines;
-mod lists;
 mod studios;
