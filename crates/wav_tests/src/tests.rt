@@ -1,0 +1,3 @@
+//! Files in memory, whole and broken off.
+mod files;
+mod sheet;
