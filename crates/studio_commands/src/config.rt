@@ -1,16 +1,28 @@
 //! Configurations, from the octets of a file to a studio.
+ghost use Rattle.std.specs.Prelude.{IfOk, []};
+ghost use Rattle.wav_file.specs.File.{Holds};
+
 use crate::fault::{ConfigFault, Fault};
 use std::alloc::Global;
 use studio_run::ReadFault;
 use studio_spec::{Kind, SpecError, StudioSpec};
+use studio_wav::FileFault;
+use wav_file::Overwrite;
 
 /// The most octets of a configuration.
 const MOST_OCTETS: usize = 1_048_576;
 
-/// Where configurations and captures are read from.
+/// Where configurations and captures are read from, and WAV files are made.
 pub trait Configs {
+    /// A file that is written.
+    type File: Overwrite + Drop;
+
     /// The octets of the file at a path.
     fn octets(&self, alloc: Global, path: &str) -> Result<Vec<u8>, ReadFault>;
+
+    /// A file at a path, which holds nothing.
+    fn create(&self, path: &str) -> Result<Self::File, FileFault>
+        ensures empty { IfOk result (λ file. Holds (Self.File.Write.contents file) []) };
 }
 
 /// The octets of the configuration at a path.

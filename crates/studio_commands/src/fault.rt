@@ -4,6 +4,7 @@ use capture_read::CaptureFault;
 use std::io::Write;
 use studio_live::LiveFault;
 use studio_run::{PlayFault, SpecError, StudioFault};
+use studio_wav::FileFault;
 use thiserror::Error;
 
 /// Why a run gave no text, or only a part of it.
@@ -27,6 +28,9 @@ pub enum Fault {
     /// The capture is at fault.
     #[error("{0}")]
     Capture(CaptureError),
+    /// A WAV file was not made or not written, after its path.
+    #[error("{0}")]
+    Wav(FileFault),
     /// Memory was refused.
     #[error("out of memory")]
     Memory,
@@ -79,7 +83,7 @@ impl Fault {
             Fault::Config(_) => 3,
             Fault::Play(fault) => play_status(fault),
             Fault::Live(LiveFault::Memory) | Fault::Memory => 4,
-            Fault::Live(_) | Fault::Write => 5,
+            Fault::Live(_) | Fault::Wav(_) | Fault::Write => 5,
         }
     }
 

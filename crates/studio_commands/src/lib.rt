@@ -1,7 +1,7 @@
 //! The program's commands: to list the marks of a trace, to play it to its report, to run a studio live, to say what
 //! a configuration means, and what RTP audio a capture holds, which is imported as a trace.
 //!
-//! `run` is the whole: from the words of a command line to its exit status. Where configurations and captures lie is the
+//! `run` is the whole: from the words of a command line to its exit status. Where configurations, captures and WAV files lie is the
 //! caller's: it hands in `Configs`.
 #![tactic(auto)]
 
@@ -10,8 +10,10 @@ mod config;
 mod fault;
 mod import;
 mod live;
+mod named_file;
 mod program;
 mod summary;
+mod wav;
 mod words;
 
 pub use config::Configs;

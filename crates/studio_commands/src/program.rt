@@ -5,6 +5,7 @@ use crate::fault::Fault;
 use crate::import::import_capture;
 use crate::live::run_config;
 use crate::summary::write_summary;
+use crate::wav::play_to_wav;
 use crate::words::{Asked, asked_for, told};
 use std::alloc::Global;
 use std::io::{Read, Write};
@@ -61,6 +62,9 @@ fn answer<R: Threads + Wait + Sync + Net + Clock, C: Configs, I: Read, W: Write,
         Asked::Play(path) => {
             let studio = studio_of(configs, alloc, path)?;
             play(alloc, &studio, input, output).map_err(Fault::from)
+        }
+        Asked::PlayToWav(path, file) => {
+            play_to_wav(configs, alloc, path, file, input, output, faults)
         }
         Asked::Check(path) => {
             let studio = studio_of(configs, alloc, path)?;

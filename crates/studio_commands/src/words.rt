@@ -24,6 +24,8 @@ pub enum Asked<'a> {
     MarksAndCounts(&'a str),
     /// The report of a configuration's studio.
     Play(&'a str),
+    /// The same, with a WAV file at this path beside it.
+    PlayToWav(&'a str, &'a str),
     /// What a configuration means.
     Check(&'a str),
     /// What a capture holds.
@@ -51,12 +53,20 @@ pub fn asked_for<'a>(alloc: Global, words: &'a [String]) -> Result<Asked<'a>, Er
         return Ok(Asked::Import(path, import_options(alloc, inner)?));
     }
     match inner.get_str("CONFIG") {
-        Some(path) if name == "play" => Ok(Asked::Play(path)),
+        Some(path) if name == "play" => Ok(play_in(path, inner)),
         Some(path) if name == "check" => Ok(Asked::Check(path)),
         Some(path) if name == "live" => Ok(Asked::Live(path, options_in(inner))),
         Some(path) if inner.get_flag("counts") => Ok(Asked::MarksAndCounts(path)),
         Some(path) => Ok(Asked::Marks(path)),
         None => Ok(Asked::Standard),
+    }
+}
+
+/// What is written of a trace that is played.
+fn play_in<'a>(path: &'a str, matches: &ArgMatches<'a>) -> Asked<'a> {
+    match matches.get_str("wav") {
+        Some(file) => Asked::PlayToWav(path, file),
+        None => Asked::Play(path),
     }
 }
 
@@ -99,6 +109,13 @@ fn command<'a>(alloc: Global) -> Result<Command<'a>, Error> {
         alloc,
         "play",
         "Plays the trace on standard input to its datagrams and counts",
+    )?
+    .arg(
+        Arg::new(alloc, "wav")
+            .long("wav")
+            .value_name("FILE")
+            .help("Write the mix to this WAV file too")
+            .action(ArgAction::Set),
     )?;
     let check = with_config(alloc, "check", "Says what a configuration means")?;
     let command = Command::new(alloc, "darbexum")
@@ -181,7 +198,8 @@ fn live_command<'a>(alloc: Global) -> Result<Command<'a>, Error> {
         .long("until-eof")
         .help("End where standard input does")
         .action(ArgAction::SetTrue);
-    let about = "Receives from sockets, and sends the mix to two ports, at the configuration's addresses or 127.0.0.1";
+    let about =
+        "Receives from sockets, and sends the mix to two ports, at the configuration's addresses or 127.0.0.1";
     let command = with_config(alloc, "live", about)?
         .arg(instants)?
         .arg(stats)?

@@ -8,6 +8,8 @@ use std::rt::Env;
 use std::{env, fs};
 use studio_commands::{Configs, Fault, run};
 use studio_run::{ReadFault, read_text};
+use studio_wav::FileFault;
+use wav_file::OverFile;
 
 /// The files of the host.
 #[derive(Clone, Copy)]
@@ -16,11 +18,20 @@ struct HostConfigs<'a> {
 }
 
 impl Configs for HostConfigs<'_> {
+    type File = OverFile<fs::File>;
+
     fn octets(&self, alloc: Global, path: &str) -> Result<Vec<u8>, ReadFault> {
         let Ok(mut file) = fs::open(self.rt, path) else {
             return Err(ReadFault::Device);
         };
         read_text(alloc, &mut file)
+    }
+
+    fn create(&self, path: &str) -> Result<OverFile<fs::File>, FileFault> {
+        match fs::create(self.rt, path) {
+            Ok(file) => Ok(OverFile::new(file)),
+            Err(_) => Err(FileFault::Unmade),
+        }
     }
 }
 

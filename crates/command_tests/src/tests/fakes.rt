@@ -3,6 +3,7 @@ ghost use Rattle.std.specs.Prelude.{◌≤◌};
 
 use std::io;
 use std::io::{ErrorKind, Read, Write};
+use wav_file::Overwrite;
 
 /// A reader that gives so many octets a call, and fails after so many calls.
 #[derive(Drop)]
@@ -87,6 +88,12 @@ impl Write for FullPage {
     }
 
     fn flush(&mut self) -> io::Result<()> {
+        Ok(())
+    }
+}
+
+impl Overwrite for FullPage {
+    fn overwrite(&mut self, _octets: &[u8]) -> io::Result<()> {
         Ok(())
     }
 }

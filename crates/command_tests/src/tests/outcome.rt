@@ -1,5 +1,5 @@
 //! Runs of the program, and what came of them.
-use super::fakes::Page;
+use super::fakes::{FullPage, Page};
 use std::alloc::Global;
 use std::io::Read;
 use std::net::Net;
@@ -8,6 +8,7 @@ use std::thread::Threads;
 use std::time::Clock;
 use studio_commands::{Configs, run};
 use studio_run::ReadFault;
+use studio_wav::FileFault;
 
 /// The trace of the stored run.
 pub(super) const STORED_TRACE: &str = "tick 0\n\
@@ -20,12 +21,18 @@ pub(super) const STORED_LISTING: &str = "0 slot 65537 0 got 00000100000200000300
     0 slot 65538 6 got 00000700000800000900000a00000b00000c\n\
     0 end\n";
 
-/// No configuration at any path.
+/// No file at any path.
 pub(super) struct NoConfigs;
 
 impl Configs for NoConfigs {
+    type File = FullPage;
+
     fn octets(&self, _alloc: Global, _path: &str) -> Result<Vec<u8>, ReadFault> {
         Err(ReadFault::Device)
+    }
+
+    fn create(&self, _path: &str) -> Result<FullPage, FileFault> {
+        Err(FileFault::Unmade)
     }
 }
 
