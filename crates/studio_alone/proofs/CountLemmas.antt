@@ -1,0 +1,21 @@
+-- The counts of a report.
+use Rattle.std.proofs.Common.{◌≡◌, ℕ, ◌≤◌, ◌<◌, List, length, Some, slice_get, arith}
+use Rattle.std.proofs.lemmas.Option.{slice_get_within}
+use Rattle.stream_rules.specs.declared.stream_spec.Stream.{Stream}
+use Rattle.studio_spec.specs.Studio.{Studio}
+use Rattle.studio_session.specs.Event.{TraceEvent}
+use Rattle.studio_engine.specs.Engine.{EngineState}
+use Rattle.studio_engine.specs.Session.{HasSession}
+use Rattle.studio_engine.proofs.EngineLemmas.{pulled_at}
+
+-- one element, read twice
+pub one : {X : Type 0} (x y : X) → Some x ≡ Some y → x ≡ y
+one x y e = cc
+
+-- an engine has each stream of its studio
+pub has-stream : (studio : Studio) (engine : EngineState) (events : List TraceEvent) (datagrams : List (List ℕ)) (stream : ℕ) (spec : Stream) → HasSession studio engine events datagrams
+    → slice_get studio.streams stream ≡ Some spec → length engine.cursors ≤ stream → ⊥
+has-stream studio engine events datagrams stream spec s at past =
+    let found = pulled_at studio engine events datagrams stream spec s at in
+    let within : stream < length engine.cursors = slice_get_within engine.cursors stream found.0 found.2 in
+    omega (arith, within, past)

@@ -1,0 +1,6 @@
+pub mod RoundLemmas
+pub mod AnswerLemmas
+pub mod TakeLemmas
+pub mod SendLemmas
+pub mod RunLemmas
+pub mod CountLemmas

@@ -1,0 +1,14 @@
+pub mod Rounds
+pub mod Takes
+pub mod Sends
+pub mod Runs
+pub use Rattle.mix_packets.specs.OutSpec
+pub use Rattle.path_merge.specs.Clock
+pub use Rattle.studio_spec.specs.Studio
+pub use Rattle.studio_session.specs.Event
+pub use Rattle.studio_session.specs.Report
+pub use Rattle.studio_engine.specs.Engine
+pub use Rattle.studio_engine.specs.Session
+pub use Rattle.studio_workers.specs.Answers
+pub use Rattle.studio_workers.specs.Balances
+pub use Rattle.studio_workers.specs.Clocks

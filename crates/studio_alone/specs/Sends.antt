@@ -1,0 +1,14 @@
+-- What was sent of an engine's datagrams.
+use Rattle.std.specs.Prelude.{◌≡◌, ℕ, ◌+◌, ◌<◌, ◌^◌, List, ◌++◌, length, Option}
+use Rattle.studio_spec.specs.Studio.{Studio}
+use Rattle.studio_session.specs.Event.{TraceEvent}
+use Rattle.studio_engine.specs.Engine.{EngineState}
+use Rattle.studio_engine.specs.Session.{HasSession}
+use Rattle.studio_workers.specs.Sinks.{Hands}
+
+-- after these datagrams the engine gave more of its events, of which each was counted, and the sink was handed exactly those
+pub record HasSent (studio : Studio) (engine : EngineState) (events : List TraceEvent) (datagrams : List (List ℕ)) (before after : Option (List (List ℕ))) (old new : ℕ) : Type 0 where
+  pub more : List (List ℕ)
+  pub stands : HasSession studio engine events (datagrams ++ more)
+  pub count : old + length more < 2 ^ 64 → new ≡ old + length more
+  pub handed : Hands before more after

@@ -1,0 +1,72 @@
+//! A studio in one thread.
+ghost use Rattle.std.specs.Prelude.{◌≡◌, ℕ, ℤ, List, Option, true, map, IfOk};
+ghost use Rattle.studio_spec.specs.Studio.{Studio};
+ghost use Rattle.studio_workers.specs.Answers.{Answer};
+ghost use Rattle.studio_workers.specs.Balances.{Balances};
+ghost use Rattle.studio_alone.specs.Runs.{IsDone, IsSettledRun, IsUnderWay};
+ghost use Rattle.studio_alone.specs.Takes.{AllEnded};
+
+use crate::desk::Desk;
+use crate::report::{Room, report};
+use crate::rest::Rest;
+use crate::settle::settle;
+use crate::taker::all_takers;
+use std::alloc::{AllocError, Global};
+use std::sync::Wait;
+use studio_engine::Engine;
+use studio_spec::StudioSpec;
+use studio_workers::{Clock, Feed, SendCounts, Sink, WorkReport};
+
+/// Runs a studio in this thread until all feeds have ended and all datagrams were sent.
+///
+/// The feeds stand stream by stream and path by path, a list for each stream. All memory is taken before the clock
+/// is read first. A run that is not settled was handed a feed for a path that its stream lacks, or took 2^62 events.
+pub fn run_alone<R: Wait, F: Feed, C: Clock, K: Sink, P: Rest>(
+    rt: &R,
+    alloc: Global,
+    studio: &StudioSpec,
+    feeds: Vec<Vec<F>>,
+    clock: C,
+    sink: K,
+    rest: P,
+) -> Result<(WorkReport, K), AllocError>
+    ensures balance { IfOk result (λ r. Balances r.0.blocks r.0.sent_a r.0.fault_a r.0.sent_b r.0.fault_b) }
+    ensures settled { IfOk result (λ r. r.0.settled ≡ true
+        → IsSettledRun studio.now (map (λ own. map F.told own.items) feeds.items) (C.told clock) r.0 (K.handed sink) (K.handed r.1)) }
+{
+    let specs = studio.streams();
+    let room = Room::new(alloc, specs)?;
+    let desk = Desk {
+        engine: Engine::new(alloc, studio)?,
+        takers: all_takers(alloc, feeds)?,
+        clock,
+        sink,
+        counts: SendCounts::new(),
+    };
+    let (mut desk, ended) = run_rounds(rt, desk, rest);
+    let settled = settle(&mut desk) && ended;
+    report(alloc, desk, specs, room, settled)
+}
+
+/// Makes rounds until all feeds have ended; answers false where the engine took no more.
+fn run_rounds<R: Wait, F: Feed, C: Clock, K: Sink, P: Rest>(
+    rt: &R,
+    desk: Desk<F, C, K>,
+    rest: P,
+) -> (Desk<F, C, K>, bool)
+    ensures on { result.1 ≡ true → (studio : Studio) (all : List (List (List Answer))) (clock : List ℤ) (before : Option (List (List ℕ)))
+        → IsUnderWay F.told C.told K.handed studio all clock before desk → IsUnderWay F.told C.told K.handed studio all clock before result.0 }
+    ensures ended { result.1 ≡ true → AllEnded result.0.takers.items }
+{
+    let mut desk = desk;
+    let mut rest = rest;
+    let mut buf = [0u8; 2048];
+    for _ in rt.forever() {
+        match desk.round(&mut buf) {
+            Ok(Some(most)) => rest.rest(&desk.engine, most),
+            Ok(None) => return (desk, true),
+            Err(_) => return (desk, false),
+        }
+    }
+    unreachable!()
+}

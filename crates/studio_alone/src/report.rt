@@ -1,0 +1,163 @@
+//! The report of a run.
+ghost use Rattle.std.specs.Prelude.{◌≡◌, ◌<◌, ℕ, List, Some, slice_get, IfOk};
+ghost use Rattle.stream_rules.specs.declared.stream_spec.Stream.{Stream};
+ghost use Rattle.stream_rules.specs.PathCounts.{tallies_of};
+ghost use Rattle.studio_spec.specs.Studio.{Studio};
+ghost use Rattle.studio_session.specs.Counts.{path_tallies};
+ghost use Rattle.studio_session.specs.Event.{TraceEvent};
+ghost use Rattle.studio_session.specs.Report.{AreCounts, AreCountsOf};
+ghost use Rattle.studio_engine.specs.Engine.{HasAllMarks};
+ghost use Rattle.studio_engine.specs.Session.{HasSession};
+ghost use Rattle.studio_workers.specs.Balances.{Balances};
+
+use crate::desk::Desk;
+use crate::taker::Taker;
+use path_merge::{Path, StreamSpec};
+use std::alloc::{AllocError, Global};
+use stream_rules::{Counts, PathCounts, StreamCounts};
+use studio_engine::Engine;
+use studio_workers::WorkReport;
+
+/// The memory that a report needs, taken before the run.
+#[derive(Drop)]
+pub(crate) struct Room {
+    streams: Vec<StreamCounts>,
+    paths: Vec<Vec<PathCounts>>,
+    faults: Vec<u64>,
+}
+
+impl Room {
+    /// Room for the counts of these streams, and for the faults of their feeds.
+    pub(crate) fn new(alloc: Global, specs: &[StreamSpec]) -> Result<Room, AllocError> {
+        let streams = Vec::with_capacity(alloc, specs.len())?;
+        let mut paths = Vec::with_capacity(alloc, specs.len())?;
+        for spec in specs {
+            paths.push(Vec::with_capacity(alloc, usize::from(spec.paths()))?)?;
+        }
+        let faults = Vec::with_capacity(alloc, specs.len().saturating_mul(4))?;
+        Ok(Room {
+            streams,
+            paths,
+            faults,
+        })
+    }
+}
+
+/// The counts of so many paths of a stream, in a room for them.
+fn path_counts(
+    engine: &Engine,
+    stream: usize,
+    count: u8,
+    room: Vec<PathCounts>,
+) -> Result<Vec<PathCounts>, AllocError>
+    requires few { count < 5 }
+    ensures { IfOk result (λ counts. (studio : Studio) (events : List TraceEvent) (datagrams : List (List ℕ)) (spec : Stream)
+        → HasSession studio engine.now events datagrams → slice_get studio.streams stream ≡ Some spec
+        → tallies_of counts.items ≡ path_tallies spec stream events count) }
+{
+    let mut counts = room;
+    counts.clear();
+    for number in 0..count {
+        let Some(path) = Path::new(number) else {
+            unreachable!()
+        };
+        if let Some(counted) = engine.path_counts(stream, path) {
+            counts.push(counted)?;
+        }
+    }
+    Ok(counts)
+}
+
+/// The counts of a stream, in a room for those of its paths.
+fn stream_counts(
+    engine: &Engine,
+    stream: usize,
+    spec: &StreamSpec,
+    room: Vec<PathCounts>,
+) -> Result<StreamCounts, AllocError>
+    ensures { IfOk result (λ counts. (studio : Studio) (events : List TraceEvent) (datagrams : List (List ℕ))
+        → HasSession studio engine.now events datagrams → HasAllMarks engine.now → slice_get studio.streams stream ≡ Some spec.now
+        → AreCountsOf spec.now stream studio.open_at events counts) }
+{
+    let paths = path_counts(engine, stream, spec.paths(), room)?;
+    let merge = match engine.counts(stream) {
+        Some(merge) => merge,
+        None => Counts::new(),
+    };
+    Ok(StreamCounts { paths, merge })
+}
+
+/// The counts of these streams, in a room for them.
+fn all_counts(
+    alloc: Global,
+    engine: &Engine,
+    specs: &[StreamSpec],
+    room: Vec<StreamCounts>,
+    paths: Vec<Vec<PathCounts>>,
+) -> Result<Vec<StreamCounts>, AllocError>
+    ensures { IfOk result (λ counts. (studio : Studio) (events : List TraceEvent) (datagrams : List (List ℕ))
+        → HasSession studio engine.now events datagrams → HasAllMarks engine.now → specs.now ≡ studio.streams
+        → AreCounts studio events counts.items) }
+{
+    let mut counts = room;
+    counts.clear();
+    let mut paths = paths.into_iter();
+    for stream in 0..specs.len() {
+        let own = paths.next().unwrap_or(Vec::new(alloc));
+        counts.push(stream_counts(engine, stream, &specs[stream], own)?)?;
+    }
+    Ok(counts)
+}
+
+/// How often each feed failed, stream by stream and path by path, in a room for it.
+fn all_faults<F: Drop>(streams: &[Vec<Taker<F>>], room: Vec<u64>) -> Result<Vec<u64>, AllocError> {
+    let mut faults = room;
+    faults.clear();
+    for own in streams {
+        for taker in own {
+            faults.push(taker.faults)?;
+        }
+    }
+    Ok(faults)
+}
+
+/// What came of a run, and its sink.
+pub(crate) fn report<F: Drop, C: Drop, K: Drop>(
+    alloc: Global,
+    desk: Desk<F, C, K>,
+    specs: &[StreamSpec],
+    room: Room,
+    settled: bool,
+) -> Result<(WorkReport, K), AllocError>
+    ensures balance { IfOk result (λ r. Balances r.0.blocks r.0.sent_a r.0.fault_a r.0.sent_b r.0.fault_b) }
+    ensures settled { IfOk result (λ r. r.0.settled ≡ settled) }
+    ensures blocks { IfOk result (λ r. r.0.blocks ≡ desk.counts.blocks) }
+    ensures sink { IfOk result (λ r. r.1 ≡ desk.sink) }
+    ensures counts { IfOk result (λ r. (studio : Studio) (events : List TraceEvent) (datagrams : List (List ℕ))
+        → HasSession studio desk.engine events datagrams → HasAllMarks desk.engine → specs.now ≡ studio.streams
+        → AreCounts studio events r.0.streams.items) }
+{
+    let Desk {
+        engine,
+        takers,
+        clock: _,
+        sink,
+        counts,
+    } = desk;
+    let Room {
+        streams,
+        paths,
+        faults,
+    } = room;
+    let report = WorkReport {
+        streams: all_counts(alloc, &engine, specs, streams, paths)?,
+        feed_faults: all_faults(takers.as_slice(), faults)?,
+        blocks: counts.blocks,
+        sent_a: counts.sent_a,
+        sent_b: counts.sent_b,
+        fault_a: counts.fault_a,
+        fault_b: counts.fault_b,
+        settled,
+    };
+    Ok((report, sink))
+}
