@@ -11,33 +11,37 @@ fn fault_of(enc: Enc, channels: u8, frames: u16, pt: u8, start: i64) -> Option<O
     OutSpec::new(enc, channels, frames, pt, 2, 0, start, 0).err()
 }
 
+/// An output's encoding, channels, frames, type and start, and its fault.
+type Output = (Enc, u8, u16, u8, i64, Option<OutFault>);
+
+const OUTPUTS: [Output; 21] = [
+    (Enc::L24, 1, 48, 97, 0, None),
+    (Enc::L24, 0, 5, 95, -1, Some(OutFault::Channels)),
+    (Enc::L24, 9, 6, 96, 0, Some(OutFault::Channels)),
+    (Enc::L24, 8, 6, 96, 0, None),
+    (Enc::L24, 1, 5, 95, -1, Some(OutFault::Frames)),
+    (Enc::L24, 1, 0, 96, 0, Some(OutFault::Frames)),
+    (Enc::L24, 1, 7, 96, 0, Some(OutFault::Frames)),
+    (Enc::L24, 1, 193, 96, 0, Some(OutFault::Frames)),
+    (Enc::L24, 1, 12, 96, 0, None),
+    (Enc::L24, 1, 16, 96, 0, None),
+    (Enc::L24, 8, 192, 95, -1, Some(OutFault::PayloadType)),
+    (Enc::L24, 1, 6, 95, 0, Some(OutFault::PayloadType)),
+    (Enc::L24, 1, 6, 128, 0, Some(OutFault::PayloadType)),
+    (Enc::L24, 1, 6, 127, 0, None),
+    (Enc::L24, 3, 192, 96, -1, Some(OutFault::TooLong)),
+    (Enc::L24, 2, 192, 96, 0, None),
+    (Enc::L16, 4, 192, 96, 0, Some(OutFault::TooLong)),
+    (Enc::L16, 3, 192, 96, 0, None),
+    (Enc::L24, 1, 6, 96, -1, Some(OutFault::Start)),
+    (Enc::L24, 1, 6, 96, LATEST, None),
+    (Enc::L24, 1, 6, 96, LATEST + 1, Some(OutFault::Start)),
+];
+
 /// Each limit of an output from both sides, and a payload that would be too long.
 #[test]
 fn out_spec_faults(rt: HostRuntime) {
-    let rows = [
-        (Enc::L24, 1, 48, 97, 0, None),
-        (Enc::L24, 0, 5, 95, -1, Some(OutFault::Channels)),
-        (Enc::L24, 9, 6, 96, 0, Some(OutFault::Channels)),
-        (Enc::L24, 8, 6, 96, 0, None),
-        (Enc::L24, 1, 5, 95, -1, Some(OutFault::Frames)),
-        (Enc::L24, 1, 0, 96, 0, Some(OutFault::Frames)),
-        (Enc::L24, 1, 7, 96, 0, Some(OutFault::Frames)),
-        (Enc::L24, 1, 193, 96, 0, Some(OutFault::Frames)),
-        (Enc::L24, 1, 12, 96, 0, None),
-        (Enc::L24, 1, 16, 96, 0, None),
-        (Enc::L24, 8, 192, 95, -1, Some(OutFault::PayloadType)),
-        (Enc::L24, 1, 6, 95, 0, Some(OutFault::PayloadType)),
-        (Enc::L24, 1, 6, 128, 0, Some(OutFault::PayloadType)),
-        (Enc::L24, 1, 6, 127, 0, None),
-        (Enc::L24, 3, 192, 96, -1, Some(OutFault::TooLong)),
-        (Enc::L24, 2, 192, 96, 0, None),
-        (Enc::L16, 4, 192, 96, 0, Some(OutFault::TooLong)),
-        (Enc::L16, 3, 192, 96, 0, None),
-        (Enc::L24, 1, 6, 96, -1, Some(OutFault::Start)),
-        (Enc::L24, 1, 6, 96, LATEST, None),
-        (Enc::L24, 1, 6, 96, LATEST + 1, Some(OutFault::Start)),
-    ];
-    for (enc, channels, frames, pt, start, want) in rows {
+    for (enc, channels, frames, pt, start, want) in OUTPUTS {
         let got = fault_of(enc, channels, frames, pt, start);
         assert_eq!(rt;
             got,
@@ -72,17 +76,19 @@ fn sequence_and_timestamp_wrap(rt: HostRuntime) -> Result<(), Fail> {
     Ok(())
 }
 
+/// A start and an offset, and the first timestamp.
+const OFFSETS: [(i64, u32, u32); 5] = [
+    (0, 4_294_967_295, 4_294_967_295),
+    (1, 4_294_967_295, 0),
+    (LATEST, 0, 0),
+    (LATEST - 1, 3, 2),
+    (4_294_967_296 * 5 + 1000, 10, 1010),
+];
+
 /// The first timestamp is the start plus the offset, modulo 2^32, up to the last start.
 #[test]
 fn the_offset_is_ahead_of_the_start(rt: HostRuntime) -> Result<(), Fail> {
-    let rows = [
-        (0, 4_294_967_295, 4_294_967_295),
-        (1, 4_294_967_295, 0),
-        (LATEST, 0, 0),
-        (LATEST - 1, 3, 2),
-        (4_294_967_296 * 5 + 1000, 10, 1010),
-    ];
-    for (start, offset, want) in rows {
+    for (start, offset, want) in OFFSETS {
         let spec = OutSpec::new(Enc::L16, 1, 6, 96, 1, 0, start, offset)?;
         let mut out = [0u8; 24];
         let _len = Packer::new(spec).next(&[0; 6], &mut out);
