@@ -10,13 +10,24 @@ HERE = os.path.dirname(os.path.abspath(__file__))
 CRATE = os.path.join(HERE, "..", "crates", "studio_bench")
 
 
-def build(folder):
-    """Builds studio_bench for the toolchain's default processor, and answers where a copy of it is."""
-    ran = subprocess.run(["rt", "run"], cwd=CRATE, capture_output=True, text=True)
+# The processors that programs are built for: a name, and the words of it for our compiler and for C's.
+BUILDS = {"default": ([], []), "x86-64-v3": (["--cpu=x86-64-v3"], ["-march=x86-64-v3"])}
+
+
+def build(folder, name="default"):
+    """Builds studio_bench for a processor, and answers where a copy of it is."""
+    ran = subprocess.run(["rt", "run", *BUILDS[name][0]], cwd=CRATE, capture_output=True, text=True)
     if ran.returncode != 0:
         sys.exit(ran.stdout + ran.stderr)
-    program = os.path.join(folder, "ours")
+    program = os.path.join(folder, "ours-" + name)
     shutil.copy(os.path.join(CRATE, "out", "studio_bench"), program)
+    return program
+
+
+def build_c(folder, source, name="default"):
+    """Builds a C program that stands here for a processor, and answers where it is."""
+    program = os.path.join(folder, f"{source}-{name}")
+    subprocess.run(["cc", "-O3", *BUILDS[name][1], os.path.join(HERE, source + ".c"), "-o", program], check=True)
     return program
 
 
