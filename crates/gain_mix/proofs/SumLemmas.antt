@@ -67,6 +67,10 @@ IsSumTo-next gs xs i sum r row few values h fits e s =
     let stored : FitsSigned w64 sum = fits_signed_from_abs w64 sum (omega arith) in
     IsSumTo-step gs xs i sum r row values h fits (e ∙ ap (λ (z : ℤ). z +ℤ product) (to_z-of_z w64 sum stored)) s
 
+-- a sum that was stored is the same
+pub IsSumTo-stored : (gs xs : List ℤ) (i : ℕ) (sum : ℤ) → FitsSigned w64 sum → IsSumTo gs xs i sum → IsSumTo gs xs i (to_z w64 (of_z w64 sum))
+IsSumTo-stored gs xs i sum fits s = rw (to_z-of_z w64 sum fits) s
+
 -- all inputs are in
 pub IsSumTo-whole : (gs xs : List ℤ) (sum : ℤ) → IsRow (length xs) gs → length xs ≤ 1024 → IsSumTo gs xs (length xs) sum → IsWeighted gs xs sum
 IsSumTo-whole gs xs sum row few s =

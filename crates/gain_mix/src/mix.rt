@@ -1,7 +1,7 @@
 //! Output samples: gains times inputs, rounded half up and saturated once.
 ghost use Rattle.std.specs.Prelude.{◌≡◌, ℤ, pos, true, ◌<◌, ◌≤◌, ◌+◌, ◌*◌, ◌^◌, ◌⊎◌, ◌+ℤ◌, ◌*ℤ◌, length, All};
 ghost use Rattle.std.specs.Int.RustNames.{unsigned_abs};
-ghost use Rattle.gain_mix.specs.Four.{AreRows, AreSumsTo, AreWeighted, AreBounded, with_four};
+ghost use Rattle.gain_mix.specs.Four.{AreRows, AreSumsTo, IsSumTo, AreWeighted, AreBounded, with_four};
 ghost use Rattle.gain_mix.specs.Gain.{IsGain, IsRow, ins_of};
 ghost use Rattle.gain_mix.specs.Mix.{Is24Bits, IsWeighted, HasMixed, rounded_sum, saturated_sum, mixed_frame, IsMixed};
 
@@ -20,6 +20,19 @@ fn add_input(sum: i64, gain: i64, value: i32) -> i64
     sum + i64::from(gain as i32) * i64::from(value)
 }
 
+/// The sum over the inputs so far, with one input more.
+#[inline(always)]
+fn add_next(sum: i64, gains: &[i64], input: usize, values: &[i32]) -> i64
+    requires row { IsRow (length values.now) gains.now }
+    requires within { input < length values.now }
+    requires few { length values.now ≤ 1024 }
+    requires in_24_bits { All Is24Bits values.now }
+    requires so_far { IsSumTo gains.now values.now input sum }
+    ensures { IsSumTo gains.now values.now (input + 1) result }
+{
+    add_input(sum, gains[input], values[input])
+}
+
 /// The sum over all inputs of gain times value.
 fn weigh(gains: &[i64], values: &[i32]) -> i64
     requires row { IsRow (length values.now) gains.now }
@@ -29,7 +42,7 @@ fn weigh(gains: &[i64], values: &[i32]) -> i64
 {
     let mut sum: i64 = 0;
     for input in 0..values.len() {
-        sum = add_input(sum, gains[input], values[input]);
+        sum = add_next(sum, gains, input, values);
     }
     sum
 }
@@ -76,12 +89,11 @@ fn add_to_four(sums: FourSums, rows: &FourRows<'_>, input: usize, values: &[i32]
     requires so_far { AreSumsTo rows.now values.now input sums }
     ensures { AreSumsTo rows.now values.now (input + 1) result }
 {
-    let value = values[input];
     FourSums {
-        first: add_input(sums.first, rows.first[input], value),
-        second: add_input(sums.second, rows.second[input], value),
-        third: add_input(sums.third, rows.third[input], value),
-        fourth: add_input(sums.fourth, rows.fourth[input], value),
+        first: add_next(sums.first, rows.first, input, values),
+        second: add_next(sums.second, rows.second, input, values),
+        third: add_next(sums.third, rows.third, input, values),
+        fourth: add_next(sums.fourth, rows.fourth, input, values),
     }
 }
 

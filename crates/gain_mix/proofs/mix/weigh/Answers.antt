@@ -1,6 +1,6 @@
-use Rattle.std.proofs.Common.{rules}
-use Rattle.gain_mix.proofs.SumLemmas.{IsSumTo-step}
+use Rattle.std.proofs.Common.{rules, ◌+◌}
+use Rattle.gain_mix.proofs.SumLemmas.{IsSumTo-stored}
 use Rattle.gain_mix.proofs.mix.weigh.Goals as goal
 
 pub loop-input-preserved : goal.loop-input-preserved
-loop-input-preserved c = IsSumTo-step c.args.gains.now c.args.values.now c.loop-input.input _ c.add_input-sum.result c.requires.row c.requires.in_24_bits c.loop-input-test.true (search rules) c.add_input-sum.ensures c.loop-input.invariant
+loop-input-preserved c = IsSumTo-stored c.args.gains.now c.args.values.now (c.loop-input.input + 1) c.add_next-sum.result (search rules) c.add_next-sum.ensures

@@ -1,0 +1,8 @@
+use Rattle.std.proofs.Common.{rules}
+use Rattle.gain_mix.proofs.SumLemmas.{IsSumTo-next}
+use Rattle.gain_mix.proofs.mix.add_next.Goals as goal
+
+pub returns : goal.returns
+returns c =
+    let r = c.requires in
+    IsSumTo-next c.args.gains.now c.args.values.now c.args.input c.args.sum c.add_input.result r.row r.few r.in_24_bits r.within (search rules) c.add_input.ensures r.so_far
