@@ -1,9 +1,10 @@
 //! A merge to which steps happen, and what comes of them, in words.
-ghost use Rattle.std.specs.Prelude.{◌≡◌, ◌^◌, pos, ◌≤ℤ◌};
+ghost use Rattle.std.specs.Prelude.{◌≡◌};
 
 use super::steps::{Sent, Step, step_of};
 use path_merge::{
-    Body, Counts, Fate, Mark, MarkKind, Merge, Path, SlotWindow, SortedWindow, StreamSpec, Window,
+    Body, ClockFault, Counts, Fate, Mark, MarkKind, Merge, Path, SlotWindow, SortedWindow,
+    StreamSpec, Window,
 };
 use std::alloc::{AllocError, Global};
 use std::process::Abort;
@@ -29,6 +30,20 @@ impl<W: Window> Bench<W> {
             fates: Vec::new(alloc),
             marks: String::new(alloc),
         }
+    }
+
+    /// The fates, in words.
+    pub fn fates_text(&self) -> Result<String, AllocError> {
+        let mut text = String::new(*self.fates.allocator());
+        say_fates(&mut text, &self.fates)?;
+        Ok(text)
+    }
+
+    /// The counts, in words.
+    pub fn counts_text(&self) -> Result<String, AllocError> {
+        let mut text = String::new(*self.fates.allocator());
+        say_counts(&mut text, &self.merge.counts())?;
+        Ok(text)
     }
 
     /// Lets steps happen, which stand in a text with commas between them.
@@ -62,13 +77,8 @@ impl<W: Window> Bench<W> {
         assert!(rt; path.number() < self.spec.paths() && self.spec.fits(&packet));
         let before = self.merge.counts().arrived;
         let fate = self.merge.offer(path, packet);
-        if fate == Fate::Closed {
-            assert_eq!(rt;
-                self.merge.counts().arrived,
-                before,
-                "counted after a close"
-            );
-        }
+        let counted = self.merge.counts().arrived != before;
+        assert!(rt; fate != Fate::Closed || !counted, "counted after a close");
         fate
     }
 
@@ -82,17 +92,14 @@ impl<W: Window> Bench<W> {
             else {
                 break;
             };
-            if let MarkKind::Slot { media, .. } = mark.kind() {
-                let late = self.merge.time().checked_sub(*media);
-                assert_eq!(rt;
-                    late,
-                    Some(i64::from(self.spec.latency())),
-                    "a slot's deadline"
-                );
-            }
+            let time = self.merge.time();
+            assert!(rt;
+                is_at_deadline(&self.spec, &mark, time),
+                "a slot's deadline"
+            );
             say_mark(rt, &self.spec, &mut self.marks, &mark)?;
         }
-        assert_eq!(rt; self.merge.time(), now, "the reading is not passed");
+        assert!(rt; self.merge.time() == now, "the reading is not passed");
         Ok(())
     }
 
@@ -123,14 +130,8 @@ impl<W: Window> Bench<W> {
     fn advance(&mut self, rt: &impl Abort, now: i64) -> Result<(), AllocError> {
         match self.merge.advance(now) {
             Ok(Some(mark)) => say_mark(rt, &self.spec, &mut self.marks, &mark)?,
-            Ok(None) => {
-                separate(&mut self.marks)?;
-                self.marks.push_str("nothing")?;
-            }
-            Err(fault) => {
-                separate(&mut self.marks)?;
-                write!(self.marks, "{fault:?}")?;
-            }
+            Ok(None) => say(&mut self.marks, "nothing")?,
+            Err(fault) => say_fault(&mut self.marks, fault)?,
         }
         let time = self.merge.time();
         write!(self.marks, " at {time}")
@@ -158,29 +159,37 @@ impl<W: Window> Bench<W> {
 
 /// A bench of a merge over a window of slots.
 pub fn slots_bench(
+    rt: &impl Abort,
     alloc: Global,
     spec: StreamSpec,
     open_at: i64,
-) -> Result<Bench<SlotWindow>, AllocError>
-    requires not_low { pos 0 ≤ℤ open_at }
-    requires not_high { open_at ≤ℤ pos (2 ^ 60) }
-{
+) -> Result<Bench<SlotWindow>, AllocError> {
+    assert!(rt; 0 <= open_at && open_at <= 1_000_000);
     let merge = Merge::new(alloc, spec, open_at)?;
     Ok(Bench::new(alloc, spec, merge))
 }
 
 /// A bench of a merge over a sorted window.
 pub fn sorted_bench(
+    rt: &impl Abort,
     alloc: Global,
     spec: StreamSpec,
     open_at: i64,
-) -> Result<Bench<SortedWindow>, AllocError>
-    requires not_low { pos 0 ≤ℤ open_at }
-    requires not_high { open_at ≤ℤ pos (2 ^ 60) }
-{
+) -> Result<Bench<SortedWindow>, AllocError> {
+    assert!(rt; 0 <= open_at && open_at <= 1_000_000);
     let window = SortedWindow::new(alloc, &spec)?;
     let merge = Merge::with_window(window, spec, open_at);
     Ok(Bench::new(alloc, spec, merge))
+}
+
+/// Whether a mark may come at this time: a slot at its deadline, others at any.
+fn is_at_deadline(spec: &StreamSpec, mark: &Mark, time: i64) -> bool {
+    match mark.kind() {
+        MarkKind::Slot { media, .. } => {
+            time.checked_sub(*media) == Some(i64::from(spec.latency()))
+        }
+        MarkKind::Quiet { .. } | MarkKind::End => true,
+    }
 }
 
 /// A comma behind what was said before.
@@ -189,6 +198,16 @@ fn separate(text: &mut String) -> Result<(), AllocError> {
         text.push_str(", ")?;
     }
     Ok(())
+}
+
+fn say(text: &mut String, word: &str) -> Result<(), AllocError> {
+    separate(text)?;
+    text.push_str(word)
+}
+
+fn say_fault(text: &mut String, fault: ClockFault) -> Result<(), AllocError> {
+    separate(text)?;
+    write!(text, "{fault:?}")
 }
 
 /// Says a mark: `got N M`, `lost N M`, of a later epoch with `K:` before N; `quiet T`; `end`.
@@ -246,44 +265,49 @@ fn word_of(rt: &impl Abort, number: u64, body: &Body) -> &'static str {
 }
 
 /// Says fates, each with how often it came in a row.
-pub fn fates_text(alloc: Global, fates: &[Fate]) -> Result<String, AllocError> {
-    let mut text = String::new(alloc);
+fn say_fates(text: &mut String, fates: &[Fate]) -> Result<(), AllocError> {
     let mut times: usize = 0;
     for (place, fate) in fates.iter().enumerate() {
         times = times.saturating_add(1);
         if fates.get(place + 1) != Some(fate) {
-            separate(&mut text)?;
+            separate(text)?;
             write!(text, "{times} {fate:?}")?;
             times = 0;
         }
     }
-    Ok(text)
+    Ok(())
 }
 
+/// What `say_counts` calls the counts, in their order.
+const NAMES: [&str; 14] = [
+    "arrived", "from_a", "from_b", "from_c", "from_d", "double", "unlike", "off_grid", "late",
+    "ahead", "source", "got", "lost", "restarts",
+];
+
 /// Says the counts that are not 0; `taken` is by path.
-pub fn counts_text(alloc: Global, counts: &Counts) -> Result<String, AllocError> {
-    let mut text = String::new(alloc);
+fn say_counts(text: &mut String, counts: &Counts) -> Result<(), AllocError> {
     let [a, b, c, d] = counts.taken_by;
-    for (name, count) in [
-        ("arrived", counts.arrived),
-        ("from_a", a),
-        ("from_b", b),
-        ("from_c", c),
-        ("from_d", d),
-        ("double", counts.double),
-        ("unlike", counts.unlike),
-        ("off_grid", counts.off_grid),
-        ("late", counts.late),
-        ("ahead", counts.ahead),
-        ("source", counts.wrong_source),
-        ("got", counts.got),
-        ("lost", counts.lost),
-        ("restarts", counts.restarts),
-    ] {
-        if count != 0 {
-            separate(&mut text)?;
+    let values = [
+        counts.arrived,
+        a,
+        b,
+        c,
+        d,
+        counts.double,
+        counts.unlike,
+        counts.off_grid,
+        counts.late,
+        counts.ahead,
+        counts.wrong_source,
+        counts.got,
+        counts.lost,
+        counts.restarts,
+    ];
+    for (name, count) in NAMES.iter().zip(values.iter()) {
+        if *count != 0 {
+            separate(text)?;
             write!(text, "{count} {name}")?;
         }
     }
-    Ok(text)
+    Ok(())
 }

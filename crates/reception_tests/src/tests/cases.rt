@@ -1,21 +1,39 @@
 //! Cases of one stream, tried by single calls of a merge over each window, and by `run_merge`.
-ghost use Rattle.std.specs.Prelude.{◌^◌, pos, ◌≤ℤ◌, All, IfOk};
+ghost use Rattle.std.specs.Prelude.{All, IfOk, IsTrue};
 ghost use Rattle.path_merge.specs.Run.{IsEventOf};
 
-use super::bench::{Bench, counts_text, fates_text, say_mark, slots_bench, sorted_bench};
-use super::steps::{Step, number, step_of};
-use path_merge::{Event, StreamClock, StreamSpec, Window, run_merge};
+use super::bench::{Bench, say_mark, slots_bench, sorted_bench};
+use super::steps::{Step, step_of};
+use path_merge::{Event, Stream, StreamClock, StreamSpec, Window, run_merge};
 use rtp_wire::Enc;
 use std::alloc::{AllocError, Global};
 use std::process::Abort;
+
+/// L24, one channel, 6 sampling instants a packet, on two paths.
+pub const STREAM: Stream = Stream {
+    enc: Enc::L24,
+    channels: 1,
+    frames: 6,
+    pt: 96,
+    ssrc: None,
+    clock: StreamClock::Media { offset: 0 },
+    latency: 12,
+    window: 8,
+    paths: 2,
+};
+
+/// A stream in which there is no fault.
+pub fn spec_of(rt: &impl Abort, stream: Stream) -> StreamSpec {
+    StreamSpec::of(stream).expect(rt, "a stream")
+}
 
 /// What happens to a stream, and what has to come of it, in the words of `steps` and `bench`.
 #[derive(Clone, Copy)]
 pub struct Case {
     /// What it shows.
     pub shows: &'static str,
-    /// What the stream is, beside `stream`: `source S`, `paths N`, `channels N`, `arrival`, `open_at T`.
-    pub stream: &'static str,
+    pub stream: Stream,
+    pub open_at: i64,
     pub steps: &'static str,
     pub fates: &'static str,
     pub marks: &'static str,
@@ -26,55 +44,70 @@ impl Case {
     /// Tries the case by single calls over each window, and by `run_merge`.
     pub fn check(&self, rt: &impl Abort, alloc: Global) -> Result<(), AllocError> {
         self.check_calls(rt, alloc)?;
-        let (spec, open_at) = stream_of(rt, self.stream);
-        self.check_run(rt, alloc, spec, open_at)
+        self.check_run(rt, alloc)
     }
 
     /// Tries the case by single calls over each window.
     pub fn check_calls(&self, rt: &impl Abort, alloc: Global) -> Result<(), AllocError> {
-        let (spec, open_at) = stream_of(rt, self.stream);
-        self.check_on(rt, alloc, slots_bench(alloc, spec, open_at)?)?;
-        self.check_on(rt, alloc, sorted_bench(alloc, spec, open_at)?)
+        let spec = spec_of(rt, self.stream);
+        self.check_on(rt, &mut slots_bench(rt, alloc, spec, self.open_at)?)?;
+        self.check_on(rt, &mut sorted_bench(rt, alloc, spec, self.open_at)?)
     }
 
-    fn check_on<W: Window>(
-        &self,
-        rt: &impl Abort,
-        alloc: Global,
-        mut bench: Bench<W>,
-    ) -> Result<(), AllocError> {
+    fn check_on<W: Window>(&self, rt: &impl Abort, bench: &mut Bench<W>) -> Result<(), AllocError> {
         bench.take_all(rt, self.steps)?;
-        let shows = self.shows;
-        let fates = fates_text(alloc, &bench.fates)?;
-        assert_eq!(rt; fates.as_str(), self.fates, "fates: {shows}");
-        assert_eq!(rt; bench.marks.as_str(), self.marks, "marks: {shows}");
-        let counts = counts_text(alloc, &bench.merge.counts())?;
-        assert_eq!(rt; counts.as_str(), self.counts, "counts: {shows}");
+        let fates = bench.fates_text()?;
+        self.compare(rt, "fates", &fates, self.fates);
+        self.compare(rt, "marks", &bench.marks, self.marks);
+        let counts = bench.counts_text()?;
+        self.compare(rt, "counts", &counts, self.counts);
         Ok(())
     }
 
-    fn check_run(
-        &self,
-        rt: &impl Abort,
-        alloc: Global,
-        spec: StreamSpec,
-        open_at: i64,
-    ) -> Result<(), AllocError>
-        requires not_low { pos 0 ≤ℤ open_at }
-        requires not_high { open_at ≤ℤ pos (2 ^ 60) }
-    {
+    /// What came of the case, in words, is what had to.
+    fn compare(&self, rt: &impl Abort, part: &str, came: &str, wanted: &str) {
+        assert!(rt; came == wanted, "{part}: {}: {came}", self.shows);
+    }
+
+    fn check_run(&self, rt: &impl Abort, alloc: Global) -> Result<(), AllocError> {
+        let spec = spec_of(rt, self.stream);
         let events = events_of(rt, alloc, &spec, self.steps)?;
-        let marks = run_merge(alloc, spec, open_at, &events).expect(
-            rt,
-            "the readings are in order, and there is memory",
-        );
-        let mut text = String::new(alloc);
-        for mark in &marks {
-            say_mark(rt, &spec, &mut text, mark)?;
-        }
-        assert_eq!(rt; text.as_str(), self.marks, "run_merge: {}", self.shows);
+        let text = marks_text(rt, alloc, spec, self.open_at, &events)?;
+        self.compare(rt, "run_merge", &text, self.marks);
         Ok(())
     }
+}
+
+/// The marks of a run, in words.
+fn marks_text(
+    rt: &impl Abort,
+    alloc: Global,
+    spec: StreamSpec,
+    open_at: i64,
+    events: &[Event],
+) -> Result<String, AllocError>
+    requires { All (IsEventOf spec) events.now }
+{
+    assert!(rt; 0 <= open_at && open_at <= 1_000_000);
+    let marks = run_merge(alloc, spec, open_at, events).expect(
+        rt,
+        "the readings are in order, and there is memory",
+    );
+    let mut text = String::new(alloc);
+    for mark in &marks {
+        say_mark(rt, &spec, &mut text, mark)?;
+    }
+    Ok(text)
+}
+
+/// Whether all are events that the stream can have.
+fn are_events_of(spec: &StreamSpec, events: &[Event]) -> bool
+    ensures { IsTrue result → All (IsEventOf spec.now) events.now }
+{
+    events.iter().all(|event| match event {
+        Event::Arrive(path, packet) => path.number() < spec.paths() && spec.fits(packet),
+        Event::Tick(_) | Event::Close => true,
+    })
 }
 
 /// The events that steps say.
@@ -88,51 +121,30 @@ pub fn events_of(
 {
     let mut events = Vec::new(alloc);
     for words in steps.split(',') {
-        match step_of(rt, words) {
-            Step::On(path, first, times) => {
-                let mut sent = first;
-                for _ in 0..times {
-                    let packet = sent.packet(spec);
-                    assert!(rt; path.number() < spec.paths() && spec.fits(&packet));
-                    events.push(Event::Arrive(path, packet))?;
-                    sent = sent.next();
-                }
-            }
-            Step::Tick(now) => events.push(Event::Tick(now))?,
-            Step::Advance(_) => { panic!(rt; "no event: {words}") }
-            Step::Close => events.push(Event::Close)?,
-        }
+        push_events(rt, spec, &mut events, step_of(rt, words))?;
     }
+    assert!(rt; are_events_of(spec, &events), "a stream's events");
     Ok(events)
 }
 
-/// The stream that words say, and its opening time.
-pub fn stream_of(rt: &impl Abort, text: &str) -> (StreamSpec, i64)
-    ensures not_low { pos 0 ≤ℤ result.1 }
-    ensures not_high { result.1 ≤ℤ pos (2 ^ 60) }
-{
-    let mut channels = 1;
-    let mut source = None;
-    let mut clock = StreamClock::Media { offset: 0 };
-    let mut paths = 2;
-    let mut open_at = 0;
-    let words = &mut text.split_whitespace();
-    for _ in 0..8u8 {
-        match words.next() {
-            None => break,
-            Some("channels") => channels = number(rt, words),
-            Some("source") => source = Some(number(rt, words)),
-            Some("arrival") => clock = StreamClock::Arrival,
-            Some("offset") => {
-                let offset = number(rt, words);
-                clock = StreamClock::Media { offset };
+/// The events of a step, behind others.
+fn push_events(
+    rt: &impl Abort,
+    spec: &StreamSpec,
+    events: &mut Vec<Event>,
+    step: Step,
+) -> Result<(), AllocError> {
+    match step {
+        Step::On(path, first, times) => {
+            let mut sent = first;
+            for _ in 0..times {
+                events.push(Event::Arrive(path, sent.packet(spec)))?;
+                sent = sent.next();
             }
-            Some("paths") => paths = number(rt, words),
-            Some("open_at") => open_at = number(rt, words),
-            Some(word) => { panic!(rt; "no stream: {word}") }
+            Ok(())
         }
+        Step::Tick(now) => Ok(events.push(Event::Tick(now))?),
+        Step::Advance(_) => { panic!(rt; "a single call is no event") }
+        Step::Close => Ok(events.push(Event::Close)?),
     }
-    assert!(rt; 0 <= open_at && open_at <= 1_000_000);
-    let spec = StreamSpec::new(Enc::L24, channels, 6, 96, source, clock, 12, 8, paths);
-    (spec.expect(rt, "a stream"), open_at)
 }

@@ -86,6 +86,25 @@ impl Player {
         self.lane.keep_ref(&lent);
     }
 
+    /// Keeps a slot of these samples.
+    fn keep_slot(&mut self, rt: &impl Abort, epoch: u64, number: u64, media: i64, samples: &[i32]) {
+        let mark = slot(rt, self.lane.format(), epoch, number, media, Some(samples));
+        self.keep(rt, mark);
+    }
+
+    /// Whether there is room for a slot at a time.
+    fn has_room(&self, rt: &impl Abort, epoch: u64, number: u64, media: i64) -> bool {
+        let mark = slot(rt, self.lane.format(), epoch, number, media, None);
+        self.lane.has_room(&mark.lent())
+    }
+
+    /// The next block has these samples.
+    fn plays(&mut self, rt: &impl Abort, alloc: Global, samples: &[i32]) -> Result<(), AllocError> {
+        let block = self.next_block(rt, alloc)?;
+        assert!(rt; block.as_slice() == samples);
+        Ok(())
+    }
+
     /// The next block, which has to be covered.
     fn next_block(&mut self, rt: &impl Abort, alloc: Global) -> Result<Vec<i32>, AllocError> {
         let position = self.lane.position();
@@ -139,6 +158,22 @@ fn quiet(rt: &impl Abort, format: Format, until: i64) -> Mark {
     Mark::quiet(format, until)
 }
 
+/// The samples of three packets.
+const SAMPLES: [i32; 18] = [
+    1, 2, 3, 4, 5, 6, 7, 8, 9, 10, 11, 12, 13, 14, 15, 16, 17, 18,
+];
+
+/// The first packet's samples amid silence.
+const AMID_SILENCE: [i32; 12] = [0, 0, 0, 1, 2, 3, 4, 5, 6, 0, 0, 0];
+
+/// Keeps two slots, which fill a room of 30 frames but for six.
+fn fill(rt: &impl Abort, player: &mut Player) {
+    player.keep_slot(rt, 0, 70_000, 15, &SAMPLES[..6]);
+    assert!(rt; !player.has_room(rt, 1, 9, 25), "to 31 of 30");
+    player.keep_slot(rt, 1, 9, 24, &SAMPLES[6..12]);
+    assert!(rt; !player.has_room(rt, 1, 10, 30), "to 36 of 30");
+}
+
 /// Marks of two epochs, kept before they are wanted in a room of 30 frames, which begins at the next block.
 #[test]
 fn a_room_is_filled_to_its_last_frame(rt: HostRuntime) -> Result<(), Fail> {
@@ -147,35 +182,15 @@ fn a_room_is_filled_to_its_last_frame(rt: HostRuntime) -> Result<(), Fail> {
     let mut player = Player::with_room(&rt, rt.alloc(), spec, 12, 30)?;
     player.take(&rt, quiet(&rt, format, 14));
     assert!(rt; !player.wants(), "the block is silent");
-    player.keep(
-        &rt,
-        slot(&rt, format, 0, 70_000, 15, Some(&[1, 2, 3, 4, 5, 6])),
-    );
-    let beyond = slot(&rt, format, 1, 9, 25, None);
-    assert!(rt; !player.lane.has_room(&beyond.lent()), "to 31 of 30");
-    player.keep(
-        &rt,
-        slot(&rt, format, 1, 9, 24, Some(&[7, 8, 9, 10, 11, 12])),
-    );
-    let next = slot(&rt, format, 1, 10, 30, Some(&[13, 14, 15, 16, 17, 18]));
-    assert!(rt; !player.lane.has_room(&next.lent()), "to 36 of 30");
-    let silent = player.next_block(&rt, rt.alloc())?;
-    assert_eq!(rt; silent.as_slice(), [0; 12].as_slice());
-    player.keep(&rt, next);
+    fill(&rt, &mut player);
+    player.plays(&rt, rt.alloc(), &[0; 12])?;
+    player.keep_slot(&rt, 1, 10, 30, &SAMPLES[12..]);
     player.keep(&rt, slot(&rt, format, 1, 11, 36, None));
     player.keep(&rt, Mark::end(format));
-    assert_eq!(rt; player.lane.cover(), Cover::All);
-    let first = player.next_block(&rt, rt.alloc())?;
-    assert_eq!(rt;
-        first.as_slice(),
-        [0, 0, 0, 1, 2, 3, 4, 5, 6, 0, 0, 0].as_slice()
-    );
-    let second = player.next_block(&rt, rt.alloc())?;
-    assert_eq!(rt;
-        second.as_slice(),
-        [7, 8, 9, 10, 11, 12, 13, 14, 15, 16, 17, 18].as_slice()
-    );
-    assert_eq!(rt; player.lane.end(), 42);
+    assert!(rt; player.lane.cover() == Cover::All);
+    player.plays(&rt, rt.alloc(), &AMID_SILENCE)?;
+    player.plays(&rt, rt.alloc(), &SAMPLES[6..])?;
+    assert!(rt; player.lane.end() == 42);
     Ok(())
 }
 

@@ -2,13 +2,15 @@
 //!
 //! Those of restarts begin with the packet (1, 0), handed on at 12. The sender's packets after its restart
 //! are (500, -22), whose timestamp is written 4294967274, and so on, the eighth at 20.
-use super::cases::Case;
+use super::cases::{Case, STREAM};
+use path_merge::{Stream, StreamClock};
 use std::test::Fail;
 
 const NUMBERS: [Case; 4] = [
     Case {
         shows: "sequence numbers wrap from 65535 to 0",
-        stream: "",
+        stream: STREAM,
+        open_at: 0,
         steps: "a 65535 0, b 0 6, tick 12, tick 18",
         fates: "2 Taken",
         marks: "got 131071 0, got 131072 6",
@@ -17,7 +19,8 @@ const NUMBERS: [Case; 4] = [
     Case {
         shows: "packets 2^25 numbers earlier, and 2^25 - 1 later, are off the grid, since 2^32 is no \
             multiple of 65,536 packets of 6",
-        stream: "",
+        stream: STREAM,
+        open_at: 0,
         steps: "a 1 0, a 1 4093640704, a 0 201326586",
         fates: "1 Taken, 2 OffGrid",
         marks: "",
@@ -26,7 +29,8 @@ const NUMBERS: [Case; 4] = [
     Case {
         shows: "timestamps off the grid, the first of them one cycle of sequence numbers earlier, \
             are refused",
-        stream: "",
+        stream: STREAM,
+        open_at: 0,
         steps: "a 1 0, a 1 4294574080, a 2 7, a 2 5, a 2 6",
         fates: "1 Taken, 3 OffGrid, 1 Taken",
         marks: "",
@@ -34,7 +38,11 @@ const NUMBERS: [Case; 4] = [
     },
     Case {
         shows: "a stream of level C has 64 channels, and payloads of 1,152 octets",
-        stream: "channels 64",
+        stream: Stream {
+            channels: 64,
+            ..STREAM
+        },
+        open_at: 0,
         steps: "a 1 0, tick 12",
         fates: "1 Taken",
         marks: "got 65537 0",
@@ -54,7 +62,8 @@ fn numbers_wrap_and_other_cycles_are_off_the_grid(rt: HostRuntime) -> Result<(),
 const ORDER: [Case; 7] = [
     Case {
         shows: "a missing packet is lost, and then late",
-        stream: "",
+        stream: STREAM,
+        open_at: 0,
         steps: "a 65535 0, b 0 6, tick 12, tick 18, tick 24, a 1 12",
         fates: "2 Taken, 1 Late",
         marks: "got 131071 0, got 131072 6, lost 131073 12",
@@ -62,7 +71,8 @@ const ORDER: [Case; 7] = [
     },
     Case {
         shows: "nothing before the anchor is taken",
-        stream: "",
+        stream: STREAM,
+        open_at: 0,
         steps: "a 5 0, a 4 4294967290, tick 12",
         fates: "1 Taken, 1 Late",
         marks: "got 65541 0",
@@ -70,7 +80,8 @@ const ORDER: [Case; 7] = [
     },
     Case {
         shows: "each due slot is given once",
-        stream: "",
+        stream: STREAM,
+        open_at: 0,
         steps: "a 1 0, tick 30, tick 30",
         fates: "1 Taken",
         marks: "got 65537 0, lost 65538 6, lost 65539 12, lost 65540 18",
@@ -78,7 +89,8 @@ const ORDER: [Case; 7] = [
     },
     Case {
         shows: "packets out of order are put in order",
-        stream: "",
+        stream: STREAM,
+        open_at: 0,
         steps: "a 1 0, a 4 18, b 2 6, a 3 12, tick 30",
         fates: "4 Taken",
         marks: "got 65537 0, got 65538 6, got 65539 12, got 65540 18",
@@ -86,7 +98,8 @@ const ORDER: [Case; 7] = [
     },
     Case {
         shows: "a packet just before its deadline is taken",
-        stream: "",
+        stream: STREAM,
+        open_at: 0,
         steps: "a 65535 0, b 0 6, tick 12, tick 18, a 1 12, tick 24",
         fates: "3 Taken",
         marks: "got 131071 0, got 131072 6, got 131073 12",
@@ -94,7 +107,8 @@ const ORDER: [Case; 7] = [
     },
     Case {
         shows: "the window ends at its width",
-        stream: "",
+        stream: STREAM,
+        open_at: 0,
         steps: "a 1 0, a 9 48, a 8 42",
         fates: "1 Taken, 1 Ahead, 1 Taken",
         marks: "",
@@ -102,7 +116,8 @@ const ORDER: [Case; 7] = [
     },
     Case {
         shows: "a first packet that is refused leaves the stream open to the next one",
-        stream: "open_at 100",
+        stream: STREAM,
+        open_at: 100,
         steps: "a 9 88, a 9 136, a 3 90, tick 102",
         fates: "1 Late, 1 Ahead, 1 Taken",
         marks: "got 65539 90",
@@ -122,7 +137,8 @@ fn slots_come_in_order_at_their_deadlines(rt: HostRuntime) -> Result<(), Fail> {
 const COPIES: [Case; 4] = [
     Case {
         shows: "the first of several copies counts",
-        stream: "",
+        stream: STREAM,
+        open_at: 0,
         steps: "a 1 0, b 1 0, b 1 0 odd, tick 12, b 1 0",
         fates: "1 Taken, 1 Double, 1 Unlike, 1 Late",
         marks: "got 65537 0",
@@ -130,7 +146,8 @@ const COPIES: [Case; 4] = [
     },
     Case {
         shows: "a third path counts as its own",
-        stream: "paths 3",
+        stream: Stream { paths: 3, ..STREAM },
+        open_at: 0,
         steps: "c 1 0, a 1 0, b 1 0, tick 12",
         fates: "1 Taken, 2 Double",
         marks: "got 65537 0",
@@ -138,7 +155,11 @@ const COPIES: [Case; 4] = [
     },
     Case {
         shows: "a source that is not asked for is refused",
-        stream: "source 2",
+        stream: Stream {
+            ssrc: Some(2),
+            ..STREAM
+        },
+        open_at: 0,
         steps: "a 1 0, a 1 0 of 2",
         fates: "1 WrongSource, 1 Taken",
         marks: "",
@@ -146,7 +167,8 @@ const COPIES: [Case; 4] = [
     },
     Case {
         shows: "another source than the first packet's is refused",
-        stream: "",
+        stream: STREAM,
+        open_at: 0,
         steps: "a 1 0, a 2 6 of 2",
         fates: "1 Taken, 1 WrongSource",
         marks: "",
@@ -166,7 +188,11 @@ fn the_first_copy_counts(rt: HostRuntime) -> Result<(), Fail> {
 const CLOCKS: [Case; 2] = [
     Case {
         shows: "by the arrival clock the first packet stands at the time as it came",
-        stream: "arrival",
+        stream: Stream {
+            clock: StreamClock::Arrival,
+            ..STREAM
+        },
+        open_at: 0,
         steps: "tick 1000, a 7 123456, a 8 123462, tick 1012, tick 1018",
         fates: "2 Taken",
         marks: "quiet 988, got 65543 1000, got 65544 1006",
@@ -175,7 +201,8 @@ const CLOCKS: [Case; 2] = [
     Case {
         shows: "from the opening to the first slot each reading tells how far the stream is silent, \
             where that is new",
-        stream: "open_at 100",
+        stream: STREAM,
+        open_at: 100,
         steps: "tick 100, tick 101, tick 101, a 1 96, tick 107, tick 108, tick 109, tick 114",
         fates: "1 Taken",
         marks: "quiet 89, quiet 95, got 65537 96, lost 65538 102",
@@ -195,7 +222,8 @@ fn silence_is_told_and_the_arrival_clock_followed(rt: HostRuntime) -> Result<(),
 const CLOSES: [Case; 3] = [
     Case {
         shows: "a close gives what is held, and the end",
-        stream: "",
+        stream: STREAM,
+        open_at: 0,
         steps: "a 1 0, a 3 12, close, a 2 6",
         fates: "2 Taken, 1 Closed",
         marks: "got 65537 0, lost 65538 6, got 65539 12, end",
@@ -203,7 +231,8 @@ const CLOSES: [Case; 3] = [
     },
     Case {
         shows: "an empty merge gives the end",
-        stream: "",
+        stream: STREAM,
+        open_at: 0,
         steps: "close, a 1 0",
         fates: "1 Closed",
         marks: "end",
@@ -211,7 +240,8 @@ const CLOSES: [Case; 3] = [
     },
     Case {
         shows: "with nothing held a close gives the end, once",
-        stream: "",
+        stream: STREAM,
+        open_at: 0,
         steps: "a 1 0, tick 18, close, close",
         fates: "1 Taken",
         marks: "got 65537 0, lost 65538 6, end",
@@ -231,7 +261,8 @@ fn a_close_gives_what_is_held_and_the_end(rt: HostRuntime) -> Result<(), Fail> {
 const RESTARTS: [Case; 7] = [
     Case {
         shows: "eight packets in sequence restart",
-        stream: "",
+        stream: STREAM,
+        open_at: 0,
         steps: "tick 0, a 1 0, tick 12, a 500 4294967274 x 9, tick 32, tick 38",
         fates: "1 Taken, 7 OffGrid, 1 Restarted, 1 Taken",
         marks: "got 65537 0, got 1:66043 20, got 1:66044 26",
@@ -239,7 +270,8 @@ const RESTARTS: [Case; 7] = [
     },
     Case {
         shows: "a restart waits for a packet that is held",
-        stream: "",
+        stream: STREAM,
+        open_at: 0,
         steps: "tick 0, a 1 0, tick 12, a 2 6, a 500 4294967274 x 8, tick 18, a 508 26, tick 38",
         fates: "2 Taken, 8 OffGrid, 1 Restarted",
         marks: "got 65537 0, got 65538 6, got 1:66044 26",
@@ -247,7 +279,11 @@ const RESTARTS: [Case; 7] = [
     },
     Case {
         shows: "by the arrival clock an epoch begins at the time, which is 12",
-        stream: "arrival",
+        stream: Stream {
+            clock: StreamClock::Arrival,
+            ..STREAM
+        },
+        open_at: 0,
         steps: "tick 0, a 1 0, tick 12, a 500 4294967274 x 8, tick 24",
         fates: "1 Taken, 7 OffGrid, 1 Restarted",
         marks: "got 65537 0, got 1:66043 12",
@@ -255,7 +291,8 @@ const RESTARTS: [Case; 7] = [
     },
     Case {
         shows: "an epoch at 20 is opened while the slot at 18 is next",
-        stream: "",
+        stream: STREAM,
+        open_at: 0,
         steps: "tick 0, a 1 0, tick 12, a 500 4294967274 x 7, tick 29, a 507 20, tick 32",
         fates: "1 Taken, 7 OffGrid, 1 Restarted",
         marks: "got 65537 0, lost 65538 6, lost 65539 12, got 1:66043 20",
@@ -263,7 +300,8 @@ const RESTARTS: [Case; 7] = [
     },
     Case {
         shows: "and not once the slot at 24 is, so media time doesn't go back",
-        stream: "",
+        stream: STREAM,
+        open_at: 0,
         steps: "tick 0, a 1 0, tick 12, a 500 4294967274 x 7, tick 30, a 507 20, tick 32",
         fates: "1 Taken, 8 OffGrid",
         marks: "got 65537 0, lost 65538 6, lost 65539 12, lost 65540 18",
@@ -271,7 +309,8 @@ const RESTARTS: [Case; 7] = [
     },
     Case {
         shows: "a second restart waits for the first",
-        stream: "",
+        stream: STREAM,
+        open_at: 0,
         steps: "tick 0, a 1 0, tick 12, a 500 4294967274 x 8, a 900 2 x 8, tick 32, a 908 50, tick 62",
         fates: "1 Taken, 7 OffGrid, 1 Restarted, 8 OffGrid, 1 Restarted",
         marks: "got 65537 0, got 1:66043 20, got 2:66444 50",
@@ -279,7 +318,8 @@ const RESTARTS: [Case; 7] = [
     },
     Case {
         shows: "four restarts in a row",
-        stream: "",
+        stream: STREAM,
+        open_at: 0,
         steps: "tick 0, a 1 0, tick 12, a 500 4294967274 x 8, tick 32, a 1500 4294967294 x 8, tick \
             52, a 2500 18 x 8, tick 72, a 3500 38 x 8, tick 92",
         fates: "1 Taken, 7 OffGrid, 1 Restarted, 7 OffGrid, 1 Restarted, 7 OffGrid, 1 Restarted, 7 \
@@ -301,7 +341,8 @@ fn eight_packets_in_sequence_restart(rt: HostRuntime) -> Result<(), Fail> {
 const PROBATIONS: [Case; 8] = [
     Case {
         shows: "a probation is of one path",
-        stream: "",
+        stream: STREAM,
+        open_at: 0,
         steps: "tick 0, a 1 0, tick 12, a 500 4294967274 x 4, b 504 2 x 4",
         fates: "1 Taken, 8 OffGrid",
         marks: "got 65537 0",
@@ -309,7 +350,8 @@ const PROBATIONS: [Case; 8] = [
     },
     Case {
         shows: "each path has its own, and after the restart its copies are late or doubles",
-        stream: "",
+        stream: STREAM,
+        open_at: 0,
         steps: "tick 0, a 1 0, tick 12, a 500 4294967274 x 4, b 500 4294967274 x 4, a 504 2 x 4, b \
             504 2 x 4, tick 32",
         fates: "1 Taken, 11 OffGrid, 1 Restarted, 3 Late, 1 Double",
@@ -318,7 +360,8 @@ const PROBATIONS: [Case; 8] = [
     },
     Case {
         shows: "another source restarts the stream",
-        stream: "",
+        stream: STREAM,
+        open_at: 0,
         steps: "tick 0, a 1 0, tick 12, a 500 4294967274 of 2 x 8, tick 32",
         fates: "1 Taken, 7 WrongSource, 1 Restarted",
         marks: "got 65537 0, got 1:66043 20",
@@ -326,7 +369,11 @@ const PROBATIONS: [Case; 8] = [
     },
     Case {
         shows: "a source that is not asked for restarts nothing",
-        stream: "source 1",
+        stream: Stream {
+            ssrc: Some(1),
+            ..STREAM
+        },
+        open_at: 0,
         steps: "tick 0, a 1 0, tick 12, a 500 4294967274 of 2 x 8, tick 32",
         fates: "1 Taken, 8 WrongSource",
         marks: "got 65537 0, lost 65538 6, lost 65539 12, lost 65540 18",
@@ -334,7 +381,11 @@ const PROBATIONS: [Case; 8] = [
     },
     Case {
         shows: "nor does it break a probation",
-        stream: "source 1",
+        stream: Stream {
+            ssrc: Some(1),
+            ..STREAM
+        },
+        open_at: 0,
         steps: "tick 0, a 1 0, tick 12, a 500 4294967274 x 7, a 3 12 of 2, a 507 20, tick 32",
         fates: "1 Taken, 7 OffGrid, 1 WrongSource, 1 Restarted",
         marks: "got 65537 0, got 1:66043 20",
@@ -342,7 +393,8 @@ const PROBATIONS: [Case; 8] = [
     },
     Case {
         shows: "a packet in step breaks a probation",
-        stream: "",
+        stream: STREAM,
+        open_at: 0,
         steps: "tick 0, a 1 0, tick 12, a 500 4294967274 x 7, a 1 0, a 507 20",
         fates: "1 Taken, 7 OffGrid, 1 Late, 1 OffGrid",
         marks: "got 65537 0",
@@ -350,7 +402,8 @@ const PROBATIONS: [Case; 8] = [
     },
     Case {
         shows: "so does a packet out of sequence",
-        stream: "",
+        stream: STREAM,
+        open_at: 0,
         steps: "tick 0, a 1 0, tick 12, a 500 4294967274 x 7, a 508 26, a 509 32",
         fates: "1 Taken, 9 OffGrid",
         marks: "got 65537 0",
@@ -358,7 +411,8 @@ const PROBATIONS: [Case; 8] = [
     },
     Case {
         shows: "probations begin anew with an epoch: the second path's eighth comes after it",
-        stream: "",
+        stream: STREAM,
+        open_at: 0,
         steps: "tick 0, a 1 0, tick 12, b 100 1 x 7, a 500 4294967274 x 8, tick 32, b 107 43",
         fates: "1 Taken, 14 OffGrid, 1 Restarted, 1 OffGrid",
         marks: "got 65537 0, got 1:66043 20",
@@ -378,7 +432,8 @@ fn a_probation_is_of_one_path_and_source(rt: HostRuntime) -> Result<(), Fail> {
 const SINGLE_CALLS: [Case; 2] = [
     Case {
         shows: "readings are checked in order, and a refused one moves nothing",
-        stream: "",
+        stream: STREAM,
+        open_at: 0,
         steps: "advance 5, advance 5, advance 4, advance 1152921504606846977, advance 6, \
             advance 1152921504606846976, advance 1152921504606846976, close, \
             advance 1152921504606846976, advance 1152921504606846975, advance 1152921504606846977",
@@ -391,7 +446,8 @@ const SINGLE_CALLS: [Case; 2] = [
     },
     Case {
         shows: "a close amid the slots of one reading gives what is held, and moves no time",
-        stream: "",
+        stream: STREAM,
+        open_at: 0,
         steps: "a 1 0, b 3 12, advance 100, close, advance 100",
         fates: "2 Taken",
         marks: "got 65537 0 at 12, lost 65538 6, got 65539 12, end, Closed at 12",

@@ -1,4 +1,6 @@
 //! Vectors for headers, payloads and samples.
+ghost use Rattle.rtp_wire.specs.Sample.{FitsEncoding};
+
 use rtp_wire::{
     Enc, RtpHead, WireFault, read, read_samples, sample, write_head, write_sample, write_samples,
 };
@@ -21,116 +23,145 @@ fn payload_of(octets: &[u8]) -> Result<&[u8], WireFault> {
     Ok(read(octets)?.payload)
 }
 
+/// A first octet, what stands behind the header, and its fault or payload.
+type Row = (u8, &'static [u8], Result<&'static [u8], WireFault>);
+
+const ROWS: [Row; 12] = [
+    (0x40, &[], Err(WireFault::Version)),
+    (0x8f, &[0; 59], Err(WireFault::CsrcCut)),
+    (0x8f, &[0; 60], Ok(&[])),
+    (0x90, &[0xbe, 0xef], Err(WireFault::ExtensionCut)),
+    (0x90, &[0xbe, 0xef, 0, 1], Err(WireFault::ExtensionCut)),
+    (0x90, &[0xbe, 0xef, 0, 0, 1, 2], Ok(&[1, 2])),
+    (0xa0, &[], Err(WireFault::Padding)),
+    (0xa0, &[0, 0, 0], Err(WireFault::Padding)),
+    (0xa0, &[0, 0, 0xff], Err(WireFault::Padding)),
+    (0xa0, &[0xaa, 0xbb, 1], Ok(&[0xaa, 0xbb])),
+    (0xa0, &[0, 0, 3], Ok(&[])),
+    (0x80, &[9], Ok(&[9])),
+];
+
 /// Cut headers, other versions, sources, extensions and padding: the first fault, or the payload.
 #[test]
 fn header_faults_and_payloads(rt: HostRuntime) -> Result<(), Fail> {
-    let zeros = [0u8; 60];
-    let rows: [(u8, &[u8], Result<&[u8], WireFault>); 12] = [
-        (0x40, &[], Err(WireFault::Version)),
-        (0x8f, &zeros[..59], Err(WireFault::CsrcCut)),
-        (0x8f, &zeros, Ok(&[])),
-        (0x90, &[0xbe, 0xef], Err(WireFault::ExtensionCut)),
-        (0x90, &[0xbe, 0xef, 0, 1], Err(WireFault::ExtensionCut)),
-        (0x90, &[0xbe, 0xef, 0, 0, 1, 2], Ok(&[1, 2])),
-        (0xa0, &[], Err(WireFault::Padding)),
-        (0xa0, &[0, 0, 0], Err(WireFault::Padding)),
-        (0xa0, &[0, 0, 0xff], Err(WireFault::Padding)),
-        (0xa0, &[0xaa, 0xbb, 1], Ok(&[0xaa, 0xbb])),
-        (0xa0, &[0, 0, 3], Ok(&[])),
-        (0x80, &[9], Ok(&[9])),
-    ];
-    for (first, after, want) in rows {
+    for (first, after, want) in ROWS {
         let octets = datagram(rt.alloc(), first, after)?;
-        assert_eq!(rt; payload_of(&octets), want, "behind {first}");
+        assert!(rt; payload_of(&octets) == want, "behind {first}");
     }
-    assert_eq!(rt; payload_of(&REST), Err(WireFault::Short), "eleven octets");
+    assert!(rt; payload_of(&REST) == Err(WireFault::Short), "eleven octets");
     Ok(())
+}
+
+/// A header with two sources, an extension and padding, and its payload.
+const FULL: [u8; 33] = [
+    0xb2, 0x60, 0, 1, 0, 0, 0, 0, 0, 0, 0, 1, 1, 1, 1, 1, 2, 2, 2, 2, 0xbe, 0xef, 0, 1, 3, 3, 3, 3,
+    0xaa, 0xbb, 0, 0, 3,
+];
+
+/// What the first octets of that are, where there are so many.
+fn cut_of_full(k: usize) -> Result<&'static [u8], WireFault> {
+    match k {
+        0..=11 => Err(WireFault::Short),
+        12..=19 => Err(WireFault::CsrcCut),
+        20..=27 => Err(WireFault::ExtensionCut),
+        28..=32 => Err(WireFault::Padding),
+        _ => Ok(&[0xaa, 0xbb]),
+    }
 }
 
 /// The first k octets of a header with two sources, an extension and padding, k from 0 to 33: the fault of each.
 #[test]
 fn each_cut_of_a_full_header_has_its_fault(rt: HostRuntime) {
-    let full: [u8; 33] = [
-        0xb2, 0x60, 0, 1, 0, 0, 0, 0, 0, 0, 0, 1, 1, 1, 1, 1, 2, 2, 2, 2, 0xbe, 0xef, 0, 1, 3, 3,
-        3, 3, 0xaa, 0xbb, 0, 0, 3,
-    ];
-    let full: &[u8] = &full;
     for k in 0..34usize {
-        let want: Result<&[u8], WireFault> = match k {
-            0..=11 => Err(WireFault::Short),
-            12..=19 => Err(WireFault::CsrcCut),
-            20..=27 => Err(WireFault::ExtensionCut),
-            28..=32 => Err(WireFault::Padding),
-            _ => Ok(&[0xaa, 0xbb]),
-        };
-        assert_eq!(rt; payload_of(&full[..k]), want, "the first {k}");
+        assert!(rt; payload_of(&FULL[..k]) == cut_of_full(k), "the first {k}");
     }
 }
+
+const HEAD: RtpHead = RtpHead {
+    marker: true,
+    pt: 96,
+    seq: 0x0102,
+    ts: 0x0304_0506,
+    ssrc: 0x0708_090a,
+};
+
+/// The octets of that head, and two behind it.
+const HEAD_OCTETS: [u8; 14] = [0x80, 0xe0, 1, 2, 3, 4, 5, 6, 7, 8, 9, 10, 0x55, 0x55];
 
 /// A head of type 96 with the marker: its twelve octets, and itself when it is read back.
 #[test]
 fn headers_are_in_network_order(rt: HostRuntime) -> Result<(), Fail> {
-    let head = RtpHead {
-        marker: true,
-        pt: 96,
-        seq: 0x0102,
-        ts: 0x0304_0506,
-        ssrc: 0x0708_090a,
-    };
     let mut out = [0x55u8; 14];
-    assert_eq!(rt; write_head(&mut out, &head), 12);
-    assert_eq!(rt;
-        out,
-        [0x80, 0xe0, 1, 2, 3, 4, 5, 6, 7, 8, 9, 10, 0x55, 0x55]
-    );
-    let view = read(&out).ok().ok_or("not read")?;
-    assert!(rt; view.marker, "the marker");
-    assert_eq!(rt;
-        (view.pt, view.seq, view.ts, view.ssrc),
-        (96, 0x0102, 0x0304_0506, 0x0708_090a)
-    );
-    assert_eq!(rt; view.payload.len(), 2);
+    assert!(rt; write_head(&mut out, &HEAD) == 12 && out == HEAD_OCTETS);
+    let view = read(&HEAD_OCTETS)?;
+    assert!(rt; view.marker && view.pt == 96 && view.seq == 0x0102);
+    assert!(rt; view.ts == 0x0304_0506 && view.ssrc == 0x0708_090a);
+    assert!(rt; view.payload.len() == 2);
     Ok(())
 }
 
-/// The least and greatest samples of L16 and L24: their values on 24 bits, and back.
+/// The least and greatest samples and others, of L16 and of L24.
+const EDGES_16: [u8; 6] = [0xff, 0xff, 0x80, 0, 0x7f, 0xff];
+
+const EDGES_24: [u8; 9] = [0x80, 0, 0, 0x7f, 0xff, 0xff, 1, 2, 3];
+
+/// The least and greatest samples of L16 and L24: their values on 24 bits.
 #[test]
 fn samples_are_signed_and_big_endian(rt: HostRuntime) {
-    assert_eq!(rt; sample(Enc::L16, &[0xff, 0xff], 0), -256);
-    assert_eq!(rt; sample(Enc::L16, &[0, 0, 0x80, 0], 1), -8_388_608);
-    assert_eq!(rt; sample(Enc::L16, &[0x7f, 0xff], 0), 8_388_352);
-    assert_eq!(rt; sample(Enc::L24, &[0x80, 0, 0], 0), -8_388_608);
-    assert_eq!(rt;
-        sample(Enc::L24, &[0, 0, 0, 0x7f, 0xff, 0xff], 1),
-        8_388_607
-    );
-    assert_eq!(rt; sample(Enc::L24, &[1, 2, 3], 0), 66_051);
-    let mut out = [0x55u8; 4];
-    write_sample(Enc::L16, -1, &mut out);
-    assert_eq!(rt; out, [0xff, 0xff, 0x55, 0x55]);
-    write_sample(Enc::L16, -32_768, &mut out);
-    assert_eq!(rt; out, [0x80, 0, 0x55, 0x55]);
-    write_sample(Enc::L16, 32_767, &mut out);
-    assert_eq!(rt; out, [0x7f, 0xff, 0x55, 0x55]);
-    write_sample(Enc::L24, 8_388_607, &mut out);
-    assert_eq!(rt; out, [0x7f, 0xff, 0xff, 0x55]);
-    write_sample(Enc::L24, -8_388_608, &mut out);
-    assert_eq!(rt; out, [0x80, 0, 0, 0x55]);
+    assert!(rt; sample(Enc::L16, &EDGES_16, 0) == -256);
+    assert!(rt; sample(Enc::L16, &EDGES_16, 1) == -8_388_608);
+    assert!(rt; sample(Enc::L16, &EDGES_16, 2) == 8_388_352);
+    assert!(rt; sample(Enc::L24, &EDGES_24, 0) == -8_388_608);
+    assert!(rt; sample(Enc::L24, &EDGES_24, 1) == 8_388_607);
+    assert!(rt; sample(Enc::L24, &EDGES_24, 2) == 66_051);
 }
 
-/// Twelve octets as L24 and as L16: four and six samples, and written back; two octets are no sample of L24.
+/// What a sample is written as, over four octets of 0x55, read as one number.
+fn octets_of(enc: Enc, value: i32) -> u32
+    requires { FitsEncoding enc value }
+{
+    let mut out = [0x55u8; 4];
+    write_sample(enc, value, &mut out);
+    u32::from_be_bytes(out)
+}
+
+/// The least and greatest samples of L16 and L24 as octets, behind which nothing is written.
+#[test]
+fn samples_are_written_in_network_order(rt: HostRuntime) {
+    assert!(rt; octets_of(Enc::L16, -1) == 0xffff_5555);
+    assert!(rt; octets_of(Enc::L16, -32_768) == 0x8000_5555);
+    assert!(rt; octets_of(Enc::L16, 32_767) == 0x7fff_5555);
+    assert!(rt; octets_of(Enc::L24, 8_388_607) == 0x7fff_ff55);
+    assert!(rt; octets_of(Enc::L24, -8_388_608) == 0x8000_0055);
+}
+
+/// Four samples of L24, or six of L16, and an octet that is none.
+const OCTETS: [u8; 13] = [0, 1, 2, 0x80, 0, 0, 0x7f, 0xff, 0xff, 0xff, 0xff, 0xfe, 9];
+
+/// The samples of L24, behind which nothing is written, and those of L16.
+const OF_24: [i32; 7] = [258, -8_388_608, 8_388_607, -2, 5, 5, 5];
+
+const OF_16: [i32; 7] = [256, 163_840, 0, 8_388_352, -256, -512, 5];
+
+/// Twelve octets as L24 and as L16: four and six samples; two octets are no sample of L24.
 #[test]
 fn blocks_are_their_samples_side_by_side(rt: HostRuntime) {
-    let octets = [0u8, 1, 2, 0x80, 0, 0, 0x7f, 0xff, 0xff, 0xff, 0xff, 0xfe, 9];
     let mut out = [5i32; 7];
-    assert_eq!(rt; read_samples(Enc::L24, &octets, &mut out), 4);
-    assert_eq!(rt; out, [258, -8_388_608, 8_388_607, -2, 5, 5, 5]);
-    assert_eq!(rt; read_samples(Enc::L16, &octets, &mut out), 6);
-    assert_eq!(rt; out, [256, 163_840, 0, 8_388_352, -256, -512, 5]);
-    assert_eq!(rt; read_samples(Enc::L24, &[1, 2], &mut out), 0);
-    let mut written = [0x55u8; 8];
-    assert_eq!(rt; write_samples(Enc::L24, &[258, -2], &mut written), 6);
-    assert_eq!(rt; written, [0, 1, 2, 0xff, 0xff, 0xfe, 0x55, 0x55]);
-    assert_eq!(rt; write_samples(Enc::L16, &[258, -2], &mut written), 4);
-    assert_eq!(rt; written, [1, 2, 0xff, 0xfe, 0xff, 0xfe, 0x55, 0x55]);
+    assert!(rt; read_samples(Enc::L24, &OCTETS, &mut out) == 4 && out == OF_24);
+    assert!(rt; read_samples(Enc::L24, &[1, 2], &mut out) == 0 && out == OF_24);
+    assert!(rt; read_samples(Enc::L16, &OCTETS, &mut out) == 6 && out == OF_16);
+}
+
+/// Two samples in the octets of L24 and of L16, behind which nothing is written.
+const AS_24: [u8; 8] = [0, 1, 2, 0xff, 0xff, 0xfe, 0x55, 0x55];
+
+const AS_16: [u8; 8] = [1, 2, 0xff, 0xfe, 0x55, 0x55, 0x55, 0x55];
+
+/// Two samples, written as L24 and as L16: six and four octets.
+#[test]
+fn samples_are_written_side_by_side(rt: HostRuntime) {
+    let mut out = [0x55u8; 8];
+    assert!(rt; write_samples(Enc::L24, &[258, -2], &mut out) == 6 && out == AS_24);
+    let mut out = [0x55u8; 8];
+    assert!(rt; write_samples(Enc::L16, &[258, -2], &mut out) == 4 && out == AS_16);
 }
