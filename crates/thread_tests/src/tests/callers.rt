@@ -5,6 +5,7 @@ use path_merge::{Body, ClockFault, Mark, MarkKind, Path};
 use std::alloc::{AllocError, Global};
 use std::test::Fail;
 use studio_run::{PlayFault, TraceKind};
+use studio_spec::StudioSpec;
 use studio_uses::{
     Arrival, MemorySink, ReceiveFault, receive_stream, report_trace, run_in_threads,
 };
@@ -80,17 +81,23 @@ fn the_first_fault_of_arrivals_is_told(rt: HostRuntime) -> Result<(), Fail> {
     Ok(())
 }
 
+/// Where a trace has a fault, and which.
+fn trace_fault(alloc: Global, studio: &StudioSpec, trace: &[u8]) -> Option<(u32, TraceKind)> {
+    match report_trace(alloc, studio, trace) {
+        Err(PlayFault::Trace(fault)) => Some((fault.line, fault.kind)),
+        _ => None,
+    }
+}
+
 /// A stored trace has its stored report, and a word that is none its fault.
 #[test]
 fn a_trace_in_memory_has_its_report(rt: HostRuntime) -> Result<(), Fail> {
     let alloc = rt.alloc();
     let studio = one_stream(alloc).ok_or("a studio")?;
     let report = report_trace(alloc, &studio, TRACE.as_bytes())?;
-    assert_eq!(rt; str::from_utf8(report.as_slice()), Ok(REPORT));
-    let Err(PlayFault::Trace(fault)) = report_trace(alloc, &studio, b"tick 0\ntock\n") else {
-        panic!(rt; "a line with another word")
-    };
-    assert_eq!(rt; (fault.line, fault.kind), (2, TraceKind::Word));
+    assert!(rt; report.as_slice() == REPORT.as_bytes());
+    let fault = trace_fault(alloc, &studio, b"tick 0\ntock\n");
+    assert!(rt; fault == Some((2, TraceKind::Word)));
     Ok(())
 }
 
@@ -109,15 +116,9 @@ fn a_studio_runs_over_memory(rt: HostRuntime) -> Result<(), Fail> {
     let alloc = rt.alloc();
     let studio = one_stream(alloc).ok_or("a studio")?;
     let lists = on_paths(alloc, 2)?;
-    let (report, sink) = run_in_threads(
-        &rt,
-        alloc,
-        &studio,
-        lists.as_slice(),
-        &[0],
-        MemorySink::new(alloc),
-    )?;
-    assert_eq!(rt; (report.settled, report.blocks), (true, 2));
+    let sink = MemorySink::new(alloc);
+    let (report, sink) = run_in_threads(&rt, alloc, &studio, lists.as_slice(), &[0], sink)?;
+    assert!(rt; report.settled && report.blocks == 2);
     gave_both(&rt, sink.kept());
     Ok(())
 }

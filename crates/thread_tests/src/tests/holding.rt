@@ -1,17 +1,17 @@
 //! Feeds that wait for each other, and a sink that waits for a clock: workers run at the same time.
 ghost use Rattle.std.specs.Prelude.{[], None};
 
-use super::workers::{clocks, gave_both, one_stream, only, run, two_packets};
-use std::alloc::Global;
+use super::workers::{gave_both, list_of, only, run_one, two_packets};
+use std::alloc::{AllocError, Global};
 use std::process::Abort;
 use std::sync::Wait;
 use std::sync::atomic::{AtomicBool, AtomicU64, Ordering};
 use std::test::Fail;
 use std::thread::{Parker, Threads};
 use std::time::Duration;
-use studio_uses::{MemoryFeed, MemorySink};
+use studio_uses::{MemoryClock, MemoryFeed, MemorySink};
 use studio_workers::{Clock, Feed, FeedAnswer, SendAnswer, Sink, WorkReport};
-use test_studios::{FIRST, SECOND};
+use test_studios::SECOND;
 
 /// How often something is waited for, a millisecond each time.
 const WAITS: u32 = 20_000;
@@ -58,22 +58,28 @@ impl<'a, R: Wait> Feed for MeetingFeed<'a, R> {
     }
 }
 
+/// Both packets arrived twice, and were got once.
+fn got_two(rt: &impl Abort, report: &WorkReport) {
+    let counts = only(rt, report);
+    assert!(rt; counts.arrived == 4 && counts.got == 2);
+}
+
 /// Feeds that each wait until the other was asked come to their end.
 #[test]
 fn paths_are_read_at_the_same_time(rt: HostRuntime) -> Result<(), Fail> {
     let alloc = rt.alloc();
-    let studio = one_stream(alloc).ok_or("a studio")?;
     let packets = two_packets(alloc)?;
     let first = AtomicBool::new(false);
     let second = AtomicBool::new(false);
-    let mut feeds = Vec::new(alloc);
-    feeds.push(MeetingFeed::new(&rt, &packets, &first, &second))?;
-    feeds.push(MeetingFeed::new(&rt, &packets, &second, &first))?;
-    let clocks = clocks(alloc, 1, &[0])?;
+    let feeds = [
+        MeetingFeed::new(&rt, &packets, &first, &second),
+        MeetingFeed::new(&rt, &packets, &second, &first),
+    ];
+    let feeds = list_of(&rt, alloc, feeds);
+    let clocks = list_of(&rt, alloc, [MemoryClock::new(&[0])]);
     let sink = MemorySink::new(alloc);
-    let (report, sink) = run(&rt, alloc, &studio, 64, feeds, clocks, sink)?;
-    let counts = only(&rt, &report);
-    assert_eq!(rt; (counts.arrived, counts.got), (4, 2));
+    let (report, sink) = run_one(&rt, alloc, 64, feeds, clocks, sink)?;
+    got_two(&rt, &report);
     gave_both(&rt, sink.kept());
     Ok(())
 }
@@ -200,25 +206,25 @@ impl<'a, R: Wait> Sink for HoldingSink<'a, R> {
 #[test]
 fn mixing_goes_on_beside_reception(rt: HostRuntime) -> Result<(), Fail> {
     let alloc = rt.alloc();
-    let studio = one_stream(alloc).ok_or("a studio")?;
     let packets = two_packets(alloc)?;
     let first = AtomicBool::new(false);
     let second = AtomicBool::new(false);
     let sent = AtomicBool::new(false);
     let asked = AtomicU64::new(0);
-    let mut feeds = Vec::new(alloc);
-    feeds.push(LastingFeed::new(&packets, &first, &sent))?;
-    feeds.push(LastingFeed::new(&packets, &second, &sent))?;
-    let mut clocks = Vec::new(alloc);
-    clocks.push(CountingClock::new(&asked, &first, &second))?;
+    let feeds = [
+        LastingFeed::new(&packets, &first, &sent),
+        LastingFeed::new(&packets, &second, &sent),
+    ];
+    let feeds = list_of(&rt, alloc, feeds);
+    let clocks = [CountingClock::new(&asked, &first, &second)];
+    let clocks = list_of(&rt, alloc, clocks);
     let sink = HoldingSink::new(&rt, alloc, &asked, &sent);
-    let (report, sink) = run(&rt, alloc, &studio, 64, feeds, clocks, sink)?;
+    let (report, sink) = run_one(&rt, alloc, 64, feeds, clocks, sink)?;
     assert!(rt;
         sink.asked_again,
         "the stream's worker went on while the sink held"
     );
-    let counts = only(&rt, &report);
-    assert_eq!(rt; (counts.arrived, counts.got), (4, 2));
+    got_two(&rt, &report);
     gave_both(&rt, sink.sink.kept());
     Ok(())
 }
@@ -255,41 +261,47 @@ fn run_late<R: Threads + Wait + Abort + Sync>(
     let first = AtomicBool::new(false);
     let second = AtomicBool::new(false);
     let ends = AtomicBool::new(true);
-    let mut feeds = Vec::new(alloc);
-    feeds.push(LastingFeed::new(packets, &first, &ends))?;
-    feeds.push(LastingFeed::new(packets, &second, &ends))?;
-    let mut clocks = Vec::new(alloc);
-    clocks.push(LateClock {
+    let feeds = [
+        LastingFeed::new(packets, &first, &ends),
+        LastingFeed::new(packets, &second, &ends),
+    ];
+    let feeds = list_of(rt, alloc, feeds);
+    let clock = LateClock {
         rt,
         pause: Parker::new(),
         first: &first,
         second: &second,
-    })?;
-    let studio = one_stream(alloc).ok_or("a studio")?;
+    };
+    let clocks = list_of(rt, alloc, [clock]);
     let sink = MemorySink::new(alloc);
-    let (report, _) = run(rt, alloc, &studio, 1, feeds, clocks, sink)?;
+    let (report, _) = run_one(rt, alloc, 1, feeds, clocks, sink)?;
     Ok(report)
+}
+
+/// The counts of packets of which the first of each feed was taken, and the others refused at full rings.
+fn are_refused(rt: &impl Abort, report: &WorkReport) {
+    let counts = only(rt, report);
+    assert!(rt; counts.arrived == 2 && counts.taken == 1);
+    assert!(rt; counts.double == 1 && counts.got == 1);
+    let stream = report.streams.first().expect(rt, "one stream");
+    assert!(rt; stream.paths.len() == 2);
+    for path in stream.paths.iter() {
+        assert!(rt; path.offered == 2_003 && path.sent == 1 && path.full == 2_002);
+    }
+}
+
+/// Three packets.
+fn three_packets(alloc: Global) -> Result<[Vec<u8>; 3], AllocError> {
+    let [first, second] = two_packets(alloc)?;
+    let third = Vec::from_slice(alloc, &SECOND)?;
+    Ok([first, second, third])
 }
 
 /// Behind rings of one place that nobody empties, each packet of both feeds but the first is refused 1,001 times.
 #[test]
 fn packets_are_refused_at_full_rings(rt: HostRuntime) -> Result<(), Fail> {
-    let alloc = rt.alloc();
-    let packets = [
-        Vec::from_slice(alloc, &FIRST)?,
-        Vec::from_slice(alloc, &SECOND)?,
-        Vec::from_slice(alloc, &SECOND)?,
-    ];
-    let report = run_late(&rt, alloc, &packets)?;
-    let counts = only(&rt, &report);
-    let arrivals = (counts.arrived, counts.taken, counts.double, counts.got);
-    assert_eq!(rt; arrivals, (2, 1, 1, 1));
-    let Some(stream) = report.streams.first() else {
-        panic!(rt; "one stream")
-    };
-    assert_eq!(rt; stream.paths.len(), 2);
-    for path in stream.paths.iter() {
-        assert_eq!(rt; (path.offered, path.sent, path.full), (2_003, 1, 2_002));
-    }
+    let packets = three_packets(rt.alloc())?;
+    let report = run_late(&rt, rt.alloc(), &packets)?;
+    are_refused(&rt, &report);
     Ok(())
 }

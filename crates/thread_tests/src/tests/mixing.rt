@@ -2,7 +2,7 @@
 
 use path_merge::{Body, Format, Mark};
 use rtp_wire::Payload;
-use std::alloc::Global;
+use std::alloc::{AllocError, Global};
 use std::process::Abort;
 use std::test::Fail;
 use studio_mix::Mixer;
@@ -42,35 +42,60 @@ fn thousands(rt: &impl Abort, alloc: Global) -> Result<Vec<Mark>, Fail> {
     Ok(marks)
 }
 
+/// A slot of 48 ones from 20 on, and the end.
+fn ones(rt: &impl Abort) -> Result<[Mark; 2], Fail> {
+    let format = stream(48, 48, 1)?.format();
+    let slot = got(rt, format, 65_636, 20, 48, [0, 0, 1]);
+    Ok([slot, Mark::end(format)])
+}
+
+/// Mixes one block, which has these octets, or none. Tells how many marks of each stream were taken.
+fn mixes(
+    rt: &impl Abort,
+    mixer: &mut Mixer,
+    first: &[Mark],
+    second: &[Mark],
+    want: &[u8],
+) -> (usize, usize) {
+    let mut out = [0u8; 1452];
+    let _short = mixer.output().datagram_len();
+    assert!(rt; mixer.streams() == 2);
+    let mixed = mix_next(mixer, first, second, &mut out);
+    let len = mixed.len.unwrap_or(0);
+    assert!(rt; len == want.len() && (len == 0 || out.starts_with(want)));
+    (mixed.first, mixed.second)
+}
+
+/// Nine marks and two give the sums, the ones alone, and no third block.
+fn gives_two(
+    rt: &impl Abort,
+    alloc: Global,
+    mixer: &mut Mixer,
+    first: &[Mark],
+    second: &[Mark],
+) -> Result<(), AllocError> {
+    assert!(rt; first.len() == 9 && second.len() == 2);
+    let taken = mixes(rt, mixer, first, second, &sums(alloc)?);
+    assert!(rt; taken == (8, 1));
+    let taken = mixes(rt, mixer, &first[8..], &second[1..], &ones_alone(alloc)?);
+    assert!(rt; taken == (1, 1));
+    assert!(rt; mixes(rt, mixer, &[], &[], &[]) == (0, 0));
+    Ok(())
+}
+
 /// The second block takes both ends, and there is no third.
 #[test]
 fn two_streams_to_their_datagrams(rt: HostRuntime) -> Result<(), Fail> {
     let alloc = rt.alloc();
-    let studio = six_and_forty_eight(alloc, 2).ok_or("a studio")?;
-    let format = stream(48, 48, 1)?.format();
-    let ones = [
-        got(&rt, format, 65_636, 20, 48, [0, 0, 1]),
-        Mark::end(format),
-    ];
     let thousands = thousands(&rt, alloc)?;
-    let (mut first, mut second) = (thousands.as_slice(), ones.as_slice());
-    let mut mixer = Mixer::new(alloc, &studio)?;
-    let mut datagrams = Vec::new(alloc);
-    for expected in [(8, 1, Some(156)), (1, 1, Some(156)), (0, 0, None)] {
-        let mut out = [0u8; 1452];
-        let _short = mixer.output().datagram_len();
-        assert!(rt; mixer.streams() == 2);
-        let mixed = mix_next(&mut mixer, first, second, &mut out);
-        assert_eq!(rt; (mixed.first, mixed.second, mixed.len), expected);
-        first = &first[mixed.first..];
-        second = &second[mixed.second..];
-        if let Some(len) = mixed.len {
-            assert!(rt; len <= 1452);
-            datagrams.push(Vec::from_slice(alloc, &out[..len])?)?;
-        }
-    }
-    assert_eq!(rt; datagrams.len(), 2);
-    assert_eq!(rt; datagrams[0], sums(alloc)?);
-    assert_eq!(rt; datagrams[1], ones_alone(alloc)?);
+    let ones = ones(&rt)?;
+    let mut mixer = mixer(alloc)?;
+    gives_two(&rt, alloc, &mut mixer, thousands.as_slice(), &ones)?;
     Ok(())
+}
+
+/// A mixer of the streams of six and of 48.
+fn mixer(alloc: Global) -> Result<Mixer, Fail> {
+    let studio = six_and_forty_eight(alloc, 2).ok_or("a studio")?;
+    Ok(Mixer::new(alloc, &studio)?)
 }

@@ -41,17 +41,29 @@ pub(super) fn run<R: Threads + Wait + Abort + Sync, F: Feed + Send, C: Clock + S
     Ok(run_workers(rt, alloc, ends, feeds, clocks, sink)?)
 }
 
-/// A clock for each of so many streams, with these readings.
-pub(super) fn clocks<'a>(
+/// Runs the workers of one stream over rings of so many places.
+pub(super) fn run_one<R: Threads + Wait + Abort + Sync, F: Feed + Send, C: Clock + Send, K: Sink>(
+    rt: &R,
     alloc: Global,
-    streams: usize,
-    readings: &'a [i64],
-) -> Result<Vec<MemoryClock<'a>>, AllocError> {
-    let mut clocks = Vec::new(alloc);
-    for _ in 0..streams {
-        clocks.push(MemoryClock::new(readings))?;
-    }
-    Ok(clocks)
+    places: usize,
+    feeds: Vec<F>,
+    clocks: Vec<C>,
+    sink: K,
+) -> Result<(WorkReport, K), Fail> {
+    let studio = one_stream(alloc).ok_or("a studio")?;
+    run(rt, alloc, &studio, places, feeds, clocks, sink)
+}
+
+/// These in a list.
+pub(super) fn list_of<T: Drop, const N: usize>(
+    rt: &impl Abort,
+    alloc: Global,
+    items: [T; N],
+) -> Vec<T> {
+    let Ok(list) = Vec::from_array(alloc, items) else {
+        panic!(rt; "no memory for a list")
+    };
+    list
 }
 
 /// The counts of the only stream.
@@ -95,7 +107,7 @@ pub(super) fn two_packets(alloc: Global) -> Result<[Vec<u8>; 2], AllocError> {
     Ok([first, second])
 }
 
-/// Both packets on both paths, by clocks with these readings, over rings of so many places.
+/// Both packets on both paths, by a clock with these readings, over rings of so many places.
 fn runs_alike<R: Threads + Wait + Abort + Sync>(
     rt: &R,
     alloc: Global,
@@ -103,40 +115,23 @@ fn runs_alike<R: Threads + Wait + Abort + Sync>(
     places: usize,
 ) -> Result<(), Fail> {
     let packets = two_packets(alloc)?;
-    let (report, sink) = run_alike(rt, alloc, &packets, readings, places)?;
-    let counts = only(rt, &report);
-    let arrivals = (counts.arrived, counts.taken, counts.double);
-    assert_eq!(rt; arrivals, (4, 2, 2), "{places} places");
-    assert_eq!(rt; (counts.got, counts.lost), (2, 0), "{places} places");
-    assert_eq!(rt; sends(&report), (2, [2, 2], [0, 0]));
-    assert_eq!(rt; report.feed_faults.as_slice(), [0u64, 0].as_slice());
+    let feeds = [MemoryFeed::new(&packets), MemoryFeed::new(&packets)];
+    let feeds = list_of(rt, alloc, feeds);
+    let clocks = list_of(rt, alloc, [MemoryClock::new(readings)]);
+    let sink = MemorySink::new(alloc);
+    let (report, sink) = run_one(rt, alloc, places, feeds, clocks, sink)?;
+    is_alike(rt, &report);
     gave_both(rt, sink.kept());
     Ok(())
 }
 
-/// Runs one stream whose paths both bring these packets.
-fn run_alike<R: Threads + Wait + Abort + Sync>(
-    rt: &R,
-    alloc: Global,
-    packets: &[Vec<u8>],
-    readings: &[i64],
-    places: usize,
-) -> Result<(WorkReport, MemorySink), Fail> {
-    let studio = one_stream(alloc).ok_or("a studio")?;
-    let mut feeds = Vec::new(alloc);
-    for _ in 0..2 {
-        feeds.push(MemoryFeed::new(packets))?;
-    }
-    let clocks = clocks(alloc, 1, readings)?;
-    run(
-        rt,
-        alloc,
-        &studio,
-        places,
-        feeds,
-        clocks,
-        MemorySink::new(alloc),
-    )
+/// Both packets were taken once, doubled once, and sent to both addresses.
+fn is_alike(rt: &impl Abort, report: &WorkReport) {
+    let counts = only(rt, report);
+    assert!(rt; counts.arrived == 4 && counts.taken == 2 && counts.double == 2);
+    assert!(rt; counts.got == 2 && counts.lost == 0);
+    assert!(rt; sends(report) == (2, [2, 2], [0, 0]));
+    assert!(rt; report.feed_faults.as_slice() == [0u64, 0].as_slice());
 }
 
 /// Both datagrams on both paths are taken once, doubled once, and sent to both addresses.
@@ -162,31 +157,36 @@ fn run_two<R: Threads + Wait + Abort + Sync>(
     second: &[Vec<u8>],
 ) -> Result<(WorkReport, MemorySink), Fail> {
     let studio = six_and_forty_eight(alloc, 2).ok_or("a studio")?;
-    let mut feeds = Vec::new(alloc);
-    for packets in [first, first, second] {
-        feeds.push(MemoryFeed::new(packets))?;
-    }
-    let clocks = clocks(alloc, 2, &[0])?;
-    run(
-        rt,
-        alloc,
-        &studio,
-        64,
-        feeds,
-        clocks,
-        MemorySink::new(alloc),
-    )
+    let feeds = [first, first, second].map(MemoryFeed::new);
+    let feeds = list_of(rt, alloc, feeds);
+    let clocks = list_of(rt, alloc, [MemoryClock::new(&[0]), MemoryClock::new(&[0])]);
+    let sink = MemorySink::new(alloc);
+    run(rt, alloc, &studio, 64, feeds, clocks, sink)
 }
 
 /// Both streams got all, the first one's copies once.
 fn got_all(rt: &impl Abort, report: &WorkReport) {
     assert!(rt; report.settled);
-    assert_eq!(rt; report.streams.len(), 2);
+    assert!(rt; report.streams.len() == 2);
     let counts = report.streams[0].merge;
-    let arrivals = (counts.arrived, counts.taken, counts.double);
-    assert_eq!(rt; (arrivals, counts.got), ((16, 8, 8), 8));
-    assert_eq!(rt; report.streams[1].merge.got, 1);
-    assert_eq!(rt; sends(report), (2, [2, 2], [0, 0]));
+    assert!(rt; counts.arrived == 16 && counts.taken == 8);
+    assert!(rt; counts.double == 8 && counts.got == 8);
+    assert!(rt; report.streams[1].merge.got == 1);
+    assert!(rt; sends(report) == (2, [2, 2], [0, 0]));
+}
+
+/// The datagrams are the sums, and then the ones alone.
+fn are_the_sums(rt: &impl Abort, alloc: Global, kept: &[Vec<u8>]) -> Result<(), AllocError> {
+    assert!(rt; kept.len() == 2);
+    assert!(rt; kept[0] == sums(alloc)?);
+    assert!(rt; kept[1] == ones_alone(alloc)?);
+    Ok(())
+}
+
+/// The packets of 1 from 20 on: one.
+fn ones(alloc: Global) -> Result<[Vec<u8>; 1], AllocError> {
+    let head = [0x80, 0x60, 0, 100, 0, 0, 0, 20, 0, 0, 0, 1];
+    Ok([datagram(alloc, head, &[(48, [0, 0, 1])])?])
 }
 
 /// Eight packets of 1000 from 0 on, on both paths, and one of 1 from 20 on.
@@ -194,14 +194,10 @@ fn got_all(rt: &impl Abort, report: &WorkReport) {
 fn two_streams_by_workers(rt: HostRuntime) -> Result<(), Fail> {
     let alloc = rt.alloc();
     let thousands = thousands(alloc)?;
-    let head = [0x80, 0x60, 0, 100, 0, 0, 0, 20, 0, 0, 0, 1];
-    let ones = [datagram(alloc, head, &[(48, [0, 0, 1])])?];
+    let ones = ones(alloc)?;
     let (report, sink) = run_two(&rt, alloc, thousands.as_slice(), &ones)?;
     got_all(&rt, &report);
-    let kept = sink.kept();
-    assert_eq!(rt; kept.len(), 2);
-    assert_eq!(rt; kept[0], sums(alloc)?);
-    assert_eq!(rt; kept[1], ones_alone(alloc)?);
+    are_the_sums(&rt, alloc, sink.kept())?;
     Ok(())
 }
 
@@ -209,58 +205,66 @@ fn two_streams_by_workers(rt: HostRuntime) -> Result<(), Fail> {
 #[test]
 fn an_address_that_fails(rt: HostRuntime) -> Result<(), Fail> {
     let alloc = rt.alloc();
-    let studio = one_stream(alloc).ok_or("a studio")?;
     let packets = two_packets(alloc)?;
-    let mut feeds = Vec::new(alloc);
-    feeds.push(MemoryFeed::new(&packets))?;
-    feeds.push(MemoryFeed::new(&[]))?;
-    let clocks = clocks(alloc, 1, &[0])?;
+    let feeds = [MemoryFeed::new(&packets), MemoryFeed::new(&[])];
+    let feeds = list_of(&rt, alloc, feeds);
+    let clocks = list_of(&rt, alloc, [MemoryClock::new(&[0])]);
     let sink = FailingSink::new(&rt, alloc, 1);
-    let (report, sink) = run(&rt, alloc, &studio, 64, feeds, clocks, sink)?;
-    assert_eq!(rt; only(&rt, &report).got, 2);
-    assert_eq!(rt; sends(&report), (2, [2, 1], [0, 1]));
+    let (report, sink) = run_one(&rt, alloc, 64, feeds, clocks, sink)?;
+    assert!(rt; only(&rt, &report).got == 2);
+    assert!(rt; sends(&report) == (2, [2, 1], [0, 1]));
     gave_both(&rt, sink.handed());
     Ok(())
 }
 
+/// How often a feed fails: before its first answer, and before each later one.
+type Failing = (u32, u32);
+
 /// Runs one stream whose feeds fail: each so often before its first answer, and so often before each later one.
-/// Answers what arrived, was taken and double, and how often each feed failed.
-fn counts_with_faults<R: Threads + Wait + Abort + Sync>(
+fn run_failing<R: Threads + Wait + Abort + Sync>(
     rt: &R,
     alloc: Global,
-    feeds_of: [(u32, u32); 2],
-) -> Result<([u64; 3], [u64; 2]), Fail> {
-    let studio = one_stream(alloc).ok_or("a studio")?;
+    first: Failing,
+    second: Failing,
+) -> Result<WorkReport, Fail> {
     let packets = two_packets(alloc)?;
-    let mut feeds = Vec::new(alloc);
-    for (first, later) in feeds_of {
-        feeds.push(FaultyFeed::new(first, later, &packets))?;
-    }
-    let clocks = clocks(alloc, 1, &[0])?;
+    let feeds = [
+        FaultyFeed::new(first.0, first.1, &packets),
+        FaultyFeed::new(second.0, second.1, &packets),
+    ];
+    let feeds = list_of(rt, alloc, feeds);
+    let clocks = list_of(rt, alloc, [MemoryClock::new(&[0])]);
     let sink = MemorySink::new(alloc);
-    let (report, sink) = run(rt, alloc, &studio, 4, feeds, clocks, sink)?;
-    let counts = only(rt, &report);
-    assert_eq!(rt; (counts.got, report.blocks), (2, 2));
+    let (report, sink) = run_one(rt, alloc, 4, feeds, clocks, sink)?;
     gave_both(rt, sink.kept());
-    let faults = match report.feed_faults.as_slice() {
-        [first, second] => [*first, *second],
-        _ => { panic!(rt; "two feeds") }
-    };
-    Ok(([counts.arrived, counts.taken, counts.double], faults))
+    Ok(report)
 }
+
+/// How both feeds fail; what arrived, was taken and double; and how often each feed failed.
+type Failure = (Failing, Failing, [u64; 3], [u64; 2]);
+
+const FAILURES: [Failure; 4] = [
+    ((999, 0), (0, 0), [4, 2, 2], [999, 0]),
+    ((1_000, 0), (0, 0), [2, 2, 0], [1_000, 0]),
+    ((0, 0), (1_000, 0), [2, 2, 0], [0, 1_000]),
+    ((1, 1), (999, 1), [4, 2, 2], [3, 1_001]),
+];
 
 /// A feed that fails is asked again, up to 999 times in a row; after 1,000 its path has ended.
 #[test]
 fn a_feed_ends_after_1000_faults(rt: HostRuntime) -> Result<(), Fail> {
-    let cases = [
-        ([(999, 0), (0, 0)], [4, 2, 2], [999, 0]),
-        ([(1_000, 0), (0, 0)], [2, 2, 0], [1_000, 0]),
-        ([(0, 0), (1_000, 0)], [2, 2, 0], [0, 1_000]),
-        ([(1, 1), (999, 1)], [4, 2, 2], [3, 1_001]),
-    ];
-    for (feeds, arrivals, faults) in cases {
-        let counts = counts_with_faults(&rt, rt.alloc(), feeds)?;
-        assert_eq!(rt; counts, (arrivals, faults), "{feeds:?}");
+    for (first, second, arrivals, faults) in FAILURES {
+        let report = run_failing(&rt, rt.alloc(), first, second)?;
+        let counts = only(&rt, &report);
+        assert!(rt; counts.got == 2 && report.blocks == 2);
+        assert!(rt;
+            [counts.arrived, counts.taken, counts.double] == arrivals,
+            "arrivals: {first:?}, {second:?}"
+        );
+        assert!(rt;
+            report.feed_faults.as_slice() == faults.as_slice(),
+            "faults: {first:?}, {second:?}"
+        );
     }
     Ok(())
 }
