@@ -3,7 +3,7 @@ use crate::fault::Fault;
 use crate::import::ImportOptions;
 use clap::error::ErrorKind;
 use clap::{Arg, ArgAction, ArgMatches, Command, Error, value_parser};
-use std::alloc::Global;
+use std::alloc::{AllocError, Global};
 use std::io::Write;
 use studio_live::LiveOptions;
 
@@ -42,23 +42,24 @@ pub fn asked_for<'a>(alloc: Global, words: &'a [String]) -> Result<Asked<'a>, Er
     let Some((name, inner)) = matches.subcommand() else {
         return Ok(Asked::Standard);
     };
-    if name == "streams"
-        && let Some(path) = inner.get_str("FILE")
-    {
-        return Ok(Asked::Streams(path));
+    if let Some(path) = inner.get_str("CONFIG") {
+        return Ok(asked_of_config(name, path, inner));
     }
-    if name == "import"
-        && let Some(path) = inner.get_str("FILE")
-    {
-        return Ok(Asked::Import(path, import_options(alloc, inner)?));
-    }
-    match inner.get_str("CONFIG") {
-        Some(path) if name == "play" => Ok(play_in(path, inner)),
-        Some(path) if name == "check" => Ok(Asked::Check(path)),
-        Some(path) if name == "live" => Ok(Asked::Live(path, options_in(inner))),
-        Some(path) if inner.get_flag("counts") => Ok(Asked::MarksAndCounts(path)),
-        Some(path) => Ok(Asked::Marks(path)),
+    match inner.get_str("FILE") {
+        Some(path) if name == "import" => Ok(Asked::Import(path, import_options(alloc, inner)?)),
+        Some(path) => Ok(Asked::Streams(path)),
         None => Ok(Asked::Standard),
+    }
+}
+
+/// What a word that takes a configuration asks for.
+fn asked_of_config<'a>(name: &str, path: &'a str, matches: &ArgMatches<'a>) -> Asked<'a> {
+    match name {
+        "play" => play_in(path, matches),
+        "check" => Asked::Check(path),
+        "live" => Asked::Live(path, options_in(matches)),
+        _ if matches.get_flag("counts") => Asked::MarksAndCounts(path),
+        _ => Asked::Marks(path),
     }
 }
 
@@ -93,127 +94,123 @@ fn import_options<'a>(alloc: Global, matches: &ArgMatches<'a>) -> Result<ImportO
 }
 
 /// The program's words.
-fn command<'a>(alloc: Global) -> Result<Command<'a>, Error> {
-    let marks = with_config(
-        alloc,
-        "marks",
-        "Lists the marks of the trace on standard input, stream by stream",
-    )?
-    .arg(
-        Arg::new(alloc, "counts")
-            .long("counts")
-            .help("Tell the counts of all paths and merges on standard error")
-            .action(ArgAction::SetTrue),
-    )?;
-    let play = with_config(
-        alloc,
-        "play",
-        "Plays the trace on standard input to its datagrams and counts",
-    )?
-    .arg(
-        Arg::new(alloc, "wav")
-            .long("wav")
-            .value_name("FILE")
-            .help("Write the mix to this WAV file too")
-            .action(ArgAction::Set),
-    )?;
-    let check = with_config(alloc, "check", "Says what a configuration means")?;
+fn command<'a>(alloc: Global) -> Result<Command<'a>, AllocError> {
+    let about =
+        "Receives studio audio over IP, from a trace or live. Formats: docs/FORMATS.md. Without a word it lists \
+             the marks of the trace on standard input, by the configuration of examples/first";
     let command = Command::new(alloc, "darbexum")
-        .about(
-            "Receives studio audio over IP, from a trace or live. Formats: docs/FORMATS.md. Without a word it lists \
-             the marks of the trace on standard input, by the configuration of examples/first",
-        )
+        .about(about)
         .version("0.2.0")
         .bin_name("darbexum")?
-        .no_binary_name(true)
-        .subcommand(marks)?
-        .subcommand(play)?
-        .subcommand(check)?
-        .subcommand(streams_command(alloc)?)?
-        .subcommand(import_command(alloc)?)?
-        .subcommand(live_command(alloc)?)?;
-    Ok(command)
+        .no_binary_name(true);
+    with_other_words(alloc, with_trace_words(alloc, command)?)
+}
+
+/// The same with the words that take a configuration, and a trace on standard input.
+fn with_trace_words<'a>(alloc: Global, command: Command<'a>) -> Result<Command<'a>, AllocError> {
+    let command = command.subcommand(marks_command(alloc)?)?;
+    let command = command.subcommand(play_command(alloc)?)?;
+    let about = "Says what a configuration means";
+    command.subcommand(with_config(alloc, "check", about)?)
+}
+
+/// The same with the words of captures and live runs.
+fn with_other_words<'a>(alloc: Global, command: Command<'a>) -> Result<Command<'a>, AllocError> {
+    let command = command.subcommand(streams_command(alloc)?)?;
+    let command = command.subcommand(import_command(alloc)?)?;
+    command.subcommand(live_command(alloc)?)
+}
+
+/// The word of a listing.
+fn marks_command<'a>(alloc: Global) -> Result<Command<'a>, AllocError> {
+    let about = "Lists the marks of the trace on standard input, stream by stream";
+    let counts = "Tell the counts of all paths and merges on standard error";
+    with_config(alloc, "marks", about)?.arg(flag(alloc, "counts", counts))
+}
+
+/// The word of a trace's report.
+fn play_command<'a>(alloc: Global) -> Result<Command<'a>, AllocError> {
+    let about = "Plays the trace on standard input to its datagrams and counts";
+    let wav = "Write the mix to this WAV file too";
+    with_config(alloc, "play", about)?.arg(option(alloc, "wav", "FILE", wav))
 }
 
 /// The word of a capture.
-fn streams_command<'a>(alloc: Global) -> Result<Command<'a>, Error> {
-    let file = Arg::new(alloc, "FILE")
-        .help("The capture, a pcap or pcapng file")
-        .required(true);
-    let command = Command::new(alloc, "streams")
-        .about(
-            "Says what RTP audio a capture holds: counts, what fits each flow, and the skew of paths",
-        )
-        .arg(file)?;
-    Ok(command)
+fn streams_command<'a>(alloc: Global) -> Result<Command<'a>, AllocError> {
+    let about =
+        "Says what RTP audio a capture holds: counts, what fits each flow, and the skew of paths";
+    with_capture(alloc, "streams", about)
 }
 
 /// The word of a capture's trace.
-fn import_command<'a>(alloc: Global) -> Result<Command<'a>, Error> {
-    let file = Arg::new(alloc, "FILE")
-        .help("The capture, a pcap or pcapng file")
-        .required(true);
-    let path = Arg::new(alloc, "path")
-        .long("path")
-        .value_name("ADDRESS:PORT")
-        .help(
-            "Take the flows to this address alone; may be given again. Without it all that fit are taken",
-        )
-        .action(ArgAction::Append);
-    let config = Arg::new(alloc, "config")
-        .long("config")
-        .help("Write the configuration that fits the trace in its place")
-        .action(ArgAction::SetTrue);
-    let latency = Arg::new(alloc, "latency")
-        .long("latency")
-        .value_name("MS")
-        .help("Its latency; without it twice the greatest skew between paths, and 10 ms at least")
-        .value_parser(value_parser!(u32).range(1..=MOST_LATENCY))
-        .action(ArgAction::Set);
+fn import_command<'a>(alloc: Global) -> Result<Command<'a>, AllocError> {
     let about = "Writes a capture's RTP datagrams as a trace, for marks and play";
-    let command = Command::new(alloc, "import")
-        .about(about)
-        .arg(file)?
-        .arg(path)?
-        .arg(config)?
-        .arg(latency)?;
-    Ok(command)
+    let path =
+        "Take the flows to this address alone; may be given again. Without it all that fit are taken";
+    let config = "Write the configuration that fits the trace in its place";
+    let latency =
+        "Its latency; without it twice the greatest skew between paths, and 10 ms at least";
+    with_capture(alloc, "import", about)?
+        .arg(option(alloc, "path", "ADDRESS:PORT", path).action(ArgAction::Append))?
+        .arg(flag(alloc, "config", config))?
+        .arg(option(alloc, "latency", "MS", latency).value_parser(value_parser!(u32).range(
+            1..=MOST_LATENCY,
+        )))
 }
 
 /// The word of a live run.
-fn live_command<'a>(alloc: Global) -> Result<Command<'a>, Error> {
-    let instants = Arg::new(alloc, "instants")
-        .long("instants")
-        .value_name("N")
-        .help("End after so many sampling instants at 48 kHz, 1 to 1099511627776")
-        .value_parser(value_parser!(i64).range(1..=MOST_INSTANTS))
-        .action(ArgAction::Set);
-    let stats = Arg::new(alloc, "stats")
-        .long("stats")
-        .value_name("SECONDS")
-        .help("Tell each stream's counts on standard error so often")
-        .value_parser(value_parser!(u32).range(1..))
-        .action(ArgAction::Set);
-    let until_eof = Arg::new(alloc, "until-eof")
-        .long("until-eof")
-        .help("End where standard input does")
-        .action(ArgAction::SetTrue);
+fn live_command<'a>(alloc: Global) -> Result<Command<'a>, AllocError> {
     let about =
         "Receives from sockets, and sends the mix to two ports, at the configuration's addresses or 127.0.0.1";
-    let command = with_config(alloc, "live", about)?
-        .arg(instants)?
-        .arg(stats)?
-        .arg(until_eof)?;
-    Ok(command)
+    let instants = "End after so many sampling instants at 48 kHz, 1 to 1099511627776";
+    let stats = "Tell each stream's counts on standard error so often";
+    with_config(alloc, "live", about)?
+        .arg(option(alloc, "instants", "N", instants).value_parser(value_parser!(i64).range(
+            1..=MOST_INSTANTS,
+        )))?
+        .arg(option(alloc, "stats", "SECONDS", stats).value_parser(value_parser!(u32).range(1..)))?
+        .arg(flag(alloc, "until-eof", "End where standard input does"))
 }
 
 /// A command that takes the path of a configuration.
-fn with_config<'a>(alloc: Global, name: &'a str, about: &'a str) -> Result<Command<'a>, Error> {
+fn with_config<'a>(
+    alloc: Global,
+    name: &'a str,
+    about: &'a str,
+) -> Result<Command<'a>, AllocError> {
     let config = Arg::new(alloc, "CONFIG")
         .help("The configuration, in TOML")
         .required(true);
-    let command = Command::new(alloc, name).about(about).arg(config)?;
-    Ok(command)
+    Command::new(alloc, name).about(about).arg(config)
+}
+
+/// A command that takes the path of a capture.
+fn with_capture<'a>(
+    alloc: Global,
+    name: &'a str,
+    about: &'a str,
+) -> Result<Command<'a>, AllocError> {
+    let file = Arg::new(alloc, "FILE")
+        .help("The capture, a pcap or pcapng file")
+        .required(true);
+    Command::new(alloc, name).about(about).arg(file)
+}
+
+/// A word that stands alone.
+fn flag<'a>(alloc: Global, name: &'a str, help: &'a str) -> Arg<'a> {
+    Arg::new(alloc, name)
+        .long(name)
+        .help(help)
+        .action(ArgAction::SetTrue)
+}
+
+/// A word with a value behind it.
+fn option<'a>(alloc: Global, name: &'a str, value: &'a str, help: &'a str) -> Arg<'a> {
+    Arg::new(alloc, name)
+        .long(name)
+        .value_name(value)
+        .help(help)
+        .action(ArgAction::Set)
 }
 
 /// Tells what the words ask for in place of a run, or what is wrong with them. Answers the status.
