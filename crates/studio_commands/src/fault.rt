@@ -2,7 +2,7 @@
 use capture_import::ImportFault;
 use capture_read::CaptureFault;
 use std::io::Write;
-use studio_live::LiveFault;
+use studio_live::{HandedFault, LiveFault};
 use studio_run::{PlayFault, SpecError, StudioFault};
 use studio_wav::FileFault;
 use thiserror::Error;
@@ -25,6 +25,9 @@ pub enum Fault {
     /// A live run broke off.
     #[error("{0}")]
     Live(#[from] LiveFault),
+    /// Sockets that were handed over are not taken.
+    #[error("{0}")]
+    Handed(#[from] HandedFault),
     /// The capture is at fault.
     #[error("{0}")]
     Capture(CaptureError),
@@ -82,8 +85,9 @@ impl Fault {
             Fault::Capture(_) => 1,
             Fault::Config(_) => 3,
             Fault::Play(fault) => play_status(fault),
-            Fault::Live(LiveFault::Memory) | Fault::Memory => 4,
-            Fault::Live(_) | Fault::Wav(_) | Fault::Write => 5,
+            Fault::Live(LiveFault::Memory) | Fault::Handed(HandedFault::Memory) | Fault::Memory =>
+                4,
+            Fault::Live(_) | Fault::Handed(_) | Fault::Wav(_) | Fault::Write => 5,
         }
     }
 

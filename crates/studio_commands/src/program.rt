@@ -10,6 +10,7 @@ use crate::words::{Asked, asked_for, told};
 use std::alloc::Global;
 use std::io::{Read, Write};
 use std::net::Net;
+use std::rt::Env;
 use std::sync::Wait;
 use std::thread::Threads;
 use std::time::Clock;
@@ -17,7 +18,13 @@ use studio_run::{list_marks, list_marks_and_counts, play};
 
 /// Runs the program: its text goes to `output`, and the line of a fault to `faults`. Answers the
 /// exit status.
-pub fn run<R: Threads + Wait + Sync + Net + Clock, C: Configs, I: Read, W: Write, E: Write + Send>(
+pub fn run<
+    R: Threads + Wait + Sync + Net + Clock + Env + AllocGlobal,
+    C: Configs,
+    I: Read,
+    W: Write,
+    E: Write + Send,
+>(
     rt: &R,
     configs: &C,
     alloc: Global,
@@ -37,7 +44,13 @@ pub fn run<R: Threads + Wait + Sync + Net + Clock, C: Configs, I: Read, W: Write
 }
 
 /// Does what the words ask for. Counts that are told beside a listing go where faults go.
-fn answer<R: Threads + Wait + Sync + Net + Clock, C: Configs, I: Read, W: Write, E: Write + Send>(
+fn answer<
+    R: Threads + Wait + Sync + Net + Clock + Env + AllocGlobal,
+    C: Configs,
+    I: Read,
+    W: Write,
+    E: Write + Send,
+>(
     rt: &R,
     configs: &C,
     alloc: Global,

@@ -76,7 +76,9 @@ fn options_in(matches: &ArgMatches<'_>) -> LiveOptions {
     LiveOptions {
         instants: matches.get_one::<i64>("instants"),
         stats: matches.get_one::<u32>("stats"),
+        listen_fds: matches.get_flag("listen-fds"),
         until_eof: matches.get_flag("until-eof"),
+        one_thread: matches.get_flag("one-thread"),
     }
 }
 
@@ -164,12 +166,16 @@ fn live_command<'a>(alloc: Global) -> Result<Command<'a>, AllocError> {
         "Receives from sockets, and sends the mix to two ports, at the configuration's addresses or 127.0.0.1";
     let instants = "End after so many sampling instants at 48 kHz, 1 to 1099511627776";
     let stats = "Tell each stream's counts on standard error so often";
+    let listen_fds = "Take the sockets that were handed over, as by sd_listen_fds(3)";
+    let one_thread = "Run in one thread, in place of a worker for each path and stream";
     with_config(alloc, "live", about)?
         .arg(option(alloc, "instants", "N", instants).value_parser(value_parser!(i64).range(
             1..=MOST_INSTANTS,
         )))?
         .arg(option(alloc, "stats", "SECONDS", stats).value_parser(value_parser!(u32).range(1..)))?
-        .arg(flag(alloc, "until-eof", "End where standard input does"))
+        .arg(flag(alloc, "until-eof", "End where standard input does"))?
+        .arg(flag(alloc, "listen-fds", listen_fds))?
+        .arg(flag(alloc, "one-thread", one_thread))
 }
 
 /// A command that takes the path of a configuration.

@@ -2,6 +2,7 @@
 ghost use Rattle.std.specs.Prelude.{[]};
 
 use crate::clock::SystemClock;
+use os::FromRawFd;
 use std::io;
 use std::io::ErrorKind;
 use std::net::{Ipv4Addr, Net, SocketAddr, UdpSocket};
@@ -85,6 +86,18 @@ pub(crate) fn receiving_socket<R: Net>(
     let socket = UdpSocket::bind(rt, SocketAddr::from((address, port)))?;
     socket.set_read_timeout(Some(Duration::from_millis(RECEIVE_WAIT)))?;
     ask_for_room(&socket);
+    Ok(socket)
+}
+
+/// The socket of a descriptor that was handed over, whose receives wait as those of the program's own. How much it
+/// holds is for whoever opened it to say.
+pub(crate) fn inherited_socket(descriptor: i32) -> io::Result<UdpSocket> {
+    if descriptor < 0 {
+        return Err(io::Error::from(ErrorKind::InvalidInput));
+    }
+    let socket = unsafe { UdpSocket::from_raw_fd(descriptor) };
+    socket.set_nonblocking(false)?;
+    socket.set_read_timeout(Some(Duration::from_millis(RECEIVE_WAIT)))?;
     Ok(socket)
 }
 

@@ -1,12 +1,16 @@
 //! What a live run is told beside its studio.
 
-/// How a live run ends, and what it tells while it goes on.
+/// How a live run ends, what it tells while it goes on, and in which form it runs.
 #[derive(Clone, Copy, Debug, PartialEq, Eq)]
 pub struct LiveOptions {
     /// After how many sampling instants the feeds end; if none, not by the clock.
     pub instants: Option<i64>,
     /// Every how many seconds each stream's counts are told; if none, only at the end.
     pub stats: Option<u32>,
+    /// Whether sockets are taken that were handed over.
+    pub listen_fds: bool,
     /// Whether the feeds end where standard input does.
     pub until_eof: bool,
+    /// Whether an engine in one thread does all that the workers would do.
+    pub one_thread: bool,
 }

@@ -1,30 +1,33 @@
-//! A live run: a studio's workers on real sockets, and a watcher beside them.
-ghost use Rattle.std.specs.Prelude.{◌≡◌, true, ℕ, ℤ, pos, ◌≤ℤ◌, length, IfOk, IfErr, OnOk};
+//! A live run in either form, and that of a studio's workers on real sockets, with a watcher beside them.
+ghost use Rattle.std.specs.Prelude.{◌≡◌, true, false, ℕ, ℤ, length, IfOk, IfErr, OnOk};
 ghost use Rattle.std.specs.Thread.{IsSync};
 ghost use Rattle.studio_spec.specs.Studio.{IsStudio, Studio};
 ghost use Rattle.studio_rings.specs.FreshEnds.{AreOpened};
 ghost use Rattle.studio_workers.specs.StreamResults.{AreOpenedTogether};
 ghost use Rattle.studio_live.specs.Run.{FailsRun, IsEarly, IsRunOf, WritesRun};
 
-use crate::addresses::addresses_of;
+use crate::alone::run_in_one_thread;
 use crate::clock::SystemClock;
 use crate::fault::LiveFault;
-use crate::feed::{UdpFeed, receiving_socket};
+use crate::feed::UdpFeed;
+use crate::handed::Handed;
+use crate::monitors::MonitorStats;
 use crate::options::LiveOptions;
 use crate::ports::LivePorts;
 use crate::report::write_report;
 use crate::sink::UdpSink;
 use crate::standard::open_standard;
+use crate::start::{Sockets, Start, clock_of, feeds_of, sockets_of, stats_of};
 use crate::stats::Stats;
 use crate::watch::{Signs, Watcher, watch};
 use std::alloc::{AllocError, Global};
 use std::io::Write;
-use std::net::{Net, UdpSocket};
+use std::net::Net;
 use std::sync::Wait;
 use std::sync::atomic::AtomicBool;
 use std::thread;
 use std::thread::Threads;
-use std::time::{Clock, Duration};
+use std::time::Clock;
 use studio_rings::{Ends, MonitorEnd, open};
 use studio_run::TextBuffer;
 use studio_spec::StudioSpec;
@@ -42,18 +45,10 @@ struct Work<'a, R: Clock> {
     sink: UdpSink,
 }
 
-/// When a run began: its opening time, and what the system's clock read then.
-#[derive(Clone, Copy)]
-struct Start {
-    open_at: i64,
-    began: Option<Duration>,
-    ghost from_zero: { pos 0 ≤ℤ open_at },
-}
-
-/// Runs a studio on sockets at its addresses until its feeds have ended, and then writes the report. Beside the
-/// workers a watcher ends the feeds as the options say, or where a signal that asks for it was held back;
-/// and it writes each stream's counts to `faults`, if they are asked for. Since it mustn't wait, `faults` is
-/// standard error, and lines that this wouldn't take at once are dropped.
+/// Runs a studio on the sockets that were handed over, and others at its addresses, until its feeds have ended, and
+/// then writes the report. Beside the workers, or the one thread, a watcher ends the feeds as the options say, or
+/// where a signal that asks for it was held back. Each stream's counts go to `faults`, if they are asked for. Since
+/// that mustn't wait, `faults` is standard error, and lines that this wouldn't take at once are dropped.
 ///
 /// All sockets are bound, and all memory but the workers' is taken, before the first thread starts. Where the
 /// run was not settled, its report is written all the same, and that is the fault.
@@ -63,36 +58,15 @@ pub fn run_studio_live<R: Threads + Wait + Sync + Net + Clock, W: Write, E: Writ
     studio: &StudioSpec,
     ports: &LivePorts,
     options: &LiveOptions,
+    handed: &Handed,
     output: &mut W,
     faults: E,
 ) -> Result<(), LiveFault>
-    ensures ok { OnOk result (WritesRun studio.now true (W.contents output.old) (W.contents output.new)) }
-    ensures fault { IfErr result (FailsRun studio.now (W.contents output.old) (W.contents output.new)) }
+    ensures ok { OnOk result (WritesRun options.now.one_thread studio.now true (W.contents output.old) (W.contents output.new)) }
+    ensures fault { IfErr result (FailsRun options.now.one_thread studio.now (W.contents output.old) (W.contents output.new)) }
 {
     let mut text = TextBuffer::new(alloc)?;
-    let signs = Signs::new();
-    let start = Start {
-        open_at: studio.open_at(),
-        began: rt.monotonic().ok(),
-    };
-    let until = options
-        .instants
-        .map(|instants| start.open_at.saturating_add(instants));
-    let (work, monitors) = work_of(rt, alloc, studio, ports, start, until, &signs.stop)?;
-    let stats = match options.stats {
-        Some(seconds) => {
-            let clock = clock_of(rt, start);
-            let streams = studio.streams();
-            Some(Stats::new(alloc, streams, monitors, clock, seconds)?)
-        }
-        None => None,
-    };
-    let watcher = Watcher {
-        until_eof: options.until_eof,
-        stats,
-        writer: faults,
-    };
-    let report = run_watched(rt, alloc, work, watcher, &signs)?;
+    let report = run_form(rt, alloc, studio, ports, options, handed, faults)?;
     write_report(&mut text, output, &report)?;
     text.finish(output)?;
     if !report.settled {
@@ -101,14 +75,75 @@ pub fn run_studio_live<R: Threads + Wait + Sync + Net + Clock, W: Write, E: Writ
     Ok(())
 }
 
-/// What a run's workers are started from, and the monitors of its streams: all sockets, bound, and all rings.
+/// Runs a studio in the form that the options say.
+fn run_form<R: Threads + Wait + Sync + Net + Clock, E: Write + Send + Drop>(
+    rt: &R,
+    alloc: Global,
+    studio: &StudioSpec,
+    ports: &LivePorts,
+    options: &LiveOptions,
+    handed: &Handed,
+    faults: E,
+) -> Result<WorkReport, LiveFault>
+    ensures run { IfOk result (IsRunOf options.now.one_thread studio.now) }
+    ensures early { IfErr result IsEarly }
+{
+    let signs = Signs::new();
+    let start = Start::now(rt, studio, options);
+    open_standard();
+    let sockets = sockets_of(rt, alloc, studio, ports, handed)?;
+    if options.one_thread {
+        run_in_one_thread(rt, alloc, studio, sockets, options, start, faults, &signs)
+    } else {
+        run_in_workers(rt, alloc, studio, sockets, options, start, faults, &signs)
+    }
+}
+
+/// Runs a studio's workers.
+fn run_in_workers<'a, R: Threads + Wait + Sync + Net + Clock, E: Write + Send + Drop>(
+    rt: &'a R,
+    alloc: Global,
+    studio: &StudioSpec,
+    sockets: Sockets,
+    options: &LiveOptions,
+    start: Start,
+    faults: E,
+    signs: &'a Signs,
+) -> Result<WorkReport, LiveFault>
+    ensures run { IfOk result (IsRunOf false studio.now) }
+    ensures early { IfErr result IsEarly }
+{
+    let _open_at = studio.open_at();
+    let (work, monitors) = work_of(rt, alloc, studio, sockets, start, &signs.stop)?;
+    let stats = stats_of(rt, alloc, studio, options, start)?;
+    let watcher = Watcher {
+        until_eof: options.until_eof,
+        stats: monitored(monitors, stats, faults),
+    };
+    run_watched(rt, alloc, work, watcher, signs)
+}
+
+/// What is told of the streams by their monitors, if it is asked for.
+fn monitored<R: Clock, E: Drop>(
+    monitors: Vec<MonitorEnd>,
+    stats: Option<Stats<'_, R>>,
+    writer: E,
+) -> Option<MonitorStats<'_, R, E>> {
+    let stats = stats?;
+    Some(MonitorStats {
+        monitors,
+        stats,
+        writer,
+    })
+}
+
+/// What a run's workers are started from, and the monitors of its streams: all rings.
 fn work_of<'a, R: Net + Clock>(
     rt: &'a R,
     alloc: Global,
     studio: &StudioSpec,
-    ports: &LivePorts,
+    sockets: Sockets,
     start: Start,
-    until: Option<i64>,
     stop: &'a AtomicBool,
 ) -> Result<(Work<'a, R>, Vec<MonitorEnd>), LiveFault>
     ensures opened { IfOk result (λ r. AreOpenedTogether studio.now 256 r.0.ends) }
@@ -116,14 +151,12 @@ fn work_of<'a, R: Net + Clock>(
     ensures clocks { IfOk result (λ r. length r.0.clocks.items ≡ length r.0.ends.streams.items) }
     ensures early { IfErr result IsEarly }
 {
-    open_standard();
-    let sockets = receiving_sockets(rt, alloc, studio, ports.paths.as_slice())?;
-    let sink = UdpSink::bind(rt, ports.to_a, ports.to_b, &studio.networks().output)?;
+    let Sockets { receiving, sink } = sockets;
     let ends = open(alloc, studio, PLACES)?;
-    if sockets.len() != ends.paths.len() {
+    if receiving.len() != ends.paths.len() {
         return Err(LiveFault::Socket);
     }
-    let feeds = feeds_of(rt, alloc, sockets, start, until, stop)?;
+    let feeds = feeds_of(rt, alloc, receiving, start, stop)?;
     let clocks = clocks_of(rt, alloc, ends.streams.len(), start)?;
     let (ends, monitors) = without_monitors(alloc, ends);
     let work = Work {
@@ -156,51 +189,6 @@ fn without_monitors(alloc: Global, ends: Ends) -> (Ends, Vec<MonitorEnd>)
     (rest, monitors)
 }
 
-/// A socket for each port, at the address of its path.
-fn receiving_sockets<R: Net>(
-    rt: &R,
-    alloc: Global,
-    studio: &StudioSpec,
-    ports: &[u16],
-) -> Result<Vec<UdpSocket>, LiveFault>
-    ensures sockets { IfOk result (λ sockets. length sockets.items ≡ length ports.now) }
-    ensures early { IfErr result IsEarly }
-{
-    let addresses = addresses_of(alloc, studio)?;
-    let mut sockets = Vec::with_capacity(alloc, ports.len())?;
-    for (place, port) in ports.iter().enumerate() {
-        let Some(address) = addresses.get(place) else {
-            return Err(LiveFault::Socket);
-        };
-        let socket = receiving_socket(rt, *address, *port)?;
-        sockets.push(socket)?;
-    }
-    Ok(sockets)
-}
-
-/// A clock of a run.
-fn clock_of<R: Clock>(rt: &R, start: Start) -> SystemClock<'_, R> {
-    SystemClock::since(rt, start.began, start.open_at)
-}
-
-/// A feed for each socket.
-fn feeds_of<'a, R: Clock>(
-    rt: &'a R,
-    alloc: Global,
-    sockets: Vec<UdpSocket>,
-    start: Start,
-    until: Option<i64>,
-    stop: &'a AtomicBool,
-) -> Result<Vec<UdpFeed<'a, R>>, AllocError>
-    ensures { IfOk result (λ feeds. length feeds.items ≡ length sockets.items) }
-{
-    let mut feeds = Vec::with_capacity(alloc, sockets.len())?;
-    for socket in sockets {
-        feeds.push(UdpFeed::new(socket, clock_of(rt, start), until, stop))?;
-    }
-    Ok(feeds)
-}
-
 /// So many clocks of a run.
 fn clocks_of<R: Clock>(
     rt: &R,
@@ -228,7 +216,7 @@ fn run_watched<R: Threads + Wait + Sync + Clock, E: Write + Send + Drop>(
     requires opened { (studio : Studio) × (places : ℕ) × IsStudio studio × AreOpenedTogether studio places work.ends }
     requires feeds { length work.feeds.items ≡ length work.ends.paths.items }
     requires clocks { length work.clocks.items ≡ length work.ends.streams.items }
-    ensures run { IfOk result (λ report. (studio : Studio) (places : ℕ) → AreOpenedTogether studio places work.entry.ends → IsRunOf studio report) }
+    ensures run { IfOk result (λ report. (studio : Studio) (places : ℕ) → AreOpenedTogether studio places work.entry.ends → IsRunOf false studio report) }
     ensures early { IfErr result IsEarly }
 {
     let Work {
@@ -245,7 +233,7 @@ fn run_watched<R: Threads + Wait + Sync + Clock, E: Write + Send + Drop>(
             requires opened { (studio : Studio) × (places : ℕ) × IsStudio studio × AreOpenedTogether studio places ends }
             requires feeds { length feeds.items ≡ length ends.paths.items }
             requires clocks { length clocks.items ≡ length ends.streams.items }
-            ensures run { IfOk result (λ report. (studio : Studio) (places : ℕ) → AreOpenedTogether studio places ends → IsRunOf studio report) }
+            ensures run { IfOk result (λ report. (studio : Studio) (places : ℕ) → AreOpenedTogether studio places ends → IsRunOf false studio report) }
             ensures early { IfErr result IsEarly }
         {
             let Ok(watching) = scope.spawn(move || watch(rt, watcher, signs)) else {

@@ -6,39 +6,21 @@ use std::alloc::{AllocError, Global};
 use std::io::Write;
 use std::time;
 use stream_rules::{Counts, StreamSpec};
-use studio_rings::MonitorEnd;
 use studio_run::{TextBuffer, WriteFault, write_running_counts};
 use studio_workers::Clock;
 
 /// A second, in sampling instants.
 const SECOND: i64 = 48_000;
 
-/// The most counts that a monitor is asked for at once.
-const MOST_COUNTS: u32 = 65_536;
-
-/// A stream's monitor, and the last counts that it gave.
+/// A stream's last counts.
 #[derive(Drop)]
 struct Seen {
-    monitor: MonitorEnd,
     /// How many paths the stream has.
     paths: u8,
     counts: Counts,
 }
 
-impl Seen {
-    /// Takes all counts that the monitor has, and keeps the last.
-    fn catch_up(&mut self) {
-        for _ in 0..MOST_COUNTS {
-            match self.monitor.next() {
-                Some(counts) => self.counts = counts,
-                None => return,
-            }
-        }
-    }
-}
-
-/// What is told of the streams while they run, and when. A monitor that isn't asked often is full, and
-/// then the newest counts are dropped.
+/// What is told of the streams while they run, and when.
 #[derive(Drop)]
 pub(crate) struct Stats<'a, R: time::Clock> {
     streams: Vec<Seen>,
@@ -54,14 +36,12 @@ impl<'a, R: time::Clock> Stats<'a, R> {
     pub(crate) fn new(
         alloc: Global,
         streams: &[StreamSpec],
-        monitors: Vec<MonitorEnd>,
         mut clock: SystemClock<'a, R>,
         seconds: u32,
     ) -> Result<Stats<'a, R>, AllocError> {
         let mut seen = Vec::new(alloc);
-        for (stream, monitor) in streams.iter().zip(monitors) {
+        for stream in streams {
             seen.push(Seen {
-                monitor,
                 paths: stream.paths(),
                 counts: Counts::new(),
             })?;
@@ -78,16 +58,21 @@ impl<'a, R: time::Clock> Stats<'a, R> {
         })
     }
 
-    /// Asks all monitors, and writes a line for each stream if it is time. After a write that failed
-    /// nothing more is written.
-    pub(crate) fn look<W: Write>(&mut self, writer: &mut W) {
-        for stream in self.streams.iter_mut() {
-            stream.catch_up();
-        }
+    /// The time, where it is time to tell.
+    pub(crate) fn due(&mut self) -> Option<i64> {
         let now = self.clock.now();
-        if now < self.next {
-            return;
+        if now < self.next { None } else { Some(now) }
+    }
+
+    /// Keeps a stream's counts.
+    pub(crate) fn keep(&mut self, stream: usize, counts: Counts) {
+        if let Some(seen) = self.streams.get_mut(stream) {
+            seen.counts = counts;
         }
+    }
+
+    /// Writes a line for each stream, at this time. After a write that failed nothing more is written.
+    pub(crate) fn tell<W: Write>(&mut self, now: i64, writer: &mut W) {
         self.next = match self.write_lines(now, writer) {
             Ok(()) => now.saturating_add(self.every),
             Err(WriteFault) => i64::MAX,

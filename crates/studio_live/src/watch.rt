@@ -1,8 +1,8 @@
 //! What watches a run beside its workers: it sees when the run is to end, and tells counts on the way.
 
 use crate::input::has_input_ended;
+use crate::monitors::MonitorStats;
 use crate::signal::is_asked_to_end;
-use crate::stats::Stats;
 use std::io::Write;
 use std::sync::Wait;
 use std::sync::atomic::{AtomicBool, Ordering};
@@ -40,13 +40,12 @@ impl Signs {
     }
 }
 
-/// What the watcher looks at, and where it tells counts.
+/// What the watcher looks at.
 #[derive(Drop)]
 pub(crate) struct Watcher<'a, R: Clock, E> {
     /// Whether the run ends where standard input does.
     pub(crate) until_eof: bool,
-    pub(crate) stats: Option<Stats<'a, R>>,
-    pub(crate) writer: E,
+    pub(crate) stats: Option<MonitorStats<'a, R, E>>,
 }
 
 /// Looks again and again until the workers have ended: whether the feeds are to end, and what the
@@ -59,7 +58,6 @@ pub(crate) fn watch<R: Wait + Clock, E: Write + Drop>(
     let Watcher {
         until_eof,
         mut stats,
-        mut writer,
     } = watcher;
     for _ in rt.forever() {
         signs.parker.park_timeout(rt, Duration::from_millis(LOOK));
@@ -70,7 +68,7 @@ pub(crate) fn watch<R: Wait + Clock, E: Write + Drop>(
             signs.stop.store(true, Ordering::SeqCst);
         }
         if let Some(stats) = &mut stats {
-            stats.look(&mut writer);
+            stats.look();
         }
     }
 }

@@ -3,6 +3,7 @@ use super::fakes::{FullPage, Page};
 use std::alloc::Global;
 use std::io::Read;
 use std::net::Net;
+use std::rt::Env;
 use std::sync::Wait;
 use std::thread::Threads;
 use std::time::Clock;
@@ -45,11 +46,10 @@ pub(super) struct Outcome {
 }
 
 /// Runs the program without words.
-pub(super) fn outcome_of<R: Threads + Wait + Sync + Net + Clock, I: Read + Drop>(
-    rt: &R,
-    alloc: Global,
-    mut input: I,
-) -> Outcome {
+pub(super) fn outcome_of<
+    R: Threads + Wait + Sync + Net + Clock + Env + AllocGlobal,
+    I: Read + Drop,
+>(rt: &R, alloc: Global, mut input: I) -> Outcome {
     let mut output = Page::new(usize::MAX);
     let mut faults = Page::new(usize::MAX);
     let status = run(

@@ -2,25 +2,18 @@ use Rattle.std.proofs.Common.{subst}
 use Rattle.studio_run.specs.Buffer.{BreaksOff, PassesOn}
 use Rattle.studio_run.proofs.BufferLemmas.{BreaksOff-finished, PassesOn-finished}
 use Rattle.studio_live.specs.Report.{report_text}
-use Rattle.studio_live.proofs.RunLemmas.{broke_off, wrote_nothing}
+use Rattle.studio_live.proofs.RunLemmas.{broke_off}
 use Rattle.studio_live.proofs.run.run_studio_live.Goals as goal
-
-pub run_watched-requires-clause-opened : goal.run_watched-requires-clause-opened
-run_watched-requires-clause-opened g c = λ κs within. (c.args.studio.now, 256, c.open_at.ensures.sound, c.in_ok-work.ensures.opened)
-
-pub returns-in_err-new-in-Some-clause-fault : goal.returns-in_err-new-in-Some-clause-fault
-returns-in_err-new-in-Some-clause-fault g c =
-    let answer = c.from_residual-in_err-new-in-Some in wrote_nothing c.args.studio.now (g.W.Write.contents c.args.output.now) answer.result answer.ensures.1
 
 pub returns-in_err-write_report-clause-fault : goal.returns-in_err-write_report-clause-fault
 returns-in_err-write_report-clause-fault g c =
     let written = g.W.Write.contents c.args.output.now in
     let written_then = g.W.Write.contents c.write_report.new.writer in
     let text = report_text c.in_ok-report.report in
-    broke_off c.args.studio.now written written_then c.from_residual-in_err-write_report.result c.from_residual-in_err-write_report.ensures.1
+    broke_off c.args.options.now.one_thread c.args.studio.now written written_then c.from_residual-in_err-write_report.result c.from_residual-in_err-write_report.ensures.1
     (record {
       report = c.in_ok-report.report;
-      is = c.in_ok-report.ensures.run c.args.studio.now 256 c.in_ok-work.ensures.opened;
+      is = c.in_ok-report.ensures.run;
       part = subst (λ h. BreaksOff written h written_then text) c.in_ok-text.ensures c.in_err-write_report.ensures.fault;
     })
 
@@ -29,10 +22,10 @@ returns-in_err-finish-clause-fault g c =
     let written = g.W.Write.contents c.args.output.now in
     let held = c.write_report.new.text in
     let text = report_text c.in_ok-report.report in
-    broke_off c.args.studio.now written (g.W.Write.contents c.finish.new.writer) c.from_residual-in_err-finish.result c.from_residual-in_err-finish.ensures.1
+    broke_off c.args.options.now.one_thread c.args.studio.now written (g.W.Write.contents c.finish.new.writer) c.from_residual-in_err-finish.result c.from_residual-in_err-finish.ensures.1
     (record {
       report = c.in_ok-report.report;
-      is = c.in_ok-report.ensures.run c.args.studio.now 256 c.in_ok-work.ensures.opened;
+      is = c.in_ok-report.ensures.run;
       part = BreaksOff-finished _ _ _ held text
           (subst (λ h. PassesOn written h (g.W.Write.contents c.write_report.new.writer) held text) c.in_ok-text.ensures c.in_ok-write_report.ensures.ok)
           c.in_err-finish.ensures.fault;
@@ -45,7 +38,7 @@ returns-then-not-report-clause-fault g c =
     let text = report_text c.in_ok-report.report in
     record {
       report = c.in_ok-report.report;
-      is = c.in_ok-report.ensures.run c.args.studio.now 256 c.in_ok-work.ensures.opened;
+      is = c.in_ok-report.ensures.run;
       answer = c.if-not-report.true;
       wrote = PassesOn-finished _ _ _ held text
           (subst (λ h. PassesOn written h (g.W.Write.contents c.write_report.new.writer) held text) c.in_ok-text.ensures c.in_ok-write_report.ensures.ok)
@@ -59,7 +52,7 @@ returns-clause-ok g c =
     let text = report_text c.in_ok-report.report in
     record {
       report = c.in_ok-report.report;
-      is = c.in_ok-report.ensures.run c.args.studio.now 256 c.in_ok-work.ensures.opened;
+      is = c.in_ok-report.ensures.run;
       answer = c.if-not-report.false;
       wrote = PassesOn-finished _ _ _ held text
           (subst (λ h. PassesOn written h (g.W.Write.contents c.write_report.new.writer) held text) c.in_ok-text.ensures c.in_ok-write_report.ensures.ok)

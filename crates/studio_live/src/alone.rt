@@ -1,0 +1,169 @@
+//! A live run in one thread: an engine on real sockets, and a watcher beside it.
+ghost use Rattle.std.specs.Prelude.{◌≡◌, true, IfOk, IfErr, length, map};
+ghost use Rattle.std.specs.Thread.{IsSync};
+ghost use Rattle.studio_spec.specs.Studio.{Studio};
+ghost use Rattle.studio_live.specs.Run.{IsEarly, IsRunOf};
+
+use crate::clock::SystemClock;
+use crate::fault::LiveFault;
+use crate::feed::UdpFeed;
+use crate::options::LiveOptions;
+use crate::sink::UdpSink;
+use crate::socket_rest::SocketRest;
+use crate::start::{Sockets, Start, clock_of, feeds_of, stats_of};
+use crate::watch::{Signs, Watcher, watch};
+use std::alloc::Global;
+use std::io::Write;
+use std::net::Net;
+use std::sync::Wait;
+use std::sync::atomic::AtomicBool;
+use std::thread;
+use std::thread::Threads;
+use std::time::Clock;
+use std::vec::IntoIter;
+use stream_rules::StreamSpec;
+use studio_alone::run_alone;
+use studio_spec::StudioSpec;
+use studio_workers::WorkReport;
+
+/// What a run in one thread is started from.
+#[derive(Drop)]
+struct Lone<'a, R: Wait + Clock, E> {
+    feeds: Vec<Vec<UdpFeed<'a, R>>>,
+    clock: SystemClock<'a, R>,
+    sink: UdpSink,
+    rest: SocketRest<'a, R, E>,
+}
+
+/// Runs a studio in this thread, and the watcher beside it. It returns once both have ended.
+pub(crate) fn run_in_one_thread<'a, R: Threads + Wait + Sync + Net + Clock, E: Write + Send + Drop>(
+    rt: &'a R,
+    alloc: Global,
+    studio: &StudioSpec,
+    sockets: Sockets,
+    options: &LiveOptions,
+    start: Start,
+    faults: E,
+    signs: &'a Signs,
+) -> Result<WorkReport, LiveFault>
+    ensures run { IfOk result (IsRunOf true studio.now) }
+    ensures early { IfErr result IsEarly }
+{
+    let lone = lone_of(
+        rt,
+        alloc,
+        studio,
+        sockets,
+        options,
+        start,
+        faults,
+        &signs.stop,
+    )?;
+    let watcher = Watcher::<'a, R, E> {
+        until_eof: options.until_eof,
+        stats: None,
+    };
+    run_beside(rt, alloc, studio, lone, watcher, signs)
+}
+
+/// What a run in one thread is started from: feeds, and the wait for their sockets.
+fn lone_of<'a, R: Wait + Net + Clock, E: Write + Drop>(
+    rt: &'a R,
+    alloc: Global,
+    studio: &StudioSpec,
+    sockets: Sockets,
+    options: &LiveOptions,
+    start: Start,
+    faults: E,
+    stop: &'a AtomicBool,
+) -> Result<Lone<'a, R, E>, LiveFault>
+    ensures feeds { IfOk result (λ lone. map (λ own. length own.items) lone.feeds.items ≡ map (λ stream. stream.paths) studio.now.streams) }
+    ensures early { IfErr result IsEarly }
+{
+    let Sockets { receiving, sink } = sockets;
+    let stats = stats_of(rt, alloc, studio, options, start)?;
+    let rest = SocketRest::new(rt, rt, alloc, receiving.as_slice(), stats, faults)?;
+    let feeds = feeds_of(rt, alloc, receiving, start, stop)?;
+    Ok(Lone {
+        feeds: by_stream(alloc, feeds, studio.streams())?,
+        clock: clock_of(rt, start),
+        sink,
+        rest,
+    })
+}
+
+/// The feeds of all paths, stream by stream, of which each has as many as it has paths.
+fn by_stream<F: Drop>(
+    alloc: Global,
+    feeds: Vec<F>,
+    streams: &[StreamSpec],
+) -> Result<Vec<Vec<F>>, LiveFault>
+    ensures each { IfOk result (λ all. map (λ own. length own.items) all.items ≡ map (λ stream. stream.paths) streams.now) }
+    ensures early { IfErr result IsEarly }
+{
+    let mut all = Vec::with_capacity(alloc, streams.len())?;
+    let mut feeds = feeds.into_iter();
+    for stream in streams {
+        all.push(next_feeds(alloc, &mut feeds, usize::from(stream.paths()))?)?;
+    }
+    Ok(all)
+}
+
+/// So many feeds more.
+fn next_feeds<F: Drop>(
+    alloc: Global,
+    feeds: &mut IntoIter<F>,
+    count: usize,
+) -> Result<Vec<F>, LiveFault>
+    ensures count { IfOk result (λ own. length own.items ≡ count) }
+    ensures early { IfErr result IsEarly }
+{
+    let mut own = Vec::with_capacity(alloc, count)?;
+    for _ in 0..count {
+        let Some(feed) = feeds.next() else {
+            return Err(LiveFault::Socket);
+        };
+        own.push(feed)?;
+    }
+    Ok(own)
+}
+
+/// Runs an engine, and the watcher beside it.
+fn run_beside<'a, R: Threads + Wait + Sync + Clock, E: Write + Send + Drop>(
+    rt: &'a R,
+    alloc: Global,
+    studio: &StudioSpec,
+    lone: Lone<'a, R, E>,
+    watcher: Watcher<'a, R, E>,
+    signs: &'a Signs,
+) -> Result<WorkReport, LiveFault>
+    requires feeds { map (λ own. length own.items) lone.feeds.items ≡ map (λ stream. stream.paths) studio.now.streams }
+    ensures run { IfOk result (IsRunOf true studio.now) }
+    ensures early { IfErr result IsEarly }
+{
+    let Lone {
+        feeds,
+        clock,
+        sink,
+        rest,
+    } = lone;
+    thread::scope(
+        thread::scope_env(),
+        rt,
+        move |scope| -> Result<WorkReport, LiveFault>
+            requires sync { IsSync R.row }
+            requires feeds { map (λ own. length own.items) feeds.items ≡ map (λ stream. stream.paths) studio.now.streams }
+            ensures run { IfOk result (IsRunOf true studio.entry.now) }
+            ensures early { IfErr result IsEarly }
+        {
+            let Ok(watching) = scope.spawn(move || watch(rt, watcher, signs)) else {
+                return Err(LiveFault::Thread);
+            };
+            let ran = run_alone(rt, alloc, studio, feeds, clock, sink, rest);
+            signs.tell_over();
+            watching.join(rt);
+            let (report, _sink) = ran?;
+            Ok(report)
+        },
+    )
+}
