@@ -20,13 +20,20 @@ const MILLISECOND: u64 = 48;
 /// So many nanoseconds are three sampling instants.
 const THREE_INSTANTS: u64 = 62_500;
 
+/// After so many waits in which nothing came, a wait is for milliseconds together: silence goes out in bursts.
+const QUIET_WAITS: u32 = 100;
+
+/// How many milliseconds such a wait takes at least, if nothing comes.
+const QUIET_WAIT: u64 = 4;
+
 /// How many sockets are told of at once. The others stay known as ready.
 const MOST_EVENTS: usize = 64;
 
 /// A wait for one of several sockets to become ready, and what is told of the streams meanwhile.
 ///
 /// While datagrams come it doesn't end at each: it waits a millisecond, after which all sockets are asked. So no
-/// reading of the clock is much older than that when a datagram is judged by the next.
+/// reading of the clock is much older than that when a datagram is judged by the next. Once nothing has come for a
+/// while it sleeps longer, past deadlines of silence; the first datagram ends that.
 #[derive(Drop)]
 pub(crate) struct SocketRest<'a, R: Wait + Clock, E> {
     rt: &'a R,
@@ -36,6 +43,8 @@ pub(crate) struct SocketRest<'a, R: Wait + Clock, E> {
     parker: Parker,
     /// Whether a socket became ready during the last wait.
     is_busy: bool,
+    /// In how many waits since then none did.
+    quiet: u32,
     stats: Option<Stats<'a, R>>,
     writer: E,
 }
@@ -64,6 +73,7 @@ impl<'a, R: Wait + Clock, E: Write + Drop> SocketRest<'a, R, E> {
             events: Events::with_capacity(alloc, MOST_EVENTS)?,
             parker: Parker::new(),
             is_busy: false,
+            quiet: 0,
             stats,
             writer,
         })
@@ -88,7 +98,9 @@ impl<'a, R: Wait + Clock, E: Write + Drop> SocketRest<'a, R, E> {
     /// Waits so many sampling instants, but for whole milliseconds at most until a socket is ready.
     fn wait(&mut self, instants: u64) {
         let mut most = instants / MILLISECOND;
-        if self.is_busy || most == 0 {
+        if self.quiet >= QUIET_WAITS {
+            most = most.max(QUIET_WAIT);
+        } else if self.is_busy || most == 0 {
             let part = instants.min(MILLISECOND) * THREE_INSTANTS / 3;
             self.parker
                 .park_timeout(self.rt, Duration::from_nanos(part));
@@ -98,6 +110,11 @@ impl<'a, R: Wait + Clock, E: Write + Drop> SocketRest<'a, R, E> {
             .poll
             .poll(&mut self.events, Some(Duration::from_millis(most)));
         self.is_busy = polled.is_ok() && !self.events.is_empty();
+        self.quiet = if self.is_busy {
+            0
+        } else {
+            self.quiet.saturating_add(1)
+        };
     }
 }
 
