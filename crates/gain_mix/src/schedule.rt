@@ -97,6 +97,16 @@ impl Schedule {
         self.later.as_slice()
     }
 
+    /// The matrix before any change, and the changes, each with its time.
+    pub fn into_parts(self) -> (Matrix, Vec<(i64, Matrix)>)
+        ensures first { result.0 ≡ self.first }
+        ensures later { result.1.items ≡ self.later }
+        ensures no_fault { schedule_fault_of self.first self.later ≡ None }
+    {
+        let Schedule { first, later } = self;
+        (first, later)
+    }
+
     /// A schedule of the same gains.
     pub fn copied(&self, alloc: Global) -> Result<Schedule, AllocError>
         ensures { IfOk result (λ copy. copy ≡ self.now) }

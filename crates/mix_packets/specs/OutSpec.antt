@@ -1,5 +1,5 @@
 -- What an output's specification says, and what is true of every one.
-use Rattle.std.specs.Prelude.{◌≡◌, ℕ, ◌+◌, ◌*◌, ◌^◌, ◌<◌, ◌≤◌, pos, ◌≤ℤ◌, true, not, ◌&&◌, nat_lt, nat_le, int_le, Option, Some, None, if◌then◌else◌}
+use Rattle.std.specs.Prelude.{◌≡◌, ℕ, ◌+◌, ◌*◌, ◌^◌, ◌<◌, ◌≤◌, pos, ◌≤ℤ◌, true, not, ◌&&◌, nat_lt, nat_le, ℤ, int_le, Bool, Option, Some, None, if◌then◌else◌}
 use Rattle.rtp_wire.specs.declared.encoding.Enc.{Enc}
 use Rattle.rtp_wire.specs.declared.encoding.Enc.TheVariants.{L16, L24}
 use Rattle.rtp_wire.specs.PacketTime.{is_packet_time}
@@ -25,6 +25,10 @@ abbrev pub shift_of : Enc → ℕ
 shift_of L16 = 24
 shift_of L24 = 16
 
+-- an output may start at this time
+abbrev pub is_start : ℤ → Bool
+is_start start = int_le (pos 0) start && int_le start (pos (2 ^ 60))
+
 -- the first fault of a specification
 abbrev pub out_fault_of : Output → Option OutFault
 out_fault_of out =
@@ -32,7 +36,7 @@ out_fault_of out =
     else if not (is_packet_time out.frames) then Some Frames
     else if not (nat_le 96 out.pt && nat_le out.pt 127) then Some PayloadType
     else if nat_lt 1440 (payload_length out) then Some TooLong
-    else if not (int_le (pos 0) out.start && int_le out.start (pos (2 ^ 60))) then Some Start
+    else if not (is_start out.start) then Some Start
     else None
 
 -- what follows of a specification with no fault

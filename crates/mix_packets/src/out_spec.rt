@@ -1,6 +1,6 @@
 //! What is fixed of an output before its first packet.
-ghost use Rattle.std.specs.Prelude.{◌≡◌, ◌≤◌, None, Some, IfOk, IfErr};
-ghost use Rattle.mix_packets.specs.OutSpec.{IsOutput, datagram_length, out_fault_of, payload_length, shift_of};
+ghost use Rattle.std.specs.Prelude.{◌≡◌, ◌≤◌, false, true, None, Some, IfOk, IfErr, OnErr, OnOk};
+ghost use Rattle.mix_packets.specs.OutSpec.{IsOutput, datagram_length, is_start, out_fault_of, payload_length, shift_of};
 
 use rtp_wire::{Enc, is_packet_time};
 use std::marker::Model;
@@ -127,6 +127,23 @@ impl OutSpec {
             seq0,
             start,
             offset,
+        })
+    }
+
+    /// The same output, whose first packet has this media time, or `OutFault::Start`.
+    pub fn starting_at(self, start: i64) -> Result<OutSpec, OutFault>
+        ensures ok { IfOk result (λ s. s ≡ record self { start = start }) }
+        ensures fine { OnOk result (is_start start ≡ true) }
+        ensures fault { OnErr result (is_start start ≡ false) }
+    {
+        if start < 0 || start > LATEST_START {
+            return Err(OutFault::Start);
+        }
+        Ok(OutSpec {
+            output: Output {
+                start,
+                ..self.output
+            },
         })
     }
 

@@ -4,3 +4,4 @@ mod AddressCases
 pub mod FaultLemmas
 pub mod GainLemmas
 pub mod PortLemmas
+pub mod ShiftLemmas

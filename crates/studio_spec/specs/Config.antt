@@ -7,7 +7,7 @@ use Rattle.studio_spec.specs.Ports.{absent_rows}
 use Rattle.studio_spec.specs.Studio.{Studio, channel_total}
 use Rattle.studio_spec.specs.Values.{number_at, number_or, tables_at, table_at}
 use Rattle.studio_spec.specs.Rows.{Row, required, whole, few_tables, a_table, first_in, table_fault}
-use Rattle.studio_spec.specs.NetworkTable.{binds_of, senders_of}
+use Rattle.studio_spec.specs.NetworkTable.{binds_of, sender_addresses_of, senders_of}
 use Rattle.studio_spec.specs.StreamTable.{stream_of, ports_of, stream_fault}
 use Rattle.studio_spec.specs.OutputTable.{output_of, schedule_of, each_fault, output_fault}
 use Rattle.studio_spec.specs.declared.config.keys.Key.TheVariants as key
@@ -30,12 +30,15 @@ streams_of members = map stream_of (tables_at members key.Stream)
 abbrev pub row_table : {A : Type 0} → (Members → List (Option A)) → List Members → List (List (Option A))
 row_table row streams = map row streams ++ absent_rows (16 - length streams)
 
--- their ports, and their addresses
+-- their ports, their addresses, and those of their senders
 abbrev pub port_table : List Members → List (List (Option ℕ))
 port_table = row_table ports_of
 
 abbrev pub bind_table : List Members → List (List (Option Ipv4Addr))
 bind_table = row_table binds_of
+
+abbrev pub sender_table : List Members → List (List (Option Ipv4Addr))
+sender_table = row_table sender_addresses_of
 
 -- the studio that a configuration says
 abbrev pub studio_of : Members → Studio
@@ -51,6 +54,7 @@ studio_of members = record {
   };
   networks = record {
     paths = bind_table (tables_at members key.Stream);
+    sources = sender_table (tables_at members key.Stream);
     output = senders_of (table_at members key.Output);
   };
 }

@@ -5,6 +5,7 @@ pub mod Studio
 pub mod Keys
 pub mod Values
 pub mod Rows
+pub mod Shift
 pub mod NetworkTable
 pub mod StreamTable
 pub mod OutputTable

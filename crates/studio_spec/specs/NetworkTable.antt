@@ -1,5 +1,5 @@
 -- The addresses in the tables of streams and of the output: their rows, and what they say.
-use Rattle.std.specs.Prelude.{List, [], ◌∷◌, Option}
+use Rattle.std.specs.Prelude.{List, [], ◌∷◌, ◌++◌, Option}
 use Rattle.std.specs.declared.net.ipv4_addr.Ipv4Addr.{Ipv4Addr}
 use Rattle.toml.specs.Data.{Members}
 use Rattle.studio_spec.specs.Values.{number_at, address_at}
@@ -24,6 +24,28 @@ binds_of members =
     ∷ address_at members key.AddressC
     ∷ address_at members key.AddressD
     ∷ []
+
+-- the address from which each of its paths is heard
+abbrev pub sender_address_rows : List Row
+sender_address_rows =
+    optional key.SourceA an_address
+    ∷ optional key.SourceB an_address
+    ∷ optional key.SourceC an_address
+    ∷ optional key.SourceD an_address
+    ∷ []
+
+-- the addresses of its paths' senders
+abbrev pub sender_addresses_of : Members → List (Option Ipv4Addr)
+sender_addresses_of members =
+    address_at members key.SourceA
+    ∷ address_at members key.SourceB
+    ∷ address_at members key.SourceC
+    ∷ address_at members key.SourceD
+    ∷ []
+
+-- the addresses in the table of a stream
+abbrev pub path_rows : List Row
+path_rows = bind_rows ++ sender_address_rows
 
 -- from which address, and to which, each copy of the output's packets is sent, and through how many routers
 abbrev pub sender_rows : List Row

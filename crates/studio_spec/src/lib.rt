@@ -2,7 +2,7 @@
 //!
 //! `StudioSpec::new` joins parts that were made one by one, with no port or address known. `from_table` reads
 //! them from a parsed TOML table, or answers the first fault by its table and key. What either gives
-//! keeps that gains fit streams and output, and the crates above take it by reference.
+//! keeps that gains fit streams and output, and the crates above take it by reference. `shifted` moves its times.
 #![tactic(auto)]
 
 mod config;

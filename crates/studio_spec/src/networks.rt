@@ -10,6 +10,8 @@ use stream_rules::Path;
 pub struct Networks {
     /// At which address each path of each stream is received: an interface's, or a group's.
     pub paths: [[Option<Ipv4Addr>; 4]; 16],
+    /// From which address alone each path of each stream takes datagrams.
+    pub sources: [[Option<Ipv4Addr>; 4]; 16],
     /// How the output is sent.
     pub output: Senders,
 }
@@ -29,6 +31,13 @@ pub struct Senders {
     pub ttl: Option<u8>,
 }
 
+/// At which address each path of a stream is received, and from which alone it takes datagrams.
+#[derive(Clone, Copy)]
+pub(crate) struct PathAddresses {
+    pub binds: [Option<Ipv4Addr>; 4],
+    pub sources: [Option<Ipv4Addr>; 4],
+}
+
 impl Networks {
     /// No address is known.
     pub fn absent() -> Networks
@@ -36,6 +45,7 @@ impl Networks {
     {
         Networks {
             paths: [[None; 4]; 16],
+            sources: [[None; 4]; 16],
             output: Senders {
                 from_a: None,
                 from_b: None,
@@ -46,21 +56,39 @@ impl Networks {
         }
     }
 
-    /// Writes down at which addresses the paths of a stream are received.
-    pub(crate) fn set_binds(&mut self, stream: usize, row: [Option<Ipv4Addr>; 4])
-        requires { stream < length self.old.paths }
-        ensures { self.new.paths ≡ slice_set self.old.paths stream row }
+    /// Writes down at which addresses the paths of a stream are received, and from which.
+    pub(crate) fn set_rows(&mut self, stream: usize, addresses: PathAddresses)
+        requires paths { stream < length self.old.paths }
+        requires sources { stream < length self.old.sources }
+        ensures paths { self.new.paths ≡ slice_set self.old.paths stream addresses.binds }
+        ensures sources { self.new.sources ≡ slice_set self.old.sources stream addresses.sources }
     {
-        self.paths[stream] = row;
+        let PathAddresses { binds, sources } = addresses;
+        self.paths[stream] = binds;
+        self.sources[stream] = sources;
     }
 
     /// At which address a path of a stream is received.
     pub fn address(&self, stream: usize, path: Path) -> Option<Ipv4Addr>
         ensures { result ≡ path_address self.now.paths stream path }
     {
-        match self.paths.get(stream) {
-            Some(row) => row[usize::from(path.number())],
-            None => None,
-        }
+        address_in(&self.paths, stream, path)
+    }
+
+    /// From which address alone a path of a stream takes datagrams.
+    pub fn source(&self, stream: usize, path: Path) -> Option<Ipv4Addr>
+        ensures { result ≡ path_address self.now.sources stream path }
+    {
+        address_in(&self.sources, stream, path)
+    }
+}
+
+/// The address of a path of a stream.
+fn address_in(rows: &[[Option<Ipv4Addr>; 4]; 16], stream: usize, path: Path) -> Option<Ipv4Addr>
+    ensures { result ≡ path_address rows.now stream path }
+{
+    match rows.get(stream) {
+        Some(row) => row[usize::from(path.number())],
+        None => None,
     }
 }

@@ -5,6 +5,8 @@ ghost use Rattle.studio_spec.specs.Ports.{absent_rows};
 ghost use Rattle.studio_spec.specs.Networks.{absent_networks};
 ghost use Rattle.studio_spec.specs.Studio.{Studio, IsStudio, channel_total};
 
+mod shift;
+
 use crate::networks::Networks;
 use crate::ports::Ports;
 use gain_mix::Schedule;

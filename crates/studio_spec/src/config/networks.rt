@@ -3,19 +3,31 @@ ghost use Rattle.std.specs.Prelude.{◌≡◌, None, Some, OnOk, IfOk, IfErr};
 ghost use Rattle.toml.specs.View.{table_view};
 ghost use Rattle.studio_spec.specs.Values.{number_at};
 ghost use Rattle.studio_spec.specs.Rows.{optional, whole, row_fault, rows_fault};
-ghost use Rattle.studio_spec.specs.NetworkTable.{bind_rows, binds_of, sender_rows, senders_of};
+ghost use Rattle.studio_spec.specs.NetworkTable.{bind_rows, binds_of, path_rows, sender_address_rows, sender_addresses_of, sender_rows, senders_of};
 ghost use Rattle.studio_spec.specs.declared.config.keys.Key.TheVariants as key;
 
 use crate::config::addresses::address;
 use crate::config::fault::{Place, SpecError};
 use crate::config::keys::Key;
 use crate::config::numbers::optional_whole;
-use crate::networks::Senders;
+use crate::networks::{PathAddresses, Senders};
 use std::net::Ipv4Addr;
 use toml::Table;
 
+/// Reads the addresses of a stream's paths.
+pub(crate) fn read_path_addresses(table: &Table, place: Place) -> Result<PathAddresses, SpecError>
+    ensures ok { OnOk result (rows_fault place (table_view table.now) path_rows ≡ None) }
+    ensures binds { IfOk result (λ p. p.binds ≡ binds_of (table_view table.now)) }
+    ensures sources { IfOk result (λ p. p.sources ≡ sender_addresses_of (table_view table.now)) }
+    ensures fault { IfErr result (λ e. rows_fault place (table_view table.now) path_rows ≡ Some e) }
+{
+    let binds = read_binds(table, place)?;
+    let sources = read_sender_addresses(table, place)?;
+    Ok(PathAddresses { binds, sources })
+}
+
 /// Reads at which address each path is received.
-pub(crate) fn read_binds(table: &Table, place: Place) -> Result<[Option<Ipv4Addr>; 4], SpecError>
+fn read_binds(table: &Table, place: Place) -> Result<[Option<Ipv4Addr>; 4], SpecError>
     ensures ok { OnOk result (rows_fault place (table_view table.now) bind_rows ≡ None) }
     ensures binds { IfOk result (λ b. b ≡ binds_of (table_view table.now)) }
     ensures fault { IfErr result (λ e. rows_fault place (table_view table.now) bind_rows ≡ Some e) }
@@ -24,6 +36,19 @@ pub(crate) fn read_binds(table: &Table, place: Place) -> Result<[Option<Ipv4Addr
     let b = address(table, place, Key::AddressB)?;
     let c = address(table, place, Key::AddressC)?;
     let d = address(table, place, Key::AddressD)?;
+    Ok([a, b, c, d])
+}
+
+/// Reads from which address each path takes datagrams.
+fn read_sender_addresses(table: &Table, place: Place) -> Result<[Option<Ipv4Addr>; 4], SpecError>
+    ensures ok { OnOk result (rows_fault place (table_view table.now) sender_address_rows ≡ None) }
+    ensures addresses { IfOk result (λ a. a ≡ sender_addresses_of (table_view table.now)) }
+    ensures fault { IfErr result (λ e. rows_fault place (table_view table.now) sender_address_rows ≡ Some e) }
+{
+    let a = address(table, place, Key::SourceA)?;
+    let b = address(table, place, Key::SourceB)?;
+    let c = address(table, place, Key::SourceC)?;
+    let d = address(table, place, Key::SourceD)?;
     Ok([a, b, c, d])
 }
 

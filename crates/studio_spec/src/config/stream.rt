@@ -3,23 +3,23 @@ ghost use Rattle.std.specs.Prelude.{◌≡◌, None, Some, OnOk, IfOk, IfErr};
 ghost use Rattle.toml.specs.View.{table_view};
 ghost use Rattle.studio_spec.specs.Values.{number_at, number_or};
 ghost use Rattle.studio_spec.specs.Rows.{rows_fault};
-ghost use Rattle.studio_spec.specs.NetworkTable.{binds_of};
+ghost use Rattle.studio_spec.specs.NetworkTable.{binds_of, sender_addresses_of};
 ghost use Rattle.studio_spec.specs.StreamTable.{source_rows, wait_rows, port_rows, clock_of, stream_of, ports_of, stream_fault};
 ghost use Rattle.studio_spec.specs.declared.config.keys.Key.TheVariants as key;
 
 use crate::config::fault::{Kind, Place, SpecError};
 use crate::config::keys::Key;
 use crate::config::known::check_known;
-use crate::config::networks::read_binds;
+use crate::config::networks::read_path_addresses;
 use crate::config::numbers::{optional_whole, port, whole, whole_or};
 use crate::config::packets::read_packets;
 use crate::config::words::is_media;
-use std::net::Ipv4Addr;
+use crate::networks::PathAddresses;
 use stream_rules::{Stream, StreamClock, StreamSpec};
 use toml::Table;
 
 /// The keys of a stream's table.
-const KEYS: [Key; 18] = [
+const KEYS: [Key; 22] = [
     Key::Encoding,
     Key::Channels,
     Key::Frames,
@@ -38,6 +38,10 @@ const KEYS: [Key; 18] = [
     Key::AddressB,
     Key::AddressC,
     Key::AddressD,
+    Key::SourceA,
+    Key::SourceB,
+    Key::SourceC,
+    Key::SourceD,
 ];
 
 /// The source that packets come from, if it is said, and the clock of their media times.
@@ -55,12 +59,12 @@ struct Wait {
     paths: u8,
 }
 
-/// A stream, and the port and address at which each of its paths is received.
+/// A stream, and where each of its paths is received.
 #[derive(Clone, Copy)]
 pub(crate) struct StreamEntry {
     pub spec: StreamSpec,
     pub ports: [Option<u16>; 4],
-    pub binds: [Option<Ipv4Addr>; 4],
+    pub addresses: PathAddresses,
 }
 
 /// Reads a stream's table.
@@ -68,14 +72,15 @@ pub(crate) fn read_stream(table: &Table, place: Place) -> Result<StreamEntry, Sp
     ensures ok { OnOk result (stream_fault place (table_view table.now) ≡ None) }
     ensures stream { IfOk result (λ s. s.spec ≡ stream_of (table_view table.now)) }
     ensures ports { IfOk result (λ s. s.ports ≡ ports_of (table_view table.now)) }
-    ensures binds { IfOk result (λ s. s.binds ≡ binds_of (table_view table.now)) }
+    ensures binds { IfOk result (λ s. s.addresses.binds ≡ binds_of (table_view table.now)) }
+    ensures sources { IfOk result (λ s. s.addresses.sources ≡ sender_addresses_of (table_view table.now)) }
     ensures fault { IfErr result (λ e. stream_fault place (table_view table.now) ≡ Some e) }
 {
     let packets = read_packets(table, place)?;
     let source = read_source(table, place)?;
     let wait = read_wait(table, place)?;
     let ports = read_ports(table, place)?;
-    let binds = read_binds(table, place)?;
+    let addresses = read_path_addresses(table, place)?;
     check_known(table, place, &KEYS)?;
     let stream = Stream {
         enc: packets.enc,
@@ -89,7 +94,11 @@ pub(crate) fn read_stream(table: &Table, place: Place) -> Result<StreamEntry, Sp
         paths: wait.paths,
     };
     match StreamSpec::of(stream) {
-        Ok(spec) => Ok(StreamEntry { spec, ports, binds }),
+        Ok(spec) => Ok(StreamEntry {
+            spec,
+            ports,
+            addresses,
+        }),
         Err(fault) => Err(SpecError {
             place,
             key: None,

@@ -7,7 +7,7 @@ ghost use Rattle.studio_spec.specs.Studio.{channel_total};
 ghost use Rattle.studio_spec.specs.Values.{members_in, is_table};
 ghost use Rattle.studio_spec.specs.StreamTable.{stream_of, stream_fault};
 ghost use Rattle.studio_spec.specs.OutputTable.{each_fault};
-ghost use Rattle.studio_spec.specs.Config.{port_table, bind_table, studio_of, config_fault_of, no_memory};
+ghost use Rattle.studio_spec.specs.Config.{port_table, bind_table, sender_table, studio_of, config_fault_of, no_memory};
 ghost use Rattle.studio_spec.specs.declared.config.fault.Place.TheVariants as at;
 
 use crate::config::fault::{Place, SpecError};
@@ -66,10 +66,12 @@ fn read_streams(
     requires few { length tables.now ≤ 16 }
     requires absent { ports.old.paths ≡ absent_rows 16 }
     requires unbound { networks.old.paths ≡ absent_rows 16 }
+    requires unsent { networks.old.sources ≡ absent_rows 16 }
     ensures ok { OnOk result (each_fault (λ n. stream_fault (at.Stream n)) 0 (map (λ t. members_in (view t)) tables.now) ≡ None) }
     ensures streams { IfOk result (λ s. s.items ≡ map stream_of (map (λ t. members_in (view t)) tables.now)) }
     ensures ports { OnOk result (ports.new.paths ≡ port_table (map (λ t. members_in (view t)) tables.now)) }
     ensures binds { OnOk result (networks.new.paths ≡ bind_table (map (λ t. members_in (view t)) tables.now)) }
+    ensures sources { OnOk result (networks.new.sources ≡ sender_table (map (λ t. members_in (view t)) tables.now)) }
     ensures fault { IfErr result (λ e. (e ≡ no_memory) ⊎ (each_fault (λ n. stream_fault (at.Stream n)) 0 (map (λ t. members_in (view t)) tables.now) ≡ Some e)) }
 {
     let mut streams = Vec::new(alloc);
@@ -77,7 +79,7 @@ fn read_streams(
         let entry = read_stream(table_of(stream), Place::Stream(number))?;
         streams.push(entry.spec)?;
         ports.set_row(number, entry.ports);
-        networks.set_binds(number, entry.binds);
+        networks.set_rows(number, entry.addresses);
     }
     Ok(streams)
 }

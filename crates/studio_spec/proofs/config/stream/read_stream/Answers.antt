@@ -23,7 +23,7 @@ returns-in_err-ports-clause-fault c =
     let is : c.from_residual-in_err-ports.result ≡ Err c.in_err-ports.field-0.0 = search rules in
     rw is (stream_fault-rows c.args.place (table_view c.args.table.now) c.in_err-ports.field-0.0 (rw (c.in_ok-packets.ensures.ok, c.in_ok-source.ensures.ok, c.in_ok-wait.ensures.ok, c.in_err-ports.ensures.fault)))
 
-pub returns-in_err-binds-clause-fault : goal.returns-in_err-binds-clause-fault
-returns-in_err-binds-clause-fault c =
-    let is : c.from_residual-in_err-binds.result ≡ Err c.in_err-binds.field-0.0 = search rules in
-    rw is (stream_fault-rows c.args.place (table_view c.args.table.now) c.in_err-binds.field-0.0 (rw (c.in_ok-packets.ensures.ok, c.in_ok-source.ensures.ok, c.in_ok-wait.ensures.ok, c.in_ok-ports.ensures.ok, c.in_err-binds.ensures.fault)))
+pub returns-in_err-addresses-clause-fault : goal.returns-in_err-addresses-clause-fault
+returns-in_err-addresses-clause-fault c =
+    let is : c.from_residual-in_err-addresses.result ≡ Err c.in_err-addresses.field-0.0 = search rules in
+    rw is (stream_fault-rows c.args.place (table_view c.args.table.now) c.in_err-addresses.field-0.0 (rw (c.in_ok-packets.ensures.ok, c.in_ok-source.ensures.ok, c.in_ok-wait.ensures.ok, c.in_ok-ports.ensures.ok, c.in_err-addresses.ensures.fault)))

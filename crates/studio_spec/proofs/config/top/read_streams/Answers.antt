@@ -4,10 +4,10 @@ use Rattle.toml.specs.View.{view, table_view}
 use Rattle.toml.specs.declared.value.Value.{Value}
 use Rattle.studio_spec.specs.Values.{members_in}
 use Rattle.studio_spec.specs.Rows.{first_of}
-use Rattle.studio_spec.specs.NetworkTable.{binds_of}
+use Rattle.studio_spec.specs.NetworkTable.{binds_of, sender_addresses_of}
 use Rattle.studio_spec.specs.StreamTable.{stream_of, ports_of, stream_fault}
 use Rattle.studio_spec.specs.OutputTable.{each_fault}
-use Rattle.studio_spec.specs.Config.{port_table, bind_table}
+use Rattle.studio_spec.specs.Config.{port_table, bind_table, sender_table}
 use Rattle.studio_spec.specs.declared.config.fault.Place.TheVariants as at
 use Rattle.studio_spec.proofs.PortLemmas.{length-row_table, row_table-more}
 use Rattle.studio_spec.proofs.config.top.read_streams.Goals as goal
@@ -19,11 +19,18 @@ set_row-requires c =
     let long : length c.loop-number.ports.paths ≡ 16 = ap length c.loop-number.invariant.rows ∙ length-row_table ports_of ms (omega (arith, count, c.loop-number-test.true, c.requires.few)) in
     omega (arith, long, count, c.loop-number-test.true, c.requires.few)
 
-pub set_binds-requires : goal.set_binds-requires
-set_binds-requires c =
+pub set_rows-requires-clause-paths : goal.set_rows-requires-clause-paths
+set_rows-requires-clause-paths c =
     let ms = map (λ (t : Value). members_in (view t)) (take c.loop-number.number c.args.tables.now) in
     let count : length ms ≡ c.loop-number.number = length-map (take c.loop-number.number c.args.tables.now) (λ (t : Value). members_in (view t)) ∙ length-take-le c.loop-number.number c.args.tables.now (omega (arith, c.loop-number-test.true)) in
     let long : length c.loop-number.networks.paths ≡ 16 = ap length c.loop-number.invariant.binds ∙ length-row_table binds_of ms (omega (arith, count, c.loop-number-test.true, c.requires.few)) in
+    omega (arith, long, count, c.loop-number-test.true, c.requires.few)
+
+pub set_rows-requires-clause-sources : goal.set_rows-requires-clause-sources
+set_rows-requires-clause-sources c =
+    let ms = map (λ (t : Value). members_in (view t)) (take c.loop-number.number c.args.tables.now) in
+    let count : length ms ≡ c.loop-number.number = length-map (take c.loop-number.number c.args.tables.now) (λ (t : Value). members_in (view t)) ∙ length-take-le c.loop-number.number c.args.tables.now (omega (arith, c.loop-number-test.true)) in
+    let long : length c.loop-number.networks.sources ≡ 16 = ap length c.loop-number.invariant.sources ∙ length-row_table sender_addresses_of ms (omega (arith, count, c.loop-number-test.true, c.requires.few)) in
     omega (arith, long, count, c.loop-number-test.true, c.requires.few)
 
 pub loop-number-preserved : goal.loop-number-preserved
@@ -53,17 +60,24 @@ loop-number-preserved c =
     ∙ ap (λ k. slice_set (port_table ms) k (ports_of m)) (sym count)
     ∙ row_table-more ports_of ms m (omega (arith, count, c.loop-number-test.true, c.requires.few))
     ∙ ap port_table (sym read_more) in
-    let binds : c.set_binds.new.self.paths ≡ bind_table (map read (take (n + 1) tables)) =
-    c.set_binds.ensures
-    ∙ ap (λ paths. slice_set paths n c.in_ok-entry.entry.binds) c.loop-number.invariant.binds
+    let binds : c.set_rows.new.self.paths ≡ bind_table (map read (take (n + 1) tables)) =
+    c.set_rows.ensures.paths
+    ∙ ap (λ paths. slice_set paths n c.in_ok-entry.entry.addresses.binds) c.loop-number.invariant.binds
     ∙ ap (slice_set (bind_table ms) n) (c.in_ok-entry.ensures.binds ∙ ap binds_of table)
     ∙ ap (λ k. slice_set (bind_table ms) k (binds_of m)) (sym count)
     ∙ row_table-more binds_of ms m (omega (arith, count, c.loop-number-test.true, c.requires.few))
     ∙ ap bind_table (sym read_more) in
+    let sources : c.set_rows.new.self.sources ≡ sender_table (map read (take (n + 1) tables)) =
+    c.set_rows.ensures.sources
+    ∙ ap (λ sources. slice_set sources n c.in_ok-entry.entry.addresses.sources) c.loop-number.invariant.sources
+    ∙ ap (slice_set (sender_table ms) n) (c.in_ok-entry.ensures.sources ∙ ap sender_addresses_of table)
+    ∙ ap (λ k. slice_set (sender_table ms) k (sender_addresses_of m)) (sym count)
+    ∙ row_table-more sender_addresses_of ms m (omega (arith, count, c.loop-number-test.true, c.requires.few))
+    ∙ ap sender_table (sym read_more) in
     let rest : drop n tables ≡ value ∷ drop (n + 1) tables = drop_more tables n value c.loop-number-test.true ∙ ap (λ v. v ∷ drop (n + 1) tables) (sym c.index-tables-number.is) in
     let none : fault n m ≡ None = ap (fault n) (sym table) ∙ c.in_ok-entry.ensures.ok in
     let left : each_fault fault 0 (map read tables) ≡ each_fault fault (n + 1) (map read (drop (n + 1) tables)) =
     c.loop-number.invariant.left
     ∙ ap (λ d. each_fault fault n (map read d)) rest
     ∙ ap (λ first. first_of first (each_fault fault (n + 1) (map read (drop (n + 1) tables)))) none in
-    record { so_far = so_far; rows = rows; binds = binds; left = left }
+    record { so_far = so_far; rows = rows; binds = binds; sources = sources; left = left }

@@ -6,7 +6,7 @@ use Rattle.studio_spec.specs.Values.{number_at, number_or, tables_at, table_at}
 use Rattle.studio_spec.specs.NetworkTable.{senders_of}
 use Rattle.studio_spec.specs.StreamTable.{stream_of, stream_fault}
 use Rattle.studio_spec.specs.OutputTable.{output_of, schedule_of, each_fault, output_fault}
-use Rattle.studio_spec.specs.Config.{streams_of, port_table, bind_table}
+use Rattle.studio_spec.specs.Config.{streams_of, port_table, bind_table, sender_table}
 use Rattle.studio_spec.specs.declared.config.fault.Place.TheVariants as at
 use Rattle.studio_spec.specs.declared.config.keys.Key.TheVariants as key
 use Rattle.studio_spec.proofs.FaultLemmas.{top_fault-none, config_fault-output}
@@ -46,10 +46,11 @@ returns-clause-studio c =
     let streams : c.in_ok-streams.streams.items ≡ streams_of m = c.in_ok-streams.ensures.streams ∙ ap (map stream_of) c.in_ok-tables.ensures.tables in
     let paths : c.read_streams.new.ports.paths ≡ port_table (tables_at m key.Stream) = c.in_ok-streams.ensures.ports ∙ ap port_table c.in_ok-tables.ensures.tables in
     let binds : c.read_streams.new.networks.paths ≡ bind_table (tables_at m key.Stream) = c.in_ok-streams.ensures.binds ∙ ap bind_table c.in_ok-tables.ensures.tables in
+    let sources : c.read_streams.new.networks.sources ≡ sender_table (tables_at m key.Stream) = c.in_ok-streams.ensures.sources ∙ ap sender_table c.in_ok-tables.ensures.tables in
     let table = sym c.in_ok-output_table.ensures.table in
     let output : c.in_ok-output.output.spec ≡ output_of (table_at m key.Output) = c.in_ok-output.ensures.output ∙ ap output_of table in
     let schedule : c.in_ok-output.output.schedule ≡ schedule_of (table_at m key.Output) = c.in_ok-output.ensures.schedule ∙ ap schedule_of table in
     let to_a : c.in_ok-output.output.addresses.to_a ≡ number_at (table_at m key.Output) key.ToA = sym c.in_ok-output.ensures.to_a ∙ ap (λ t. number_at t key.ToA) table in
     let to_b : c.in_ok-output.output.addresses.to_b ≡ number_at (table_at m key.Output) key.ToB = sym c.in_ok-output.ensures.to_b ∙ ap (λ t. number_at t key.ToB) table in
     let senders : c.in_ok-output.output.senders ≡ senders_of (table_at m key.Output) = c.in_ok-output.ensures.senders ∙ ap senders_of table in
-    rw (c.with_networks.ensures, c.with_ports.ensures, c.new-studio.ensures, open_at, streams, paths, binds, output, schedule, to_a, to_b, senders)
+    rw (c.with_networks.ensures, c.with_ports.ensures, c.new-studio.ensures, open_at, streams, paths, binds, sources, output, schedule, to_a, to_b, senders)
