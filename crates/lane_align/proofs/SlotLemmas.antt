@@ -1,5 +1,5 @@
 -- What a slot more does to what a lane was fed.
-use Rattle.std.proofs.Common.{◌≡◌, ◌≤◌, ◌<◌, ◌+◌, ◌*◌, ◌-◌, ◌^◌, ℕ, min, Bool, true, false, not, ◌||◌, List, [], ◌∷◌, ◌++◌, length, take, drop, get_or, ℤ, pos, ◌+ℤ◌, ◌-ℤ◌, ◌≤ℤ◌, ◌<ℤ◌, Option, Some, None, unwrap_or, unsigned_abs, refl, sym, ap, subst, ◌∙◌, arith, length-append, length-drop, length-take, inl, inr}
+use Rattle.std.proofs.Common.{◌≡◌, ◌≤◌, ◌<◌, ◌+◌, ◌*◌, ◌-◌, ◌^◌, ℕ, min, Bool, true, false, not, ◌||◌, List, [], ◌∷◌, ◌++◌, length, take, drop, replicate, get_or, ℤ, pos, ◌+ℤ◌, ◌-ℤ◌, ◌≤ℤ◌, ◌<ℤ◌, Option, Some, None, unwrap_or, unsigned_abs, refl, sym, ap, subst, ◌∙◌, arith, length-append, length-drop, inl, inr}
 use Rattle.std.proofs.lemmas.Bool.{cases_lt, false≢true}
 use Rattle.std.proofs.lemmas.Bool.Decides.{nat_tests}
 use Rattle.std.specs.Int.{int_max}
@@ -8,6 +8,7 @@ use Rattle.std.proofs.lemmas.List.{get_or-drop, get_or_append_left, get_or-appen
 use Rattle.std.proofs.lemmas.Slice.{between_is}
 use Rattle.std.specs.List.{between, All}
 use Rattle.std.proofs.Math.Nat.{mul-le-mul_right}
+use Rattle.std.proofs.Math.Seq.{take-append_seam}
 use Rattle.std.proofs.lemmas.List.Elements.{All-append, All-drop, All-replicate}
 use Rattle.rtp_wire.specs.Sample.{Is24Bits}
 use Rattle.std.specs.Option.{option_or}
@@ -165,37 +166,54 @@ fed_slot stream from size lane marks t mark e n m b fed is_slot fits after len l
       ∙ values f k lt;
 }
 
--- the frames of a slot that aren't skipped
-pub slot_rest : (ss samples : List ℤ) (c frames k skipped : ℕ) → take (frames * c) samples ≡ ss → length ss ≡ frames * c → skipped ≡ min k frames
-    → between (skipped * c) (frames * c) samples ≡ drop (k * c) ss
-slot_rest ss samples c frames k skipped e len s =
-    between_is samples (skipped * c) (frames * c)
-    ∙ ap (drop (skipped * c)) e
-    ∙ elim (cases_lt k frames) [
-      | inl some ↦ let same : skipped ≡ k = omega arith in ap (λ x. drop (x * c) ss) same
-      | inr all ↦
-          let same : skipped ≡ frames = omega arith in
-          let more : frames * c ≤ k * c = mul-le-mul_right c all in
-          ap (λ x. drop (x * c) ss) same ∙ drop_all (frames * c) ss (omega arith) ∙ sym (drop_all (k * c) ss (omega arith))
-    ]
+-- silence at the front of other values
+pub silence_at_front : (n k : ℕ) (xs ys : List ℤ) → k ≡ n → xs ≡ replicate k (pos 0) → take n (xs ++ ys) ≡ replicate n (pos 0)
+silence_at_front n k xs ys same silent =
+    let all : xs ≡ replicate n (pos 0) = silent ∙ ap (λ k. replicate k (pos 0)) same in
+    let len : length xs ≡ n = ap length all ∙ length-replicate n (pos 0) in
+    ap (λ k. take k (xs ++ ys)) (sym len) ∙ take-append_seam xs ys ∙ all
+
+-- what is read of a slot, from the first frame that isn't skipped on
+pub slot_part : (format : Format) (body : Body) (samples : List ℤ) (skipped channels frames : ℕ) → channels ≡ format.channels → frames ≡ format.frames
+    → take (format.frames * format.channels) samples ≡ body_samples format body
+    → between (skipped * channels) (frames * channels) samples ≡ drop (skipped * format.channels) (body_samples format body)
+slot_part format body samples skipped channels frames e_channels e_frames e =
+    ap (λ n. between (skipped * n) (frames * n) samples) e_channels
+    ∙ ap (λ n. between (skipped * format.channels) (n * format.channels) samples) e_frames
+    ∙ between_is samples (skipped * format.channels) (format.frames * format.channels)
+    ∙ ap (drop (skipped * format.channels)) e
+
+-- what is added behind what is held
+pub part_added : (held next : Held) (format : Format) (body : Body) (samples : List ℤ) (silent skipped channels frames : ℕ) → channels ≡ format.channels → frames ≡ format.frames
+    → take (format.frames * format.channels) samples ≡ body_samples format body
+    → next ≡ record held { values = held.values ++ (silence held.channels silent ++ between (skipped * channels) (frames * channels) samples) }
+    → next ≡ record held { values = held.values ++ (silence held.channels silent ++ drop (skipped * format.channels) (body_samples format body)) }
+part_added held next format body samples silent skipped channels frames e_channels e_frames e_samples e =
+    e ∙ ap (λ xs. record held { values = held.values ++ (silence held.channels silent ++ xs) }) (slot_part format body samples skipped channels frames e_channels e_frames e_samples)
+
+-- no more frames than all can be skipped
+slot_rest : (ss : List ℤ) (c frames k skipped : ℕ) → length ss ≡ frames * c → skipped ≡ min k frames → drop (skipped * c) ss ≡ drop (k * c) ss
+slot_rest ss c frames k skipped len s = elim (cases_lt k frames) [
+  | inl some ↦ let same : skipped ≡ k = omega arith in ap (λ x. drop (x * c) ss) same
+  | inr all ↦
+      let same : skipped ≡ frames = omega arith in
+      let more : frames * c ≤ k * c = mul-le-mul_right c all in
+      ap (λ x. drop (x * c) ss) same ∙ drop_all (frames * c) ss (omega arith) ∙ sym (drop_all (k * c) ss (omega arith))
+]
 
 -- what is added is what the slot adds
-pub slot_joined : (lane : LaneState) (held next : Held) (slot : LastSlot) (body : Body) (silent past_by skipped channels frames : ℕ) (samples : List ℤ)
+pub slot_joined : (lane : LaneState) (held next : Held) (slot : LastSlot) (body : Body) (silent past_by skipped : ℕ)
     → IsLane lane held → HasLength (payload_length lane.format) body
     → silent ≡ frames_between lane.position slot.media - frames_left lane.format.frames lane.position lane.slot
     → past_by ≡ frames_between slot.media lane.position
-    → channels ≡ lane.format.channels → frames ≡ lane.format.frames
-    → skipped ≡ min past_by frames
-    → take (lane.format.frames * lane.format.channels) samples ≡ body_samples lane.format body
-    → next ≡ record held { values = held.values ++ (silence held.channels silent ++ between (skipped * channels) (frames * channels) samples) }
+    → skipped ≡ min past_by lane.format.frames
+    → next ≡ record held { values = held.values ++ (silence held.channels silent ++ drop (skipped * lane.format.channels) (body_samples lane.format body)) }
     → next ≡ record held { values = (with_slot lane slot body).values }
-slot_joined lane held next slot body silent past_by skipped channels frames samples sound fits gap e_past e_channels e_frames e_skipped e_samples e =
+slot_joined lane held next slot body silent past_by skipped sound fits gap e_past e_skipped e =
     let c = lane.format.channels in
     let p = lane.format.frames in
-    let rest : between (skipped * channels) (frames * channels) samples ≡ drop (frames_between slot.media lane.position * c) (body_samples lane.format body) =
-    ap (λ n. between (skipped * n) (frames * n) samples) e_channels
-    ∙ ap (λ n. between (skipped * c) (n * c) samples) e_frames
-    ∙ slot_rest (body_samples lane.format body) samples c p past_by skipped e_samples (body_length lane.format body fits) (e_skipped ∙ ap (min past_by) e_frames)
+    let rest : drop (skipped * c) (body_samples lane.format body) ≡ drop (frames_between slot.media lane.position * c) (body_samples lane.format body) =
+    slot_rest (body_samples lane.format body) c p past_by skipped (body_length lane.format body fits) e_skipped
     ∙ ap (λ n. drop (n * c) (body_samples lane.format body)) e_past in
     e
     ∙ ap (λ xs. record held { values = held.values ++ (silence held.channels silent ++ xs) }) rest
@@ -204,20 +222,18 @@ slot_joined lane held next slot body silent past_by skipped channels frames samp
     ∙ ap (λ xs. record held { values = xs ++ (silence c (frames_between lane.position slot.media - frames_left p lane.position lane.slot) ++ drop (frames_between slot.media lane.position * c) (body_samples lane.format body)) }) (sym sound.values)
 
 -- the same where a part of the silence is stored
-pub slot_added : (lane : LaneState) (held next : Held) (slot : LastSlot) (body : Body) (left before stored more block past_by skipped channels frames : ℕ) (samples : List ℤ)
+pub slot_added : (lane : LaneState) (held next : Held) (slot : LastSlot) (body : Body) (left before stored more block past_by skipped : ℕ)
     → IsLane lane held → HasLength (payload_length lane.format) body
     → left ≡ frames_left lane.format.frames lane.position lane.slot
     → before ≡ frames_between lane.position slot.media
     → past_by ≡ frames_between slot.media lane.position
-    → channels ≡ lane.format.channels → frames ≡ lane.format.frames
     → stored ≡ min (before - left) (block - left) → more ≡ before - left - stored
-    → skipped ≡ min past_by frames
-    → take (lane.format.frames * lane.format.channels) samples ≡ body_samples lane.format body
-    → next ≡ record held { values = held.values ++ (silence held.channels (stored + more) ++ between (skipped * channels) (frames * channels) samples) }
+    → skipped ≡ min past_by lane.format.frames
+    → next ≡ record held { values = held.values ++ (silence held.channels (stored + more) ++ drop (skipped * lane.format.channels) (body_samples lane.format body)) }
     → next ≡ record held { values = (with_slot lane slot body).values }
-slot_added lane held next slot body left before stored more block past_by skipped channels frames samples sound fits e_left e_before e_past e_channels e_frames e_stored e_more e_skipped e_samples e =
+slot_added lane held next slot body left before stored more block past_by skipped sound fits e_left e_before e_past e_stored e_more e_skipped e =
     let gap : stored + more ≡ frames_between lane.position slot.media - frames_left lane.format.frames lane.position lane.slot = omega arith in
-    slot_joined lane held next slot body (stored + more) past_by skipped channels frames samples sound fits gap e_past e_channels e_frames e_skipped e_samples e
+    slot_joined lane held next slot body (stored + more) past_by skipped sound fits gap e_past e_skipped e
 
 -- what a lane holds reaches from its position to the end of its last slot
 pub slot_length : (lane : LaneState) (held : Held) (slot : LastSlot) (body : Body)
@@ -247,26 +263,25 @@ slot_length lane held slot body sound fits after =
     ∙ ap (λ n. n * c) total
 
 -- there is room for all of it where there is room to the slot's end
-pub kept_room : (lane : LaneState) (held : Held) (slot : LastSlot) (body : Body) (silent past_by skipped channels frames : ℕ) (samples : List ℤ)
+pub kept_room : (lane : LaneState) (held : Held) (slot : LastSlot) (body : Body) (silent past_by skipped : ℕ)
     → IsLane lane held → HasLength (payload_length lane.format) body
     → silent ≡ frames_between lane.position slot.media - frames_left lane.format.frames lane.position lane.slot
     → past_by ≡ frames_between slot.media lane.position
-    → channels ≡ lane.format.channels → frames ≡ lane.format.frames
-    → skipped ≡ min past_by frames
-    → take (lane.format.frames * lane.format.channels) samples ≡ body_samples lane.format body
+    → skipped ≡ min past_by lane.format.frames
     → IsAfter lane.format.frames lane.slot slot.media
     → frames_between lane.position (slot.media +ℤ pos lane.format.frames) ≤ lane.room
-    → length held.values + silent * held.channels + length (between (skipped * channels) (frames * channels) samples) ≤ held.room
-kept_room lane held slot body silent past_by skipped channels frames samples sound fits gap e_past e_channels e_frames e_skipped e_samples after room =
+    → length held.values + silent * held.channels + (lane.format.frames * lane.format.channels - skipped * lane.format.channels) ≤ held.room
+kept_room lane held slot body silent past_by skipped sound fits gap e_past e_skipped after room =
     let c = lane.format.channels in
-    let rest = between (skipped * channels) (frames * channels) samples in
+    let rest = drop (skipped * c) (body_samples lane.format body) in
     let next = record held { values = held.values ++ (silence held.channels silent ++ rest) } in
-    let joined = slot_joined lane held next slot body silent past_by skipped channels frames samples sound fits gap e_past e_channels e_frames e_skipped e_samples refl in
+    let joined = slot_joined lane held next slot body silent past_by skipped sound fits gap e_past e_skipped refl in
     let len : length (held.values ++ (silence held.channels silent ++ rest)) ≡ frames_between lane.position (slot.media +ℤ pos lane.format.frames) * c =
     ap (λ (h : Held). length h.values) joined ∙ slot_length lane held slot body sound fits after in
     let outer = length-append held.values (silence held.channels silent ++ rest) in
     let inner = length-append (silence held.channels silent) rest in
     let gap_len : length (silence held.channels silent) ≡ silent * held.channels = length-replicate (silent * held.channels) (pos 0) in
+    let rest_len : length rest ≡ lane.format.frames * c - skipped * c = length-drop (skipped * c) (body_samples lane.format body) ∙ ap (λ n. n - skipped * c) (body_length lane.format body fits) in
     let wide : frames_between lane.position (slot.media +ℤ pos lane.format.frames) * c ≤ lane.room * c = mul-le-mul_right c room in
     let e_room : held.room ≡ lane.room * c = sound.room in
     omega arith
@@ -391,16 +406,11 @@ left_of frames t block false (Some s) (Some u) some h =
 pub wanted_left : (lane : LaneState) → 0 < lane.block → is_wanting lane (lane.position +ℤ pos lane.block) ≡ true → frames_left lane.format.frames lane.position lane.slot < lane.block
 wanted_left lane some h = left_of lane.format.frames lane.position lane.block lane.ended lane.slot lane.quiet some h
 
-between_few : (from to : ℕ) (samples : List ℤ) → length (between from to samples) ≤ to
-between_few from to samples = let e = length-take (to - from) (drop from samples) in omega arith
-
 -- a block and a packet have room
-pub slot_room : (held_block block held_c c p room held_room frames channels skipped : ℕ) (samples : List ℤ) → held_block ≡ block → held_c ≡ c → frames ≡ p → channels ≡ c → block + p ≤ room → held_room ≡ room * c
-    → held_block * held_c + length (between (skipped * channels) (frames * channels) samples) ≤ held_room
-slot_room held_block block held_c c p room held_room frames channels skipped samples e_block e_held e_frames e_channels enough e_room =
-    let few : length (between (skipped * channels) (frames * channels) samples) ≤ frames * channels = between_few (skipped * channels) (frames * channels) samples in
+pub slot_room : (held_block block held_c c p room held_room skipped : ℕ) → held_block ≡ block → held_c ≡ c → block + p ≤ room → held_room ≡ room * c
+    → held_block * held_c + (p * c - skipped * c) ≤ held_room
+slot_room held_block block held_c c p room held_room skipped e_block e_held enough e_room =
     let a : held_block * held_c ≡ block * c = ap (λ x. x * held_c) e_block ∙ ap (λ x. block * x) e_held in
-    let b : frames * channels ≡ p * c = ap (λ x. x * channels) e_frames ∙ ap (λ x. p * x) e_channels in
     let sum : (block + p) * c ≡ block * c + p * c = omega arith in
     let wide : (block + p) * c ≤ room * c = mul-le-mul_right c enough in
     omega arith

@@ -1,5 +1,5 @@
 //! One stream's marks as frames at media times.
-ghost use Rattle.std.specs.Prelude.{◌≡◌, ◌+◌, ◌*◌, ◌^◌, ◌<◌, ◌≤◌, [], ◌∷◌, ◌++◌, List, ℤ, ℕ, pos, ◌+ℤ◌, ◌≤ℤ◌, ◌<ℤ◌, true, false, not, ◌||◌, Some, length, take, min, option_copied, IfOk};
+ghost use Rattle.std.specs.Prelude.{◌≡◌, ◌+◌, ◌*◌, ◌^◌, ◌<◌, ◌≤◌, [], ◌∷◌, ◌++◌, List, ℤ, ℕ, pos, ◌+ℤ◌, ◌≤ℤ◌, ◌<ℤ◌, true, false, not, ◌||◌, Some, length, option_copied, IfOk};
 ghost use Rattle.stream_rules.specs.declared.stream_spec.Stream.{Stream};
 ghost use Rattle.stream_rules.specs.StreamSpecFacts.{format_of};
 ghost use Rattle.rtp_wire.specs.PacketTime.{is_packet_time};
@@ -13,20 +13,18 @@ ghost use Rattle.lane_align.specs.Cover.{cover_of, end_of, covers, time_reached,
 ghost use Rattle.std.specs.List.{All};
 ghost use Rattle.rtp_wire.specs.Sample.{Is24Bits};
 ghost use Rattle.lane_align.specs.Lane as state;
-ghost use Rattle.lane_align.specs.Lane.{IsSlot, IsAfter, body_samples, with_slot};
+ghost use Rattle.lane_align.specs.Lane.{IsSlot, IsAfter, with_slot};
 
 use crate::cover::Cover;
 use crate::frames::FrameQueue;
 use crate::last_slot::{
     LastSlot, frames_before, frames_between, frames_left, may_follow_slot, time_reached_by,
 };
-use rtp_wire::{Enc, read_samples};
+use crate::slot_samples::{EMPTY_ROOM, SlotRoom, add_slot, append_slot};
+use rtp_wire::Enc;
 use std::alloc::{AllocError, Global};
 use std::marker::Model;
 use stream_rules::{Format, Mark, MarkKindRef, MarkRef, StreamSpec};
-
-/// The most samples that a payload holds: 1,440 octets of 16-bit samples.
-const MOST_SAMPLES: usize = 720;
 
 /// The marks of one stream, taken one by one, and its values, given block by block.
 ///
@@ -45,6 +43,8 @@ pub struct Lane {
     /// Frames from the position on that may be stored.
     room: u32,
     values: FrameQueue,
+    /// Where a slot's samples are read to, on their way to the values.
+    samples: SlotRoom,
 }
 
 impl Model for Lane {
@@ -66,23 +66,6 @@ fn is_same_format(a: Format, b: Format) -> bool
         _ => false,
     };
     same_encoding && a.channels == b.channels && a.frames == b.frames
-}
-
-/// The samples of a slot, frame by frame, and silence past them.
-fn slot_samples(format: Format, payload: Option<&[u8]>) -> [i32; MOST_SAMPLES]
-    requires count { format.frames * format.channels ≤ 720 }
-    requires len { HasLength (payload_length format) (body_from (option_copied payload)) }
-    ensures samples { take (format.frames * format.channels) result ≡ body_samples format (body_from (option_copied payload.entry)) }
-    ensures in_24_bits { All Is24Bits (body_samples format (body_from (option_copied payload.entry))) }
-{
-    let mut samples = [0; MOST_SAMPLES];
-    match payload {
-        Some(octets) => {
-            read_samples(format.enc, octets, &mut samples);
-        }
-        None => {}
-    }
-    samples
 }
 
 impl Lane {
@@ -132,6 +115,7 @@ impl Lane {
             ended: false,
             room,
             values,
+            samples: EMPTY_ROOM,
         })
     }
 
@@ -339,14 +323,17 @@ impl Lane {
         ensures taken { self.new ≡ with_slot self.old slot (body_from (option_copied payload.entry)) }
         ensures left { length self.old.values ≡ state.frames_left self.old.format.frames self.old.position self.old.slot * self.old.format.channels }
     {
-        let channels = usize::from(self.format.channels);
-        let frames = usize::from(self.format.frames);
         let held = frames_left(self.format.frames, self.position, self.slot);
         let before = frames_between(self.position, slot.media) - held;
         let skipped = frames_before(self.format.frames, self.position, slot.media);
-        let samples = slot_samples(self.format, payload);
-        let rest = &samples[skipped * channels..frames * channels];
-        self.values.append(before as usize, rest);
+        append_slot(
+            &mut self.values,
+            &mut self.samples,
+            before as usize,
+            self.format,
+            payload,
+            skipped,
+        );
         self.slot = Some(slot);
     }
 
@@ -359,15 +346,19 @@ impl Lane {
         ensures taken { self.new ≡ with_slot self.old slot (body_from (option_copied payload.entry)) }
         ensures left { length self.old.values ≡ state.frames_left self.old.format.frames self.old.position self.old.slot * self.old.format.channels }
     {
-        let channels = usize::from(self.format.channels);
-        let frames = usize::from(self.format.frames);
         let held = frames_left(self.format.frames, self.position, self.slot);
         let before = frames_between(self.position, slot.media) - held;
         let stored = before.min(u64::from(self.block) - held);
         let skipped = frames_before(self.format.frames, self.position, slot.media);
-        let samples = slot_samples(self.format, payload);
-        let rest = &samples[skipped * channels..frames * channels];
-        self.values.add(stored as usize, before - stored, rest);
+        add_slot(
+            &mut self.values,
+            &mut self.samples,
+            stored as usize,
+            before - stored,
+            self.format,
+            payload,
+            skipped,
+        );
         self.slot = Some(slot);
     }
 

@@ -14,6 +14,7 @@ mod frames;
 mod lane;
 mod last_slot;
 mod laws;
+mod slot_samples;
 
 pub use cover::Cover;
 pub use lane::Lane;

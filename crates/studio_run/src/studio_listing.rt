@@ -15,7 +15,7 @@ use crate::buffer::TextBuffer;
 use crate::device::WriteFault;
 use crate::listing::write_next;
 use std::io::Write;
-use studio_session::{Cursor, EventSource};
+use studio_session::{Cursor, EventSource, MOST_ARRIVAL_OCTETS};
 
 /// Writes the lines of the marks of the events that were taken.
 fn write_taken<W: Write>(
@@ -59,9 +59,10 @@ fn write_marks<E: EventSource, W: Write>(
         → IsRunnable stream number open_at (E.events source.now) → HasPulled stream number open_at (E.events source.now) cursor.old 0
         → HasPulledSome stream number open_at (E.events source.now) cursor.new) }
 {
+    let mut room = [0; MOST_ARRIVAL_OCTETS];
     'events: loop {
         write_taken(text, writer, cursor)?;
-        if !cursor.take_event(source) {
+        if !cursor.take_event(source, &mut room) {
             return Ok(());
         }
     }

@@ -19,7 +19,7 @@ ghost use Rattle.studio_session.specs.Receipt.{receipt_in, receipt_of};
 
 use crate::event::Outline;
 use crate::receipt::Receipt;
-use crate::source::{EventSource, MOST_ARRIVAL_OCTETS};
+use crate::source::{DatagramRoom, EventSource};
 use path_merge::{Counts, Goal, MarkRef, Merge, Path, SlotWindow, StreamSpec};
 use std::alloc::{AllocError, Global};
 use std::marker::Model;
@@ -147,7 +147,9 @@ impl Cursor {
 
     /// Takes the next event of the stream, and passes over those of others before it; false where no
     /// event is left.
-    pub fn take_event<E: EventSource>(&mut self, source: &E) -> bool
+    ///
+    /// `room` is where the source may lay out a datagram. What stands in it says nothing.
+    pub fn take_event<E: EventSource>(&mut self, source: &E, room: &mut DatagramRoom) -> bool
         requires settled { self.old.reading ≡ None }
         requires ready { IsReadyFor (E.events source.now) self.old }
         ensures ready { IsReadyFor (E.events source.now) self.new }
@@ -161,7 +163,7 @@ impl Cursor {
             return false;
         }
         self.pass_over_others(source);
-        self.take_one(source);
+        self.take_one(source, room);
         true
     }
 
@@ -197,7 +199,7 @@ impl Cursor {
     }
 
     /// Takes the event that comes next, if one is left.
-    fn take_one<E: EventSource>(&mut self, source: &E)
+    fn take_one<E: EventSource>(&mut self, source: &E, room: &mut DatagramRoom)
         requires settled { self.old.reading ≡ None }
         requires ready { IsReadyFor (E.events source.now) self.old }
         ensures ready { IsReadyFor (E.events source.now) self.new }
@@ -213,8 +215,7 @@ impl Cursor {
         match source.outline(self.place) {
             Outline::Arrive { stream, path } => {
                 if stream == self.number {
-                    let mut room = [0; MOST_ARRIVAL_OCTETS];
-                    let _ = self.take_datagram(path, source.octets(self.place, &mut room));
+                    let _ = self.take_datagram(path, source.octets(self.place, room));
                 } else {
                     self.pass_over();
                 }

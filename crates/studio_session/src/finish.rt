@@ -6,7 +6,7 @@ ghost use Rattle.studio_session.specs.Cursor.{IsReadyFor, IsRunnable, IsSameCurs
 ghost use Rattle.studio_session.specs.Report.{HasCounts, HasPulledAll, HasPulledSome};
 
 use crate::cursor::Cursor;
-use crate::source::EventSource;
+use crate::source::{EventSource, MOST_ARRIVAL_OCTETS};
 
 /// Drops the marks of the events that were taken.
 fn drop_marks(cursor: &mut Cursor)
@@ -26,9 +26,10 @@ pub fn finish_stream<E: EventSource>(cursor: &mut Cursor, source: &E)
         → HasPulledSome stream number open_at (E.events source.now) cursor.old
         → HasCounts stream number open_at (E.events source.now) cursor.new }
 {
+    let mut room = [0; MOST_ARRIVAL_OCTETS];
     'events: loop {
         drop_marks(cursor);
-        if !cursor.take_event(source) {
+        if !cursor.take_event(source, &mut room) {
             return;
         }
     }

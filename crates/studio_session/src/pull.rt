@@ -9,7 +9,7 @@ ghost use Rattle.studio_session.specs.Cursor.{IsReadyFor, IsSameCursor};
 ghost use Rattle.studio_session.specs.Play.{IsRunnableBy, TakesMark, Plays, PlaysOut, PlaysFinal};
 
 use crate::cursor::Cursor;
-use crate::source::EventSource;
+use crate::source::{DatagramRoom, EventSource};
 use path_merge::MarkRef;
 use studio_mix::Mixer;
 
@@ -64,6 +64,7 @@ pub(crate) fn pull<E: EventSource>(
     stream: usize,
     cursor: &mut Cursor,
     source: &E,
+    room: &mut DatagramRoom,
 )
     requires stream { stream < length mixer.old.lanes }
     requires ready { IsReadyFor (E.events source.now) cursor.old }
@@ -79,7 +80,7 @@ pub(crate) fn pull<E: EventSource>(
         if !pull_marks(mixer, stream, cursor) {
             return;
         }
-        if !cursor.take_event(source) {
+        if !cursor.take_event(source, room) {
             return;
         }
     }

@@ -12,7 +12,7 @@ ghost use Rattle.studio_session.specs.Play.{AreNew, HasFilled, HasPathsBy, HasPl
 
 use crate::cursor::Cursor;
 use crate::pull::pull;
-use crate::source::EventSource;
+use crate::source::{DatagramRoom, EventSource, MOST_ARRIVAL_OCTETS};
 use crate::tally::all_counts;
 use path_merge::StreamSpec;
 use std::alloc::{AllocError, Global};
@@ -28,6 +28,8 @@ use studio_spec::StudioSpec;
 pub struct Session {
     mixer: Mixer,
     cursors: Vec<Cursor>,
+    /// Where the source of the events lays out datagrams.
+    room: DatagramRoom,
 }
 
 impl Model for Session {
@@ -56,7 +58,11 @@ impl Session {
     {
         let mixer = Mixer::new(alloc, spec)?;
         let cursors = studio_cursors(alloc, spec)?;
-        Ok(Session { mixer, cursors })
+        Ok(Session {
+            mixer,
+            cursors,
+            room: [0; MOST_ARRIVAL_OCTETS],
+        })
     }
 
     /// Writes the datagram of the next block to the front of `out`, and answers its length; none where
@@ -81,7 +87,12 @@ impl Session {
         ensures early { IfSome result (λ len. block_start self.old.mixer.packer.spec self.old.mixer.packer.number ≤ℤ pos (2 ^ 61 + 192)) }
         ensures spec { self.new.mixer.packer.spec ≡ self.old.mixer.packer.spec }
     {
-        fill(&mut self.mixer, self.cursors.as_mut_slice(), source);
+        fill(
+            &mut self.mixer,
+            self.cursors.as_mut_slice(),
+            source,
+            &mut self.room,
+        );
         self.mixer.next_block(out)
     }
 
@@ -142,7 +153,12 @@ fn new_cursors(
 }
 
 /// Hands on each stream's marks until the mixer wants no more, or all were given.
-fn fill<E: EventSource>(mixer: &mut Mixer, cursors: &mut [Cursor], source: &E)
+fn fill<E: EventSource>(
+    mixer: &mut Mixer,
+    cursors: &mut [Cursor],
+    source: &E,
+    room: &mut DatagramRoom,
+)
     requires streams { length cursors.old ≡ length mixer.old.lanes }
     requires ready { All (IsReadyFor (E.events source.now)) cursors.old }
     ensures ready { All (IsReadyFor (E.events source.now)) cursors.new }
@@ -153,6 +169,6 @@ fn fill<E: EventSource>(mixer: &mut Mixer, cursors: &mut [Cursor], source: &E)
     ensures streams { length mixer.new.lanes ≡ length mixer.old.lanes }
 {
     for stream in 0..cursors.len() {
-        pull(mixer, stream, &mut cursors[stream], source);
+        pull(mixer, stream, &mut cursors[stream], source, room);
     }
 }

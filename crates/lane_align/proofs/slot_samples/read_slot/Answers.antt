@@ -1,0 +1,16 @@
+use Rattle.std.specs.Prelude.{option_copied}
+use Rattle.std.proofs.Common.{◌≡◌, ap, sym, ◌∙◌, ◌*◌, length, take, arith, length-take}
+use Rattle.stream_rules.specs.MarkRef.{body_from}
+use Rattle.lane_align.specs.Lane.{body_samples}
+use Rattle.lane_align.proofs.SlotLemmas.{silence_at_front}
+use Rattle.lane_align.proofs.slot_samples.read_slot.Goals as goal
+
+pub returns-in-None-clause-samples : goal.returns-in-None-clause-samples
+returns-in-None-clause-samples c =
+    let n = c.args.format.frames * c.args.format.channels in
+    let count : c.from.result * c.from-in-None.result ≡ n = ap (λ x. x * c.from-in-None.result) c.from.ensures ∙ ap (λ x. c.args.format.frames * x) c.from-in-None.ensures in
+    let within = c.requires.count in
+    let long = c.told-room in
+    let part : length (take (c.from.result * c.from-in-None.result) c.args.room.now) ≡ n = length-take (c.from.result * c.from-in-None.result) c.args.room.now ∙ omega arith in
+    silence_at_front n (length (take (c.from.result * c.from-in-None.result) c.args.room.now)) c.fill.new.self _ part (c.fill.ensures.after (λ y e. e))
+    ∙ ap (λ p. body_samples c.args.format (body_from (option_copied p))) (sym c.in-None.is)

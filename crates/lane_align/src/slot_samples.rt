@@ -1,0 +1,87 @@
+//! A slot's samples, on their way from its payload to the values of a lane.
+ghost use Rattle.std.specs.Prelude.{◌≡◌, ◌+◌, ◌-◌, ◌*◌, ◌^◌, ◌<◌, ◌≤◌, ◌++◌, length, take, drop, option_copied};
+ghost use Rattle.std.specs.List.{All};
+ghost use Rattle.rtp_wire.specs.Sample.{Is24Bits};
+ghost use Rattle.stream_rules.specs.MarkFacts.{HasLength, payload_length};
+ghost use Rattle.stream_rules.specs.MarkRef.{body_from};
+ghost use Rattle.lane_align.specs.HeldValues.{silence};
+ghost use Rattle.lane_align.specs.Lane.{body_samples};
+
+use crate::frames::FrameQueue;
+use rtp_wire::read_samples;
+use stream_rules::Format;
+
+/// The most samples that a payload holds: 1,440 octets of 16-bit samples.
+const MOST_SAMPLES: usize = 720;
+
+/// Where a slot's samples are read to. What stands there says nothing.
+pub(crate) type SlotRoom = [i32; MOST_SAMPLES];
+
+/// A room before its first slot.
+pub(crate) const EMPTY_ROOM: SlotRoom = [0; MOST_SAMPLES];
+
+/// Reads the samples of a slot, frame by frame, to the front of `room`.
+fn read_slot(room: &mut SlotRoom, format: Format, payload: Option<&[u8]>)
+    requires count { format.frames * format.channels ≤ 720 }
+    requires len { HasLength (payload_length format) (body_from (option_copied payload)) }
+    ensures samples { take (format.frames * format.channels) room.new ≡ body_samples format (body_from (option_copied payload.entry)) }
+    ensures in_24_bits { All Is24Bits (body_samples format (body_from (option_copied payload.entry))) }
+{
+    match payload {
+        Some(octets) => {
+            read_samples(format.enc, octets, room);
+        }
+        None => {
+            let count = usize::from(format.frames) * usize::from(format.channels);
+            room[..count].fill(0);
+        }
+    }
+}
+
+/// Adds frames of silence and then those of a slot from the `skipped`-th on, all of them stored.
+pub(crate) fn append_slot(
+    values: &mut FrameQueue,
+    room: &mut SlotRoom,
+    silent: usize,
+    format: Format,
+    payload: Option<&[u8]>,
+    skipped: usize,
+)
+    requires count { format.frames * format.channels ≤ 720 }
+    requires len { HasLength (payload_length format) (body_from (option_copied payload)) }
+    requires part { skipped ≤ format.frames }
+    requires room { length values.old.values + silent * values.old.channels + (format.frames * format.channels - skipped * format.channels) ≤ values.old.room }
+    ensures added { values.new ≡ record values.old { values = values.old.values ++ (silence values.old.channels silent ++ drop (skipped * format.channels) (body_samples format (body_from (option_copied payload.entry)))) } }
+    ensures in_24_bits { All Is24Bits (body_samples format (body_from (option_copied payload.entry))) }
+{
+    let channels = usize::from(format.channels);
+    let frames = usize::from(format.frames);
+    read_slot(room, format, payload);
+    values.append(silent, &room[skipped * channels..frames * channels]);
+}
+
+/// As `append_slot`, where of the silence the `silent` frames are stored and those of `gap` are not.
+pub(crate) fn add_slot(
+    values: &mut FrameQueue,
+    room: &mut SlotRoom,
+    silent: usize,
+    gap: u64,
+    format: Format,
+    payload: Option<&[u8]>,
+    skipped: usize,
+)
+    requires count { format.frames * format.channels ≤ 720 }
+    requires len { HasLength (payload_length format) (body_from (option_copied payload)) }
+    requires part { skipped ≤ format.frames }
+    requires within { length values.old.values + silent * values.old.channels ≤ values.old.block * values.old.channels }
+    requires block_end { 0 < gap → length values.old.values + silent * values.old.channels ≡ values.old.block * values.old.channels }
+    requires small { gap < 2 ^ 62 }
+    requires room { values.old.block * values.old.channels + (format.frames * format.channels - skipped * format.channels) ≤ values.old.room }
+    ensures added { values.new ≡ record values.old { values = values.old.values ++ (silence values.old.channels (silent + gap) ++ drop (skipped * format.channels) (body_samples format (body_from (option_copied payload.entry)))) } }
+    ensures in_24_bits { All Is24Bits (body_samples format (body_from (option_copied payload.entry))) }
+{
+    let channels = usize::from(format.channels);
+    let frames = usize::from(format.frames);
+    read_slot(room, format, payload);
+    values.add(silent, gap, &room[skipped * channels..frames * channels]);
+}
