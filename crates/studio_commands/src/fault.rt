@@ -16,6 +16,12 @@ pub enum Fault {
     /// The name of a path is no address and port.
     #[error("usage: a path is not ADDRESS:PORT")]
     Address,
+    /// The offset of International Atomic Time is no number of seconds.
+    #[error("usage: --tai-offset is neither seconds nor system")]
+    TaiOffset,
+    /// A clock couldn't be read, or the system wasn't told how far International Atomic Time is ahead.
+    #[error("device: clock")]
+    Clock,
     /// The configuration is at fault.
     #[error("{0}")]
     Config(ConfigFault),
@@ -80,14 +86,14 @@ impl Fault {
     /// The exit status of the program.
     pub fn status(&self) -> u8 {
         match self {
-            Fault::Usage | Fault::Address => 2,
+            Fault::Usage | Fault::Address | Fault::TaiOffset => 2,
             Fault::Config(ConfigFault::Unread) | Fault::Capture(CaptureError::Unread) => 5,
             Fault::Capture(_) => 1,
             Fault::Config(_) => 3,
             Fault::Play(fault) => play_status(fault),
             Fault::Live(LiveFault::Memory) | Fault::Handed(HandedFault::Memory) | Fault::Memory =>
                 4,
-            Fault::Live(_) | Fault::Handed(_) | Fault::Wav(_) | Fault::Write => 5,
+            Fault::Live(_) | Fault::Handed(_) | Fault::Clock | Fault::Wav(_) | Fault::Write => 5,
         }
     }
 

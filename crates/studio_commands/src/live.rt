@@ -7,8 +7,31 @@ use std::net::Net;
 use std::rt::Env;
 use std::sync::Wait;
 use std::thread::Threads;
-use std::time::Clock;
-use studio_live::{Handed, LiveOptions, LivePorts, run_studio_live};
+use std::time::{Clock, Duration};
+use stream_rules::Path;
+use studio_live::{
+    Handed, LiveFault, LiveOptions, LivePorts, Setup, Strangers, TaiOffset, run_studio_live,
+    tai_opening,
+};
+use studio_spec::StudioSpec;
+
+/// What a live run is asked for.
+#[derive(Clone, Copy)]
+pub struct LiveWords<'a> {
+    pub options: LiveOptions,
+    /// Whether sockets are taken that were handed over.
+    pub listen_fds: bool,
+    /// How far International Atomic Time, by which the run opens, is ahead: seconds, or `system`. If none, the run
+    /// opens at the configuration's time.
+    pub tai_offset: Option<&'a str>,
+}
+
+/// A studio, and what the system's monotonic clock reads at its opening time.
+#[derive(Drop)]
+struct Started {
+    studio: StudioSpec,
+    began: Option<Duration>,
+}
 
 /// Runs the studio that a configuration says, whose report goes to `output`. Where counts are asked for
 /// while it runs, they go where faults go.
@@ -20,26 +43,96 @@ pub fn run_config<
     rt: &R,
     alloc: Global,
     config: &[u8],
-    options: &LiveOptions,
+    words: LiveWords<'_>,
     output: &mut W,
     faults: &mut E,
 ) -> Result<(), Fault> {
-    let studio = studio_in(alloc, config)?;
+    let Started { studio, began } = opened(rt, alloc, studio_in(alloc, config)?, words.tai_offset)?;
     let ports = LivePorts::of(alloc, &studio).map_err(fault_of)?;
-    let handed = if options.listen_fds {
+    let handed = if words.listen_fds {
         Handed::told(rt, alloc, studio.streams())?
     } else {
         Handed::nothing()
     };
-    run_studio_live(
+    let strangers = Strangers::none(alloc, &studio).map_err(|_| Fault::Memory)?;
+    let setup = Setup {
+        ports: &ports,
+        handed: &handed,
+        strangers: &strangers,
+        began,
+    };
+    let ran = run_studio_live(
         rt,
         alloc,
         &studio,
-        &ports,
-        options,
-        &handed,
+        setup,
+        &words.options,
         output,
         &mut *faults,
-    )
-    .map_err(Fault::from)
+    );
+    if matches!(ran, Ok(()) | Err(LiveFault::Unsettled)) {
+        if words.tai_offset.is_some() {
+            let open_at = studio.open_at();
+            writeln!(output, "open_at {open_at}").map_err(|_| Fault::Write)?;
+        }
+        write_strangers(&studio, &strangers, output)?;
+    }
+    ran.map_err(Fault::from)
+}
+
+/// The studio at its opening time, or, where an offset is said, opened now by International Atomic Time.
+fn opened<R: Clock>(
+    rt: &R,
+    alloc: Global,
+    studio: StudioSpec,
+    tai_offset: Option<&str>,
+) -> Result<Started, Fault> {
+    let Some(word) = tai_offset else {
+        let began = rt.monotonic().ok();
+        return Ok(Started { studio, began });
+    };
+    let opening = tai_opening(rt, offset_of(word)?).ok_or(Fault::Clock)?;
+    let studio = studio.shifted(alloc, opening.at).map_err(fault_of)?;
+    Ok(Started {
+        studio,
+        began: Some(opening.began),
+    })
+}
+
+/// The offset that a word says.
+fn offset_of(word: &str) -> Result<TaiOffset, Fault> {
+    if word == "system" {
+        return Ok(TaiOffset::System);
+    }
+    match word.parse::<u32>() {
+        Ok(seconds) => Ok(TaiOffset::Seconds(seconds)),
+        Err(_) => Err(Fault::TaiOffset),
+    }
+}
+
+/// Writes how many datagrams came from elsewhere, for each path that has a source.
+fn write_strangers<W: Write>(
+    studio: &StudioSpec,
+    strangers: &Strangers,
+    output: &mut W,
+) -> Result<(), Fault> {
+    let mut place = 0;
+    for (number, stream) in studio.streams().iter().enumerate() {
+        for (path, name) in (0..stream.paths()).zip(["a", "b", "c", "d"]) {
+            if has_source(studio, number, path) {
+                let count = strangers.count(place);
+                writeln!(output, "strangers {number} {name} {count}").map_err(|_| Fault::Write)?;
+            }
+            place = place.saturating_add(1);
+        }
+    }
+    Ok(())
+}
+
+/// Whether a path takes datagrams from one source alone.
+fn has_source(studio: &StudioSpec, stream: usize, path: u8) -> bool {
+    match Path::new(path) {
+        Some(path) => studio.networks().source(stream, path).is_some(),
+        None => false,
+    }
 }

@@ -87,9 +87,9 @@ fn answer<
         Asked::Import(path, options) => {
             import_capture(configs, alloc, path, &options, output, faults)
         }
-        Asked::Live(path, options) => {
+        Asked::Live(path, words) => {
             let config = config_of(configs, alloc, path)?;
-            run_config(rt, alloc, config.as_slice(), &options, output, faults)
+            run_config(rt, alloc, config.as_slice(), words, output, faults)
         }
     }
 }

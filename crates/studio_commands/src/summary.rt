@@ -81,6 +81,7 @@ fn write_paths<W: Write>(
             None => line(write!(output, "  path {name}: no port"))?,
         }
         write_address(" at", networks.address(number, path), output)?;
+        write_address(", from", networks.source(number, path), output)?;
         line(writeln!(output))?;
     }
     Ok(())

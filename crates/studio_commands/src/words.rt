@@ -1,6 +1,7 @@
 //! The words of the command line.
 use crate::fault::Fault;
 use crate::import::ImportOptions;
+use crate::live::LiveWords;
 use clap::error::ErrorKind;
 use clap::{Arg, ArgAction, ArgMatches, Command, Error, value_parser};
 use std::alloc::{AllocError, Global};
@@ -12,6 +13,9 @@ const MOST_INSTANTS: i64 = 1_099_511_627_776;
 
 /// The most milliseconds of an imported stream's latency: no window is longer.
 const MOST_LATENCY: i64 = 65_536;
+
+/// The clocks that a live run can open by, beside its configuration's time.
+const CLOCKS: &[&str] = &["tai"];
 
 /// What the words ask for. A configuration is named by its path.
 #[derive(Drop)]
@@ -33,7 +37,7 @@ pub enum Asked<'a> {
     /// A capture as a trace, or the configuration that fits it.
     Import(&'a str, ImportOptions<'a>),
     /// A run of a configuration's studio on sockets.
-    Live(&'a str, LiveOptions),
+    Live(&'a str, LiveWords<'a>),
 }
 
 /// What the words ask for. Help and the version are errors too, with their texts.
@@ -57,7 +61,7 @@ fn asked_of_config<'a>(name: &str, path: &'a str, matches: &ArgMatches<'a>) -> A
     match name {
         "play" => play_in(path, matches),
         "check" => Asked::Check(path),
-        "live" => Asked::Live(path, options_in(matches)),
+        "live" => Asked::Live(path, live_words(matches)),
         _ if matches.get_flag("counts") => Asked::MarksAndCounts(path),
         _ => Asked::Marks(path),
     }
@@ -71,14 +75,20 @@ fn play_in<'a>(path: &'a str, matches: &ArgMatches<'a>) -> Asked<'a> {
     }
 }
 
-/// How a live run ends, and what it tells.
-fn options_in(matches: &ArgMatches<'_>) -> LiveOptions {
-    LiveOptions {
+/// What a live run is asked for. Where it opens by International Atomic Time, the system says how far that is ahead if
+/// no word does.
+fn live_words<'a>(matches: &ArgMatches<'a>) -> LiveWords<'a> {
+    let options = LiveOptions {
         instants: matches.get_one::<i64>("instants"),
         stats: matches.get_one::<u32>("stats"),
-        listen_fds: matches.get_flag("listen-fds"),
         until_eof: matches.get_flag("until-eof"),
         one_thread: matches.get_flag("one-thread"),
+    };
+    let offset = matches.get_str("tai-offset").unwrap_or("system");
+    LiveWords {
+        options,
+        listen_fds: matches.get_flag("listen-fds"),
+        tai_offset: matches.get_str("clock").map(|_tai| offset),
     }
 }
 
@@ -168,6 +178,9 @@ fn live_command<'a>(alloc: Global) -> Result<Command<'a>, AllocError> {
     let stats = "Tell each stream's counts on standard error so often";
     let listen_fds = "Take the sockets that were handed over, as by sd_listen_fds(3)";
     let one_thread = "Run in one thread, in place of a worker for each path and stream";
+    let clock = "Open now by International Atomic Time, as the media clock of ST 2110 counts it";
+    let offset =
+        "How many seconds that time is ahead of the system's, or system where that was told";
     with_config(alloc, "live", about)?
         .arg(option(alloc, "instants", "N", instants).value_parser(value_parser!(i64).range(
             1..=MOST_INSTANTS,
@@ -175,7 +188,9 @@ fn live_command<'a>(alloc: Global) -> Result<Command<'a>, AllocError> {
         .arg(option(alloc, "stats", "SECONDS", stats).value_parser(value_parser!(u32).range(1..)))?
         .arg(flag(alloc, "until-eof", "End where standard input does"))?
         .arg(flag(alloc, "listen-fds", listen_fds))?
-        .arg(flag(alloc, "one-thread", one_thread))
+        .arg(flag(alloc, "one-thread", one_thread))?
+        .arg(option(alloc, "clock", "tai", clock).value_parser(CLOCKS))?
+        .arg(option(alloc, "tai-offset", "SECONDS", offset).requires_arg("clock")?)
 }
 
 /// A command that takes the path of a configuration.

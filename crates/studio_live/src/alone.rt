@@ -8,6 +8,7 @@ use crate::clock::SystemClock;
 use crate::fault::LiveFault;
 use crate::feed::UdpFeed;
 use crate::options::LiveOptions;
+use crate::pending::all_pending;
 use crate::sink::UdpSink;
 use crate::socket_rest::SocketRest;
 use crate::start::{Sockets, Start, clock_of, feeds_of, stats_of};
@@ -40,7 +41,7 @@ pub(crate) fn run_in_one_thread<'a, R: Threads + Wait + Sync + Net + Clock, E: W
     rt: &'a R,
     alloc: Global,
     studio: &StudioSpec,
-    sockets: Sockets,
+    sockets: Sockets<'a>,
     options: &LiveOptions,
     start: Start,
     faults: E,
@@ -49,6 +50,7 @@ pub(crate) fn run_in_one_thread<'a, R: Threads + Wait + Sync + Net + Clock, E: W
     ensures run { IfOk result (IsRunOf true studio.now) }
     ensures early { IfErr result IsEarly }
 {
+    let pending = all_pending(alloc, sockets.receiving.len())?;
     let lone = lone_of(
         rt,
         alloc,
@@ -58,6 +60,7 @@ pub(crate) fn run_in_one_thread<'a, R: Threads + Wait + Sync + Net + Clock, E: W
         start,
         faults,
         &signs.stop,
+        pending.as_slice(),
     )?;
     let watcher = Watcher::<'a, R, E> {
         until_eof: options.until_eof,
@@ -71,19 +74,21 @@ fn lone_of<'a, R: Wait + Net + Clock, E: Write + Drop>(
     rt: &'a R,
     alloc: Global,
     studio: &StudioSpec,
-    sockets: Sockets,
+    sockets: Sockets<'a>,
     options: &LiveOptions,
     start: Start,
     faults: E,
     stop: &'a AtomicBool,
+    pending: &'a [AtomicBool],
 ) -> Result<Lone<'a, R, E>, LiveFault>
     ensures feeds { IfOk result (λ lone. map (λ own. length own.items) lone.feeds.items ≡ map (λ stream. stream.paths) studio.now.streams) }
     ensures early { IfErr result IsEarly }
 {
     let Sockets { receiving, sink } = sockets;
     let stats = stats_of(rt, alloc, studio, options, start)?;
-    let rest = SocketRest::new(rt, rt, alloc, receiving.as_slice(), stats, faults)?;
-    let feeds = feeds_of(rt, alloc, receiving, start, stop)?;
+    let sockets = receiving.as_slice();
+    let rest = SocketRest::new(rt, rt, alloc, sockets, pending, stats, faults)?;
+    let feeds = feeds_of(rt, alloc, receiving, start, stop, pending)?;
     Ok(Lone {
         feeds: by_stream(alloc, feeds, studio.streams())?,
         clock: clock_of(rt, start),

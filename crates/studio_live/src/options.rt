@@ -7,8 +7,6 @@ pub struct LiveOptions {
     pub instants: Option<i64>,
     /// Every how many seconds each stream's counts are told; if none, only at the end.
     pub stats: Option<u32>,
-    /// Whether sockets are taken that were handed over.
-    pub listen_fds: bool,
     /// Whether the feeds end where standard input does.
     pub until_eof: bool,
     /// Whether an engine in one thread does all that the workers would do.

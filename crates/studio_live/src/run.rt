@@ -10,11 +10,10 @@ use crate::alone::run_in_one_thread;
 use crate::clock::SystemClock;
 use crate::fault::LiveFault;
 use crate::feed::UdpFeed;
-use crate::handed::Handed;
 use crate::monitors::MonitorStats;
 use crate::options::LiveOptions;
-use crate::ports::LivePorts;
 use crate::report::write_report;
+use crate::setup::Setup;
 use crate::sink::UdpSink;
 use crate::standard::open_standard;
 use crate::start::{Sockets, Start, clock_of, feeds_of, sockets_of, stats_of};
@@ -56,9 +55,8 @@ pub fn run_studio_live<R: Threads + Wait + Sync + Net + Clock, W: Write, E: Writ
     rt: &R,
     alloc: Global,
     studio: &StudioSpec,
-    ports: &LivePorts,
+    setup: Setup<'_>,
     options: &LiveOptions,
-    handed: &Handed,
     output: &mut W,
     faults: E,
 ) -> Result<(), LiveFault>
@@ -66,7 +64,7 @@ pub fn run_studio_live<R: Threads + Wait + Sync + Net + Clock, W: Write, E: Writ
     ensures fault { IfErr result (FailsRun options.now.one_thread studio.now (W.contents output.old) (W.contents output.new)) }
 {
     let mut text = TextBuffer::new(alloc)?;
-    let report = run_form(rt, alloc, studio, ports, options, handed, faults)?;
+    let report = run_form(rt, alloc, studio, setup, options, faults)?;
     write_report(&mut text, output, &report)?;
     text.finish(output)?;
     if !report.settled {
@@ -80,18 +78,17 @@ fn run_form<R: Threads + Wait + Sync + Net + Clock, E: Write + Send + Drop>(
     rt: &R,
     alloc: Global,
     studio: &StudioSpec,
-    ports: &LivePorts,
+    setup: Setup<'_>,
     options: &LiveOptions,
-    handed: &Handed,
     faults: E,
 ) -> Result<WorkReport, LiveFault>
     ensures run { IfOk result (IsRunOf options.now.one_thread studio.now) }
     ensures early { IfErr result IsEarly }
 {
     let signs = Signs::new();
-    let start = Start::now(rt, studio, options);
+    let start = Start::at(studio, setup.began, options);
     open_standard();
-    let sockets = sockets_of(rt, alloc, studio, ports, handed)?;
+    let sockets = sockets_of(rt, alloc, studio, setup)?;
     if options.one_thread {
         run_in_one_thread(rt, alloc, studio, sockets, options, start, faults, &signs)
     } else {
@@ -104,7 +101,7 @@ fn run_in_workers<'a, R: Threads + Wait + Sync + Net + Clock, E: Write + Send + 
     rt: &'a R,
     alloc: Global,
     studio: &StudioSpec,
-    sockets: Sockets,
+    sockets: Sockets<'a>,
     options: &LiveOptions,
     start: Start,
     faults: E,
@@ -142,7 +139,7 @@ fn work_of<'a, R: Net + Clock>(
     rt: &'a R,
     alloc: Global,
     studio: &StudioSpec,
-    sockets: Sockets,
+    sockets: Sockets<'a>,
     start: Start,
     stop: &'a AtomicBool,
 ) -> Result<(Work<'a, R>, Vec<MonitorEnd>), LiveFault>
@@ -156,7 +153,7 @@ fn work_of<'a, R: Net + Clock>(
     if receiving.len() != ends.paths.len() {
         return Err(LiveFault::Socket);
     }
-    let feeds = feeds_of(rt, alloc, receiving, start, stop)?;
+    let feeds = feeds_of(rt, alloc, receiving, start, stop, &[])?;
     let clocks = clocks_of(rt, alloc, ends.streams.len(), start)?;
     let (ends, monitors) = without_monitors(alloc, ends);
     let work = Work {

@@ -1,14 +1,16 @@
 //! How a run in one thread waits for its sockets.
 
+use crate::receiver::Receiver;
 use crate::stats::Stats;
 use mio::unix::SourceFd;
 use mio::{Events, Interest, Poll, Token};
 use std::alloc::Global;
 use std::io;
 use std::io::Write;
-use std::net::{Net, UdpSocket};
+use std::net::Net;
 use std::os::fd::AsRawFd;
 use std::sync::Wait;
+use std::sync::atomic::{AtomicBool, Ordering};
 use std::thread::Parker;
 use std::time::{Clock, Duration};
 use studio_alone::Rest;
@@ -31,14 +33,16 @@ const MOST_EVENTS: usize = 64;
 
 /// A wait for one of several sockets to become ready, and what is told of the streams meanwhile.
 ///
-/// While datagrams come it doesn't end at each: it waits a millisecond, after which all sockets are asked. So no
-/// reading of the clock is much older than that when a datagram is judged by the next. Once nothing has come for a
-/// while it sleeps longer, past deadlines of silence; the first datagram ends that.
+/// While datagrams come it doesn't end at each: it waits a millisecond, and tells which sockets became ready meanwhile.
+/// So no reading of the clock is much older than that when a datagram is judged by the next. Once nothing has come for
+/// a while it sleeps longer, past deadlines of silence; the first datagram ends that.
 #[derive(Drop)]
 pub(crate) struct SocketRest<'a, R: Wait + Clock, E> {
     rt: &'a R,
     poll: Poll,
     events: Events,
+    /// Which sockets may have a datagram. What became ready is told once.
+    pending: &'a [AtomicBool],
     /// Where it waits while datagrams come. Nobody ends that wait.
     parker: Parker,
     /// Whether a socket became ready during the last wait.
@@ -55,14 +59,15 @@ impl<'a, R: Wait + Clock, E: Write + Drop> SocketRest<'a, R, E> {
         rt: &'a R,
         net: &impl Net,
         alloc: Global,
-        sockets: &[UdpSocket],
+        receivers: &[Receiver<'_>],
+        pending: &'a [AtomicBool],
         stats: Option<Stats<'a, R>>,
         writer: E,
     ) -> io::Result<SocketRest<'a, R, E>> {
         let poll = Poll::new(net)?;
-        for (number, socket) in sockets.iter().enumerate() {
-            socket.set_nonblocking(true)?;
-            let descriptor = socket.as_raw_fd();
+        for (number, receiver) in receivers.iter().enumerate() {
+            receiver.socket.set_nonblocking(true)?;
+            let descriptor = receiver.socket.as_raw_fd();
             let mut source = SourceFd(&descriptor);
             poll.registry()
                 .register(&mut source, Token(number), Interest::READABLE)?;
@@ -71,6 +76,7 @@ impl<'a, R: Wait + Clock, E: Write + Drop> SocketRest<'a, R, E> {
             rt,
             poll,
             events: Events::with_capacity(alloc, MOST_EVENTS)?,
+            pending,
             parker: Parker::new(),
             is_busy: false,
             quiet: 0,
@@ -95,36 +101,73 @@ impl<'a, R: Wait + Clock, E: Write + Drop> SocketRest<'a, R, E> {
         stats.tell(now, &mut self.writer);
     }
 
+    /// Sleeps a millisecond at most while datagrams come, or where a socket may have one left, and answers for how many
+    /// milliseconds it may then wait for the next.
+    fn sleep(&mut self, instants: u64) -> u64 {
+        if instants == 0 {
+            return 0;
+        }
+        let is_busy = self.is_busy || self.has_pending();
+        if !is_busy && self.quiet >= QUIET_WAITS {
+            return QUIET_WAIT.max(instants / MILLISECOND);
+        }
+        if !is_busy && instants >= MILLISECOND {
+            return instants / MILLISECOND;
+        }
+        let part = instants.min(MILLISECOND) * THREE_INSTANTS / 3;
+        self.parker
+            .park_timeout(self.rt, Duration::from_nanos(part));
+        0
+    }
+
     /// Waits so many sampling instants, but for whole milliseconds at most until a socket is ready.
     fn wait(&mut self, instants: u64) {
-        let mut most = instants / MILLISECOND;
-        if self.quiet >= QUIET_WAITS {
-            most = most.max(QUIET_WAIT);
-        } else if self.is_busy || most == 0 {
-            let part = instants.min(MILLISECOND) * THREE_INSTANTS / 3;
-            self.parker
-                .park_timeout(self.rt, Duration::from_nanos(part));
-            most = 0;
-        }
-        let polled = self
-            .poll
-            .poll(&mut self.events, Some(Duration::from_millis(most)));
-        self.is_busy = polled.is_ok() && !self.events.is_empty();
+        let most = Duration::from_millis(self.sleep(instants));
+        let polled = self.poll.poll(&mut self.events, Some(most));
+        self.is_busy = match polled {
+            Ok(()) => self.note_ready(),
+            Err(_) => self.note_all(),
+        };
         self.quiet = if self.is_busy {
             0
         } else {
             self.quiet.saturating_add(1)
         };
     }
+
+    /// Whether a socket may have a datagram that its feed left.
+    fn has_pending(&self) -> bool {
+        for pending in self.pending {
+            if pending.load(Ordering::SeqCst) {
+                return true;
+            }
+        }
+        false
+    }
+
+    /// Notes which sockets became ready, and answers whether any did.
+    fn note_ready(&self) -> bool {
+        for event in &self.events {
+            let Token(number) = event.token();
+            if let Some(pending) = self.pending.get(number) {
+                pending.store(true, Ordering::SeqCst);
+            }
+        }
+        !self.events.is_empty()
+    }
+
+    /// Notes that any socket may have become ready, which is so where nothing is told of them.
+    fn note_all(&self) -> bool {
+        for pending in self.pending {
+            pending.store(true, Ordering::SeqCst);
+        }
+        true
+    }
 }
 
 impl<R: Wait + Clock, E: Write + Drop> Rest for SocketRest<'_, R, E> {
     fn rest(&mut self, engine: &Engine, most: i64) {
         self.tell(engine);
-        if let Ok(instants) = u64::try_from(most)
-            && instants > 0
-        {
-            self.wait(instants);
-        }
+        self.wait(u64::try_from(most).unwrap_or(0));
     }
 }

@@ -2,17 +2,17 @@
 ghost use Rattle.std.specs.Prelude.{◌≡◌, pos, ◌≤ℤ◌, length, IfOk, IfErr};
 ghost use Rattle.studio_live.specs.Run.{IsEarly};
 
-use crate::addresses::addresses_of;
+use crate::addresses::{PathAddress, addresses_of};
 use crate::clock::SystemClock;
 use crate::fault::LiveFault;
-use crate::feed::{UdpFeed, inherited_socket, receiving_socket};
-use crate::handed::Handed;
+use crate::feed::UdpFeed;
 use crate::options::LiveOptions;
-use crate::ports::LivePorts;
+use crate::receiver::{Receiver, inherited_socket, receiving_socket};
+use crate::setup::Setup;
 use crate::sink::UdpSink;
 use crate::stats::Stats;
 use std::alloc::{AllocError, Global};
-use std::net::{Net, UdpSocket};
+use std::net::Net;
 use std::sync::atomic::AtomicBool;
 use std::time::{Clock, Duration};
 use studio_spec::StudioSpec;
@@ -30,12 +30,12 @@ pub(crate) struct Start {
 }
 
 impl Start {
-    /// A run of this studio begins now.
-    pub(crate) fn now<R: Clock>(rt: &R, studio: &StudioSpec, options: &LiveOptions) -> Start {
+    /// A run of this studio, whose opening time is where the system's monotonic clock read this.
+    pub(crate) fn at(studio: &StudioSpec, began: Option<Duration>, options: &LiveOptions) -> Start {
         let open_at = studio.open_at();
         Start {
             open_at,
-            began: rt.monotonic().ok(),
+            began,
             until: options
                 .instants
                 .map(|instants| open_at.saturating_add(instants)),
@@ -60,54 +60,73 @@ pub(crate) fn stats_of<'a, R: Clock>(
 
 /// The sockets of a run.
 #[derive(Drop)]
-pub(crate) struct Sockets {
+pub(crate) struct Sockets<'a> {
     /// Those that receive, stream by stream and path by path.
-    pub(crate) receiving: Vec<UdpSocket>,
+    pub(crate) receiving: Vec<Receiver<'a>>,
     /// Those that send.
     pub(crate) sink: UdpSink,
 }
 
 /// All sockets of a run: those that were handed over, and others at the studio's addresses.
-pub(crate) fn sockets_of<R: Net>(
+pub(crate) fn sockets_of<'a, R: Net>(
     rt: &R,
     alloc: Global,
     studio: &StudioSpec,
-    ports: &LivePorts,
-    handed: &Handed,
-) -> Result<Sockets, LiveFault>
+    setup: Setup<'a>,
+) -> Result<Sockets<'a>, LiveFault>
     ensures early { IfErr result IsEarly }
 {
-    let receiving = receiving_sockets(rt, alloc, studio, ports.paths.as_slice(), handed)?;
+    let receiving = receivers_of(rt, alloc, studio, setup)?;
     let output = studio.networks().output;
-    let sink = UdpSink::bind(rt, ports.to_a, ports.to_b, &output, handed)?;
+    let ports = setup.ports;
+    let sink = UdpSink::bind(rt, ports.to_a, ports.to_b, &output, setup.handed)?;
     Ok(Sockets { receiving, sink })
 }
 
-/// A socket for each port: the one that was handed over, or one at the address of its path.
-fn receiving_sockets<R: Net>(
+/// A socket for each path: the one that was handed over, or one at its address and port.
+fn receivers_of<'a, R: Net>(
     rt: &R,
     alloc: Global,
     studio: &StudioSpec,
-    ports: &[u16],
-    handed: &Handed,
-) -> Result<Vec<UdpSocket>, LiveFault>
-    ensures sockets { IfOk result (λ sockets. length sockets.items ≡ length ports.now) }
+    setup: Setup<'a>,
+) -> Result<Vec<Receiver<'a>>, LiveFault>
     ensures early { IfErr result IsEarly }
 {
+    let ports = setup.ports.paths.as_slice();
     let addresses = addresses_of(alloc, studio)?;
-    let descriptors = handed.descriptors(alloc, studio.streams())?;
-    let mut sockets = Vec::with_capacity(alloc, ports.len())?;
+    let descriptors = setup.handed.descriptors(alloc, studio.streams())?;
+    let mut receivers = Vec::with_capacity(alloc, ports.len())?;
     for (place, port) in ports.iter().enumerate() {
         let Some(address) = addresses.get(place) else {
             return Err(LiveFault::Socket);
         };
         let socket = match descriptors.get(place) {
             Some(Some(descriptor)) => inherited_socket(*descriptor)?,
-            _ => receiving_socket(rt, *address, *port)?,
+            _ => {
+                let is_shared = is_shared(addresses.as_slice(), ports, place);
+                receiving_socket(rt, address.at, *port, is_shared)?
+            }
         };
-        sockets.push(socket)?;
+        let source = setup.strangers.source(place, address.from);
+        receivers.push(Receiver { socket, source })?;
     }
-    Ok(sockets)
+    Ok(receivers)
+}
+
+/// Whether another path is received at the same group and port, from another source.
+fn is_shared(addresses: &[PathAddress], ports: &[u16], place: usize) -> bool {
+    let (Some(own), Some(port)) = (addresses.get(place), ports.get(place)) else {
+        return false;
+    };
+    let Some(from) = own.from else {
+        return false;
+    };
+    own.at.is_multicast()
+        && addresses.iter().zip(ports).any(|(other, other_port)| {
+            other.at == own.at
+                && other_port == port
+                && matches!(other.from, Some(source) if source != from)
+        })
 }
 
 /// A clock of a run.
@@ -115,19 +134,22 @@ pub(crate) fn clock_of<R: Clock>(rt: &R, start: Start) -> SystemClock<'_, R> {
     SystemClock::since(rt, start.began, start.open_at)
 }
 
-/// A feed for each socket.
+/// A feed for each socket, with its flag if it has one.
 pub(crate) fn feeds_of<'a, R: Clock>(
     rt: &'a R,
     alloc: Global,
-    sockets: Vec<UdpSocket>,
+    receivers: Vec<Receiver<'a>>,
     start: Start,
     stop: &'a AtomicBool,
+    pending: &'a [AtomicBool],
 ) -> Result<Vec<UdpFeed<'a, R>>, AllocError>
-    ensures { IfOk result (λ feeds. length feeds.items ≡ length sockets.items) }
+    ensures { IfOk result (λ feeds. length feeds.items ≡ length receivers.entry.items) }
 {
-    let mut feeds = Vec::with_capacity(alloc, sockets.len())?;
-    for socket in sockets {
-        feeds.push(UdpFeed::new(socket, clock_of(rt, start), start.until, stop))?;
+    let mut feeds = Vec::with_capacity(alloc, receivers.len())?;
+    for receiver in receivers {
+        let own = pending.get(feeds.len());
+        let clock = clock_of(rt, start);
+        feeds.push(UdpFeed::new(receiver, clock, start.until, stop, own))?;
     }
     Ok(feeds)
 }

@@ -4,4 +4,4 @@ use Rattle.studio_live.proofs.addresses.push_row.Given as goal
 
 -- the addresses of the paths so far were put behind those that there were
 abbrev pub invariant-loop-place : goal.invariant-loop-place
-invariant-loop-place l = l.found.items ≡ l.initial.found.items ++ row_addresses l.networks.paths l.number l.place
+invariant-loop-place l = l.found.items ≡ l.initial.found.items ++ row_addresses l.networks l.number l.place

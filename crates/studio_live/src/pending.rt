@@ -1,0 +1,14 @@
+//! Which sockets of a run in one thread are to be asked.
+
+use std::alloc::{AllocError, Global};
+use std::sync::atomic::AtomicBool;
+
+/// A flag for each of so many sockets: it may have a datagram that wasn't received. The wait for the sockets sets it,
+/// and the socket's feed clears it once there was none.
+pub(crate) fn all_pending(alloc: Global, count: usize) -> Result<Vec<AtomicBool>, AllocError> {
+    let mut pending = Vec::with_capacity(alloc, count)?;
+    for _ in 0..count {
+        pending.push(AtomicBool::new(true))?;
+    }
+    Ok(pending)
+}

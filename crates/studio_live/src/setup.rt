@@ -1,0 +1,17 @@
+//! What a live run is set up with.
+
+use crate::handed::Handed;
+use crate::ports::LivePorts;
+use crate::strangers::Strangers;
+use std::time::Duration;
+
+/// What a live run is set up with, beside its studio and its options.
+#[derive(Clone, Copy)]
+pub struct Setup<'a> {
+    pub ports: &'a LivePorts,
+    pub handed: &'a Handed,
+    /// Where datagrams from elsewhere than a path's source are counted.
+    pub strangers: &'a Strangers,
+    /// What the system's monotonic clock read at the studio's opening time, if it could be read.
+    pub began: Option<Duration>,
+}
