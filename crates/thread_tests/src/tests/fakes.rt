@@ -1,8 +1,10 @@
-//! A feed and a sink that fail.
+//! A feed and a sink that fail, and a rest that is none.
 ghost use Rattle.std.specs.Prelude.{[], map, Some};
 
 use std::alloc::Global;
 use std::process::Abort;
+use studio_alone::Rest;
+use studio_engine::Engine;
 use studio_uses::MemoryFeed;
 use studio_workers::{Feed, FeedAnswer, SendAnswer, Sink};
 
@@ -75,4 +77,12 @@ impl<'a, R: Abort> Sink for FailingSink<'a, R> {
         }
         SendAnswer { a: true, b }
     }
+}
+
+/// Takes no rest.
+#[derive(Clone, Copy)]
+pub(super) struct NoRest;
+
+impl Rest for NoRest {
+    fn rest(&mut self, _engine: &Engine, _most: i64) {}
 }

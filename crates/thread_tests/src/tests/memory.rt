@@ -3,20 +3,23 @@
 //! The tests of this file pass for every N: the call that meets it says so, and the next succeeds.
 
 use super::callers::{REPORT, TRACE, arrival, on_paths, path};
-use super::workers::one_stream;
+use super::fakes::NoRest;
+use super::workers::{one_stream, two_packets};
 use path_merge::StreamSpec;
-use std::alloc::Global;
+use std::alloc::{AllocError, Global};
 use std::process::Abort;
 use std::sync::Wait;
 use std::test::Fail;
 use std::thread::Threads;
+use studio_alone::run_alone;
 use studio_rings::OpenFault;
 use studio_run::PlayFault;
 use studio_spec::StudioSpec;
 use studio_uses::{
-    Arrival, MemorySink, ReceiveFault, RunFault, receive_stream, report_trace, run_in_threads,
+    Arrival, MemoryClock, MemoryFeed, MemorySink, ReceiveFault, RunFault, receive_stream,
+    report_trace, run_in_threads,
 };
-use studio_workers::WorkFault;
+use studio_workers::{WorkFault, WorkReport};
 use test_studios::{FIRST, SECOND, stream};
 
 /// Whether the marks of both packets were given; else memory was refused.
@@ -69,6 +72,15 @@ fn each_refused_allocation_of_a_report_is_answered(rt: HostRuntime) -> Result<()
     Ok(())
 }
 
+/// Of two blocks each was kept, or is told as a fault of both addresses.
+fn kept_or_told(rt: &impl Abort, report: &WorkReport, sink: &MemorySink) {
+    assert!(rt; report.settled);
+    assert_eq!(rt; report.blocks, 2);
+    let kept = sink.kept().len() as u64;
+    assert_eq!(rt; (report.sent_a, report.sent_b), (kept, kept));
+    assert_eq!(rt; sink.is_whole(), kept == 2);
+}
+
 /// A run of two blocks, or its fault. What the sink could not keep is told as a fault of both addresses.
 fn attempt<R: Threads + Wait + Abort + Sync>(
     rt: &R,
@@ -78,11 +90,7 @@ fn attempt<R: Threads + Wait + Abort + Sync>(
 ) -> Option<RunFault> {
     match run_in_threads(rt, alloc, studio, lists, &[0], MemorySink::new(alloc)) {
         Ok((report, sink)) => {
-            assert!(rt; report.settled);
-            assert_eq!(rt; report.blocks, 2);
-            let kept = sink.kept().len() as u64;
-            assert_eq!(rt; (report.sent_a, report.sent_b), (kept, kept));
-            assert_eq!(rt; sink.is_whole(), kept == 2);
+            kept_or_told(rt, &report, &sink);
             None
         }
         Err(fault) => Some(fault),
@@ -115,6 +123,38 @@ fn each_refused_allocation_of_a_run_is_answered(rt: HostRuntime) -> Result<(), F
         assert!(rt; wants_memory(fault), "only memory can lack");
         let again = attempt(&rt, alloc, &studio, lists.as_slice());
         assert!(rt; again.is_none(), "with memory again");
+    }
+    Ok(())
+}
+
+/// A run of two blocks in one thread.
+fn attempt_alone<R: Wait + Abort>(
+    rt: &R,
+    alloc: Global,
+    studio: &StudioSpec,
+    packets: &[Vec<u8>],
+) -> Result<(), AllocError> {
+    let own = Vec::from_array(alloc, [MemoryFeed::new(packets), MemoryFeed::new(packets)])?;
+    let feeds = Vec::from_array(alloc, [own])?;
+    let (clock, sink) = (MemoryClock::new(&[0]), MemorySink::new(alloc));
+    let (report, sink) = run_alone(rt, alloc, studio, feeds, clock, sink, NoRest)?;
+    kept_or_told(rt, &report, &sink);
+    Ok(())
+}
+
+/// A run in one thread with any one allocation refused: as that by workers.
+#[test]
+fn each_refused_allocation_of_a_run_in_one_thread_is_answered(rt: HostRuntime) -> Result<(), Fail> {
+    let alloc = rt.alloc();
+    let studio = one_stream(alloc)
+        .or_else(|| one_stream(alloc))
+        .ok_or("with memory again")?;
+    let packets = match two_packets(alloc) {
+        Ok(packets) => packets,
+        Err(_) => two_packets(alloc)?,
+    };
+    if attempt_alone(&rt, alloc, &studio, &packets).is_err() {
+        attempt_alone(&rt, alloc, &studio, &packets)?;
     }
     Ok(())
 }

@@ -74,7 +74,7 @@ pub(super) fn only(rt: &impl Abort, report: &WorkReport) -> Counts {
 }
 
 /// Blocks, and how many of them were sent and failed at each address.
-fn sends(report: &WorkReport) -> (u64, [u64; 2], [u64; 2]) {
+pub(super) fn sends(report: &WorkReport) -> (u64, [u64; 2], [u64; 2]) {
     let sent = [report.sent_a, report.sent_b];
     let faults = [report.fault_a, report.fault_b];
     (report.blocks, sent, faults)
@@ -218,7 +218,7 @@ fn an_address_that_fails(rt: HostRuntime) -> Result<(), Fail> {
 }
 
 /// How often a feed fails: before its first answer, and before each later one.
-type Failing = (u32, u32);
+pub(super) type Failing = (u32, u32);
 
 /// Runs one stream whose feeds fail: each so often before its first answer, and so often before each later one.
 fn run_failing<R: Threads + Wait + Abort + Sync>(
@@ -241,30 +241,40 @@ fn run_failing<R: Threads + Wait + Abort + Sync>(
 }
 
 /// How both feeds fail; what arrived, was taken and double; and how often each feed failed.
-type Failure = (Failing, Failing, [u64; 3], [u64; 2]);
+pub(super) type Failure = (Failing, Failing, [u64; 3], [u64; 2]);
 
-const FAILURES: [Failure; 4] = [
+pub(super) const FAILURES: [Failure; 4] = [
     ((999, 0), (0, 0), [4, 2, 2], [999, 0]),
     ((1_000, 0), (0, 0), [2, 2, 0], [1_000, 0]),
     ((0, 0), (1_000, 0), [2, 2, 0], [0, 1_000]),
     ((1, 1), (999, 1), [4, 2, 2], [3, 1_001]),
 ];
 
+/// Both packets were got, so much arrived, was taken and double, and so often each feed failed.
+pub(super) fn has_failed(
+    rt: &impl Abort,
+    report: &WorkReport,
+    arrivals: [u64; 3],
+    faults: [u64; 2],
+) {
+    let counts = only(rt, report);
+    assert!(rt; counts.got == 2 && report.blocks == 2);
+    assert!(rt;
+        [counts.arrived, counts.taken, counts.double] == arrivals,
+        "arrivals: {arrivals:?}"
+    );
+    assert!(rt;
+        report.feed_faults.as_slice() == faults.as_slice(),
+        "faults: {faults:?}"
+    );
+}
+
 /// A feed that fails is asked again, up to 999 times in a row; after 1,000 its path has ended.
 #[test]
 fn a_feed_ends_after_1000_faults(rt: HostRuntime) -> Result<(), Fail> {
     for (first, second, arrivals, faults) in FAILURES {
         let report = run_failing(&rt, rt.alloc(), first, second)?;
-        let counts = only(&rt, &report);
-        assert!(rt; counts.got == 2 && report.blocks == 2);
-        assert!(rt;
-            [counts.arrived, counts.taken, counts.double] == arrivals,
-            "arrivals: {first:?}, {second:?}"
-        );
-        assert!(rt;
-            report.feed_faults.as_slice() == faults.as_slice(),
-            "faults: {first:?}, {second:?}"
-        );
+        has_failed(&rt, &report, arrivals, faults);
     }
     Ok(())
 }

@@ -1,0 +1,72 @@
+//! A clock, a feed, a sink and a rest that share a time, which moves on only by the rests.
+ghost use Rattle.std.specs.Prelude.{[], None};
+
+use std::sync::atomic::{AtomicI64, Ordering};
+use studio_alone::Rest;
+use studio_engine::Engine;
+use studio_uses::MemoryFeed;
+use studio_workers::{Clock, Feed, FeedAnswer, SendAnswer, Sink};
+
+/// Tells the time.
+#[derive(Drop)]
+pub(super) struct TimedClock<'a> {
+    pub(super) time: &'a AtomicI64,
+}
+
+impl Clock for TimedClock<'_> {
+    ghost told = { λ clock. [] };
+
+    fn now(&mut self) -> i64 {
+        self.time.load(Ordering::SeqCst)
+    }
+}
+
+/// Rests as long as it may.
+#[derive(Drop)]
+pub(super) struct WholeRest<'a> {
+    pub(super) time: &'a AtomicI64,
+}
+
+impl Rest for WholeRest<'_> {
+    fn rest(&mut self, _engine: &Engine, most: i64) {
+        let now = self.time.load(Ordering::SeqCst);
+        self.time.store(now.saturating_add(most), Ordering::SeqCst);
+    }
+}
+
+/// Gives its datagrams at once, and ends at a time.
+#[derive(Drop)]
+pub(super) struct TimedFeed<'t, 'd> {
+    pub(super) time: &'t AtomicI64,
+    pub(super) feed: MemoryFeed<'d>,
+    pub(super) until: i64,
+}
+
+impl Feed for TimedFeed<'_, '_> {
+    ghost told = { λ feed. [] };
+
+    fn next(&mut self, buf: &mut [u8]) -> FeedAnswer {
+        match self.feed.next(buf) {
+            FeedAnswer::Ended if self.time.load(Ordering::SeqCst) < self.until => {
+                FeedAnswer::Nothing
+            }
+            answer => answer,
+        }
+    }
+}
+
+/// Keeps when it was handed its datagrams.
+#[derive(Drop)]
+pub(super) struct TimedSink<'a> {
+    pub(super) time: &'a AtomicI64,
+    pub(super) times: Vec<i64>,
+}
+
+impl Sink for TimedSink<'_> {
+    ghost handed = { λ sink. None };
+
+    fn send(&mut self, _datagram: &[u8]) -> SendAnswer {
+        let kept = self.times.push(self.time.load(Ordering::SeqCst)).is_ok();
+        SendAnswer { a: kept, b: kept }
+    }
+}
