@@ -45,12 +45,13 @@ test:
 	examples/statuses crates/studio_main/out/studio_main
 	examples/blocks crates/studio_main/out/studio_main
 	examples/wav crates/studio_main/out/studio_main
+	examples/chart crates/studio_main/out/studio_main
 	tests/captures crates/studio_main/out/studio_main
 	tests/loopback crates/studio_main/out/studio_main
 	tests/networks crates/studio_main/out/studio_main
 	DARBEXUM=crates/studio_main/out/studio_main diff/run engine 500
 	memory/check
-	@echo "gate: pages, proofs, edits, tests, examples, faults, statuses, blocks, WAV files, captures, live runs, networks, engine and memory passed"
+	@echo "gate: pages, proofs, edits, tests, examples, faults, statuses, blocks, WAV files, charts, captures, live runs, networks, engine and memory passed"
 
 test-memory:
 	memory/check

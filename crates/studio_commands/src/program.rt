@@ -14,6 +14,7 @@ use std::rt::Env;
 use std::sync::Wait;
 use std::thread::Threads;
 use std::time::Clock;
+use studio_chart::chart;
 use studio_run::{list_marks, list_marks_and_counts, play};
 
 /// Runs the program: its text goes to `output`, and the line of a fault to `faults`. Answers the
@@ -78,6 +79,10 @@ fn answer<
         }
         Asked::PlayToWav(path, file) => {
             play_to_wav(configs, alloc, path, file, input, output, faults)
+        }
+        Asked::Chart(path) => {
+            let studio = studio_of(configs, alloc, path)?;
+            chart(alloc, &studio, input, output).map_err(Fault::from)
         }
         Asked::Check(path) => {
             let studio = studio_of(configs, alloc, path)?;

@@ -30,6 +30,8 @@ pub enum Asked<'a> {
     Play(&'a str),
     /// The same, with a WAV file at this path beside it.
     PlayToWav(&'a str, &'a str),
+    /// The picture of what a configuration's streams received.
+    Chart(&'a str),
     /// What a configuration means.
     Check(&'a str),
     /// What a capture holds.
@@ -60,6 +62,7 @@ pub fn asked_for<'a>(alloc: Global, words: &'a [String]) -> Result<Asked<'a>, Er
 fn asked_of_config<'a>(name: &str, path: &'a str, matches: &ArgMatches<'a>) -> Asked<'a> {
     match name {
         "play" => play_in(path, matches),
+        "chart" => Asked::Chart(path),
         "check" => Asked::Check(path),
         "live" => Asked::Live(path, live_words(matches)),
         _ if matches.get_flag("counts") => Asked::MarksAndCounts(path),
@@ -122,6 +125,9 @@ fn command<'a>(alloc: Global) -> Result<Command<'a>, AllocError> {
 fn with_trace_words<'a>(alloc: Global, command: Command<'a>) -> Result<Command<'a>, AllocError> {
     let command = command.subcommand(marks_command(alloc)?)?;
     let command = command.subcommand(play_command(alloc)?)?;
+    let about =
+        "Draws what each path gave to each stream of the trace on standard input, as an SVG";
+    let command = command.subcommand(with_config(alloc, "chart", about)?)?;
     let about = "Says what a configuration means";
     command.subcommand(with_config(alloc, "check", about)?)
 }

@@ -1,0 +1,2 @@
+pub mod BinsLemmas
+pub mod PictureLemmas

@@ -1,0 +1,41 @@
+-- What was seen of a stream, by span and kind.
+use Rattle.std.specs.Prelude.{◌≡◌, ◌<◌, ◌+◌, ◌*◌, ℕ, ℤ, Bool, ◌&&◌, nat_eq, List, get_or, count_by}
+use Rattle.studio_chart.specs.Axis.{span_of}
+use Rattle.studio_chart.specs.declared.axis.Axis.{Axis}
+use Rattle.studio_chart.specs.declared.sighting.Kind.{Kind}
+use Rattle.studio_chart.specs.declared.sighting.Kind.TheVariants.{Taken, Double, Late, Refused, Lost, Restart}
+
+-- one thing that was seen, and when
+pub record Seen : Type 0 where
+  pub time : ℤ
+  pub kind : Kind
+
+-- what contracts see of bins: a count for each row of each span
+pub record BinsState : Type 0 where
+  pub axis : Axis
+  pub counts : List ℕ
+
+-- the row of a kind: of a packet that was taken that of its path
+abbrev pub row_of : Kind → ℕ
+row_of (Taken path) = path
+row_of Double = 4
+row_of Late = 5
+row_of Lost = 6
+row_of Refused = 7
+row_of Restart = 8
+
+-- the bin of a time
+abbrev pub bin_of : Axis → ℤ → ℕ
+bin_of axis time = span_of axis.first axis.span axis.bins time
+
+-- it is of this row, and of this span
+abbrev pub is_in : Axis → ℕ → ℕ → Seen → Bool
+is_in axis bin row seen = nat_eq (bin_of axis seen.time) bin && nat_eq (row_of seen.kind) row
+
+-- how many are
+abbrev pub count_in : Axis → List Seen → ℕ → ℕ → ℕ
+count_in axis seen bin row = count_by (is_in axis bin row) seen
+
+-- each count is that of exactly these
+pub record HasCounted (bins : BinsState) (seen : List Seen) : Type 0 where
+  pub each : (bin row : ℕ) → bin < bins.axis.bins → row < 9 → get_or bins.counts (9 * bin + row) 0 ≡ count_in bins.axis seen bin row

@@ -1,0 +1,32 @@
+//! All that a panel draws of a stream.
+use crate::axis::Axis;
+use crate::bins::Bins;
+use crate::observer::Observer;
+use crate::sighting::Sighting;
+use crate::spares::Spares;
+use std::alloc::{AllocError, Global};
+
+/// What was seen of a stream, by span, and what its copies had to spare.
+#[derive(Drop)]
+pub(crate) struct Gathered {
+    pub(crate) bins: Bins,
+    pub(crate) spares: Spares,
+}
+
+impl Gathered {
+    /// Nothing was seen.
+    pub(crate) fn new(alloc: Global, axis: Axis, most: i64) -> Result<Gathered, AllocError> {
+        let bins = Bins::new(alloc, axis)?;
+        Ok(Gathered {
+            bins,
+            spares: Spares::new(most),
+        })
+    }
+}
+
+impl Observer for Gathered {
+    fn see(&mut self, sighting: &Sighting) {
+        self.bins.add(sighting.time, sighting.kind);
+        self.spares.add(sighting);
+    }
+}
