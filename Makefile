@@ -36,22 +36,26 @@ bin/darbexum-live: darbexum-live
 run:
 	@examples/run
 
-# The scripts drive the program that the gate has built.
+# The scripts drive the program that the gate has built: side by side, but for those that a busy machine would disturb.
+program := crates/studio_main/out/studio_main
+scripts := memory/check tests/captures diff/run $(addprefix examples/,check faults statuses blocks wav chart)
+
 test:
 	docs/check
 	rt ci
-	examples/check crates/studio_main/out/studio_main
-	examples/faults crates/studio_main/out/studio_main
-	examples/statuses crates/studio_main/out/studio_main
-	examples/blocks crates/studio_main/out/studio_main
-	examples/wav crates/studio_main/out/studio_main
-	examples/chart crates/studio_main/out/studio_main
-	tests/captures crates/studio_main/out/studio_main
-	tests/loopback crates/studio_main/out/studio_main
-	tests/networks crates/studio_main/out/studio_main
-	DARBEXUM=crates/studio_main/out/studio_main diff/run engine 500
+	$(MAKE) -j4 --no-print-directory $(addsuffix .ran,$(scripts))
+	tests/loopback $(program)
+	tests/networks $(program)
+	@echo "gate: pages, proofs, edits, tests, examples, faults, statuses, blocks, WAV files, charts, captures, engine, memory, live runs and networks passed"
+
+%.ran:
+	$* $(program)
+
+diff/run.ran:
+	DARBEXUM=$(program) diff/run engine 500
+
+memory/check.ran:
 	memory/check
-	@echo "gate: pages, proofs, edits, tests, examples, faults, statuses, blocks, WAV files, charts, captures, live runs, networks, engine and memory passed"
 
 test-memory:
 	memory/check

@@ -1,4 +1,5 @@
 //! The tests, call by call.
 mod calls;
 mod deadlines;
+mod lists;
 mod studios;

@@ -1,5 +1,4 @@
 //! The tests, from gains to the datagrams of a mixer.
-mod config;
 mod datagrams;
 mod gains;
 mod mixer;

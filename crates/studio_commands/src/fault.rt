@@ -1,8 +1,9 @@
 //! The faults of a run: their lines and exit statuses.
 use capture_import::ImportFault;
 use capture_read::CaptureFault;
+use live_parts::HandedFault;
 use std::io::Write;
-use studio_live::{HandedFault, LiveFault};
+use studio_live::LiveFault;
 use studio_run::{PlayFault, SpecError, StudioFault};
 use studio_wav::FileFault;
 use thiserror::Error;

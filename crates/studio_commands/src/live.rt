@@ -1,6 +1,7 @@
 //! Live runs, from the octets of a configuration.
 use crate::config::{fault_of, studio_in};
 use crate::fault::Fault;
+use live_parts::{Handed, LiveOptions, LivePorts, Setup, Strangers, TaiOffset, tai_opening};
 use std::alloc::Global;
 use std::io::Write;
 use std::net::Net;
@@ -9,10 +10,7 @@ use std::sync::Wait;
 use std::thread::Threads;
 use std::time::{Clock, Duration};
 use stream_rules::Path;
-use studio_live::{
-    Handed, LiveFault, LiveOptions, LivePorts, Setup, Strangers, TaiOffset, run_studio_live,
-    tai_opening,
-};
+use studio_live::{LiveFault, run_studio_live};
 use studio_spec::StudioSpec;
 
 /// What a live run is asked for.

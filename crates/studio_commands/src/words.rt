@@ -4,9 +4,9 @@ use crate::import::ImportOptions;
 use crate::live::LiveWords;
 use clap::error::ErrorKind;
 use clap::{Arg, ArgAction, ArgMatches, Command, Error, value_parser};
+use live_parts::LiveOptions;
 use std::alloc::{AllocError, Global};
 use std::io::Write;
-use studio_live::LiveOptions;
 
 /// The most sampling instants of a live run.
 const MOST_INSTANTS: i64 = 1_099_511_627_776;

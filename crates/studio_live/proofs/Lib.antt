@@ -1,5 +1,1 @@
-pub mod AddressLemmas
-pub mod PortLemmas
-pub mod TextLemmas
-pub mod ReportLemmas
 pub mod RunLemmas

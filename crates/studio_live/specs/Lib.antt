@@ -1,5 +1,1 @@
-pub mod Addresses
-pub mod Clock
-pub mod Ports
-pub mod Report
 pub mod Run

@@ -8,7 +8,7 @@ use Rattle.studio_workers.specs.Balances.{Balances}
 use Rattle.studio_workers.specs.Runs.{IsSettledRun}
 use Rattle.studio_alone.specs.Runs.{IsSettledRun as IsSettledAlone}
 use Rattle.studio_workers.specs.declared.report.WorkReport.{WorkReport}
-use Rattle.studio_live.specs.Report.{report_text}
+use Rattle.live_parts.specs.Report.{report_text}
 use Rattle.studio_live.specs.declared.fault.LiveFault.{LiveFault}
 use Rattle.studio_live.specs.declared.fault.LiveFault.TheVariants.{Memory, Socket, Thread, Unsettled, Write}
 

@@ -4,15 +4,14 @@ ghost use Rattle.std.specs.Thread.{IsSync};
 ghost use Rattle.studio_spec.specs.Studio.{Studio};
 ghost use Rattle.studio_live.specs.Run.{IsEarly, IsRunOf};
 
-use crate::clock::SystemClock;
 use crate::fault::LiveFault;
 use crate::feed::UdpFeed;
-use crate::options::LiveOptions;
 use crate::pending::all_pending;
 use crate::sink::UdpSink;
 use crate::socket_rest::SocketRest;
 use crate::start::{Sockets, Start, clock_of, feeds_of, stats_of};
 use crate::watch::{Signs, Watcher, watch};
+use live_parts::{LiveOptions, SystemClock};
 use std::alloc::Global;
 use std::io::Write;
 use std::net::Net;

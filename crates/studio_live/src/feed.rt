@@ -2,8 +2,8 @@
 ghost use Rattle.std.specs.Prelude.{[], ℕ};
 ghost use Rattle.studio_workers.specs.Answers.{IsWithin};
 
-use crate::clock::SystemClock;
 use crate::receiver::Receiver;
+use live_parts::SystemClock;
 use std::io::ErrorKind;
 use std::sync::atomic::{AtomicBool, Ordering};
 use std::time::Clock;

@@ -1,7 +1,7 @@
 //! The socket of a path.
 ghost use Rattle.std.specs.Prelude.{◌≤◌, length, IfOk, IfSome};
 
-use crate::strangers::Source;
+use live_parts::Source;
 use os::FromRawFd;
 use std::io;
 use std::io::ErrorKind;

@@ -1,7 +1,7 @@
 //! Where the output's datagrams go: to two addresses, each from a socket of its own.
 ghost use Rattle.std.specs.Prelude.{None};
 
-use crate::handed::Handed;
+use live_parts::Handed;
 use mio::net::UdpSocket;
 use os::FromRawFd;
 use std::io::ErrorKind;

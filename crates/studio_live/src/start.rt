@@ -2,15 +2,12 @@
 ghost use Rattle.std.specs.Prelude.{◌≡◌, pos, ◌≤ℤ◌, length, IfOk, IfErr};
 ghost use Rattle.studio_live.specs.Run.{IsEarly};
 
-use crate::addresses::{PathAddress, addresses_of};
-use crate::clock::SystemClock;
 use crate::fault::LiveFault;
 use crate::feed::UdpFeed;
-use crate::options::LiveOptions;
 use crate::receiver::{Receiver, inherited_socket, receiving_socket};
-use crate::setup::Setup;
 use crate::sink::UdpSink;
 use crate::stats::Stats;
+use live_parts::{LiveOptions, PathAddress, Setup, SystemClock, addresses_of};
 use std::alloc::{AllocError, Global};
 use std::net::Net;
 use std::sync::atomic::AtomicBool;

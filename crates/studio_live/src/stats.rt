@@ -1,7 +1,7 @@
 //! Each stream's counts, told while a run goes on.
 
-use crate::clock::SystemClock;
 use crate::ready::{FAULTS, is_ready};
+use live_parts::SystemClock;
 use std::alloc::{AllocError, Global};
 use std::io::Write;
 use std::time;

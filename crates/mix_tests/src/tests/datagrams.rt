@@ -1,55 +1,10 @@
 //! Vectors for outputs and their datagrams.
-use mix_packets::{OutFault, OutSpec, Packer};
+use mix_packets::{OutSpec, Packer};
 use rtp_wire::{Enc, read};
 use std::test::Fail;
 
 /// 2^60, the latest start.
 const LATEST: i64 = 1_152_921_504_606_846_976;
-
-/// Why there is no output with these parts, where the others are allowed.
-fn fault_of(enc: Enc, channels: u8, frames: u16, pt: u8, start: i64) -> Option<OutFault> {
-    OutSpec::new(enc, channels, frames, pt, 2, 0, start, 0).err()
-}
-
-/// An output's encoding, channels, frames, type and start, and its fault.
-type Output = (Enc, u8, u16, u8, i64, Option<OutFault>);
-
-const OUTPUTS: [Output; 21] = [
-    (Enc::L24, 1, 48, 97, 0, None),
-    (Enc::L24, 0, 5, 95, -1, Some(OutFault::Channels)),
-    (Enc::L24, 9, 6, 96, 0, Some(OutFault::Channels)),
-    (Enc::L24, 8, 6, 96, 0, None),
-    (Enc::L24, 1, 5, 95, -1, Some(OutFault::Frames)),
-    (Enc::L24, 1, 0, 96, 0, Some(OutFault::Frames)),
-    (Enc::L24, 1, 7, 96, 0, Some(OutFault::Frames)),
-    (Enc::L24, 1, 193, 96, 0, Some(OutFault::Frames)),
-    (Enc::L24, 1, 12, 96, 0, None),
-    (Enc::L24, 1, 16, 96, 0, None),
-    (Enc::L24, 8, 192, 95, -1, Some(OutFault::PayloadType)),
-    (Enc::L24, 1, 6, 95, 0, Some(OutFault::PayloadType)),
-    (Enc::L24, 1, 6, 128, 0, Some(OutFault::PayloadType)),
-    (Enc::L24, 1, 6, 127, 0, None),
-    (Enc::L24, 3, 192, 96, -1, Some(OutFault::TooLong)),
-    (Enc::L24, 2, 192, 96, 0, None),
-    (Enc::L16, 4, 192, 96, 0, Some(OutFault::TooLong)),
-    (Enc::L16, 3, 192, 96, 0, None),
-    (Enc::L24, 1, 6, 96, -1, Some(OutFault::Start)),
-    (Enc::L24, 1, 6, 96, LATEST, None),
-    (Enc::L24, 1, 6, 96, LATEST + 1, Some(OutFault::Start)),
-];
-
-/// Each limit of an output from both sides, and a payload that would be too long.
-#[test]
-fn out_spec_faults(rt: HostRuntime) {
-    for (enc, channels, frames, pt, start, want) in OUTPUTS {
-        let got = fault_of(enc, channels, frames, pt, start);
-        assert_eq!(rt;
-            got,
-            want,
-            "{channels} channels, {frames} frames, type {pt}, start {start}"
-        );
-    }
-}
 
 /// Sequence number 65535 and timestamp 2^32 - 48 are followed by 0 and 0.
 #[test]

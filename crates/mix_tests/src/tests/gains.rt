@@ -63,57 +63,6 @@ fn gains_mix_inputs_by_row(rt: HostRuntime) -> Result<(), Fail> {
     Ok(())
 }
 
-/// The fault that these gains have, if any.
-fn matrix_fault(alloc: Global, outs: usize, ins: usize, gains: &[i32]) -> Option<MatrixFault> {
-    Matrix::new(alloc, outs, ins, gains).err()
-}
-
-/// Outputs, inputs, how many gains, and the fault.
-type Shape = (usize, usize, usize, Option<MatrixFault>);
-
-const SHAPES: [Shape; 9] = [
-    (2, 2, 3, Some(MatrixFault::Shape)),
-    (2, 2, 5, Some(MatrixFault::Shape)),
-    (0, 1, 0, Some(MatrixFault::Shape)),
-    (1, 0, 0, Some(MatrixFault::Shape)),
-    (9, 1, 9, Some(MatrixFault::Shape)),
-    (1, 1025, 1025, Some(MatrixFault::Shape)),
-    (usize::MAX, usize::MAX, 1, Some(MatrixFault::Shape)),
-    (1, 1, 1, None),
-    (8, 1024, 8192, None),
-];
-
-/// Each limit of a matrix' shape from both sides.
-#[test]
-fn matrix_faults(rt: HostRuntime) {
-    let gains = [0; 9225];
-    for (outs, ins, count, want) in SHAPES {
-        assert!(rt; count <= gains.len());
-        let fault = matrix_fault(rt.alloc(), outs, ins, &gains[..count]);
-        assert_eq!(rt; fault, want, "{outs} by {ins}");
-    }
-}
-
-const GAINS: [(i32, Option<MatrixFault>); 6] = [
-    (1_048_576, None),
-    (-1_048_576, None),
-    (1_048_577, Some(MatrixFault::Range)),
-    (-1_048_577, Some(MatrixFault::Range)),
-    (i32::MAX, Some(MatrixFault::Range)),
-    (i32::MIN, Some(MatrixFault::Range)),
-];
-
-/// Each limit of a gain from both sides, and `Shape` before `Range`.
-#[test]
-fn faults_of_gains(rt: HostRuntime) {
-    for (gain, want) in GAINS {
-        let fault = matrix_fault(rt.alloc(), 1, 2, &[0, gain]);
-        assert_eq!(rt; fault, want, "gain {gain}");
-    }
-    let fault = matrix_fault(rt.alloc(), 1, 1, &[0, 1_048_577]);
-    assert_eq!(rt; fault, Some(MatrixFault::Shape));
-}
-
 /// A matrix whose gains are all the same.
 fn even_matrix(alloc: Global, outs: usize, ins: usize, gain: i32) -> Result<Matrix, MatrixFault> {
     let gains = [gain; 8];
@@ -131,20 +80,6 @@ fn schedule_fault(
     let mut later = Vec::new(alloc);
     for (time, outs, ins) in changes {
         later.push((*time, even_matrix(alloc, *outs, *ins, 0)?))?;
-    }
-    Ok(Schedule::new(even_matrix(alloc, 2, 3, 0)?, later).err())
-}
-
-/// The fault of so many changes to matrices of one shape, if any.
-fn fault_of_many(
-    alloc: Global,
-    count: u8,
-    outs: usize,
-    ins: usize,
-) -> Result<Option<ScheduleFault>, Fail> {
-    let mut later = Vec::new(alloc);
-    for i in 0..count {
-        later.push((i64::from(i), even_matrix(alloc, outs, ins, 0)?))?;
     }
     Ok(Schedule::new(even_matrix(alloc, 2, 3, 0)?, later).err())
 }
@@ -176,26 +111,6 @@ fn schedule_faults(rt: HostRuntime) -> Result<(), Fail> {
     }
     let fault = schedule_fault(rt.alloc(), &[])?;
     assert_eq!(rt; fault, None, "no change");
-    Ok(())
-}
-
-/// How many changes, their outputs and inputs, and the fault.
-type Many = (u8, usize, usize, Option<ScheduleFault>);
-
-const MANY: [Many; 4] = [
-    (64, 2, 3, None),
-    (64, 1, 3, Some(ScheduleFault::Shape)),
-    (65, 2, 3, Some(ScheduleFault::TooMany)),
-    (65, 1, 3, Some(ScheduleFault::TooMany)),
-];
-
-/// 64 changes are fine, and 65 are too many, before any other fault.
-#[test]
-fn faults_of_many_changes(rt: HostRuntime) -> Result<(), Fail> {
-    for (count, outs, ins, want) in MANY {
-        let fault = fault_of_many(rt.alloc(), count, outs, ins)?;
-        assert_eq!(rt; fault, want, "{count} changes to {outs} by {ins}");
-    }
     Ok(())
 }
 

@@ -1,4 +1,0 @@
-//! The tests, command by command.
-mod fakes;
-mod outcome;
-mod statuses;

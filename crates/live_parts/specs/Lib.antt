@@ -1,0 +1,4 @@
+pub mod Addresses
+pub mod Clock
+pub mod Ports
+pub mod Report

@@ -1,3 +1,0 @@
-//! Files in memory, whole and broken off.
-mod files;
-mod sheet;
