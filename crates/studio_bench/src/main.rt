@@ -1,10 +1,11 @@
-//! Times the kernels that carry the load, each by its word, and runs the workers for long beside a plain
-//! program; without words it writes nothing.
+//! Times the kernels that carry the load, each by its word, runs the workers for long beside a plain program, and
+//! plays a trace through an engine; without words it writes nothing.
 //!
-//! The scripts in `bench/` build it for a processor, run it beside C and compare.
+//! The scripts in `bench/` build it for a processor, run it beside C and compare; `diff/run engine` compares with `play`.
 #![tactic(auto)]
 
 mod datagrams;
+mod engine;
 mod merge;
 mod mix;
 mod rings;
@@ -21,6 +22,7 @@ fn main(rt: HostRuntime) -> anyhow::Result<()> {
         return Ok(());
     };
     match word.as_str() {
+        "engine" => engine::play_trace(&rt, &mut words),
         "merge" => merge::time_merge(&rt, rt.alloc(), &mut words),
         "mix" => mix::time_shapes(&rt, rt.alloc()),
         "rings" => rings::time_rings(&rt, rt.alloc(), &mut words),

@@ -1,9 +1,7 @@
 //! Vectors for headers, payloads and samples.
 ghost use Rattle.rtp_wire.specs.Sample.{FitsEncoding};
 
-use rtp_wire::{
-    Enc, RtpHead, WireFault, read, read_samples, sample, write_head, write_sample, write_samples,
-};
+use rtp_wire::{Enc, WireFault, read, read_samples, sample, write_sample, write_samples};
 use std::alloc::{AllocError, Global};
 use std::test::Fail;
 
@@ -75,29 +73,6 @@ fn each_cut_of_a_full_header_has_its_fault(rt: HostRuntime) {
     for k in 0..34usize {
         assert!(rt; payload_of(&FULL[..k]) == cut_of_full(k), "the first {k}");
     }
-}
-
-const HEAD: RtpHead = RtpHead {
-    marker: true,
-    pt: 96,
-    seq: 0x0102,
-    ts: 0x0304_0506,
-    ssrc: 0x0708_090a,
-};
-
-/// The octets of that head, and two behind it.
-const HEAD_OCTETS: [u8; 14] = [0x80, 0xe0, 1, 2, 3, 4, 5, 6, 7, 8, 9, 10, 0x55, 0x55];
-
-/// A head of type 96 with the marker: its twelve octets, and itself when it is read back.
-#[test]
-fn headers_are_in_network_order(rt: HostRuntime) -> Result<(), Fail> {
-    let mut out = [0x55u8; 14];
-    assert!(rt; write_head(&mut out, &HEAD) == 12 && out == HEAD_OCTETS);
-    let view = read(&HEAD_OCTETS)?;
-    assert!(rt; view.marker && view.pt == 96 && view.seq == 0x0102);
-    assert!(rt; view.ts == 0x0304_0506 && view.ssrc == 0x0708_090a);
-    assert!(rt; view.payload.len() == 2);
-    Ok(())
 }
 
 /// The least and greatest samples and others, of L16 and of L24.

@@ -1,14 +1,10 @@
 //! A trace, handed to an engine event by event, and the report of what the engine gave, in the words of `play`.
-//!
-//! Its word names the configuration; the trace comes by standard input. At the first event that is at fault it
-//! breaks off.
-#![tactic(auto)]
-
 use anyhow::{anyhow, bail};
 use path_merge::{Path, StreamSpec};
 use std::alloc::Global;
+use std::env::Args;
+use std::fs;
 use std::io::Write;
-use std::{env, fs};
 use studio_engine::Engine;
 use studio_run::{
     StudioEvent, StudioSpec, TextBuffer, read_text, read_trace, write_datagram, write_merge_counts,
@@ -25,14 +21,14 @@ struct Lines<'a, W: Write> {
     output: &'a mut W,
 }
 
-fn main(rt: HostRuntime) -> anyhow::Result<()> {
+/// Plays the trace of standard input over the configuration that the next word names. At the first event that is at
+/// fault it breaks off.
+pub fn play_trace(rt: &HostRuntime, words: &mut Args) -> anyhow::Result<()> {
     let alloc = rt.alloc();
-    let mut words = env::args(&rt)?;
-    let _program = words.next();
     let Some(path) = words.next() else {
-        bail!("usage: engine_play CONFIG");
+        bail!("engine: which configuration");
     };
-    let config = read_text(alloc, &mut fs::open(&rt, path.as_str())?)?;
+    let config = read_text(alloc, &mut fs::open(rt, path.as_str())?)?;
     let spec = studio_of(alloc, config.as_slice())?;
     let trace = read_text(alloc, &mut rt.stdin())?;
     let events = read_trace(alloc, trace.as_slice())?;
