@@ -6,14 +6,14 @@ use std::test::Fail;
 #[test]
 fn the_next_deadline_is_that_of_the_block(rt: HostRuntime) -> Result<(), Fail> {
     let mut engine = six(&rt, rt.alloc())?;
-    assert_eq!(rt; engine.next_deadline(), Some(18));
+    assert!(rt; engine.next_deadline() == Some(18));
     take(&rt, &mut engine, 0, 1);
-    assert_eq!(rt; engine.next_deadline(), Some(12));
+    assert!(rt; engine.next_deadline() == Some(12));
     give(&rt, &mut engine, 12, 0, 1);
-    assert_eq!(rt; engine.next_deadline(), None, "the turn isn't finished");
+    assert!(rt; engine.next_deadline() == None, "the turn isn't finished");
     give_none(&rt, &mut engine, 12);
-    assert_eq!(rt; engine.next_deadline(), Some(18));
+    assert!(rt; engine.next_deadline() == Some(18));
     assert!(rt; engine.close().is_ok());
-    assert_eq!(rt; engine.next_deadline(), None);
+    assert!(rt; engine.next_deadline() == None);
     Ok(())
 }

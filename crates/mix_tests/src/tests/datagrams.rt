@@ -11,23 +11,20 @@ const LATEST: i64 = 1_152_921_504_606_846_976;
 fn sequence_and_timestamp_wrap(rt: HostRuntime) -> Result<(), Fail> {
     let spec = OutSpec::new(Enc::L24, 1, 48, 97, 2, 65_535, 4_294_967_248, 0)?;
     let mut packer = Packer::new(spec);
-    assert_eq!(rt; packer.number(), 0);
+    assert!(rt; packer.number() == 0);
     let mut out = [0x55u8; 157];
-    assert_eq!(rt; packer.next(&[1000; 48], &mut out), 156);
-    assert_eq!(rt;
-        &out[..15],
-        [
-            0x80, 0x61, 0xff, 0xff, 0xff, 0xff, 0xff, 0xd0, 0, 0, 0, 2, 0, 3, 0xe8
-        ]
-        .as_slice()
+    assert!(rt; packer.next(&[1000; 48], &mut out) == 156);
+    assert!(rt;
+        &out[..15]
+            == [
+                0x80, 0x61, 0xff, 0xff, 0xff, 0xff, 0xff, 0xd0, 0, 0, 0, 2, 0, 3, 0xe8
+            ]
+            .as_slice()
     );
-    assert_eq!(rt; packer.number(), 1);
-    assert_eq!(rt; packer.next(&[1000; 48], &mut out), 156);
-    assert_eq!(rt;
-        &out[..15],
-        [0x80, 0x61, 0, 0, 0, 0, 0, 0, 0, 0, 0, 2, 0, 3, 0xe8].as_slice()
-    );
-    assert_eq!(rt; (packer.number(), out[156]), (2, 0x55));
+    assert!(rt; packer.number() == 1);
+    assert!(rt; packer.next(&[1000; 48], &mut out) == 156);
+    assert!(rt; &out[..15] == [0x80, 0x61, 0, 0, 0, 0, 0, 0, 0, 0, 0, 2, 0, 3, 0xe8].as_slice());
+    assert!(rt; (packer.number(), out[156]) == (2, 0x55));
     Ok(())
 }
 
@@ -48,7 +45,7 @@ fn the_offset_is_ahead_of_the_start(rt: HostRuntime) -> Result<(), Fail> {
         let mut out = [0u8; 24];
         let _len = Packer::new(spec).next(&[0; 6], &mut out);
         let view = read(&out)?;
-        assert_eq!(rt; view.ts, want, "start {start}, offset {offset}");
+        assert!(rt; view.ts == want, "start {start}, offset {offset}");
     }
     Ok(())
 }
@@ -59,20 +56,14 @@ fn samples_stand_frame_by_frame_at_their_extremes(rt: HostRuntime) -> Result<(),
     let spec = OutSpec::new(Enc::L16, 2, 6, 96, 1, 0, 0, 0)?;
     let block = [-32_768, 32_767, -1, 1, 0, 2, 0, 3, 0, 4, 0, 258];
     let mut out = [0u8; 36];
-    assert_eq!(rt; Packer::new(spec).next(&block, &mut out), 36);
-    assert_eq!(rt;
-        &out[12..22],
-        [0x80, 0, 0x7f, 0xff, 0xff, 0xff, 0, 1, 0, 0].as_slice()
-    );
-    assert_eq!(rt; &out[34..], [1, 2].as_slice());
+    assert!(rt; Packer::new(spec).next(&block, &mut out) == 36);
+    assert!(rt; &out[12..22] == [0x80, 0, 0x7f, 0xff, 0xff, 0xff, 0, 1, 0, 0].as_slice());
+    assert!(rt; &out[34..] == [1, 2].as_slice());
     let spec = OutSpec::new(Enc::L24, 1, 6, 96, 1, 0, 0, 0)?;
     let block = [-8_388_608, 8_388_607, -1, 0, 1, 66_051];
     let mut out = [0u8; 30];
-    assert_eq!(rt; Packer::new(spec).next(&block, &mut out), 30);
-    assert_eq!(rt;
-        &out[12..21],
-        [0x80, 0, 0, 0x7f, 0xff, 0xff, 0xff, 0xff, 0xff].as_slice()
-    );
-    assert_eq!(rt; &out[21..], [0, 0, 0, 0, 0, 1, 1, 2, 3].as_slice());
+    assert!(rt; Packer::new(spec).next(&block, &mut out) == 30);
+    assert!(rt; &out[12..21] == [0x80, 0, 0, 0x7f, 0xff, 0xff, 0xff, 0xff, 0xff].as_slice());
+    assert!(rt; &out[21..] == [0, 0, 0, 0, 0, 1, 1, 2, 3].as_slice());
     Ok(())
 }

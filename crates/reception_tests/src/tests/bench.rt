@@ -217,9 +217,8 @@ pub fn say_mark(
     text: &mut String,
     mark: &Mark,
 ) -> Result<(), AllocError> {
-    assert_eq!(rt;
-        mark.format(),
-        spec.format(),
+    assert!(rt;
+        mark.format() == spec.format(),
         "a mark says its stream's format"
     );
     separate(text)?;
@@ -255,9 +254,8 @@ fn word_of(rt: &impl Abort, number: u64, body: &Body) -> &'static str {
         } else {
             (place as u64 + 1) % 256
         };
-        assert_eq!(rt;
-            u64::from(*octet),
-            wanted,
+        assert!(rt;
+            u64::from(*octet) == wanted,
             "octet {place} of number {number}"
         );
     }

@@ -243,7 +243,7 @@ fn each_refused_allocation_is_answered(rt: HostRuntime) -> Result<(), Fail> {
     let spec = stream(&rt, 8, 48);
     for _ in 0..2 {
         match Player::new(&rt, rt.alloc(), spec, 0, 192) {
-            Ok(player) => assert_eq!(rt; player.lane.position(), 0),
+            Ok(player) => assert!(rt; player.lane.position() == 0),
             Err(_) => {
                 assert!(rt;
                     Player::new(&rt, rt.alloc(), spec, 0, 192).is_ok(),

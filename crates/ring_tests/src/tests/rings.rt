@@ -89,10 +89,10 @@ fn mixes(rt: &impl Abort, mix: &mut MixEnd, taken: u32, samples: Option<&[u8]>) 
     let mut out = [0u8; 1452];
     let _short = mix.datagram_len();
     let note = mix.turn(&mut out);
-    assert_eq!(rt; (note.taken, note.strange), (taken, 0));
-    assert_eq!(rt; note.len.is_some(), samples.is_some());
+    assert!(rt; (note.taken, note.strange) == (taken, 0));
+    assert!(rt; note.len.is_some() == samples.is_some());
     if let Some(samples) = samples {
-        assert_eq!(rt; note.len, Some(30));
+        assert!(rt; note.len == Some(30));
         assert!(rt; &out[12..30] == samples, "the samples of the block");
     }
 }
@@ -102,21 +102,21 @@ fn mixes(rt: &impl Abort, mix: &mut MixEnd, taken: u32, samples: Option<&[u8]>) 
 fn rings_of_one_place_lose_nothing(rt: HostRuntime) -> Result<(), Fail> {
     let mut ends = one_stream(&rt, rt.alloc(), 1)?;
     let stream = &mut ends.stream;
-    assert_eq!(rt; ends.first.offer(&FIRST), Offer::Sent);
-    assert_eq!(rt; ends.first.offer(&SECOND), Offer::Full);
-    assert_eq!(rt; turn(&rt, stream, 0), (1, 0, 0, 0, StopReason::CaughtUp));
-    assert_eq!(rt; ends.first.offer(&SECOND), Offer::Sent);
-    assert_eq!(rt; turn(&rt, stream, 18), (1, 0, 1, 12, StopReason::NoRoom));
+    assert!(rt; ends.first.offer(&FIRST) == Offer::Sent);
+    assert!(rt; ends.first.offer(&SECOND) == Offer::Full);
+    assert!(rt; turn(&rt, stream, 0) == (1, 0, 0, 0, StopReason::CaughtUp));
+    assert!(rt; ends.first.offer(&SECOND) == Offer::Sent);
+    assert!(rt; turn(&rt, stream, 18) == (1, 0, 1, 12, StopReason::NoRoom));
     mixes(&rt, &mut ends.mix, 1, Some(&FIRST[12..]));
-    assert_eq!(rt; turn(&rt, stream, 18), (0, 0, 1, 18, StopReason::NoRoom));
+    assert!(rt; turn(&rt, stream, 18) == (0, 0, 1, 18, StopReason::NoRoom));
     mixes(&rt, &mut ends.mix, 1, Some(&SECOND[12..]));
-    assert_eq!(rt; turn(&rt, stream, 18), (0, 0, 0, 18, StopReason::CaughtUp));
+    assert!(rt; turn(&rt, stream, 18) == (0, 0, 0, 18, StopReason::CaughtUp));
     assert!(rt; matches!(stream.turn(17), Err(ClockFault::WentBack)));
     assert!(rt; !ends.mix.settled(), "no stream has finished");
     let (done, counts) = ends.first.finish();
     assert!(rt; done.is_some());
     let all = (counts.offered, counts.sent, counts.full);
-    assert_eq!(rt; all, (3, 2, 1));
+    assert!(rt; all == (3, 2, 1));
     Ok(())
 }
 
@@ -124,28 +124,22 @@ fn rings_of_one_place_lose_nothing(rt: HostRuntime) -> Result<(), Fail> {
 #[test]
 fn counts_reach_the_monitor(rt: HostRuntime) -> Result<(), Fail> {
     let mut ends = one_stream(&rt, rt.alloc(), 1)?;
-    assert_eq!(rt; ends.first.offer(&FIRST), Offer::Sent);
-    assert_eq!(rt;
-        turn(&rt, &mut ends.stream, 0),
-        (1, 0, 0, 0, StopReason::CaughtUp)
-    );
+    assert!(rt; ends.first.offer(&FIRST) == Offer::Sent);
+    assert!(rt; turn(&rt, &mut ends.stream, 0) == (1, 0, 0, 0, StopReason::CaughtUp));
     let Some(counts) = ends.monitor.next() else {
         panic!(rt; "the first turn's counts")
     };
-    assert_eq!(rt; (counts.arrived, counts.taken, counts.got), (1, 1, 0));
-    assert_eq!(rt; counts.taken_by, [1, 0, 0, 0]);
+    assert!(rt; (counts.arrived, counts.taken, counts.got) == (1, 1, 0));
+    assert!(rt; counts.taken_by == [1, 0, 0, 0]);
     assert!(rt; ends.monitor.next().is_none(), "one turn, one item");
-    assert_eq!(rt; ends.first.offer(&SECOND), Offer::Sent);
-    assert_eq!(rt;
-        turn(&rt, &mut ends.stream, 18),
-        (1, 0, 1, 12, StopReason::NoRoom)
-    );
+    assert!(rt; ends.first.offer(&SECOND) == Offer::Sent);
+    assert!(rt; turn(&rt, &mut ends.stream, 18) == (1, 0, 1, 12, StopReason::NoRoom));
     assert!(rt; ends.stream.turn(11).is_err());
     let Some(counts) = ends.monitor.next() else {
         panic!(rt; "the second turn's counts")
     };
-    assert_eq!(rt; (counts.arrived, counts.taken, counts.got), (2, 2, 1));
-    assert_eq!(rt; counts.taken_by, [2, 0, 0, 0]);
+    assert!(rt; (counts.arrived, counts.taken, counts.got) == (2, 2, 1));
+    assert!(rt; counts.taken_by == [2, 0, 0, 0]);
     assert!(rt; ends.monitor.next().is_none(), "a refused turn shows none");
     Ok(())
 }
@@ -157,7 +151,7 @@ fn an_open_path_holds_up_the_close(rt: HostRuntime) -> Result<(), Fail> {
     let Err(open) = ends.stream.close() else {
         panic!(rt; "no path has finished")
     };
-    assert_eq!(rt; open.still_open, [true, true, false, false]);
+    assert!(rt; open.still_open == [true, true, false, false]);
     assert!(rt;
         !ends.stream.drain_turn(),
         "nothing to drain before a close"
@@ -177,19 +171,19 @@ fn a_path_that_goes_on_holds_up_the_close(rt: HostRuntime) -> Result<(), Fail> {
         monitor: _,
         mix: _,
     } = one_stream(&rt, rt.alloc(), 1)?;
-    assert_eq!(rt; first.offer(&FIRST), Offer::Sent);
+    assert!(rt; first.offer(&FIRST) == Offer::Sent);
     let (first_done, _) = first.finish();
     let Some(first_done) = first_done else {
         panic!(rt; "the stream's end is there")
     };
     stream.path_done(0, first_done);
     let took = turn(&rt, &mut stream, 0);
-    assert_eq!(rt; took, (1, 0, 0, 0, StopReason::CaughtUp));
+    assert!(rt; took == (1, 0, 0, 0, StopReason::CaughtUp));
     let Err(open) = stream.close() else {
         panic!(rt; "the second path goes on")
     };
-    assert_eq!(rt; open.still_open, [false, true, false, false]);
-    assert_eq!(rt; second.offer(&SECOND), Offer::Sent);
+    assert!(rt; open.still_open == [false, true, false, false]);
+    assert!(rt; second.offer(&SECOND) == Offer::Sent);
     Ok(())
 }
 
@@ -198,7 +192,7 @@ fn gives(rt: &impl Abort, mix: &mut MixEnd, datagram: &[u8]) {
     let mut out = [0u8; 1452];
     let _short = mix.datagram_len();
     let note = mix.turn(&mut out);
-    assert_eq!(rt; (note.strange, note.len), (0, Some(156)));
+    assert!(rt; (note.strange, note.len) == (0, Some(156)));
     assert!(rt; out.starts_with(datagram), "the datagram of the block");
 }
 
@@ -207,7 +201,7 @@ fn gives_none(rt: &impl Abort, mix: &mut MixEnd, taken: u32) {
     let mut out = [0u8; 1452];
     let _short = mix.datagram_len();
     let note = mix.turn(&mut out);
-    assert_eq!(rt; (note.taken, note.strange, note.len), (taken, 0, None));
+    assert!(rt; (note.taken, note.strange, note.len) == (taken, 0, None));
 }
 
 /// The ends of two streams of one path each.
@@ -251,11 +245,11 @@ fn offer_thousands_and_ones(
     of_second: &mut PathEnd,
 ) -> Result<(), Fail> {
     for packet in thousands(alloc)?.iter() {
-        assert_eq!(rt; of_first.offer(packet), Offer::Sent);
+        assert!(rt; of_first.offer(packet) == Offer::Sent);
     }
     let head = [0x80, 0x60, 0, 100, 0, 0, 0, 20, 0, 0, 0, 1];
     let octets = datagram(alloc, head, &[(48, [0, 0, 1])])?;
-    assert_eq!(rt; of_second.offer(&octets), Offer::Sent);
+    assert!(rt; of_second.offer(&octets) == Offer::Sent);
     Ok(())
 }
 
@@ -318,8 +312,8 @@ fn tokens_carry_the_end_to_the_mixer(rt: HostRuntime) -> Result<(), Fail> {
         monitor: _,
         mut mix,
     } = one_stream(&rt, rt.alloc(), 64)?;
-    assert_eq!(rt; first.offer(&FIRST), Offer::Sent);
-    assert_eq!(rt; second.offer(&SECOND), Offer::Sent);
+    assert!(rt; first.offer(&FIRST) == Offer::Sent);
+    assert!(rt; second.offer(&SECOND) == Offer::Sent);
     let (first_done, _) = first.finish();
     let (second_done, _) = second.finish();
     let (Some(first_done), Some(second_done)) = (first_done, second_done) else {
@@ -330,16 +324,16 @@ fn tokens_carry_the_end_to_the_mixer(rt: HostRuntime) -> Result<(), Fail> {
     let Err(open) = stream.close() else {
         panic!(rt; "no packet was taken")
     };
-    assert_eq!(rt; open.still_open, [true, true, false, false]);
+    assert!(rt; open.still_open == [true, true, false, false]);
     let took = turn(&rt, &mut stream, 0);
-    assert_eq!(rt; took, (1, 1, 0, 0, StopReason::CaughtUp));
+    assert!(rt; took == (1, 1, 0, 0, StopReason::CaughtUp));
     assert!(rt; stream.close().is_ok(), "both paths are drained");
     assert!(rt; stream.drain_turn(), "two slots and the end");
     let (done, counts) = stream.finish();
     let Some(done) = done else {
         panic!(rt; "the mixer's end is there")
     };
-    assert_eq!(rt; (counts.arrived, counts.taken, counts.got), (2, 2, 2));
+    assert!(rt; (counts.arrived, counts.taken, counts.got) == (2, 2, 2));
     mix.stream_done(0, done);
     assert!(rt; !mix.settled(), "three marks are to be taken");
     mixes(&rt, &mut mix, 1, Some(&FIRST[12..]));
@@ -356,7 +350,7 @@ fn ring_lengths_are_bounded(rt: HostRuntime) -> Result<(), Fail> {
     for len in [0usize, 65_537] {
         match open(rt.alloc(), &studio, len) {
             Ok(_) => { panic!(rt; "no ring has that many places") }
-            Err(fault) => assert_eq!(rt; fault, OpenFault::RingLength),
+            Err(fault) => assert!(rt; fault == OpenFault::RingLength),
         }
     }
     Ok(())
@@ -367,13 +361,10 @@ fn ring_lengths_are_bounded(rt: HostRuntime) -> Result<(), Fail> {
 fn a_turn_stops_after_64_marks(rt: HostRuntime) -> Result<(), Fail> {
     let mut ends = one_stream(&rt, rt.alloc(), 128)?;
     let stream = &mut ends.stream;
-    assert_eq!(rt; ends.first.offer(&FIRST), Offer::Sent);
-    assert_eq!(rt; turn(&rt, stream, 0), (1, 0, 0, 0, StopReason::CaughtUp));
-    assert_eq!(rt; turn(&rt, stream, 600), (0, 0, 64, 390, StopReason::Batch));
-    assert_eq!(rt;
-        turn(&rt, stream, 600),
-        (0, 0, 35, 600, StopReason::CaughtUp)
-    );
+    assert!(rt; ends.first.offer(&FIRST) == Offer::Sent);
+    assert!(rt; turn(&rt, stream, 0) == (1, 0, 0, 0, StopReason::CaughtUp));
+    assert!(rt; turn(&rt, stream, 600) == (0, 0, 64, 390, StopReason::Batch));
+    assert!(rt; turn(&rt, stream, 600) == (0, 0, 35, 600, StopReason::CaughtUp));
     Ok(())
 }
 
@@ -386,19 +377,13 @@ fn a_reading_sets_the_time_of_the_first_packet(rt: HostRuntime) -> Result<(), Fa
     let (Some(mut path), Some(mut stream)) = (ends.paths.pop(), ends.streams.pop()) else {
         panic!(rt; "a path and a stream")
     };
-    assert_eq!(rt; path.offer(&FIRST), Offer::Sent);
-    assert_eq!(rt; stream.read_clock(240).ok(), Some(StopReason::CaughtUp));
-    assert_eq!(rt; stream.next_deadline(), None);
+    assert!(rt; path.offer(&FIRST) == Offer::Sent);
+    assert!(rt; stream.read_clock(240).ok() == Some(StopReason::CaughtUp));
+    assert!(rt; stream.next_deadline() == None);
     let stream = &mut stream;
-    assert_eq!(rt;
-        turn(&rt, stream, 240),
-        (0, 1, 0, 240, StopReason::CaughtUp)
-    );
-    assert_eq!(rt; stream.next_deadline(), Some(252));
-    assert_eq!(rt;
-        turn(&rt, stream, 252),
-        (0, 0, 1, 252, StopReason::CaughtUp)
-    );
+    assert!(rt; turn(&rt, stream, 240) == (0, 1, 0, 240, StopReason::CaughtUp));
+    assert!(rt; stream.next_deadline() == Some(252));
+    assert!(rt; turn(&rt, stream, 252) == (0, 0, 1, 252, StopReason::CaughtUp));
     Ok(())
 }
 
@@ -410,9 +395,9 @@ fn each_refused_allocation_is_answered(rt: HostRuntime) -> Result<(), Fail> {
         .or_else(|| studio_in(&rt, alloc, MEDIA, 8))
         .ok_or("with memory again")?;
     match open(alloc, &studio, 3) {
-        Ok(ends) => assert_eq!(rt; ends.paths.len(), 2),
+        Ok(ends) => assert!(rt; ends.paths.len() == 2),
         Err(fault) => {
-            assert_eq!(rt; fault, OpenFault::Memory);
+            assert!(rt; fault == OpenFault::Memory);
             assert!(rt; open(rt.alloc(), &studio, 3).is_ok(), "with memory again");
         }
     }

@@ -69,7 +69,7 @@ pub(super) fn list_of<T: Drop, const N: usize>(
 /// The counts of the only stream.
 pub(super) fn only(rt: &impl Abort, report: &WorkReport) -> Counts {
     assert!(rt; report.settled, "all rings are finished and drained");
-    assert_eq!(rt; report.streams.len(), 1);
+    assert!(rt; report.streams.len() == 1);
     report.streams[0].merge
 }
 
@@ -94,7 +94,7 @@ const OUTPUT: [[u8; 30]; 2] = [
 
 /// These are both datagrams.
 pub(super) fn gave_both(rt: &impl Abort, kept: &[Vec<u8>]) {
-    assert_eq!(rt; kept.len(), 2);
+    assert!(rt; kept.len() == 2);
     let [first, second] = &OUTPUT;
     assert!(rt; kept[0].as_slice() == first.as_slice(), "the first");
     assert!(rt; kept[1].as_slice() == second.as_slice(), "the second");
