@@ -3,6 +3,5 @@ pub mod FateLemmas
 pub mod NearestLemmas
 pub mod StreamSpecLemmas
 pub mod WorkedCases
-pub mod RestartCases
 pub mod ProbationLemmas
 pub mod SentCases

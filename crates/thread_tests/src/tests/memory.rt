@@ -78,7 +78,7 @@ fn kept_or_told(rt: &impl Abort, report: &WorkReport, sink: &MemorySink) {
     assert!(rt; report.blocks == 2);
     let kept = sink.kept().len() as u64;
     assert!(rt; (report.sent_a, report.sent_b) == (kept, kept));
-    assert!(rt; sink.is_whole() == kept == 2);
+    assert!(rt; sink.is_whole() == (kept == 2));
 }
 
 /// A run of two blocks, or its fault. What the sink could not keep is told as a fault of both addresses.
