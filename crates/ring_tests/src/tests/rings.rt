@@ -48,26 +48,19 @@ fn one_stream(rt: &impl Abort, alloc: Global, ring_len: usize) -> Result<OneStre
     ensures { IfOk result (λ ends. AreOfOneStream ends.first ends.second ends.stream ends.mix) }
 {
     let studio = studio(rt, alloc)?;
-    let Ends {
-        mut paths,
-        mut streams,
-        mut monitors,
-        mix,
-    } = open(alloc, &studio, ring_len)?;
-    assert!(rt; paths.len() == 2);
-    assert!(rt; streams.len() == 1);
-    let (Some(second), Some(first)) = (paths.pop(), paths.pop()) else {
-        panic!(rt; "two paths")
-    };
-    let (Some(stream), Some(monitor)) = (streams.pop(), monitors.pop()) else {
-        panic!(rt; "one stream")
-    };
+    let mut ends = open(alloc, &studio, ring_len)?;
+    assert!(rt; ends.paths.len() == 2);
+    assert!(rt; ends.streams.len() == 1);
+    let second = ends.paths.pop().ok_or("two paths")?;
+    let first = ends.paths.pop().ok_or("two paths")?;
+    let stream = ends.streams.pop().ok_or("one stream")?;
+    let monitor = ends.monitors.pop().ok_or("one stream")?;
     Ok(OneStream {
         first,
         second,
         stream,
         monitor,
-        mix,
+        mix: ends.mix,
     })
 }
 
@@ -164,26 +157,21 @@ fn an_open_path_holds_up_the_close(rt: HostRuntime) -> Result<(), Fail> {
 /// The first path has finished: the close names the second, whose packets still come.
 #[test]
 fn a_path_that_goes_on_holds_up_the_close(rt: HostRuntime) -> Result<(), Fail> {
-    let OneStream {
-        mut first,
-        mut second,
-        mut stream,
-        monitor: _,
-        mix: _,
-    } = one_stream(&rt, rt.alloc(), 1)?;
-    assert!(rt; first.offer(&FIRST) == Offer::Sent);
-    let (first_done, _) = first.finish();
+    let mut ends = one_stream(&rt, rt.alloc(), 1)?;
+    assert!(rt; ends.first.offer(&FIRST) == Offer::Sent);
+    let (first_done, _) = ends.first.finish();
     let Some(first_done) = first_done else {
         panic!(rt; "the stream's end is there")
     };
+    let stream = &mut ends.stream;
     stream.path_done(0, first_done);
-    let took = turn(&rt, &mut stream, 0);
+    let took = turn(&rt, stream, 0);
     assert!(rt; took == (1, 0, 0, 0, StopReason::CaughtUp));
     let Err(open) = stream.close() else {
         panic!(rt; "the second path goes on")
     };
     assert!(rt; open.still_open == [false, true, false, false]);
-    assert!(rt; second.offer(&SECOND) == Offer::Sent);
+    assert!(rt; ends.second.offer(&SECOND) == Offer::Sent);
     Ok(())
 }
 
@@ -374,13 +362,12 @@ fn a_reading_sets_the_time_of_the_first_packet(rt: HostRuntime) -> Result<(), Fa
     let alloc = rt.alloc();
     let studio = studio_in(&rt, alloc, StreamClock::Arrival, 8).ok_or("want of memory")?;
     let mut ends = open(alloc, &studio, 8)?;
-    let (Some(mut path), Some(mut stream)) = (ends.paths.pop(), ends.streams.pop()) else {
-        panic!(rt; "a path and a stream")
-    };
-    assert!(rt; path.offer(&FIRST) == Offer::Sent);
+    assert!(rt; ends.paths.len() == 2);
+    assert!(rt; ends.streams.len() == 1);
+    assert!(rt; ends.paths[1].offer(&FIRST) == Offer::Sent);
+    let stream = &mut ends.streams[0];
     assert!(rt; stream.read_clock(240).ok() == Some(StopReason::CaughtUp));
     assert!(rt; stream.next_deadline() == None);
-    let stream = &mut stream;
     assert!(rt; turn(&rt, stream, 240) == (0, 1, 0, 240, StopReason::CaughtUp));
     assert!(rt; stream.next_deadline() == Some(252));
     assert!(rt; turn(&rt, stream, 252) == (0, 0, 1, 252, StopReason::CaughtUp));
