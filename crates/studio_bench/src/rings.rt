@@ -1,7 +1,7 @@
 //! Packets from a path's end to the mixer's: ready datagrams in, marks taken, by one thread or by two.
 use crate::datagrams::{Datagrams, NUMBERS, make_datagrams, number, stream};
 use crate::studio::studio_of;
-use anyhow::bail;
+use anyhow::{Context, bail};
 use mix_packets::OutSpec;
 use path_merge::StreamSpec;
 use rtp_wire::Enc;
@@ -69,18 +69,12 @@ fn open_ends(alloc: Global, spec: StreamSpec) -> anyhow::Result<(PathEnd, Taker)
 
 /// The first path's end, and the ends behind it.
 fn taken_apart(ends: Ends, frames: u16) -> anyhow::Result<(PathEnd, Taker)> {
-    let Ends {
-        mut paths,
-        mut streams,
-        monitors: _,
-        mix,
-    } = ends;
-    let (Some(path), Some(stream)) = (paths.pop(), streams.pop()) else {
-        bail!("one stream");
-    };
+    let mut ends = ends;
+    let path = ends.paths.pop().context("a path")?;
+    let stream = ends.streams.pop().context("a stream")?;
     let taker = Taker {
         stream,
-        mix,
+        mix: ends.mix,
         frames,
         came: 0,
         marks: 0,

@@ -7,9 +7,11 @@ ghost use Rattle.studio_live.specs.Run.{IsEarly, IsRunOf};
 use crate::fault::LiveFault;
 use crate::feed::UdpFeed;
 use crate::pending::all_pending;
+use crate::receiver::Receiver;
 use crate::sink::UdpSink;
 use crate::socket_rest::SocketRest;
 use crate::start::{Sockets, Start, clock_of, feeds_of, stats_of};
+use crate::stats::Stats;
 use crate::watch::{Signs, Watcher, watch};
 use live_parts::{LiveOptions, SystemClock};
 use std::alloc::Global;
@@ -85,15 +87,46 @@ fn lone_of<'a, R: Wait + Net + Clock, E: Write + Drop>(
 {
     let Sockets { receiving, sink } = sockets;
     let stats = stats_of(rt, alloc, studio, options, start)?;
-    let sockets = receiving.as_slice();
-    let rest = SocketRest::new(rt, rt, alloc, sockets, pending, stats, faults)?;
-    let feeds = feeds_of(rt, alloc, receiving, start, stop, pending)?;
+    let rest = rest_of(rt, alloc, receiving.as_slice(), pending, stats, faults)?;
+    let feeds = own_feeds(rt, alloc, studio, receiving, start, stop, pending)?;
     Ok(Lone {
-        feeds: by_stream(alloc, feeds, studio.streams())?,
+        feeds,
         clock: clock_of(rt, start),
         sink,
         rest,
     })
+}
+
+/// The wait for these sockets.
+fn rest_of<'a, R: Wait + Net + Clock, E: Write + Drop>(
+    rt: &'a R,
+    alloc: Global,
+    receiving: &[Receiver<'_>],
+    pending: &'a [AtomicBool],
+    stats: Option<Stats<'a, R>>,
+    faults: E,
+) -> Result<SocketRest<'a, R, E>, LiveFault>
+    ensures early { IfErr result IsEarly }
+{
+    let rest = SocketRest::new(rt, rt, alloc, receiving, pending, stats, faults)?;
+    Ok(rest)
+}
+
+/// The feeds of all sockets, stream by stream.
+fn own_feeds<'a, R: Clock>(
+    rt: &'a R,
+    alloc: Global,
+    studio: &StudioSpec,
+    receiving: Vec<Receiver<'a>>,
+    start: Start,
+    stop: &'a AtomicBool,
+    pending: &'a [AtomicBool],
+) -> Result<Vec<Vec<UdpFeed<'a, R>>>, LiveFault>
+    ensures each { IfOk result (λ all. map (λ own. length own.items) all.items ≡ map (λ stream. stream.paths) studio.now.streams) }
+    ensures early { IfErr result IsEarly }
+{
+    let feeds = feeds_of(rt, alloc, receiving, start, stop, pending)?;
+    by_stream(alloc, feeds, studio.streams())
 }
 
 /// The feeds of all paths, stream by stream, of which each has as many as it has paths.
@@ -145,29 +178,43 @@ fn run_beside<'a, R: Threads + Wait + Sync + Clock, E: Write + Send + Drop>(
     ensures run { IfOk result (IsRunOf true studio.now) }
     ensures early { IfErr result IsEarly }
 {
-    let Lone {
-        feeds,
-        clock,
-        sink,
-        rest,
-    } = lone;
     thread::scope(
         thread::scope_env(),
         rt,
         move |scope| -> Result<WorkReport, LiveFault>
             requires sync { IsSync R.row }
-            requires feeds { map (λ own. length own.items) feeds.items ≡ map (λ stream. stream.paths) studio.now.streams }
+            requires feeds { map (λ own. length own.items) lone.feeds.items ≡ map (λ stream. stream.paths) studio.now.streams }
             ensures run { IfOk result (IsRunOf true studio.entry.now) }
             ensures early { IfErr result IsEarly }
         {
             let Ok(watching) = scope.spawn(move || watch(rt, watcher, signs)) else {
                 return Err(LiveFault::Thread);
             };
-            let ran = run_alone(rt, alloc, studio, feeds, clock, sink, rest);
+            let ran = run_lone(rt, alloc, studio, lone);
             signs.tell_over();
             watching.join(rt);
-            let (report, _sink) = ran?;
-            Ok(report)
+            ran
         },
     )
+}
+
+/// Runs an engine in this thread.
+fn run_lone<R: Wait + Clock, E: Write + Drop>(
+    rt: &R,
+    alloc: Global,
+    studio: &StudioSpec,
+    lone: Lone<'_, R, E>,
+) -> Result<WorkReport, LiveFault>
+    requires feeds { map (λ own. length own.items) lone.feeds.items ≡ map (λ stream. stream.paths) studio.now.streams }
+    ensures run { IfOk result (IsRunOf true studio.now) }
+    ensures early { IfErr result IsEarly }
+{
+    let Lone {
+        feeds,
+        clock,
+        sink,
+        rest,
+    } = lone;
+    let (report, _sink) = run_alone(rt, alloc, studio, feeds, clock, sink, rest)?;
+    Ok(report)
 }

@@ -55,19 +55,16 @@ pub(crate) fn watch<R: Wait + Clock, E: Write + Drop>(
     watcher: Watcher<'_, R, E>,
     signs: &Signs,
 ) {
-    let Watcher {
-        until_eof,
-        mut stats,
-    } = watcher;
+    let mut watcher = watcher;
     for _ in rt.forever() {
         signs.parker.park_timeout(rt, Duration::from_millis(LOOK));
         if signs.over.load(Ordering::SeqCst) {
             return;
         }
-        if is_asked_to_end() || until_eof && has_input_ended() {
+        if is_asked_to_end() || watcher.until_eof && has_input_ended() {
             signs.stop.store(true, Ordering::SeqCst);
         }
-        if let Some(stats) = &mut stats {
+        if let Some(stats) = &mut watcher.stats {
             stats.look();
         }
     }

@@ -202,26 +202,19 @@ struct TwoStreams {
     mix: MixEnd,
 }
 
-fn two_streams(rt: &impl Abort, alloc: Global) -> Result<TwoStreams, Fail> {
+fn two_streams(alloc: Global) -> Result<TwoStreams, Fail> {
     let studio = six_and_forty_eight(alloc, 1).ok_or("a studio")?;
-    let Ends {
-        mut paths,
-        mut streams,
-        monitors: _,
-        mix,
-    } = open(alloc, &studio, 64)?;
-    let (Some(of_second), Some(of_first)) = (paths.pop(), paths.pop()) else {
-        panic!(rt; "two paths")
-    };
-    let (Some(second), Some(first)) = (streams.pop(), streams.pop()) else {
-        panic!(rt; "two streams")
-    };
+    let mut ends = open(alloc, &studio, 64)?;
+    let of_second = ends.paths.pop().ok_or("two paths")?;
+    let of_first = ends.paths.pop().ok_or("two paths")?;
+    let second = ends.streams.pop().ok_or("two streams")?;
+    let first = ends.streams.pop().ok_or("two streams")?;
     Ok(TwoStreams {
         of_first,
         of_second,
         first,
         second,
-        mix,
+        mix: ends.mix,
     })
 }
 
@@ -271,7 +264,7 @@ fn mixes_in_order(rt: &impl Abort, alloc: Global, last_first: bool) -> Result<()
         mut first,
         mut second,
         mut mix,
-    } = two_streams(rt, alloc)?;
+    } = two_streams(alloc)?;
     offer_thousands_and_ones(rt, alloc, &mut of_first, &mut of_second)?;
     if last_first {
         give_in_turn(rt, &mut second, &mut first, &mut mix, 1);

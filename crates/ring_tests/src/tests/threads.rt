@@ -99,15 +99,11 @@ fn by_threads(
     places: usize,
 ) -> Result<(), Fail> {
     let studio = studio_of(rt, alloc, 128)?;
-    let Ends {
-        mut paths,
-        mut streams,
-        monitors: _,
-        mix,
-    } = open(alloc, &studio, places)?;
-    let (Some(second), Some(first), Some(stream)) = (paths.pop(), paths.pop(), streams.pop()) else {
-        panic!(rt; "one stream of two paths")
-    };
+    let mut ends = open(alloc, &studio, places)?;
+    let second = ends.paths.pop().ok_or("two paths")?;
+    let first = ends.paths.pop().ok_or("two paths")?;
+    let stream = ends.streams.pop().ok_or("one stream")?;
+    let mix = ends.mix;
     thread::scope(thread::scope_env(), rt, |scope| {
         let Ok(by_first) = scope.spawn(move || send_all(rt, first)) else {
             panic!(rt; "no thread")

@@ -1,6 +1,6 @@
 use Rattle.std.proofs.Common.{rules, ◌∙◌}
 use Rattle.studio_live.proofs.RunLemmas.{lengths_told}
-use Rattle.studio_live.proofs.alone.fn.run_beside.scope.Goals as goal
+use Rattle.studio_live.proofs.alone.run_lone.Goals as goal
 
 pub returns : goal.returns
 returns g c = record {
