@@ -5,7 +5,7 @@ use live_parts::HandedFault;
 use std::io::Write;
 use studio_live::LiveFault;
 use studio_run::{PlayFault, SpecError, StudioFault};
-use studio_wav::FileFault;
+use studio_wav::{FileFault, StreamFault};
 use thiserror::Error;
 
 /// Why a run gave no text, or only a part of it.
@@ -17,6 +17,9 @@ pub enum Fault {
     /// The name of a path is no address and port.
     #[error("usage: a path is not ADDRESS:PORT")]
     Address,
+    /// The stream of a WAV file is named by no number.
+    #[error("usage: STREAM is not a number from 0 to 15")]
+    Stream,
     /// The offset of International Atomic Time is no number of seconds.
     #[error("usage: --tai-offset is neither seconds nor system")]
     TaiOffset,
@@ -38,6 +41,9 @@ pub enum Fault {
     /// The capture is at fault.
     #[error("{0}")]
     Capture(CaptureError),
+    /// No WAV file is written of a stream, after the file's path.
+    #[error("{0}")]
+    Solo(StreamFault),
     /// A WAV file was not made or not written, after its path.
     #[error("{0}")]
     Wav(FileFault),
@@ -87,7 +93,8 @@ impl Fault {
     /// The exit status of the program.
     pub fn status(&self) -> u8 {
         match self {
-            Fault::Usage | Fault::Address | Fault::TaiOffset => 2,
+            Fault::Usage | Fault::Address | Fault::Stream | Fault::TaiOffset => 2,
+            Fault::Solo(_) => 2,
             Fault::Config(ConfigFault::Unread) | Fault::Capture(CaptureError::Unread) => 5,
             Fault::Capture(_) => 1,
             Fault::Config(_) => 3,

@@ -5,7 +5,7 @@ use crate::fault::Fault;
 use crate::import::import_capture;
 use crate::live::run_config;
 use crate::summary::write_summary;
-use crate::wav::play_to_wav;
+use crate::wav::{list_to_wav, play_to_wav};
 use crate::words::{Asked, asked_for, told};
 use std::alloc::Global;
 use std::io::{Read, Write};
@@ -72,6 +72,9 @@ fn answer<
         Asked::MarksAndCounts(path) => {
             let studio = studio_of(configs, alloc, path)?;
             list_marks_and_counts(alloc, &studio, input, output, faults).map_err(Fault::from)
+        }
+        Asked::MarksToWav(path, words) => {
+            list_to_wav(configs, alloc, path, words, input, output, faults)
         }
         Asked::Play(path) => {
             let studio = studio_of(configs, alloc, path)?;

@@ -2,6 +2,7 @@
 use crate::fault::Fault;
 use crate::import::ImportOptions;
 use crate::live::LiveWords;
+use crate::wav::StreamWords;
 use clap::error::ErrorKind;
 use clap::{Arg, ArgAction, ArgMatches, Command, Error, value_parser};
 use live_parts::LiveOptions;
@@ -17,6 +18,9 @@ const MOST_LATENCY: i64 = 65_536;
 /// The clocks that a live run can open by, beside its configuration's time.
 const CLOCKS: &[&str] = &["tai"];
 
+/// What names the WAV file of a stream.
+const STREAM_VALUES: &[&str] = &["STREAM", "FILE"];
+
 /// What the words ask for. A configuration is named by its path.
 #[derive(Drop)]
 pub enum Asked<'a> {
@@ -26,6 +30,8 @@ pub enum Asked<'a> {
     Marks(&'a str),
     /// The same, with the counts beside them.
     MarksAndCounts(&'a str),
+    /// The same, with a WAV file of one stream beside them.
+    MarksToWav(&'a str, StreamWords<'a>),
     /// The report of a configuration's studio.
     Play(&'a str),
     /// The same, with a WAV file at this path beside it.
@@ -65,7 +71,17 @@ fn asked_of_config<'a>(name: &str, path: &'a str, matches: &ArgMatches<'a>) -> A
         "chart" => Asked::Chart(path),
         "check" => Asked::Check(path),
         "live" => Asked::Live(path, live_words(matches)),
-        _ if matches.get_flag("counts") => Asked::MarksAndCounts(path),
+        _ => marks_in(path, matches),
+    }
+}
+
+/// What is written of a trace whose marks are listed.
+fn marks_in<'a>(path: &'a str, matches: &ArgMatches<'a>) -> Asked<'a> {
+    if matches.get_flag("counts") {
+        return Asked::MarksAndCounts(path);
+    }
+    match matches.get_strs("wav") {
+        Some([stream, file]) => Asked::MarksToWav(path, StreamWords { stream, file }),
         _ => Asked::Marks(path),
     }
 }
@@ -143,7 +159,14 @@ fn with_other_words<'a>(alloc: Global, command: Command<'a>) -> Result<Command<'
 fn marks_command<'a>(alloc: Global) -> Result<Command<'a>, AllocError> {
     let about = "Lists the marks of the trace on standard input, stream by stream";
     let counts = "Tell the counts of all paths and merges on standard error";
-    with_config(alloc, "marks", about)?.arg(flag(alloc, "counts", counts))
+    let wav = "Write the samples of a stream to this WAV file too, lost packets as silence";
+    let wav = option(alloc, "wav", "FILE", wav)
+        .num_args(2)
+        .value_names(STREAM_VALUES)
+        .conflicts_with("counts")?;
+    with_config(alloc, "marks", about)?
+        .arg(flag(alloc, "counts", counts))?
+        .arg(wav)
 }
 
 /// The word of a trace's report.

@@ -64,7 +64,7 @@ front_of f xs ys each other short =
     ∙ sym (get_or-take (length xs) ys i [] h))
 
 -- the blocks so far are the first of all
-first_blocks : (studio : Studio) (events : List TraceEvent) (session : SessionState) (some all : List (List ℕ)) → HasGivenBlocks studio events session some → AreDatagrams studio events all
+pub first_blocks : (studio : Studio) (events : List TraceEvent) (session : SessionState) (some all : List (List ℕ)) → HasGivenBlocks studio events session some → AreDatagrams studio events all
     → some ≡ take (length some) all
 first_blocks studio events session some all given are =
     front_of (datagram_of studio (feeds_of studio events)) some all given.first.each are.each (elim (cases_lt (length all) (length some)) [

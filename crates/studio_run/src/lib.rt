@@ -40,6 +40,7 @@ pub use report::{write_datagram, write_merge_counts, write_path_counts};
 pub use running_counts::write_running_counts;
 pub use stream_rules::{PathCounts, StreamCounts};
 pub use studio_counts::write_counts;
+pub use studio_listing::write_whole_listing;
 pub use studio_mix::Mixer;
 pub use studio_session::{Report, StudioEvent, StudioFault, run_studio};
 pub use studio_spec::{Ports, SpecError, StudioSpec};

@@ -91,7 +91,7 @@ fn write_listing<E: EventSource, W: Write>(
 }
 
 /// Writes them through an empty buffer, which is empty again.
-pub(crate) fn write_whole_listing<E: EventSource, W: Write>(
+pub fn write_whole_listing<E: EventSource, W: Write>(
     text: &mut TextBuffer,
     writer: &mut W,
     source: &E,

@@ -1,2 +1,5 @@
+pub mod FrontLemmas
+pub mod ListingLemmas
 pub mod PlayLemmas
 pub mod RecordingLemmas
+pub mod TrackLemmas

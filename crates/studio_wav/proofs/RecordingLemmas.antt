@@ -117,7 +117,7 @@ begun x y z wav then octets new head added empty =
     }
 
 -- the file is whole
-file_whole : (a b c d : Option (List ℕ)) (wav then : WavState) (octets : List ℕ) → wav.count ≡ 0 → Appends a b (head_octets wav.format 0) → HasAdded b c wav then octets
+pub file_whole : (a b c d : Option (List ℕ)) (wav then : WavState) (octets : List ℕ) → wav.count ≡ 0 → Appends a b (head_octets wav.format 0) → HasAdded b c wav then octets
     → ((all : List ℕ) → IsBegun c then all [] → Becomes c d (wav_octets then.format all)) → Holds a [] → Becomes a d (wav_octets wav.format octets)
 file_whole None b c d wav then octets new head added sizes empty = tt
 file_whole (Some x) None c d wav then octets new head added sizes empty = absurd head

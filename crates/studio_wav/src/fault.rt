@@ -20,12 +20,26 @@ pub enum FileFault {
     Write,
 }
 
-/// Why a report and a WAV file were not written whole.
+/// Why no file is written of a stream.
+#[derive(Clone, Copy, Debug, PartialEq, Eq, Error)]
+pub enum StreamFault {
+    /// The studio has no stream of this number.
+    #[error("no stream")]
+    Unknown,
+    /// The stream has more than 8 channels.
+    #[error("channels")]
+    Channels,
+}
+
+/// Why a report or a listing, and a WAV file, were not written whole.
 #[derive(Debug, Drop, Error)]
 pub enum RecordFault {
-    /// The report's fault.
+    /// The report's or the listing's fault.
     #[error("{0}")]
     Play(PlayFault),
+    /// That of the stream that a file was to be written of.
+    #[error("{0}")]
+    Stream(StreamFault),
     /// The file's.
     #[error("{0}")]
     File(FileFault),
@@ -68,5 +82,13 @@ impl From<FileFault> for RecordFault {
 
     fn from(fault: FileFault) -> RecordFault {
         RecordFault::File(fault)
+    }
+}
+
+impl From<StreamFault> for RecordFault {
+    ghost from_gives = { λ from to. to ≡ fault.Stream from };
+
+    fn from(fault: StreamFault) -> RecordFault {
+        RecordFault::Stream(fault)
     }
 }

@@ -1,11 +1,14 @@
 //! A report and its samples, written side by side.
-ghost use Rattle.std.specs.Prelude.{◌≡◌, ◌<◌, ◌≤◌, [], All, OnOk, IfErr};
+ghost use Rattle.std.specs.Prelude.{◌≡◌, ◌<◌, ◌≤◌, ℕ, List, [], All, OnOk, OnErr, IfErr};
 ghost use Rattle.mix_packets.specs.OutSpec.{datagram_length};
 ghost use Rattle.studio_spec.specs.Studio.{Studio};
 ghost use Rattle.studio_session.specs.Cursor.{IsReadyFor};
 ghost use Rattle.studio_session.specs.Play.{HasPlayed, IsRunnableBy};
 ghost use Rattle.studio_wav.specs.Recording.{HasBoth, HasRecorded, Records};
-ghost use Rattle.studio_wav.specs.Play.{IsOfWriters};
+ghost use Rattle.studio_session.specs.Run.{AreDatagrams};
+ghost use Rattle.studio_run.specs.Listing.{datagrams_text};
+ghost use Rattle.studio_run.specs.StudioReport.{IsReport};
+ghost use Rattle.studio_wav.specs.Play.{IsOfWriters, WritesFront};
 
 use crate::fault::RecordFault;
 use std::io::Write;
@@ -29,6 +32,8 @@ pub fn write_recorded<E: EventSource, W: Write, F: Overwrite>(
     ensures ok { OnOk result ((studio : Studio) → IsRunnableBy studio (E.events source.now) → HasPlayed studio (E.events source.now) session 0
         → Records studio (E.events source.now) format (W.contents writer.old) (W.contents writer.new) (F.Write.contents file.old) (F.Write.contents file.new)) }
     ensures fault { IfErr result IsOfWriters }
+    ensures begun { OnErr result ((studio : Studio) (report : List ℕ) → IsRunnableBy studio (E.events source.now) → HasPlayed studio (E.events source.now) session 0
+        → IsReport studio (E.events source.now) report → WritesFront (W.contents writer.old) [] (W.contents writer.new) report) }
 {
     let mut wav = WavWriter::begin(format, file)?;
     match write_both(text, writer, &mut wav, file, source, session) {
@@ -59,6 +64,8 @@ fn write_both<E: EventSource, W: Write, F: Write>(
     ensures ok { OnOk result ((studio : Studio) → IsRunnableBy studio (E.events source.now) → HasPlayed studio (E.events source.now) session 0
         → HasBoth studio (E.events source.now) (W.contents writer.old) (W.contents writer.new) (F.contents file.old) (F.contents file.new) wav.old wav.new) }
     ensures fault { IfErr result IsOfWriters }
+    ensures begun { OnErr result ((studio : Studio) (report : List ℕ) → IsRunnableBy studio (E.events source.now) → HasPlayed studio (E.events source.now) session 0
+        → IsReport studio (E.events source.now) report → WritesFront (W.contents writer.old) [] (W.contents writer.new) report) }
 {
     let mut session = session;
     record_datagrams(text, writer, wav, file, source, &mut session)?;
@@ -84,6 +91,8 @@ fn record_datagrams<E: EventSource, W: Write, F: Write>(
     ensures ok { OnOk result ((studio : Studio) → IsRunnableBy studio (E.events source.now) → HasPlayed studio (E.events source.now) session.old 0
         → HasRecorded studio (E.events source.now) (W.contents writer.old) text.old (F.contents file.old) wav.old session.new (W.contents writer.new) text.new (F.contents file.new) wav.new) }
     ensures fault { IfErr result IsOfWriters }
+    ensures begun { OnErr result ((studio : Studio) (datagrams : List (List ℕ)) → IsRunnableBy studio (E.events source.now) → HasPlayed studio (E.events source.now) session.old 0
+        → AreDatagrams studio (E.events source.now) datagrams → WritesFront (W.contents writer.old) text.old (W.contents writer.new) (datagrams_text datagrams)) }
 {
     let mut out = [0; MOST_OUTPUT_OCTETS];
     'rounds: loop {

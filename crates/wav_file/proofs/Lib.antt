@@ -1,3 +1,4 @@
 pub mod FileLemmas
 pub mod HeadLemmas
 pub mod SamplesLemmas
+pub mod SilenceLemmas

@@ -1,7 +1,8 @@
 -- A WAV file while it is written, and whole.
-use Rattle.std.specs.Prelude.{◌≡◌, ◌≤◌, ℕ, ◌%◌, ◌==◌, List, [], ◌∷◌, ◌++◌, length, drop, ⊤, Option, Some, None, if◌then◌else◌}
+use Rattle.std.specs.Prelude.{◌≡◌, ◌≤◌, ℕ, ◌+◌, ◌*◌, ◌%◌, ◌==◌, List, [], ◌∷◌, ◌++◌, length, drop, replicate, ⊤, Option, Some, None, if◌then◌else◌}
 use Rattle.wav_file.specs.declared.format.WavFormat.{WavFormat}
-use Rattle.wav_file.specs.Head.{head_octets}
+use Rattle.std.specs.Io.KnownBytes.{Appends}
+use Rattle.wav_file.specs.Head.{frame_length, head_octets}
 
 -- what contracts see of a file that is written: its format, and how many octets of data it has
 pub record WavState : Type 0 where
@@ -37,3 +38,15 @@ wav_octets format octets = head_octets format (length octets) ++ octets ++ pad_o
 pub record IsBegun (written : Option (List ℕ)) (wav : WavState) (octets rest : List ℕ) : Type 0 where
   pub holds : Holds written (head_octets wav.format 0 ++ octets ++ rest)
   pub count : wav.count ≡ length octets
+
+-- so many sampling instants of silence
+abbrev pub silent_octets : WavFormat → ℕ → List ℕ
+silent_octets format instants = replicate (instants * frame_length format) 0
+
+-- octets 0 were added: these count as data, and the others are a part of a payload that broke off
+pub record HasBroken (written written_then : Option (List ℕ)) (wav wav_then : WavState) : Type 0 where
+  pub counted : ℕ
+  pub others : ℕ
+  pub count : wav_then.count ≡ wav.count + counted
+  pub format : wav_then.format ≡ wav.format
+  pub wrote : Appends written written_then (replicate (counted + others) 0)

@@ -3,7 +3,7 @@ ghost use Rattle.std.specs.Prelude.{◌≡◌, ◌+◌, ◌≤◌, ◌++◌, ℕ
 ghost use Rattle.std.specs.Io.KnownBytes.{Appends};
 ghost use Rattle.wav_file.specs.Samples.{little_samples};
 ghost use Rattle.wav_file.specs.Head.{head_octets};
-ghost use Rattle.wav_file.specs.File.{Becomes, IsBegun, pad_octets, wav_octets};
+ghost use Rattle.wav_file.specs.File.{Becomes, HasBroken, IsBegun, pad_octets, silent_octets, wav_octets};
 
 use crate::format::WavFormat;
 use crate::head::head_of;
@@ -15,6 +15,9 @@ use thiserror::Error;
 
 /// The most octets of data to which more are added.
 const MOST_OCTETS: u64 = 1 << 62;
+
+/// The most octets of silence that are written at once.
+const MOST_ZEROS: usize = 1440;
 
 /// A write failed, or took no octet, or the file has more than 2^62 octets of data.
 #[derive(Clone, Copy, Debug, PartialEq, Eq, Error)]
@@ -67,6 +70,27 @@ impl WavWriter {
         let samples = swap(self.format.enc, payload);
         write_octets(writer, samples.as_slice())?;
         self.count += samples.len() as u64;
+        Ok(())
+    }
+
+    /// Writes so many sampling instants of silence.
+    pub fn push_silence<W: Write>(&mut self, writer: &mut W, instants: u64) -> Result<(), WavFault>
+        ensures ok { OnOk result (Appends (W.contents writer.old) (W.contents writer.new) (silent_octets self.old.format instants)) }
+        ensures counted { OnOk result (self.new ≡ record { format = self.old.format; count = self.old.count + length (silent_octets self.old.format instants) }) }
+        ensures fault { OnErr result (HasBroken (W.contents writer.old) (W.contents writer.new) self.old self.new) }
+    {
+        let frame = usize::from(self.format.frame_len());
+        if frame == 0 {
+            return Ok(());
+        }
+        let zeros = [0; MOST_ZEROS];
+        let most = (MOST_ZEROS / frame) as u64;
+        let mut done = 0;
+        'chunks: while done < instants {
+            let count = (instants - done).min(most);
+            self.push(writer, &zeros[..count as usize * frame])?;
+            done += count;
+        }
         Ok(())
     }
 

@@ -1,11 +1,10 @@
-use Rattle.std.proofs.Common.{◌≡◌, ◌∙◌, Err, ap, subst, sym, rules}
+use Rattle.std.proofs.Common.{◌≡◌, ◌∙◌, [], Err, ap, subst, sym, rules}
 use Rattle.studio_run.specs.Trace.{trace_events}
 use Rattle.studio_run.specs.Play.{StopsAt}
-use Rattle.studio_run.specs.StudioReport.{IsReport}
-use Rattle.studio_run.proofs.PlayLemmas.{fails_before, fails_read, fails_reading}
-use Rattle.studio_wav.specs.declared.fault.RecordFault.TheVariants.{Play}
+use Rattle.studio_wav.specs.declared.fault.RecordFault.TheVariants.{Play, File}
 use Rattle.studio_wav.specs.Recording.{Records}
-use Rattle.studio_wav.proofs.PlayLemmas.{fails_early, fails_late}
+use Rattle.studio_wav.proofs.FrontLemmas.{front_none}
+use Rattle.studio_wav.proofs.PlayLemmas.{fails_early, fails_late, fails_unread}
 use Rattle.studio_wav.proofs.player.play_and_record.Goals as goal
 
 pub write_recorded-requires-clause-ready : goal.write_recorded-requires-clause-ready
@@ -15,7 +14,7 @@ pub returns-in_err-trace-clause-fault : goal.returns-in_err-trace-clause-fault
 returns-in_err-trace-clause-fault g c =
     let fault = c.in_err-trace.field-0.0 in
     let is : c.from_residual.result ≡ Err (Play fault) = search rules in
-    rw is (fails_early c.args.spec.now _ _ _ _ fault (fails_reading c.args.spec.now IsReport _ _ _ fault c.in_err-trace.ensures.fault))
+    rw is (fails_unread c.args.spec.now _ _ _ fault c.in_err-trace.ensures.fault)
 
 pub returns-in_err-events-clause-fault : goal.returns-in_err-events-clause-fault
 returns-in_err-events-clause-fault g c =
@@ -23,14 +22,35 @@ returns-in_err-events-clause-fault g c =
     let trace = c.in_ok-trace.trace.items in
     let stops : StopsAt c.args.spec.now trace fault = subst (λ t. StopsAt c.args.spec.now t fault) c.as_slice.ensures.value c.in_err-events.ensures.fault in
     let is : c.from_residual-in_err-events.result ≡ Err (Play fault) = search rules in
-    rw is (fails_early c.args.spec.now _ _ _ _ fault
-    (fails_read c.args.spec.now IsReport _ _ trace _ _ fault c.in_ok-trace.ensures.ok c.in_ok-trace.ensures.end (fails_before c.args.spec.now IsReport trace _ fault stops)))
+    rw is (fails_early c.args.spec.now _ _ trace _ fault c.in_ok-trace.ensures.ok c.in_ok-trace.ensures.end stops)
+
+pub returns-in_err-file-clause-fault : goal.returns-in_err-file-clause-fault
+returns-in_err-file-clause-fault g c =
+    let a = g.W.Write.contents c.args.writer.now in
+    let is : c.from_residual-in_err-file.result ≡ Err (File c.in_err-file.field-0.0) = search rules in
+    rw is (record {
+      trace = c.in_ok-trace.trace.items;
+      read = c.in_ok-trace.ensures.ok;
+      end = c.in_ok-trace.ensures.end;
+      events = c.in_ok-events.events;
+      said = ap trace_events (sym c.as_slice.ensures.value) ∙ c.in_ok-events.ensures.ok;
+      runs = c.in_ok-events.ensures.runs;
+      part = λ report is. front_none a [] report;
+    })
 
 pub returns-in_err-write_recorded-clause-fault : goal.returns-in_err-write_recorded-clause-fault
 returns-in_err-write_recorded-clause-fault g c =
     let fault = c.in_err-write_recorded.field-0.0 in
     let is : c.from_residual-in_err-write_recorded.result ≡ Err fault = search rules in
-    rw is (fails_late c.args.spec.now _ _ _ _ fault c.in_err-write_recorded.ensures.fault)
+    rw is (fails_late c.args.spec.now _ _ _ _ fault c.in_err-write_recorded.ensures.fault (record {
+      trace = c.in_ok-trace.trace.items;
+      read = c.in_ok-trace.ensures.ok;
+      end = c.in_ok-trace.ensures.end;
+      events = c.in_ok-events.events;
+      said = ap trace_events (sym c.as_slice.ensures.value) ∙ c.in_ok-events.ensures.ok;
+      runs = c.in_ok-events.ensures.runs;
+      part = λ report. c.in_err-write_recorded.ensures.begun c.args.spec.now report c.in_ok-events.ensures.runnable (c.in_ok-session.ensures.stands c.in_ok-events.events);
+    }))
 
 pub returns-clause-ok : goal.returns-clause-ok
 returns-clause-ok g c = record {

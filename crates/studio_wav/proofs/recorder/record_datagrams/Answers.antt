@@ -1,4 +1,4 @@
-use Rattle.std.proofs.Common.{◌≡◌, ◌<◌, ◌≤◌, ◌+◌, ◌-◌, ◌∙◌, ℕ, length, is_some, take, drop, refl, sym, ap, subst, arith}
+use Rattle.std.proofs.Common.{◌≡◌, ◌<◌, ◌≤◌, ◌+◌, ◌-◌, ◌∙◌, ℕ, Err, rules, length, is_some, take, drop, refl, sym, ap, subst, arith}
 use Rattle.std.proofs.lemmas.List.{take_rest}
 use Rattle.std.specs.Io.KnownBytes.{Appends}
 use Rattle.wav_file.specs.declared.format.WavFormat.{WavFormat}
@@ -10,6 +10,10 @@ use Rattle.studio_session.proofs.RunLemmas.{fewer_left}
 use Rattle.studio_mix.specs.Output.{datagram_of}
 use Rattle.studio_session.specs.Play.{feeds_of}
 use Rattle.studio_mix.proofs.FirstBlockLemmas.{written_is}
+use Rattle.studio_run.specs.declared.player.PlayFault.TheVariants.{Write}
+use Rattle.studio_wav.specs.declared.fault.FileFault.TheVariants.{Write as NotWritten}
+use Rattle.studio_wav.specs.declared.fault.RecordFault.TheVariants.{Play, File}
+use Rattle.studio_wav.proofs.FrontLemmas.{front_of_line, front_of_more}
 use Rattle.studio_wav.proofs.RecordingLemmas.{recorded_all, recording_more, recording_none}
 use Rattle.studio_wav.proofs.recorder.record_datagrams.Goals as goal
 
@@ -53,6 +57,48 @@ rounds-preserved g c =
           (subst (λ p. Appends (g.F.Write.contents c.rounds.file) (g.F.Write.contents c.push.new.writer) (little_samples enc p)) behind c.in_ok-push-in-Some.ensures.ok)
           (subst (λ p. c.push.new.self ≡ state c.rounds.wav.format (c.rounds.wav.count + length (little_samples enc p))) behind c.in_ok-push-in-Some.ensures.counted);
     }
+
+pub returns-in_err-write_datagram-in-Some-clause-begun : goal.returns-in_err-write_datagram-in-Some-clause-begun
+returns-in_err-write_datagram-in-Some-clause-begun g c =
+    let events = g.E.EventSource.events c.args.source.now in
+    let inv = c.rounds.invariant in
+    let len : c.in-Some.len ≡ datagram_length c.args.session.now.mixer.packer.spec = c.in-Some.ensures.len ∙ ap datagram_length inv.spec in
+    let short = c.requires.short in
+    let same : length c.next_datagram.new.out ≡ length c.rounds.out = c.next_datagram.auto.out in
+    let long = same ∙ inv.room in
+    let within : c.in-Some.len ≤ length c.rounds.out = omega (arith, len, short, long, same) in
+    let is : c.from_residual.result ≡ Err (Play Write) = search rules in
+    rw is (λ studio datagrams run played are.
+    let r = inv.stands studio run played in
+    let n = length r.datagrams in
+    let gives = c.in-Some.ensures.some studio n run r.given.played in
+    front_of_line studio events _ _ _ _ _ _ _ _ _ c.rounds.session c.next_datagram.new.self (take c.in-Some.len c.next_datagram.new.out) datagrams r
+    (record {
+      ready = sym (c.next_datagram.ensures.given studio n run r.given.played) ∙ ap is_some c.in-Some.is;
+      is = written_is (datagram_of studio (feeds_of studio events) n) c.rounds.out c.next_datagram.new.out c.in-Some.len gives.1 same within;
+      played = gives.2;
+    }) are c.in_err-write_datagram-in-Some.ensures.fault)
+
+pub returns-in_err-push-in-Some-clause-begun : goal.returns-in_err-push-in-Some-clause-begun
+returns-in_err-push-in-Some-clause-begun g c =
+    let events = g.E.EventSource.events c.args.source.now in
+    let inv = c.rounds.invariant in
+    let len : c.in-Some.len ≡ datagram_length c.args.session.now.mixer.packer.spec = c.in-Some.ensures.len ∙ ap datagram_length inv.spec in
+    let short = c.requires.short in
+    let same : length c.next_datagram.new.out ≡ length c.rounds.out = c.next_datagram.auto.out in
+    let long = same ∙ inv.room in
+    let within : c.in-Some.len ≤ length c.rounds.out = omega (arith, len, short, long, same) in
+    let is : c.from_residual-in_err-push-in-Some.result ≡ Err (File NotWritten) = search rules in
+    rw is (λ studio datagrams run played are.
+    let r = inv.stands studio run played in
+    let n = length r.datagrams in
+    let gives = c.in-Some.ensures.some studio n run r.given.played in
+    front_of_more studio events _ _ _ _ _ _ _ _ _ _ c.rounds.session c.next_datagram.new.self (take c.in-Some.len c.next_datagram.new.out) datagrams r
+    (record {
+      ready = sym (c.next_datagram.ensures.given studio n run r.given.played) ∙ ap is_some c.in-Some.is;
+      is = written_is (datagram_of studio (feeds_of studio events) n) c.rounds.out c.next_datagram.new.out c.in-Some.len gives.1 same within;
+      played = gives.2;
+    }) are c.in_ok-write_datagram-in-Some.ensures.ok)
 
 pub returns-in-None-clause-ok : goal.returns-in-None-clause-ok
 returns-in-None-clause-ok g c = λ studio run played.
