@@ -1,0 +1,10 @@
+//! How a number changes.
+
+/// How a number changes.
+#[derive(Clone, Copy, Debug, PartialEq, Eq)]
+pub enum Kind {
+    /// It only rises, from 0 at the start.
+    Counter,
+    /// It may fall.
+    Gauge,
+}

@@ -1,0 +1,116 @@
+//! Who answers the requests.
+ghost use Rattle.std.specs.Prelude.{◌≡◌, ◌^◌, [], ◌∷◌, ◌++◌, OnOk, IfOk};
+ghost use Rattle.bytes.specs.Filled.{Filled};
+ghost use Rattle.http.specs.Request.{head_of};
+ghost use Rattle.http_uri.specs.Uri.{uri_path};
+ghost use Rattle.http_server.specs.Response.{IsBlank, IsResponse};
+ghost use Rattle.studio_page.specs.Answer.{IsAnswer, is_read, content_of, shown_fields, refused_fields};
+
+use crate::html::page_html;
+use crate::metrics::metrics_of;
+use crate::resource::Resource;
+use crate::snapshot::Snapshot;
+use crate::state::state_of;
+use bytes::Bytes;
+use http::{HeaderName, HeaderValue, Method, Request, StatusCode};
+use http_server::{Response, Service};
+use std::alloc::{AllocError, Global};
+
+/// Answers the requests of all connections from one snapshot, which the caller renews between them.
+#[derive(Drop)]
+pub struct Page {
+    alloc: Global,
+    pub snapshot: Snapshot,
+}
+
+impl Page {
+    /// The page of a snapshot.
+    pub fn new(alloc: Global, snapshot: Snapshot) -> Page
+        ensures { result.snapshot ≡ snapshot }
+    {
+        Page { alloc, snapshot }
+    }
+}
+
+impl Service for Page {
+    ghost answers = { λ old request response new.
+        IsAnswer old.snapshot (head_of request).method (uri_path (head_of request).uri) response × (new ≡ old) };
+
+    fn call(
+        &mut self,
+        request: &Request<Bytes>,
+        response: &mut Response,
+    ) -> Result<(), AllocError> {
+        match Resource::of(request.uri().path()) {
+            None => {
+                response.status = StatusCode::NOT_FOUND;
+                Ok(())
+            }
+            Some(resource) if is_read(request.method()) => show(
+                self.alloc,
+                &self.snapshot,
+                resource,
+                response,
+            ),
+            Some(_) => refuse(response),
+        }
+    }
+}
+
+/// Whether a method only reads.
+fn is_read(method: &Method) -> bool
+    ensures { result ≡ is_read method.now }
+{
+    method.as_str() == "GET" || method.as_str() == "HEAD"
+}
+
+/// Answers what was asked for.
+fn show(
+    alloc: Global,
+    snapshot: &Snapshot,
+    resource: Resource,
+    response: &mut Response,
+) -> Result<(), AllocError>
+    requires { IsBlank response.old }
+    ensures { OnOk result (IsResponse 200 (shown_fields resource) (content_of snapshot.now resource) response.new) }
+{
+    response.add_header(
+        HeaderName::from_static("content-type"),
+        resource.media_type(),
+    )?;
+    response.add_header(
+        HeaderName::from_static("cache-control"),
+        HeaderValue::from_static("no-store"),
+    )?;
+    response.body.push(content(alloc, snapshot, resource)?)
+}
+
+/// Answers that what was asked for can only be read.
+fn refuse(response: &mut Response) -> Result<(), AllocError>
+    requires { IsBlank response.old }
+    ensures { OnOk result (IsResponse 405 refused_fields [] response.new) }
+{
+    response.status = StatusCode::METHOD_NOT_ALLOWED;
+    response.add_header(
+        HeaderName::from_static("allow"),
+        HeaderValue::from_static("GET, HEAD"),
+    )
+}
+
+/// The octets of what was asked for.
+fn content(alloc: Global, snapshot: &Snapshot, resource: Resource) -> Result<Bytes, AllocError>
+    ensures { IfOk result (λ octets. octets ≡ content_of snapshot.now resource) }
+{
+    match resource {
+        Resource::Page => Ok(Bytes::from_static(page_html().as_bytes())),
+        Resource::State => shared(state_of(alloc, snapshot)?),
+        Resource::Metrics => shared(metrics_of(alloc, snapshot)?),
+    }
+}
+
+/// Octets that the connection holds with no copy.
+fn shared(octets: Vec<u8>) -> Result<Bytes, AllocError>
+    ensures { IfOk result (λ shared. shared ≡ octets.items) }
+{
+    Ok(Bytes::from_vec(octets)?)
+}
