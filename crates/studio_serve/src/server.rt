@@ -1,0 +1,136 @@
+//! The sockets of the page.
+use crate::client::{Client, Progress};
+use mio::net::{TcpListener, TcpStream};
+use mio::{Events, Interest, Poll, Token};
+use slab::Slab;
+use std::alloc::Global;
+use std::hash::RandomState;
+use std::io;
+use std::net::{Ipv4Addr, Net, SocketAddr};
+use std::time::Duration;
+use studio_page::{Page, open};
+
+/// How many clients are answered at once. Those past them are let go.
+pub const MOST_CLIENTS: usize = 64;
+
+/// How many sockets are told of at once.
+const MOST_EVENTS: usize = 128;
+
+/// How many clients are taken or let go at once.
+const MOST_AT_ONCE: u32 = 256;
+
+/// How the listener is told from the clients, which have the numbers of their places.
+const LISTENER: Token = Token(MOST_CLIENTS);
+
+/// A listener on this machine, and its clients.
+#[derive(Drop)]
+pub struct PageServer {
+    alloc: Global,
+    keys: RandomState,
+    poll: Poll,
+    events: Events,
+    listener: TcpListener,
+    clients: Slab<Client>,
+}
+
+impl PageServer {
+    /// Listens at a port of 127.0.0.1; at 0 the system picks one.
+    pub fn bind(
+        net: &impl Net,
+        alloc: Global,
+        keys: RandomState,
+        port: u16,
+    ) -> io::Result<PageServer> {
+        let address = SocketAddr::new(Ipv4Addr::LOCALHOST.into(), port);
+        let mut listener = TcpListener::bind(net, address)?;
+        let poll = Poll::new(net)?;
+        poll.registry()
+            .register(&mut listener, LISTENER, Interest::READABLE)?;
+        Ok(PageServer {
+            alloc,
+            keys,
+            poll,
+            events: Events::with_capacity(alloc, MOST_EVENTS)?,
+            listener,
+            clients: Slab::with_capacity(alloc, MOST_CLIENTS)?,
+        })
+    }
+
+    /// Where it listens.
+    pub fn address(&self) -> io::Result<SocketAddr> {
+        self.listener.local_addr()
+    }
+
+    /// Waits until a socket is ready, but at most so long, and not at all where a client may go on.
+    pub fn wait(&mut self, most: Duration) {
+        let most = if self.has_more() {
+            Duration::ZERO
+        } else {
+            most
+        };
+        // Without events each client has its turn once it is ready.
+        let _ = self.poll.poll(&mut self.events, Some(most));
+    }
+
+    /// Whether a client may go on at once.
+    fn has_more(&self) -> bool {
+        for (_, client) in self.clients.iter() {
+            if client.progress == Progress::GoesOn {
+                return true;
+            }
+        }
+        false
+    }
+
+    /// Takes who came, answers what came from the page's snapshot, and lets go who is done with or did nothing for 10 s.
+    pub fn turn(&mut self, page: &mut Page, now: Duration) {
+        self.note_ready();
+        for place in 0..MOST_CLIENTS {
+            if let Some(client) = self.clients.get_mut(place) {
+                if client.progress == Progress::GoesOn {
+                    client.turn(page, now);
+                }
+                if client.progress == Progress::Over || client.is_idle(now) {
+                    self.clients.try_remove(place);
+                }
+            }
+        }
+        self.take_clients(now);
+    }
+
+    /// Notes which clients may go on.
+    fn note_ready(&mut self) {
+        for event in self.events.iter() {
+            if let Some(client) = self.clients.get_mut(event.token().0) {
+                client.progress = Progress::GoesOn;
+            }
+        }
+    }
+
+    /// Takes those who wait to be taken.
+    fn take_clients(&mut self, now: Duration) {
+        for _ in 0..MOST_AT_ONCE {
+            let Ok((stream, _)) = self.listener.accept() else {
+                return;
+            };
+            if self.clients.len() < MOST_CLIENTS {
+                self.take(stream, now);
+            }
+        }
+    }
+
+    /// Takes a client, if memory and the system allow it; else it is let go.
+    fn take(&mut self, mut stream: TcpStream, now: Duration) {
+        let token = Token(self.clients.vacant_key());
+        let both = Interest::READABLE | Interest::WRITABLE;
+        if self
+            .poll
+            .registry()
+            .register(&mut stream, token, both)
+            .is_ok()
+        {
+            let connection = open(self.alloc, self.keys);
+            let _ = self.clients.insert(Client::new(stream, connection, now));
+        }
+    }
+}
