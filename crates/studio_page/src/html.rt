@@ -50,16 +50,16 @@ header { display: flex; gap: 6px; align-items: stretch; margin-bottom: 6px; }
 .meter { position: relative; height: 7px; background: var(--track); border-radius: 2px; overflow: hidden; }
 .meter i { position: absolute; inset: 0 auto 0 0; width: 0; background: var(--bar); }
 .meter b { position: absolute; top: 0; bottom: 0; width: 2px; background: var(--text); }
-#streams { display: grid; grid-template-columns: repeat(auto-fill, minmax(303px, 1fr)); gap: 6px; }
+#streams { display: grid; grid-template-columns: repeat(auto-fit, minmax(27.5em, 1fr)); gap: 6px; }
 .stream { background: var(--card); border: 1px solid var(--line); border-radius: 4px; padding: 3px 6px; min-width: 0; }
 .stream.lost { border-color: var(--bad); }
 .top { display: flex; gap: .7em; align-items: baseline; white-space: nowrap; }
 .top h2 { overflow: hidden; text-overflow: ellipsis; flex: 0 1 auto; min-width: 3em; }
 .top .right { margin-left: auto; white-space: pre; }
-canvas { display: block; width: 100%; height: 16px; margin: 2px 0 1px; }
+canvas { display: block; width: 100%; height: 1.45em; margin: 2px 0 1px; }
 table { border-collapse: collapse; width: 100%; table-layout: fixed; }
 th { width: 13%; }
-th:first-child { width: 8%; } th:nth-child(4) { width: 9%; } th:nth-child(6) { width: 12%; } th:last-child { width: auto; }
+th:first-child { width: 8%; } th:nth-child(4) { width: 10%; } th:nth-child(6) { width: 12%; } th:last-child { width: auto; }
 th { color: var(--soft); font-weight: 400; text-align: right; padding: 0 2px; vertical-align: bottom; line-height: 1.15; }
 td { text-align: right; padding: 0 2px; white-space: nowrap; }
 th:first-child, td:first-child { text-align: left; padding-left: 0; }
@@ -231,14 +231,14 @@ function draw(state, now) {
     view = build(state);
   }
   const since = earlier(state, now);
-  const nets = view.nets.map(() => ({ rate: 0, lost: 0, all: 0, first: 0, slots: 0, running: false }));
+  const nets = view.nets.map(() => ({ rate: 0, lost: 0, all: 0, first: 0, slots: 0, running: false, silent: false }));
   state.streams.forEach((stream, n) => drawStream(view.streams[n], stream, since.old.streams[n], since.last.streams[n], since.seconds, now, nets));
   view.nets.forEach((net, n) => drawNet(net, nets[n]));
   state.outputs.forEach((output, n) => drawOutput(view.outputs[n], output, now));
 }
 
 function drawNet(net, sum) {
-  const silent = sum.running && sum.rate === 0, losing = sum.lost > 0;
+  const silent = sum.running && sum.silent, losing = sum.lost > 0;
   mark(net.box, "silent", silent);
   mark(net.box, "losing", losing);
   show(net.word, silent ? "\u2715 silent" : losing ? "\u25b2 losing" : sum.running ? "\u25cf whole" : "\u25cb idle");
@@ -273,6 +273,11 @@ function drawStream(it, stream, old, last, seconds, now, nets) {
   style(it.note, words.length > 0 ? "note warn" : "note");
 }
 
+// whether nothing came for so long that it is worth a word
+function isSilent(rate, seconds) {
+  return rate === 0 && seconds >= .5;
+}
+
 function sumPath(net, stream, path, old, slots, seconds) {
   net.rate += (path.packets - old.packets) / seconds;
   net.lost += (path.lost - old.lost) / seconds;
@@ -280,11 +285,12 @@ function sumPath(net, stream, path, old, slots, seconds) {
   net.first += path.first - old.first;
   net.slots += slots;
   net.running = net.running || stream.state === "running";
+  net.silent = isSilent(net.rate, seconds);
 }
 
 function drawPath(it, stream, path, old, slots, seconds) {
   const rate = (path.packets - old.packets) / seconds;
-  const silent = rate === 0 && (stream.state === "running" || stream.state === "lost");
+  const silent = isSilent(rate, seconds) && (stream.state === "running" || stream.state === "lost");
   mark(it.row, "silent", silent);
   show(it.cells.rate, silent ? "silent" : count(rate));
   show(it.cells.lost, count(path.lost));
