@@ -5,3 +5,4 @@ pub mod FaultLemmas
 pub mod GainLemmas
 pub mod PortLemmas
 pub mod ShiftLemmas
+pub mod StepLemmas

@@ -1,15 +1,14 @@
-use Rattle.std.proofs.Common.{rules, ◌≡◌, ◌∷◌, ◌++◌, [], ℕ, ◌+◌, None, length, take, drop, map, slice_set, ap, sym, ◌∙◌, arith}
-use Rattle.std.proofs.lemmas.List.{length-map, length-take-le, take_more, drop_more, map-append}
+use Rattle.std.proofs.Common.{rules, ◌≡◌, ◌∷◌, ◌++◌, [], ℕ, ◌+◌, ◌≤◌, List, Err, length, take, map, slice_set, inr, ap, sym, ◌∙◌, arith}
+use Rattle.std.proofs.lemmas.List.{length-map, length-take-le, map-append}
 use Rattle.toml.specs.View.{view, table_view}
 use Rattle.toml.specs.declared.value.Value.{Value}
-use Rattle.studio_spec.specs.Values.{members_in}
-use Rattle.studio_spec.specs.Rows.{first_of}
+use Rattle.studio_spec.specs.Values.{members_in, is_table}
 use Rattle.studio_spec.specs.NetworkTable.{binds_of, sender_addresses_of}
 use Rattle.studio_spec.specs.StreamTable.{stream_of, ports_of, stream_fault}
-use Rattle.studio_spec.specs.OutputTable.{each_fault}
 use Rattle.studio_spec.specs.Config.{port_table, bind_table, sender_table}
 use Rattle.studio_spec.specs.declared.config.fault.Place.TheVariants as at
 use Rattle.studio_spec.proofs.PortLemmas.{length-row_table, row_table-more}
+use Rattle.studio_spec.proofs.StepLemmas.{passes, map-more, map-all, fault-here, fault-later, fault-end}
 use Rattle.studio_spec.proofs.config.top.read_streams.Goals as goal
 
 pub set_row-requires : goal.set_row-requires
@@ -43,8 +42,7 @@ loop-number-preserved c =
     let ms = map read (take n tables) in
     let fault = λ (k : ℕ). stream_fault (at.Stream k) in
     let table : table_view c.table_of.result.now ≡ m = c.table_of.ensures in
-    let more : take (n + 1) tables ≡ take n tables ++ value ∷ [] = take_more tables n value c.loop-number-test.true ∙ ap (λ v. take n tables ++ v ∷ []) (sym c.index-tables-number.is) in
-    let read_more : map read (take (n + 1) tables) ≡ ms ++ m ∷ [] = ap (map read) more ∙ map-append read (take n tables) (value ∷ []) in
+    let read_more : map read (take (n + 1) tables) ≡ ms ++ m ∷ [] = map-more tables n read value c.loop-number-test.true c.index-tables-number.is in
     let count : length ms ≡ n = length-map (take n tables) read ∙ length-take-le n tables (omega (arith, c.loop-number-test.true)) in
     let pushed : c.push.new.self.items ≡ c.loop-number.streams.items ++ c.in_ok-entry.entry.spec ∷ [] = search rules in
     let so_far : c.push.new.self.items ≡ map stream_of (map read (take (n + 1) tables)) =
@@ -74,10 +72,38 @@ loop-number-preserved c =
     ∙ ap (λ k. slice_set (sender_table ms) k (sender_addresses_of m)) (sym count)
     ∙ row_table-more sender_addresses_of ms m (omega (arith, count, c.loop-number-test.true, c.requires.few))
     ∙ ap sender_table (sym read_more) in
-    let rest : drop n tables ≡ value ∷ drop (n + 1) tables = drop_more tables n value c.loop-number-test.true ∙ ap (λ v. v ∷ drop (n + 1) tables) (sym c.index-tables-number.is) in
-    let none : fault n m ≡ None = ap (fault n) (sym table) ∙ c.in_ok-entry.ensures.ok in
-    let left : each_fault fault 0 (map read tables) ≡ each_fault fault (n + 1) (map read (drop (n + 1) tables)) =
-    c.loop-number.invariant.left
-    ∙ ap (λ d. each_fault fault n (map read d)) rest
-    ∙ ap (λ first. first_of first (each_fault fault (n + 1) (map read (drop (n + 1) tables)))) none in
+    let left = c.loop-number.invariant.left ∙ fault-later tables n fault read value c.loop-number-test.true c.index-tables-number.is (ap (fault n) (sym table) ∙ c.in_ok-entry.ensures.ok) in
     record { so_far = so_far; rows = rows; binds = binds; sources = sources; left = left }
+
+pub table_of-requires : goal.table_of-requires
+table_of-requires c =
+    passes c.args.tables.now c.loop-number.number (λ t. is_table (view t)) c.index-tables-number.result c.requires.tables c.loop-number-test.true c.index-tables-number.is
+
+pub returns-in_err-entry-clause-fault : goal.returns-in_err-entry-clause-fault
+returns-in_err-entry-clause-fault c =
+    let read = λ (t : Value). members_in (view t) in
+    let fault = λ (k : ℕ). stream_fault (at.Stream k) in
+    let e = c.in_err-entry.field-0.0 in
+    let is : c.from_residual.result ≡ Err e = search rules in
+    rw is (inr (c.loop-number.invariant.left ∙ fault-here c.args.tables.now c.loop-number.number fault read c.index-tables-number.result e c.loop-number-test.true c.index-tables-number.is (ap (fault c.loop-number.number) (sym c.table_of.ensures) ∙ c.in_err-entry.ensures.fault)))
+
+pub returns-clause-ok : goal.returns-clause-ok
+returns-clause-ok c =
+    c.loop-number.invariant.left
+    ∙ fault-end c.args.tables.now c.loop-number.number (λ (k : ℕ). stream_fault (at.Stream k)) (λ (t : Value). members_in (view t)) c.loop-number-test.false
+
+-- the tables that were read, once all were
+all : (tables : List Value) (n : ℕ) → length tables ≤ n → map (λ (t : Value). members_in (view t)) (take n tables) ≡ map (λ (t : Value). members_in (view t)) tables
+all tables n end = map-all tables n (λ (t : Value). members_in (view t)) end
+
+pub returns-clause-streams : goal.returns-clause-streams
+returns-clause-streams c = c.loop-number.invariant.so_far ∙ ap (map stream_of) (all c.args.tables.now c.loop-number.number c.loop-number-test.false)
+
+pub returns-clause-ports : goal.returns-clause-ports
+returns-clause-ports c = c.loop-number.invariant.rows ∙ ap port_table (all c.args.tables.now c.loop-number.number c.loop-number-test.false)
+
+pub returns-clause-binds : goal.returns-clause-binds
+returns-clause-binds c = c.loop-number.invariant.binds ∙ ap bind_table (all c.args.tables.now c.loop-number.number c.loop-number-test.false)
+
+pub returns-clause-sources : goal.returns-clause-sources
+returns-clause-sources c = c.loop-number.invariant.sources ∙ ap sender_table (all c.args.tables.now c.loop-number.number c.loop-number-test.false)

@@ -1,8 +1,11 @@
-use Rattle.std.proofs.Common.{◌≡◌, Err, None, Some, pos, map, ap, sym, ◌∙◌, inl, inr, ⊎_elim, rules, arith, to_z, w64}
+use Rattle.std.proofs.Common.{◌≡◌, List, length, Err, None, Some, pos, map, ap, sym, ◌∙◌, inl, inr, ⊎_elim, rules, arith, to_z, w64}
 use Rattle.std.proofs.Math.Facts.{to_z_pos}
-use Rattle.toml.specs.View.{table_view}
+use Rattle.std.proofs.lemmas.List.{length-map}
+use Rattle.toml.specs.View.{view, table_view}
+use Rattle.toml.specs.declared.value.Value.{Value}
+use Rattle.stream_rules.specs.declared.stream_spec.Stream.{Stream}
 use Rattle.studio_spec.specs.Studio.{channel_total}
-use Rattle.studio_spec.specs.Values.{number_at, number_or, tables_at, table_at}
+use Rattle.studio_spec.specs.Values.{members_in, number_at, number_or, tables_at, table_at}
 use Rattle.studio_spec.specs.NetworkTable.{senders_of}
 use Rattle.studio_spec.specs.StreamTable.{stream_of, stream_fault}
 use Rattle.studio_spec.specs.OutputTable.{output_of, schedule_of, each_fault, output_fault}
@@ -29,6 +32,35 @@ pub new-studio-requires-clause-not_low : goal.new-studio-requires-clause-not_low
 new-studio-requires-clause-not_low c =
     let number : to_z w64 c.in_ok-open_at.field-0 ≡ pos c.in_ok-open_at.field-0 = to_z_pos w64 (omega (arith, c.in_ok-open_at.ensures.high)) in
     rw number search rules
+
+-- how many streams were read of the tables
+count : (streams : List Stream) (tables : List Value) → streams ≡ map stream_of (map (λ t. members_in (view t)) tables) → length streams ≡ length tables
+count streams tables read = ap length read ∙ length-map (map (λ t. members_in (view t)) tables) stream_of ∙ length-map tables (λ t. members_in (view t))
+
+pub channel_total-ins-requires : goal.channel_total-ins-requires
+channel_total-ins-requires c =
+    let many = count _ _ c.in_ok-streams.ensures.streams in
+    record { few = omega (arith, ap length c.deref.ensures.value, many, c.in_ok-tables.ensures.high) }
+
+pub read_output-requires-clause-some_ins : goal.read_output-requires-clause-some_ins
+read_output-requires-clause-some_ins c =
+    let many = count _ _ c.in_ok-streams.ensures.streams in
+    omega (arith, c.channel_total-ins.ensures.some, ap length c.deref.ensures.value, many, c.in_ok-tables.ensures.low)
+
+pub read_output-requires-clause-few_ins : goal.read_output-requires-clause-few_ins
+read_output-requires-clause-few_ins c =
+    let many = count _ _ c.in_ok-streams.ensures.streams in
+    omega (arith, c.channel_total-ins.ensures.few, ap length c.deref.ensures.value, many, c.in_ok-tables.ensures.high)
+
+pub new-studio-requires-clause-some : goal.new-studio-requires-clause-some
+new-studio-requires-clause-some c =
+    let many = count _ _ c.in_ok-streams.ensures.streams in
+    omega (arith, many, c.in_ok-tables.ensures.low)
+
+pub new-studio-requires-clause-few : goal.new-studio-requires-clause-few
+new-studio-requires-clause-few c =
+    let many = count _ _ c.in_ok-streams.ensures.streams in
+    omega (arith, many, c.in_ok-tables.ensures.high)
 
 pub returns-clause-ok : goal.returns-clause-ok
 returns-clause-ok c =
