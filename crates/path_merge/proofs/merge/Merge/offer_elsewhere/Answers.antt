@@ -1,4 +1,4 @@
-use Rattle.std.proofs.Common.{◌≡◌, Some, None, false, true, arith, ap, sym, subst, ◌∙◌}
+use Rattle.std.proofs.Common.{◌≡◌, Some, None, false, true, arith, ap, sym, subst, ◌∙◌, rules}
 use Rattle.std.proofs.lemmas.Int.{ints}
 use Rattle.stream_rules.specs.declared.anchor.Anchor.{Anchor}
 use Rattle.stream_rules.specs.PacketRef.{packet_of}
@@ -54,3 +54,15 @@ returns-in-None-clause-next g c = λ a is. absurd (let none : None ≡ Some a = 
 
 pub returns-in-None-clause-restart : goal.returns-in-None-clause-restart
 returns-in-None-clause-restart g c = λ a is. absurd (let none : None ≡ Some a = sym (ap (λ (m : MergeState). m.anchor) (sym c.self.view_is) ∙ c.in-None.is) ∙ is in cc)
+
+pub offer_at-requires-clause-anchored : goal.offer_at-requires-clause-anchored
+offer_at-requires-clause-anchored g c = search rules
+
+pub offer_at-requires-clause-open_yet : goal.offer_at-requires-clause-open_yet
+offer_at-requires-clause-open_yet g c = search rules
+
+pub offer_at-requires-clause-room : goal.offer_at-requires-clause-room
+offer_at-requires-clause-room g c = search rules
+
+pub offer_at-requires-clause-fits : goal.offer_at-requires-clause-fits
+offer_at-requires-clause-fits g c = search rules

@@ -1,4 +1,4 @@
-use Rattle.std.proofs.Common.{arith, ap, sym, ◌∙◌}
+use Rattle.std.proofs.Common.{arith, ap, sym, ◌∙◌, rules}
 use Rattle.std.proofs.lemmas.Int.{ints}
 use Rattle.stream_rules.specs.PacketRef.{packet_of}
 use Rattle.stream_rules.specs.Fate.{place_of}
@@ -38,3 +38,33 @@ returns-in-Err-clause-next g c = c.offer_elsewhere.ensures.next c.args.anchor c.
 
 pub returns-in-Err-clause-restart : goal.returns-in-Err-clause-restart
 returns-in-Err-clause-restart g c = c.offer_elsewhere.ensures.restart c.args.anchor c.requires.anchored
+
+pub place_of-requires-clause-low : goal.place_of-requires-clause-low
+place_of-requires-clause-low g c = search rules
+
+pub offer_at-requires-clause-anchored : goal.offer_at-requires-clause-anchored
+offer_at-requires-clause-anchored g c = search rules
+
+pub offer_at-requires-clause-open_yet : goal.offer_at-requires-clause-open_yet
+offer_at-requires-clause-open_yet g c = search rules
+
+pub offer_at-requires-clause-room : goal.offer_at-requires-clause-room
+offer_at-requires-clause-room g c = search rules
+
+pub offer_at-requires-clause-fits : goal.offer_at-requires-clause-fits
+offer_at-requires-clause-fits g c = search rules
+
+pub offer_elsewhere-requires-clause-open_yet : goal.offer_elsewhere-requires-clause-open_yet
+offer_elsewhere-requires-clause-open_yet g c = search rules
+
+pub offer_elsewhere-requires-clause-room : goal.offer_elsewhere-requires-clause-room
+offer_elsewhere-requires-clause-room g c = search rules
+
+pub offer_elsewhere-requires-clause-fits : goal.offer_elsewhere-requires-clause-fits
+offer_elsewhere-requires-clause-fits g c = search rules
+
+pub returns-in-Ok-clause-next : goal.returns-in-Ok-clause-next
+returns-in-Ok-clause-next g c = search rules
+
+pub returns-in-Ok-clause-restart : goal.returns-in-Ok-clause-restart
+returns-in-Ok-clause-restart g c = search rules

@@ -53,3 +53,54 @@ returns-in-Some-clause-spec g c = (kept_anchored c.args.self.now c.offer_next.ne
 
 pub returns-in-Some-clause-unheard : goal.returns-in-Some-clause-unheard
 returns-in-Some-clause-unheard g c = λ uncounted. absurd (let counted = sym uncounted ∙ counted_anchored c.args.self.now c.offer_next.new.self c.in-Some.anchor c.args.path (packet_of c.args.packet) c.offer_next.result c.offer_next.ensures.next c.offer_next.ensures.restart in cc)
+
+pub returns-then-self-clause-refused : goal.returns-then-self-clause-refused
+returns-then-self-clause-refused g c = search rules
+
+pub returns-then-self-clause-unheard : goal.returns-then-self-clause-unheard
+returns-then-self-clause-unheard g c = search rules
+
+pub returns-then-self-clause-time : goal.returns-then-self-clause-time
+returns-then-self-clause-time g c = search rules
+
+pub returns-then-self-clause-closed : goal.returns-then-self-clause-closed
+returns-then-self-clause-closed g c = search rules
+
+pub returns-then-self-clause-spec : goal.returns-then-self-clause-spec
+returns-then-self-clause-spec g c = search rules
+
+pub offer_next-requires-clause-anchored : goal.offer_next-requires-clause-anchored
+offer_next-requires-clause-anchored g c = search rules
+
+pub offer_next-requires-clause-open_yet : goal.offer_next-requires-clause-open_yet
+offer_next-requires-clause-open_yet g c = search rules
+
+pub offer_next-requires-clause-room : goal.offer_next-requires-clause-room
+offer_next-requires-clause-room g c = search rules
+
+pub offer_next-requires-clause-fits : goal.offer_next-requires-clause-fits
+offer_next-requires-clause-fits g c = search rules
+
+pub offer_first-requires-clause-unanchored : goal.offer_first-requires-clause-unanchored
+offer_first-requires-clause-unanchored g c = search rules
+
+pub offer_first-requires-clause-open_yet : goal.offer_first-requires-clause-open_yet
+offer_first-requires-clause-open_yet g c = search rules
+
+pub offer_first-requires-clause-room : goal.offer_first-requires-clause-room
+offer_first-requires-clause-room g c = search rules
+
+pub offer_first-requires-clause-fits : goal.offer_first-requires-clause-fits
+offer_first-requires-clause-fits g c = search rules
+
+pub returns-in-None-clause-unheard : goal.returns-in-None-clause-unheard
+returns-in-None-clause-unheard g c = search rules
+
+pub returns-in-None-clause-time : goal.returns-in-None-clause-time
+returns-in-None-clause-time g c = search rules
+
+pub returns-in-None-clause-closed : goal.returns-in-None-clause-closed
+returns-in-None-clause-closed g c = search rules
+
+pub returns-in-None-clause-spec : goal.returns-in-None-clause-spec
+returns-in-None-clause-spec g c = search rules

@@ -1,4 +1,4 @@
-use Rattle.std.proofs.Common.{◌≡◌, Some, None, w64, arith, ap, sym, subst, ◌∙◌}
+use Rattle.std.proofs.Common.{◌≡◌, Some, None, w64, arith, ap, sym, subst, ◌∙◌, rules}
 use Rattle.std.proofs.lemmas.Int.{ints, to_z-of_z}
 use Rattle.path_merge.specs.Next.{anchor_due, quiet_next}
 use Rattle.path_merge.specs.Steps.{Advances, Moves}
@@ -50,3 +50,35 @@ returns-in-None-clause-stands g c = λ stream open_at events k at.
     let now_is = to_z-of_z w64 c.args.now c.ranges.now in
     subst (λ o. Advances stream open_at c.args.self.now c.pass_time.new.self events k c.args.now o) (sym (next_is c.args.self.now c.args.now None is))
     (advance_time stream open_at c.args.self.now c.self.inside.next_media r.sound r.open_yet events k at c.pass_time.new.self c.args.now (quiet_next c.args.self.now c.args.now) r.not_back r.not_far (not_due c.args.self.now c.args.now is) (rw now_is at c.pass_time.ensures))
+
+pub returns-in-Some-clause-slot : goal.returns-in-Some-clause-slot
+returns-in-Some-clause-slot g c = search rules
+
+pub returns-in-Some-clause-spec : goal.returns-in-Some-clause-spec
+returns-in-Some-clause-spec g c = search rules
+
+pub returns-in-None-clause-slot : goal.returns-in-None-clause-slot
+returns-in-None-clause-slot g c = search rules
+
+pub returns-in-None-clause-moved : goal.returns-in-None-clause-moved
+returns-in-None-clause-moved g c = search rules
+
+pub returns-in-None-clause-spec : goal.returns-in-None-clause-spec
+returns-in-None-clause-spec g c = search rules
+
+pub pass_due_slot-requires-clause-anchored : goal.pass_due_slot-requires-clause-anchored
+pass_due_slot-requires-clause-anchored g c =
+    let is : anchor_due c.args.self.now c.args.now ≡ Some c.in-Some.anchor = sym (ap (anchor_due c.args.self.now) (to_z-of_z w64 c.args.now c.ranges.now)) ∙ sym c.anchor_due.ensures ∙ c.in-Some.is in
+    (due c.args.self.now c.args.now c.in-Some.anchor is).0
+
+pub pass_due_slot-requires-clause-open_yet : goal.pass_due_slot-requires-clause-open_yet
+pass_due_slot-requires-clause-open_yet g c = search rules
+
+pub pass_time-requires-clause-not_far : goal.pass_time-requires-clause-not_far
+pass_time-requires-clause-not_far g c = search rules
+
+pub pass_time-requires-clause-open_yet : goal.pass_time-requires-clause-open_yet
+pass_time-requires-clause-open_yet g c = search rules
+
+pub anchor_due-requires : goal.anchor_due-requires
+anchor_due-requires g c = search rules

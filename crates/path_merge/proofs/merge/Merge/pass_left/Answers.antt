@@ -1,4 +1,4 @@
-use Rattle.std.proofs.Common.{◌≡◌, ◌<◌, true, false, Some, IfSome, ap, sym, subst, ◌∙◌}
+use Rattle.std.proofs.Common.{◌≡◌, ◌<◌, true, false, Some, IfSome, ap, sym, subst, ◌∙◌, rules}
 use Rattle.path_merge.specs.MergeState.{MergeState, IsSound}
 use Rattle.path_merge.specs.Next.{next_left}
 use Rattle.path_merge.specs.Steps.{Drains, marks_left}
@@ -40,3 +40,87 @@ returns-in-None-clause-stands g c = λ stream open_at events k at.
     let shut : c.args.self.now.closed ≡ true = ap (λ (m : MergeState). m.closed) (sym c.self.view_is) ∙ c.if-not-self.false in
     let unended : c.args.self.now.ended ≡ false = ap (λ (m : MergeState). m.ended) (sym c.self.view_is) ∙ c.if-self.false in
     subst (λ m. Drains stream open_at m events k (next_left c.args.self.now)) (ap (λ (m : MergeState). record m { ended = true }) (sym c.self.view_is)) (drains_end_left stream open_at c.args.self.now c.self.inside.next_media sound events k at shut unended (sym c.anchor_left.ensures ∙ c.in-None.is))
+
+pub returns-then-not-self-clause-slot : goal.returns-then-not-self-clause-slot
+returns-then-not-self-clause-slot g c = search rules
+
+pub returns-then-self-clause-slot : goal.returns-then-self-clause-slot
+returns-then-self-clause-slot g c = search rules
+
+pub returns-in-None-clause-slot : goal.returns-in-None-clause-slot
+returns-in-None-clause-slot g c = search rules
+
+pub returns-in-Some-clause-slot : goal.returns-in-Some-clause-slot
+returns-in-Some-clause-slot g c = search rules
+
+pub returns-then-not-self-clause-all : goal.returns-then-not-self-clause-all
+returns-then-not-self-clause-all g c = search rules
+
+pub returns-then-self-clause-all : goal.returns-then-self-clause-all
+returns-then-self-clause-all g c = search rules
+
+pub returns-in-None-clause-all : goal.returns-in-None-clause-all
+returns-in-None-clause-all g c = search rules
+
+pub returns-in-Some-clause-all : goal.returns-in-Some-clause-all
+returns-in-Some-clause-all g c = search rules
+
+pub returns-then-not-self-clause-none : goal.returns-then-not-self-clause-none
+returns-then-not-self-clause-none g c = search rules
+
+pub returns-then-self-clause-none : goal.returns-then-self-clause-none
+returns-then-self-clause-none g c = search rules
+
+pub returns-in-None-clause-none : goal.returns-in-None-clause-none
+returns-in-None-clause-none g c = search rules
+
+pub returns-in-Some-clause-none : goal.returns-in-Some-clause-none
+returns-in-Some-clause-none g c = search rules
+
+pub returns-then-not-self-clause-fewer : goal.returns-then-not-self-clause-fewer
+returns-then-not-self-clause-fewer g c = search rules
+
+pub returns-then-self-clause-fewer : goal.returns-then-self-clause-fewer
+returns-then-self-clause-fewer g c = search rules
+
+pub returns-in-None-clause-fewer : goal.returns-in-None-clause-fewer
+returns-in-None-clause-fewer g c = search rules
+
+pub returns-then-not-self-clause-time : goal.returns-then-not-self-clause-time
+returns-then-not-self-clause-time g c = search rules
+
+pub returns-then-self-clause-time : goal.returns-then-self-clause-time
+returns-then-self-clause-time g c = search rules
+
+pub returns-in-None-clause-time : goal.returns-in-None-clause-time
+returns-in-None-clause-time g c = search rules
+
+pub returns-in-Some-clause-time : goal.returns-in-Some-clause-time
+returns-in-Some-clause-time g c = search rules
+
+pub returns-then-not-self-clause-closed : goal.returns-then-not-self-clause-closed
+returns-then-not-self-clause-closed g c = search rules
+
+pub returns-then-self-clause-closed : goal.returns-then-self-clause-closed
+returns-then-self-clause-closed g c = search rules
+
+pub returns-in-None-clause-closed : goal.returns-in-None-clause-closed
+returns-in-None-clause-closed g c = search rules
+
+pub returns-in-Some-clause-closed : goal.returns-in-Some-clause-closed
+returns-in-Some-clause-closed g c = search rules
+
+pub returns-then-not-self-clause-spec : goal.returns-then-not-self-clause-spec
+returns-then-not-self-clause-spec g c = search rules
+
+pub returns-then-self-clause-spec : goal.returns-then-self-clause-spec
+returns-then-self-clause-spec g c = search rules
+
+pub returns-in-None-clause-spec : goal.returns-in-None-clause-spec
+returns-in-None-clause-spec g c = search rules
+
+pub returns-in-Some-clause-spec : goal.returns-in-Some-clause-spec
+returns-in-Some-clause-spec g c = search rules
+
+pub pass_slot_left-requires-clause-anchored : goal.pass_slot_left-requires-clause-anchored
+pass_slot_left-requires-clause-anchored g c = search rules
