@@ -1,3 +1,6 @@
+pub mod RoomLemmas
+pub mod RoomRingLemmas
+pub mod FormatLemmas
 pub mod FittingLemmas
 pub mod TurnLemmas
 pub mod MarkLemmas

@@ -1,4 +1,9 @@
 pub mod Fitting
+pub mod Rooms
+pub mod MarkRooms
+pub mod RoomRings
+pub mod PacketRings
+pub mod MarkRings
 pub mod Side
 pub mod Paths
 pub mod Turns

@@ -14,7 +14,7 @@ ghost use Rattle.studio_rings.specs.MixEnds.{MixHasFeeds, MixesBlock};
 ghost use Rattle.studio_rings.specs.Datagrams.{AreAllGiven, AreAllTold, HasGiven, given_after};
 ghost use Rattle.studio_rings.specs.Tokens.{HandsIn};
 
-use crate::look::look_at;
+use crate::look::look_at_streams;
 use crate::mix_end::MixEnd;
 use crate::stream::StreamDone;
 use crate::take_marks::take_streams;
@@ -89,6 +89,6 @@ impl MixEnd {
             → AreAllGiven studio self.old datagrams → AreBlocks studio feeds datagrams }
     {
         let mut open_yet = [false; 16];
-        !look_at(&mut self.sides, &mut open_yet)
+        !look_at_streams(&mut self.sides, &mut open_yet)
     }
 }

@@ -7,12 +7,13 @@ ghost use Rattle.studio_rings.specs.FreshEnds.{AllFreshPaths, AreFreshRings, Are
 ghost use Rattle.studio_rings.specs.Opening.{AddsStream, AllUnread, AreFreshEnds};
 
 use crate::ends::{Ends, OpenFault};
+use crate::mark_ring::{MarkOut, open_marks};
 use crate::mix_end::MixEnd;
 use crate::monitor_end::MonitorEnd;
+use crate::packet_ring::{PacketOut, open_packets};
 use crate::path_end::PathEnd;
-use crate::side::Side;
 use crate::stream_end::StreamEnd;
-use path_merge::{Mark, Merge, Packet, StreamSpec};
+use path_merge::{Merge, StreamSpec};
 use rtrb::RingBuffer;
 use std::alloc::{AllocError, Global};
 use stream_rules::PathCounts;
@@ -25,7 +26,7 @@ pub(crate) struct StreamEnds {
     pub(crate) paths: Vec<PathEnd>,
     pub(crate) streams: Vec<StreamEnd>,
     pub(crate) monitors: Vec<MonitorEnd>,
-    pub(crate) marks: Vec<Side<Mark>>,
+    pub(crate) marks: Vec<MarkOut>,
 }
 
 /// A path's ring, with both ends.
@@ -33,16 +34,16 @@ fn open_path(
     alloc: Global,
     spec: &StreamSpec,
     ring_len: usize,
-) -> Result<(PathEnd, Side<Packet>), AllocError>
+) -> Result<(PathEnd, PacketOut), AllocError>
     ensures { IfOk result (λ r. IsFreshPath spec.now ring_len r.0 r.1) }
 {
-    let (ring, pop) = RingBuffer::new(alloc, ring_len)?;
+    let (ring, side) = open_packets(alloc, spec.payload_len(), ring_len)?;
     let end = PathEnd {
         spec: *spec,
         ring,
         counts: PathCounts::new(),
     };
-    Ok((end, Side::new(pop)))
+    Ok((end, side))
 }
 
 /// The rings of a stream's paths: their ends join the others, and the stream's sides are answered.
@@ -51,7 +52,7 @@ fn open_paths(
     spec: &StreamSpec,
     ring_len: usize,
     paths: &mut Vec<PathEnd>,
-) -> Result<Vec<Side<Packet>>, AllocError>
+) -> Result<Vec<PacketOut>, AllocError>
     ensures { IfOk result (λ sides. (own : List PathEnd) × (paths.new.items ≡ paths.old.items ++ own)
         × (length own ≡ spec.now.paths) × (vec_len sides ≡ spec.now.paths) × AllFreshPaths spec.now ring_len own sides.items) }
 {
@@ -69,9 +70,9 @@ fn open_stream(
     alloc: Global,
     spec: &StreamSpec,
     open_at: i64,
-    sides: Vec<Side<Packet>>,
+    sides: Vec<PacketOut>,
     ring_len: usize,
-) -> Result<(StreamEnd, MonitorEnd, Side<Mark>), AllocError>
+) -> Result<(StreamEnd, MonitorEnd, MarkOut), AllocError>
     requires not_low { pos 0 ≤ℤ open_at }
     requires not_high { open_at ≤ℤ pos (2 ^ 60) }
     requires paths { vec_len sides ≡ spec.now.paths }
@@ -80,9 +81,10 @@ fn open_stream(
     ensures rings { IfOk result (λ r. AreFreshRings ring_len r.0 r.1 r.2) }
 {
     let merge = Merge::new(alloc, *spec, open_at)?;
-    let (marks, take) = RingBuffer::new(alloc, ring_len)?;
+    let _len = spec.payload_len();
+    let format = spec.format();
+    let (marks, side) = open_marks(alloc, format, ring_len)?;
     let (monitor, look) = RingBuffer::new(alloc, ring_len)?;
-    let _format = spec.format();
     let end = StreamEnd {
         spec: *spec,
         sides,
@@ -90,7 +92,7 @@ fn open_stream(
         monitor,
         merge,
     };
-    Ok((end, MonitorEnd { ring: look }, Side::new(take)))
+    Ok((end, MonitorEnd { ring: look }, side))
 }
 
 /// Adds the ends of a stream to those of the streams before it.
@@ -137,11 +139,7 @@ fn open_streams(
 }
 
 /// The mixer's end, over the rings of all streams' marks.
-fn open_mix(
-    alloc: Global,
-    studio: &StudioSpec,
-    sides: Vec<Side<Mark>>,
-) -> Result<MixEnd, AllocError>
+fn open_mix(alloc: Global, studio: &StudioSpec, sides: Vec<MarkOut>) -> Result<MixEnd, AllocError>
     requires sound { IsStudio studio.now }
     requires unread { AllUnread studio.now.streams sides.items }
     ensures { IfOk result (λ mix. (mix.sides ≡ sides) × HasGiven studio.now mix []) }

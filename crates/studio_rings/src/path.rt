@@ -8,9 +8,8 @@ ghost use Rattle.studio_rings.specs.Fitting.{fitting};
 ghost use Rattle.studio_rings.specs.Paths.{Offers};
 ghost use Rattle.studio_rings.specs.declared.path.Offer.TheVariants as offer;
 
+use crate::packet_ring::{PacketIn, PacketToken};
 use crate::path_end::PathEnd;
-use path_merge::Packet;
-use rtrb::{Finished, Producer};
 use stream_rules::{PathCounts, ReceptionRef, receive_ref};
 
 /// What became of a datagram: the first of these that holds.
@@ -32,11 +31,11 @@ pub enum Offer {
 /// The proof that a path's end has finished: what its stream's end wants before it closes.
 #[derive(Drop)]
 pub struct PathDone {
-    pub(crate) token: Finished<Packet>,
+    pub(crate) token: PacketToken,
 }
 
 /// Whether this is a packet, and no free place is seen for it.
-fn lacks_room(ring: &mut Producer<Packet>, reception: ReceptionRef<'_>) -> bool
+fn lacks_room(ring: &mut PacketIn, reception: ReceptionRef<'_>) -> bool
     ensures ring { ProducerLooked ring.old ring.new }
     ensures full { result ≡ true → ((packet : Packet) × (reception_from reception.entry ≡ Received packet)) × (known_free ring.new ≡ 0) }
     ensures room { result ≡ false → (packet : Packet) → reception_from reception.entry ≡ Received packet → 0 < known_free ring.new }
@@ -69,7 +68,7 @@ impl PathEnd {
         self.counts.add_ref(reception);
         match reception {
             ReceptionRef::Sent(packet) => {
-                self.ring.push_reserved(packet.to_packet());
+                self.ring.push(packet);
                 Offer::Sent
             }
             ReceptionRef::Bad => Offer::Bad,

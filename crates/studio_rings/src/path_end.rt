@@ -1,10 +1,13 @@
 //! What the end of a path consists of.
 ghost use Rattle.std.specs.Prelude.{◌≡◌, ◌≤◌, ◌^◌, length};
 ghost use Rattle.rtrb.specs.Ring.{sent};
+ghost use Rattle.stream_rules.specs.MarkFacts.{payload_length};
+ghost use Rattle.stream_rules.specs.StreamSpecFacts.{format_of};
 ghost use Rattle.studio_rings.specs.Fitting.{fitting};
+ghost use Rattle.studio_rings.specs.RoomRings.{HasRoomFor};
 
-use path_merge::{Packet, StreamSpec};
-use rtrb::Producer;
+use crate::packet_ring::PacketIn;
+use path_merge::StreamSpec;
 use stream_rules::PathCounts;
 
 /// The end of a path: its datagrams go in.
@@ -13,9 +16,10 @@ use stream_rules::PathCounts;
 #[derive(Drop)]
 pub struct PathEnd {
     pub(crate) spec: StreamSpec,
-    pub(crate) ring: Producer<Packet>,
+    pub(crate) ring: PacketIn,
     pub(crate) counts: PathCounts,
     ghost few: { counts.offered ≤ 2 ^ 62 },
     ghost all_counted: { counts.sent ≡ length (sent ring) },
+    ghost roomy: { HasRoomFor (payload_length (format_of spec)) ring },
     ghost all_fit: { fitting spec (sent ring) ≡ sent ring },
 }

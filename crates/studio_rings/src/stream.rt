@@ -15,13 +15,14 @@ ghost use Rattle.studio_rings.specs.Streams.{ReadsClock, ShowsCounts, StreamHasH
 ghost use Rattle.studio_rings.specs.Tokens.{HandsIn};
 
 use crate::drain::drain_marks;
-use crate::look::look_at;
+use crate::look::look_at_paths;
+use crate::mark_ring::MarkToken;
 use crate::path::PathDone;
 use crate::stream_end::StreamEnd;
 use crate::take::take_all;
 use crate::turn::{StopReason, TurnNote, push_marks};
-use path_merge::{ClockFault, Counts, Mark, StreamSpec, clock_fault};
-use rtrb::{Finished, Producer};
+use path_merge::{ClockFault, Counts, StreamSpec, clock_fault};
+use rtrb::Producer;
 
 /// Which paths haven't finished, or have sent packets that were not taken.
 #[derive(Clone, Copy, PartialEq, Eq, Debug)]
@@ -32,7 +33,7 @@ pub struct PathsOpen {
 /// The proof that a stream's end has finished: what the mixer's end wants before it is settled.
 #[derive(Drop)]
 pub struct StreamDone {
-    pub(crate) token: Finished<Mark>,
+    pub(crate) token: MarkToken,
 }
 
 /// Shows counts to the monitor, if there is room.
@@ -131,7 +132,7 @@ impl StreamEnd {
         }
         let _paths = self.spec.paths();
         let mut still_open = [false; 4];
-        if look_at(&mut self.sides, &mut still_open) {
+        if look_at_paths(&mut self.sides, &mut still_open) {
             return Err(PathsOpen { still_open });
         }
         self.merge.close();

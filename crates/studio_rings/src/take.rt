@@ -4,26 +4,34 @@ ghost use Rattle.stream_rules.specs.declared.packet.Packet.{Packet};
 ghost use Rattle.studio_rings.specs.Fitting.{fitting};
 ghost use Rattle.studio_rings.specs.Turns.{AllTakePackets, Joins, TakesPackets, arrivals_by, arrivals_from};
 
+use crate::packet_ring::PacketOut;
+use crate::packet_room::PacketRoom;
 use crate::side::Side;
-use path_merge::{Merge, Packet, Path, SlotWindow, StreamSpec};
+use path_merge::{Merge, Path, SlotWindow, StreamSpec};
 
 /// How many packets of a path, or marks, one turn takes at most.
 pub(crate) const BATCH: u32 = 64;
 
 /// Offers a packet to the merge if it has the stream's length.
-fn join_packet(spec: &StreamSpec, merge: &mut Merge<SlotWindow>, path: Path, packet: &Packet)
+fn join_packet<const N: usize>(
+    spec: &StreamSpec,
+    merge: &mut Merge<SlotWindow>,
+    path: Path,
+    room: &PacketRoom<N>,
+)
     requires spec { merge.old.spec ≡ spec.now }
     requires path { path < spec.now.paths }
-    ensures { Joins merge.old merge.new (λ stream. arrivals_by path (fitting stream (packet.now ∷ []))) }
+    ensures { Joins merge.old merge.new (λ stream. arrivals_by path (fitting stream (room.now ∷ []))) }
 {
-    if spec.fits(packet) {
-        let _ = merge.offer_ref(path, packet.lent());
+    let packet = room.lent();
+    if packet.payload.len() == spec.payload_len() {
+        let _ = merge.offer_ref(path, packet);
     }
 }
 
 /// Offers what a path's ring has to the merge.
-fn take_path(
-    side: &mut Side<Packet>,
+pub(crate) fn take_path<const N: usize>(
+    side: &mut Side<PacketRoom<N>>,
     spec: &StreamSpec,
     merge: &mut Merge<SlotWindow>,
     path: Path,
@@ -47,7 +55,7 @@ fn take_path(
 
 /// Offers what the rings of all paths have to the merge, path by path, and says how many it took of each.
 pub(crate) fn take_all(
-    sides: &mut Vec<Side<Packet>>,
+    sides: &mut Vec<PacketOut>,
     spec: &StreamSpec,
     merge: &mut Merge<SlotWindow>,
 ) -> [u32; 4]
@@ -64,7 +72,7 @@ pub(crate) fn take_all(
             unreachable!();
         };
         let place = usize::from(number);
-        let count = take_path(&mut sides[place], spec, merge, path);
+        let count = sides[place].take(spec, merge, path);
         from[place] = count;
     }
     from

@@ -7,31 +7,37 @@ ghost use Rattle.studio_mix.specs.Feed.{Feed};
 ghost use Rattle.studio_mix.specs.Mixer.{HasFeeds, is_wanted_by};
 ghost use Rattle.studio_rings.specs.Mixes.{TakesAllMarks, TakesWanted, fed_more};
 
+use crate::mark_ring::MarkOut;
+use crate::mark_room::MarkRoom;
 use crate::side::Side;
 use crate::take::BATCH;
-use path_merge::Mark;
 use studio_mix::Mixer;
 
 /// Feeds a mark if it may follow those of its stream, and says whether.
-fn keep_mark(mixer: &mut Mixer, stream: usize, mark: &Mark) -> bool
+fn keep_mark<const N: usize>(mixer: &mut Mixer, stream: usize, room: &MarkRoom<N>) -> bool
     requires stream { stream < length mixer.old.lanes }
     requires wanted { is_wanted_by mixer.old stream ≡ true }
     ensures stands { (studio : Studio) (feeds : List Feed) (number : ℕ) (feed : Feed)
-        → HasFeeds studio mixer.old feeds number → slice_get feeds stream ≡ Some feed → HasFeeds studio mixer.new (slice_set feeds stream (fed_more feed (mark.now ∷ []))) number }
+        → HasFeeds studio mixer.old feeds number → slice_get feeds stream ≡ Some feed → HasFeeds studio mixer.new (slice_set feeds stream (fed_more feed (room.now ∷ []))) number }
     ensures value { (studio : Studio) (feeds : List Feed) (number : ℕ) (feed : Feed)
-        → HasFeeds studio mixer.old feeds number → slice_get feeds stream ≡ Some feed → result ≡ is_mark_list (format_of feed.stream) (feed.marks ++ mark.now ∷ []) }
+        → HasFeeds studio mixer.old feeds number → slice_get feeds stream ≡ Some feed → result ≡ is_mark_list (format_of feed.stream) (feed.marks ++ room.now ∷ []) }
     ensures lanes { length mixer.new.lanes ≡ length mixer.old.lanes }
     ensures spec { mixer.new.packer.spec ≡ mixer.old.packer.spec }
 {
-    if mixer.accepts(stream, mark) {
-        mixer.feed_ref(stream, &mark.lent());
+    let mark = room.lent();
+    if mixer.accepts_ref(stream, &mark) {
+        mixer.feed_ref(stream, &mark);
         return true;
     }
     false
 }
 
 /// Takes marks of one stream while the mixer wants them: how many, and how many of them may not follow.
-fn take_stream(side: &mut Side<Mark>, mixer: &mut Mixer, stream: usize) -> (u32, u32)
+pub(crate) fn take_stream<const N: usize>(
+    side: &mut Side<MarkRoom<N>>,
+    mixer: &mut Mixer,
+    stream: usize,
+) -> (u32, u32)
     requires stream { stream < length mixer.old.lanes }
     ensures { TakesWanted side.old side.new mixer.old mixer.new stream result.0 result.1 }
 {
@@ -53,7 +59,7 @@ fn take_stream(side: &mut Side<Mark>, mixer: &mut Mixer, stream: usize) -> (u32,
 }
 
 /// Takes marks of all streams, in order: how many, and how many of them may not follow.
-pub(crate) fn take_streams(sides: &mut Vec<Side<Mark>>, mixer: &mut Mixer) -> (u32, u32)
+pub(crate) fn take_streams(sides: &mut Vec<MarkOut>, mixer: &mut Mixer) -> (u32, u32)
     requires count { vec_len sides.old ≡ length mixer.old.lanes }
     requires few { vec_len sides.old ≤ 16 }
     ensures took { TakesAllMarks sides.old.items sides.new.items mixer.old mixer.new result.0 result.1 }
@@ -62,7 +68,7 @@ pub(crate) fn take_streams(sides: &mut Vec<Side<Mark>>, mixer: &mut Mixer) -> (u
     let mut taken = 0;
     let mut strange = 0;
     for stream in 0..sides.len() {
-        let (some, odd) = take_stream(&mut sides[stream], mixer, stream);
+        let (some, odd) = sides[stream].take(mixer, stream);
         taken += some;
         strange += odd;
     }

@@ -6,12 +6,15 @@ ghost use Rattle.stream_rules.specs.declared.event.Event.{Event};
 ghost use Rattle.stream_rules.specs.declared.stream_spec.Stream.{Stream};
 ghost use Rattle.path_merge.specs.Merge.{HasHistory};
 ghost use Rattle.path_merge.specs.Goal.{CanReach, Gives, HasGivenAll, MovesTo, next_to};
+ghost use Rattle.stream_rules.specs.MarkFacts.{payload_length};
+ghost use Rattle.stream_rules.specs.StreamSpecFacts.{format_of};
+ghost use Rattle.studio_rings.specs.RoomRings.{HasRoomFor};
 ghost use Rattle.studio_rings.specs.Turns.{PushesMarks};
 ghost use Rattle.studio_rings.specs.Stop.{StopsFor};
 
+use crate::mark_ring::MarkIn;
 use crate::take::BATCH;
-use path_merge::{Goal, Mark, Merge, SlotWindow};
-use rtrb::Producer;
+use path_merge::{Goal, Merge, SlotWindow};
 
 /// Why a turn stopped.
 #[derive(Clone, Copy, PartialEq, Eq, Debug)]
@@ -37,13 +40,10 @@ pub struct TurnNote {
 }
 
 /// Pushes the next mark on the way to a goal, if there is one, and passes it: whether there was one.
-pub(crate) fn push_next(
-    marks: &mut Producer<Mark>,
-    merge: &mut Merge<SlotWindow>,
-    goal: Goal,
-) -> bool
+pub(crate) fn push_next(marks: &mut MarkIn, merge: &mut Merge<SlotWindow>, goal: Goal) -> bool
     requires room { 0 < known_free marks.old }
     requires can { CanReach merge.old goal }
+    requires roomy { HasRoomFor (payload_length (format_of merge.old.spec)) marks.old }
     ensures ring { SameProducer marks.old marks.new }
     ensures pushed { sent marks.new ≡ sent marks.old ++ option_to_list (next_to merge.old goal) }
     ensures count { length (option_to_list (next_to merge.old goal)) ≡ (if result then 1 else 0) }
@@ -58,7 +58,7 @@ pub(crate) fn push_next(
     let next = merge.mark_to(goal);
     let is_some = next.is_some();
     if let Some(mark) = next {
-        marks.push_reserved(mark.to_mark());
+        marks.push(&mark);
     }
     merge.pass_to(goal);
     is_some
@@ -66,13 +66,14 @@ pub(crate) fn push_next(
 
 /// Pushes marks up to a time, while there is room.
 pub(crate) fn push_marks(
-    marks: &mut Producer<Mark>,
+    marks: &mut MarkIn,
     merge: &mut Merge<SlotWindow>,
     now: i64,
 ) -> (u32, StopReason)
     requires low { merge.old.time ≤ℤ now }
     requires high { now ≤ℤ pos (2 ^ 60) }
     requires open_yet { merge.old.closed ≡ false }
+    requires roomy { HasRoomFor (payload_length (format_of merge.old.spec)) marks.old }
     ensures pushed { PushesMarks marks.old merge.old now marks.new merge.new result.0 }
     ensures most { result.0 ≤ 64 }
     ensures stop { StopsFor result.1 merge.new.time now result.0 (known_free marks.new) }

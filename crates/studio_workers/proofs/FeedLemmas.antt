@@ -7,13 +7,16 @@ use Rattle.rtrb.specs.Ring.{sent, SameProducer}
 use Rattle.stream_rules.specs.declared.packet.Packet.{Packet}
 use Rattle.studio_workers.specs.Answers.{Answer, CountsOthers, answer_of, Tells, reaches_end, received_as, told_datagrams, told_packets, IsPartOf, packet_in, packets_in, packets_of}
 use Rattle.stream_rules.specs.Reception.{reception_of, is_bad, is_sent, is_wrong_length, is_wrong_type}
-use Rattle.stream_rules.specs.PathCounts.{PathTally, path_tally_of}
+use Rattle.stream_rules.specs.PathCounts.{PathTally, path_tally_of, with_reception}
 use Rattle.stream_rules.specs.declared.reception.Reception.{Reception}
 use Rattle.stream_rules.specs.declared.reception.Reception.TheVariants.{Sent, Bad, WrongType, WrongLength}
 use Rattle.stream_rules.specs.declared.stream_spec.Stream.{Stream}
 use Rattle.studio_workers.specs.Paths.{OffersAgain, SendsSoFar, SendsFeed}
 use Rattle.studio_workers.specs.declared.feed.FeedAnswer.{FeedAnswer}
 use Rattle.studio_workers.specs.declared.feed.FeedAnswer.TheVariants.{Datagram, Nothing, Fault, Ended}
+use Rattle.studio_rings.specs.Paths.{Offers, Receives}
+use Rattle.studio_rings.specs.declared.path.Offer.{Offer}
+use Rattle.studio_rings.specs.declared.path.Offer.TheVariants.{CountersFull, Bad as BadOffer, WrongType as OtherType, WrongLength as OtherLength, Full, Sent as SentOffer}
 use Rattle.studio_rings.specs.declared.path_end.PathEnd.{PathEnd}
 use Rattle.stream_rules.specs.declared.path_counts.PathCounts.{PathCounts}
 
@@ -41,6 +44,74 @@ offers-lost octets p q ring spec same packet full bad wrong_type wrong_length of
       full = omega (arith, full);
       offered = offered;
     }
+
+counts-others : (stream : Stream) (octets : List ℕ) (o : Reception) (a b : PathTally) → reception_of stream octets ≡ o → b ≡ with_reception a o → CountsOthers stream (octets ∷ []) a b
+counts-others stream octets (Sent packet) a b r h = record { bad = rw (r, h) (omega arith); wrong_type = rw (r, h) (omega arith); wrong_length = rw (r, h) (omega arith) }
+counts-others stream octets Bad a b r h = record { bad = rw (r, h) (omega arith); wrong_type = rw (r, h) (omega arith); wrong_length = rw (r, h) (omega arith) }
+counts-others stream octets WrongType a b r h = record { bad = rw (r, h) (omega arith); wrong_type = rw (r, h) (omega arith); wrong_length = rw (r, h) (omega arith) }
+counts-others stream octets WrongLength a b r h = record { bad = rw (r, h) (omega arith); wrong_type = rw (r, h) (omega arith); wrong_length = rw (r, h) (omega arith) }
+
+counts-offer : (o : Reception) (a b : PathTally) → b ≡ with_reception a o → (b.full ≡ a.full) × (b.offered ≡ a.offered + 1)
+counts-offer (Sent packet) a b h = rw h (refl, refl)
+counts-offer Bad a b h = rw h (refl, refl)
+counts-offer WrongType a b h = rw h (refl, refl)
+counts-offer WrongLength a b h = rw h (refl, refl)
+
+-- offers of a packet found no room, and have changed no other count
+pub record FoundNoRoom (p e : PathEnd) : Type 0 where
+  pub spec : e.spec ≡ p.spec
+  pub same : sent e.ring ≡ sent p.ring
+  pub full : p.counts.full ≤ e.counts.full
+  pub bad : e.counts.bad ≡ p.counts.bad
+  pub wrong_type : e.counts.wrong_type ≡ p.counts.wrong_type
+  pub wrong_length : e.counts.wrong_length ≡ p.counts.wrong_length
+  pub offered : p.counts.offered ≤ e.counts.offered
+
+-- then one was received
+received-then : (octets : List ℕ) (p e q : PathEnd) (o : Reception) → FoundNoRoom p e → SameProducer p.ring q.ring → q.spec ≡ p.spec
+    → Receives octets e o q → sent q.ring ≡ sent e.ring ++ packet_in o → OffersAgain octets p q
+received-then octets p e q o before ring spec h sends =
+    let received : reception_of p.spec octets ≡ o = rw before.spec at h.received in
+    let counted = counts-others p.spec octets o (path_tally_of e.counts) (path_tally_of q.counts) received h.counted in
+    let more = counts-offer o (path_tally_of e.counts) (path_tally_of q.counts) h.counted in
+    let all : sent q.ring ≡ sent p.ring ++ packets_of p.spec octets = rw (received, sym before.same) sends in
+    record {
+      ring = ring;
+      spec = spec;
+      sends = inr all;
+      all = λ _ _. all;
+      others = λ _. record {
+        bad = omega (arith, counted.bad, before.bad);
+        wrong_type = omega (arith, counted.wrong_type, before.wrong_type);
+        wrong_length = omega (arith, counted.wrong_length, before.wrong_length);
+      };
+      full = omega (arith, more.0, before.full);
+      offered = omega (arith, more.1, before.offered);
+    }
+
+-- or no more can be counted
+refused-then : (octets : List ℕ) (p e q : PathEnd) → FoundNoRoom p e → SameProducer p.ring q.ring → q.spec ≡ p.spec → q ≡ e → e.counts.offered ≡ 2 ^ 62 → OffersAgain octets p q
+refused-then octets p e q before ring spec same many =
+    let offered = ap (λ (x : PathEnd). x.counts.offered) same in
+    record {
+      ring = ring;
+      spec = spec;
+      sends = inl (ap (λ (x : PathEnd). sent x.ring) same ∙ before.same);
+      all = λ _ few. absurd (omega (arith, few, offered, many));
+      others = λ few. absurd (omega (arith, few, offered, many));
+      full = let full = ap (λ (x : PathEnd). x.counts.full) same in omega (arith, full, before.full);
+      offered = omega (arith, offered, before.offered);
+    }
+
+-- an answer other than `Full`, after those
+pub offers-then : (octets : List ℕ) (p e q : PathEnd) (answer : Offer) → FoundNoRoom p e → SameProducer p.ring q.ring → q.spec ≡ p.spec
+    → (answer ≡ Full → ⊥) → Offers octets e answer q → OffersAgain octets p q
+offers-then octets p e q CountersFull before ring spec other h = refused-then octets p e q before ring spec h.0 h.1
+offers-then octets p e q BadOffer before ring spec other h = received-then octets p e q Bad before ring spec h.0 (h.1 ∙ sym (append-nil (sent e.ring)))
+offers-then octets p e q OtherType before ring spec other h = received-then octets p e q WrongType before ring spec h.0 (h.1 ∙ sym (append-nil (sent e.ring)))
+offers-then octets p e q OtherLength before ring spec other h = received-then octets p e q WrongLength before ring spec h.0 (h.1 ∙ sym (append-nil (sent e.ring)))
+offers-then octets p e q Full before ring spec other h = absurd (other refl)
+offers-then octets p e q SentOffer before ring spec other h = received-then octets p e q (Sent h.0) before ring spec h.1 h.2
 
 -- what was told is what was answered
 pub told-next : (k : ℕ) (left : List Answer) (b : List ℕ) (r : FeedAnswer) (rest : List Answer) → reaches_end k left ≡ true → Tells left b r rest → left ≡ answer_of b r ∷ rest

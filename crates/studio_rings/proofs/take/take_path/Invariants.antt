@@ -5,8 +5,8 @@ use Rattle.studio_rings.specs.Turns.{Joins, TakesSoFar, arrivals_by}
 use Rattle.studio_rings.proofs.take.take_path.Given as goal
 
 abbrev pub invariant-loop-taken : goal.invariant-loop-taken
-invariant-loop-taken l = (l.taken ≤ 64) × ((packets : List Packet) × TakesSoFar l.initial.side l.side packets × (length packets ≡ l.taken)
+invariant-loop-taken g l = (l.taken ≤ 64) × ((packets : List Packet) × TakesSoFar l.initial.side l.side packets × (length packets ≡ l.taken)
     × Joins l.initial.merge l.merge (λ stream. arrivals_by l.path (fitting stream packets)))
 
 abbrev pub decreases-loop-taken : goal.decreases-loop-taken
-decreases-loop-taken l = 64 - l.taken
+decreases-loop-taken g l = 64 - l.taken

@@ -8,7 +8,7 @@ loop-stream-init c = record { len = refl; some = omega arith; odd = omega arith;
 pub loop-stream-preserved : goal.loop-stream-preserved
 loop-stream-preserved c =
     let i = c.loop-stream.invariant in
-    let few = c.take_stream-some.ensures in
+    let few = c.take-some.ensures in
     let a = i.some in
     let b = i.odd in
     let d = few.most in
@@ -17,7 +17,7 @@ loop-stream-preserved c =
       len = i.len;
       some = omega (arith, a, d);
       odd = omega (arith, b, d, e);
-      took = through-more _ _ _ _ _ _ _ _ _ _ c.index_mut.result.now c.take_stream-some.new.side i.took (search rules) (search rules) c.index_mut.ensures.value few;
+      took = through-more _ _ _ _ _ _ _ _ _ _ c.index_mut.result.now c.take-some.new.self i.took (search rules) (search rules) c.index_mut.ensures.value few;
     }
 
 pub returns-clause-took : goal.returns-clause-took

@@ -1,0 +1,66 @@
+//! The pushing end of a ring of packets with one size of rooms.
+ghost use Rattle.std.specs.Prelude.{◌≡◌, ◌+◌, ◌<◌, ◌≤◌, ◌++◌, ◌∷◌, [], ◌↔◌, IfSome, IsTrue, length};
+ghost use Rattle.rtrb.specs.Ring.{Finishes, ProducerLooked, SameProducer, known_free, sent};
+ghost use Rattle.stream_rules.specs.PacketRef.{packet_of};
+
+use crate::packet_room::PacketRoom;
+use path_merge::PacketRef;
+use rtrb::{Finished, Producer};
+use std::marker::Model;
+
+/// The pushing end of a ring of packets, and a room that each packet is written to before it is pushed.
+/// Contracts see it as that end.
+#[derive(Drop)]
+pub(crate) struct PacketSender<const N: usize> {
+    ring: Producer<PacketRoom<N>>,
+    room: PacketRoom<N>,
+}
+
+impl<const N: usize> Model for PacketSender<N> {
+    ghost use Rattle.std.specs.declared.alloc.Global.{Global};
+    ghost use Rattle.rtrb.specs.declared.AnyItems.{AnyItems};
+    ghost use Rattle.rtrb.specs.declared.producer.Producer.{Producer};
+    ghost use Rattle.stream_rules.specs.declared.packet.Packet.{Packet};
+
+    ghost Value = { Producer Packet Global AnyItems };
+
+    ghost view = { λ s. s.ring };
+}
+
+impl<const N: usize> PacketSender<N> {
+    pub(crate) fn new(ring: Producer<PacketRoom<N>>) -> PacketSender<N>
+        ensures { result ≡ ring.entry }
+    {
+        PacketSender {
+            ring,
+            room: PacketRoom::new(),
+        }
+    }
+
+    /// Whether no place is seen to be free.
+    pub(crate) fn is_full(&mut self) -> bool
+        ensures looked { ProducerLooked self.old self.new }
+        ensures value { IsTrue result ↔ (known_free self.new ≡ 0) }
+    {
+        self.ring.is_full()
+    }
+
+    /// Pushes a packet to a place that is known to be free.
+    pub(crate) fn push(&mut self, packet: PacketRef<'_>)
+        requires free { 0 < known_free self.old }
+        requires short { length packet.payload.now ≤ N }
+        ensures ring { SameProducer self.old self.new }
+        ensures sent { sent self.new ≡ sent self.old ++ packet_of packet.entry ∷ [] }
+    {
+        self.room.fill(packet);
+        self.ring.push_reserved(self.room);
+    }
+
+    /// The token of the end. None where the other end is gone.
+    pub(crate) fn finish(self) -> Option<Finished<PacketRoom<N>>>
+        ensures { IfSome result (λ done. Finishes self.entry done) }
+    {
+        let PacketSender { ring, room: _ } = self;
+        ring.finish()
+    }
+}
