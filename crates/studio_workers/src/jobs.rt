@@ -1,16 +1,17 @@
 //! What the workers start from, with all the memory that they need.
-ghost use Rattle.std.specs.Prelude.{◌≡◌, ◌+◌, ◌≤◌, ◌++◌, List, ℕ, ℤ, length, vec_len, IfOk};
+ghost use Rattle.std.specs.Prelude.{◌≡◌, ◌+◌, ◌≤◌, ◌++◌, List, ℕ, ℤ, length, vec_len, vec_capacity, IfOk};
 ghost use Rattle.std.specs.Vec.Iter.{into_iter_items, into_iter_len};
 ghost use Rattle.stream_rules.specs.declared.stream_spec.Stream.{Stream};
 ghost use Rattle.studio_rings.specs.FreshEnds.{AllFreshStreams};
 ghost use Rattle.studio_workers.specs.Jobs.{AreJobsOf, HasRoom, HaveRoom, feeds_in};
 ghost use Rattle.studio_workers.specs.Streams.{ends_of};
 
-use crate::path_job::PathJob;
+use crate::path_job::{PathJob, PathResult};
 use crate::stream_job::StreamJob;
 use std::alloc::{AllocError, Global};
 use std::sync::atomic::AtomicBool;
 use std::vec::IntoIter;
+use stream_rules::PathCounts;
 use studio_rings::{PathEnd, StreamEnd};
 
 /// So many flags, none of them set.
@@ -51,6 +52,34 @@ fn next_paths<F: Drop>(
     Ok(own)
 }
 
+/// Room for what the workers of a stream's paths come to.
+#[derive(Drop)]
+struct PathRoom {
+    ended: Vec<AtomicBool>,
+    results: Vec<PathResult>,
+    counts: Vec<PathCounts>,
+    faults: Vec<u64>,
+}
+
+/// Room for so many paths, none of which has ended.
+fn room_for_paths(alloc: Global, count: usize) -> Result<PathRoom, AllocError>
+    ensures ended { IfOk result (λ room. vec_len room.ended ≡ count) }
+    ensures results { IfOk result (λ room. (vec_len room.results ≡ 0) × (count ≤ vec_capacity room.results)) }
+    ensures counts { IfOk result (λ room. (vec_len room.counts ≡ 0) × (count ≤ vec_capacity room.counts)) }
+    ensures faults { IfOk result (λ room. (vec_len room.faults ≡ 0) × (count ≤ vec_capacity room.faults)) }
+{
+    let ended = unset_flags(alloc, count)?;
+    let results = Vec::with_capacity(alloc, count)?;
+    let counts = Vec::with_capacity(alloc, count)?;
+    let faults = Vec::with_capacity(alloc, count)?;
+    Ok(PathRoom {
+        ended,
+        results,
+        counts,
+        faults,
+    })
+}
+
 /// The job of a stream.
 fn stream_job<F: Drop, C: Drop>(
     alloc: Global,
@@ -61,11 +90,13 @@ fn stream_job<F: Drop, C: Drop>(
     ensures parts { IfOk result (λ job. (job.end ≡ end) × (job.clock ≡ clock) × (job.paths ≡ paths)) }
     ensures room { IfOk result (λ job. HasRoom job) }
 {
-    let count = paths.len();
-    let ended = unset_flags(alloc, count)?;
-    let results = Vec::with_capacity(alloc, count)?;
-    let counts = Vec::with_capacity(alloc, count)?;
-    let faults = Vec::with_capacity(alloc, count)?;
+    let room = room_for_paths(alloc, paths.len())?;
+    let PathRoom {
+        ended,
+        results,
+        counts,
+        faults,
+    } = room;
     Ok(StreamJob {
         end,
         clock,
