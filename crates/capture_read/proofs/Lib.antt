@@ -1,4 +1,6 @@
-pub mod OptionsLemmas
-pub mod InterfaceLemmas
-pub mod SectionLemmas
 pub mod CaptureLemmas
+pub mod FrontLemmas
+pub mod InterfaceLemmas
+pub mod OptionsLemmas
+pub mod PartsLemmas
+pub mod SectionLemmas

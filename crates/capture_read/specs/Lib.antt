@@ -6,6 +6,7 @@ pub mod Options
 pub mod Interface
 pub mod Packet
 pub mod Part
+pub mod Parts
 pub mod Pcap
 pub mod Section
 pub mod Capture

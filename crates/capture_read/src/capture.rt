@@ -37,7 +37,7 @@ pub fn open(octets: &[u8]) -> Result<Capture<'_>, CaptureFault>
 }
 
 /// Whether a section header's block stands first.
-fn is_pcapng(octets: &[u8]) -> bool
+pub(crate) fn is_pcapng(octets: &[u8]) -> bool
     ensures { result ≡ spec.is_pcapng octets.now }
 {
     octets.len() >= 4 && Order::Big.read_u32(octets, 0) == SECTION_HEADER

@@ -6,6 +6,9 @@
 //! as an item of its own, with its place; then nothing more comes. A UDP datagram comes whole with its
 //! time, interface, addresses and ports; that one is a fragment or cut is told, and anything else is passed over.
 //!
+//! Where the octets come piece by piece, `Parts` is the place among them: its calls are lent those from there on, as many
+//! as came. While `is_cut` says that more are needed, more are read; `next` passes over a record or a block.
+//!
 //! Nothing here takes memory, copies a payload or reads a file. What a file holds is `packets_of`, by the
 //! formats (draft-ietf-opsawg-pcap and draft-ietf-opsawg-pcapng) and tcpdump's registry of link types.
 #![tactic(auto)]
@@ -20,6 +23,7 @@ mod options;
 mod order;
 mod packet;
 mod part;
+mod parts;
 mod pcap;
 mod section;
 
@@ -28,3 +32,5 @@ pub use cursor::Capture;
 pub use fault::{CaptureFault, FaultKind};
 pub use ipv4::{Body, Datagram, Ipv4};
 pub use packet::Packet;
+pub use part::Part;
+pub use parts::Parts;

@@ -3,9 +3,9 @@ use crate::packet::Packet;
 
 /// What stands at the front of the octets that are left.
 #[derive(Clone, Copy, Debug, PartialEq, Eq)]
-pub(crate) struct Part<'a> {
+pub struct Part<'a> {
     /// How many octets it takes.
-    pub(crate) len: usize,
+    pub len: usize,
     /// The UDP packet in it, if it has one.
-    pub(crate) packet: Option<Packet<'a>>,
+    pub packet: Option<Packet<'a>>,
 }

@@ -1,6 +1,7 @@
 //! The pcap format (draft-ietf-opsawg-pcap, File Header and Packet Record).
 ghost use Rattle.std.specs.Prelude.{◌≡◌, ◌≤◌, MatchResult, IfOk, Ok, Err, length};
 ghost use Rattle.capture_read.specs.Part.{part_view};
+ghost use Rattle.capture_read.specs.Parts as parts;
 ghost use Rattle.capture_read.specs.Pcap as spec;
 ghost use Rattle.capture_read.specs.Pcap.{pcap_of, record_of};
 
@@ -99,6 +100,14 @@ pub(crate) fn read_record<'a>(pcap: &Pcap, octets: &'a [u8]) -> Result<Part<'a>,
         &octets[RECORD_HEADER..len],
     );
     Ok(Part { len, packet })
+}
+
+/// Whether the record that octets begin with ends behind them.
+pub(crate) fn is_record_cut(pcap: &Pcap, octets: &[u8]) -> bool
+    ensures { result ≡ parts.is_record_cut pcap.now octets.now }
+{
+    octets.len() < RECORD_HEADER
+        || octets.len() - RECORD_HEADER < pcap.order.read_u32(octets, 8) as usize
 }
 
 /// A record's time in nanoseconds since 1970.

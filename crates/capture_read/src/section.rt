@@ -1,5 +1,6 @@
 //! A section of the pcapng format, block by block (draft-ietf-opsawg-pcapng, General File Structure and Block Definitions).
 ghost use Rattle.std.specs.Prelude.{◌≡◌, ◌≤◌, ◌*◌, MatchResult, IfOk, None, Ok, Err, Some, length, option_copied};
+ghost use Rattle.capture_read.specs.Parts as parts;
 ghost use Rattle.capture_read.specs.Section as spec;
 ghost use Rattle.capture_read.specs.Section.{AnswersContent, AnswersPacket, block_of, section_view};
 ghost use Rattle.capture_read.specs.Part.{part_view};
@@ -217,6 +218,28 @@ fn read_length(order: Order, octets: &[u8]) -> Result<usize, FaultKind>
         return Err(FaultKind::Length);
     }
     Ok(len)
+}
+
+/// Whether the block that octets begin with, of a section in this order, ends behind them.
+pub(crate) fn is_block_cut(order: Order, octets: &[u8]) -> bool
+    ensures { result ≡ parts.is_block_cut order octets.now }
+{
+    if octets.len() < EMPTY_BLOCK {
+        return true;
+    }
+    match read_order(order, octets) {
+        Ok(order) => is_length_cut(order, octets),
+        Err(_) => false,
+    }
+}
+
+/// Whether a block gives itself a length that can be one, and ends behind these octets.
+fn is_length_cut(order: Order, octets: &[u8]) -> bool
+    requires { 12 ≤ length octets.now }
+    ensures { result ≡ parts.is_length_cut (Ok order) octets.now }
+{
+    let len = order.read_u32(octets, 4) as usize;
+    len >= EMPTY_BLOCK && len % 4 == 0 && octets.len() < len
 }
 
 /// Tests whether a section's version is one that is read.
