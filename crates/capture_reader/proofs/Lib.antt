@@ -1,0 +1,2 @@
+mod WindowLemmas
+mod ReaderLemmas
