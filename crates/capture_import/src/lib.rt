@@ -22,4 +22,4 @@ pub use fault::ImportFault;
 pub use form::{Form, form_of};
 pub use route::Route;
 pub use routes::{Routes, routes_of};
-pub use trace::{MOST_EVENTS, MOST_OCTETS, trace_text};
+pub use trace::{MOST_EVENTS, MOST_OCTETS, octets_in, route_in, trace_text};

@@ -138,7 +138,7 @@ impl Trace {
 
 /// The route of a packet, if it is an RTP packet of a flow that has one.
 #[tactic(auto, unfolding(crate::specs::Trace::route_of))]
-pub(crate) fn route_in(routes: &[Route], packet: &Packet<'_>) -> Option<Route>
+pub fn route_in(routes: &[Route], packet: &Packet<'_>) -> Option<Route>
     ensures { result ≡ route_of routes.now (packet_view packet.now) }
 {
     let next = sighting_in(packet)?;
@@ -154,7 +154,7 @@ fn place_of(routes: &[Route], key: &FlowKey) -> Option<usize>
 }
 
 /// The octets of a whole datagram.
-fn octets_in<'a>(packet: &Packet<'a>) -> &'a [u8]
+pub fn octets_in<'a>(packet: &Packet<'a>) -> &'a [u8]
     ensures { result.now ≡ octets_of (packet_view packet.now).ip.body }
 {
     match packet.ip.body {

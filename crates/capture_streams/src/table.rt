@@ -89,9 +89,9 @@ impl Table {
         Ok(())
     }
 
-    /// Takes in what is told of a capture.
+    /// Takes in what is told of a capture: a packet, or the fault that comes last.
     #[tactic(auto, unfolding(crate::specs::Table::table_with))]
-    fn take(
+    pub fn take(
         &mut self,
         alloc: Global,
         item: Result<Packet<'_>, CaptureFault>,

@@ -1,0 +1,141 @@
+-- How a replay ends.
+use Rattle.std.proofs.Common.{◌≡◌, inl, inr, ◌<◌, ℕ, Bool, true, false, List, [], ◌∷◌, ◌++◌, length, take, Option, IfSome, refl, sym, subst, ◌∙◌}
+use Rattle.std.specs.Io.KnownBytes.{Appends}
+use Rattle.std.proofs.KnownBytes.{Appends-nil}
+use Rattle.std.proofs.lemmas.Bool.{false≢true}
+use Rattle.capture_read.specs.Capture.{packets_of}
+use Rattle.capture_reader.specs.declared.fault.ReaderFault.{ReaderFault}
+use Rattle.capture_reader.specs.declared.fault.ReaderFault.TheVariants as reader
+use Rattle.capture_reader.specs.Reader.{IsOpenFault}
+use Rattle.capture_import.specs.declared.route.Route.{Route}
+use Rattle.studio_spec.specs.Studio.{Studio}
+use Rattle.studio_session.specs.Event.{TraceEvent, Closing}
+use Rattle.studio_session.specs.Run.{AreDatagrams}
+use Rattle.studio_engine.specs.Session.{HasSession, shut}
+use Rattle.studio_engine.specs.Engine.{EngineState}
+use Rattle.studio_engine.proofs.CountsLemmas.{settled_ready}
+use Rattle.studio_mix.proofs.FirstBlockLemmas.{first_all}
+use Rattle.studio_session.specs.Play.{feeds_of}
+use Rattle.studio_run.specs.Buffer.{BreaksOff, PassesOn}
+use Rattle.studio_run.specs.Listing.{counts_text_of, datagrams_text}
+use Rattle.studio_run.specs.Play.{WritesEvents}
+use Rattle.studio_run.specs.StudioReport.{IsReport}
+use Rattle.studio_run.proofs.BufferLemmas.{BreaksOff-finished, BreaksOff-later, PassesOn-finished, PassesOn-trans}
+use Rattle.studio_run.proofs.StudioReportLemmas.{report_alone}
+use Rattle.capture_replay.specs.declared.fault.ReplayFault.{ReplayFault}
+use Rattle.capture_replay.specs.declared.fault.ReplayFault.TheVariants.{Memory, Capture, Run as RunOf, Full, Write}
+use Rattle.capture_replay.specs.declared.run.Run.{Run}
+use Rattle.capture_replay.specs.Events.{events_of, replay_events}
+use Rattle.capture_replay.specs.Replay.{BreaksOffReplay, BreaksReport, HasReplayed, IsReason, StopsAt, StopsFile, WritesFront}
+use Rattle.capture_replay.proofs.CaseLemmas.{some_maps}
+use Rattle.capture_replay.proofs.EventLemmas.{first_longer, first_more}
+use Rattle.capture_replay.proofs.ReplayLemmas.{broke_part, broke_whole}
+
+-- a file was not opened
+open_reason : (file : List ℕ) (fault : ReaderFault) → IsOpenFault file fault → IsReason file [] (Capture fault)
+open_reason file reader.Unread is = tt
+open_reason file (reader.Capture fault) is = is
+open_reason file (reader.Long place) is = tt
+open_reason file reader.Memory is = tt
+
+pub unopened : (studio : Studio) (routes : List Route) (first a : Option (List ℕ)) (run : Run) (fault : ReaderFault) → HasReplayed studio [] a run a → IfSome first (λ file. IsOpenFault file fault)
+    → BreaksOffReplay studio routes first a a (Capture fault)
+unopened studio routes first a run fault r is = record {
+  packets = [];
+  told = some_maps first _ _ (λ file why. (record { items = packets_of file; all = refl }, open_reason file fault why)) is;
+  events = [];
+  first = record { later = replay_events studio routes []; whole = refl };
+  front = inl (record { datagrams = r.datagrams; first = r.session.given.first; count = 0; wrote = Appends-nil a });
+}
+
+-- a fault came on the way, and what was held is written
+ends_front : (studio : Studio) (routes : List Route) (first a b c : Option (List ℕ)) (run : Run) (fault : ReplayFault) (s : StopsFile studio routes first a run b fault)
+    → BreaksReport studio s.stops.events a c → WritesFront studio routes first a c fault
+ends_front studio routes first a b c run fault s front = record {
+  packets = s.packets;
+  told = s.told;
+  events = s.stops.events;
+  first = first_longer s.stops.events (events_of studio routes s.packets) (replay_events studio routes s.packets) s.stops.first (first_more (events_of studio routes s.packets) (Closing ∷ []));
+  front = front;
+}
+
+pub ends_whole : (studio : Studio) (routes : List Route) (first a b c : Option (List ℕ)) (run : Run) (fault : ReplayFault) → (fault ≡ Write → ⊥) → StopsFile studio routes first a run b fault
+    → Appends b c run.text → BreaksOffReplay studio routes first a c fault
+ends_whole studio routes first a b c run Memory other s rest = absurd s.stops.at
+ends_whole studio routes first a b c run (Capture fault) other s rest = ends_front studio routes first a b c run (Capture fault) s (inl (broke_whole studio s.stops.events a b c run s.stops.at rest))
+ends_whole studio routes first a b c run (RunOf fault) other s rest = ends_front studio routes first a b c run (RunOf fault) s (inl (broke_whole studio s.stops.events a b c run s.stops.at rest))
+ends_whole studio routes first a b c run Full other s rest = ends_front studio routes first a b c run Full s (inl (broke_whole studio s.stops.events a b c run s.stops.at rest))
+ends_whole studio routes first a b c run Write other s rest = absurd (other refl)
+
+-- or a write of it failed
+held_at : (studio : Studio) (events : List TraceEvent) (a b : Option (List ℕ)) (run : Run) (fault : ReplayFault) → (fault ≡ Write → ⊥) → StopsAt studio events a run b fault → HasReplayed studio events a run b
+held_at studio events a b run Memory other at = absurd at
+held_at studio events a b run (Capture fault) other at = at
+held_at studio events a b run (RunOf fault) other at = at
+held_at studio events a b run Full other at = at
+held_at studio events a b run Write other at = absurd (other refl)
+
+as_write : (studio : Studio) (routes : List Route) (first a c : Option (List ℕ)) (fault : ReplayFault) → WritesFront studio routes first a c fault → BreaksOffReplay studio routes first a c Write
+as_write studio routes first a c fault w = record {
+  packets = w.packets;
+  told = some_maps first _ _ (λ file both. (both.0, tt)) w.told;
+  events = w.events;
+  first = w.first;
+  front = w.front;
+}
+
+pub ends_part : (studio : Studio) (routes : List Route) (first a b c : Option (List ℕ)) (run : Run) (fault : ReplayFault) → (fault ≡ Write → ⊥) → StopsFile studio routes first a run b fault
+    → (n : ℕ) × (n < length run.text) × Appends b c (take n run.text) → BreaksOffReplay studio routes first a c Write
+ends_part studio routes first a b c run fault other s part =
+    as_write studio routes first a c fault (ends_front studio routes first a b c run fault s
+    (inl (broke_part studio s.stops.events a b c run (held_at studio s.stops.events a b run fault other s.stops.at) part)))
+
+pub ends_write : (studio : Studio) (routes : List Route) (first a c : Option (List ℕ)) (run : Run) (fault : ReplayFault) → fault ≡ Write → StopsFile studio routes first a run c fault
+    → BreaksOffReplay studio routes first a c Write
+ends_write studio routes first a c run fault is s =
+    as_write studio routes first a c fault (ends_front studio routes first a c c run fault s (inl (subst (StopsAt studio s.stops.events a run c) is s.stops.at)))
+
+-- the report of all events: the lines of its datagrams, and its counts
+pub report_is : (studio : Studio) (events : List TraceEvent) (datagrams : List (List ℕ)) → AreDatagrams studio events datagrams
+    → IsReport studio events (datagrams_text datagrams ++ counts_text_of studio events)
+report_is studio events datagrams ready = record { datagrams = datagrams; ready = ready; whole = refl }
+
+pub report_held : (studio : Studio) (events : List TraceEvent) (datagrams : List (List ℕ)) (a b c : Option (List ℕ)) (h i : List ℕ) → PassesOn a [] b h (datagrams_text datagrams)
+    → PassesOn b h c i (counts_text_of studio events) → PassesOn a [] c i (datagrams_text datagrams ++ counts_text_of studio events)
+report_held studio events datagrams a b c h i first second = PassesOn-trans a b c [] h i (datagrams_text datagrams) (counts_text_of studio events) first second
+
+pub report_written : (studio : Studio) (events : List TraceEvent) (datagrams : List (List ℕ)) (a b c : Option (List ℕ)) (h : List ℕ) → AreDatagrams studio events datagrams
+    → PassesOn a [] b h (datagrams_text datagrams ++ counts_text_of studio events) → Appends b c h → WritesEvents studio IsReport events a c
+report_written studio events datagrams a b c h ready passes rest = record {
+  text = datagrams_text datagrams ++ counts_text_of studio events;
+  is = report_is studio events datagrams ready;
+  wrote = PassesOn-finished a b c h (datagrams_text datagrams ++ counts_text_of studio events) passes rest;
+}
+
+pub report_unwritten : (studio : Studio) (events : List TraceEvent) (datagrams : List (List ℕ)) (a b c : Option (List ℕ)) (h : List ℕ) → AreDatagrams studio events datagrams
+    → PassesOn a [] b h (datagrams_text datagrams ++ counts_text_of studio events) → (n : ℕ) × (n < length h) × Appends b c (take n h) → BreaksReport studio events a c
+report_unwritten studio events datagrams a b c h ready passes part = inr (λ report is.
+    subst (BreaksOff a [] c) (report_alone studio events (datagrams_text datagrams ++ counts_text_of studio events) report (report_is studio events datagrams ready) is)
+    (BreaksOff-finished a b c h (datagrams_text datagrams ++ counts_text_of studio events) passes part))
+
+pub report_uncounted : (studio : Studio) (events : List TraceEvent) (datagrams : List (List ℕ)) (a b c : Option (List ℕ)) (h : List ℕ) → AreDatagrams studio events datagrams
+    → PassesOn a [] b h (datagrams_text datagrams) → BreaksOff b h c (counts_text_of studio events) → BreaksReport studio events a c
+report_uncounted studio events datagrams a b c h ready passes broken = inr (λ report is.
+    subst (BreaksOff a [] c) (report_alone studio events (datagrams_text datagrams ++ counts_text_of studio events) report (report_is studio events datagrams ready) is)
+    (BreaksOff-later a b c [] h (datagrams_text datagrams) (counts_text_of studio events) passes broken))
+
+-- a first close is an event
+pub shut_open : (closed : Bool) (events : List TraceEvent) → closed ≡ false → shut closed events ≡ events ++ Closing ∷ []
+shut_open true events e = absurd (false≢true (sym e))
+shut_open false events e = refl
+
+-- a run that is closed has its events, and the close
+pub closed_session : (studio : Studio) (run : Run) (engine : EngineState) (events : List TraceEvent) (a b : Option (List ℕ)) (r : HasReplayed studio events a run b)
+    → HasSession studio engine (shut run.engine.closed events) r.datagrams → HasSession studio engine (events ++ Closing ∷ []) r.datagrams
+closed_session studio run engine events a b r s =
+    subst (λ l. HasSession studio engine l r.datagrams) (shut_open run.engine.closed events (r.session.closed ∙ r.open_yet)) s
+
+-- a settled engine gave all datagrams of its events
+pub settled_datagrams : (studio : Studio) (engine : EngineState) (events : List TraceEvent) (datagrams : List (List ℕ)) → HasSession studio engine events datagrams → engine.settled ≡ true
+    → AreDatagrams studio events datagrams
+settled_datagrams studio engine events datagrams s settled = first_all studio (feeds_of studio events) datagrams s.given.first (settled_ready studio engine events datagrams s settled)

@@ -1,0 +1,6 @@
+mod CaseLemmas
+mod EndLemmas
+mod EventLemmas
+mod FlowLemmas
+mod LineLemmas
+mod ReplayLemmas

@@ -1,0 +1,143 @@
+-- What was written of a report so far.
+use Rattle.std.proofs.Common.{◌≡◌, ◌<◌, ℕ, Bool, List, [], ◌∷◌, ◌++◌, length, map, take, Option, Ok, sym, ap, subst, ◌∙◌, append-nil}
+use Rattle.std.specs.Io.KnownBytes.{Appends}
+use Rattle.std.proofs.Math.Seq.{take-length}
+use Rattle.std.proofs.lemmas.List.{length-map}
+use Rattle.capture_read.specs.declared.parts.Parts.{Parts}
+use Rattle.capture_read.specs.Packet.{PacketView}
+use Rattle.capture_read.specs.Parts.{items_at}
+use Rattle.capture_reader.specs.declared.fault.ReaderFault.{ReaderFault}
+use Rattle.capture_reader.specs.declared.fault.ReaderFault.TheVariants as reader
+use Rattle.capture_reader.specs.Reader.{HasPackets, HasTold, IsLong}
+use Rattle.capture_import.specs.declared.clock.CaptureClock.{CaptureClock}
+use Rattle.capture_import.specs.declared.route.Route.{Route}
+use Rattle.capture_import.specs.Clock.{clock_begun}
+use Rattle.capture_import.specs.Trace.{packet_clock, route_of}
+use Rattle.studio_mix.specs.Feed.{Feed}
+use Rattle.studio_spec.specs.Studio.{Studio}
+use Rattle.studio_session.specs.Event.{TraceEvent}
+use Rattle.studio_engine.specs.Engine.{EngineState}
+use Rattle.studio_engine.specs.Session.{HasSession}
+use Rattle.studio_run.specs.Buffer.{BreaksOff, PassesOn}
+use Rattle.studio_run.specs.Listing.{datagrams_text}
+use Rattle.studio_run.proofs.BufferLemmas.{BreaksOff-finished, BreaksOff-later, PassesOn-finished, PassesOn-trans}
+use Rattle.capture_replay.specs.declared.fault.ReplayFault.{ReplayFault}
+use Rattle.capture_replay.specs.declared.fault.ReplayFault.TheVariants.{Memory, Capture, Run as RunOf, Full, Write}
+use Rattle.capture_replay.specs.declared.run.Run.{Run}
+use Rattle.capture_replay.specs.Lines.{BreaksLines}
+use Rattle.capture_replay.specs.Replay.{BeginsWith, BreaksAt, HasReplayed, HasTaken, IsReason, IsReplaying, IsRun, IsOwn, Stops, StopsAt, StopsFile}
+use Rattle.capture_replay.specs.Events.{AreFirst, clock_after, events_of, events_with}
+use Rattle.capture_replay.proofs.CaseLemmas.{some_maps}
+use Rattle.capture_replay.proofs.EventLemmas.{clock_more, events_more, first_longer, first_same}
+use Rattle.capture_replay.proofs.LineLemmas.{lines_more}
+
+-- lines of more datagrams follow
+pub wrote_more : (a b c : Option (List ℕ)) (h i : List ℕ) (datagrams more : List (List ℕ)) → PassesOn a [] b h (datagrams_text datagrams) → PassesOn b h c i (datagrams_text more)
+    → PassesOn a [] c i (datagrams_text (datagrams ++ more))
+wrote_more a b c h i datagrams more first second =
+    subst (PassesOn a [] c i) (sym (lines_more datagrams more)) (PassesOn-trans a b c [] h i (datagrams_text datagrams) (datagrams_text more) first second)
+
+pub broke_more : (studio : Studio) (engine : EngineState) (events : List TraceEvent) (a b c : Option (List ℕ)) (h : List ℕ) (datagrams : List (List ℕ)) → PassesOn a [] b h (datagrams_text datagrams)
+    → BreaksLines studio engine events datagrams b h c → BreaksAt studio events a c
+broke_more studio engine events a b c h datagrams first broken =
+    let both = subst (BreaksOff a [] c) (sym (lines_more datagrams broken.more)) (BreaksOff-later a b c [] h (datagrams_text datagrams) (datagrams_text broken.more) first broken.broke) in
+    record { datagrams = datagrams ++ broken.more; first = broken.stands.given.first; count = both.count; wrote = both.wrote }
+
+-- what was held is written
+pub broke_whole : (studio : Studio) (events : List TraceEvent) (a b c : Option (List ℕ)) (run : Run) → HasReplayed studio events a run b → Appends b c run.text → BreaksAt studio events a c
+broke_whole studio events a b c run r rest = record {
+  datagrams = r.datagrams;
+  first = r.session.given.first;
+  count = length (datagrams_text r.datagrams);
+  wrote = subst (Appends a c) (sym (take-length (datagrams_text r.datagrams))) (PassesOn-finished a b c run.text (datagrams_text r.datagrams) r.wrote rest);
+}
+
+pub broke_part : (studio : Studio) (events : List TraceEvent) (a b c : Option (List ℕ)) (run : Run) → HasReplayed studio events a run b
+    → (n : ℕ) × (n < length run.text) × Appends b c (take n run.text) → BreaksAt studio events a c
+broke_part studio events a b c run r part =
+    let broken = BreaksOff-finished a b c run.text (datagrams_text r.datagrams) r.wrote part in
+    record { datagrams = r.datagrams; first = r.session.given.first; count = broken.count; wrote = broken.wrote }
+
+-- a fault of an event, where all that was given is written or held
+pub stops_at_run : (studio : Studio) (events : List TraceEvent) (a b : Option (List ℕ)) (run : Run) (fault : ReplayFault) → IsRun fault → HasReplayed studio events a run b → StopsAt studio events a run b fault
+stops_at_run studio events a b run Memory kind r = absurd kind
+stops_at_run studio events a b run (Capture fault) kind r = absurd kind
+stops_at_run studio events a b run (RunOf fault) kind r = r
+stops_at_run studio events a b run Full kind r = r
+stops_at_run studio events a b run Write kind r = absurd kind
+
+-- what stops before some events stops before more
+pub stops_longer : (studio : Studio) (all longer : List TraceEvent) (a c : Option (List ℕ)) (run : Run) (fault : ReplayFault) → AreFirst all longer
+    → Stops studio all a run c fault → Stops studio longer a run c fault
+stops_longer studio all longer a c run fault first stops = record { events = stops.events; first = first_longer stops.events all longer stops.first first; at = stops.at }
+
+-- a stream for each cursor
+pub streams_of_session : (studio : Studio) (engine : EngineState) (events : List TraceEvent) (datagrams : List (List ℕ)) → HasSession studio engine events datagrams
+    → length studio.streams ≡ length engine.cursors
+streams_of_session studio engine events datagrams s =
+    let played = s.given.played in
+    ap length (sym played.fed.streams) ∙ length-map played.feeds (λ (feed : Feed). feed.stream) ∙ sym played.count
+
+-- a file that told packets begins with them
+pub begins : (file : List ℕ) (packets : List PacketView) (left : Option (List ℕ)) (parts : Parts) (held : List ℕ) (ended : Bool) → HasTold file packets left parts held ended → BeginsWith file packets
+begins file packets left parts held ended told = record { items = items_at parts (held ++ told.rest); all = told.all }
+
+pub begins_whole : (file : List ℕ) (packets : List PacketView) → HasPackets file packets → BeginsWith file packets
+begins_whole file packets whole = record { items = []; all = whole ∙ sym (append-nil (map Ok packets)) }
+
+pub own_reason : (file : List ℕ) (packets : List PacketView) (fault : ReplayFault) → IsOwn fault → IsReason file packets fault
+own_reason file packets Memory kind = tt
+own_reason file packets (Capture fault) kind = absurd kind
+own_reason file packets (RunOf fault) kind = tt
+own_reason file packets Full kind = tt
+own_reason file packets Write kind = tt
+
+pub long_reason : (file : List ℕ) (packets : List PacketView) (fault : ReaderFault) → IsLong fault → IsReason file packets (Capture fault)
+long_reason file packets reader.Unread kind = tt
+long_reason file packets (reader.Capture fault) kind = absurd kind
+long_reason file packets (reader.Long place) kind = tt
+long_reason file packets reader.Memory kind = absurd kind
+
+-- one packet more was taken
+next_events : (studio : Studio) (routes : List Route) (packets : List PacketView) (packet : PacketView) (clock : CaptureClock) → clock ≡ clock_after routes clock_begun packets
+    → events_with studio.open_at clock (events_of studio routes packets) packet (route_of routes packet) ≡ events_of studio routes (packets ++ packet ∷ [])
+next_events studio routes packets packet clock is =
+    ap (λ k. events_with studio.open_at k (events_of studio routes packets) packet (route_of routes packet)) is
+    ∙ sym (events_more studio.open_at routes clock_begun [] packets packet)
+
+pub taken_more : (studio : Studio) (routes : List Route) (packets : List PacketView) (packet : PacketView) (a b c : Option (List ℕ)) (old new : Run) → HasTaken studio routes packets a old b
+    → new.clock ≡ packet_clock old.clock packet (route_of routes packet)
+    → HasReplayed studio (events_with studio.open_at old.clock (events_of studio routes packets) packet (route_of routes packet)) a new c
+    → HasTaken studio routes (packets ++ packet ∷ []) a new c
+taken_more studio routes packets packet a b c old new taken clock replayed = record {
+  clock = clock ∙ ap (λ k. packet_clock k packet (route_of routes packet)) taken.clock ∙ sym (clock_more routes clock_begun packets packet);
+  replayed = subst (λ l. HasReplayed studio l a new c) (next_events studio routes packets packet old.clock taken.clock) replayed;
+}
+
+pub stops_more : (studio : Studio) (routes : List Route) (packets : List PacketView) (packet : PacketView) (a b c : Option (List ℕ)) (old new : Run) (fault : ReplayFault) → HasTaken studio routes packets a old b
+    → Stops studio (events_with studio.open_at old.clock (events_of studio routes packets) packet (route_of routes packet)) a new c fault
+    → Stops studio (events_of studio routes (packets ++ packet ∷ [])) a new c fault
+stops_more studio routes packets packet a b c old new fault taken stops = subst (λ l. Stops studio l a new c fault) (next_events studio routes packets packet old.clock taken.clock) stops
+
+pub taken_same : (studio : Studio) (routes : List Route) (packets : List PacketView) (a c : Option (List ℕ)) (run : Run) → HasTaken studio routes packets a run c → HasTaken studio routes (packets ++ []) a run c
+taken_same studio routes packets a c run taken = subst (λ l. HasTaken studio routes l a run c) (sym (append-nil packets)) taken
+
+-- a file told the same packets, as more of it was read
+pub replaying_read : (studio : Studio) (routes : List Route) (first a : Option (List ℕ)) (run : Run) (parts : Parts) (held held' : List ℕ) (ended ended' : Bool) (left left' c : Option (List ℕ))
+    → ((file : List ℕ) (packets : List PacketView) → HasTold file packets left parts held ended → HasTold file packets left' parts held' ended')
+    → IsReplaying studio routes first a run parts held ended left c → IsReplaying studio routes first a run parts held' ended' left' c
+replaying_read studio routes first a run parts held held' ended ended' left left' c reads r = record {
+  packets = r.packets;
+  told = some_maps first _ _ (λ file told. reads file r.packets told) r.told;
+  taken = r.taken;
+}
+
+-- a fault comes behind the packets that were told
+pub stops_behind : (studio : Studio) (routes : List Route) (first a : Option (List ℕ)) (run : Run) (parts : Parts) (held : List ℕ) (ended : Bool) (left c : Option (List ℕ)) (fault : ReplayFault)
+    (r : IsReplaying studio routes first a run parts held ended left c) → ((file : List ℕ) → HasTold file r.packets left parts held ended → IsReason file r.packets fault)
+    → ((events : List TraceEvent) → HasReplayed studio events a run c → StopsAt studio events a run c fault) → StopsFile studio routes first a run c fault
+stops_behind studio routes first a run parts held ended left c fault r reason at = record {
+  packets = r.packets;
+  told = some_maps first _ _ (λ file told. (begins file r.packets left parts held ended told, reason file told)) r.told;
+  stops = record { events = events_of studio routes r.packets; first = first_same (events_of studio routes r.packets); at = at (events_of studio routes r.packets) r.taken.replayed };
+}

@@ -1,0 +1,19 @@
+pub mod Flows
+pub mod Events
+pub mod Lines
+pub mod Replay
+pub use Rattle.capture_read.specs.Packet
+pub use Rattle.capture_read.specs.Capture
+pub use Rattle.capture_reader.specs.Window
+pub use Rattle.capture_reader.specs.Reader
+pub use Rattle.capture_streams.specs.Table
+pub use Rattle.capture_import.specs.Trace
+pub use Rattle.capture_import.specs.Clock
+pub use Rattle.mix_packets.specs.OutSpec
+pub use Rattle.path_merge.specs.Clock as MergeClock
+pub use Rattle.studio_spec.specs.Studio
+pub use Rattle.studio_session.specs.Event
+pub use Rattle.studio_engine.specs.Engine
+pub use Rattle.studio_engine.specs.Session
+pub use Rattle.studio_run.specs.Buffer
+pub use Rattle.studio_run.specs.Listing

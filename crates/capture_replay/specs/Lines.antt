@@ -1,0 +1,20 @@
+-- Lines of the datagrams that an engine gives.
+use Rattle.std.specs.Prelude.{ℕ, List, ◌++◌, Option}
+use Rattle.studio_spec.specs.Studio.{Studio}
+use Rattle.studio_session.specs.Event.{TraceEvent}
+use Rattle.studio_engine.specs.Engine.{EngineState}
+use Rattle.studio_engine.specs.Session.{HasSession}
+use Rattle.studio_run.specs.Buffer.{BreaksOff, PassesOn}
+use Rattle.studio_run.specs.Listing.{datagrams_text}
+
+-- it gave more datagrams, and their lines follow what was held
+pub record GivesLines (studio : Studio) (engine : EngineState) (events : List TraceEvent) (datagrams : List (List ℕ)) (written : Option (List ℕ)) (held : List ℕ) (written_then : Option (List ℕ)) (held_then : List ℕ) : Type 0 where
+  pub more : List (List ℕ)
+  pub stands : HasSession studio engine events (datagrams ++ more)
+  pub wrote : PassesOn written held written_then held_then (datagrams_text more)
+
+-- or a part of them was written, from the front
+pub record BreaksLines (studio : Studio) (engine : EngineState) (events : List TraceEvent) (datagrams : List (List ℕ)) (written : Option (List ℕ)) (held : List ℕ) (written_then : Option (List ℕ)) : Type 0 where
+  pub more : List (List ℕ)
+  pub stands : HasSession studio engine events (datagrams ++ more)
+  pub broke : BreaksOff written held written_then (datagrams_text more)

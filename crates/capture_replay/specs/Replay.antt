@@ -1,0 +1,145 @@
+-- The report of a capture, and how far it was written.
+use Rattle.std.specs.Prelude.{◌≡◌, ◌⊎◌, ℕ, ◌++◌, Bool, false, List, [], take, map, Option, Ok, IfSome}
+use Rattle.std.specs.Io.KnownBytes.{Appends}
+use Rattle.capture_read.specs.declared.parts.Parts.{Parts}
+use Rattle.capture_read.specs.Packet.{PacketView}
+use Rattle.capture_read.specs.Capture.{Item, packets_of}
+use Rattle.capture_reader.specs.declared.fault.ReaderFault.{ReaderFault}
+use Rattle.capture_reader.specs.declared.fault.ReaderFault.TheVariants as reader
+use Rattle.capture_reader.specs.Reader.{HasPackets, HasTold, IsFaultBehind}
+use Rattle.capture_import.specs.declared.route.Route.{Route}
+use Rattle.capture_import.specs.Clock.{clock_begun}
+use Rattle.studio_spec.specs.Studio.{Studio}
+use Rattle.studio_mix.specs.Blocks.{AreFirstBlocks}
+use Rattle.studio_session.specs.Event.{TraceEvent}
+use Rattle.studio_session.specs.Fault.{closed_at}
+use Rattle.studio_session.specs.Play.{feeds_of}
+use Rattle.studio_engine.specs.Session.{HasSession}
+use Rattle.studio_run.specs.Buffer.{BreaksOff, PassesOn}
+use Rattle.studio_run.specs.Listing.{datagrams_text}
+use Rattle.studio_run.specs.Play.{WritesEvents}
+use Rattle.studio_run.specs.StudioReport.{IsReport}
+use Rattle.capture_replay.specs.declared.fault.ReplayFault.{ReplayFault}
+use Rattle.capture_replay.specs.declared.fault.ReplayFault.TheVariants.{Memory, Capture, Run as RunOf, Full, Write}
+use Rattle.capture_replay.specs.declared.run.Run.{Run}
+use Rattle.capture_replay.specs.Events.{AreFirst, clock_after, events_of, replay_events}
+
+-- the engine took these events, and the lines of what it gave were written or are held
+pub record HasReplayed (studio : Studio) (events : List TraceEvent) (written : Option (List ℕ)) (run : Run) (written_then : Option (List ℕ)) : Type 0 where
+  pub datagrams : List (List ℕ)
+  pub session : HasSession studio run.engine events datagrams
+  pub rested : run.engine.turning ≡ false
+  pub open_yet : closed_at false events ≡ false
+  pub wrote : PassesOn written [] written_then run.text (datagrams_text datagrams)
+
+-- of the lines of the datagrams that these events give a part from the front was written
+pub record BreaksAt (studio : Studio) (events : List TraceEvent) (written written_then : Option (List ℕ)) : Type 0 where
+  pub datagrams : List (List ℕ)
+  pub first : AreFirstBlocks studio (feeds_of studio events) datagrams
+  pub count : ℕ
+  pub wrote : Appends written written_then (take count (datagrams_text datagrams))
+
+-- a fault came after these events: what is written is a part from the front, or what is written and held is whole
+abbrev pub StopsAt : Studio → List TraceEvent → Option (List ℕ) → Run → Option (List ℕ) → ReplayFault → Type 0
+StopsAt studio events written run written_then Memory = ⊥
+StopsAt studio events written run written_then (Capture fault) = HasReplayed studio events written run written_then
+StopsAt studio events written run written_then (RunOf fault) = HasReplayed studio events written run written_then
+StopsAt studio events written run written_then Full = HasReplayed studio events written run written_then
+StopsAt studio events written run written_then Write = BreaksAt studio events written written_then
+
+-- it came before all of these events were taken
+pub record Stops (studio : Studio) (all : List TraceEvent) (written : Option (List ℕ)) (run : Run) (written_then : Option (List ℕ)) (fault : ReplayFault) : Type 0 where
+  pub events : List TraceEvent
+  pub first : AreFirst events all
+  pub at : StopsAt studio events written run written_then fault
+
+-- a file begins with these packets
+pub record BeginsWith (file : List ℕ) (packets : List PacketView) : Type 0 where
+  pub items : List Item
+  pub all : packets_of file ≡ map Ok packets ++ items
+
+-- the events of these packets were taken, and the clock is theirs
+pub record HasTaken (studio : Studio) (routes : List Route) (packets : List PacketView) (written : Option (List ℕ)) (run : Run) (written_then : Option (List ℕ)) : Type 0 where
+  pub clock : run.clock ≡ clock_after routes clock_begun packets
+  pub replayed : HasReplayed studio (events_of studio routes packets) written run written_then
+
+-- the packets that a file so far told were replayed
+pub record IsReplaying (studio : Studio) (routes : List Route) (first : Option (List ℕ)) (written : Option (List ℕ)) (run : Run) (parts : Parts) (held : List ℕ) (ended : Bool) (left written_then : Option (List ℕ)) : Type 0 where
+  pub packets : List PacketView
+  pub told : IfSome first (λ file. HasTold file packets left parts held ended)
+  pub taken : HasTaken studio routes packets written run written_then
+
+-- all of a file's were, which has no fault
+pub record HasGoneOver (studio : Studio) (routes : List Route) (first : Option (List ℕ)) (written : Option (List ℕ)) (run : Run) (written_then : Option (List ℕ)) : Type 0 where
+  pub packets : List PacketView
+  pub told : IfSome first (λ file. HasPackets file packets)
+  pub replayed : HasReplayed studio (events_of studio routes packets) written run written_then
+
+-- a file's fault is the one behind its packets
+abbrev pub IsFileFault : List ℕ → List PacketView → ReaderFault → Type 0
+IsFileFault file packets reader.Unread = Unit {0}
+IsFileFault file packets (reader.Capture fault) = IsFaultBehind file packets fault
+IsFileFault file packets (reader.Long place) = Unit {0}
+IsFileFault file packets reader.Memory = Unit {0}
+
+abbrev pub IsReason : List ℕ → List PacketView → ReplayFault → Type 0
+IsReason file packets Memory = Unit {0}
+IsReason file packets (Capture fault) = IsFileFault file packets fault
+IsReason file packets (RunOf fault) = Unit {0}
+IsReason file packets Full = Unit {0}
+IsReason file packets Write = Unit {0}
+
+-- a fault came among the events of a file's first packets, or behind them
+pub record StopsFile (studio : Studio) (routes : List Route) (first : Option (List ℕ)) (written : Option (List ℕ)) (run : Run) (written_then : Option (List ℕ)) (fault : ReplayFault) : Type 0 where
+  pub packets : List PacketView
+  pub told : IfSome first (λ file. BeginsWith file packets × IsReason file packets fault)
+  pub stops : Stops studio (events_of studio routes packets) written run written_then fault
+
+-- the report of a file's events was written; it has no fault
+pub record WritesReplay (studio : Studio) (routes : List Route) (left : Option (List ℕ)) (written written_then : Option (List ℕ)) : Type 0 where
+  pub packets : List PacketView
+  pub told : IfSome left (λ file. HasPackets file packets)
+  pub writes : WritesEvents studio IsReport (replay_events studio routes packets) written written_then
+
+-- of the report of events a part from the front was written: of its datagrams, or of all
+abbrev pub BreaksReport : Studio → List TraceEvent → Option (List ℕ) → Option (List ℕ) → Type 0
+BreaksReport studio events written written_then =
+    BreaksAt studio events written written_then ⊎ ((report : List ℕ) → IsReport studio events report → BreaksOff written [] written_then report)
+
+-- a part from the front of it was: of the datagrams of its first events, or of all
+pub record WritesFront (studio : Studio) (routes : List Route) (left : Option (List ℕ)) (written written_then : Option (List ℕ)) (fault : ReplayFault) : Type 0 where
+  pub packets : List PacketView
+  pub told : IfSome left (λ file. BeginsWith file packets × IsReason file packets fault)
+  pub events : List TraceEvent
+  pub first : AreFirst events (replay_events studio routes packets)
+  pub front : BreaksReport studio events written written_then
+
+-- why the report was not written: memory was refused before, or a fault came after a part of it
+abbrev pub BreaksOffReplay : Studio → List Route → Option (List ℕ) → Option (List ℕ) → Option (List ℕ) → ReplayFault → Type 0
+BreaksOffReplay studio routes left written written_then Memory = written_then ≡ written
+BreaksOffReplay studio routes left written written_then (Capture fault) = WritesFront studio routes left written written_then (Capture fault)
+BreaksOffReplay studio routes left written written_then (RunOf fault) = WritesFront studio routes left written written_then (RunOf fault)
+BreaksOffReplay studio routes left written written_then Full = WritesFront studio routes left written written_then Full
+BreaksOffReplay studio routes left written written_then Write = WritesFront studio routes left written written_then Write
+
+-- an event is at fault, or there are too many
+abbrev pub IsRun : ReplayFault → Type 0
+IsRun Memory = ⊥
+IsRun (Capture fault) = ⊥
+IsRun (RunOf fault) = Unit {0}
+IsRun Full = Unit {0}
+IsRun Write = ⊥
+
+-- or a write failed
+abbrev pub IsOwn : ReplayFault → Type 0
+IsOwn Memory = ⊥
+IsOwn (Capture fault) = ⊥
+IsOwn (RunOf fault) = Unit {0}
+IsOwn Full = Unit {0}
+IsOwn Write = Unit {0}
+
+-- the run took some events, and may be closed
+pub record CanClose (studio : Studio) (run : Run) (written_then : Option (List ℕ)) : Type 0 where
+  pub events : List TraceEvent
+  pub written : Option (List ℕ)
+  pub replayed : HasReplayed studio events written run written_then

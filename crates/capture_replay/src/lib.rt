@@ -1,0 +1,17 @@
+//! A capture of any length, played to its report in memory that its length doesn't change.
+//!
+//! `flows_of` goes over the file once, for its flows, of which `capture_import` makes routes. `replay` goes over it once more, and
+//! writes the report of the events that the capture says by these routes: those of the trace that `capture_import` writes.
+#![tactic(auto)]
+
+mod counts;
+mod fault;
+mod flows;
+mod go_over;
+mod player;
+mod run;
+mod turn;
+
+pub use fault::ReplayFault;
+pub use flows::flows_of;
+pub use player::replay;

@@ -1,0 +1,66 @@
+//! The datagrams that an engine gives, as lines.
+ghost use Rattle.std.specs.Prelude.{◌≡◌, ◌⊎◌, ◌≤◌, ℕ, List, OnOk, OnErr, None, true, false};
+ghost use Rattle.mix_packets.specs.OutSpec.{datagram_length};
+ghost use Rattle.path_merge.specs.Clock.{clock_fault_of};
+ghost use Rattle.studio_spec.specs.Studio.{Studio};
+ghost use Rattle.studio_session.specs.Event.{TraceEvent};
+ghost use Rattle.studio_engine.specs.Session.{HasSession, turned};
+ghost use Rattle.capture_replay.specs.Lines.{BreaksLines, GivesLines};
+
+use std::io::Write;
+use studio_engine::Engine;
+use studio_run::{TextBuffer, WriteFault, write_datagram};
+use studio_session::MOST_OUTPUT_OCTETS;
+
+/// Moves an engine on to a reading, and writes the lines of the datagrams that it gives.
+pub(crate) fn write_turn<W: Write>(
+    engine: &mut Engine,
+    now: i64,
+    text: &mut TextBuffer,
+    writer: &mut W,
+) -> Result<(), WriteFault>
+    requires short { datagram_length engine.old.mixer.packer.spec ≤ 1452 }
+    ensures ok { OnOk result ((studio : Studio) (events : List TraceEvent) (datagrams : List (List ℕ)) → HasSession studio engine.old events datagrams → clock_fault_of engine.old.time engine.old.closed now ≡ None
+        → GivesLines studio engine.new (turned engine.old.time now events) datagrams (W.contents writer.old) text.old (W.contents writer.new) text.new) }
+    ensures rested { OnOk result ((studio : Studio) (events : List TraceEvent) (datagrams : List (List ℕ)) → HasSession studio engine.old events datagrams → clock_fault_of engine.old.time engine.old.closed now ≡ None
+        → engine.new.turning ≡ false) }
+    ensures fault { OnErr result ((studio : Studio) (events : List TraceEvent) (datagrams : List (List ℕ)) → HasSession studio engine.old events datagrams → clock_fault_of engine.old.time engine.old.closed now ≡ None
+        → BreaksLines studio engine.new (turned engine.old.time engine.new.time events) datagrams (W.contents writer.old) text.old (W.contents writer.new)) }
+    ensures time { (engine.new.time ≡ engine.old.time) ⊎ (engine.new.time ≡ now) }
+    ensures output { engine.new.mixer.packer.spec ≡ engine.old.mixer.packer.spec }
+    ensures closed { engine.new.closed ≡ engine.old.closed }
+{
+    let mut out = [0; MOST_OUTPUT_OCTETS];
+    'rounds: loop {
+        let Ok(given) = engine.turn(now, &mut out) else {
+            // No engine that has a session comes here, at a reading that its clock takes.
+            return Err(WriteFault);
+        };
+        match given {
+            Some(len) => write_datagram(text, writer, &out[..len])?,
+            None => return Ok(()),
+        }
+    }
+}
+
+/// Writes the lines of the datagrams that are left after a close.
+pub(crate) fn write_rest<W: Write>(
+    engine: &mut Engine,
+    text: &mut TextBuffer,
+    writer: &mut W,
+) -> Result<(), WriteFault>
+    requires short { datagram_length engine.old.mixer.packer.spec ≤ 1452 }
+    ensures ok { OnOk result ((studio : Studio) (events : List TraceEvent) (datagrams : List (List ℕ)) → HasSession studio engine.old events datagrams
+        → GivesLines studio engine.new events datagrams (W.contents writer.old) text.old (W.contents writer.new) text.new) }
+    ensures settled { OnOk result (engine.new.settled ≡ engine.old.closed) }
+    ensures fault { OnErr result ((studio : Studio) (events : List TraceEvent) (datagrams : List (List ℕ)) → HasSession studio engine.old events datagrams
+        → BreaksLines studio engine.new events datagrams (W.contents writer.old) text.old (W.contents writer.new)) }
+{
+    let mut out = [0; MOST_OUTPUT_OCTETS];
+    'rounds: loop {
+        match engine.drain(&mut out) {
+            Some(len) => write_datagram(text, writer, &out[..len])?,
+            None => return Ok(()),
+        }
+    }
+}
