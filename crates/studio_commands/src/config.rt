@@ -4,6 +4,7 @@ ghost use Rattle.wav_file.specs.File.{Holds};
 
 use crate::fault::{ConfigFault, Fault};
 use std::alloc::Global;
+use std::io::Read;
 use studio_run::ReadFault;
 use studio_spec::{Kind, SpecError, StudioSpec};
 use studio_wav::FileFault;
@@ -16,6 +17,12 @@ const MOST_OCTETS: usize = 1_048_576;
 pub trait Configs {
     /// A file that is written.
     type File: Overwrite + Drop;
+
+    /// A file that is read.
+    type Input: Read + Drop;
+
+    /// The file at a path, to be read from its front.
+    fn open(&self, path: &str) -> Result<Self::Input, ReadFault>;
 
     /// The octets of the file at a path.
     fn octets(&self, alloc: Global, path: &str) -> Result<Vec<u8>, ReadFault>;

@@ -1,6 +1,8 @@
 //! The faults of a run: their lines and exit statuses.
 use capture_import::ImportFault;
 use capture_read::CaptureFault;
+use capture_reader::ReaderFault;
+use capture_replay::ReplayFault;
 use live_parts::HandedFault;
 use std::io::Write;
 use studio_live::LiveFault;
@@ -41,6 +43,9 @@ pub enum Fault {
     /// The capture is at fault.
     #[error("{0}")]
     Capture(CaptureError),
+    /// A capture was not replayed to its end.
+    #[error("{0}")]
+    Replay(#[from] ReplayFault),
     /// No WAV file is written of a stream, after the file's path.
     #[error("{0}")]
     Solo(StreamFault),
@@ -99,6 +104,7 @@ impl Fault {
             Fault::Capture(_) => 1,
             Fault::Config(_) => 3,
             Fault::Play(fault) => play_status(fault),
+            Fault::Replay(fault) => replay_status(fault),
             Fault::Live(LiveFault::Memory) | Fault::Handed(HandedFault::Memory) | Fault::Memory =>
                 4,
             Fault::Live(_) | Fault::Handed(_) | Fault::Clock | Fault::Wav(_) | Fault::Write => 5,
@@ -118,5 +124,15 @@ fn play_status(fault: &PlayFault) -> u8 {
         PlayFault::Memory | PlayFault::Run(StudioFault::Memory(_)) => 4,
         PlayFault::Trace(_) | PlayFault::Run(_) => 1,
         PlayFault::Read | PlayFault::Write => 5,
+    }
+}
+
+/// The exit status of a capture that was not replayed to its end.
+fn replay_status(fault: &ReplayFault) -> u8 {
+    match fault {
+        ReplayFault::Memory | ReplayFault::Capture(ReaderFault::Memory) => 4,
+        ReplayFault::Capture(ReaderFault::Unread) | ReplayFault::Write => 5,
+        ReplayFault::Run(StudioFault::Memory(_)) => 4,
+        ReplayFault::Capture(_) | ReplayFault::Run(_) | ReplayFault::Full => 1,
     }
 }

@@ -48,7 +48,7 @@ pub fn import_capture<C: Configs, W: Write, E: Write>(
 }
 
 /// A capture's own fault, or why it has no routes.
-fn unrouted(table: &Table, fault: ImportFault) -> Fault {
+pub(crate) fn unrouted(table: &Table, fault: ImportFault) -> Fault {
     match (fault, table.fault()) {
         (ImportFault::NoFlow | ImportFault::Unknown, Some(fault)) => {
             Fault::Capture(CaptureError::Octet(fault))

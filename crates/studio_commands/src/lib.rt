@@ -1,5 +1,5 @@
 //! The program's commands: to list the marks of a trace, to play it to its report, to run a studio live, to say what
-//! a configuration means, and what RTP audio a capture holds, which is imported as a trace.
+//! a configuration means, and what RTP audio a capture holds, which is imported as a trace, or replayed.
 //!
 //! `run` is the whole: from the words of a command line to its exit status. Where configurations, captures and WAV files lie is the
 //! caller's: it hands in `Configs`.
@@ -12,6 +12,7 @@ mod import;
 mod live;
 mod named_file;
 mod program;
+mod replay;
 mod summary;
 mod wav;
 mod words;

@@ -4,6 +4,7 @@ use crate::config::{Configs, config_of, standard_studio, studio_of};
 use crate::fault::Fault;
 use crate::import::import_capture;
 use crate::live::run_config;
+use crate::replay::replay_capture;
 use crate::summary::write_summary;
 use crate::wav::{list_to_wav, play_to_wav};
 use crate::words::{Asked, asked_for, told};
@@ -95,6 +96,7 @@ fn answer<
         Asked::Import(path, options) => {
             import_capture(configs, alloc, path, &options, output, faults)
         }
+        Asked::Replay(config, path) => replay_capture(configs, alloc, config, path, output),
         Asked::Live(path, words) => {
             let config = config_of(configs, alloc, path)?;
             run_config(rt, alloc, config.as_slice(), words, output, faults)

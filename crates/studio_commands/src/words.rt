@@ -44,6 +44,8 @@ pub enum Asked<'a> {
     Streams(&'a str),
     /// A capture as a trace, or the configuration that fits it.
     Import(&'a str, ImportOptions<'a>),
+    /// The report of a capture: by the configuration at the first path, of the capture at the second.
+    Replay(&'a str, &'a str),
     /// A run of a configuration's studio on sockets.
     Live(&'a str, LiveWords<'a>),
 }
@@ -70,6 +72,7 @@ fn asked_of_config<'a>(name: &str, path: &'a str, matches: &ArgMatches<'a>) -> A
         "play" => play_in(path, matches),
         "chart" => Asked::Chart(path),
         "check" => Asked::Check(path),
+        "replay" => Asked::Replay(path, matches.get_str("FILE").unwrap_or(path)),
         "live" => Asked::Live(path, live_words(matches)),
         _ => marks_in(path, matches),
     }
@@ -152,6 +155,7 @@ fn with_trace_words<'a>(alloc: Global, command: Command<'a>) -> Result<Command<'
 fn with_other_words<'a>(alloc: Global, command: Command<'a>) -> Result<Command<'a>, AllocError> {
     let command = command.subcommand(streams_command(alloc)?)?;
     let command = command.subcommand(import_command(alloc)?)?;
+    let command = command.subcommand(replay_command(alloc)?)?;
     command.subcommand(live_command(alloc)?)
 }
 
@@ -199,6 +203,12 @@ fn import_command<'a>(alloc: Global) -> Result<Command<'a>, AllocError> {
         )))
 }
 
+/// The word of a capture's report.
+fn replay_command<'a>(alloc: Global) -> Result<Command<'a>, AllocError> {
+    let about = "Plays a capture of any length, as play does the trace that import writes of it";
+    with_config(alloc, "replay", about)?.arg(capture_arg(alloc))
+}
+
 /// The word of a live run.
 fn live_command<'a>(alloc: Global) -> Result<Command<'a>, AllocError> {
     let about =
@@ -240,10 +250,16 @@ fn with_capture<'a>(
     name: &'a str,
     about: &'a str,
 ) -> Result<Command<'a>, AllocError> {
-    let file = Arg::new(alloc, "FILE")
+    Command::new(alloc, name)
+        .about(about)
+        .arg(capture_arg(alloc))
+}
+
+/// The path of a capture.
+fn capture_arg<'a>(alloc: Global) -> Arg<'a> {
+    Arg::new(alloc, "FILE")
         .help("The capture, a pcap or pcapng file")
-        .required(true);
-    Command::new(alloc, name).about(about).arg(file)
+        .required(true)
 }
 
 /// A word that stands alone.

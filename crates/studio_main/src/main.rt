@@ -20,6 +20,12 @@ struct HostConfigs<'a> {
 impl Configs for HostConfigs<'_> {
     type File = OverFile<fs::File>;
 
+    type Input = fs::File;
+
+    fn open(&self, path: &str) -> Result<fs::File, ReadFault> {
+        fs::open(self.rt, path).map_err(|_| ReadFault::Device)
+    }
+
     fn octets(&self, alloc: Global, path: &str) -> Result<Vec<u8>, ReadFault> {
         let Ok(mut file) = fs::open(self.rt, path) else {
             return Err(ReadFault::Device);
