@@ -26,11 +26,17 @@ pub(super) fn studio_of(rt: &impl Abort, alloc: Global, width: u16) -> Result<St
     Ok(studio_in(rt, alloc, MEDIA, width).ok_or("want of memory")?)
 }
 
+/// Its stream by a clock.
+fn stream_in(rt: &impl Abort, clock: StreamClock, width: u16) -> StreamSpec {
+    match StreamSpec::new(Enc::L24, 1, 6, 96, None, clock, 12, width, 2) {
+        Ok(spec) => spec,
+        Err(_) => { panic!(rt; "a stream") }
+    }
+}
+
 /// The same by a clock; none where memory is refused.
 fn studio_in(rt: &impl Abort, alloc: Global, clock: StreamClock, width: u16) -> Option<StudioSpec> {
-    let Ok(spec) = StreamSpec::new(Enc::L24, 1, 6, 96, None, clock, 12, width, 2) else {
-        panic!(rt; "a stream")
-    };
+    let spec = stream_in(rt, clock, width);
     sum_of(alloc, &[spec], 6)
 }
 
@@ -202,13 +208,24 @@ struct TwoStreams {
     mix: MixEnd,
 }
 
-fn two_streams(alloc: Global) -> Result<TwoStreams, Fail> {
+/// The ends of a studio of two streams.
+fn open_two(alloc: Global) -> Result<Ends, Fail> {
     let studio = six_and_forty_eight(alloc, 1).ok_or("a studio")?;
-    let mut ends = open(alloc, &studio, 64)?;
-    let of_second = ends.paths.pop().ok_or("two paths")?;
-    let of_first = ends.paths.pop().ok_or("two paths")?;
-    let second = ends.streams.pop().ok_or("two streams")?;
-    let first = ends.streams.pop().ok_or("two streams")?;
+    Ok(open(alloc, &studio, 64)?)
+}
+
+/// The last two of a list, in its order.
+fn last_two<T: Drop>(rt: &impl Abort, list: &mut Vec<T>) -> (T, T) {
+    let (Some(second), Some(first)) = (list.pop(), list.pop()) else {
+        panic!(rt; "there are two")
+    };
+    (first, second)
+}
+
+fn two_streams(rt: &impl Abort, alloc: Global) -> Result<TwoStreams, Fail> {
+    let mut ends = open_two(alloc)?;
+    let (of_first, of_second) = last_two(rt, &mut ends.paths);
+    let (first, second) = last_two(rt, &mut ends.streams);
     Ok(TwoStreams {
         of_first,
         of_second,
@@ -264,7 +281,7 @@ fn mixes_in_order(rt: &impl Abort, alloc: Global, last_first: bool) -> Result<()
         mut first,
         mut second,
         mut mix,
-    } = two_streams(alloc)?;
+    } = two_streams(rt, alloc)?;
     offer_thousands_and_ones(rt, alloc, &mut of_first, &mut of_second)?;
     if last_first {
         give_in_turn(rt, &mut second, &mut first, &mut mix, 1);

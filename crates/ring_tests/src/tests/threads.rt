@@ -16,17 +16,11 @@ const PACKETS: u8 = 100;
 /// The packet of a number: six samples that say it.
 fn packet(number: u8) -> [u8; 30] {
     let [high, low] = u16::from(number).wrapping_mul(6).to_be_bytes();
-    let mut octets = [0u8; 30];
-    octets[0] = 0x80;
-    octets[1] = 0x60;
-    octets[3] = number;
-    octets[6] = high;
-    octets[7] = low;
-    octets[11] = 1;
-    for place in 0..6usize {
-        octets[12 + 3 * place + 2] = number;
-    }
-    octets
+    let n = number;
+    [
+        0x80, 0x60, 0, n, 0, 0, high, low, 0, 0, 0, 1, 0, 0, n, 0, 0, n, 0, 0, n, 0, 0, n, 0, 0, n,
+        0, 0, n,
+    ]
 }
 
 /// Waits a little.
