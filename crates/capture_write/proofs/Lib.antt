@@ -1,0 +1,3 @@
+mod PiecesLemmas
+mod PlacesLemmas
+mod PacketLemmas

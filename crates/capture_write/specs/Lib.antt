@@ -1,0 +1,5 @@
+pub mod Places
+pub mod Arrival
+pub mod Packet
+pub mod Blocks
+pub mod Times
