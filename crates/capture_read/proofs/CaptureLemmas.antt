@@ -3,6 +3,7 @@ use Rattle.std.proofs.Common.{◌≡◌, ◌≤◌, ◌+◌, ◌-◌, ℕ, zero,
 use Rattle.capture_read.specs.declared.cursor.Format.TheVariants as format
 use Rattle.capture_read.specs.declared.pcap.Pcap.{Pcap}
 use Rattle.capture_read.specs.declared.fault.FaultKind.{FaultKind}
+use Rattle.capture_read.specs.declared.mark.RecordMark.{RecordMark}
 use Rattle.capture_read.specs.declared.packet.Packet.{Packet}
 use Rattle.std.proofs.lemmas.List.{take_rest}
 use Rattle.capture_read.specs.Packet.{PacketView, packet_view}
@@ -52,34 +53,34 @@ unfolding packets_of
 packets_of-pcap octets pcap other e = rw other (ap (packets_behind octets) e)
 
 -- the same as a call leaves the capture behind a part
-packets_from-next : (state next : State) (place place' len : ℕ) (octets octets' : List ℕ) (packet : Option PacketView)
+packets_from-next : (state next : State) (place place' len : ℕ) (octets octets' : List ℕ) (packet : Option PacketView) (tells : Option RecordMark)
     → 1 ≤ length octets → 1 ≤ len
-    → (part_of state octets ≡ Ok (record { part = record { len = len; packet = packet }; section = next.section })) × (next.format ≡ state.format)
+    → (part_of state octets ≡ Ok (record { part = record { len = len; packet = packet; mark = tells }; section = next.section })) × (next.format ≡ state.format)
     → place' ≡ place → octets' ≡ octets
     → packets_from state place octets ≡ with_packet packet (packets_from next (place' + len) (take (length octets' - len) (drop len octets')))
-packets_from-next state next place place' len octets octets' packet some long has e f =
-    packets_from-part state place octets (record { part = record { len = len; packet = packet }; section = next.section }) some long has.0
+packets_from-next state next place place' len octets octets' packet tells some long has e f =
+    packets_from-part state place octets (record { part = record { len = len; packet = packet; mark = tells }; section = next.section }) some long has.0
     ∙ ap (λ form. with_packet packet (packets_from (record { format = form; section = next.section }) (place + len) (drop len octets))) (sym has.1)
     ∙ ap (λ at. with_packet packet (packets_from next (at + len) (drop len octets))) (sym e)
     ∙ ap (λ xs. with_packet packet (packets_from next (place' + len) (drop len xs))) (sym f)
     ∙ ap (λ xs. with_packet packet (packets_from next (place' + len) xs)) (sym (take_rest octets' len))
 
-pub packets_from-told : (state next : State) (place place' len : ℕ) (octets octets' : List ℕ) (found : Option Packet) (packet : Packet)
+pub packets_from-told : (state next : State) (place place' len : ℕ) (octets octets' : List ℕ) (found : Option Packet) (tells : Option RecordMark) (packet : Packet)
     → found ≡ Some packet → 1 ≤ length octets → 1 ≤ len
-    → (part_of state octets ≡ Ok (record { part = record { len = len; packet = option_map packet_view found }; section = next.section })) × (next.format ≡ state.format)
+    → (part_of state octets ≡ Ok (record { part = record { len = len; packet = option_map packet_view found; mark = tells }; section = next.section })) × (next.format ≡ state.format)
     → place' ≡ place → octets' ≡ octets
     → packets_from state place octets ≡ Ok (packet_view packet) ∷ packets_from next (place' + len) (take (length octets' - len) (drop len octets'))
-packets_from-told state next place place' len octets octets' found packet is some long has e f =
-    packets_from-next state next place place' len octets octets' (option_map packet_view found) some long has e f
+packets_from-told state next place place' len octets octets' found tells packet is some long has e f =
+    packets_from-next state next place place' len octets octets' (option_map packet_view found) tells some long has e f
     ∙ ap (λ p. with_packet (option_map packet_view p) (packets_from next (place' + len) (take (length octets' - len) (drop len octets')))) is
 
-pub packets_from-passed : (state next : State) (place place' len : ℕ) (octets octets' : List ℕ) (found : Option Packet)
+pub packets_from-passed : (state next : State) (place place' len : ℕ) (octets octets' : List ℕ) (found : Option Packet) (tells : Option RecordMark)
     → found ≡ None → 1 ≤ length octets → 1 ≤ len
-    → (part_of state octets ≡ Ok (record { part = record { len = len; packet = option_map packet_view found }; section = next.section })) × (next.format ≡ state.format)
+    → (part_of state octets ≡ Ok (record { part = record { len = len; packet = option_map packet_view found; mark = tells }; section = next.section })) × (next.format ≡ state.format)
     → place' ≡ place → octets' ≡ octets
     → packets_from next (place' + len) (take (length octets' - len) (drop len octets')) ≡ packets_from state place octets
-packets_from-passed state next place place' len octets octets' found is some long has e f =
-    sym (packets_from-next state next place place' len octets octets' (option_map packet_view found) some long has e f
+packets_from-passed state next place place' len octets octets' found tells is some long has e f =
+    sym (packets_from-next state next place place' len octets octets' (option_map packet_view found) tells some long has e f
     ∙ ap (λ p. with_packet (option_map packet_view p) (packets_from next (place' + len) (take (length octets' - len) (drop len octets')))) is)
 
 -- the same as a call leaves the capture at a fault: with no octets

@@ -1,5 +1,5 @@
 -- A record or a block is the same, whatever follows it.
-use Rattle.std.proofs.Common.{◌≡◌, ◌<◌, ◌≤◌, ◌+◌, ◌-◌, ◌*◌, ◌^◌, ◌%◌, ◌&&◌, ◌||◌, not, ℕ, zero, suc, Bool, true, false, List, [], ◌∷◌, ◌++◌, length, take, drop, get_or, Some, Result, Ok, Err, nat_lt, ◌==◌, cond, slice_range, refl, sym, ap, ◌∙◌, inl, inr, arith, length-append, length-drop}
+use Rattle.std.proofs.Common.{◌≡◌, ◌<◌, ◌≤◌, ◌+◌, ◌-◌, ◌*◌, ◌^◌, ◌%◌, ◌&&◌, ◌||◌, not, ℕ, zero, suc, Bool, true, false, List, [], ◌∷◌, ◌++◌, length, take, drop, get_or, Some, None, Result, Ok, Err, nat_lt, ◌==◌, cond, slice_range, refl, sym, ap, ◌∙◌, inl, inr, arith, length-append, length-drop}
 use Rattle.std.proofs.lemmas.Bool.Decides.{nat_tests}
 use Rattle.std.proofs.lemmas.Bool.{cases_lt}
 use Rattle.std.proofs.lemmas.List.{drop-append-le, take-append-le}
@@ -52,7 +52,7 @@ not_below a b h = grind (arith, nat_tests)
 
 -- a whole record
 abbrev record_by : Pcap → ℕ → ℕ → List ℕ → Result PartView FaultKind
-record_by pcap end time frame = Ok (record { len = end; packet = packet_in pcap.link (Some time) 0 frame })
+record_by pcap end time frame = Ok (record { len = end; packet = packet_in pcap.link (Some time) 0 frame; mark = None })
 
 record_whole : (pcap : Pcap) (octets : List ℕ) → 16 ≤ length octets → record_end pcap octets ≤ length octets
     → record_of pcap octets ≡ record_by pcap (record_end pcap octets) (record_time pcap octets) (slice_range octets 16 (record_end pcap octets))
@@ -139,7 +139,7 @@ length_within order octets len is = within (number_at order 4 4 octets) (sym (le
 
 within_front : (section : SectionView) (xs ys : List ℕ) (r : Result ℕ FaultKind) → ((len : ℕ) → r ≡ Ok len → len ≤ length xs)
     → and_then r (block_within section (xs ++ ys)) ≡ and_then r (block_within section xs)
-within_front section xs ys (Ok len) fits = ap (λ l. and_then (content_of section l) (with_length len)) (take-append-le len xs ys (fits len refl))
+within_front section xs ys (Ok len) fits = ap (λ l. and_then (content_of section l) (with_length len l)) (take-append-le len xs ys (fits len refl))
 within_front section xs ys (Err kind) fits = refl
 
 block_in-front : (interfaces : List Interface) (xs ys : List ℕ) (r : Result Order FaultKind) → 12 ≤ length xs → is_length_cut r xs ≡ false

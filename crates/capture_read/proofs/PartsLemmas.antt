@@ -9,6 +9,7 @@ use Rattle.capture_read.specs.declared.order.Order.TheVariants.{Big, Little}
 use Rattle.capture_read.specs.declared.pcap.Pcap.{Pcap}
 use Rattle.capture_read.specs.declared.pcap.Unit.{Unit as PcapUnit}
 use Rattle.capture_read.specs.declared.fault.FaultKind.{FaultKind}
+use Rattle.capture_read.specs.declared.mark.RecordMark.{RecordMark}
 use Rattle.capture_read.specs.Octets.{number_at}
 use Rattle.capture_read.specs.Packet.{PacketView}
 use Rattle.capture_read.specs.Pcap.{header_in, magic_of, pcap_of}
@@ -54,7 +55,7 @@ pcap_front front rest long =
     ∙ header_front front rest (magic_of front) long ∙ sym (pcap_whole front (omega (arith, long)))
 
 -- what the front shows of the header holds of the whole file
-same_header : (front rest : List ℕ) → IsEnough front rest → (is_pcapng (front ++ rest) ≡ is_pcapng front) × (pcap_of (front ++ rest) ≡ pcap_of front)
+pub same_header : (front rest : List ℕ) → IsEnough front rest → (is_pcapng (front ++ rest) ≡ is_pcapng front) × (pcap_of (front ++ rest) ≡ pcap_of front)
 same_header front rest (inl long) = (pcapng_front front rest long, pcap_front front rest long)
 same_header front rest (inr none) =
     let same : front ++ rest ≡ front = ap (λ l. front ++ l) none ∙ append-nil front in
@@ -84,17 +85,17 @@ unfolding part_as
 part_front (format.Pcap pcap) section front rest whole = ap (record_in section) (record_front pcap front rest whole)
 part_front format.Pcapng section front rest whole = block_front section front rest whole
 
-part_same : (state : State) (front rest : List ℕ) → (is_cut_as state.format state.section.order front ≡ false) ⊎ (rest ≡ []) → part_of state (front ++ rest) ≡ part_of state front
+pub part_same : (state : State) (front rest : List ℕ) → (is_cut_as state.format state.section.order front ≡ false) ⊎ (rest ≡ []) → part_of state (front ++ rest) ≡ part_of state front
 part_same state front rest (inl whole) = part_front state.format state.section front rest whole
 part_same state front rest (inr none) = ap (part_of state) (ap (λ l. front ++ l) none ∙ append-nil front)
 
-pub passed_part : (old new : State) (place place' len : ℕ) (front rest : List ℕ) (packet : Option PacketView) → 1 ≤ length front → 1 ≤ len → len ≤ length front
-    → (part_of old front ≡ Ok (record { part = record { len = len; packet = packet }; section = new.section })) × (new.format ≡ old.format) → place' ≡ place
+pub passed_part : (old new : State) (place place' len : ℕ) (front rest : List ℕ) (packet : Option PacketView) (tells : Option RecordMark) → 1 ≤ length front → 1 ≤ len → len ≤ length front
+    → (part_of old front ≡ Ok (record { part = record { len = len; packet = packet; mark = tells }; section = new.section })) × (new.format ≡ old.format) → place' ≡ place
     → (is_cut_as old.format old.section.order front ≡ false) ⊎ (rest ≡ [])
     → packets_from old place (front ++ rest) ≡ with_packet packet (packets_from new (place' + len) (drop len front ++ rest))
-passed_part old new place place' len front rest packet some long within has e whole =
+passed_part old new place place' len front rest packet tells some long within has e whole =
     let more = length-append front rest in
-    packets_from-part old place (front ++ rest) (record { part = record { len = len; packet = packet }; section = new.section }) (omega (arith, some, more)) long
+    packets_from-part old place (front ++ rest) (record { part = record { len = len; packet = packet; mark = tells }; section = new.section }) (omega (arith, some, more)) long
     (part_same old front rest whole ∙ has.0)
     ∙ ap (λ form. with_packet packet (packets_from (record { format = form; section = new.section }) (place + len) (drop len (front ++ rest)))) (sym has.1)
     ∙ ap (λ at. with_packet packet (packets_from new (at + len) (drop len (front ++ rest)))) (sym e)

@@ -1,5 +1,5 @@
 -- Interfaces of a section, and the times of their packets (pcapng, Interface Description Block).
-use Rattle.std.specs.Prelude.{◌-◌, ◌*◌, ◌/◌, ◌^◌, ℕ, List, length, slice_index, slice_range, Option, Some, None, Result, Ok, Err, nat_lt, ◌==◌, ◌&&◌, if◌then◌else◌, ℤ, pos, ◌+ℤ◌, ◌*ℤ◌, int_le, int_lt, unsigned_abs}
+use Rattle.std.specs.Prelude.{◌+◌, ◌-◌, ◌*◌, ◌/◌, ◌^◌, ℕ, List, length, slice_index, slice_range, Option, Some, None, Result, Ok, Err, nat_lt, ◌==◌, ◌&&◌, if◌then◌else◌, ℤ, pos, ◌+ℤ◌, ◌*ℤ◌, int_le, int_lt, unsigned_abs}
 use Rattle.std.specs.Int.{w64, cast_signed}
 use Rattle.capture_read.specs.declared.order.Order.{Order}
 use Rattle.capture_read.specs.declared.interface.Interface.{Interface}
@@ -46,6 +46,10 @@ interface_of order block =
 -- how many units a second has: a power of ten, or of two where the highest bit is set
 abbrev pub units_per_second : ℕ → ℕ
 units_per_second resolution = if nat_lt resolution 128 then 10 ^ resolution else 2 ^ (resolution - 128)
+
+-- the time of a block in its interface's units: two words behind twelve octets, the high one first
+abbrev pub time_units : Order → List ℕ → ℕ
+time_units order block = number_at order 4 12 block * 2 ^ 32 + number_at order 4 16 block
 
 -- the nanoseconds since 1970 of so many units, rounded down
 abbrev pub nanoseconds_of : Interface → ℕ → ℤ

@@ -4,9 +4,11 @@ pub mod Link
 pub mod Chain
 pub mod Options
 pub mod Interface
+pub mod Mark
 pub mod Packet
 pub mod Part
-pub mod Parts
 pub mod Pcap
 pub mod Section
 pub mod Capture
+pub mod Parts
+pub mod Marks

@@ -53,4 +53,5 @@ record_of pcap octets =
     else Ok (record {
       len = record_end pcap octets;
       packet = packet_in pcap.link (Some (record_time pcap octets)) 0 (slice_range octets 16 (record_end pcap octets));
+      mark = None;
     }))

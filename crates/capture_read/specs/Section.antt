@@ -1,5 +1,5 @@
 -- A section of the pcapng format, block by block (draft-ietf-opsawg-pcapng, General File Structure and Block Definitions).
-use Rattle.std.specs.Prelude.{◌≡◌, ◌+◌, ◌-◌, ◌*◌, ◌%◌, ◌^◌, ℕ, Bool, List, [], ◌∷◌, ◌++◌, length, take, slice_get, slice_range, Option, Some, None, option_map, Result, Ok, Err, MatchResult, nat_lt, ◌==◌, not, ◌&&◌, ◌||◌, if◌then◌else◌}
+use Rattle.std.specs.Prelude.{◌≡◌, ◌+◌, ◌-◌, ◌%◌, ℕ, Bool, List, [], ◌∷◌, ◌++◌, length, take, slice_get, slice_range, Option, Some, None, option_map, Result, Ok, Err, MatchResult, nat_lt, ◌==◌, not, ◌&&◌, ◌||◌, if◌then◌else◌}
 use Rattle.capture_read.specs.declared.order.Order.{Order}
 use Rattle.capture_read.specs.declared.order.Order.TheVariants.{Big, Little}
 use Rattle.capture_read.specs.declared.interface.Interface.{Interface}
@@ -11,8 +11,9 @@ use Rattle.capture_read.specs.declared.fault.FaultKind.{FaultKind}
 use Rattle.capture_read.specs.declared.fault.FaultKind.TheVariants as fault
 use Rattle.capture_read.specs.Octets.{number_at}
 use Rattle.capture_read.specs.Chain.{and_then}
-use Rattle.capture_read.specs.Interface.{interface_of, time_of}
+use Rattle.capture_read.specs.Interface.{interface_of, time_of, time_units}
 use Rattle.capture_read.specs.Packet.{PacketView, packet_in, packet_view}
+use Rattle.capture_read.specs.Mark.{mark_of}
 use Rattle.capture_read.specs.Part.{PartView}
 
 -- what the blocks of a section said so far: the order of its octets, and its interfaces by number
@@ -68,12 +69,9 @@ section_fault order block =
     else (if not (number_at order 2 12 block == 1) then Some fault.Version
     else (if number_at order 2 14 block == 0 || number_at order 2 14 block == 2 then None else Some fault.Version))
 
--- an enhanced packet block's fields: how much was captured, and its time in the interface's units
+-- how much an enhanced packet block captured
 abbrev pub enhanced_captured : Order → List ℕ → ℕ
 enhanced_captured order block = number_at order 4 20 block
-
-abbrev pub enhanced_units : Order → List ℕ → ℕ
-enhanced_units order block = number_at order 4 12 block * 2 ^ 32 + number_at order 4 16 block
 
 -- the UDP packet of a time
 abbrev pub enhanced_at : Order → List ℕ → Interface → Option ℕ → Result (Option PacketView) FaultKind
@@ -85,7 +83,7 @@ enhanced_at order block interface (Some time) =
 abbrev pub enhanced_in : Order → List ℕ → Interface → Result (Option PacketView) FaultKind
 enhanced_in order block interface =
     if nat_lt (length block) (32 + enhanced_captured order block) then Err fault.Length
-    else enhanced_at order block interface (time_of interface (enhanced_units order block))
+    else enhanced_at order block interface (time_of interface (time_units order block))
 
 -- the UDP packet in an enhanced packet block
 unfoldable pub enhanced_of : SectionView → List ℕ → Result (Option PacketView) FaultKind
@@ -152,12 +150,15 @@ content_as kind.Other section block = same_section section None
 abbrev pub content_of : SectionView → List ℕ → Result Content FaultKind
 content_of section block = content_as (kind_of (number_at section.order 4 0 block)) section block
 
--- the same with its length
-abbrev pub with_length : ℕ → Content → Result Block FaultKind
-with_length len content = Ok (record { part = record { len = len; packet = content.packet }; section = content.section })
+-- the same with its length, and what it tells of a record
+abbrev pub with_length : ℕ → List ℕ → Content → Result Block FaultKind
+with_length len block content = Ok (record {
+  part = record { len = len; packet = content.packet; mark = mark_of content.section.order content.section.interfaces block };
+  section = content.section;
+})
 
 abbrev pub block_within : SectionView → List ℕ → ℕ → Result Block FaultKind
-block_within section octets len = and_then (content_of section (take len octets)) (with_length len)
+block_within section octets len = and_then (content_of section (take len octets)) (with_length len (take len octets))
 
 abbrev pub block_in : List Interface → List ℕ → Order → Result Block FaultKind
 block_in interfaces octets order =

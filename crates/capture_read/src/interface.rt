@@ -1,5 +1,5 @@
 //! Interfaces of a section, and the times of their packets (pcapng, Interface Description Block).
-ghost use Rattle.std.specs.Prelude.{◌≡◌, ◌<◌, ◌≤◌, ◌*◌, ◌/◌, ◌^◌, MatchOption};
+ghost use Rattle.std.specs.Prelude.{◌≡◌, ◌<◌, ◌≤◌, ◌*◌, ◌/◌, ◌^◌, length, MatchOption};
 ghost use Rattle.capture_read.specs.Interface as spec;
 
 use crate::fault::FaultKind;
@@ -65,6 +65,14 @@ fn read_offset(order: Order, options: &[u8]) -> Result<i64, FaultKind>
         Some(value) if value.len() == 8 => Ok(order.read_u64(value, 0).cast_signed()),
         Some(_) => Err(FaultKind::Options),
     }
+}
+
+/// The time of a block in its interface's units: its high word, and its low word.
+pub(crate) fn time_units(order: Order, block: &[u8]) -> u64
+    requires { 20 ≤ length block.now }
+    ensures { result ≡ spec.time_units order block.now }
+{
+    u64::from(order.read_u32(block, 12)) * 0x1_0000_0000 + u64::from(order.read_u32(block, 16))
 }
 
 /// A packet's time in nanoseconds since 1970, if 64 bits hold it.

@@ -7,7 +7,8 @@
 //! time, interface, addresses and ports; that one is a fragment or cut is told, and anything else is passed over.
 //!
 //! Where the octets come piece by piece, `Parts` is the place among them: its calls are lent those from there on, as many
-//! as came. While `is_cut` says that more are needed, more are read; `next` passes over a record or a block.
+//! as came. While `is_cut` says that more are needed, more are read; `next` passes over a record or a block. It also tells a
+//! block's `mark`: that a live run's record begins, with the time of the opening, or the time of an interface's statistics.
 //!
 //! Nothing here takes memory, copies a payload or reads a file. What a file holds is `packets_of`, by the
 //! formats (draft-ietf-opsawg-pcap and draft-ietf-opsawg-pcapng) and tcpdump's registry of link types.
@@ -15,10 +16,12 @@
 
 mod capture;
 mod cursor;
+mod decimal;
 mod fault;
 mod interface;
 mod ipv4;
 mod link;
+mod mark;
 mod options;
 mod order;
 mod packet;
@@ -31,6 +34,7 @@ pub use capture::open;
 pub use cursor::Capture;
 pub use fault::{CaptureFault, FaultKind};
 pub use ipv4::{Body, Datagram, Ipv4};
+pub use mark::RecordMark;
 pub use packet::Packet;
 pub use part::Part;
 pub use parts::Parts;

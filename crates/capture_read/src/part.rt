@@ -1,4 +1,5 @@
 //! A record or a block of a capture, once it was read.
+use crate::mark::RecordMark;
 use crate::packet::Packet;
 
 /// What stands at the front of the octets that are left.
@@ -8,4 +9,6 @@ pub struct Part<'a> {
     pub len: usize,
     /// The UDP packet in it, if it has one.
     pub packet: Option<Packet<'a>>,
+    /// What it tells of a record, if it tells any.
+    pub mark: Option<RecordMark>,
 }

@@ -99,7 +99,11 @@ pub(crate) fn read_record<'a>(pcap: &Pcap, octets: &'a [u8]) -> Result<Part<'a>,
         0,
         &octets[RECORD_HEADER..len],
     );
-    Ok(Part { len, packet })
+    Ok(Part {
+        len,
+        packet,
+        mark: None,
+    })
 }
 
 /// Whether the record that octets begin with ends behind them.

@@ -3,10 +3,12 @@ ghost use Rattle.std.specs.Prelude.{◌≡◌, ◌≤◌, ◌*◌, MatchResult, 
 ghost use Rattle.capture_read.specs.Parts as parts;
 ghost use Rattle.capture_read.specs.Section as spec;
 ghost use Rattle.capture_read.specs.Section.{AnswersContent, AnswersPacket, block_of, section_view};
+ghost use Rattle.capture_read.specs.Mark.{mark_of};
 ghost use Rattle.capture_read.specs.Part.{part_view};
 
 use crate::fault::FaultKind;
-use crate::interface::{Interface, read_interface, time_of};
+use crate::interface::{Interface, read_interface, time_of, time_units};
+use crate::mark::{RecordMark, read_closing, read_opening};
 use crate::order::Order;
 use crate::packet::{Packet, packet_in};
 use crate::part::Part;
@@ -18,6 +20,8 @@ const INTERFACES: usize = 64;
 const EMPTY_BLOCK: usize = 12;
 /// The type of a section header, which is the same in either order.
 pub(crate) const SECTION_HEADER: u32 = 0x0a0d_0d0a;
+/// The type of an interface's statistics.
+const STATISTICS: u32 = 5;
 /// The number by which a section header says its order.
 const BYTE_ORDER_MAGIC: u32 = 0x1a2b_3c4d;
 
@@ -65,7 +69,8 @@ impl Section {
         self.order = read_order(self.order, octets)?;
         let len = read_length(self.order, octets)?;
         let packet = self.read_content(&octets[..len])?;
-        Ok(Part { len, packet })
+        let mark = self.read_mark(&octets[..len]);
+        Ok(Part { len, packet, mark })
     }
 
     /// Takes in what a whole block says, and answers the UDP packet in it.
@@ -79,6 +84,18 @@ impl Section {
             BlockKind::SimplePacket => self.read_simple(block),
             BlockKind::EnhancedPacket => self.read_enhanced(block),
             BlockKind::Other => Ok(None),
+        }
+    }
+
+    /// What a whole block tells of a record.
+    fn read_mark(&self, block: &[u8]) -> Option<RecordMark>
+        requires { 12 ≤ length block.now }
+        ensures { result ≡ mark_of self.now.order (section_view self.now).interfaces block.now }
+    {
+        match self.order.read_u32(block, 0) {
+            SECTION_HEADER => read_opening(self.order, block),
+            STATISTICS => read_closing(self.order, self.interfaces.as_slice(), block),
+            _ => None,
         }
     }
 
@@ -119,8 +136,7 @@ impl Section {
         if block.len() - 32 < captured {
             return Err(FaultKind::Length);
         }
-        let units = u64::from(self.order.read_u32(block, 12)) * 0x1_0000_0000
-            + u64::from(self.order.read_u32(block, 16));
+        let units = time_units(self.order, block);
         let time = time_of(&interface, units).ok_or(FaultKind::Time)?;
         Ok(packet_in(
             interface.link,
