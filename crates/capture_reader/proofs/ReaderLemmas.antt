@@ -24,12 +24,12 @@ one : (o : Option (List ℕ)) (x y : List ℕ) → o ≡ Some x → o ≡ Some y
 one o x y e f = cc
 
 -- what was read of known octets was their front
-consumed : (left then : Option (List ℕ)) (rest octets : List ℕ) → left ≡ Some rest → Consumes left then octets → (more : List ℕ) × (then ≡ Some more) × (rest ≡ octets ++ more)
+pub consumed : (left then : Option (List ℕ)) (rest octets : List ℕ) → left ≡ Some rest → Consumes left then octets → (more : List ℕ) × (then ≡ Some more) × (rest ≡ octets ++ more)
 consumed None then rest octets e read = absurd (let f : None ≡ Some rest = e in cc)
 consumed (Some x) None rest octets e read = absurd read
 consumed (Some x) (Some y) rest octets e read = (y, refl, one (Some x) rest x e refl ∙ read)
 
-at_end : (left : Option (List ℕ)) (rest : List ℕ) → left ≡ Some rest → IsAtEnd left → rest ≡ []
+pub at_end : (left : Option (List ℕ)) (rest : List ℕ) → left ≡ Some rest → IsAtEnd left → rest ≡ []
 at_end left rest e end = subst IsAtEnd e end
 
 -- more octets came
@@ -46,7 +46,7 @@ told_more file packets left then parts held longer ended now told reads =
     }
 
 -- nothing is a record, or a block
-cut_none : (form : Format) (order : Order) → is_cut_as form order [] ≡ true
+pub cut_none : (form : Format) (order : Order) → is_cut_as form order [] ≡ true
 cut_none (format.Pcap header) order = refl
 cut_none format.Pcapng order = refl
 
@@ -54,7 +54,7 @@ items_none : (parts : Parts) → items_at parts [] ≡ []
 unfolding packets_past
 items_none parts = refl
 
-none_taken : (held : List ℕ) → take 983040 held ≡ [] → held ≡ []
+pub none_taken : (held : List ℕ) → take 983040 held ≡ [] → held ≡ []
 none_taken [] e = refl
 none_taken (x ∷ held) e = absurd (let f : x ∷ take 983039 held ≡ [] = e in cc)
 
@@ -76,15 +76,15 @@ with_more packets None items = ap (λ l. map Ok l ++ items) (sym (append-nil pac
 with_more packets (Some p) items = sym (append_assoc (map Ok packets) (Ok p ∷ []) items) ∙ ap (λ l. l ++ items) (sym (map-append Ok packets (p ∷ [])))
 
 -- the octets behind those that are lent
-behind : (parts : Parts) (held : List ℕ) (rest : List ℕ) (ended : Bool) → IsFilled parts held ended → (ended ≡ true → rest ≡ [])
+pub behind : (parts : Parts) (held : List ℕ) (rest : List ℕ) (ended : Bool) → IsFilled parts held ended → (ended ≡ true → rest ≡ [])
     → (is_cut_in parts (take 983040 held) ≡ false) ⊎ (drop 983040 held ++ rest ≡ [])
 behind parts held rest ended (inl whole) end = inl whole
 behind parts held rest ended (inr short) end = inr (ap (λ l. l ++ rest) (drop_all 983040 held (omega (arith, short.1))) ∙ end short.0)
 
-lent : (held rest : List ℕ) → held ++ rest ≡ take 983040 held ++ (drop 983040 held ++ rest)
+pub lent : (held rest : List ℕ) → held ++ rest ≡ take 983040 held ++ (drop 983040 held ++ rest)
 lent held rest = ap (λ l. l ++ rest) (sym (take-append-drop 983040 held)) ∙ append_assoc (take 983040 held) (drop 983040 held) rest
 
-left_of : (len : ℕ) (held rest : List ℕ) → len ≤ length (take 983040 held) → drop len (take 983040 held) ++ (drop 983040 held ++ rest) ≡ drop len held ++ rest
+pub left_of : (len : ℕ) (held rest : List ℕ) → len ≤ length (take 983040 held) → drop len (take 983040 held) ++ (drop 983040 held ++ rest) ≡ drop len held ++ rest
 left_of len held rest within =
     sym (append_assoc (drop len (take 983040 held)) (drop 983040 held) rest)
     ∙ ap (λ l. l ++ rest) (sym (drop-append-le len (take 983040 held) (drop 983040 held) within) ∙ ap (drop len) (take-append-drop 983040 held))
@@ -121,7 +121,7 @@ told_fault file packets left parts held ended fault front is filled fails told =
     ∙ ap (λ l. map Ok packets ++ l) (next (drop 983040 held ++ told.rest) (behind parts held told.rest ended filled told.end))
 
 -- the header of a file shows, or all of the file
-shown : (held rest : List ℕ) (ended : Bool) → (ended ≡ false → 24 ≤ length held) → length held < 983040 → (ended ≡ true → rest ≡ []) → IsEnough (take 983040 held) rest
+pub shown : (held rest : List ℕ) (ended : Bool) → (ended ≡ false → 24 ≤ length held) → length held < 983040 → (ended ≡ true → rest ≡ []) → IsEnough (take 983040 held) rest
 shown held rest true enough few end = inr (end refl)
 shown held rest false enough few end = inl (subst (λ l. 24 ≤ length l) (sym (take_all 983040 held (omega (arith, few)))) (enough refl))
 

@@ -3,11 +3,13 @@ use Rattle.std.specs.Prelude.{◌≡◌, ◌⊎◌, ℕ, ◌≤◌, ◌<◌, ◌
 use Rattle.std.specs.Option.{option_to_list}
 use Rattle.std.specs.Io.KnownBytes.{Consumes, IsAtEnd}
 use Rattle.capture_read.specs.declared.fault.CaptureFault.{CaptureFault}
+use Rattle.capture_read.specs.declared.mark.RecordMark.{RecordMark}
 use Rattle.capture_read.specs.declared.part.Part.{Part}
 use Rattle.capture_read.specs.declared.parts.Parts.{Parts}
 use Rattle.capture_read.specs.Packet.{PacketView, packet_view}
 use Rattle.capture_read.specs.Capture.{packets_of}
 use Rattle.capture_read.specs.Parts.{is_cut_in, items_at}
+use Rattle.capture_read.specs.Marks.{marks_at, marks_of}
 use Rattle.capture_reader.specs.declared.fault.ReaderFault.{ReaderFault}
 use Rattle.capture_reader.specs.declared.fault.ReaderFault.TheVariants.{Unread, Capture, Long, Memory}
 
@@ -29,6 +31,17 @@ IsFaultBehind file packets fault = packets_of file ≡ map Ok packets ++ Err fau
 -- the packet of a record or a block, if it has one
 abbrev pub packets_in : Part → List PacketView
 packets_in part = option_to_list (option_map packet_view part.packet)
+
+-- the same of the marks of a record: the first of a file are these
+pub record HasMarked (file : List ℕ) (marks : List RecordMark) (left : Option (List ℕ)) (parts : Parts) (held : List ℕ) (ended : Bool) : Type 0 where
+  pub rest : List ℕ
+  pub left_is : left ≡ Some rest
+  pub all : marks_of file ≡ marks ++ marks_at parts (held ++ rest)
+  pub end : ended ≡ true → rest ≡ []
+
+-- the mark of a record or a block, if it has one
+abbrev pub marks_in : Part → List RecordMark
+marks_in part = option_to_list part.mark
 
 -- the octets show the header of a file, or all of the file
 pub record HasOpened (left left_then : Option (List ℕ)) (held : List ℕ) (ended : Bool) : Type 0 where
