@@ -1,3 +1,12 @@
 mod PiecesLemmas
 mod PlacesLemmas
 mod PacketLemmas
+mod OctetLemmas
+mod OptionLemmas
+mod WholeLemmas
+mod OpeningLemmas
+mod InterfaceLemmas
+mod ClosingLemmas
+mod FrameLemmas
+mod DatagramLemmas
+mod RecordLemmas

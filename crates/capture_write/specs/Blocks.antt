@@ -1,6 +1,7 @@
 -- Blocks of the pcapng format as they are written, numbers least significant octet first (draft-ietf-opsawg-pcapng, Block Definitions).
 use Rattle.std.specs.Prelude.{ℕ, ◌+◌, ◌-◌, ◌*◌, ◌/◌, ◌%◌, ◌^◌, List, [], ◌∷◌, ◌++◌, length, replicate, codes, decimal}
 use Rattle.byteorder.specs.Endian.{little_bytes}
+use Rattle.capture_read.specs.Mark.{opening_text}
 use Rattle.capture_write.specs.Arrival.{ArrivalView}
 use Rattle.capture_write.specs.Packet.{header_octets, udp_octets}
 
@@ -19,10 +20,6 @@ option_octets code value = little_bytes 2 code ++ little_bytes 2 (length value) 
 -- the option that ends the others
 abbrev pub options_end : List ℕ
 options_end = little_bytes 4 0
-
--- what the comment of a record says: the studio's opening time in sampling instants
-abbrev pub opening_text : ℕ → List ℕ
-opening_text open_at = codes "open_at " ++ decimal open_at
 
 -- what a section header holds: the magic number of its order, version 1.0, no stated length, its comment, and who wrote it
 unfoldable pub section_held : ℕ → List ℕ

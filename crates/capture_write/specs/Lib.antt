@@ -3,3 +3,4 @@ pub mod Arrival
 pub mod Packet
 pub mod Blocks
 pub mod Times
+pub mod Record

@@ -1,9 +1,10 @@
 //! What each block holds, without a datagram's octets.
 ghost use Rattle.std.specs.Prelude.{◌≡◌, ◌+◌, ◌≤◌, ◌++◌, length};
 ghost use Rattle.arrayvec.specs.ArrayVec.{array_vec_len};
+ghost use Rattle.capture_read.specs.Mark.{opening_text};
 ghost use Rattle.capture_write.specs.Arrival.{arrival_view};
 ghost use Rattle.capture_write.specs.Blocks as spec;
-ghost use Rattle.capture_write.specs.Blocks.{datagram_head, option_octets, opening_text, interface_text, time_octets};
+ghost use Rattle.capture_write.specs.Blocks.{datagram_head, option_octets, interface_text, time_octets};
 
 use crate::arrival::Arrival;
 use crate::head::{Head, push, push_option};

@@ -6,7 +6,7 @@
 //! answers its length. Times are in nanoseconds since the opening: `nanoseconds_after` so many sampling instants.
 //!
 //! Nothing here takes memory or writes a file. What is written are `section_block`, `interface_block`, `datagram_block` and
-//! `closing_block`, by the format (draft-ietf-opsawg-pcapng).
+//! `closing_block`, by the format (draft-ietf-opsawg-pcapng); `capture_read` reads them back: `records_are_read_back`.
 #![tactic(auto)]
 
 mod arrival;
@@ -20,5 +20,5 @@ mod times;
 
 pub use arrival::{Arrival, MOST_OCTETS};
 pub use blocks::{BLOCK_ROOM, write_closing, write_datagram, write_interface, write_opening};
-pub use laws::instants_come_back;
+pub use laws::{instants_come_back, records_are_read_back};
 pub use times::nanoseconds_after;

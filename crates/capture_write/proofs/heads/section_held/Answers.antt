@@ -1,6 +1,7 @@
 use Rattle.std.proofs.Common.{◌≡◌, ◌-◌, ◌^◌, ◌++◌, ℕ, List, codes, ap, ◌∙◌, arith}
 use Rattle.byteorder.specs.Endian.{little_bytes}
-use Rattle.capture_write.specs.Blocks.{option_octets, opening_text, section_held}
+use Rattle.capture_read.specs.Mark.{opening_text}
+use Rattle.capture_write.specs.Blocks.{option_octets, section_held}
 use Rattle.capture_write.proofs.heads.section_held.Goals as goal
 
 pub returns : goal.returns
