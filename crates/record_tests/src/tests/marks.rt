@@ -1,0 +1,81 @@
+//! What the blocks of a record tell, and what others don't.
+use super::record::{latest_header, record};
+use capture_read::{Parts, RecordMark};
+use std::test::Fail;
+
+/// The length of each block, and what it tells.
+const PARTS: [(usize, Option<RecordMark>); 5] = [
+    (60, Some(RecordMark::Opened(1000))),
+    (40, None),
+    (40, None),
+    (64, None),
+    (24, Some(RecordMark::Closed(4_295_083_334))),
+];
+
+/// Whether what comes next has this length and tells this, and what stands behind it.
+fn goes_on<'a>(
+    parts: &mut Parts,
+    rest: &'a [u8],
+    len: usize,
+    mark: Option<RecordMark>,
+) -> Option<&'a [u8]> {
+    if rest.is_empty() || parts.place() > 1000 {
+        return None;
+    }
+    match parts.next(rest) {
+        Ok(part) if part.len == len && part.mark == mark => Some(&rest[part.len..]),
+        _ => None,
+    }
+}
+
+/// A record says at which time its studio was opened, and at which it was closed.
+#[test]
+fn a_record_says_its_opening_and_its_close(rt: HostRuntime) -> Result<(), Fail> {
+    let record = record();
+    let mut parts = Parts::open(&record)?;
+    let mut left = Some(record.as_slice());
+    for (len, mark) in PARTS {
+        let Some(rest) = left else {
+            break;
+        };
+        left = goes_on(&mut parts, rest, len, mark);
+    }
+    assert!(rt; left == Some(&[]), "five blocks, and nothing more");
+    Ok(())
+}
+
+/// A place in a header that says the latest opening, the octet to stand there, and what it tells then.
+const CHANGES: [(usize, u8, Option<RecordMark>); 12] = [
+    (0, 0x0a, Some(RecordMark::Opened(9_223_372_036_854_775_807))),
+    (26, 26, Some(RecordMark::Opened(922_337_203_685_477_580))),
+    (54, b'8', None),
+    (
+        54,
+        b'6',
+        Some(RecordMark::Opened(9_223_372_036_854_775_806)),
+    ),
+    (
+        36,
+        b'1',
+        Some(RecordMark::Opened(1_223_372_036_854_775_807)),
+    ),
+    (36, b'0', None),
+    (36, b'+', None),
+    (36, b' ', None),
+    (32, b'-', None),
+    (24, 2, None),
+    (26, 60, None),
+    (67, b'n', None),
+];
+
+/// A comment of another form, of another writer or past 2^63 says no opening, and nor do options that are cut; none is a fault.
+#[test]
+fn only_a_whole_number_of_ours_is_an_opening(rt: HostRuntime) -> Result<(), Fail> {
+    for (place, octet, mark) in CHANGES {
+        let mut octets = latest_header();
+        octets[place % 76] = octet;
+        let part = Parts::open(&octets)?.next(&octets)?;
+        assert!(rt; part.mark == mark, "{octet} at {place}");
+    }
+    Ok(())
+}

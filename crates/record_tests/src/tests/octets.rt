@@ -1,0 +1,106 @@
+//! The blocks of a record as they are written, and the packets that are read of them.
+ghost use Rattle.std.specs.Prelude.{◌≡◌, length};
+
+use super::record::record;
+use capture_read::{Body, Datagram, Ipv4, Packet, open};
+use capture_write::{
+    Arrival, BLOCK_ROOM, nanoseconds_after, write_closing, write_datagram, write_interface,
+    write_opening,
+};
+use std::net::Ipv4Addr;
+use std::test::Fail;
+
+/// A datagram of three octets, on the second interface.
+fn arrival() -> Arrival<'static>
+    ensures { length result.octets.now ≡ 3 }
+{
+    Arrival {
+        interface: 1,
+        nanoseconds: 4_295_020_834,
+        source: Ipv4Addr::new(10, 0, 0, 1),
+        source_port: 5004,
+        destination: Ipv4Addr::new(239, 1, 2, 3),
+        destination_port: 5006,
+        octets: &[1, 2, 3],
+    }
+}
+
+/// Whether a call wrote these octets, and nothing behind them.
+fn is_written(out: &[u8], len: usize, want: Option<&[u8]>) -> bool {
+    out.get(..len) == want && out.get(len) == Some(&0x55)
+}
+
+/// Each call writes one block to the front, and nothing behind it.
+#[test]
+fn the_opening_and_interfaces_are_these_octets(rt: HostRuntime) {
+    let record = record();
+    let mut out = [0x55u8; BLOCK_ROOM];
+    let len = write_opening(1000, &mut out);
+    assert!(rt; is_written(&out, len, record.get(..60)), "the opening");
+    let mut out = [0x55u8; BLOCK_ROOM];
+    let len = write_interface(0, b'a', &mut out);
+    assert!(rt;
+        is_written(&out, len, record.get(60..100)),
+        "the first interface"
+    );
+    let len = write_interface(12, b'b', &mut out);
+    assert!(rt; is_written(&out, len, record.get(100..140)), "the second");
+}
+
+/// A datagram stands in an IPv4 packet with a right checksum, and the close in an interface's statistics.
+#[test]
+fn a_datagram_and_the_close_are_these_octets(rt: HostRuntime) {
+    let record = record();
+    let mut out = [0x55u8; BLOCK_ROOM];
+    let len = write_datagram(&arrival(), &mut out);
+    assert!(rt; is_written(&out, len, record.get(140..204)), "the datagram");
+    let mut out = [0x55u8; BLOCK_ROOM];
+    let len = write_closing(4_295_083_334, &mut out);
+    assert!(rt; is_written(&out, len, record.get(204..)), "the close");
+}
+
+/// Sampling instants, and the nanosecond that isn't before them.
+const TIMES: [(u64, Option<u64>); 7] = [
+    (0, Some(0)),
+    (1, Some(20_834)),
+    (2, Some(41_667)),
+    (3, Some(62_500)),
+    (206_161, Some(4_295_020_834)),
+    (885_443_715_538_058, Some(18_446_744_073_709_541_667)),
+    (885_443_715_538_059, None),
+];
+
+/// A time is rounded up, and there is none past 64 bits.
+#[test]
+fn times_are_rounded_up(rt: HostRuntime) {
+    for (instants, want) in TIMES {
+        assert!(rt; nanoseconds_after(instants) == want, "{instants}");
+    }
+}
+
+/// That datagram as it is read.
+fn packet() -> Packet<'static> {
+    Packet {
+        time: Some(4_295_020_834),
+        interface: 1,
+        ip: Ipv4 {
+            source: Ipv4Addr::new(10, 0, 0, 1),
+            destination: Ipv4Addr::new(239, 1, 2, 3),
+            body: Body::Datagram(Datagram {
+                source_port: 5004,
+                destination_port: 5006,
+                payload: &[1, 2, 3],
+            }),
+        },
+    }
+}
+
+/// A record is a capture of the datagrams that came.
+#[test]
+fn a_record_is_a_capture_of_its_datagrams(rt: HostRuntime) -> Result<(), Fail> {
+    let record = record();
+    let mut capture = open(&record)?;
+    assert!(rt; capture.next() == Some(Ok(packet())), "the datagram");
+    assert!(rt; capture.next() == None, "nothing more");
+    Ok(())
+}
