@@ -1,5 +1,6 @@
 pub mod RoundLemmas
 pub mod AnswerLemmas
+pub mod TellLemmas
 pub mod TakeLemmas
 pub mod SendLemmas
 pub mod RunLemmas

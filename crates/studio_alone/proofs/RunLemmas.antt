@@ -6,6 +6,7 @@ use Rattle.std.proofs.lemmas.Bool.{false≢true}
 use Rattle.studio_spec.specs.Studio.{Studio}
 use Rattle.studio_mix.proofs.FirstBlockLemmas.{first_all}
 use Rattle.studio_session.specs.Event.{TraceEvent}
+use Rattle.studio_session.specs.Fault.{time_at}
 use Rattle.studio_session.specs.Play.{feeds_of}
 use Rattle.studio_session.specs.Report.{AreCounts}
 use Rattle.studio_engine.specs.Engine.{EngineState, HasAllMarks}
@@ -19,21 +20,22 @@ use Rattle.studio_alone.specs.Rounds.{AreArrivals, AreNext, Round, answers_of, d
 use Rattle.studio_alone.specs.Runs.{IsDone, IsSettledRun, IsUnderWay}
 use Rattle.studio_alone.specs.Sends.{HasSent}
 use Rattle.studio_alone.specs.Takes.{AllEnded, HasCome, HaveBegun, HaveGiven, TakesAll}
+use Rattle.studio_alone.specs.Taps.{Closed, Heard, Hears, heard_by}
 use Rattle.studio_alone.specs.declared.desk.Desk.{Desk}
 use Rattle.studio_alone.specs.declared.taker.Taker.{Taker}
 use Rattle.studio_alone.proofs.RoundLemmas.{answers-more, next-more, next-none, one-round, rounds-more, rounds-open, time-arrivals, time-more}
-use Rattle.studio_alone.proofs.SendLemmas.{hands_more, hands_none}
 use Rattle.studio_alone.proofs.TakeLemmas.{given-more, given-none, given-turned}
+use Rattle.studio_alone.proofs.TellLemmas.{adds_more, adds_none, heard_turned, hears_close, hears_on}
 
 -- what an answer that is no fault ensures
 pub on-fine : {T E : Type 0} (r : Result T E) (P : Type 0) → is_err r ≡ false → OnOk r P → P
 on-fine (Ok x) P fine p = p
 on-fine (Err e) P fine p = absurd (false≢true (sym fine))
 
--- four facts of an answer together
-pub if-four : {T E : Type 0} (r : Result T E) (A B C D Q : T → Type 0) → IfOk r A → IfOk r B → IfOk r C → IfOk r D → ((x : T) → A x → B x → C x → D x → Q x) → IfOk r Q
-if-four (Ok x) A B C D Q a b c d all = all x a b c d
-if-four (Err e) A B C D Q a b c d all = tt
+-- five facts of an answer together
+pub if-five : {T E : Type 0} (r : Result T E) (A B C D F Q : T → Type 0) → IfOk r A → IfOk r B → IfOk r C → IfOk r D → IfOk r F → ((x : T) → A x → B x → C x → D x → F x → Q x) → IfOk r Q
+if-five (Ok x) A B C D F Q a b c d f all = all x a b c d f
+if-five (Err e) A B C D F Q a b c d f all = tt
 
 -- more that was sent and counted
 count-more : (old mid : ℕ) (xs ys : List (List ℕ)) → (length xs < 2 ^ 64 → old ≡ length xs) → (old + length ys < 2 ^ 64 → mid ≡ old + length ys) → length (xs ++ ys) < 2 ^ 64 → mid ≡ length (xs ++ ys)
@@ -43,12 +45,12 @@ count-more old mid xs ys h k few =
     let mid_is = k (omega (arith, few, sum, old_is)) in
     omega (arith, old_is, mid_is, sum)
 
-module _ {F C K : Type 0} (feed_told : F → List Answer) (clock_told : C → List ℤ) (sink_handed : K → Option (List (List ℕ)))
-    (studio : Studio) (all : List (List (List Answer))) (clock : List ℤ) (before : Option (List (List ℕ))) where
+module _ {F C K T : Type 0} (feed_told : F → List Answer) (clock_told : C → List ℤ) (sink_handed : K → Option (List (List ℕ))) (tap_heard : T → Option (List Heard))
+    (studio : Studio) (all : List (List (List Answer))) (clock : List ℤ) (before : Option (List (List ℕ))) (earlier : Option (List Heard)) where
   -- before the first round
-  pub run-begins : (feeds : List (Vec F Global)) (desk : Desk F C K) → all ≡ map (λ (own : Vec F Global). map feed_told own.items) feeds → clock ≡ clock_told desk.clock → before ≡ sink_handed desk.sink
-      → HasSession studio desk.engine [] [] → HaveBegun feeds desk.takers.items → desk.counts.blocks ≡ 0 → IsUnderWay feed_told clock_told sink_handed studio all clock before desk
-  run-begins feeds desk all_is clock_is before_is s begun none = record {
+  pub run-begins : (feeds : List (Vec F Global)) (desk : Desk F C K T) → all ≡ map (λ (own : Vec F Global). map feed_told own.items) feeds → clock ≡ clock_told desk.clock → before ≡ sink_handed desk.sink → earlier ≡ tap_heard desk.tap
+      → HasSession studio desk.engine [] [] → HaveBegun feeds desk.takers.items → desk.counts.blocks ≡ 0 → IsUnderWay feed_told clock_told sink_handed tap_heard studio all clock before earlier desk
+  run-begins feeds desk all_is clock_is before_is earlier_is s begun none = record {
     rounds = [];
     datagrams = [];
     stands = s;
@@ -57,10 +59,11 @@ module _ {F C K : Type 0} (feed_told : F → List Answer) (clock_told : C → Li
     clocked = λ later next. subst (λ l. AreNext l later) (sym clock_is) next;
     given = subst (λ l. HaveGiven feed_told l desk.takers.items []) (sym all_is) (given-none feed_told feeds desk.takers.items begun);
     count = λ few. none;
-    handed = subst (λ o. Hands o [] (sink_handed desk.sink)) (sym before_is) (hands_none (sink_handed desk.sink));
+    handed = subst (λ o. Hands o [] (sink_handed desk.sink)) (sym before_is) (adds_none (sink_handed desk.sink));
+    heard = subst (λ o. Hears o [] (tap_heard desk.tap)) (sym earlier_is) (adds_none (tap_heard desk.tap));
   }
 
-  module _ (old new : Desk F C K) (h : IsUnderWay feed_told clock_told sink_handed studio all clock before old) (mid : EngineState) (answer now : ℤ) (arrivals : List TraceEvent) where
+  module _ (old new : Desk F C K T) (h : IsUnderWay feed_told clock_told sink_handed tap_heard studio all clock before earlier old) (mid : EngineState) (answer now : ℤ) (arrivals : List TraceEvent) where
     -- one round more
     pub round-more : now ≡ time_with old.engine.time answer → TellsTime (clock_told old.clock) answer (clock_told new.clock)
         → (sent : HasSent studio mid (turned old.engine.time now (events_by studio.open_at h.rounds)) h.datagrams (sink_handed old.sink) (sink_handed new.sink) old.counts.blocks new.counts.blocks)
@@ -68,8 +71,9 @@ module _ {F C K : Type 0} (feed_told : F → List Answer) (clock_told : C → Li
         → HasSession studio new.engine (turned old.engine.time now (events_by studio.open_at h.rounds) ++ arrivals) (h.datagrams ++ sent.more)
         → AreArrivals arrivals → ((stream path : ℕ) → length (datagrams_on stream path arrivals) ≤ 64)
         → HaveGiven feed_told all new.takers.items (turned old.engine.time now (events_by studio.open_at h.rounds) ++ arrivals)
-        → IsUnderWay feed_told clock_told sink_handed studio all clock before new
-    round-more now_is tells sent there stands arrive few given =
+        → Hears (tap_heard old.tap) (heard_by (time_at studio.open_at (turned old.engine.time now (events_by studio.open_at h.rounds))) arrivals) (tap_heard new.tap)
+        → IsUnderWay feed_told clock_told sink_handed tap_heard studio all clock before earlier new
+    round-more now_is tells sent there stands arrive few given told =
         let round : Round = record { answer = answer; arrivals = arrivals } in
         let turn = turned old.engine.time now (events_by studio.open_at h.rounds) in
         let events : turn ++ arrivals ≡ events_by studio.open_at (h.rounds ++ round ∷ []) = one-round studio.open_at h.rounds answer arrivals old.engine.time now h.time now_is in
@@ -82,43 +86,48 @@ module _ {F C K : Type 0} (feed_told : F → List Answer) (clock_told : C → Li
           clocked = λ later next. subst (AreNext clock) (answers-more h.rounds answer arrivals later) (h.clocked (answer ∷ later) (next-more (clock_told old.clock) (clock_told new.clock) answer later tells next));
           given = subst (HaveGiven feed_told all new.takers.items) events given;
           count = count-more old.counts.blocks new.counts.blocks h.datagrams sent.more h.count sent.count;
-          handed = hands_more before (sink_handed old.sink) (sink_handed new.sink) h.datagrams sent.more h.handed sent.handed;
+          handed = adds_more before (sink_handed old.sink) (sink_handed new.sink) h.datagrams sent.more h.handed sent.handed;
+          heard = subst (λ l. Hears earlier (heard_by studio.open_at l) (tap_heard new.tap)) events
+              (hears_on studio.open_at turn earlier (tap_heard old.tap) (tap_heard new.tap) arrivals
+              (subst (λ l. Hears earlier l (tap_heard old.tap)) (sym (heard_turned studio.open_at old.engine.time now (events_by studio.open_at h.rounds))) h.heard) told);
         }
 
   -- one in which no feed was asked
-  pub round-rests : (old new : Desk F C K) (h : IsUnderWay feed_told clock_told sink_handed studio all clock before old) (mid : EngineState) (answer now : ℤ)
+  pub round-rests : (old new : Desk F C K T) (h : IsUnderWay feed_told clock_told sink_handed tap_heard studio all clock before earlier old) (mid : EngineState) (answer now : ℤ)
       → now ≡ time_with old.engine.time answer → TellsTime (clock_told old.clock) answer (clock_told new.clock)
       → HasSent studio mid (turned old.engine.time now (events_by studio.open_at h.rounds)) h.datagrams (sink_handed old.sink) (sink_handed new.sink) old.counts.blocks new.counts.blocks
-      → mid.time ≡ now → new.engine ≡ mid → new.takers.items ≡ old.takers.items
-      → IsUnderWay feed_told clock_told sink_handed studio all clock before new
-  round-rests old new h mid answer now now_is tells sent there engine takers =
+      → mid.time ≡ now → new.engine ≡ mid → new.takers.items ≡ old.takers.items → new.tap ≡ old.tap
+      → IsUnderWay feed_told clock_told sink_handed tap_heard studio all clock before earlier new
+  round-rests old new h mid answer now now_is tells sent there engine takers tap =
       let turn = turned old.engine.time now (events_by studio.open_at h.rounds) in
       round-more old new h mid answer now [] now_is tells sent there
       (subst (λ (e : EngineState). HasSession studio e (turn ++ []) (h.datagrams ++ sent.more)) (sym engine) (subst (λ l. HasSession studio mid l (h.datagrams ++ sent.more)) (sym (append-nil turn)) sent.stands))
       tt (λ stream path. omega arith)
       (subst (λ l. HaveGiven feed_told all l (turn ++ [])) (sym takers)
       (subst (HaveGiven feed_told all old.takers.items) (sym (append-nil turn)) (given-turned feed_told all old.takers.items old.engine.time now (events_by studio.open_at h.rounds) h.given)))
+      (subst (λ (t : T). Hears (tap_heard old.tap) [] (tap_heard t)) (sym tap) (adds_none (tap_heard old.tap)))
 
   -- and one in which they were
-  pub round-takes : (old new : Desk F C K) (h : IsUnderWay feed_told clock_told sink_handed studio all clock before old) (mid : EngineState) (answer now : ℤ)
+  pub round-takes : (old new : Desk F C K T) (h : IsUnderWay feed_told clock_told sink_handed tap_heard studio all clock before earlier old) (mid : EngineState) (answer now : ℤ)
       → now ≡ time_with old.engine.time answer → TellsTime (clock_told old.clock) answer (clock_told new.clock)
       → (sent : HasSent studio mid (turned old.engine.time now (events_by studio.open_at h.rounds)) h.datagrams (sink_handed old.sink) (sink_handed new.sink) old.counts.blocks new.counts.blocks)
       → mid.time ≡ now → (olds news : List (Vec (Taker F) Global)) (count : ℕ) → old.takers.items ≡ olds → new.takers.items ≡ news
-      → TakesAll feed_told studio new.engine (turned old.engine.time now (events_by studio.open_at h.rounds)) (h.datagrams ++ sent.more) olds news count
-      → IsUnderWay feed_told clock_told sink_handed studio all clock before new
+      → TakesAll feed_told studio new.engine (turned old.engine.time now (events_by studio.open_at h.rounds)) (h.datagrams ++ sent.more) olds news (tap_heard old.tap) (tap_heard new.tap) count
+      → IsUnderWay feed_told clock_told sink_handed tap_heard studio all clock before earlier new
   round-takes old new h mid answer now now_is tells sent there olds news count olds_is news_is t =
       let turn = turned old.engine.time now (events_by studio.open_at h.rounds) in
       round-more old new h mid answer now t.arrivals now_is tells sent there t.stands t.arrive t.few
       (subst (λ l. HaveGiven feed_told all l (turn ++ t.arrivals)) (sym news_is)
-      (given-more feed_told studio new.engine all olds news turn (h.datagrams ++ sent.more) count
+      (given-more feed_told studio new.engine all olds news turn (h.datagrams ++ sent.more) (tap_heard old.tap) (tap_heard new.tap) count
       (subst (λ l. HaveGiven feed_told all l turn) olds_is (given-turned feed_told all old.takers.items old.engine.time now (events_by studio.open_at h.rounds) h.given)) t))
+      t.heard
 
   -- the end
-  pub run-ends : (old new : Desk F C K) (mid : EngineState) (h : IsUnderWay feed_told clock_told sink_handed studio all clock before old) → AllEnded old.takers.items
+  pub run-ends : (old new : Desk F C K T) (mid : EngineState) (h : IsUnderWay feed_told clock_told sink_handed tap_heard studio all clock before earlier old) → AllEnded old.takers.items
       → HasSession studio mid (shut old.engine.closed (events_by studio.open_at h.rounds)) h.datagrams
       → ((events : List TraceEvent) → HasSession studio mid events h.datagrams → HasSent studio new.engine events h.datagrams (sink_handed old.sink) (sink_handed new.sink) old.counts.blocks new.counts.blocks)
-      → new.engine.settled ≡ true → HasAllMarks new.engine → IsDone sink_handed studio all clock before new
-  run-ends old new mid h ended stands sends settled whole =
+      → Hears (tap_heard old.tap) (Closed mid.time ∷ []) (tap_heard new.tap) → new.engine.settled ≡ true → HasAllMarks new.engine → IsDone sink_handed tap_heard studio all clock before earlier new
+  run-ends old new mid h ended stands sends told settled whole =
       let open_yet : old.engine.closed ≡ false = h.stands.closed ∙ rounds-open false studio.open_at h.rounds h.bounded in
       let closed : HasSession studio mid (events_of studio h.rounds) h.datagrams = subst (λ b. HasSession studio mid (shut b (events_by studio.open_at h.rounds)) h.datagrams) open_yet stands in
       let sent = sends (events_of studio h.rounds) closed in
@@ -136,14 +145,15 @@ module _ {F C K : Type 0} (feed_told : F → List Answer) (clock_told : C → Li
             let over = ended stream found.0 found.1 path taker.0 taker.1 in
             subst (λ b. HasCome told b taker.0.in_a_row (feed_told taker.0.feed) (datagrams_on stream path (events_by studio.open_at h.rounds))) over (taker.2 whole);
         count = count-more old.counts.blocks new.counts.blocks h.datagrams sent.more h.count sent.count;
-        handed = hands_more before (sink_handed old.sink) (sink_handed new.sink) h.datagrams sent.more h.handed sent.handed;
+        handed = adds_more before (sink_handed old.sink) (sink_handed new.sink) h.datagrams sent.more h.handed sent.handed;
+        heard = hears_close studio.open_at (events_by studio.open_at h.rounds) earlier (tap_heard old.tap) (tap_heard new.tap) mid.time closed.time h.heard told;
       }
 
   -- and its report
-  pub run-settled : (desk : Desk F C K) (report : WorkReport) (after : Option (List (List ℕ))) (d : IsDone sink_handed studio all clock before desk)
-      → AreCounts studio (events_of studio d.rounds) report.streams.items → report.blocks ≡ desk.counts.blocks → after ≡ sink_handed desk.sink
-      → IsSettledRun studio all clock report before after
-  run-settled desk report after d counts blocks after_is = record {
+  pub run-settled : (desk : Desk F C K T) (report : WorkReport) (after : Option (List (List ℕ))) (later : Option (List Heard)) (d : IsDone sink_handed tap_heard studio all clock before earlier desk)
+      → AreCounts studio (events_of studio d.rounds) report.streams.items → report.blocks ≡ desk.counts.blocks → after ≡ sink_handed desk.sink → later ≡ tap_heard desk.tap
+      → IsSettledRun studio all clock report before after earlier later
+  run-settled desk report after later d counts blocks after_is later_is = record {
     rounds = d.rounds;
     bounded = d.bounded;
     clocked = d.clocked;
@@ -154,4 +164,5 @@ module _ {F C K : Type 0} (feed_told : F → List Answer) (clock_told : C → Li
     counts = counts;
     count = λ few. blocks ∙ d.count few;
     handed = subst (Hands before d.datagrams) (sym after_is) d.handed;
+    heard = subst (Hears earlier (heard_by studio.open_at (events_of studio d.rounds))) (sym later_is) d.heard;
   }

@@ -1,5 +1,5 @@
 -- What was sent, datagram by datagram.
-use Rattle.std.proofs.Common.{◌≡◌, ◌⊎◌, inl, inr, ℕ, ◌+◌, ◌<◌, ◌≤◌, ◌^◌, List, [], ◌∷◌, ◌++◌, length, take, ℤ, Option, Some, None, sym, ap, subst, ◌∙◌, arith, append_assoc, append-nil, length-append}
+use Rattle.std.proofs.Common.{◌≡◌, ◌⊎◌, inl, inr, ℕ, ◌+◌, ◌<◌, ◌≤◌, ◌^◌, List, [], ◌∷◌, ◌++◌, length, take, ℤ, Option, sym, ap, subst, ◌∙◌, arith, append_assoc, append-nil, length-append}
 use Rattle.studio_spec.specs.Studio.{Studio}
 use Rattle.studio_mix.proofs.FirstBlockLemmas.{written_is}
 use Rattle.studio_session.specs.Event.{TraceEvent}
@@ -8,6 +8,7 @@ use Rattle.studio_engine.specs.Session.{Gives, HasSession, turned}
 use Rattle.studio_engine.proofs.EngineLemmas.{turned_same}
 use Rattle.studio_workers.specs.Sinks.{Hands}
 use Rattle.studio_alone.specs.Sends.{HasSent}
+use Rattle.studio_alone.proofs.TellLemmas.{adds_more, adds_none}
 
 -- one turn after another, to the same reading
 pub turned_twice : (now first mid last : ℤ) (events : List TraceEvent) → (mid ≡ first) ⊎ (mid ≡ now) → (last ≡ mid) ⊎ (last ≡ now) → turned mid last (turned first mid events) ≡ turned first last events
@@ -23,21 +24,11 @@ time_twice now first mid last (inr e) (inl f) = inr (f ∙ e)
 time_twice now first mid last (inl e) (inr f) = inr f
 time_twice now first mid last (inr e) (inr f) = inr f
 
-pub hands_none : (o : Option (List (List ℕ))) → Hands o [] o
-hands_none None = tt
-hands_none (Some before) = sym (append-nil before)
-
-pub hands_more : (o p q : Option (List (List ℕ))) (xs ys : List (List ℕ)) → Hands o xs p → Hands p ys q → Hands o (xs ++ ys) q
-hands_more o p None xs ys h k = tt
-hands_more o None (Some all) xs ys h k = absurd k
-hands_more None (Some mid) (Some all) xs ys h k = absurd h
-hands_more (Some before) (Some mid) (Some all) xs ys h k = k ∙ (ap (λ l. l ++ ys) h ∙ append_assoc before xs ys)
-
 module _ (studio : Studio) where
   -- none was sent yet
   pub sent_none : (engine : EngineState) (events : List TraceEvent) (datagrams : List (List ℕ)) (handed : Option (List (List ℕ))) (count : ℕ) → HasSession studio engine events datagrams
       → HasSent studio engine events datagrams handed handed count count
-  sent_none engine events datagrams handed count s = record { more = []; stands = subst (λ l. HasSession studio engine events l) (sym (append-nil datagrams)) s; count = λ h. omega arith; handed = hands_none handed }
+  sent_none engine events datagrams handed count s = record { more = []; stands = subst (λ l. HasSession studio engine events l) (sym (append-nil datagrams)) s; count = λ h. omega arith; handed = adds_none handed }
 
   -- and then one more
   pub sent_more : (old new : EngineState) (events later : List TraceEvent) (datagrams : List (List ℕ)) (first mid last : Option (List (List ℕ))) (none some all : ℕ) (before after : List ℕ) (len : ℕ)
@@ -53,5 +44,5 @@ module _ (studio : Studio) where
             let mid_is = sent.count (omega (arith, few, sum)) in
             let all_is = counts (omega (arith, few, sum, mid_is)) in
             omega (arith, mid_is, all_is, sum);
-        handed = hands_more first mid last sent.more (gives.datagram ∷ []) sent.handed (subst (λ d. Hands mid (d ∷ []) last) is hands);
+        handed = adds_more first mid last sent.more (gives.datagram ∷ []) sent.handed (subst (λ d. Hands mid (d ∷ []) last) is hands);
       }

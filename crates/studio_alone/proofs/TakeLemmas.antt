@@ -1,5 +1,5 @@
 -- What was taken of the feeds, one answer, one feed and one stream further.
-use Rattle.std.proofs.Common.{◌≡◌, ◌≢◌, inl, inr, ℕ, zero, suc, ◌+◌, ◌≤◌, ◌<◌, true, List, [], ◌∷◌, ◌++◌, length, map, get_or, ℤ, Some, slice_get, unwrap_or, refl, sym, ap, subst, ◌∙◌, arith, append_assoc, append-nil, length-append}
+use Rattle.std.proofs.Common.{◌≡◌, ◌≢◌, inl, inr, ℕ, zero, suc, ◌+◌, ◌≤◌, ◌<◌, true, List, [], ◌∷◌, ◌++◌, length, map, get_or, ℤ, Option, Some, slice_get, unwrap_or, refl, sym, ap, subst, ◌∙◌, arith, append_assoc, append-nil, length-append}
 use Rattle.std.specs.declared.vec.Vec.{Vec}
 use Rattle.std.specs.declared.alloc.Global.{Global}
 use Rattle.std.proofs.Math.ListN.{set}
@@ -8,15 +8,18 @@ use Rattle.std.proofs.lemmas.List.{get_or-set_other, length-set}
 use Rattle.std.proofs.lemmas.Option.{get_or_from_slice_get, slice_get_read, slice_get_within}
 use Rattle.studio_spec.specs.Studio.{Studio}
 use Rattle.studio_session.specs.Event.{TraceEvent, Arrival}
+use Rattle.studio_session.specs.Fault.{time_at}
 use Rattle.studio_session.proofs.PlayLemmas.{set_here}
 use Rattle.studio_engine.specs.Engine.{EngineState}
 use Rattle.studio_engine.specs.Session.{HasSession, turned}
 use Rattle.studio_workers.specs.Answers.{Answer, reaches_end, told_datagrams}
 use Rattle.studio_alone.specs.Rounds.{arrivals_on, datagrams_on}
 use Rattle.studio_alone.specs.Takes.{AllEnded, GoesOn, HaveBegun, HaveEnded, HaveGiven, IsGiven, Takes, TakesAll, TakesStream, new_taker}
+use Rattle.studio_alone.specs.Taps.{Heard, Hears, heard_by}
 use Rattle.studio_alone.specs.declared.taker.Taker.{Taker}
 use Rattle.studio_alone.proofs.AnswerLemmas.{goes-further, goes-nowhere}
 use Rattle.studio_alone.proofs.RoundLemmas.{are_arrivals, arrivals-append, datagrams-append, datagrams-turned, more_beside, more_elsewhere, more_here, none_more, none_before}
+use Rattle.studio_alone.proofs.TellLemmas.{adds_none, hears_more}
 
 -- an element beside one that was written
 set_apart : {X : Type 0} (xs : List X) (i j : ℕ) (v w : X) → j ≢ i → slice_get xs j ≡ Some w → slice_get (set xs i v) j ≡ Some w
@@ -76,38 +79,42 @@ module _ {F : Type 0} where
 
 module _ {F : Type 0} (feed_told : F → List Answer) where
   -- a feed that gave nothing
-  pub takes-none : (studio : Studio) (engine : EngineState) (events : List TraceEvent) (datagrams : List (List ℕ)) (stream path : ℕ) (old new : Taker F) (most : ℕ)
-      → HasSession studio engine events datagrams → GoesOn feed_told old new [] → Takes feed_told studio engine events datagrams stream path old new most
-  takes-none studio engine events datagrams stream path old new most s goes = record {
+  pub takes-none : (studio : Studio) (engine : EngineState) (events : List TraceEvent) (datagrams : List (List ℕ)) (stream path : ℕ) (old new : Taker F) (o : Option (List Heard)) (most : ℕ)
+      → HasSession studio engine events datagrams → GoesOn feed_told old new [] → Takes feed_told studio engine events datagrams stream path old new o o most
+  takes-none studio engine events datagrams stream path old new o most s goes = record {
     given = [];
     few = omega arith;
     stands = subst (λ l. HasSession studio engine l datagrams) (sym (append-nil events)) s;
+    heard = adds_none o;
     goes_on = goes;
   }
 
   -- one answer more
-  pub takes-more : (studio : Studio) (mid new : EngineState) (events : List TraceEvent) (datagrams : List (List ℕ)) (stream path : ℕ) (a b c : Taker F) (most : ℕ)
-      → (t : Takes feed_told studio mid events datagrams stream path a b most) → Takes feed_told studio new (events ++ arrivals_on stream path t.given) datagrams stream path b c 1
-      → Takes feed_told studio new events datagrams stream path a c (most + 1)
-  takes-more studio mid new events datagrams stream path a b c most t one = record {
+  pub takes-more : (studio : Studio) (mid new : EngineState) (events : List TraceEvent) (datagrams : List (List ℕ)) (stream path : ℕ) (a b c : Taker F) (o p q : Option (List Heard)) (most : ℕ)
+      → (t : Takes feed_told studio mid events datagrams stream path a b o p most) → Takes feed_told studio new (events ++ arrivals_on stream path t.given) datagrams stream path b c p q 1
+      → Takes feed_told studio new events datagrams stream path a c o q (most + 1)
+  takes-more studio mid new events datagrams stream path a b c o p q most t one = record {
     given = t.given ++ one.given;
     few = let f = t.few in let g = one.few in omega (arith, f, g, length-append t.given one.given);
     stands = subst (λ l. HasSession studio new l datagrams)
         (append_assoc events (arrivals_on stream path t.given) (arrivals_on stream path one.given) ∙ ap (λ l. events ++ l) (sym (arrivals-more stream path t.given one.given))) one.stands;
+    heard = subst (λ l. Hears o (heard_by (time_at studio.open_at events) l) q) (sym (arrivals-more stream path t.given one.given))
+        (hears_more studio.open_at events o p q (arrivals_on stream path t.given) (arrivals_on stream path one.given) t.heard one.heard);
     goes_on = goes-further feed_told a b c t.given one.given t.goes_on one.goes_on;
   }
 
   -- fewer than so many
-  pub takes-within : (studio : Studio) (engine : EngineState) (events : List TraceEvent) (datagrams : List (List ℕ)) (stream path : ℕ) (old new : Taker F) (n most : ℕ)
-      → n ≤ most → Takes feed_told studio engine events datagrams stream path old new n → Takes feed_told studio engine events datagrams stream path old new most
-  takes-within studio engine events datagrams stream path old new n most h t = record { given = t.given; few = (let f = t.few in omega (arith, f, h)); stands = t.stands; goes_on = t.goes_on }
+  pub takes-within : (studio : Studio) (engine : EngineState) (events : List TraceEvent) (datagrams : List (List ℕ)) (stream path : ℕ) (old new : Taker F) (o p : Option (List Heard)) (n most : ℕ)
+      → n ≤ most → Takes feed_told studio engine events datagrams stream path old new o p n → Takes feed_told studio engine events datagrams stream path old new o p most
+  takes-within studio engine events datagrams stream path old new o p n most h t = record { given = t.given; few = (let f = t.few in omega (arith, f, h)); stands = t.stands; heard = t.heard; goes_on = t.goes_on }
 
   -- no feed of a stream yet
-  pub stream-none : (studio : Studio) (engine : EngineState) (events : List TraceEvent) (datagrams : List (List ℕ)) (stream : ℕ) (takers : List (Taker F))
-      → HasSession studio engine events datagrams → TakesStream feed_told studio engine events datagrams stream takers takers 0
-  stream-none studio engine events datagrams stream takers s = record {
+  pub stream-none : (studio : Studio) (engine : EngineState) (events : List TraceEvent) (datagrams : List (List ℕ)) (stream : ℕ) (takers : List (Taker F)) (o : Option (List Heard))
+      → HasSession studio engine events datagrams → TakesStream feed_told studio engine events datagrams stream takers takers o o 0
+  stream-none studio engine events datagrams stream takers o s = record {
     arrivals = [];
     stands = subst (λ l. HasSession studio engine l datagrams) (sym (append-nil events)) s;
+    heard = adds_none o;
     arrive = tt;
     few = λ path. omega arith;
     later = λ path h. refl;
@@ -116,9 +123,9 @@ module _ {F : Type 0} (feed_told : F → List Answer) where
     each = λ path old at. (old, at, goes-nowhere feed_told old);
   }
 
-  module _ (studio : Studio) (mid new : EngineState) (events : List TraceEvent) (datagrams : List (List ℕ)) (stream i : ℕ) (olds now : List (Taker F)) (d moved : Taker F)
-      (before : TakesStream feed_told studio mid events datagrams stream olds now i) (within : i < length now)
-      (t : Takes feed_told studio new (events ++ before.arrivals) datagrams stream i (get_or now i d) moved 64) where
+  module _ (studio : Studio) (mid new : EngineState) (events : List TraceEvent) (datagrams : List (List ℕ)) (stream i : ℕ) (olds now : List (Taker F)) (d moved : Taker F) (o p q : Option (List Heard))
+      (before : TakesStream feed_told studio mid events datagrams stream olds now o p i) (within : i < length now)
+      (t : Takes feed_told studio new (events ++ before.arrivals) datagrams stream i (get_or now i d) moved p q 64) where
     here : (path : ℕ) → path ≡ i → datagrams_on stream path (before.arrivals ++ arrivals_on stream i t.given) ≡ t.given
     here path e = subst (λ p. datagrams_on stream p (before.arrivals ++ arrivals_on stream i t.given) ≡ t.given) (sym e) (more_here stream i before.arrivals t.given (before.later i (omega arith)))
 
@@ -126,10 +133,11 @@ module _ {F : Type 0} (feed_told : F → List Answer) where
     beside path ne = more_beside stream i path before.arrivals t.given ne
 
     -- one feed more
-    pub stream-more : TakesStream feed_told studio new events datagrams stream olds (set now i moved) (i + 1)
+    pub stream-more : TakesStream feed_told studio new events datagrams stream olds (set now i moved) o q (i + 1)
     stream-more = record {
       arrivals = before.arrivals ++ arrivals_on stream i t.given;
       stands = subst (λ l. HasSession studio new l datagrams) (append_assoc events before.arrivals (arrivals_on stream i t.given)) t.stands;
+      heard = hears_more studio.open_at events o p q before.arrivals (arrivals_on stream i t.given) before.heard t.heard;
       arrive = arrivals-append before.arrivals (arrivals_on stream i t.given) before.arrive (are_arrivals stream i t.given);
       few = λ path. elim (cases_eq path i) [
         | inl e ↦ let f = t.few in let g = ap length (here path e) in omega (arith, f, g)
@@ -153,11 +161,12 @@ module _ {F : Type 0} (feed_told : F → List Answer) where
     }
 
   -- no stream's feeds yet
-  pub all-none : (studio : Studio) (engine : EngineState) (events : List TraceEvent) (datagrams : List (List ℕ)) (takers : List (Vec (Taker F) Global))
-      → HasSession studio engine events datagrams → TakesAll feed_told studio engine events datagrams takers takers 0
-  all-none studio engine events datagrams takers s = record {
+  pub all-none : (studio : Studio) (engine : EngineState) (events : List TraceEvent) (datagrams : List (List ℕ)) (takers : List (Vec (Taker F) Global)) (o : Option (List Heard))
+      → HasSession studio engine events datagrams → TakesAll feed_told studio engine events datagrams takers takers o o 0
+  all-none studio engine events datagrams takers o s = record {
     arrivals = [];
     stands = subst (λ l. HasSession studio engine l datagrams) (sym (append-nil events)) s;
+    heard = adds_none o;
     arrive = tt;
     few = λ stream path. omega arith;
     later = λ stream path h. refl;
@@ -165,9 +174,9 @@ module _ {F : Type 0} (feed_told : F → List Answer) where
     each = λ stream own at. (own, at, λ path old there. (old, there, goes-nowhere feed_told old));
   }
 
-  module _ (studio : Studio) (mid new : EngineState) (events : List TraceEvent) (datagrams : List (List ℕ)) (i : ℕ) (olds now : List (Vec (Taker F) Global)) (d moved : Vec (Taker F) Global)
-      (before : TakesAll feed_told studio mid events datagrams olds now i) (within : i < length now)
-      (t : TakesStream feed_told studio new (events ++ before.arrivals) datagrams i (get_or now i d).items moved.items (length (get_or now i d).items)) where
+  module _ (studio : Studio) (mid new : EngineState) (events : List TraceEvent) (datagrams : List (List ℕ)) (i : ℕ) (olds now : List (Vec (Taker F) Global)) (d moved : Vec (Taker F) Global) (o p q : Option (List Heard))
+      (before : TakesAll feed_told studio mid events datagrams olds now o p i) (within : i < length now)
+      (t : TakesStream feed_told studio new (events ++ before.arrivals) datagrams i (get_or now i d).items moved.items p q (length (get_or now i d).items)) where
     own : (stream path : ℕ) → stream ≡ i → datagrams_on stream path (before.arrivals ++ t.arrivals) ≡ datagrams_on i path t.arrivals
     own stream path e = subst (λ s. datagrams_on s path (before.arrivals ++ t.arrivals) ≡ datagrams_on i path t.arrivals) (sym e) (none_before i path before.arrivals t.arrivals (before.later i path (omega arith)))
 
@@ -175,10 +184,11 @@ module _ {F : Type 0} (feed_told : F → List Answer) where
     other stream path ne = none_more stream path before.arrivals t.arrivals (t.others stream path ne)
 
     -- one stream's more
-    pub all-more : TakesAll feed_told studio new events datagrams olds (set now i moved) (i + 1)
+    pub all-more : TakesAll feed_told studio new events datagrams olds (set now i moved) o q (i + 1)
     all-more = record {
       arrivals = before.arrivals ++ t.arrivals;
       stands = subst (λ l. HasSession studio new l datagrams) (append_assoc events before.arrivals t.arrivals) t.stands;
+      heard = hears_more studio.open_at events o p q before.arrivals t.arrivals before.heard t.heard;
       arrive = arrivals-append before.arrivals t.arrivals before.arrive t.arrive;
       few = λ stream path. elim (cases_eq stream i) [
         | inl e ↦ let f = t.few path in let g = ap length (own stream path e) in omega (arith, f, g)
@@ -222,9 +232,9 @@ module _ {F : Type 0} (feed_told : F → List Answer) where
   }
 
   -- and goes on by what was taken
-  pub given-more : (studio : Studio) (engine : EngineState) (all : List (List (List Answer))) (olds news : List (Vec (Taker F) Global)) (events : List TraceEvent) (datagrams : List (List ℕ)) (count : ℕ)
-      → HaveGiven feed_told all olds events → (t : TakesAll feed_told studio engine events datagrams olds news count) → HaveGiven feed_told all news (events ++ t.arrivals)
-  given-more studio engine all olds news events datagrams count h t = record {
+  pub given-more : (studio : Studio) (engine : EngineState) (all : List (List (List Answer))) (olds news : List (Vec (Taker F) Global)) (events : List TraceEvent) (datagrams : List (List ℕ)) (o p : Option (List Heard)) (count : ℕ)
+      → HaveGiven feed_told all olds events → (t : TakesAll feed_told studio engine events datagrams olds news o p count) → HaveGiven feed_told all news (events ++ t.arrivals)
+  given-more studio engine all olds news events datagrams o p count h t = record {
     each = λ stream own at.
         let found = h.each stream own at in
         let moved = t.each stream found.0 found.1 in (

@@ -1,4 +1,5 @@
 pub mod Rounds
+pub mod Taps
 pub mod Takes
 pub mod Sends
 pub mod Runs

@@ -11,6 +11,7 @@ use Rattle.studio_workers.specs.Sinks.{Hands}
 use Rattle.studio_workers.specs.declared.report.WorkReport.{WorkReport}
 use Rattle.studio_alone.specs.Rounds.{AreNext, AreRounds, Round, answers_of, datagrams_on, events_by, events_of, time_by}
 use Rattle.studio_alone.specs.Takes.{HaveGiven}
+use Rattle.studio_alone.specs.Taps.{Heard, Hears, heard_by}
 use Rattle.studio_alone.specs.declared.desk.Desk.{Desk}
 
 -- path by path the events have all datagrams of each feed that is known to reach its end
@@ -18,9 +19,9 @@ abbrev pub HaveAllArrived : Studio → List (List (List Answer)) → List Round 
 HaveAllArrived studio all rounds = (stream path : ℕ) (own : List (List Answer)) (told : List Answer) → slice_get all stream ≡ Some own → slice_get own path ≡ Some told
     → reaches_end 0 told ≡ true → datagrams_on stream path (events_by studio.open_at rounds) ≡ told_datagrams 0 told
 
-module _ {F C K : Type 0} where
+module _ {F C K T : Type 0} where
   -- a run that began with such feeds and such a clock is on its way
-  pub record IsUnderWay (feed_told : F → List Answer) (clock_told : C → List ℤ) (sink_handed : K → Option (List (List ℕ))) (studio : Studio) (all : List (List (List Answer))) (clock : List ℤ) (before : Option (List (List ℕ))) (desk : Desk F C K) : Type 0 where
+  pub record IsUnderWay (feed_told : F → List Answer) (clock_told : C → List ℤ) (sink_handed : K → Option (List (List ℕ))) (tap_heard : T → Option (List Heard)) (studio : Studio) (all : List (List (List Answer))) (clock : List ℤ) (before : Option (List (List ℕ))) (earlier : Option (List Heard)) (desk : Desk F C K T) : Type 0 where
     pub rounds : List Round
     pub datagrams : List (List ℕ)
     pub stands : HasSession studio desk.engine (events_by studio.open_at rounds) datagrams
@@ -30,9 +31,10 @@ module _ {F C K : Type 0} where
     pub given : HaveGiven feed_told all desk.takers.items (events_by studio.open_at rounds)
     pub count : length datagrams < 2 ^ 64 → desk.counts.blocks ≡ length datagrams
     pub handed : Hands before datagrams (sink_handed desk.sink)
+    pub heard : Hears earlier (heard_by studio.open_at (events_by studio.open_at rounds)) (tap_heard desk.tap)
 
   -- and has come to its end
-  pub record IsDone (sink_handed : K → Option (List (List ℕ))) (studio : Studio) (all : List (List (List Answer))) (clock : List ℤ) (before : Option (List (List ℕ))) (desk : Desk F C K) : Type 0 where
+  pub record IsDone (sink_handed : K → Option (List (List ℕ))) (tap_heard : T → Option (List Heard)) (studio : Studio) (all : List (List (List Answer))) (clock : List ℤ) (before : Option (List (List ℕ))) (earlier : Option (List Heard)) (desk : Desk F C K T) : Type 0 where
     pub rounds : List Round
     pub datagrams : List (List ℕ)
     pub stands : HasSession studio desk.engine (events_of studio rounds) datagrams
@@ -43,9 +45,10 @@ module _ {F C K : Type 0} where
     pub arrived : HaveAllArrived studio all rounds
     pub count : length datagrams < 2 ^ 64 → desk.counts.blocks ≡ length datagrams
     pub handed : Hands before datagrams (sink_handed desk.sink)
+    pub heard : Hears earlier (heard_by studio.open_at (events_of studio rounds)) (tap_heard desk.tap)
 
--- what a settled run came to: rounds that go by what the clock was known to tell, in which all arrived that the feeds were known to give. None of their events is at fault, the report has the counts of `run_studio` for them, and a sink that tells at the end was handed its datagrams, in order
-pub record IsSettledRun (studio : Studio) (all : List (List (List Answer))) (clock : List ℤ) (report : WorkReport) (before after : Option (List (List ℕ))) : Type 0 where
+-- what a settled run came to: rounds that go by what the clock was known to tell, in which all arrived that the feeds were known to give. None of their events is at fault, the report has the counts of `run_studio` for them, a sink that tells at the end was handed its datagrams, in order, and a tap that does was told its arrivals, each with the reading before it, and its close
+pub record IsSettledRun (studio : Studio) (all : List (List (List Answer))) (clock : List ℤ) (report : WorkReport) (before after : Option (List (List ℕ))) (earlier later : Option (List Heard)) : Type 0 where
   pub rounds : List Round
   pub bounded : AreRounds rounds
   pub clocked : AreNext clock (answers_of rounds)
@@ -56,3 +59,4 @@ pub record IsSettledRun (studio : Studio) (all : List (List (List Answer))) (clo
   pub counts : AreCounts studio (events_of studio rounds) report.streams.items
   pub count : length datagrams < 2 ^ 64 → report.blocks ≡ length datagrams
   pub handed : Hands before datagrams after
+  pub heard : Hears earlier (heard_by studio.open_at (events_of studio rounds)) later

@@ -1,13 +1,15 @@
 -- What was taken of feeds.
-use Rattle.std.specs.Prelude.{◌≡◌, ◌≢◌, ℕ, ◌≤◌, Bool, true, false, List, [], ◌++◌, length, map, slice_get, Some}
+use Rattle.std.specs.Prelude.{◌≡◌, ◌≢◌, ℕ, ◌≤◌, Bool, true, false, List, [], ◌++◌, length, map, slice_get, Option, Some}
 use Rattle.std.specs.declared.vec.Vec.{Vec}
 use Rattle.std.specs.declared.alloc.Global.{Global}
 use Rattle.studio_spec.specs.Studio.{Studio}
 use Rattle.studio_session.specs.Event.{TraceEvent}
+use Rattle.studio_session.specs.Fault.{time_at}
 use Rattle.studio_engine.specs.Engine.{EngineState}
 use Rattle.studio_engine.specs.Session.{HasSession}
 use Rattle.studio_workers.specs.Answers.{Answer, reaches_end, told_datagrams}
 use Rattle.studio_alone.specs.Rounds.{AreArrivals, arrivals_on, datagrams_on}
+use Rattle.studio_alone.specs.Taps.{Heard, Hears, heard_by}
 use Rattle.studio_alone.specs.declared.taker.Taker.{Taker}
 
 -- of all datagrams of these answers so many came, with these answers left after so many faults in a row; all, once the feed ended
@@ -39,17 +41,19 @@ module _ {F : Type 0} where
   abbrev pub GoesOn : (F → List Answer) → Taker F → Taker F → List (List ℕ) → Type 0
   GoesOn feed_told old new given = (all : List Answer) (before : List (List ℕ)) → IsGiven feed_told all old before → IsGiven feed_told all new (before ++ given)
 
-  -- a feed was asked, and at most so many datagrams of it arrived
-  pub record Takes (feed_told : F → List Answer) (studio : Studio) (engine : EngineState) (events : List TraceEvent) (datagrams : List (List ℕ)) (stream path : ℕ) (old new : Taker F) (most : ℕ) : Type 0 where
+  -- a feed was asked, and at most so many datagrams of it arrived, of which the tap was told
+  pub record Takes (feed_told : F → List Answer) (studio : Studio) (engine : EngineState) (events : List TraceEvent) (datagrams : List (List ℕ)) (stream path : ℕ) (old new : Taker F) (before after : Option (List Heard)) (most : ℕ) : Type 0 where
     pub given : List (List ℕ)
     pub few : length given ≤ most
     pub stands : HasSession studio engine (events ++ arrivals_on stream path given) datagrams
+    pub heard : Hears before (heard_by (time_at studio.open_at events) (arrivals_on stream path given)) after
     pub goes_on : GoesOn feed_told old new given
 
   -- so were the first feeds of a stream
-  pub record TakesStream (feed_told : F → List Answer) (studio : Studio) (engine : EngineState) (events : List TraceEvent) (datagrams : List (List ℕ)) (stream : ℕ) (olds news : List (Taker F)) (count : ℕ) : Type 0 where
+  pub record TakesStream (feed_told : F → List Answer) (studio : Studio) (engine : EngineState) (events : List TraceEvent) (datagrams : List (List ℕ)) (stream : ℕ) (olds news : List (Taker F)) (before after : Option (List Heard)) (count : ℕ) : Type 0 where
     pub arrivals : List TraceEvent
     pub stands : HasSession studio engine (events ++ arrivals) datagrams
+    pub heard : Hears before (heard_by (time_at studio.open_at events) arrivals) after
     pub arrive : AreArrivals arrivals
     pub few : (path : ℕ) → length (datagrams_on stream path arrivals) ≤ 64
     pub later : (path : ℕ) → count ≤ path → datagrams_on stream path arrivals ≡ []
@@ -59,9 +63,10 @@ module _ {F : Type 0} where
         → (new : Taker F) × (slice_get news path ≡ Some new) × GoesOn feed_told old new (datagrams_on stream path arrivals)
 
   -- so were those of the first streams
-  pub record TakesAll (feed_told : F → List Answer) (studio : Studio) (engine : EngineState) (events : List TraceEvent) (datagrams : List (List ℕ)) (olds news : List (Vec (Taker F) Global)) (count : ℕ) : Type 0 where
+  pub record TakesAll (feed_told : F → List Answer) (studio : Studio) (engine : EngineState) (events : List TraceEvent) (datagrams : List (List ℕ)) (olds news : List (Vec (Taker F) Global)) (before after : Option (List Heard)) (count : ℕ) : Type 0 where
     pub arrivals : List TraceEvent
     pub stands : HasSession studio engine (events ++ arrivals) datagrams
+    pub heard : Hears before (heard_by (time_at studio.open_at events) arrivals) after
     pub arrive : AreArrivals arrivals
     pub few : (stream path : ℕ) → length (datagrams_on stream path arrivals) ≤ 64
     pub later : (stream path : ℕ) → count ≤ stream → datagrams_on stream path arrivals ≡ []

@@ -5,12 +5,14 @@ ghost use Rattle.studio_workers.specs.Answers.{Answer};
 ghost use Rattle.studio_workers.specs.Balances.{Balances};
 ghost use Rattle.studio_alone.specs.Runs.{IsDone, IsSettledRun, IsUnderWay};
 ghost use Rattle.studio_alone.specs.Takes.{AllEnded};
+ghost use Rattle.studio_alone.specs.Taps.{Heard};
 
 use crate::desk::Desk;
 use crate::report::{Room, report};
 use crate::rest::Rest;
 use crate::settle::settle;
 use crate::taker::all_takers;
+use crate::tap::Tap;
 use std::alloc::{AllocError, Global};
 use std::sync::Wait;
 use studio_engine::Engine;
@@ -21,18 +23,19 @@ use studio_workers::{Clock, Feed, SendCounts, Sink, WorkReport};
 ///
 /// The feeds stand stream by stream and path by path, a list for each stream. All memory is taken before the clock
 /// is read first. A run that is not settled was handed a feed for a path that its stream lacks, or took 2^62 events.
-pub fn run_alone<R: Wait, F: Feed, C: Clock, K: Sink, P: Rest>(
+pub fn run_alone<R: Wait, F: Feed, C: Clock, K: Sink, T: Tap<F>, P: Rest>(
     rt: &R,
     alloc: Global,
     studio: &StudioSpec,
     feeds: Vec<Vec<F>>,
     clock: C,
     sink: K,
+    tap: T,
     rest: P,
-) -> Result<(WorkReport, K), AllocError>
+) -> Result<(WorkReport, K, T), AllocError>
     ensures balance { IfOk result (λ r. Balances r.0.blocks r.0.sent_a r.0.fault_a r.0.sent_b r.0.fault_b) }
     ensures settled { IfOk result (λ r. r.0.settled ≡ true
-        → IsSettledRun studio.now (map (λ own. map F.told own.items) feeds.items) (C.told clock) r.0 (K.handed sink) (K.handed r.1)) }
+        → IsSettledRun studio.now (map (λ own. map F.told own.items) feeds.items) (C.told clock) r.0 (K.handed sink) (K.handed r.1) (T.heard tap) (T.heard r.2)) }
 {
     let specs = studio.streams();
     let room = Room::new(alloc, specs)?;
@@ -41,6 +44,7 @@ pub fn run_alone<R: Wait, F: Feed, C: Clock, K: Sink, P: Rest>(
         takers: all_takers(alloc, feeds)?,
         clock,
         sink,
+        tap,
         counts: SendCounts::new(),
     };
     let (mut desk, ended) = run_rounds(rt, desk, rest);
@@ -49,13 +53,13 @@ pub fn run_alone<R: Wait, F: Feed, C: Clock, K: Sink, P: Rest>(
 }
 
 /// Makes rounds until all feeds have ended; answers false where the engine took no more.
-fn run_rounds<R: Wait, F: Feed, C: Clock, K: Sink, P: Rest>(
+fn run_rounds<R: Wait, F: Feed, C: Clock, K: Sink, T: Tap<F>, P: Rest>(
     rt: &R,
-    desk: Desk<F, C, K>,
+    desk: Desk<F, C, K, T>,
     rest: P,
-) -> (Desk<F, C, K>, bool)
-    ensures on { result.1 ≡ true → (studio : Studio) (all : List (List (List Answer))) (clock : List ℤ) (before : Option (List (List ℕ)))
-        → IsUnderWay F.told C.told K.handed studio all clock before desk → IsUnderWay F.told C.told K.handed studio all clock before result.0 }
+) -> (Desk<F, C, K, T>, bool)
+    ensures on { result.1 ≡ true → (studio : Studio) (all : List (List (List Answer))) (clock : List ℤ) (before : Option (List (List ℕ))) (earlier : Option (List Heard))
+        → IsUnderWay F.told C.told K.handed T.heard studio all clock before earlier desk → IsUnderWay F.told C.told K.handed T.heard studio all clock before earlier result.0 }
     ensures ended { result.1 ≡ true → AllEnded result.0.takers.items }
 {
     let mut desk = desk;

@@ -5,10 +5,12 @@ ghost use Rattle.studio_workers.specs.Answers.{Answer};
 ghost use Rattle.studio_workers.specs.Clocks.{time_with};
 ghost use Rattle.studio_alone.specs.Runs.{IsUnderWay};
 ghost use Rattle.studio_alone.specs.Takes.{AllEnded};
+ghost use Rattle.studio_alone.specs.Taps.{Heard};
 
 use crate::send::send_due;
 use crate::take::take_all;
 use crate::taker::{Taker, have_all_ended};
+use crate::tap::Tap;
 use path_merge::ClockFault;
 use studio_engine::{ArriveFault, Engine};
 use studio_workers::{Clock, Feed, SendCounts, Sink};
@@ -32,24 +34,25 @@ impl From<ClockFault> for Stopped {
     }
 }
 
-/// The engine, its feeds, the clock and the sink of a run, and what was sent.
+/// The engine, its feeds, the clock, the sink and the tap of a run, and what was sent.
 #[derive(Drop)]
-pub(crate) struct Desk<F, C, K> {
+pub(crate) struct Desk<F, C, K, T> {
     pub(crate) engine: Engine,
     /// The feeds, stream by stream and path by path.
     pub(crate) takers: Vec<Vec<Taker<F>>>,
     pub(crate) clock: C,
     pub(crate) sink: K,
+    pub(crate) tap: T,
     pub(crate) counts: SendCounts,
 }
 
-impl<F: Feed, C: Clock, K: Sink> Desk<F, C, K> {
+impl<F: Feed, C: Clock, K: Sink, T: Tap<F>> Desk<F, C, K, T> {
     /// Reads the clock, sends what is due by then, and takes what the feeds have. Answers for how many sampling
     /// instants the run may rest; none where all feeds had ended before.
     pub(crate) fn round(&mut self, buf: &mut [u8]) -> Result<Option<i64>, Stopped>
         requires room { length buf.old ≡ 2048 }
-        ensures on { OnOk result ((studio : Studio) (all : List (List (List Answer))) (clock : List ℤ) (before : Option (List (List ℕ)))
-            → IsUnderWay F.told C.told K.handed studio all clock before self.old → IsUnderWay F.told C.told K.handed studio all clock before self.new) }
+        ensures on { OnOk result ((studio : Studio) (all : List (List (List Answer))) (clock : List ℤ) (before : Option (List (List ℕ))) (earlier : Option (List Heard))
+            → IsUnderWay F.told C.told K.handed T.heard studio all clock before earlier self.old → IsUnderWay F.told C.told K.handed T.heard studio all clock before earlier self.new) }
         ensures ended { IfOk result (λ most. most ≡ None → AllEnded self.new.takers.items) }
     {
         let answer = self.clock.now();
@@ -58,7 +61,12 @@ impl<F: Feed, C: Clock, K: Sink> Desk<F, C, K> {
         if have_all_ended(self.takers.as_slice()) {
             return Ok(None);
         }
-        let most = take_all(&mut self.engine, self.takers.as_mut_slice(), buf)?;
+        let most = take_all(
+            &mut self.engine,
+            self.takers.as_mut_slice(),
+            &mut self.tap,
+            buf,
+        )?;
         Ok(Some(until_deadline(&self.engine, most)))
     }
 }

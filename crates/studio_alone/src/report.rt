@@ -121,18 +121,19 @@ fn all_faults<F: Drop>(streams: &[Vec<Taker<F>>], room: Vec<u64>) -> Result<Vec<
     Ok(faults)
 }
 
-/// What came of a run, and its sink.
-pub(crate) fn report<F: Drop, C: Drop, K: Drop>(
+/// What came of a run, its sink and its tap.
+pub(crate) fn report<F: Drop, C: Drop, K: Drop, T: Drop>(
     alloc: Global,
-    desk: Desk<F, C, K>,
+    desk: Desk<F, C, K, T>,
     specs: &[StreamSpec],
     room: Room,
     settled: bool,
-) -> Result<(WorkReport, K), AllocError>
+) -> Result<(WorkReport, K, T), AllocError>
     ensures balance { IfOk result (λ r. Balances r.0.blocks r.0.sent_a r.0.fault_a r.0.sent_b r.0.fault_b) }
     ensures settled { IfOk result (λ r. r.0.settled ≡ settled) }
     ensures blocks { IfOk result (λ r. r.0.blocks ≡ desk.counts.blocks) }
     ensures sink { IfOk result (λ r. r.1 ≡ desk.sink) }
+    ensures tap { IfOk result (λ r. r.2 ≡ desk.tap) }
     ensures counts { IfOk result (λ r. (studio : Studio) (events : List TraceEvent) (datagrams : List (List ℕ))
         → HasSession studio desk.engine events datagrams → HasAllMarks desk.engine → specs.now ≡ studio.streams
         → AreCounts studio events r.0.streams.items) }
@@ -142,6 +143,7 @@ pub(crate) fn report<F: Drop, C: Drop, K: Drop>(
         takers,
         clock: _,
         sink,
+        tap,
         counts,
     } = desk;
     let Room {
@@ -159,5 +161,5 @@ pub(crate) fn report<F: Drop, C: Drop, K: Drop>(
         fault_b: counts.fault_b,
         settled,
     };
-    Ok((report, sink))
+    Ok((report, sink, tap))
 }

@@ -4,20 +4,23 @@ ghost use Rattle.studio_spec.specs.Studio.{Studio};
 ghost use Rattle.studio_workers.specs.Answers.{Answer};
 ghost use Rattle.studio_alone.specs.Runs.{IsDone, IsUnderWay};
 ghost use Rattle.studio_alone.specs.Takes.{AllEnded};
+ghost use Rattle.studio_alone.specs.Taps.{Heard};
 
 use crate::desk::Desk;
 use crate::send::send_rest;
+use crate::tap::Tap;
 use studio_workers::{Clock, Feed, Sink};
 
-/// Closes the engine, and sends what is left. Answers whether all was given.
-pub(crate) fn settle<F: Feed, C: Clock, K: Sink>(desk: &mut Desk<F, C, K>) -> bool
-    ensures { IsTrue result → (studio : Studio) (all : List (List (List Answer))) (clock : List ℤ) (before : Option (List (List ℕ)))
-        → AllEnded desk.old.takers.items → IsUnderWay F.told C.told K.handed studio all clock before desk.old
-        → IsDone K.handed studio all clock before desk.new }
+/// Closes the engine, tells the tap of it, and sends what is left. Answers whether all was given.
+pub(crate) fn settle<F: Feed, C: Clock, K: Sink, T: Tap<F>>(desk: &mut Desk<F, C, K, T>) -> bool
+    ensures { IsTrue result → (studio : Studio) (all : List (List (List Answer))) (clock : List ℤ) (before : Option (List (List ℕ))) (earlier : Option (List Heard))
+        → AllEnded desk.old.takers.items → IsUnderWay F.told C.told K.handed T.heard studio all clock before earlier desk.old
+        → IsDone K.handed T.heard studio all clock before earlier desk.new }
 {
     if desk.engine.close().is_err() {
         return false;
     }
+    desk.tap.closed(desk.engine.time());
     send_rest(&mut desk.engine, &mut desk.sink, &mut desk.counts);
     desk.engine.settled()
 }

@@ -6,6 +6,7 @@ ghost use Rattle.studio_engine.specs.Session.{HasSession};
 ghost use Rattle.studio_alone.specs.Takes.{Takes, TakesAll, TakesStream};
 
 use crate::taker::Taker;
+use crate::tap::Tap;
 use path_merge::Path;
 use studio_engine::{ArriveFault, Engine};
 use studio_workers::{Feed, FeedAnswer};
@@ -30,17 +31,18 @@ enum Taken {
     Nothing,
 }
 
-/// Asks a feed once, and hands its datagram to the engine.
-fn take_one<F: Feed>(
+/// Asks a feed once, hands its datagram to the engine, and tells the tap of it.
+fn take_one<F: Feed, T: Tap<F>>(
     engine: &mut Engine,
     stream: usize,
     path: Path,
     taker: &mut Taker<F>,
+    tap: &mut T,
     buf: &mut [u8],
 ) -> Result<Taken, ArriveFault>
     requires room { length buf.old ≡ 2048 }
     ensures { OnOk result ((studio : Studio) (events : List TraceEvent) (datagrams : List (List ℕ)) → HasSession studio engine.old events datagrams
-        → Takes F.told studio engine.new events datagrams stream path taker.old taker.new 1) }
+        → Takes F.told studio engine.new events datagrams stream path taker.old taker.new (T.heard tap.old) (T.heard tap.new) 1) }
 {
     if taker.ended {
         return Ok(Taken::Nothing);
@@ -49,6 +51,7 @@ fn take_one<F: Feed>(
         FeedAnswer::Datagram(count) => {
             taker.in_a_row = 0;
             engine.arrive(stream, path, &buf[..count])?;
+            tap.arrived(stream, path, engine.time(), &buf[..count], &taker.feed);
             Ok(Taken::Datagram)
         }
         FeedAnswer::Nothing => {
@@ -72,19 +75,20 @@ fn take_one<F: Feed>(
 }
 
 /// Takes what a feed has, but at most 64 datagrams, and answers how long the run may rest for it.
-fn take_some<F: Feed>(
+fn take_some<F: Feed, T: Tap<F>>(
     engine: &mut Engine,
     stream: usize,
     path: Path,
     taker: &mut Taker<F>,
+    tap: &mut T,
     buf: &mut [u8],
 ) -> Result<i64, ArriveFault>
     requires room { length buf.old ≡ 2048 }
     ensures { OnOk result ((studio : Studio) (events : List TraceEvent) (datagrams : List (List ℕ)) → HasSession studio engine.old events datagrams
-        → Takes F.told studio engine.new events datagrams stream path taker.old taker.new 64) }
+        → Takes F.told studio engine.new events datagrams stream path taker.old taker.new (T.heard tap.old) (T.heard tap.new) 64) }
 {
     for _ in 0..MOST_TAKEN {
-        match take_one(engine, stream, path, taker, buf)? {
+        match take_one(engine, stream, path, taker, tap, buf)? {
             Taken::Datagram => {}
             Taken::Fault => return Ok(FAULT_REST),
             Taken::Nothing => return Ok(LONGEST_REST),
@@ -104,51 +108,54 @@ fn path_of(number: usize) -> Result<Path, ArriveFault>
 }
 
 /// Takes what the feeds of a stream have, and answers how long the run may rest.
-fn take_stream<F: Feed>(
+fn take_stream<F: Feed, T: Tap<F>>(
     engine: &mut Engine,
     stream: usize,
     takers: &mut [Taker<F>],
+    tap: &mut T,
     buf: &mut [u8],
 ) -> Result<i64, ArriveFault>
     requires room { length buf.old ≡ 2048 }
     ensures { OnOk result ((studio : Studio) (events : List TraceEvent) (datagrams : List (List ℕ)) → HasSession studio engine.old events datagrams
-        → TakesStream F.told studio engine.new events datagrams stream takers.old takers.new (length takers.old)) }
+        → TakesStream F.told studio engine.new events datagrams stream takers.old takers.new (T.heard tap.old) (T.heard tap.new) (length takers.old)) }
 {
     let mut most = LONGEST_REST;
     for number in 0..takers.len() {
         let path = path_of(number)?;
-        most = take_some(engine, stream, path, &mut takers[number], buf)?.min(most);
+        most = take_some(engine, stream, path, &mut takers[number], tap, buf)?.min(most);
     }
     Ok(most)
 }
 
 /// Takes what the feeds of a stream have, in place.
-fn take_own<F: Feed>(
+fn take_own<F: Feed, T: Tap<F>>(
     engine: &mut Engine,
     stream: usize,
     own: &mut Vec<Taker<F>>,
+    tap: &mut T,
     buf: &mut [u8],
 ) -> Result<i64, ArriveFault>
     requires room { length buf.old ≡ 2048 }
     ensures { OnOk result ((studio : Studio) (events : List TraceEvent) (datagrams : List (List ℕ)) → HasSession studio engine.old events datagrams
-        → TakesStream F.told studio engine.new events datagrams stream own.old.items own.new.items (length own.old.items)) }
+        → TakesStream F.told studio engine.new events datagrams stream own.old.items own.new.items (T.heard tap.old) (T.heard tap.new) (length own.old.items)) }
 {
-    take_stream(engine, stream, own.as_mut_slice(), buf)
+    take_stream(engine, stream, own.as_mut_slice(), tap, buf)
 }
 
 /// Takes what all feeds have, and answers how long the run may rest.
-pub(crate) fn take_all<F: Feed>(
+pub(crate) fn take_all<F: Feed, T: Tap<F>>(
     engine: &mut Engine,
     streams: &mut [Vec<Taker<F>>],
+    tap: &mut T,
     buf: &mut [u8],
 ) -> Result<i64, ArriveFault>
     requires room { length buf.old ≡ 2048 }
     ensures { OnOk result ((studio : Studio) (events : List TraceEvent) (datagrams : List (List ℕ)) → HasSession studio engine.old events datagrams
-        → TakesAll F.told studio engine.new events datagrams streams.old streams.new (length streams.old)) }
+        → TakesAll F.told studio engine.new events datagrams streams.old streams.new (T.heard tap.old) (T.heard tap.new) (length streams.old)) }
 {
     let mut most = LONGEST_REST;
     for stream in 0..streams.len() {
-        most = take_own(engine, stream, &mut streams[stream], buf)?.min(most);
+        most = take_own(engine, stream, &mut streams[stream], tap, buf)?.min(most);
     }
     Ok(most)
 }

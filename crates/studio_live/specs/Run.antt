@@ -16,10 +16,10 @@ use Rattle.studio_live.specs.declared.fault.LiveFault.TheVariants.{Memory, Socke
 abbrev pub HasFeeds : Studio → List (List (List Answer)) → Type 0
 HasFeeds studio told = map (λ own. length own) told ≡ map (λ stream. stream.paths) studio.streams
 
--- the report tells of what some feeds and clocks told: of each stream's whole history, where workers ran; of one list of events, where one thread did. No sink tells what it was handed
+-- the report tells of what some feeds and clocks told: of each stream's whole history, where workers ran; of one list of events, where one thread did. No sink or tap tells what it was handed
 abbrev pub IsSettledIn : Bool → Studio → WorkReport → Type 0
 IsSettledIn false studio report = (places : ℕ) × (told : List (List Answer)) × (clocks : List (List ℤ)) × IsSettledRun studio places told clocks report None None
-IsSettledIn true studio report = (told : List (List (List Answer))) × (clock : List ℤ) × HasFeeds studio told × IsSettledAlone studio told clock report None None
+IsSettledIn true studio report = (told : List (List (List Answer))) × (clock : List ℤ) × HasFeeds studio told × IsSettledAlone studio told clock report None None None None
 
 -- the report is of a run of this studio, in one thread or by workers: its datagrams balance, and where it is settled it tells of all that happened
 pub record IsRunOf (one_thread : Bool) (studio : Studio) (report : WorkReport) : Type 0 where

@@ -24,7 +24,7 @@ use std::thread::Threads;
 use std::time::Clock;
 use std::vec::IntoIter;
 use stream_rules::StreamSpec;
-use studio_alone::run_alone;
+use studio_alone::{Quiet, run_alone};
 use studio_spec::StudioSpec;
 use studio_workers::WorkReport;
 
@@ -215,6 +215,6 @@ fn run_lone<R: Wait + Clock, E: Write + Drop>(
         sink,
         rest,
     } = lone;
-    let (report, _sink) = run_alone(rt, alloc, studio, feeds, clock, sink, rest)?;
+    let (report, _sink, _tap) = run_alone(rt, alloc, studio, feeds, clock, sink, Quiet, rest)?;
     Ok(report)
 }

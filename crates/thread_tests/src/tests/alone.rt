@@ -10,7 +10,7 @@ use std::process::Abort;
 use std::sync::Wait;
 use std::sync::atomic::AtomicI64;
 use std::test::Fail;
-use studio_alone::{Rest, run_alone};
+use studio_alone::{Quiet, Rest, run_alone};
 use studio_uses::{MemoryClock, MemoryFeed, MemorySink};
 use studio_workers::{Clock, Feed, Sink, WorkReport};
 
@@ -25,7 +25,8 @@ fn run_one<R: Wait + Abort, F: Feed, C: Clock, K: Sink, P: Rest>(
 ) -> Result<(WorkReport, K), Fail> {
     let studio = one_stream(alloc).ok_or("a studio")?;
     let feeds = list_of(rt, alloc, [list_of(rt, alloc, feeds)]);
-    Ok(run_alone(rt, alloc, &studio, feeds, clock, sink, rest)?)
+    let (report, sink, _) = run_alone(rt, alloc, &studio, feeds, clock, sink, Quiet, rest)?;
+    Ok((report, sink))
 }
 
 /// An address that refuses a datagram counts a fault, and the other address gets all.

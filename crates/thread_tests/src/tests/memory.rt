@@ -11,7 +11,7 @@ use std::process::Abort;
 use std::sync::Wait;
 use std::test::Fail;
 use std::thread::Threads;
-use studio_alone::run_alone;
+use studio_alone::{Quiet, run_alone};
 use studio_rings::OpenFault;
 use studio_run::PlayFault;
 use studio_spec::StudioSpec;
@@ -137,7 +137,7 @@ fn attempt_alone<R: Wait + Abort>(
     let own = Vec::from_array(alloc, [MemoryFeed::new(packets), MemoryFeed::new(packets)])?;
     let feeds = Vec::from_array(alloc, [own])?;
     let (clock, sink) = (MemoryClock::new(&[0]), MemorySink::new(alloc));
-    let (report, sink) = run_alone(rt, alloc, studio, feeds, clock, sink, NoRest)?;
+    let (report, sink, _) = run_alone(rt, alloc, studio, feeds, clock, sink, Quiet, NoRest)?;
     kept_or_told(rt, &report, &sink);
     Ok(())
 }

@@ -10,5 +10,5 @@ abbrev pub invariant-loop-stream : goal.invariant-loop-stream
 invariant-loop-stream g l = record {
   room : length l.buf ≡ 2048;
   takes : (studio : Studio) (events : List TraceEvent) (datagrams : List (List ℕ)) → HasSession studio l.fn.engine events datagrams
-      → TakesAll g.F.Feed.told studio l.engine events datagrams l.fn.streams l.streams l.stream;
+      → TakesAll g.F.Feed.told studio l.engine events datagrams l.fn.streams l.streams (g.T.Tap.heard l.fn.tap) (g.T.Tap.heard l.tap) l.stream;
 }

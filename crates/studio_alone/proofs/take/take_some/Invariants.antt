@@ -10,5 +10,5 @@ abbrev pub invariant-loop : goal.invariant-loop
 invariant-loop g l = record {
   room : length l.buf ≡ 2048;
   takes : (studio : Studio) (events : List TraceEvent) (datagrams : List (List ℕ)) → HasSession studio l.fn.engine events datagrams
-      → Takes g.F.Feed.told studio l.engine events datagrams l.stream l.path l.fn.taker l.taker l.counter;
+      → Takes g.F.Feed.told studio l.engine events datagrams l.stream l.path l.fn.taker l.taker (g.T.Tap.heard l.fn.tap) (g.T.Tap.heard l.tap) l.counter;
 }

@@ -6,7 +6,7 @@ use Rattle.studio_alone.proofs.take.take_stream.Goals as goal
 pub loop-number-init : goal.loop-number-init
 loop-number-init g c = record {
   room = c.requires.room;
-  takes = λ studio events datagrams s. stream-none g.F.Feed.told studio _ events datagrams _ _ s;
+  takes = λ studio events datagrams s. stream-none g.F.Feed.told studio _ events datagrams _ _ _ s;
 }
 
 pub loop-number-preserved : goal.loop-number-preserved
@@ -20,8 +20,8 @@ loop-number-preserved g c =
       room = c.take_some.auto.buf ∙ c.loop-number.invariant.room;
       takes = λ studio events datagrams s.
           let before = c.loop-number.invariant.takes studio events datagrams s in
-          stream-more g.F.Feed.told studio c.loop-number.engine _ events datagrams c.args.stream i c.args.takers.now takers item c.take_some.new.taker before within
-          (subst (λ p. Takes g.F.Feed.told studio c.take_some.new.engine (events ++ before.arrivals) datagrams c.args.stream p (get_or takers i item) c.take_some.new.taker 64) c.in_ok-path.ensures
+          stream-more g.F.Feed.told studio c.loop-number.engine _ events datagrams c.args.stream i c.args.takers.now takers item c.take_some.new.taker _ _ _ before within
+          (subst (λ p. Takes g.F.Feed.told studio c.take_some.new.engine (events ++ before.arrivals) datagrams c.args.stream p (get_or takers i item) c.take_some.new.taker (g.T.Tap.heard c.loop-number.tap) (g.T.Tap.heard c.take_some.new.tap) 64) c.in_ok-path.ensures
           (c.in_ok-take_some.ensures studio _ datagrams before.stands));
     }
 
@@ -29,4 +29,4 @@ pub returns : goal.returns
 returns g c = λ studio events datagrams s.
     let end = c.loop-number.auto.number-end in
     let all : c.loop-number.number ≡ length c.args.takers.now = omega (arith, c.loop-number-test.false, end) in
-    subst (λ n. TakesStream g.F.Feed.told studio c.loop-number.engine events datagrams c.args.stream c.args.takers.now c.loop-number.takers n) all (c.loop-number.invariant.takes studio events datagrams s)
+    subst (λ n. TakesStream g.F.Feed.told studio c.loop-number.engine events datagrams c.args.stream c.args.takers.now c.loop-number.takers (g.T.Tap.heard c.args.tap.now) (g.T.Tap.heard c.loop-number.tap) n) all (c.loop-number.invariant.takes studio events datagrams s)

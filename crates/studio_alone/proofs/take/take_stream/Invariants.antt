@@ -10,5 +10,5 @@ abbrev pub invariant-loop-number : goal.invariant-loop-number
 invariant-loop-number g l = record {
   room : length l.buf ≡ 2048;
   takes : (studio : Studio) (events : List TraceEvent) (datagrams : List (List ℕ)) → HasSession studio l.fn.engine events datagrams
-      → TakesStream g.F.Feed.told studio l.engine events datagrams l.stream l.fn.takers l.takers l.number;
+      → TakesStream g.F.Feed.told studio l.engine events datagrams l.stream l.fn.takers l.takers (g.T.Tap.heard l.fn.tap) (g.T.Tap.heard l.tap) l.number;
 }

@@ -7,7 +7,7 @@ use Rattle.studio_alone.proofs.RunLemmas.{round-rests, round-takes}
 use Rattle.studio_alone.proofs.desk.Desk.round.Goals as goal
 
 pub returns-then-have_all_ended-clause-on : goal.returns-then-have_all_ended-clause-on
-returns-then-have_all_ended-clause-on g c = λ studio all clock before h.
+returns-then-have_all_ended-clause-on g c = λ studio all clock before earlier h.
     let old = c.args.self.now in
     let events = events_by studio.open_at h.rounds in
     let answer : to_z w64 (of_z w64 c.now-answer.result) ≡ c.now-answer.result = search rules in
@@ -18,11 +18,11 @@ returns-then-have_all_ended-clause-on g c = λ studio all clock before h.
     there ∙ c.greatest-now.ensures ∙ ap (λ t. time_with t (to_z w64 (of_z w64 c.now-answer.result))) (time ∙ c.time.ensures.value) ∙ ap (time_with old.engine.time) answer in
     let sent = c.in_ok-send_due.ensures.sent studio events h.datagrams h.stands in
     let reached = c.in_ok-send_due.ensures.there studio events h.datagrams h.stands in
-    round-rests g.F.Feed.told g.C.Clock.told g.K.Sink.handed studio all clock before old _ h c.send_due.new.engine c.now-answer.result now
-    now_is c.now-answer.ensures.tells sent reached refl refl
+    round-rests g.F.Feed.told g.C.Clock.told g.K.Sink.handed g.T.Tap.heard studio all clock before earlier old _ h c.send_due.new.engine c.now-answer.result now
+    now_is c.now-answer.ensures.tells sent reached refl refl refl
 
 pub returns-clause-on : goal.returns-clause-on
-returns-clause-on g c = λ studio all clock before h.
+returns-clause-on g c = λ studio all clock before earlier h.
     let old = c.args.self.now in
     let events = events_by studio.open_at h.rounds in
     let answer : to_z w64 (of_z w64 c.now-answer.result) ≡ c.now-answer.result = search rules in
@@ -35,6 +35,6 @@ returns-clause-on g c = λ studio all clock before h.
     let reached = c.in_ok-send_due.ensures.there studio events h.datagrams h.stands in
     let lent = c.as_mut_slice.result.now in
     let kept = with_items_is old.takers c.take_all.new.streams (c.take_all.auto.streams ∙ c.as_mut_slice.ensures.len) in
-    round-takes g.F.Feed.told g.C.Clock.told g.K.Sink.handed studio all clock before old _ h c.send_due.new.engine c.now-answer.result now
+    round-takes g.F.Feed.told g.C.Clock.told g.K.Sink.handed g.T.Tap.heard studio all clock before earlier old _ h c.send_due.new.engine c.now-answer.result now
     now_is c.now-answer.ensures.tells sent reached lent c.take_all.new.streams (length lent) (sym c.as_mut_slice.ensures.value) kept
     (c.in_ok-most.ensures studio (turned old.engine.time now events) (h.datagrams ++ sent.more) sent.stands)
