@@ -23,15 +23,15 @@ use Rattle.std.proofs.lemmas.Int.{ints}
 use Rattle.stream_rules.specs.Reception.{reception_of}
 use Rattle.studio_session.specs.Session.{Datagram, Other, event_in, stream_history}
 
-first_none : (here later : Option StudioFault) → or_later here later ≡ None → here ≡ None
+pub first_none : (here later : Option StudioFault) → or_later here later ≡ None → here ≡ None
 first_none None later e = refl
 first_none (Some fault) later e = absurd (let f : Some fault ≡ None = e in cc)
 
-later_none : (here later : Option StudioFault) → or_later here later ≡ None → later ≡ None
+pub later_none : (here later : Option StudioFault) → or_later here later ≡ None → later ≡ None
 later_none None later e = e
 later_none (Some fault) later e = absurd (let f : Some fault ≡ None = e in cc)
 
-in_order : (place : ℕ) (b : Bool) → clock_fault place b ≡ None → b ≡ true
+pub in_order : (place : ℕ) (b : Bool) → clock_fault place b ≡ None → b ≡ true
 in_order place true e = refl
 in_order place false e = absurd (let f : clock_fault place false ≡ None = e in cc)
 

@@ -10,3 +10,6 @@ pub mod SourceLemmas
 pub mod FaultLemmas
 pub mod ReportLemmas
 pub mod HandedLemmas
+pub mod SilenceLemmas
+pub mod NearLemmas
+pub mod PrunedLemmas

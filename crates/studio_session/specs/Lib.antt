@@ -9,6 +9,7 @@ pub mod Receipt
 pub mod Play
 pub mod Run
 pub mod Report
+pub mod Pruned
 pub use Rattle.rtp_wire.specs.Datagram
 pub use Rattle.stream_rules.specs.StreamSpecFacts
 pub use Rattle.stream_rules.specs.StreamSpec

@@ -1,0 +1,34 @@
+-- The events of a studio without the readings that another one follows directly.
+use Rattle.std.specs.Prelude.{◌≡◌, ℕ, Bool, true, false, List, [], ◌∷◌, Some, None, slice_get, if◌then◌else◌}
+use Rattle.stream_rules.specs.declared.stream_counts.StreamCounts.{StreamCounts}
+use Rattle.stream_rules.specs.declared.stream_spec.Stream.{Stream}
+use Rattle.studio_spec.specs.Studio.{Studio}
+use Rattle.studio_session.specs.Event.{TraceEvent, Arrival, Reading, Closing}
+use Rattle.studio_session.specs.Fault.{session_fault_of}
+use Rattle.studio_session.specs.Counts.{path_counts_of}
+use Rattle.studio_session.specs.Report.{AreCounts, merge_tally_of}
+use Rattle.studio_session.specs.Run.{AreDatagrams}
+
+-- the first event is a reading
+abbrev pub begin_with_reading : List TraceEvent → Bool
+begin_with_reading [] = false
+begin_with_reading (Arrival stream path octets ∷ events) = false
+begin_with_reading (Reading time ∷ events) = true
+begin_with_reading (Closing ∷ events) = false
+
+-- without each reading that another one follows directly
+abbrev pub pruned_events : List TraceEvent → List TraceEvent
+pruned_events [] = []
+pruned_events (Arrival stream path octets ∷ events) = Arrival stream path octets ∷ pruned_events events
+pruned_events (Reading time ∷ events) = if begin_with_reading events then pruned_events events else Reading time ∷ pruned_events events
+pruned_events (Closing ∷ events) = Closing ∷ pruned_events events
+
+-- the other events have no fault; and the datagrams, and the counts of each path and of each merge, are those of both
+pub record IsSameRun (studio : Studio) (events others : List TraceEvent) : Type 0 where
+  pub no_fault : session_fault_of studio others ≡ None
+  pub paths : (i path : ℕ) (stream : Stream) → slice_get studio.streams i ≡ Some stream → path_counts_of stream i path events ≡ path_counts_of stream i path others
+  pub merges : (i : ℕ) (stream : Stream) → slice_get studio.streams i ≡ Some stream → merge_tally_of stream i studio.open_at events ≡ merge_tally_of stream i studio.open_at others
+  pub datagrams : (datagrams : List (List ℕ)) → AreDatagrams studio events datagrams → AreDatagrams studio others datagrams
+  pub datagrams_back : (datagrams : List (List ℕ)) → AreDatagrams studio others datagrams → AreDatagrams studio events datagrams
+  pub counts : (counts : List StreamCounts) → AreCounts studio events counts → AreCounts studio others counts
+  pub counts_back : (counts : List StreamCounts) → AreCounts studio others counts → AreCounts studio events counts

@@ -1,0 +1,18 @@
+//! A law of readings of the clock. Nothing is computed here: the clauses are the law.
+ghost use Rattle.std.specs.Prelude.{◌≡◌, ℤ, List, [], ◌∷◌, ◌++◌, None};
+ghost use Rattle.studio_spec.specs.Studio.{Studio};
+ghost use Rattle.studio_session.specs.Event.{Reading, TraceEvent};
+ghost use Rattle.studio_session.specs.Fault.{session_fault_of};
+ghost use Rattle.studio_session.specs.Play.{IsRunnableBy};
+ghost use Rattle.studio_session.specs.Pruned.{IsSameRun, pruned_events};
+
+/// Where events have no fault, a reading that another one follows directly may be left out, and so may all such
+/// readings: nothing is at fault then either, and the datagrams and the counts are the same. Marks of silence
+/// may be fewer.
+pub fn readings_may_be_left_out()
+    ensures one { (studio : Studio) (first rest : List TraceEvent) (a b : ℤ) → IsRunnableBy studio []
+        → session_fault_of studio (first ++ Reading a ∷ Reading b ∷ rest) ≡ None
+        → IsSameRun studio (first ++ Reading a ∷ Reading b ∷ rest) (first ++ Reading b ∷ rest) }
+    ensures all { (studio : Studio) (events : List TraceEvent) → IsRunnableBy studio []
+        → session_fault_of studio events ≡ None → IsSameRun studio events (pruned_events events) }
+{}
