@@ -26,3 +26,7 @@ ok_both (Err e) P Q R f p q = tt
 pub told : {T : Type 0} (P : ReplayFault → Type 0) (fault : ReplayFault) (r : Result T ReplayFault) → IsErrAnd r (λ answer. answer ≡ fault) → P fault → IfErr r P
 told P fault (Ok it) is holds = absurd is
 told P fault (Err answer) is holds = subst P (sym is) holds
+
+pub err_both : {X E : Type 0} (r : Result X E) (P Q R : E → Type 0) → ((e : E) → P e → Q e → R e) → IfErr r P → IfErr r Q → IfErr r R
+err_both (Ok x) P Q R f p q = tt
+err_both (Err e) P Q R f p q = f e p q

@@ -1,5 +1,5 @@
 -- How a replay ends.
-use Rattle.std.proofs.Common.{◌≡◌, inl, inr, ◌<◌, ℕ, Bool, true, false, List, [], ◌∷◌, ◌++◌, length, take, Option, IfSome, refl, sym, subst, ◌∙◌}
+use Rattle.std.proofs.Common.{◌≡◌, inl, inr, ◌<◌, ℕ, Bool, true, false, List, [], ◌∷◌, ◌++◌, length, take, Option, None, IfSome, refl, sym, subst, ◌∙◌}
 use Rattle.std.specs.Io.KnownBytes.{Appends}
 use Rattle.std.proofs.KnownBytes.{Appends-nil}
 use Rattle.std.proofs.lemmas.Bool.{false≢true}
@@ -7,7 +7,6 @@ use Rattle.capture_read.specs.Capture.{packets_of}
 use Rattle.capture_reader.specs.declared.fault.ReaderFault.{ReaderFault}
 use Rattle.capture_reader.specs.declared.fault.ReaderFault.TheVariants as reader
 use Rattle.capture_reader.specs.Reader.{IsOpenFault}
-use Rattle.capture_import.specs.declared.route.Route.{Route}
 use Rattle.studio_spec.specs.Studio.{Studio}
 use Rattle.studio_session.specs.Event.{TraceEvent, Closing}
 use Rattle.studio_session.specs.Run.{AreDatagrams}
@@ -25,7 +24,8 @@ use Rattle.studio_run.proofs.StudioReportLemmas.{report_alone}
 use Rattle.capture_replay.specs.declared.fault.ReplayFault.{ReplayFault}
 use Rattle.capture_replay.specs.declared.fault.ReplayFault.TheVariants.{Memory, Capture, Run as RunOf, Full, Write}
 use Rattle.capture_replay.specs.declared.run.Run.{Run}
-use Rattle.capture_replay.specs.Events.{events_of, replay_events}
+use Rattle.capture_replay.specs.Events.{closed_events, replay_events}
+use Rattle.capture_replay.specs.Plan.{PlanView}
 use Rattle.capture_replay.specs.Replay.{BreaksOffReplay, BreaksReport, HasReplayed, IsReason, StopsAt, StopsFile, WritesFront}
 use Rattle.capture_replay.proofs.CaseLemmas.{some_maps}
 use Rattle.capture_replay.proofs.EventLemmas.{first_longer, first_more}
@@ -38,34 +38,36 @@ open_reason file (reader.Capture fault) is = is
 open_reason file (reader.Long place) is = tt
 open_reason file reader.Memory is = tt
 
-pub unopened : (studio : Studio) (routes : List Route) (first a : Option (List ℕ)) (run : Run) (fault : ReaderFault) → HasReplayed studio [] a run a → IfSome first (λ file. IsOpenFault file fault)
-    → BreaksOffReplay studio routes first a a (Capture fault)
-unopened studio routes first a run fault r is = record {
+pub unopened : (studio : Studio) (plan : PlanView) (first a : Option (List ℕ)) (run : Run) (fault : ReaderFault) → HasReplayed studio [] a run a → IfSome first (λ file. IsOpenFault file fault)
+    → BreaksOffReplay studio plan first a a (Capture fault)
+unopened studio plan first a run fault r is = record {
   packets = [];
   told = some_maps first _ _ (λ file why. (record { items = packets_of file; all = refl }, open_reason file fault why)) is;
+  closing = None;
   events = [];
-  first = record { later = replay_events studio routes []; whole = refl };
+  first = record { later = replay_events studio plan [] None; whole = refl };
   front = inl (record { datagrams = r.datagrams; first = r.session.given.first; count = 0; wrote = Appends-nil a });
 }
 
 -- a fault came on the way, and what was held is written
-ends_front : (studio : Studio) (routes : List Route) (first a b c : Option (List ℕ)) (run : Run) (fault : ReplayFault) (s : StopsFile studio routes first a run b fault)
-    → BreaksReport studio s.stops.events a c → WritesFront studio routes first a c fault
-ends_front studio routes first a b c run fault s front = record {
+ends_front : (studio : Studio) (plan : PlanView) (first a b c : Option (List ℕ)) (run : Run) (fault : ReplayFault) (s : StopsFile studio plan first a run b fault)
+    → BreaksReport studio s.stops.events a c → WritesFront studio plan first a c fault
+ends_front studio plan first a b c run fault s front = record {
   packets = s.packets;
   told = s.told;
+  closing = s.closing;
   events = s.stops.events;
-  first = first_longer s.stops.events (events_of studio routes s.packets) (replay_events studio routes s.packets) s.stops.first (first_more (events_of studio routes s.packets) (Closing ∷ []));
+  first = first_longer s.stops.events (closed_events studio plan s.packets s.closing) (replay_events studio plan s.packets s.closing) s.stops.first (first_more (closed_events studio plan s.packets s.closing) (Closing ∷ []));
   front = front;
 }
 
-pub ends_whole : (studio : Studio) (routes : List Route) (first a b c : Option (List ℕ)) (run : Run) (fault : ReplayFault) → (fault ≡ Write → ⊥) → StopsFile studio routes first a run b fault
-    → Appends b c run.text → BreaksOffReplay studio routes first a c fault
-ends_whole studio routes first a b c run Memory other s rest = absurd s.stops.at
-ends_whole studio routes first a b c run (Capture fault) other s rest = ends_front studio routes first a b c run (Capture fault) s (inl (broke_whole studio s.stops.events a b c run s.stops.at rest))
-ends_whole studio routes first a b c run (RunOf fault) other s rest = ends_front studio routes first a b c run (RunOf fault) s (inl (broke_whole studio s.stops.events a b c run s.stops.at rest))
-ends_whole studio routes first a b c run Full other s rest = ends_front studio routes first a b c run Full s (inl (broke_whole studio s.stops.events a b c run s.stops.at rest))
-ends_whole studio routes first a b c run Write other s rest = absurd (other refl)
+pub ends_whole : (studio : Studio) (plan : PlanView) (first a b c : Option (List ℕ)) (run : Run) (fault : ReplayFault) → (fault ≡ Write → ⊥) → StopsFile studio plan first a run b fault
+    → Appends b c run.text → BreaksOffReplay studio plan first a c fault
+ends_whole studio plan first a b c run Memory other s rest = absurd s.stops.at
+ends_whole studio plan first a b c run (Capture fault) other s rest = ends_front studio plan first a b c run (Capture fault) s (inl (broke_whole studio s.stops.events a b c run s.stops.at rest))
+ends_whole studio plan first a b c run (RunOf fault) other s rest = ends_front studio plan first a b c run (RunOf fault) s (inl (broke_whole studio s.stops.events a b c run s.stops.at rest))
+ends_whole studio plan first a b c run Full other s rest = ends_front studio plan first a b c run Full s (inl (broke_whole studio s.stops.events a b c run s.stops.at rest))
+ends_whole studio plan first a b c run Write other s rest = absurd (other refl)
 
 -- or a write of it failed
 held_at : (studio : Studio) (events : List TraceEvent) (a b : Option (List ℕ)) (run : Run) (fault : ReplayFault) → (fault ≡ Write → ⊥) → StopsAt studio events a run b fault → HasReplayed studio events a run b
@@ -75,25 +77,26 @@ held_at studio events a b run (RunOf fault) other at = at
 held_at studio events a b run Full other at = at
 held_at studio events a b run Write other at = absurd (other refl)
 
-as_write : (studio : Studio) (routes : List Route) (first a c : Option (List ℕ)) (fault : ReplayFault) → WritesFront studio routes first a c fault → BreaksOffReplay studio routes first a c Write
-as_write studio routes first a c fault w = record {
+as_write : (studio : Studio) (plan : PlanView) (first a c : Option (List ℕ)) (fault : ReplayFault) → WritesFront studio plan first a c fault → BreaksOffReplay studio plan first a c Write
+as_write studio plan first a c fault w = record {
   packets = w.packets;
   told = some_maps first _ _ (λ file both. (both.0, tt)) w.told;
+  closing = w.closing;
   events = w.events;
   first = w.first;
   front = w.front;
 }
 
-pub ends_part : (studio : Studio) (routes : List Route) (first a b c : Option (List ℕ)) (run : Run) (fault : ReplayFault) → (fault ≡ Write → ⊥) → StopsFile studio routes first a run b fault
-    → (n : ℕ) × (n < length run.text) × Appends b c (take n run.text) → BreaksOffReplay studio routes first a c Write
-ends_part studio routes first a b c run fault other s part =
-    as_write studio routes first a c fault (ends_front studio routes first a b c run fault s
+pub ends_part : (studio : Studio) (plan : PlanView) (first a b c : Option (List ℕ)) (run : Run) (fault : ReplayFault) → (fault ≡ Write → ⊥) → StopsFile studio plan first a run b fault
+    → (n : ℕ) × (n < length run.text) × Appends b c (take n run.text) → BreaksOffReplay studio plan first a c Write
+ends_part studio plan first a b c run fault other s part =
+    as_write studio plan first a c fault (ends_front studio plan first a b c run fault s
     (inl (broke_part studio s.stops.events a b c run (held_at studio s.stops.events a b run fault other s.stops.at) part)))
 
-pub ends_write : (studio : Studio) (routes : List Route) (first a c : Option (List ℕ)) (run : Run) (fault : ReplayFault) → fault ≡ Write → StopsFile studio routes first a run c fault
-    → BreaksOffReplay studio routes first a c Write
-ends_write studio routes first a c run fault is s =
-    as_write studio routes first a c fault (ends_front studio routes first a c c run fault s (inl (subst (StopsAt studio s.stops.events a run c) is s.stops.at)))
+pub ends_write : (studio : Studio) (plan : PlanView) (first a c : Option (List ℕ)) (run : Run) (fault : ReplayFault) → fault ≡ Write → StopsFile studio plan first a run c fault
+    → BreaksOffReplay studio plan first a c Write
+ends_write studio plan first a c run fault is s =
+    as_write studio plan first a c fault (ends_front studio plan first a c c run fault s (inl (subst (StopsAt studio s.stops.events a run c) is s.stops.at)))
 
 -- the report of all events: the lines of its datagrams, and its counts
 pub report_is : (studio : Studio) (events : List TraceEvent) (datagrams : List (List ℕ)) → AreDatagrams studio events datagrams

@@ -1,29 +1,30 @@
 -- The events of one packet more.
-use Rattle.std.proofs.Common.{◌≡◌, ◌⊎◌, inl, inr, ℕ, Bool, true, false, nat_lt, List, [], ◌∷◌, ◌++◌, ℤ, pos, if◌then◌else◌, Option, Some, None, refl, sym, ap, subst, ◌∙◌, append_assoc, append-nil}
+use Rattle.std.proofs.Common.{◌≡◌, ◌⊎◌, inl, inr, ℕ, ◌+◌, Bool, true, false, nat_lt, List, [], ◌∷◌, ◌++◌, ℤ, pos, if◌then◌else◌, Option, Some, None, refl, sym, ap, subst, ◌∙◌, append_assoc, append-nil}
 use Rattle.std.specs.Ordering.{int_eq}
 use Rattle.capture_read.specs.Packet.{PacketView}
-use Rattle.capture_import.specs.declared.route.Route.{Route}
 use Rattle.capture_import.specs.declared.clock.CaptureClock.{CaptureClock}
 use Rattle.capture_import.specs.Clock.{clock_with}
-use Rattle.capture_import.specs.Trace.{octets_of, packet_clock, route_of}
+use Rattle.capture_import.specs.Trace.{octets_of}
 use Rattle.studio_session.specs.Event.{TraceEvent, Arrival, Reading}
 use Rattle.studio_session.specs.Fault.{closed_at, time_at}
 use Rattle.studio_engine.specs.Session.{turned}
 use Rattle.studio_session.proofs.FaultLemmas.{closed_more}
 use Rattle.studio_engine.proofs.EngineLemmas.{turned_same}
-use Rattle.capture_replay.specs.Events.{AreFirst, clock_after, events_after, events_with, path_of, read_at}
+use Rattle.capture_replay.specs.Events.{AreFirst, clock_after, events_after, events_with, read_at}
+use Rattle.capture_replay.specs.Plan.{PlanView, clock_past, opening_of, target_of}
+use Rattle.capture_replay.specs.declared.plan.Target.{Target}
 
-pub events_more : (open_at : ℤ) (routes : List Route) (clock : CaptureClock) (events : List TraceEvent) (packets : List PacketView) (packet : PacketView)
-    → events_after open_at routes clock events (packets ++ packet ∷ [])
-    ≡ events_with open_at (clock_after routes clock packets) (events_after open_at routes clock events packets) packet (route_of routes packet)
-events_more open_at routes clock events [] packet = refl
-events_more open_at routes clock events (p ∷ packets) packet =
-    events_more open_at routes (packet_clock clock p (route_of routes p)) (events_with open_at clock events p (route_of routes p)) packets packet
+pub events_more : (open_at : ℤ) (plan : PlanView) (clock : CaptureClock) (events : List TraceEvent) (packets : List PacketView) (packet : PacketView)
+    → events_after open_at plan clock events (packets ++ packet ∷ [])
+    ≡ events_with open_at (opening_of plan) (clock_after plan clock packets) (events_after open_at plan clock events packets) packet (target_of plan packet)
+events_more open_at plan clock events [] packet = refl
+events_more open_at plan clock events (p ∷ packets) packet =
+    events_more open_at plan (clock_past clock p (target_of plan p)) (events_with open_at (opening_of plan) clock events p (target_of plan p)) packets packet
 
-pub clock_more : (routes : List Route) (clock : CaptureClock) (packets : List PacketView) (packet : PacketView)
-    → clock_after routes clock (packets ++ packet ∷ []) ≡ packet_clock (clock_after routes clock packets) packet (route_of routes packet)
-clock_more routes clock [] packet = refl
-clock_more routes clock (p ∷ packets) packet = clock_more routes (packet_clock clock p (route_of routes p)) packets packet
+pub clock_more : (plan : PlanView) (clock : CaptureClock) (packets : List PacketView) (packet : PacketView)
+    → clock_after plan clock (packets ++ packet ∷ []) ≡ clock_past (clock_after plan clock packets) packet (target_of plan packet)
+clock_more plan clock [] packet = refl
+clock_more plan clock (p ∷ packets) packet = clock_more plan (clock_past clock p (target_of plan p)) packets packet
 
 -- some events are the first of themselves, and of more
 pub first_same : (events : List TraceEvent) → AreFirst events events
@@ -54,15 +55,15 @@ first_if : (b : Bool) (events more : List TraceEvent) → AreFirst events more �
 first_if true events more p = p
 first_if false events more p = first_same events
 
-pub first_read : (open_at : ℤ) (events : List TraceEvent) (earlier reading : ℕ) → AreFirst events (read_at open_at events earlier reading)
-first_read open_at events earlier reading =
-    first_if (nat_lt earlier reading) events (turned (time_at open_at events) (pos reading) events) (first_turned (time_at open_at events) (pos reading) events)
+pub first_read : (open_at : ℤ) (from : ℕ) (events : List TraceEvent) (earlier reading : ℕ) → AreFirst events (read_at open_at from events earlier reading)
+first_read open_at from events earlier reading =
+    first_if (nat_lt earlier reading) events (turned (time_at open_at events) (pos (from + reading)) events) (first_turned (time_at open_at events) (pos (from + reading)) events)
 
-pub first_with : (open_at : ℤ) (clock : CaptureClock) (events : List TraceEvent) (packet : PacketView) (o : Option Route) → AreFirst events (events_with open_at clock events packet o)
-first_with open_at clock events packet None = first_same events
-first_with open_at clock events packet (Some route) =
-    first_longer events (read_at open_at events clock.reading (clock_with clock packet.time).reading) _ (first_read open_at events clock.reading (clock_with clock packet.time).reading)
-    (first_more (read_at open_at events clock.reading (clock_with clock packet.time).reading) (Arrival route.stream (path_of route.letter) (octets_of packet.ip.body) ∷ []))
+pub first_with : (open_at : ℤ) (from : ℕ) (clock : CaptureClock) (events : List TraceEvent) (packet : PacketView) (o : Option Target) → AreFirst events (events_with open_at from clock events packet o)
+first_with open_at from clock events packet None = first_same events
+first_with open_at from clock events packet (Some target) =
+    first_longer events (read_at open_at from events clock.reading (clock_with clock packet.time).reading) _ (first_read open_at from events clock.reading (clock_with clock packet.time).reading)
+    (first_more (read_at open_at from events clock.reading (clock_with clock packet.time).reading) (Arrival target.stream target.path (octets_of packet.ip.body) ∷ []))
 
 -- none of them is a close
 open_by : (b : Bool) (events : List TraceEvent) (time : ℤ) → closed_at false events ≡ false → closed_at false (if b then events else events ++ Reading time ∷ []) ≡ false

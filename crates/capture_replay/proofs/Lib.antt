@@ -4,3 +4,5 @@ mod EventLemmas
 mod FlowLemmas
 mod LineLemmas
 mod ReplayLemmas
+mod PlanLemmas
+mod RecordLemmas

@@ -1,5 +1,5 @@
 -- What was written of a report so far.
-use Rattle.std.proofs.Common.{◌≡◌, ◌<◌, ℕ, Bool, List, [], ◌∷◌, ◌++◌, length, map, take, Option, Ok, sym, ap, subst, ◌∙◌, append-nil}
+use Rattle.std.proofs.Common.{◌≡◌, ◌<◌, ℕ, Bool, List, [], ◌∷◌, ◌++◌, length, map, take, Option, None, IfSome, Ok, sym, ap, subst, ◌∙◌, append-nil}
 use Rattle.std.specs.Io.KnownBytes.{Appends}
 use Rattle.std.proofs.Math.Seq.{take-length}
 use Rattle.std.proofs.lemmas.List.{length-map}
@@ -10,9 +10,7 @@ use Rattle.capture_reader.specs.declared.fault.ReaderFault.{ReaderFault}
 use Rattle.capture_reader.specs.declared.fault.ReaderFault.TheVariants as reader
 use Rattle.capture_reader.specs.Reader.{HasPackets, HasTold, IsLong}
 use Rattle.capture_import.specs.declared.clock.CaptureClock.{CaptureClock}
-use Rattle.capture_import.specs.declared.route.Route.{Route}
-use Rattle.capture_import.specs.Clock.{clock_begun}
-use Rattle.capture_import.specs.Trace.{packet_clock, route_of}
+use Rattle.capture_import.specs.Clock.{clock_with}
 use Rattle.studio_mix.specs.Feed.{Feed}
 use Rattle.studio_spec.specs.Studio.{Studio}
 use Rattle.studio_session.specs.Event.{TraceEvent}
@@ -25,10 +23,11 @@ use Rattle.capture_replay.specs.declared.fault.ReplayFault.{ReplayFault}
 use Rattle.capture_replay.specs.declared.fault.ReplayFault.TheVariants.{Memory, Capture, Run as RunOf, Full, Write}
 use Rattle.capture_replay.specs.declared.run.Run.{Run}
 use Rattle.capture_replay.specs.Lines.{BreaksLines}
-use Rattle.capture_replay.specs.Replay.{BeginsWith, BreaksAt, HasReplayed, HasTaken, IsReason, IsReplaying, IsRun, IsOwn, Stops, StopsAt, StopsFile}
-use Rattle.capture_replay.specs.Events.{AreFirst, clock_after, events_of, events_with}
+use Rattle.capture_replay.specs.Replay.{BeginsWith, BreaksAt, HasComeToClose, HasGoneOver, HasReplayed, HasTaken, IsReason, IsReplaying, IsRun, IsOwn, Stops, StopsAt, StopsFile}
+use Rattle.capture_replay.specs.Events.{AreFirst, clock_after, clock_of, closed_events, events_of, events_with, read_at}
+use Rattle.capture_replay.specs.Plan.{PlanView, clock_before, clock_past, opening_of, target_of}
 use Rattle.capture_replay.proofs.CaseLemmas.{some_maps}
-use Rattle.capture_replay.proofs.EventLemmas.{clock_more, events_more, first_longer, first_same}
+use Rattle.capture_replay.proofs.EventLemmas.{clock_more, events_more, first_longer, first_read}
 use Rattle.capture_replay.proofs.LineLemmas.{lines_more}
 
 -- lines of more datagrams follow
@@ -99,45 +98,85 @@ long_reason file packets (reader.Long place) kind = tt
 long_reason file packets reader.Memory kind = absurd kind
 
 -- one packet more was taken
-next_events : (studio : Studio) (routes : List Route) (packets : List PacketView) (packet : PacketView) (clock : CaptureClock) → clock ≡ clock_after routes clock_begun packets
-    → events_with studio.open_at clock (events_of studio routes packets) packet (route_of routes packet) ≡ events_of studio routes (packets ++ packet ∷ [])
-next_events studio routes packets packet clock is =
-    ap (λ k. events_with studio.open_at k (events_of studio routes packets) packet (route_of routes packet)) is
-    ∙ sym (events_more studio.open_at routes clock_begun [] packets packet)
+next_events : (studio : Studio) (plan : PlanView) (packets : List PacketView) (packet : PacketView) (clock : CaptureClock) → clock ≡ clock_after plan (clock_before plan) packets
+    → events_with studio.open_at (opening_of plan) clock (events_of studio plan packets) packet (target_of plan packet) ≡ events_of studio plan (packets ++ packet ∷ [])
+next_events studio plan packets packet clock is =
+    ap (λ k. events_with studio.open_at (opening_of plan) k (events_of studio plan packets) packet (target_of plan packet)) is
+    ∙ sym (events_more studio.open_at plan (clock_before plan) [] packets packet)
 
-pub taken_more : (studio : Studio) (routes : List Route) (packets : List PacketView) (packet : PacketView) (a b c : Option (List ℕ)) (old new : Run) → HasTaken studio routes packets a old b
-    → new.clock ≡ packet_clock old.clock packet (route_of routes packet)
-    → HasReplayed studio (events_with studio.open_at old.clock (events_of studio routes packets) packet (route_of routes packet)) a new c
-    → HasTaken studio routes (packets ++ packet ∷ []) a new c
-taken_more studio routes packets packet a b c old new taken clock replayed = record {
-  clock = clock ∙ ap (λ k. packet_clock k packet (route_of routes packet)) taken.clock ∙ sym (clock_more routes clock_begun packets packet);
-  replayed = subst (λ l. HasReplayed studio l a new c) (next_events studio routes packets packet old.clock taken.clock) replayed;
+pub taken_more : (studio : Studio) (plan : PlanView) (packets : List PacketView) (packet : PacketView) (a b c : Option (List ℕ)) (old new : Run) → HasTaken studio plan packets a old b
+    → new.clock ≡ clock_past old.clock packet (target_of plan packet)
+    → HasReplayed studio (events_with studio.open_at (opening_of plan) old.clock (events_of studio plan packets) packet (target_of plan packet)) a new c
+    → HasTaken studio plan (packets ++ packet ∷ []) a new c
+taken_more studio plan packets packet a b c old new taken clock replayed = record {
+  clock = clock ∙ ap (λ k. clock_past k packet (target_of plan packet)) taken.clock ∙ sym (clock_more plan (clock_before plan) packets packet);
+  replayed = subst (λ l. HasReplayed studio l a new c) (next_events studio plan packets packet old.clock taken.clock) replayed;
 }
 
-pub stops_more : (studio : Studio) (routes : List Route) (packets : List PacketView) (packet : PacketView) (a b c : Option (List ℕ)) (old new : Run) (fault : ReplayFault) → HasTaken studio routes packets a old b
-    → Stops studio (events_with studio.open_at old.clock (events_of studio routes packets) packet (route_of routes packet)) a new c fault
-    → Stops studio (events_of studio routes (packets ++ packet ∷ [])) a new c fault
-stops_more studio routes packets packet a b c old new fault taken stops = subst (λ l. Stops studio l a new c fault) (next_events studio routes packets packet old.clock taken.clock) stops
+pub stops_more : (studio : Studio) (plan : PlanView) (packets : List PacketView) (packet : PacketView) (a b c : Option (List ℕ)) (old new : Run) (fault : ReplayFault) → HasTaken studio plan packets a old b
+    → Stops studio (events_with studio.open_at (opening_of plan) old.clock (events_of studio plan packets) packet (target_of plan packet)) a new c fault
+    → Stops studio (events_of studio plan (packets ++ packet ∷ [])) a new c fault
+stops_more studio plan packets packet a b c old new fault taken stops = subst (λ l. Stops studio l a new c fault) (next_events studio plan packets packet old.clock taken.clock) stops
 
-pub taken_same : (studio : Studio) (routes : List Route) (packets : List PacketView) (a c : Option (List ℕ)) (run : Run) → HasTaken studio routes packets a run c → HasTaken studio routes (packets ++ []) a run c
-taken_same studio routes packets a c run taken = subst (λ l. HasTaken studio routes l a run c) (sym (append-nil packets)) taken
+pub taken_same : (studio : Studio) (plan : PlanView) (packets : List PacketView) (a c : Option (List ℕ)) (run : Run) → HasTaken studio plan packets a run c → HasTaken studio plan (packets ++ []) a run c
+taken_same studio plan packets a c run taken = subst (λ l. HasTaken studio plan l a run c) (sym (append-nil packets)) taken
 
 -- a file told the same packets, as more of it was read
-pub replaying_read : (studio : Studio) (routes : List Route) (first a : Option (List ℕ)) (run : Run) (parts : Parts) (held held' : List ℕ) (ended ended' : Bool) (left left' c : Option (List ℕ))
+pub replaying_read : (studio : Studio) (plan : PlanView) (first a : Option (List ℕ)) (run : Run) (parts : Parts) (held held' : List ℕ) (ended ended' : Bool) (left left' c : Option (List ℕ))
     → ((file : List ℕ) (packets : List PacketView) → HasTold file packets left parts held ended → HasTold file packets left' parts held' ended')
-    → IsReplaying studio routes first a run parts held ended left c → IsReplaying studio routes first a run parts held' ended' left' c
-replaying_read studio routes first a run parts held held' ended ended' left left' c reads r = record {
+    → IsReplaying studio plan first a run parts held ended left c → IsReplaying studio plan first a run parts held' ended' left' c
+replaying_read studio plan first a run parts held held' ended ended' left left' c reads r = record {
   packets = r.packets;
   told = some_maps first _ _ (λ file told. reads file r.packets told) r.told;
   taken = r.taken;
 }
 
+-- before the first packet
+pub replaying_none : (studio : Studio) (plan : PlanView) (first a : Option (List ℕ)) (run : Run) (parts : Parts) (held : List ℕ) (ended : Bool) (left : Option (List ℕ))
+    → IfSome first (λ file. HasTold file [] left parts held ended) → run.clock ≡ clock_before plan → HasReplayed studio [] a run a → IsReplaying studio plan first a run parts held ended left a
+replaying_none studio plan first a run parts held ended left told clock replayed = record {
+  packets = [];
+  told = told;
+  taken = record { clock = clock; replayed = replayed };
+}
+
+-- a reading at the time of the close, behind all packets
+pub come_to_close : (studio : Studio) (plan : PlanView) (closing : Option ℕ) (from : ℕ) (first a b c : Option (List ℕ)) (old new : Run) → from ≡ opening_of plan → (gone : HasGoneOver studio plan first a old b)
+    → ((events : List TraceEvent) → HasReplayed studio events a old b → HasReplayed studio (read_at studio.open_at from events old.clock.reading (clock_with old.clock closing).reading) a new c)
+    → HasComeToClose studio plan closing first a new c
+come_to_close studio plan closing from first a b c old new same gone reads =
+    let events = events_of studio plan gone.packets in
+    record {
+      packets = gone.packets;
+      told = gone.told;
+      replayed = subst (λ n. HasReplayed studio (read_at studio.open_at n events (clock_of plan gone.packets).reading (clock_with (clock_of plan gone.packets) closing).reading) a new c) same
+          (subst (λ k. HasReplayed studio (read_at studio.open_at from events k.reading (clock_with k closing).reading) a new c) gone.taken.clock (reads events gone.taken.replayed));
+    }
+
+pub stops_at_close : (studio : Studio) (plan : PlanView) (closing : Option ℕ) (from : ℕ) (first a b c : Option (List ℕ)) (old new : Run) (fault : ReplayFault) → from ≡ opening_of plan → IsOwn fault → (gone : HasGoneOver studio plan first a old b)
+    → ((events : List TraceEvent) → HasReplayed studio events a old b → Stops studio (read_at studio.open_at from events old.clock.reading (clock_with old.clock closing).reading) a new c fault)
+    → StopsFile studio plan first a new c fault
+stops_at_close studio plan closing from first a b c old new fault same kind gone reads =
+    let events = events_of studio plan gone.packets in
+    record {
+      packets = gone.packets;
+      closing = closing;
+      told = some_maps first _ _ (λ file whole. (begins_whole file gone.packets whole, own_reason file gone.packets fault kind)) gone.told;
+      stops = subst (λ n. Stops studio (read_at studio.open_at n events (clock_of plan gone.packets).reading (clock_with (clock_of plan gone.packets) closing).reading) a new c fault) same
+          (subst (λ k. Stops studio (read_at studio.open_at from events k.reading (clock_with k closing).reading) a new c fault) gone.taken.clock (reads events gone.taken.replayed));
+    }
+
+-- the events of packets are the first of those up to a close
+pub before_close : (studio : Studio) (plan : PlanView) (packets : List PacketView) (closing : Option ℕ) → AreFirst (events_of studio plan packets) (closed_events studio plan packets closing)
+before_close studio plan packets closing = first_read studio.open_at (opening_of plan) (events_of studio plan packets) (clock_of plan packets).reading (clock_with (clock_of plan packets) closing).reading
+
 -- a fault comes behind the packets that were told
-pub stops_behind : (studio : Studio) (routes : List Route) (first a : Option (List ℕ)) (run : Run) (parts : Parts) (held : List ℕ) (ended : Bool) (left c : Option (List ℕ)) (fault : ReplayFault)
-    (r : IsReplaying studio routes first a run parts held ended left c) → ((file : List ℕ) → HasTold file r.packets left parts held ended → IsReason file r.packets fault)
-    → ((events : List TraceEvent) → HasReplayed studio events a run c → StopsAt studio events a run c fault) → StopsFile studio routes first a run c fault
-stops_behind studio routes first a run parts held ended left c fault r reason at = record {
+pub stops_behind : (studio : Studio) (plan : PlanView) (first a : Option (List ℕ)) (run : Run) (parts : Parts) (held : List ℕ) (ended : Bool) (left c : Option (List ℕ)) (fault : ReplayFault)
+    (r : IsReplaying studio plan first a run parts held ended left c) → ((file : List ℕ) → HasTold file r.packets left parts held ended → IsReason file r.packets fault)
+    → ((events : List TraceEvent) → HasReplayed studio events a run c → StopsAt studio events a run c fault) → StopsFile studio plan first a run c fault
+stops_behind studio plan first a run parts held ended left c fault r reason at = record {
   packets = r.packets;
+  closing = None;
   told = some_maps first _ _ (λ file told. (begins file r.packets left parts held ended told, reason file told)) r.told;
-  stops = record { events = events_of studio routes r.packets; first = first_same (events_of studio routes r.packets); at = at (events_of studio routes r.packets) r.taken.replayed };
+  stops = record { events = events_of studio plan r.packets; first = before_close studio plan r.packets None; at = at (events_of studio plan r.packets) r.taken.replayed };
 }

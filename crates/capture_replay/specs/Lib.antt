@@ -1,9 +1,12 @@
 pub mod Flows
+pub mod Plan
 pub mod Events
+pub mod Record
 pub mod Lines
 pub mod Replay
 pub use Rattle.capture_read.specs.Packet
 pub use Rattle.capture_read.specs.Capture
+pub use Rattle.capture_read.specs.Marks
 pub use Rattle.capture_reader.specs.Window
 pub use Rattle.capture_reader.specs.Reader
 pub use Rattle.capture_streams.specs.Table
@@ -17,3 +20,5 @@ pub use Rattle.studio_engine.specs.Engine
 pub use Rattle.studio_engine.specs.Session
 pub use Rattle.studio_run.specs.Buffer
 pub use Rattle.studio_run.specs.Listing
+pub use Rattle.stream_rules.specs.StreamSpecFacts
+pub use Rattle.lane_align.specs.Lane

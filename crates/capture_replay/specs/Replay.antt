@@ -7,8 +7,6 @@ use Rattle.capture_read.specs.Capture.{Item, packets_of}
 use Rattle.capture_reader.specs.declared.fault.ReaderFault.{ReaderFault}
 use Rattle.capture_reader.specs.declared.fault.ReaderFault.TheVariants as reader
 use Rattle.capture_reader.specs.Reader.{HasPackets, HasTold, IsFaultBehind}
-use Rattle.capture_import.specs.declared.route.Route.{Route}
-use Rattle.capture_import.specs.Clock.{clock_begun}
 use Rattle.studio_spec.specs.Studio.{Studio}
 use Rattle.studio_mix.specs.Blocks.{AreFirstBlocks}
 use Rattle.studio_session.specs.Event.{TraceEvent}
@@ -22,7 +20,8 @@ use Rattle.studio_run.specs.StudioReport.{IsReport}
 use Rattle.capture_replay.specs.declared.fault.ReplayFault.{ReplayFault}
 use Rattle.capture_replay.specs.declared.fault.ReplayFault.TheVariants.{Memory, Capture, Run as RunOf, Full, Write}
 use Rattle.capture_replay.specs.declared.run.Run.{Run}
-use Rattle.capture_replay.specs.Events.{AreFirst, clock_after, events_of, replay_events}
+use Rattle.capture_replay.specs.Events.{AreFirst, clock_of, closed_events, events_of, replay_events}
+use Rattle.capture_replay.specs.Plan.{PlanView}
 
 -- the engine took these events, and the lines of what it gave were written or are held
 pub record HasReplayed (studio : Studio) (events : List TraceEvent) (written : Option (List ℕ)) (run : Run) (written_then : Option (List ℕ)) : Type 0 where
@@ -59,21 +58,27 @@ pub record BeginsWith (file : List ℕ) (packets : List PacketView) : Type 0 whe
   pub all : packets_of file ≡ map Ok packets ++ items
 
 -- the events of these packets were taken, and the clock is theirs
-pub record HasTaken (studio : Studio) (routes : List Route) (packets : List PacketView) (written : Option (List ℕ)) (run : Run) (written_then : Option (List ℕ)) : Type 0 where
-  pub clock : run.clock ≡ clock_after routes clock_begun packets
-  pub replayed : HasReplayed studio (events_of studio routes packets) written run written_then
+pub record HasTaken (studio : Studio) (plan : PlanView) (packets : List PacketView) (written : Option (List ℕ)) (run : Run) (written_then : Option (List ℕ)) : Type 0 where
+  pub clock : run.clock ≡ clock_of plan packets
+  pub replayed : HasReplayed studio (events_of studio plan packets) written run written_then
 
 -- the packets that a file so far told were replayed
-pub record IsReplaying (studio : Studio) (routes : List Route) (first : Option (List ℕ)) (written : Option (List ℕ)) (run : Run) (parts : Parts) (held : List ℕ) (ended : Bool) (left written_then : Option (List ℕ)) : Type 0 where
+pub record IsReplaying (studio : Studio) (plan : PlanView) (first : Option (List ℕ)) (written : Option (List ℕ)) (run : Run) (parts : Parts) (held : List ℕ) (ended : Bool) (left written_then : Option (List ℕ)) : Type 0 where
   pub packets : List PacketView
   pub told : IfSome first (λ file. HasTold file packets left parts held ended)
-  pub taken : HasTaken studio routes packets written run written_then
+  pub taken : HasTaken studio plan packets written run written_then
 
 -- all of a file's were, which has no fault
-pub record HasGoneOver (studio : Studio) (routes : List Route) (first : Option (List ℕ)) (written : Option (List ℕ)) (run : Run) (written_then : Option (List ℕ)) : Type 0 where
+pub record HasGoneOver (studio : Studio) (plan : PlanView) (first : Option (List ℕ)) (written : Option (List ℕ)) (run : Run) (written_then : Option (List ℕ)) : Type 0 where
   pub packets : List PacketView
   pub told : IfSome first (λ file. HasPackets file packets)
-  pub replayed : HasReplayed studio (events_of studio routes packets) written run written_then
+  pub taken : HasTaken studio plan packets written run written_then
+
+-- and a reading at the time of the close, if it is told
+pub record HasComeToClose (studio : Studio) (plan : PlanView) (closing : Option ℕ) (first : Option (List ℕ)) (written : Option (List ℕ)) (run : Run) (written_then : Option (List ℕ)) : Type 0 where
+  pub packets : List PacketView
+  pub told : IfSome first (λ file. HasPackets file packets)
+  pub replayed : HasReplayed studio (closed_events studio plan packets closing) written run written_then
 
 -- a file's fault is the one behind its packets
 abbrev pub IsFileFault : List ℕ → List PacketView → ReaderFault → Type 0
@@ -89,17 +94,18 @@ IsReason file packets (RunOf fault) = Unit {0}
 IsReason file packets Full = Unit {0}
 IsReason file packets Write = Unit {0}
 
--- a fault came among the events of a file's first packets, or behind them
-pub record StopsFile (studio : Studio) (routes : List Route) (first : Option (List ℕ)) (written : Option (List ℕ)) (run : Run) (written_then : Option (List ℕ)) (fault : ReplayFault) : Type 0 where
+-- a fault came among the events of a file's first packets, or of a close behind them
+pub record StopsFile (studio : Studio) (plan : PlanView) (first : Option (List ℕ)) (written : Option (List ℕ)) (run : Run) (written_then : Option (List ℕ)) (fault : ReplayFault) : Type 0 where
   pub packets : List PacketView
+  pub closing : Option ℕ
   pub told : IfSome first (λ file. BeginsWith file packets × IsReason file packets fault)
-  pub stops : Stops studio (events_of studio routes packets) written run written_then fault
+  pub stops : Stops studio (closed_events studio plan packets closing) written run written_then fault
 
--- the report of a file's events was written; it has no fault
-pub record WritesReplay (studio : Studio) (routes : List Route) (left : Option (List ℕ)) (written written_then : Option (List ℕ)) : Type 0 where
+-- the report of a file's events was written, with a close at this time, if one is told; the file has no fault
+pub record WritesReplay (studio : Studio) (plan : PlanView) (closing : Option ℕ) (left : Option (List ℕ)) (written written_then : Option (List ℕ)) : Type 0 where
   pub packets : List PacketView
   pub told : IfSome left (λ file. HasPackets file packets)
-  pub writes : WritesEvents studio IsReport (replay_events studio routes packets) written written_then
+  pub writes : WritesEvents studio IsReport (replay_events studio plan packets closing) written written_then
 
 -- of the report of events a part from the front was written: of its datagrams, or of all
 abbrev pub BreaksReport : Studio → List TraceEvent → Option (List ℕ) → Option (List ℕ) → Type 0
@@ -107,20 +113,21 @@ BreaksReport studio events written written_then =
     BreaksAt studio events written written_then ⊎ ((report : List ℕ) → IsReport studio events report → BreaksOff written [] written_then report)
 
 -- a part from the front of it was: of the datagrams of its first events, or of all
-pub record WritesFront (studio : Studio) (routes : List Route) (left : Option (List ℕ)) (written written_then : Option (List ℕ)) (fault : ReplayFault) : Type 0 where
+pub record WritesFront (studio : Studio) (plan : PlanView) (left : Option (List ℕ)) (written written_then : Option (List ℕ)) (fault : ReplayFault) : Type 0 where
   pub packets : List PacketView
   pub told : IfSome left (λ file. BeginsWith file packets × IsReason file packets fault)
+  pub closing : Option ℕ
   pub events : List TraceEvent
-  pub first : AreFirst events (replay_events studio routes packets)
+  pub first : AreFirst events (replay_events studio plan packets closing)
   pub front : BreaksReport studio events written written_then
 
 -- why the report was not written: memory was refused before, or a fault came after a part of it
-abbrev pub BreaksOffReplay : Studio → List Route → Option (List ℕ) → Option (List ℕ) → Option (List ℕ) → ReplayFault → Type 0
-BreaksOffReplay studio routes left written written_then Memory = written_then ≡ written
-BreaksOffReplay studio routes left written written_then (Capture fault) = WritesFront studio routes left written written_then (Capture fault)
-BreaksOffReplay studio routes left written written_then (RunOf fault) = WritesFront studio routes left written written_then (RunOf fault)
-BreaksOffReplay studio routes left written written_then Full = WritesFront studio routes left written written_then Full
-BreaksOffReplay studio routes left written written_then Write = WritesFront studio routes left written written_then Write
+abbrev pub BreaksOffReplay : Studio → PlanView → Option (List ℕ) → Option (List ℕ) → Option (List ℕ) → ReplayFault → Type 0
+BreaksOffReplay studio plan left written written_then Memory = written_then ≡ written
+BreaksOffReplay studio plan left written written_then (Capture fault) = WritesFront studio plan left written written_then (Capture fault)
+BreaksOffReplay studio plan left written written_then (RunOf fault) = WritesFront studio plan left written written_then (RunOf fault)
+BreaksOffReplay studio plan left written written_then Full = WritesFront studio plan left written written_then Full
+BreaksOffReplay studio plan left written written_then Write = WritesFront studio plan left written written_then Write
 
 -- an event is at fault, or there are too many
 abbrev pub IsRun : ReplayFault → Type 0

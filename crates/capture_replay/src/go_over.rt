@@ -1,22 +1,23 @@
 //! The events of a capture, packet by packet.
-ghost use Rattle.std.specs.Prelude.{◌≡◌, ◌≤◌, ◌<◌, ◌^◌, ◌∷◌, ◌++◌, [], ℕ, pos, List, Option, length, drop, false, is_some, IfOk, IfErr, IfSome, OnOk};
+ghost use Rattle.std.specs.Prelude.{◌≡◌, ◌≤◌, ◌<◌, ◌+◌, ◌^◌, ◌∷◌, ◌++◌, [], ℕ, pos, List, Option, length, drop, false, is_some, IfOk, IfErr, IfSome, OnOk};
 ghost use Rattle.capture_read.specs.Packet.{PacketView, packet_view};
 ghost use Rattle.capture_reader.specs.Window.{octets_of};
 ghost use Rattle.capture_reader.specs.Reader.{IsNext, packets_in};
-ghost use Rattle.capture_import.specs.Trace.{packet_clock, route_of};
 ghost use Rattle.capture_import.specs.Clock.{clock_with};
 ghost use Rattle.path_merge.specs.Clock.{clock_fault_of};
 ghost use Rattle.studio_spec.specs.Studio.{Studio};
 ghost use Rattle.studio_session.specs.Event.{TraceEvent, Arrival};
-ghost use Rattle.capture_replay.specs.Events.{events_of, events_with, path_of, read_at};
+ghost use Rattle.capture_replay.specs.Events.{closed_events, events_of, events_with, read_at};
+ghost use Rattle.capture_replay.specs.Plan.{clock_past, opening_of, plan_view, target_of};
 ghost use Rattle.capture_replay.specs.Replay.{HasGoneOver, HasReplayed, HasTaken, IsOwn, IsReplaying, IsRun, Stops, StopsFile};
 ghost use Rattle.studio_session.specs.Fault.{time_at};
 ghost use Rattle.studio_engine.specs.Session.{turned};
 
 use crate::fault::ReplayFault;
+use crate::plan::{Plan, Target};
 use crate::run::Run;
 use crate::turn::write_turn;
-use capture_import::{Route, octets_in, route_in};
+use capture_import::octets_in;
 use capture_read::{Packet, Part, Parts};
 use capture_reader::{ReaderFault, Window, has_next, next};
 use path_merge::{Path, clock_fault};
@@ -28,24 +29,24 @@ impl Run {
     /// Takes the events of what is left of a capture, up to its end.
     pub(crate) fn go_over<R: Read, W: Write>(
         &mut self,
-        routes: &[Route],
+        plan: &Plan<'_>,
         parts: &mut Parts,
         window: &mut Window,
         reader: &mut R,
         writer: &mut W,
     ) -> Result<(), ReplayFault>
         ensures ok { OnOk result ((studio : Studio) (first : Option (List ℕ)) (written : Option (List ℕ))
-            → IsReplaying studio routes.now first written self.old parts.old (octets_of window.old) window.old.ended (R.remaining reader.old) (W.contents writer.old)
-            → HasGoneOver studio routes.now first written self.new (W.contents writer.new)) }
+            → IsReplaying studio (plan_view plan.now) first written self.old parts.old (octets_of window.old) window.old.ended (R.remaining reader.old) (W.contents writer.old)
+            → HasGoneOver studio (plan_view plan.now) first written self.new (W.contents writer.new)) }
         ensures fault { IfErr result (λ fault. (studio : Studio) (first : Option (List ℕ)) (written : Option (List ℕ))
-            → IsReplaying studio routes.now first written self.old parts.old (octets_of window.old) window.old.ended (R.remaining reader.old) (W.contents writer.old)
-            → StopsFile studio routes.now first written self.new (W.contents writer.new) fault) }
+            → IsReplaying studio (plan_view plan.now) first written self.old parts.old (octets_of window.old) window.old.ended (R.remaining reader.old) (W.contents writer.old)
+            → StopsFile studio (plan_view plan.now) first written self.new (W.contents writer.new) fault) }
     {
         'parts: for _ in 0..u64::MAX {
             if !has_next(parts, window, reader)? {
                 return Ok(());
             }
-            let len = self.take_next(routes, parts, window, writer)?;
+            let len = self.take_next(plan, parts, window, writer)?;
             window.pass(len);
         }
         Err(ReplayFault::Full)
@@ -54,7 +55,7 @@ impl Run {
     /// Takes the events of what comes next, and answers its length.
     fn take_next<W: Write>(
         &mut self,
-        routes: &[Route],
+        plan: &Plan<'_>,
         parts: &mut Parts,
         window: &Window,
         writer: &mut W,
@@ -62,15 +63,15 @@ impl Run {
         requires next { IsNext parts.old (octets_of window.now) window.now.ended }
         ensures len { IfOk result (λ len. len ≤ length (octets_of window.now)) }
         ensures ok { IfOk result (λ len. (studio : Studio) (first : Option (List ℕ)) (written : Option (List ℕ)) (left : Option (List ℕ))
-            → IsReplaying studio routes.now first written self.old parts.old (octets_of window.now) window.now.ended left (W.contents writer.old)
-            → IsReplaying studio routes.now first written self.new parts.new (drop len (octets_of window.now)) window.now.ended left (W.contents writer.new)) }
+            → IsReplaying studio (plan_view plan.now) first written self.old parts.old (octets_of window.now) window.now.ended left (W.contents writer.old)
+            → IsReplaying studio (plan_view plan.now) first written self.new parts.new (drop len (octets_of window.now)) window.now.ended left (W.contents writer.new)) }
         ensures fault { IfErr result (λ fault. (studio : Studio) (first : Option (List ℕ)) (written : Option (List ℕ)) (left : Option (List ℕ))
-            → IsReplaying studio routes.now first written self.old parts.old (octets_of window.now) window.now.ended left (W.contents writer.old)
-            → StopsFile studio routes.now first written self.new (W.contents writer.new) fault) }
+            → IsReplaying studio (plan_view plan.now) first written self.old parts.old (octets_of window.now) window.now.ended left (W.contents writer.old)
+            → StopsFile studio (plan_view plan.now) first written self.new (W.contents writer.new) fault) }
     {
         match next(parts, window) {
             Ok(part) => {
-                self.take_part(routes, &part, writer)?;
+                self.take_part(plan, &part, writer)?;
                 Ok(part.len)
             }
             Err(fault) => Err(ReplayFault::Capture(ReaderFault::Capture(fault))),
@@ -80,18 +81,18 @@ impl Run {
     /// Takes the events of a record or a block: those of its packet, if it has one.
     fn take_part<W: Write>(
         &mut self,
-        routes: &[Route],
+        plan: &Plan<'_>,
         part: &Part<'_>,
         writer: &mut W,
     ) -> Result<(), ReplayFault>
-        ensures ok { OnOk result ((studio : Studio) (packets : List PacketView) (written : Option (List ℕ)) → HasTaken studio routes.now packets written self.old (W.contents writer.old)
-            → HasTaken studio routes.now (packets ++ packets_in part.now) written self.new (W.contents writer.new)) }
-        ensures fault { IfErr result (λ fault. (studio : Studio) (packets : List PacketView) (written : Option (List ℕ)) → HasTaken studio routes.now packets written self.old (W.contents writer.old)
-            → Stops studio (events_of studio routes.now (packets ++ packets_in part.now)) written self.new (W.contents writer.new) fault) }
+        ensures ok { OnOk result ((studio : Studio) (packets : List PacketView) (written : Option (List ℕ)) → HasTaken studio (plan_view plan.now) packets written self.old (W.contents writer.old)
+            → HasTaken studio (plan_view plan.now) (packets ++ packets_in part.now) written self.new (W.contents writer.new)) }
+        ensures fault { IfErr result (λ fault. (studio : Studio) (packets : List PacketView) (written : Option (List ℕ)) → HasTaken studio (plan_view plan.now) packets written self.old (W.contents writer.old)
+            → Stops studio (events_of studio (plan_view plan.now) (packets ++ packets_in part.now)) written self.new (W.contents writer.new) fault) }
         ensures kind { IfErr result (λ fault. IsOwn fault) }
     {
         match part.packet {
-            Some(packet) => self.take(routes, &packet, writer),
+            Some(packet) => self.take(plan, &packet, writer),
             None => Ok(()),
         }
     }
@@ -99,32 +100,37 @@ impl Run {
     /// Takes the events of a packet.
     fn take<W: Write>(
         &mut self,
-        routes: &[Route],
+        plan: &Plan<'_>,
         packet: &Packet<'_>,
         writer: &mut W,
     ) -> Result<(), ReplayFault>
         ensures ok { OnOk result ((studio : Studio) (events : List TraceEvent) (written : Option (List ℕ)) → HasReplayed studio events written self.old (W.contents writer.old)
-            → HasReplayed studio (events_with studio.open_at self.old.clock events (packet_view packet.now) (route_of routes.now (packet_view packet.now))) written self.new (W.contents writer.new)) }
+            → HasReplayed studio (events_with studio.open_at (opening_of (plan_view plan.now)) self.old.clock events (packet_view packet.now) (target_of (plan_view plan.now) (packet_view packet.now))) written self.new (W.contents writer.new)) }
         ensures kind { IfErr result (λ fault. IsOwn fault) }
-        ensures clock { OnOk result (self.new.clock ≡ packet_clock self.old.clock (packet_view packet.now) (route_of routes.now (packet_view packet.now))) }
+        ensures clock { OnOk result (self.new.clock ≡ clock_past self.old.clock (packet_view packet.now) (target_of (plan_view plan.now) (packet_view packet.now))) }
         ensures fault { IfErr result (λ fault. (studio : Studio) (events : List TraceEvent) (written : Option (List ℕ)) → HasReplayed studio events written self.old (W.contents writer.old)
-            → Stops studio (events_with studio.open_at self.old.clock events (packet_view packet.now) (route_of routes.now (packet_view packet.now))) written self.new (W.contents writer.new) fault) }
+            → Stops studio (events_with studio.open_at (opening_of (plan_view plan.now)) self.old.clock events (packet_view packet.now) (target_of (plan_view plan.now) (packet_view packet.now))) written self.new (W.contents writer.new) fault) }
     {
-        let Some(route) = route_in(routes, packet) else {
+        let Some(target) = plan.target(packet) else {
             return Ok(());
         };
-        self.read(packet.time, writer)?;
-        self.arrive(&route, octets_in(packet))
+        self.read(plan.opening(), packet.time, writer)?;
+        self.arrive(target, octets_in(packet))
     }
 
-    /// Reads the clock at a packet's time. A reading that isn't later is no event.
-    fn read<W: Write>(&mut self, time: Option<u64>, writer: &mut W) -> Result<(), ReplayFault>
+    /// Reads the clock, counted from an opening, at a time. A reading that isn't later is no event.
+    pub(crate) fn read<W: Write>(
+        &mut self,
+        from: u64,
+        time: Option<u64>,
+        writer: &mut W,
+    ) -> Result<(), ReplayFault>
         ensures ok { OnOk result ((studio : Studio) (events : List TraceEvent) (written : Option (List ℕ)) → HasReplayed studio events written self.old (W.contents writer.old)
-            → HasReplayed studio (read_at studio.open_at events self.old.clock.reading (clock_with self.old.clock time).reading) written self.new (W.contents writer.new)) }
+            → HasReplayed studio (read_at studio.open_at from events self.old.clock.reading (clock_with self.old.clock time).reading) written self.new (W.contents writer.new)) }
         ensures kind { IfErr result (λ fault. IsOwn fault) }
         ensures clock { self.new.clock ≡ clock_with self.old.clock time }
         ensures fault { IfErr result (λ fault. (studio : Studio) (events : List TraceEvent) (written : Option (List ℕ)) → HasReplayed studio events written self.old (W.contents writer.old)
-            → Stops studio (read_at studio.open_at events self.old.clock.reading (clock_with self.old.clock time).reading) written self.new (W.contents writer.new) fault) }
+            → Stops studio (read_at studio.open_at from events self.old.clock.reading (clock_with self.old.clock time).reading) written self.new (W.contents writer.new) fault) }
     {
         let earlier = self.clock.reading();
         self.clock.read(time);
@@ -132,20 +138,20 @@ impl Run {
         if reading <= earlier {
             return Ok(());
         }
-        self.turn(reading, writer)
+        self.turn(from, reading, writer)
     }
 
     /// Moves the engine on to a reading. One that repeats its time is no event.
-    fn turn<W: Write>(&mut self, reading: u64, writer: &mut W) -> Result<(), ReplayFault>
+    fn turn<W: Write>(&mut self, from: u64, reading: u64, writer: &mut W) -> Result<(), ReplayFault>
         ensures ok { OnOk result ((studio : Studio) (events : List TraceEvent) (written : Option (List ℕ)) → HasReplayed studio events written self.old (W.contents writer.old)
-            → HasReplayed studio (turned (time_at studio.open_at events) (pos reading) events) written self.new (W.contents writer.new)) }
+            → HasReplayed studio (turned (time_at studio.open_at events) (pos (from + reading)) events) written self.new (W.contents writer.new)) }
         ensures kind { IfErr result (λ fault. IsOwn fault) }
         ensures clock { self.new.clock ≡ self.old.clock }
         ensures fault { IfErr result (λ fault. (studio : Studio) (events : List TraceEvent) (written : Option (List ℕ)) → HasReplayed studio events written self.old (W.contents writer.old)
-            → Stops studio (turned (time_at studio.open_at events) (pos reading) events) written self.new (W.contents writer.new) fault) }
+            → Stops studio (turned (time_at studio.open_at events) (pos (from + reading)) events) written self.new (W.contents writer.new) fault) }
     {
         let time = self.engine.time();
-        let Some(now) = instants_in(reading) else {
+        let Some(now) = instants_at(from, reading) else {
             return Err(ReplayFault::Run(StudioFault::Clock(self.count)));
         };
         if refuses(&self.engine, now) {
@@ -156,20 +162,19 @@ impl Run {
         Ok(())
     }
 
-    /// Takes the datagram of a flow that has a route.
-    fn arrive(&mut self, route: &Route, octets: &[u8]) -> Result<(), ReplayFault>
+    /// Takes a datagram that goes to a path.
+    fn arrive(&mut self, target: Target, octets: &[u8]) -> Result<(), ReplayFault>
         ensures ok { OnOk result ((studio : Studio) (events : List TraceEvent) (written written_then : Option (List ℕ)) → HasReplayed studio events written self.old written_then
-            → HasReplayed studio (events ++ Arrival route.now.stream (path_of route.now.letter) octets.now ∷ []) written self.new written_then) }
+            → HasReplayed studio (events ++ Arrival target.stream target.path octets.now ∷ []) written self.new written_then) }
         ensures fault { IfErr result (λ fault. (studio : Studio) (events : List TraceEvent) (written written_then : Option (List ℕ)) → HasReplayed studio events written self.old written_then
-            → Stops studio (events ++ Arrival route.now.stream (path_of route.now.letter) octets.now ∷ []) written self.new written_then fault) }
+            → Stops studio (events ++ Arrival target.stream target.path octets.now ∷ []) written self.new written_then fault) }
         ensures kind { IfErr result (λ fault. IsRun fault) }
         ensures clock { self.new.clock ≡ self.old.clock }
     {
-        let stream = usize::from(route.stream);
-        let Some(path) = Path::new(route.letter.saturating_sub(b'a')) else {
-            return Err(self.pathless(stream));
+        let Some(path) = Path::new(target.path) else {
+            return Err(self.pathless(target.stream));
         };
-        match self.engine.arrive(stream, path, octets) {
+        match self.engine.arrive(target.stream, path, octets) {
             Ok(_receipt) => {
                 self.count = self.count.saturating_add(1);
                 Ok(())
@@ -190,12 +195,13 @@ impl Run {
     }
 }
 
-/// A reading as the engine's clock counts it, if 64 bits hold it with a sign.
-fn instants_in(reading: u64) -> Option<i64>
-    ensures value { IfSome result (λ now. now ≡ pos reading) }
-    ensures small { IfSome result (λ now. reading < 2 ^ 63) }
+/// A reading that counts from an opening, as the engine's clock counts it, if 64 bits hold it with a sign.
+fn instants_at(from: u64, reading: u64) -> Option<i64>
+    ensures value { IfSome result (λ now. now ≡ pos (from + reading)) }
+    ensures small { IfSome result (λ now. from + reading < 2 ^ 63) }
 {
-    i64::try_from(reading).ok()
+    let instants = from.checked_add(reading)?;
+    i64::try_from(instants).ok()
 }
 
 /// Whether the clock of an engine that is open refuses a reading.

@@ -2,16 +2,20 @@
 //!
 //! `flows_of` goes over the file once, for its flows, of which `capture_import` makes routes. `replay` goes over it once more, and
 //! writes the report of the events that the capture says by these routes: those of the trace that `capture_import` writes.
+//! `replay_record` does so of the record of a live run, by its interfaces and its times, with the studio that it was a run of.
 #![tactic(auto)]
 
 mod counts;
 mod fault;
 mod flows;
 mod go_over;
+mod plan;
 mod player;
+mod record;
 mod run;
 mod turn;
 
 pub use fault::ReplayFault;
 pub use flows::flows_of;
-pub use player::replay;
+pub use player::{replay, replay_record};
+pub use record::{Record, record_of};

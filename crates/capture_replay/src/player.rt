@@ -1,19 +1,22 @@
 //! A whole replay: from the octets of a capture to those of its report.
-ghost use Rattle.std.specs.Prelude.{◌≡◌, ◌++◌, ◌∷◌, ℕ, List, Option, [], IfOk, IfErr, OnOk, OnErr};
+ghost use Rattle.std.specs.Prelude.{◌≡◌, ◌++◌, ◌∷◌, ℕ, List, Option, [], None, IfOk, IfErr, OnOk, OnErr};
 ghost use Rattle.studio_session.specs.Event.{TraceEvent, Closing};
 ghost use Rattle.studio_run.specs.Play.{WritesEvents};
 ghost use Rattle.studio_run.specs.StudioReport.{IsReport};
-ghost use Rattle.capture_import.specs.Clock.{clock_begun};
-ghost use Rattle.capture_replay.specs.Replay.{BreaksOffReplay, BreaksReport, CanClose, HasReplayed, StopsFile, WritesReplay};
-ghost use Rattle.capture_import.specs.declared.route.Route.{Route as RouteOf};
+ghost use Rattle.lane_align.specs.Lane.{natural};
+ghost use Rattle.capture_reader.specs.Window.{octets_of};
+ghost use Rattle.capture_replay.specs.Plan.{Flows, PlanView, clock_before, places_of, plan_view};
+ghost use Rattle.capture_replay.specs.Replay.{BreaksOffReplay, BreaksReport, CanClose, HasComeToClose, HasReplayed, IsReplaying, StopsFile, WritesReplay};
 ghost use Rattle.studio_spec.specs.Studio.{Studio};
 
 use crate::counts::write_all_counts;
 use crate::fault::ReplayFault;
+use crate::plan::Plan;
 use crate::run::Run;
 use crate::turn::write_rest;
-use capture_import::{CaptureClock, Route};
-use capture_reader::open;
+use capture_import::Route;
+use capture_read::Parts;
+use capture_reader::{Window, open};
 use std::alloc::{AllocError, Global};
 use std::io::{Read, Write};
 use studio_engine::Engine;
@@ -29,12 +32,53 @@ pub fn replay<R: Read, W: Write>(
     reader: &mut R,
     writer: &mut W,
 ) -> Result<(), ReplayFault>
-    ensures ok { OnOk result (WritesReplay spec.now routes.now (R.remaining reader.old) (W.contents writer.old) (W.contents writer.new)) }
-    ensures fault { IfErr result (λ fault. BreaksOffReplay spec.now routes.now (R.remaining reader.old) (W.contents writer.old) (W.contents writer.new) fault) }
+    ensures ok { OnOk result (WritesReplay spec.now (Flows routes.now) None (R.remaining reader.old) (W.contents writer.old) (W.contents writer.new)) }
+    ensures fault { IfErr result (λ fault. BreaksOffReplay spec.now (Flows routes.now) (R.remaining reader.old) (W.contents writer.old) (W.contents writer.new) fault) }
 {
-    let mut run = Run::new(alloc, spec)?;
+    replay_by(alloc, spec, &Plan::Flows(routes), None, reader, writer)
+}
+
+/// The same of a record of the studio's own run, by the places of its paths: interfaces count through the paths of all
+/// streams, readings are nanoseconds from the studio's opening on, and so is the time of the close, if it is known.
+pub fn replay_record<R: Read, W: Write>(
+    alloc: Global,
+    spec: &StudioSpec,
+    closing: Option<u64>,
+    reader: &mut R,
+    writer: &mut W,
+) -> Result<(), ReplayFault>
+    ensures ok { OnOk result (WritesReplay spec.now (places_of spec.now) closing (R.remaining reader.old) (W.contents writer.old) (W.contents writer.new)) }
+    ensures fault { IfErr result (λ fault. BreaksOffReplay spec.now (places_of spec.now) (R.remaining reader.old) (W.contents writer.old) (W.contents writer.new) fault) }
+{
+    let plan = Plan::Places {
+        streams: spec.streams(),
+        open_at: instants_of(spec.open_at()),
+    };
+    replay_by(alloc, spec, &plan, closing, reader, writer)
+}
+
+/// A time that is none before 0.
+fn instants_of(time: i64) -> u64
+    ensures { result ≡ natural time }
+{
+    time.max(0) as u64
+}
+
+/// Writes the report of a capture by a plan, with a close at a time, if that is known.
+fn replay_by<R: Read, W: Write>(
+    alloc: Global,
+    spec: &StudioSpec,
+    plan: &Plan<'_>,
+    closing: Option<u64>,
+    reader: &mut R,
+    writer: &mut W,
+) -> Result<(), ReplayFault>
+    ensures ok { OnOk result (WritesReplay spec.now (plan_view plan.now) closing (R.remaining reader.old) (W.contents writer.old) (W.contents writer.new)) }
+    ensures fault { IfErr result (λ fault. BreaksOffReplay spec.now (plan_view plan.now) (R.remaining reader.old) (W.contents writer.old) (W.contents writer.new) fault) }
+{
+    let mut run = Run::new(alloc, spec, plan)?;
     let (mut window, mut parts) = open(alloc, reader)?;
-    match run.go_over(routes, &mut parts, &mut window, reader, writer) {
+    match run.go_to_close(plan, closing, &mut parts, &mut window, reader, writer) {
         Ok(()) => {
             run.close(spec, writer)?;
             Ok(())
@@ -45,18 +89,39 @@ pub fn replay<R: Read, W: Write>(
 
 impl Run {
     /// Before the first event.
-    fn new(alloc: Global, spec: &StudioSpec) -> Result<Run, AllocError>
+    fn new(alloc: Global, spec: &StudioSpec, plan: &Plan<'_>) -> Result<Run, AllocError>
         ensures stands { IfOk result (λ run. (written : Option (List ℕ)) → HasReplayed spec.now [] written run written) }
-        ensures clock { IfOk result (λ run. run.clock ≡ clock_begun) }
+        ensures clock { IfOk result (λ run. run.clock ≡ clock_before (plan_view plan.now)) }
     {
         let engine = Engine::new(alloc, spec)?;
         let text = TextBuffer::new(alloc)?;
         Ok(Run {
             engine,
-            clock: CaptureClock::new(),
+            clock: plan.clock(),
             count: 0,
             text,
         })
+    }
+
+    /// Takes the events of what is left of a capture, and a reading at the time of the close.
+    fn go_to_close<R: Read, W: Write>(
+        &mut self,
+        plan: &Plan<'_>,
+        closing: Option<u64>,
+        parts: &mut Parts,
+        window: &mut Window,
+        reader: &mut R,
+        writer: &mut W,
+    ) -> Result<(), ReplayFault>
+        ensures ok { OnOk result ((studio : Studio) (first : Option (List ℕ)) (written : Option (List ℕ))
+            → IsReplaying studio (plan_view plan.now) first written self.old parts.old (octets_of window.old) window.old.ended (R.remaining reader.old) (W.contents writer.old)
+            → HasComeToClose studio (plan_view plan.now) closing first written self.new (W.contents writer.new)) }
+        ensures fault { IfErr result (λ fault. (studio : Studio) (first : Option (List ℕ)) (written : Option (List ℕ))
+            → IsReplaying studio (plan_view plan.now) first written self.old parts.old (octets_of window.old) window.old.ended (R.remaining reader.old) (W.contents writer.old)
+            → StopsFile studio (plan_view plan.now) first written self.new (W.contents writer.new) fault) }
+    {
+        self.go_over(plan, parts, window, reader, writer)?;
+        self.read(plan.opening(), closing, writer)
     }
 
     /// Ends the report.
@@ -81,8 +146,8 @@ impl Run {
 
     /// Ends what is written behind a fault. Answers the fault, or that of a write.
     fn break_off<W: Write>(self, fault: ReplayFault, writer: &mut W) -> ReplayFault
-        ensures { (studio : Studio) (routes : List RouteOf) (first written : Option (List ℕ)) → StopsFile studio routes first written self (W.contents writer.old) fault
-            → BreaksOffReplay studio routes first written (W.contents writer.new) result }
+        ensures { (studio : Studio) (plan : PlanView) (first written : Option (List ℕ)) → StopsFile studio plan first written self (W.contents writer.old) fault
+            → BreaksOffReplay studio plan first written (W.contents writer.new) result }
     {
         let mut text = self.text;
         match fault {

@@ -1,5 +1,6 @@
 use Rattle.std.proofs.Common.{◌≡◌, Err, drop, sym, subst, rules}
 use Rattle.capture_reader.specs.Window.{octets_of}
+use Rattle.capture_replay.specs.Plan.{plan_view}
 use Rattle.capture_replay.specs.Replay.{IsReplaying}
 use Rattle.capture_replay.specs.declared.fault.ReplayFault.TheVariants.{Capture}
 use Rattle.capture_replay.proofs.CaseLemmas.{some_maps, told}
@@ -12,7 +13,7 @@ returns-in_err-has_next-clause-fault g c =
     told _ (Capture fault) c.from_residual.result c.from_residual.ensures.1
     (λ studio first written r.
     let now = c.parts.invariant studio first written r in
-    stops_behind studio c.args.routes.now first written c.parts.self c.parts.parts (octets_of c.parts.window) c.parts.window.ended (g.R.Read.remaining c.parts.reader) (g.W.Write.contents c.parts.writer) (Capture fault) now
+    stops_behind studio (plan_view c.args.plan.now) first written c.parts.self c.parts.parts (octets_of c.parts.window) c.parts.window.ended (g.R.Read.remaining c.parts.reader) (g.W.Write.contents c.parts.writer) (Capture fault) now
     (λ file _. long_reason file now.packets fault c.in_err-has_next.ensures.fault) (λ events replayed. replayed))
 
 pub returns-then-not-branch-clause-ok : goal.returns-then-not-branch-clause-ok
@@ -21,7 +22,7 @@ returns-then-not-branch-clause-ok g c = λ studio first written r.
     record {
       packets = now.packets;
       told = some_maps first _ _ (λ file told. c.in_ok-has_next.ensures.end (search rules) file now.packets told) now.told;
-      replayed = now.taken.replayed;
+      taken = now.taken;
     }
 
 pub returns-in_err-len-clause-fault : goal.returns-in_err-len-clause-fault
@@ -30,18 +31,18 @@ returns-in_err-len-clause-fault g c =
     let is : c.from_residual-in_err-len.result ≡ Err fault = search rules in
     rw is (λ studio first written r.
     let now = c.parts.invariant studio first written r in
-    c.in_err-len.ensures.fault studio first written _ (replaying_read studio c.args.routes.now first written c.parts.self c.parts.parts _ _ _ _ _ (g.R.Read.remaining c.has_next.new.reader) _ c.in_ok-has_next.ensures.told now))
+    c.in_err-len.ensures.fault studio first written _ (replaying_read studio (plan_view c.args.plan.now) first written c.parts.self c.parts.parts _ _ _ _ _ (g.R.Read.remaining c.has_next.new.reader) _ c.in_ok-has_next.ensures.told now))
 
 pub parts-preserved : goal.parts-preserved
 parts-preserved g c = λ studio first written r.
     let now = c.parts.invariant studio first written r in
     let left = g.R.Read.remaining c.has_next.new.reader in
     let then = g.W.Write.contents c.take_next.new.writer in
-    let next = c.in_ok-len.ensures.ok studio first written left (replaying_read studio c.args.routes.now first written c.parts.self c.parts.parts _ _ _ _ _ left _ c.in_ok-has_next.ensures.told now) in
-    subst (λ h. IsReplaying studio c.args.routes.now first written c.take_next.new.self c.take_next.new.parts h c.pass.new.self.ended left then) (sym c.pass.ensures.octets)
-    (subst (λ e. IsReplaying studio c.args.routes.now first written c.take_next.new.self c.take_next.new.parts (drop c.in_ok-len.len (octets_of c.has_next.new.window)) e left then) (sym c.pass.ensures.ended) next)
+    let next = c.in_ok-len.ensures.ok studio first written left (replaying_read studio (plan_view c.args.plan.now) first written c.parts.self c.parts.parts _ _ _ _ _ left _ c.in_ok-has_next.ensures.told now) in
+    subst (λ h. IsReplaying studio (plan_view c.args.plan.now) first written c.take_next.new.self c.take_next.new.parts h c.pass.new.self.ended left then) (sym c.pass.ensures.octets)
+    (subst (λ e. IsReplaying studio (plan_view c.args.plan.now) first written c.take_next.new.self c.take_next.new.parts (drop c.in_ok-len.len (octets_of c.has_next.new.window)) e left then) (sym c.pass.ensures.ended) next)
 
 pub returns-clause-fault : goal.returns-clause-fault
 returns-clause-fault g c = λ studio first written r.
-    stops_behind studio c.args.routes.now first written c.parts.self c.parts.parts (octets_of c.parts.window) c.parts.window.ended (g.R.Read.remaining c.parts.reader) (g.W.Write.contents c.parts.writer) _
+    stops_behind studio (plan_view c.args.plan.now) first written c.parts.self c.parts.parts (octets_of c.parts.window) c.parts.window.ended (g.R.Read.remaining c.parts.reader) (g.W.Write.contents c.parts.writer) _
     (c.parts.invariant studio first written r) (λ file _. tt) (λ events replayed. replayed)

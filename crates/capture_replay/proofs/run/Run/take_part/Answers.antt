@@ -2,6 +2,7 @@ use Rattle.std.proofs.Common.{◌++◌, option_map, sym, subst}
 use Rattle.std.specs.Option.{option_to_list}
 use Rattle.capture_read.specs.Packet.{packet_view}
 use Rattle.capture_replay.specs.Events.{events_of}
+use Rattle.capture_replay.specs.Plan.{plan_view}
 use Rattle.capture_replay.specs.Replay.{HasTaken, Stops}
 use Rattle.capture_replay.proofs.CaseLemmas.{err_then, ok_both}
 use Rattle.capture_replay.proofs.ReplayLemmas.{stops_more, taken_more, taken_same}
@@ -9,23 +10,23 @@ use Rattle.capture_replay.proofs.run.Run.take_part.Goals as goal
 
 pub returns-in-Some-clause-ok : goal.returns-in-Some-clause-ok
 returns-in-Some-clause-ok g c =
-    let routes = c.args.routes.now in
+    let plan = plan_view c.args.plan.now in
     let then = g.W.Write.contents c.take.new.writer in
     ok_both c.take.result _ _ _ (λ replayed clock studio packets written taken.
-    subst (λ o. HasTaken studio routes (packets ++ option_to_list (option_map packet_view o)) written c.take.new.self then) (sym c.in-Some.is)
-    (taken_more studio routes packets (packet_view c.in-Some.packet) written _ then c.args.self.now c.take.new.self taken clock (replayed studio (events_of studio routes packets) written taken.replayed)))
+    subst (λ o. HasTaken studio plan (packets ++ option_to_list (option_map packet_view o)) written c.take.new.self then) (sym c.in-Some.is)
+    (taken_more studio plan packets (packet_view c.in-Some.packet) written _ then c.args.self.now c.take.new.self taken clock (replayed studio (events_of studio plan packets) written taken.replayed)))
     c.take.ensures.ok c.take.ensures.clock
 
 pub returns-in-Some-clause-fault : goal.returns-in-Some-clause-fault
 returns-in-Some-clause-fault g c =
-    let routes = c.args.routes.now in
+    let plan = plan_view c.args.plan.now in
     let then = g.W.Write.contents c.take.new.writer in
     err_then c.take.result _ _ (λ fault stops studio packets written taken.
-    subst (λ o. Stops studio (events_of studio routes (packets ++ option_to_list (option_map packet_view o))) written c.take.new.self then fault) (sym c.in-Some.is)
-    (stops_more studio routes packets (packet_view c.in-Some.packet) written _ then c.args.self.now c.take.new.self fault taken (stops studio (events_of studio routes packets) written taken.replayed)))
+    subst (λ o. Stops studio (events_of studio plan (packets ++ option_to_list (option_map packet_view o))) written c.take.new.self then fault) (sym c.in-Some.is)
+    (stops_more studio plan packets (packet_view c.in-Some.packet) written _ then c.args.self.now c.take.new.self fault taken (stops studio (events_of studio plan packets) written taken.replayed)))
     c.take.ensures.fault
 
 pub returns-in-None-clause-ok : goal.returns-in-None-clause-ok
 returns-in-None-clause-ok g c = λ studio packets written taken.
-    subst (λ o. HasTaken studio c.args.routes.now (packets ++ option_to_list (option_map packet_view o)) written c.args.self.now (g.W.Write.contents c.args.writer.now)) (sym c.in-None.is)
-    (taken_same studio c.args.routes.now packets written _ c.args.self.now taken)
+    subst (λ o. HasTaken studio (plan_view c.args.plan.now) (packets ++ option_to_list (option_map packet_view o)) written c.args.self.now (g.W.Write.contents c.args.writer.now)) (sym c.in-None.is)
+    (taken_same studio (plan_view c.args.plan.now) packets written _ c.args.self.now taken)

@@ -1,4 +1,4 @@
-use Rattle.std.proofs.Common.{◌≡◌, ◌++◌, ◌∙◌, pos, subst, arith, to_z, of_z, w64}
+use Rattle.std.proofs.Common.{◌≡◌, ◌+◌, ◌++◌, ◌∙◌, pos, subst, arith, to_z, of_z, w64}
 use Rattle.std.proofs.lemmas.Int.{ints}
 use Rattle.studio_session.specs.Fault.{time_at}
 use Rattle.studio_engine.specs.Session.{HasSession, turned}
@@ -12,15 +12,15 @@ use Rattle.capture_replay.proofs.run.Run.turn.Goals as goal
 pub returns-clause-ok : goal.returns-clause-ok
 returns-clause-ok g c = λ studio events written r.
     let engine = c.args.self.now.engine in
-    let reading : to_z w64 (of_z w64 c.in-Some.now) ≡ pos c.args.reading = omega (arith, ints, c.in-Some.ensures.value, c.in-Some.ensures.small) in
+    let reading : to_z w64 (of_z w64 c.in-Some.now) ≡ pos (c.args.from + c.args.reading) = omega (arith, ints, c.in-Some.ensures.value, c.in-Some.ensures.small) in
     let fine = takes engine.time engine.closed _ c.refuses.result (r.session.closed ∙ r.open_yet) c.refuses.ensures c.if-refuses.false in
     let gives = c.in_ok-write_turn.ensures.ok studio events r.datagrams r.session fine in
     record {
       datagrams = r.datagrams ++ gives.more;
       session = subst (λ l. HasSession studio c.write_turn.new.engine l (r.datagrams ++ gives.more))
-          (turned_alike engine.time (to_z w64 (of_z w64 c.in-Some.now)) (time_at studio.open_at events) (pos c.args.reading) events r.session.time reading) gives.stands;
+          (turned_alike engine.time (to_z w64 (of_z w64 c.in-Some.now)) (time_at studio.open_at events) (pos (c.args.from + c.args.reading)) events r.session.time reading) gives.stands;
       rested = c.in_ok-write_turn.ensures.rested studio events r.datagrams r.session fine;
-      open_yet = open_turned (time_at studio.open_at events) (pos c.args.reading) events r.open_yet;
+      open_yet = open_turned (time_at studio.open_at events) (pos (c.args.from + c.args.reading)) events r.open_yet;
       wrote = wrote_more _ _ _ _ _ r.datagrams gives.more r.wrote gives.wrote;
     }
 
@@ -28,18 +28,18 @@ pub returns-in_err-write_turn-clause-fault : goal.returns-in_err-write_turn-clau
 returns-in_err-write_turn-clause-fault g c =
     let engine = c.args.self.now.engine in
     let last = c.write_turn.new.engine in
-    let reading : to_z w64 (of_z w64 c.in-Some.now) ≡ pos c.args.reading = omega (arith, ints, c.in-Some.ensures.value, c.in-Some.ensures.small) in
+    let reading : to_z w64 (of_z w64 c.in-Some.now) ≡ pos (c.args.from + c.args.reading) = omega (arith, ints, c.in-Some.ensures.value, c.in-Some.ensures.small) in
     told _ Write c.from_residual.result c.from_residual.ensures.1 (λ studio events written r.
     let fine = takes engine.time engine.closed _ c.refuses.result (r.session.closed ∙ r.open_yet) c.refuses.ensures c.if-refuses.false in
     record {
       events = turned engine.time last.time events;
-      first = first_turning engine.time last.time (to_z w64 (of_z w64 c.in-Some.now)) (time_at studio.open_at events) (pos c.args.reading) events c.write_turn.ensures.time r.session.time reading;
+      first = first_turning engine.time last.time (to_z w64 (of_z w64 c.in-Some.now)) (time_at studio.open_at events) (pos (c.args.from + c.args.reading)) events c.write_turn.ensures.time r.session.time reading;
       at = broke_more studio last (turned engine.time last.time events) written _ _ _ r.datagrams r.wrote (c.in_err-write_turn.ensures.fault studio events r.datagrams r.session fine);
     })
 
 pub returns-in_default-clause-fault : goal.returns-in_default-clause-fault
 returns-in_default-clause-fault g c = λ studio events written r. record {
   events = events;
-  first = first_turned (time_at studio.open_at events) (pos c.args.reading) events;
+  first = first_turned (time_at studio.open_at events) (pos (c.args.from + c.args.reading)) events;
   at = r;
 }
