@@ -102,6 +102,26 @@ one-round open_at rounds answer arrivals old new old_is new_is =
     ∙ (ap (λ t. events ++ (turned last t [] ++ arrivals)) (new_is ∙ ap (λ t. time_with t answer) old_is)
     ∙ sym (more-rounds open_at rounds (record { answer = answer; arrivals = arrivals })))))
 
+-- what arrives after the last reading stands behind the events
+pub last-takes : (time : ℤ) (front : List Round) (answer : ℤ) (arrivals : List TraceEvent)
+    → events_by time (front ++ record { answer = answer; arrivals = arrivals } ∷ []) ≡ events_by time (front ++ record { answer = answer; arrivals = [] } ∷ []) ++ arrivals
+last-takes time front answer arrivals =
+    let events = events_by time front in
+    let turn = turned (time_by time front) (time_with (time_by time front) answer) [] in
+    more-rounds time front (record { answer = answer; arrivals = arrivals })
+    ∙ (sym (append_assoc events turn arrivals)
+    ∙ ap (λ l. l ++ arrivals) (ap (λ l. events ++ l) (sym (append-nil turn)) ∙ sym (more-rounds time front (record { answer = answer; arrivals = [] }))))
+
+-- and changes no answer
+pub answers-last : (front : List Round) (answer : ℤ) (arrivals : List TraceEvent)
+    → answers_of (front ++ record { answer = answer; arrivals = [] } ∷ []) ≡ answers_of (front ++ record { answer = answer; arrivals = arrivals } ∷ [])
+answers-last [] answer arrivals = refl
+answers-last (round ∷ front) answer arrivals = ap (λ l. round.answer ∷ l) (answers-last front answer arrivals)
+
+pub rounds-front : (front rounds : List Round) → AreRounds (front ++ rounds) → AreRounds front
+rounds-front [] rounds h = tt
+rounds-front (round ∷ front) rounds h = (h.0, rounds-front front rounds h.1)
+
 pub time-more : (time : ℤ) (rounds : List Round) (round : Round) → time_by time (rounds ++ round ∷ []) ≡ time_with (time_by time rounds) round.answer
 time-more time [] round = refl
 time-more time (first ∷ rounds) round = time-more (time_with time first.answer) rounds round

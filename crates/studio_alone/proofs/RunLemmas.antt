@@ -1,12 +1,11 @@
 -- A run, from its first round to its report.
-use Rattle.std.proofs.Common.{◌≡◌, ℕ, ◌+◌, ◌≤◌, ◌<◌, ◌^◌, true, false, List, [], ◌∷◌, ◌++◌, length, map, ℤ, Option, Result, Ok, Err, IfOk, OnOk, is_err, sym, ap, subst, ◌∙◌, arith, append-nil, length-append}
+use Rattle.std.proofs.Common.{◌≡◌, ℕ, ◌+◌, ◌<◌, ◌^◌, true, false, List, [], ◌∷◌, ◌++◌, length, map, ℤ, Option, Result, Ok, Err, IfOk, OnOk, is_err, refl, sym, ap, subst, ◌∙◌, arith, append-nil, length-append}
 use Rattle.std.specs.declared.vec.Vec.{Vec}
 use Rattle.std.specs.declared.alloc.Global.{Global}
 use Rattle.std.proofs.lemmas.Bool.{false≢true}
 use Rattle.studio_spec.specs.Studio.{Studio}
 use Rattle.studio_mix.proofs.FirstBlockLemmas.{first_all}
 use Rattle.studio_session.specs.Event.{TraceEvent}
-use Rattle.studio_session.specs.Fault.{time_at}
 use Rattle.studio_session.specs.Play.{feeds_of}
 use Rattle.studio_session.specs.Report.{AreCounts}
 use Rattle.studio_engine.specs.Engine.{EngineState, HasAllMarks}
@@ -16,14 +15,14 @@ use Rattle.studio_workers.specs.Answers.{Answer}
 use Rattle.studio_workers.specs.Clocks.{TellsTime, time_with}
 use Rattle.studio_workers.specs.Sinks.{Hands}
 use Rattle.studio_workers.specs.declared.report.WorkReport.{WorkReport}
-use Rattle.studio_alone.specs.Rounds.{AreArrivals, AreNext, Round, answers_of, datagrams_on, events_by, events_of}
-use Rattle.studio_alone.specs.Runs.{IsDone, IsSettledRun, IsUnderWay}
+use Rattle.studio_alone.specs.Rounds.{AreNext, AreRounds, Round, answers_of, datagrams_on, events_by, events_of, time_by}
+use Rattle.studio_alone.specs.Runs.{IsDone, IsSettledRun, IsTurned, IsUnderWay}
 use Rattle.studio_alone.specs.Sends.{HasSent}
 use Rattle.studio_alone.specs.Takes.{AllEnded, HasCome, HaveBegun, HaveGiven, TakesAll}
 use Rattle.studio_alone.specs.Taps.{Closed, Heard, Hears, heard_by}
 use Rattle.studio_alone.specs.declared.desk.Desk.{Desk}
 use Rattle.studio_alone.specs.declared.taker.Taker.{Taker}
-use Rattle.studio_alone.proofs.RoundLemmas.{answers-more, next-more, next-none, one-round, rounds-more, rounds-open, time-arrivals, time-more}
+use Rattle.studio_alone.proofs.RoundLemmas.{answers-last, answers-more, last-takes, next-more, next-none, one-round, rounds-front, rounds-more, rounds-open, time-arrivals, time-more}
 use Rattle.studio_alone.proofs.TakeLemmas.{given-more, given-none, given-turned}
 use Rattle.studio_alone.proofs.TellLemmas.{adds_more, adds_none, heard_turned, hears_close, hears_on}
 
@@ -63,64 +62,65 @@ module _ {F C K T : Type 0} (feed_told : F → List Answer) (clock_told : C → 
     heard = subst (λ o. Hears o [] (tap_heard desk.tap)) (sym earlier_is) (adds_none (tap_heard desk.tap));
   }
 
-  module _ (old new : Desk F C K T) (h : IsUnderWay feed_told clock_told sink_handed tap_heard studio all clock before earlier old) (mid : EngineState) (answer now : ℤ) (arrivals : List TraceEvent) where
-    -- one round more
-    pub round-more : now ≡ time_with old.engine.time answer → TellsTime (clock_told old.clock) answer (clock_told new.clock)
-        → (sent : HasSent studio mid (turned old.engine.time now (events_by studio.open_at h.rounds)) h.datagrams (sink_handed old.sink) (sink_handed new.sink) old.counts.blocks new.counts.blocks)
-        → mid.time ≡ now
-        → HasSession studio new.engine (turned old.engine.time now (events_by studio.open_at h.rounds) ++ arrivals) (h.datagrams ++ sent.more)
-        → AreArrivals arrivals → ((stream path : ℕ) → length (datagrams_on stream path arrivals) ≤ 64)
-        → HaveGiven feed_told all new.takers.items (turned old.engine.time now (events_by studio.open_at h.rounds) ++ arrivals)
-        → Hears (tap_heard old.tap) (heard_by (time_at studio.open_at (turned old.engine.time now (events_by studio.open_at h.rounds))) arrivals) (tap_heard new.tap)
-        → IsUnderWay feed_told clock_told sink_handed tap_heard studio all clock before earlier new
-    round-more now_is tells sent there stands arrive few given told =
-        let round : Round = record { answer = answer; arrivals = arrivals } in
-        let turn = turned old.engine.time now (events_by studio.open_at h.rounds) in
-        let events : turn ++ arrivals ≡ events_by studio.open_at (h.rounds ++ round ∷ []) = one-round studio.open_at h.rounds answer arrivals old.engine.time now h.time now_is in
-        record {
+  -- a reading more
+  pub turn-more : (old new : Desk F C K T) (h : IsUnderWay feed_told clock_told sink_handed tap_heard studio all clock before earlier old) (answer now : ℤ)
+      → now ≡ time_with old.engine.time answer → TellsTime (clock_told old.clock) answer (clock_told new.clock)
+      → HasSent studio new.engine (turned old.engine.time now (events_by studio.open_at h.rounds)) h.datagrams (sink_handed old.sink) (sink_handed new.sink) old.counts.blocks new.counts.blocks
+      → new.engine.time ≡ now → new.takers.items ≡ old.takers.items → new.tap ≡ old.tap
+      → IsTurned feed_told clock_told sink_handed tap_heard studio all clock before earlier new
+  turn-more old new h answer now now_is tells sent there takers tap =
+      let round : Round = record { answer = answer; arrivals = [] } in
+      let before_it = events_by studio.open_at h.rounds in
+      let turn = turned old.engine.time now before_it in
+      let events : turn ≡ events_by studio.open_at (h.rounds ++ round ∷ []) = sym (append-nil turn) ∙ one-round studio.open_at h.rounds answer [] old.engine.time now h.time now_is in
+      record {
+        run = record {
           rounds = h.rounds ++ round ∷ [];
           datagrams = h.datagrams ++ sent.more;
-          stands = subst (λ l. HasSession studio new.engine l (h.datagrams ++ sent.more)) events stands;
-          time = stands.time ∙ (time-arrivals studio.open_at turn arrivals arrive ∙ (sym sent.stands.time ∙ (there ∙ (now_is ∙ (ap (λ t. time_with t answer) h.time ∙ sym (time-more studio.open_at h.rounds round))))));
-          bounded = rounds-more h.rounds round h.bounded (record { arrive = arrive; few = few }, tt);
-          clocked = λ later next. subst (AreNext clock) (answers-more h.rounds answer arrivals later) (h.clocked (answer ∷ later) (next-more (clock_told old.clock) (clock_told new.clock) answer later tells next));
-          given = subst (HaveGiven feed_told all new.takers.items) events given;
+          stands = subst (λ l. HasSession studio new.engine l (h.datagrams ++ sent.more)) events sent.stands;
+          time = there ∙ (now_is ∙ (ap (λ t. time_with t answer) h.time ∙ sym (time-more studio.open_at h.rounds round)));
+          bounded = rounds-more h.rounds round h.bounded (record { arrive = tt; few = λ stream path. omega arith }, tt);
+          clocked = λ later next. subst (AreNext clock) (answers-more h.rounds answer [] later) (h.clocked (answer ∷ later) (next-more (clock_told old.clock) (clock_told new.clock) answer later tells next));
+          given = subst (HaveGiven feed_told all new.takers.items) events (subst (λ l. HaveGiven feed_told all l turn) (sym takers) (given-turned feed_told all old.takers.items old.engine.time now before_it h.given));
           count = count-more old.counts.blocks new.counts.blocks h.datagrams sent.more h.count sent.count;
           handed = adds_more before (sink_handed old.sink) (sink_handed new.sink) h.datagrams sent.more h.handed sent.handed;
           heard = subst (λ l. Hears earlier (heard_by studio.open_at l) (tap_heard new.tap)) events
-              (hears_on studio.open_at turn earlier (tap_heard old.tap) (tap_heard new.tap) arrivals
-              (subst (λ l. Hears earlier l (tap_heard old.tap)) (sym (heard_turned studio.open_at old.engine.time now (events_by studio.open_at h.rounds))) h.heard) told);
-        }
+              (subst (λ (t : T). Hears earlier (heard_by studio.open_at turn) (tap_heard t)) (sym tap)
+              (subst (λ l. Hears earlier l (tap_heard old.tap)) (sym (heard_turned studio.open_at old.engine.time now before_it)) h.heard));
+        };
+        front = h.rounds;
+        answer = answer;
+        last = refl;
+      }
 
-  -- one in which no feed was asked
-  pub round-rests : (old new : Desk F C K T) (h : IsUnderWay feed_told clock_told sink_handed tap_heard studio all clock before earlier old) (mid : EngineState) (answer now : ℤ)
-      → now ≡ time_with old.engine.time answer → TellsTime (clock_told old.clock) answer (clock_told new.clock)
-      → HasSent studio mid (turned old.engine.time now (events_by studio.open_at h.rounds)) h.datagrams (sink_handed old.sink) (sink_handed new.sink) old.counts.blocks new.counts.blocks
-      → mid.time ≡ now → new.engine ≡ mid → new.takers.items ≡ old.takers.items → new.tap ≡ old.tap
+  -- what arrived since the last
+  pub take-more : (old new : Desk F C K T) (h : IsTurned feed_told clock_told sink_handed tap_heard studio all clock before earlier old) (olds news : List (Vec (Taker F) Global)) (count : ℕ)
+      → old.takers.items ≡ olds → new.takers.items ≡ news → new.clock ≡ old.clock → new.sink ≡ old.sink → new.counts ≡ old.counts
+      → TakesAll feed_told studio new.engine (events_by studio.open_at h.run.rounds) h.run.datagrams olds news (tap_heard old.tap) (tap_heard new.tap) count
       → IsUnderWay feed_told clock_told sink_handed tap_heard studio all clock before earlier new
-  round-rests old new h mid answer now now_is tells sent there engine takers tap =
-      let turn = turned old.engine.time now (events_by studio.open_at h.rounds) in
-      round-more old new h mid answer now [] now_is tells sent there
-      (subst (λ (e : EngineState). HasSession studio e (turn ++ []) (h.datagrams ++ sent.more)) (sym engine) (subst (λ l. HasSession studio mid l (h.datagrams ++ sent.more)) (sym (append-nil turn)) sent.stands))
-      tt (λ stream path. omega arith)
-      (subst (λ l. HaveGiven feed_told all l (turn ++ [])) (sym takers)
-      (subst (HaveGiven feed_told all old.takers.items) (sym (append-nil turn)) (given-turned feed_told all old.takers.items old.engine.time now (events_by studio.open_at h.rounds) h.given)))
-      (subst (λ (t : T). Hears (tap_heard old.tap) [] (tap_heard t)) (sym tap) (adds_none (tap_heard old.tap)))
-
-  -- and one in which they were
-  pub round-takes : (old new : Desk F C K T) (h : IsUnderWay feed_told clock_told sink_handed tap_heard studio all clock before earlier old) (mid : EngineState) (answer now : ℤ)
-      → now ≡ time_with old.engine.time answer → TellsTime (clock_told old.clock) answer (clock_told new.clock)
-      → (sent : HasSent studio mid (turned old.engine.time now (events_by studio.open_at h.rounds)) h.datagrams (sink_handed old.sink) (sink_handed new.sink) old.counts.blocks new.counts.blocks)
-      → mid.time ≡ now → (olds news : List (Vec (Taker F) Global)) (count : ℕ) → old.takers.items ≡ olds → new.takers.items ≡ news
-      → TakesAll feed_told studio new.engine (turned old.engine.time now (events_by studio.open_at h.rounds)) (h.datagrams ++ sent.more) olds news (tap_heard old.tap) (tap_heard new.tap) count
-      → IsUnderWay feed_told clock_told sink_handed tap_heard studio all clock before earlier new
-  round-takes old new h mid answer now now_is tells sent there olds news count olds_is news_is t =
-      let turn = turned old.engine.time now (events_by studio.open_at h.rounds) in
-      round-more old new h mid answer now t.arrivals now_is tells sent there t.stands t.arrive t.few
-      (subst (λ l. HaveGiven feed_told all l (turn ++ t.arrivals)) (sym news_is)
-      (given-more feed_told studio new.engine all olds news turn (h.datagrams ++ sent.more) (tap_heard old.tap) (tap_heard new.tap) count
-      (subst (λ l. HaveGiven feed_told all l turn) olds_is (given-turned feed_told all old.takers.items old.engine.time now (events_by studio.open_at h.rounds) h.given)) t))
-      t.heard
+  take-more old new h olds news count olds_is news_is clock_is sink_is counts_is t =
+      let run = h.run in
+      let last : Round = record { answer = h.answer; arrivals = [] } in
+      let round : Round = record { answer = h.answer; arrivals = t.arrivals } in
+      let before_it = events_by studio.open_at run.rounds in
+      let events : before_it ++ t.arrivals ≡ events_by studio.open_at (h.front ++ round ∷ []) = ap (λ l. events_by studio.open_at l ++ t.arrivals) h.last ∙ sym (last-takes studio.open_at h.front h.answer t.arrivals) in
+      let times : time_by studio.open_at run.rounds ≡ time_by studio.open_at (h.front ++ round ∷ []) = ap (time_by studio.open_at) h.last ∙ (time-more studio.open_at h.front last ∙ sym (time-more studio.open_at h.front round)) in
+      let answers : answers_of run.rounds ≡ answers_of (h.front ++ round ∷ []) = ap answers_of h.last ∙ answers-last h.front h.answer t.arrivals in
+      record {
+        rounds = h.front ++ round ∷ [];
+        datagrams = run.datagrams;
+        stands = subst (λ l. HasSession studio new.engine l run.datagrams) events t.stands;
+        time = t.stands.time ∙ (time-arrivals studio.open_at before_it t.arrivals t.arrive ∙ (sym run.stands.time ∙ (run.time ∙ times)));
+        bounded = rounds-more h.front round (rounds-front h.front (last ∷ []) (subst AreRounds h.last run.bounded)) (record { arrive = t.arrive; few = t.few }, tt);
+        clocked = λ later next. subst (λ l. AreNext clock (l ++ later)) answers (run.clocked later (subst (λ (c : C). AreNext (clock_told c) later) clock_is next));
+        given = subst (HaveGiven feed_told all new.takers.items) events (subst (λ l. HaveGiven feed_told all l (before_it ++ t.arrivals)) (sym news_is)
+            (given-more feed_told studio new.engine all olds news before_it run.datagrams (tap_heard old.tap) (tap_heard new.tap) count
+            (subst (λ l. HaveGiven feed_told all l before_it) olds_is run.given) t));
+        count = λ few. ap (λ counts. counts.blocks) counts_is ∙ run.count few;
+        handed = subst (λ (k : K). Hands before run.datagrams (sink_handed k)) (sym sink_is) run.handed;
+        heard = subst (λ l. Hears earlier (heard_by studio.open_at l) (tap_heard new.tap)) events
+            (hears_on studio.open_at before_it earlier (tap_heard old.tap) (tap_heard new.tap) t.arrivals run.heard t.heard);
+      }
 
   -- the end
   pub run-ends : (old new : Desk F C K T) (mid : EngineState) (h : IsUnderWay feed_told clock_told sink_handed tap_heard studio all clock before earlier old) → AllEnded old.takers.items

@@ -1,5 +1,5 @@
 -- What a run in one thread comes to.
-use Rattle.std.specs.Prelude.{◌≡◌, ℕ, ◌<◌, ◌^◌, true, None, List, ◌++◌, length, slice_get, ℤ, Option, Some}
+use Rattle.std.specs.Prelude.{◌≡◌, ℕ, ◌<◌, ◌^◌, true, None, List, [], ◌∷◌, ◌++◌, length, slice_get, ℤ, Option, Some}
 use Rattle.studio_spec.specs.Studio.{Studio}
 use Rattle.studio_session.specs.Fault.{session_fault_of}
 use Rattle.studio_session.specs.Report.{AreCounts}
@@ -32,6 +32,13 @@ module _ {F C K T : Type 0} where
     pub count : length datagrams < 2 ^ 64 → desk.counts.blocks ≡ length datagrams
     pub handed : Hands before datagrams (sink_handed desk.sink)
     pub heard : Hears earlier (heard_by studio.open_at (events_by studio.open_at rounds)) (tap_heard desk.tap)
+
+  -- and nothing has arrived since its last reading
+  pub record IsTurned (feed_told : F → List Answer) (clock_told : C → List ℤ) (sink_handed : K → Option (List (List ℕ))) (tap_heard : T → Option (List Heard)) (studio : Studio) (all : List (List (List Answer))) (clock : List ℤ) (before : Option (List (List ℕ))) (earlier : Option (List Heard)) (desk : Desk F C K T) : Type 0 where
+    pub run : IsUnderWay feed_told clock_told sink_handed tap_heard studio all clock before earlier desk
+    pub front : List Round
+    pub answer : ℤ
+    pub last : run.rounds ≡ front ++ record { answer = answer; arrivals = [] } ∷ []
 
   -- and has come to its end
   pub record IsDone (sink_handed : K → Option (List (List ℕ))) (tap_heard : T → Option (List Heard)) (studio : Studio) (all : List (List (List Answer))) (clock : List ℤ) (before : Option (List (List ℕ))) (earlier : Option (List Heard)) (desk : Desk F C K T) : Type 0 where

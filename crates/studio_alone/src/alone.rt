@@ -64,10 +64,11 @@ fn run_rounds<R: Wait, F: Feed, C: Clock, K: Sink, T: Tap<F>, P: Rest>(
 {
     let mut desk = desk;
     let mut rest = rest;
+    let mut most = 0;
     let mut buf = [0u8; 2048];
     for _ in rt.forever() {
-        match desk.round(&mut buf) {
-            Ok(Some(most)) => rest.rest(&desk.engine, most),
+        match desk.round(&mut rest, most, &mut buf) {
+            Ok(Some(instants)) => most = instants,
             Ok(None) => return (desk, true),
             Err(_) => return (desk, false),
         }

@@ -3,10 +3,11 @@ ghost use Rattle.std.specs.Prelude.{◌≡◌, ◌≤ℤ◌, pos, ◌^◌, ℕ, 
 ghost use Rattle.studio_spec.specs.Studio.{Studio};
 ghost use Rattle.studio_workers.specs.Answers.{Answer};
 ghost use Rattle.studio_workers.specs.Clocks.{time_with};
-ghost use Rattle.studio_alone.specs.Runs.{IsUnderWay};
+ghost use Rattle.studio_alone.specs.Runs.{IsTurned, IsUnderWay};
 ghost use Rattle.studio_alone.specs.Takes.{AllEnded};
 ghost use Rattle.studio_alone.specs.Taps.{Heard};
 
+use crate::rest::Rest;
 use crate::send::send_due;
 use crate::take::take_all;
 use crate::taker::{Taker, have_all_ended};
@@ -47,27 +48,66 @@ pub(crate) struct Desk<F, C, K, T> {
 }
 
 impl<F: Feed, C: Clock, K: Sink, T: Tap<F>> Desk<F, C, K, T> {
-    /// Reads the clock, sends what is due by then, and takes what the feeds have. Answers for how many sampling
-    /// instants the run may rest; none where all feeds had ended before.
-    pub(crate) fn round(&mut self, buf: &mut [u8]) -> Result<Option<i64>, Stopped>
-        requires room { length buf.old ≡ 2048 }
+    /// Reads the clock, and sends what is due by then.
+    fn turn(&mut self) -> Result<(), Stopped>
         ensures on { OnOk result ((studio : Studio) (all : List (List (List Answer))) (clock : List ℤ) (before : Option (List (List ℕ))) (earlier : Option (List Heard))
-            → IsUnderWay F.told C.told K.handed T.heard studio all clock before earlier self.old → IsUnderWay F.told C.told K.handed T.heard studio all clock before earlier self.new) }
-        ensures ended { IfOk result (λ most. most ≡ None → AllEnded self.new.takers.items) }
+            → IsUnderWay F.told C.told K.handed T.heard studio all clock before earlier self.old → IsTurned F.told C.told K.handed T.heard studio all clock before earlier self.new) }
     {
         let answer = self.clock.now();
         let now = greatest(self.engine.time(), answer);
         send_due(&mut self.engine, now, &mut self.sink, &mut self.counts)?;
-        if have_all_ended(self.takers.as_slice()) {
-            return Ok(None);
+        Ok(())
+    }
+
+    /// The same, but where the last reading is new enough to judge by it what came since.
+    fn turn_again(&mut self, is_new: bool) -> Result<(), Stopped>
+        ensures on { OnOk result ((studio : Studio) (all : List (List (List Answer))) (clock : List ℤ) (before : Option (List (List ℕ))) (earlier : Option (List Heard))
+            → IsTurned F.told C.told K.handed T.heard studio all clock before earlier self.old → IsTurned F.told C.told K.handed T.heard studio all clock before earlier self.new) }
+    {
+        if is_new {
+            return Ok(());
         }
+        self.turn()
+    }
+
+    /// Takes what the feeds have, and answers for how many sampling instants the run may rest for them.
+    fn take(&mut self, buf: &mut [u8]) -> Result<i64, Stopped>
+        requires room { length buf.old ≡ 2048 }
+        ensures on { OnOk result ((studio : Studio) (all : List (List (List Answer))) (clock : List ℤ) (before : Option (List (List ℕ))) (earlier : Option (List Heard))
+            → IsTurned F.told C.told K.handed T.heard studio all clock before earlier self.old → IsUnderWay F.told C.told K.handed T.heard studio all clock before earlier self.new) }
+    {
         let most = take_all(
             &mut self.engine,
             self.takers.as_mut_slice(),
             &mut self.tap,
             buf,
         )?;
-        Ok(Some(until_deadline(&self.engine, most)))
+        Ok(most)
+    }
+
+    /// Reads the clock, sends what is due by then, rests for so many sampling instants at most, and takes what the feeds
+    /// have by the last reading, or by another one where that is old. Answers for how many instants the run may rest
+    /// for the feeds; none where all of them had ended before.
+    pub(crate) fn round<P: Rest>(
+        &mut self,
+        rest: &mut P,
+        most: i64,
+        buf: &mut [u8],
+    ) -> Result<Option<i64>, Stopped>
+        requires room { length buf.old ≡ 2048 }
+        ensures on { OnOk result ((studio : Studio) (all : List (List (List Answer))) (clock : List ℤ) (before : Option (List (List ℕ))) (earlier : Option (List Heard))
+            → IsUnderWay F.told C.told K.handed T.heard studio all clock before earlier self.old → IsUnderWay F.told C.told K.handed T.heard studio all clock before earlier self.new) }
+        ensures ended { IfOk result (λ most. most ≡ None → AllEnded self.new.takers.items) }
+    {
+        self.turn()?;
+        if have_all_ended(self.takers.as_slice()) {
+            return Ok(None);
+        }
+        let most = until_deadline(&self.engine, most);
+        let is_new = rest.rest(&self.engine, most);
+        self.turn_again(is_new)?;
+        let most = self.take(buf)?;
+        Ok(Some(most))
     }
 }
 

@@ -87,7 +87,16 @@ fn lone_of<'a, R: Wait + Net + Clock, E: Write + Drop>(
 {
     let Sockets { receiving, sink } = sockets;
     let stats = stats_of(rt, alloc, studio, options, start)?;
-    let rest = rest_of(rt, alloc, receiving.as_slice(), pending, stats, faults)?;
+    let clock = clock_of(rt, start);
+    let rest = rest_of(
+        rt,
+        alloc,
+        receiving.as_slice(),
+        pending,
+        clock,
+        stats,
+        faults,
+    )?;
     let feeds = own_feeds(rt, alloc, studio, receiving, start, stop, pending)?;
     Ok(Lone {
         feeds,
@@ -103,12 +112,13 @@ fn rest_of<'a, R: Wait + Net + Clock, E: Write + Drop>(
     alloc: Global,
     receiving: &[Receiver<'_>],
     pending: &'a [AtomicBool],
+    clock: SystemClock<'a, R>,
     stats: Option<Stats<'a, R>>,
     faults: E,
 ) -> Result<SocketRest<'a, R, E>, LiveFault>
     ensures early { IfErr result IsEarly }
 {
-    let rest = SocketRest::new(rt, rt, alloc, receiving, pending, stats, faults)?;
+    let rest = SocketRest::new(rt, rt, alloc, receiving, pending, clock, stats, faults)?;
     Ok(rest)
 }
 

@@ -2,6 +2,7 @@
 
 use crate::receiver::Receiver;
 use crate::stats::Stats;
+use live_parts::SystemClock;
 use mio::unix::SourceFd;
 use mio::{Events, Interest, Poll, Token};
 use std::alloc::Global;
@@ -15,9 +16,17 @@ use std::thread::Parker;
 use std::time::{Clock, Duration};
 use studio_alone::Rest;
 use studio_engine::Engine;
+use studio_workers::Clock as ReadClock;
 
 /// A millisecond, in sampling instants.
 const MILLISECOND: u64 = 48;
+
+/// The longest sleep while datagrams come, in sampling instants. With what the system adds to it, the reading before is
+/// then a millisecond old at most.
+const SHORT_SLEEP: u64 = 40;
+
+/// By a reading that is older, in sampling instants, nothing is judged.
+const OLDEST: i64 = 48;
 
 /// So many nanoseconds are three sampling instants.
 const THREE_INSTANTS: u64 = 62_500;
@@ -34,7 +43,7 @@ const MOST_EVENTS: usize = 64;
 /// A wait for one of several sockets to become ready, and what is told of the streams meanwhile.
 ///
 /// While datagrams come it doesn't end at each: it waits a millisecond, and tells which sockets became ready meanwhile.
-/// So no reading of the clock is much older than that when a datagram is judged by the next. Once nothing has come for
+/// What came by then is judged by the reading before, unless that is older. Once nothing has come for
 /// a while it sleeps longer, past deadlines of silence; the first datagram ends that.
 #[derive(Drop)]
 pub(crate) struct SocketRest<'a, R: Wait + Clock, E> {
@@ -45,6 +54,8 @@ pub(crate) struct SocketRest<'a, R: Wait + Clock, E> {
     pending: &'a [AtomicBool],
     /// Where it waits while datagrams come. Nobody ends that wait.
     parker: Parker,
+    /// How old a reading is, by this.
+    clock: SystemClock<'a, R>,
     /// Whether a socket became ready during the last wait.
     is_busy: bool,
     /// In how many waits since then none did.
@@ -61,6 +72,7 @@ impl<'a, R: Wait + Clock, E: Write + Drop> SocketRest<'a, R, E> {
         alloc: Global,
         receivers: &[Receiver<'_>],
         pending: &'a [AtomicBool],
+        clock: SystemClock<'a, R>,
         stats: Option<Stats<'a, R>>,
         writer: E,
     ) -> io::Result<SocketRest<'a, R, E>> {
@@ -78,6 +90,7 @@ impl<'a, R: Wait + Clock, E: Write + Drop> SocketRest<'a, R, E> {
             events: Events::with_capacity(alloc, MOST_EVENTS)?,
             pending,
             parker: Parker::new(),
+            clock,
             is_busy: false,
             quiet: 0,
             stats,
@@ -101,7 +114,7 @@ impl<'a, R: Wait + Clock, E: Write + Drop> SocketRest<'a, R, E> {
         stats.tell(now, &mut self.writer);
     }
 
-    /// Sleeps a millisecond at most while datagrams come, or where a socket may have one left, and answers for how many
+    /// Sleeps less than a millisecond while datagrams come, or where a socket may have one left, and answers for how many
     /// milliseconds it may then wait for the next.
     fn sleep(&mut self, instants: u64) -> u64 {
         if instants == 0 {
@@ -114,7 +127,7 @@ impl<'a, R: Wait + Clock, E: Write + Drop> SocketRest<'a, R, E> {
         if !is_busy && instants >= MILLISECOND {
             return instants / MILLISECOND;
         }
-        let part = instants.min(MILLISECOND) * THREE_INSTANTS / 3;
+        let part = instants.min(SHORT_SLEEP) * THREE_INSTANTS / 3;
         self.parker
             .park_timeout(self.rt, Duration::from_nanos(part));
         0
@@ -166,8 +179,9 @@ impl<'a, R: Wait + Clock, E: Write + Drop> SocketRest<'a, R, E> {
 }
 
 impl<R: Wait + Clock, E: Write + Drop> Rest for SocketRest<'_, R, E> {
-    fn rest(&mut self, engine: &Engine, most: i64) {
+    fn rest(&mut self, engine: &Engine, most: i64) -> bool {
         self.tell(engine);
         self.wait(u64::try_from(most).unwrap_or(0));
+        self.clock.now().saturating_sub(engine.time()) <= OLDEST
     }
 }

@@ -101,7 +101,7 @@ fn times_until<R: Wait + Abort>(rt: &R, alloc: Global, until: i64) -> Result<Vec
 /// Packets of 0 and 6 are due a latency of 12 later, and so is the silence behind them: no rest goes past one.
 #[test]
 fn one_thread_rests_to_each_deadline(rt: HostRuntime) -> Result<(), Fail> {
-    let times = times_until(&rt, rt.alloc(), 18)?;
+    let times = times_until(&rt, rt.alloc(), 24)?;
     assert!(rt; times.as_slice() == [12i64, 18, 24].as_slice(), "{times:?}");
     Ok(())
 }

@@ -84,5 +84,7 @@ impl<'a, R: Abort> Sink for FailingSink<'a, R> {
 pub(super) struct NoRest;
 
 impl Rest for NoRest {
-    fn rest(&mut self, _engine: &Engine, _most: i64) {}
+    fn rest(&mut self, _engine: &Engine, _most: i64) -> bool {
+        true
+    }
 }

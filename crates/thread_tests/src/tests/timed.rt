@@ -21,16 +21,17 @@ impl Clock for TimedClock<'_> {
     }
 }
 
-/// Rests as long as it may.
+/// Rests as long as it may, after which the last reading is old.
 #[derive(Drop)]
 pub(super) struct WholeRest<'a> {
     pub(super) time: &'a AtomicI64,
 }
 
 impl Rest for WholeRest<'_> {
-    fn rest(&mut self, _engine: &Engine, most: i64) {
+    fn rest(&mut self, _engine: &Engine, most: i64) -> bool {
         let now = self.time.load(Ordering::SeqCst);
         self.time.store(now.saturating_add(most), Ordering::SeqCst);
+        false
     }
 }
 
