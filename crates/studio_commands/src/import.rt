@@ -4,21 +4,11 @@ use crate::config::Configs;
 use crate::fault::{CaptureError, Fault};
 use capture_import::{ImportFault, Routes, config_text, routes_of, trace_text};
 use capture_streams::Table;
+use command_words::ImportOptions;
 use std::alloc::Global;
 use std::io::Write;
 use std::net::SocketAddrV4;
 use studio_run::write_text;
-
-/// What is imported of a capture.
-#[derive(Drop)]
-pub struct ImportOptions<'a> {
-    /// Addresses and ports of the flows; none for all that fit.
-    pub names: Vec<&'a str>,
-    /// The configuration is asked for in place of the trace.
-    pub config: bool,
-    /// Its latency in milliseconds.
-    pub latency: Option<u32>,
-}
 
 /// Writes the trace of the capture at a path, or the configuration that fits it. A fault of the capture comes behind them.
 /// How many flows were left out is told where faults go.

@@ -13,9 +13,8 @@ mod live;
 mod named_file;
 mod program;
 mod replay;
-mod summary;
+mod told;
 mod wav;
-mod words;
 
 pub use config::Configs;
 pub use fault::{CaptureError, ConfigFault, Fault};

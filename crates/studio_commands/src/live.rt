@@ -1,6 +1,7 @@
 //! Live runs, from the octets of a configuration.
 use crate::config::{fault_of, studio_in};
 use crate::fault::Fault;
+use command_words::LiveWords;
 use live_parts::{Handed, LiveOptions, LivePorts, Setup, Strangers, TaiOffset, tai_opening};
 use std::alloc::Global;
 use std::io::Write;
@@ -12,17 +13,6 @@ use std::time::{Clock, Duration};
 use stream_rules::Path;
 use studio_live::{LiveFault, run_studio_live};
 use studio_spec::StudioSpec;
-
-/// What a live run is asked for.
-#[derive(Clone, Copy)]
-pub struct LiveWords<'a> {
-    pub options: LiveOptions,
-    /// Whether sockets are taken that were handed over.
-    pub listen_fds: bool,
-    /// How far International Atomic Time, by which the run opens, is ahead: seconds, or `system`. If none, the run
-    /// opens at the configuration's time.
-    pub tai_offset: Option<&'a str>,
-}
 
 /// A studio, and what the system's monotonic clock reads at its opening time.
 #[derive(Drop)]
@@ -59,15 +49,8 @@ pub fn run_config<
         strangers: &strangers,
         began,
     };
-    let ran = run_studio_live(
-        rt,
-        alloc,
-        &studio,
-        setup,
-        &words.options,
-        output,
-        &mut *faults,
-    );
+    let options = options_of(words);
+    let ran = run_studio_live(rt, alloc, &studio, setup, &options, output, &mut *faults);
     if matches!(ran, Ok(()) | Err(LiveFault::Unsettled)) {
         if words.tai_offset.is_some() {
             let open_at = studio.open_at();
@@ -76,6 +59,16 @@ pub fn run_config<
         write_strangers(&studio, &strangers, output)?;
     }
     ran.map_err(Fault::from)
+}
+
+/// How the run ends, what it tells while it goes on, and in which form it runs.
+fn options_of(words: LiveWords<'_>) -> LiveOptions {
+    LiveOptions {
+        instants: words.instants,
+        stats: words.stats,
+        until_eof: words.until_eof,
+        one_thread: words.one_thread,
+    }
 }
 
 /// The studio at its opening time, or, where an offset is said, opened now by International Atomic Time.

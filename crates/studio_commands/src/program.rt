@@ -5,9 +5,9 @@ use crate::fault::Fault;
 use crate::import::import_capture;
 use crate::live::run_config;
 use crate::replay::replay_capture;
-use crate::summary::write_summary;
+use crate::told::told;
 use crate::wav::{list_to_wav, play_to_wav};
-use crate::words::{Asked, asked_for, told};
+use command_words::{Asked, asked_for};
 use std::alloc::Global;
 use std::io::{Read, Write};
 use std::net::Net;
@@ -17,6 +17,7 @@ use std::thread::Threads;
 use std::time::Clock;
 use studio_chart::chart;
 use studio_run::{list_marks, list_marks_and_counts, play};
+use studio_summary::write_summary;
 
 /// Runs the program: its text goes to `output`, and the line of a fault to `faults`. Answers the
 /// exit status.
@@ -90,7 +91,7 @@ fn answer<
         }
         Asked::Check(path) => {
             let studio = studio_of(configs, alloc, path)?;
-            write_summary(&studio, output)
+            write_summary(&studio, output).map_err(|_| Fault::Write)
         }
         Asked::Streams(path) => list_streams(configs, alloc, path, output),
         Asked::Import(path, options) => {

@@ -2,18 +2,10 @@
 use crate::config::{Configs, studio_of};
 use crate::fault::Fault;
 use crate::named_file::NamedFile;
+use command_words::StreamWords;
 use std::alloc::Global;
 use std::io::{Read, Write};
 use studio_wav::{RecordFault, list_and_record, play_and_record};
-
-/// A stream, and the WAV file that its samples go to.
-#[derive(Clone, Copy)]
-pub struct StreamWords<'a> {
-    /// The stream's number.
-    pub stream: &'a str,
-    /// The file's path.
-    pub file: &'a str,
-}
 
 /// Plays the trace by the configuration at a path, and writes the mix to the file at another. Before a fault of that
 /// file its path is told where faults go.

@@ -1,15 +1,15 @@
-//! What a configuration means, in lines for people.
-use crate::fault::Fault;
+//! The lines of streams and paths, of the output and its copies, and of the gains.
 use gain_mix::Matrix;
 use mix_packets::OutSpec;
 use rtp_wire::Enc;
+use std::io;
 use std::io::Write;
 use std::net::Ipv4Addr;
 use stream_rules::{Path, StreamClock, StreamSpec};
 use studio_spec::{Networks, Ports, Senders, StudioSpec};
 
 /// Writes a line for each stream and its paths, one for the output and its copies, and the gains by time.
-pub fn write_summary<W: Write>(studio: &StudioSpec, output: &mut W) -> Result<(), Fault> {
+pub fn write_summary<W: Write>(studio: &StudioSpec, output: &mut W) -> io::Result<()> {
     for (number, stream) in studio.streams().iter().enumerate() {
         write_stream(number, stream, output)?;
         let paths = stream.paths();
@@ -17,18 +17,13 @@ pub fn write_summary<W: Write>(studio: &StudioSpec, output: &mut W) -> Result<()
     }
     write_output(studio.output(), output)?;
     write_copies(studio.ports(), &studio.networks().output, output)?;
-    line(writeln!(output, "gains from the start"))?;
+    writeln!(output, "gains from the start")?;
     write_gains(studio.schedule().first(), output)?;
     for (time, gains) in studio.schedule().later() {
-        line(writeln!(output, "gains from {time}"))?;
+        writeln!(output, "gains from {time}")?;
         write_gains(gains, output)?;
     }
     Ok(())
-}
-
-/// A write that failed is the fault of the run.
-fn line<E: Drop>(written: Result<(), E>) -> Result<(), Fault> {
-    written.map_err(|_| Fault::Write)
 }
 
 /// Sampling instants at 48 kHz as milliseconds, and thousandths of one.
@@ -37,27 +32,27 @@ fn millis(instants: u64) -> (u64, u64) {
     (micros / 1000, micros % 1000)
 }
 
-fn write_stream<W: Write>(number: usize, stream: &StreamSpec, output: &mut W) -> Result<(), Fault> {
+fn write_stream<W: Write>(number: usize, stream: &StreamSpec, output: &mut W) -> io::Result<()> {
     let enc = name_of(stream.enc());
     let (channels, frames, pt) = (stream.channels(), stream.frames(), stream.pt());
     let (ms, us) = millis(u64::from(frames));
-    line(write!(
+    write!(
         output,
         "stream {number}: {enc}, channels {channels}, packets of {frames} ({ms}.{us:03} ms), type {pt}"
-    ))?;
+    )?;
     match stream.ssrc() {
-        Some(ssrc) => line(write!(output, ", source {ssrc}"))?,
-        None => line(write!(output, ", any source"))?,
+        Some(ssrc) => write!(output, ", source {ssrc}")?,
+        None => write!(output, ", any source")?,
     }
     match stream.clock() {
-        StreamClock::Media { offset } => line(write!(output, ", media clock, offset {offset}"))?,
-        StreamClock::Arrival => line(write!(output, ", arrival clock"))?,
+        StreamClock::Media { offset } => write!(output, ", media clock, offset {offset}")?,
+        StreamClock::Arrival => write!(output, ", arrival clock")?,
     }
     let (latency, window) = (stream.latency(), stream.window());
     let (ms, us) = millis(u64::from(latency));
-    line(write!(output, ", latency {latency} ({ms}.{us:03} ms)"))?;
+    write!(output, ", latency {latency} ({ms}.{us:03} ms)")?;
     let (ms, us) = millis(u64::from(window) * u64::from(frames));
-    line(writeln!(output, ", window of {window} packets ({ms}.{us:03} ms)"))
+    writeln!(output, ", window of {window} packets ({ms}.{us:03} ms)")
 }
 
 /// The ports of a stream's paths, each in a line, with the address where one is said.
@@ -67,7 +62,7 @@ fn write_paths<W: Write>(
     ports: &Ports,
     networks: &Networks,
     output: &mut W,
-) -> Result<(), Fault> {
+) -> io::Result<()> {
     for (place, name) in ["a", "b", "c", "d"]
         .iter()
         .enumerate()
@@ -77,30 +72,30 @@ fn write_paths<W: Write>(
             return Ok(());
         };
         match ports.port(number, path) {
-            Some(port) => line(write!(output, "  path {name}: port {port}"))?,
-            None => line(write!(output, "  path {name}: no port"))?,
+            Some(port) => write!(output, "  path {name}: port {port}")?,
+            None => write!(output, "  path {name}: no port")?,
         }
         write_address(" at", networks.address(number, path), output)?;
         write_address(", from", networks.source(number, path), output)?;
-        line(writeln!(output))?;
+        writeln!(output)?;
     }
     Ok(())
 }
 
-fn write_output<W: Write>(spec: &OutSpec, output: &mut W) -> Result<(), Fault> {
+fn write_output<W: Write>(spec: &OutSpec, output: &mut W) -> io::Result<()> {
     let enc = name_of(spec.enc());
     let (channels, frames, pt) = (spec.channels(), spec.frames(), spec.pt());
     let (ms, us) = millis(u64::from(frames));
     let (ssrc, seq, start) = (spec.ssrc(), spec.seq0(), spec.start());
-    line(writeln!(
+    writeln!(
         output,
         "output: {enc}, channels {channels}, packets of {frames} ({ms}.{us:03} ms), type {pt}, source {ssrc}, \
         first number {seq}, from {start}"
-    ))
+    )
 }
 
 /// The ports of the output's copies, each in a line, with what is said of its addresses.
-fn write_copies<W: Write>(ports: &Ports, senders: &Senders, output: &mut W) -> Result<(), Fault> {
+fn write_copies<W: Write>(ports: &Ports, senders: &Senders, output: &mut W) -> io::Result<()> {
     for (name, port, to, from) in [
         ("a", ports.to_a, senders.to_a, senders.from_a),
         ("b", ports.to_b, senders.to_b, senders.from_b),
@@ -108,13 +103,13 @@ fn write_copies<W: Write>(ports: &Ports, senders: &Senders, output: &mut W) -> R
         let Some(port) = port else {
             continue;
         };
-        line(write!(output, "  to {name}: port {port}"))?;
+        write!(output, "  to {name}: port {port}")?;
         write_address(" at", to, output)?;
         write_address(", from", from, output)?;
         if let Some(ttl) = senders.ttl {
-            line(write!(output, ", time to live {ttl}"))?;
+            write!(output, ", time to live {ttl}")?;
         }
-        line(writeln!(output))?;
+        writeln!(output)?;
     }
     Ok(())
 }
@@ -124,24 +119,24 @@ fn write_address<W: Write>(
     word: &str,
     address: Option<Ipv4Addr>,
     output: &mut W,
-) -> Result<(), Fault> {
+) -> io::Result<()> {
     match address {
-        Some(address) => line(write!(output, "{word} {address}")),
+        Some(address) => write!(output, "{word} {address}"),
         None => Ok(()),
     }
 }
 
 /// A line for each output channel, with a gain for each input channel; 65536 is one.
-fn write_gains<W: Write>(matrix: &Matrix, output: &mut W) -> Result<(), Fault> {
+fn write_gains<W: Write>(matrix: &Matrix, output: &mut W) -> io::Result<()> {
     for (place, gain) in matrix.gains().iter().enumerate() {
         let first = place % matrix.ins().max(1) == 0;
         if first && place > 0 {
-            line(writeln!(output))?;
+            writeln!(output)?;
         }
         let space = if first { "  " } else { " " };
-        line(write!(output, "{space}{gain}"))?;
+        write!(output, "{space}{gain}")?;
     }
-    line(writeln!(output))
+    writeln!(output)
 }
 
 fn name_of(enc: Enc) -> &'static str {

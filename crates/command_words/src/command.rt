@@ -1,13 +1,6 @@
-//! The words of the command line.
-use crate::fault::Fault;
-use crate::import::ImportOptions;
-use crate::live::LiveWords;
-use crate::wav::StreamWords;
-use clap::error::ErrorKind;
-use clap::{Arg, ArgAction, ArgMatches, Command, Error, value_parser};
-use live_parts::LiveOptions;
+//! The words that the program knows, and their help.
+use clap::{Arg, ArgAction, Command, value_parser};
 use std::alloc::{AllocError, Global};
-use std::io::Write;
 
 /// The most sampling instants of a live run.
 const MOST_INSTANTS: i64 = 1_099_511_627_776;
@@ -21,114 +14,8 @@ const CLOCKS: &[&str] = &["tai"];
 /// What names the WAV file of a stream.
 const STREAM_VALUES: &[&str] = &["STREAM", "FILE"];
 
-/// What the words ask for. A configuration is named by its path.
-#[derive(Drop)]
-pub enum Asked<'a> {
-    /// The marks of the stream of the quick start.
-    Standard,
-    /// The marks of a configuration's streams.
-    Marks(&'a str),
-    /// The same, with the counts beside them.
-    MarksAndCounts(&'a str),
-    /// The same, with a WAV file of one stream beside them.
-    MarksToWav(&'a str, StreamWords<'a>),
-    /// The report of a configuration's studio.
-    Play(&'a str),
-    /// The same, with a WAV file at this path beside it.
-    PlayToWav(&'a str, &'a str),
-    /// The picture of what a configuration's streams received.
-    Chart(&'a str),
-    /// What a configuration means.
-    Check(&'a str),
-    /// What a capture holds.
-    Streams(&'a str),
-    /// A capture as a trace, or the configuration that fits it.
-    Import(&'a str, ImportOptions<'a>),
-    /// The report of a capture: by the configuration at the first path, of the capture at the second.
-    Replay(&'a str, &'a str),
-    /// A run of a configuration's studio on sockets.
-    Live(&'a str, LiveWords<'a>),
-}
-
-/// What the words ask for. Help and the version are errors too, with their texts.
-pub fn asked_for<'a>(alloc: Global, words: &'a [String]) -> Result<Asked<'a>, Error> {
-    let matches = command(alloc)?.try_get_matches_from(words)?;
-    let Some((name, inner)) = matches.subcommand() else {
-        return Ok(Asked::Standard);
-    };
-    if let Some(path) = inner.get_str("CONFIG") {
-        return Ok(asked_of_config(name, path, inner));
-    }
-    match inner.get_str("FILE") {
-        Some(path) if name == "import" => Ok(Asked::Import(path, import_options(alloc, inner)?)),
-        Some(path) => Ok(Asked::Streams(path)),
-        None => Ok(Asked::Standard),
-    }
-}
-
-/// What a word that takes a configuration asks for.
-fn asked_of_config<'a>(name: &str, path: &'a str, matches: &ArgMatches<'a>) -> Asked<'a> {
-    match name {
-        "play" => play_in(path, matches),
-        "chart" => Asked::Chart(path),
-        "check" => Asked::Check(path),
-        "replay" => Asked::Replay(path, matches.get_str("FILE").unwrap_or(path)),
-        "live" => Asked::Live(path, live_words(matches)),
-        _ => marks_in(path, matches),
-    }
-}
-
-/// What is written of a trace whose marks are listed.
-fn marks_in<'a>(path: &'a str, matches: &ArgMatches<'a>) -> Asked<'a> {
-    if matches.get_flag("counts") {
-        return Asked::MarksAndCounts(path);
-    }
-    match matches.get_strs("wav") {
-        Some([stream, file]) => Asked::MarksToWav(path, StreamWords { stream, file }),
-        _ => Asked::Marks(path),
-    }
-}
-
-/// What is written of a trace that is played.
-fn play_in<'a>(path: &'a str, matches: &ArgMatches<'a>) -> Asked<'a> {
-    match matches.get_str("wav") {
-        Some(file) => Asked::PlayToWav(path, file),
-        None => Asked::Play(path),
-    }
-}
-
-/// What a live run is asked for. Where it opens by International Atomic Time, the system says how far that is ahead if
-/// no word does.
-fn live_words<'a>(matches: &ArgMatches<'a>) -> LiveWords<'a> {
-    let options = LiveOptions {
-        instants: matches.get_one::<i64>("instants"),
-        stats: matches.get_one::<u32>("stats"),
-        until_eof: matches.get_flag("until-eof"),
-        one_thread: matches.get_flag("one-thread"),
-    };
-    let offset = matches.get_str("tai-offset").unwrap_or("system");
-    LiveWords {
-        options,
-        listen_fds: matches.get_flag("listen-fds"),
-        tai_offset: matches.get_str("clock").map(|_tai| offset),
-    }
-}
-
-/// What is imported.
-fn import_options<'a>(alloc: Global, matches: &ArgMatches<'a>) -> Result<ImportOptions<'a>, Error> {
-    let mut names = Vec::new(alloc);
-    if let Some(words) = matches.get_strs("path") {
-        names.extend_from_slice(words)?;
-    }
-    Ok(ImportOptions {
-        names,
-        config: matches.get_flag("config"),
-        latency: matches.get_one::<u32>("latency"),
-    })
-}
-
 /// The program's words.
-fn command<'a>(alloc: Global) -> Result<Command<'a>, AllocError> {
+pub(crate) fn command<'a>(alloc: Global) -> Result<Command<'a>, AllocError> {
     let about =
         "Receives studio audio over IP, from a trace or live. Formats: docs/FORMATS.md. Without a word it lists \
              the marks of the trace on standard input, by the configuration of examples/first";
@@ -277,19 +164,4 @@ fn option<'a>(alloc: Global, name: &'a str, value: &'a str, help: &'a str) -> Ar
         .value_name(value)
         .help(help)
         .action(ArgAction::Set)
-}
-
-/// Tells what the words ask for in place of a run, or what is wrong with them. Answers the status.
-pub fn told<W: Write, E: Write>(error: &Error, output: &mut W, faults: &mut E) -> u8 {
-    if error.kind() == ErrorKind::OutOfMemory {
-        return Fault::Memory.tell(faults);
-    }
-    if error.use_stderr() {
-        let _ = write!(faults, "{error}");
-        return Fault::Usage.status();
-    }
-    match write!(output, "{error}") {
-        Ok(()) => 0,
-        Err(_) => Fault::Write.tell(faults),
-    }
 }

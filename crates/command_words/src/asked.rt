@@ -1,0 +1,68 @@
+//! What the words of the command line ask for.
+
+/// What the words ask for. A configuration is named by its path.
+#[derive(Drop)]
+pub enum Asked<'a> {
+    /// The marks of the stream of the quick start.
+    Standard,
+    /// The marks of a configuration's streams.
+    Marks(&'a str),
+    /// The same, with the counts beside them.
+    MarksAndCounts(&'a str),
+    /// The same, with a WAV file of one stream beside them.
+    MarksToWav(&'a str, StreamWords<'a>),
+    /// The report of a configuration's studio.
+    Play(&'a str),
+    /// The same, with a WAV file at this path beside it.
+    PlayToWav(&'a str, &'a str),
+    /// The picture of what a configuration's streams received.
+    Chart(&'a str),
+    /// What a configuration means.
+    Check(&'a str),
+    /// What a capture holds.
+    Streams(&'a str),
+    /// A capture as a trace, or the configuration that fits it.
+    Import(&'a str, ImportOptions<'a>),
+    /// The report of a capture: by the configuration at the first path, of the capture at the second.
+    Replay(&'a str, &'a str),
+    /// A run of a configuration's studio on sockets.
+    Live(&'a str, LiveWords<'a>),
+}
+
+/// A stream, and the WAV file that its samples go to.
+#[derive(Clone, Copy)]
+pub struct StreamWords<'a> {
+    /// The stream's number.
+    pub stream: &'a str,
+    /// The file's path.
+    pub file: &'a str,
+}
+
+/// What is imported of a capture.
+#[derive(Drop)]
+pub struct ImportOptions<'a> {
+    /// Addresses and ports of the flows; none for all that fit.
+    pub names: Vec<&'a str>,
+    /// The configuration is asked for in place of the trace.
+    pub config: bool,
+    /// Its latency in milliseconds.
+    pub latency: Option<u32>,
+}
+
+/// What a live run is asked for.
+#[derive(Clone, Copy)]
+pub struct LiveWords<'a> {
+    /// After how many sampling instants it ends; if none, not by the clock.
+    pub instants: Option<i64>,
+    /// Every how many seconds each stream's counts are told; if none, only at the end.
+    pub stats: Option<u32>,
+    /// Whether it ends where standard input does.
+    pub until_eof: bool,
+    /// Whether it runs in one thread.
+    pub one_thread: bool,
+    /// Whether sockets are taken that were handed over.
+    pub listen_fds: bool,
+    /// How far International Atomic Time, by which the run opens, is ahead: seconds, or `system`. If none, the run
+    /// opens at the configuration's time.
+    pub tai_offset: Option<&'a str>,
+}

@@ -1,0 +1,20 @@
+//! What is told in place of a run.
+use crate::fault::Fault;
+use clap::Error;
+use clap::error::ErrorKind;
+use std::io::Write;
+
+/// Tells what the words ask for in place of a run, or what is wrong with them. Answers the status.
+pub fn told<W: Write, E: Write>(error: &Error, output: &mut W, faults: &mut E) -> u8 {
+    if error.kind() == ErrorKind::OutOfMemory {
+        return Fault::Memory.tell(faults);
+    }
+    if error.use_stderr() {
+        let _ = write!(faults, "{error}");
+        return Fault::Usage.status();
+    }
+    match write!(output, "{error}") {
+        Ok(()) => 0,
+        Err(_) => Fault::Write.tell(faults),
+    }
+}
