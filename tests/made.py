@@ -247,5 +247,23 @@ def great():
     return parts
 
 
+def live_record(open_at, paths, trace):
+    """The record of a live run of this trace by a studio that was opened at a time, whose streams have so many paths."""
+    options = option(LITTLE, 1, b"open_at %d" % open_at) + option(LITTLE, 4, b"darbexum") + option(LITTLE, 0, b"")
+    blocks = [block(LITTLE, 0x0A0D0D0A, struct.pack("<IHHq", 0x1A2B3C4D, 1, 0, -1) + options)]
+    for stream, count in enumerate(paths):
+        blocks += [interface(LITTLE, RAW, 9, options=option(LITTLE, 2, b"%d %c" % (stream, 97 + path))) for path in range(count)]
+    nanoseconds = 0
+    for word, *more in (line.split() for line in trace.splitlines() if line.strip() and line[0] != "#"):
+        if word == "tick":
+            nanoseconds = -((open_at - int(more[0])) * 62_500 // 3)
+        elif word == "close":
+            blocks.append(block(LITTLE, 5, struct.pack("<III", 0, nanoseconds >> 32, nanoseconds % 2**32)))
+        else:
+            place = sum(paths[: int(more[0])]) + ord(word) - 97
+            blocks.append(enhanced(LITTLE, place, nanoseconds, ip_around(bytes.fromhex(more[1]))))
+    return b"".join(blocks)
+
+
 def octets_of(parts):
     return b"".join(part.octets for part in parts)
