@@ -1,5 +1,6 @@
 -- A datagram's IPv4 packet (RFC 791, 3.1; RFC 768).
-use Rattle.std.specs.Prelude.{ℕ, ◌+◌, ◌-◌, ◌*◌, ◌/◌, ◌%◌, ◌^◌, List, [], ◌∷◌, ◌++◌, length}
+use Rattle.std.specs.Prelude.{◌≡◌, ◌<◌, ℕ, ◌+◌, ◌-◌, ◌*◌, ◌/◌, ◌%◌, ◌^◌, List, [], ◌∷◌, ◌++◌, length}
+use Rattle.std.specs.List.{All}
 use Rattle.byteorder.specs.Endian.{big_bytes}
 use Rattle.capture_write.specs.Arrival.{ArrivalView}
 
@@ -26,6 +27,13 @@ header_with checksum a =
 -- the same with its own, which is reckoned as if it were 0
 unfoldable pub header_octets : ArrivalView → List ℕ
 header_octets a = header_with (checksum_of (header_with 0 a)) a
+
+-- the addresses of a datagram: four octets each
+pub record HasAddresses (a : ArrivalView) : Type 0 where
+  pub source : length a.source ≡ 4
+  pub source_octets : All (λ octet. octet < 256) a.source
+  pub destination : length a.destination ≡ 4
+  pub destination_octets : All (λ octet. octet < 256) a.destination
 
 -- a UDP header, with no checksum
 unfoldable pub udp_octets : ArrivalView → List ℕ

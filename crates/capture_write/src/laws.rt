@@ -5,12 +5,18 @@ ghost use Rattle.capture_read.specs.Capture.{packets_of};
 ghost use Rattle.capture_read.specs.Marks.{marks_of};
 ghost use Rattle.capture_read.specs.declared.mark.RecordMark.TheVariants.{Closed, Opened};
 ghost use Rattle.capture_write.specs.Arrival.{ArrivalView};
+ghost use Rattle.capture_write.specs.Packet.{HasAddresses, carried, header_octets, words_sum};
 ghost use Rattle.capture_write.specs.Record.{IsArrival, IsName, Name, closed_record, items_of, open_record};
 ghost use Rattle.capture_write.specs.Times.{instants_in, nanoseconds_of};
 
 /// Sampling instants that are written as nanoseconds come back.
 pub fn instants_come_back()
     ensures { (instants : ℕ) → instants_in (nanoseconds_of instants) ≡ instants }
+{}
+
+/// The one's complement sum of an IPv4 header's words is all ones, with the checksum among them (RFC 1071).
+pub fn checksums_are_right()
+    ensures { (a : ArrivalView) → HasAddresses a → length a.octets ≤ 2048 → carried (carried (words_sum (header_octets a))) ≡ 65535 }
 {}
 
 /// A record is read as the datagrams that were written, with its opening, and with its close if that was written: the blocks of the

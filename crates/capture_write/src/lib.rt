@@ -20,5 +20,5 @@ mod times;
 
 pub use arrival::{Arrival, MOST_OCTETS};
 pub use blocks::{BLOCK_ROOM, write_closing, write_datagram, write_interface, write_opening};
-pub use laws::{instants_come_back, records_are_read_back};
+pub use laws::{checksums_are_right, instants_come_back, records_are_read_back};
 pub use times::nanoseconds_after;
