@@ -6,3 +6,4 @@ mod LineLemmas
 mod ReplayLemmas
 mod PlanLemmas
 mod RecordLemmas
+mod RecordedLemmas

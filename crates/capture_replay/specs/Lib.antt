@@ -2,6 +2,7 @@ pub mod Flows
 pub mod Plan
 pub mod Events
 pub mod Record
+pub mod Recorded
 pub mod Lines
 pub mod Replay
 pub use Rattle.capture_read.specs.Packet
@@ -16,6 +17,8 @@ pub use Rattle.mix_packets.specs.OutSpec
 pub use Rattle.path_merge.specs.Clock as MergeClock
 pub use Rattle.studio_spec.specs.Studio
 pub use Rattle.studio_session.specs.Event
+pub use Rattle.studio_session.specs.Fault
+pub use Rattle.studio_session.specs.Pruned
 pub use Rattle.studio_engine.specs.Engine
 pub use Rattle.studio_engine.specs.Session
 pub use Rattle.studio_run.specs.Buffer

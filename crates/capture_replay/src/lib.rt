@@ -9,6 +9,7 @@ mod counts;
 mod fault;
 mod flows;
 mod go_over;
+mod laws;
 mod plan;
 mod player;
 mod record;
@@ -17,5 +18,6 @@ mod turn;
 
 pub use fault::ReplayFault;
 pub use flows::flows_of;
+pub use laws::a_record_says_its_run;
 pub use player::{replay, replay_record};
 pub use record::{Record, record_of};
