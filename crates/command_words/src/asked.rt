@@ -65,4 +65,6 @@ pub struct LiveWords<'a> {
     /// How far International Atomic Time, by which the run opens, is ahead: seconds, or `system`. If none, the run
     /// opens at the configuration's time.
     pub tai_offset: Option<&'a str>,
+    /// The path of the file that the run's record goes to, if one is asked for.
+    pub record: Option<&'a str>,
 }

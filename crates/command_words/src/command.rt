@@ -104,6 +104,7 @@ fn live_command<'a>(alloc: Global) -> Result<Command<'a>, AllocError> {
     let stats = "Tell each stream's counts on standard error so often";
     let listen_fds = "Take the sockets that were handed over, as by sd_listen_fds(3)";
     let one_thread = "Run in one thread, in place of a worker for each path and stream";
+    let record = "Write what was received to this pcapng file, for replay; of a run in one thread";
     let clock = "Open now by International Atomic Time, as the media clock of ST 2110 counts it";
     let offset =
         "How many seconds that time is ahead of the system's, or system where that was told";
@@ -115,6 +116,7 @@ fn live_command<'a>(alloc: Global) -> Result<Command<'a>, AllocError> {
         .arg(flag(alloc, "until-eof", "End where standard input does"))?
         .arg(flag(alloc, "listen-fds", listen_fds))?
         .arg(flag(alloc, "one-thread", one_thread))?
+        .arg(option(alloc, "record", "FILE", record).requires_arg("one-thread")?)?
         .arg(option(alloc, "clock", "tai", clock).value_parser(CLOCKS))?
         .arg(option(alloc, "tai-offset", "SECONDS", offset).requires_arg("clock")?)
 }

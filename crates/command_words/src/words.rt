@@ -62,6 +62,7 @@ fn live_words<'a>(matches: &ArgMatches<'a>) -> LiveWords<'a> {
         one_thread: matches.get_flag("one-thread"),
         listen_fds: matches.get_flag("listen-fds"),
         tai_offset: matches.get_str("clock").map(|_tai| offset),
+        record: matches.get_str("record"),
     }
 }
 

@@ -2,6 +2,7 @@
 
 use crate::handed::Handed;
 use crate::ports::LivePorts;
+use crate::recorded::Recorded;
 use crate::strangers::Strangers;
 use std::time::Duration;
 
@@ -12,6 +13,8 @@ pub struct Setup<'a> {
     pub handed: &'a Handed,
     /// Where datagrams from elsewhere than a path's source are counted.
     pub strangers: &'a Strangers,
+    /// Where it is told what came of the record, if one is asked for.
+    pub recorded: &'a Recorded,
     /// What the system's monotonic clock read at the studio's opening time, if it could be read.
     pub began: Option<Duration>,
 }

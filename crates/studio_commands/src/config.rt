@@ -13,10 +13,10 @@ use wav_file::Overwrite;
 /// The most octets of a configuration.
 const MOST_OCTETS: usize = 1_048_576;
 
-/// Where configurations and captures are read from, and WAV files are made.
+/// Where configurations and captures are read from, and WAV files and records are made.
 pub trait Configs {
     /// A file that is written.
-    type File: Overwrite + Drop;
+    type File: Overwrite + Send + Drop;
 
     /// A file that is read.
     type Input: Read + Drop;

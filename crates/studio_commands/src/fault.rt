@@ -37,6 +37,12 @@ pub enum Fault {
     /// A live run broke off.
     #[error("{0}")]
     Live(#[from] LiveFault),
+    /// The file of a live run's record could not be made.
+    #[error("device: record")]
+    Record,
+    /// A live run was reported, but its record was not written to its end.
+    #[error("device: record write")]
+    RecordWrite,
     /// Sockets that were handed over are not taken.
     #[error("{0}")]
     Handed(#[from] HandedFault),
@@ -108,6 +114,7 @@ impl Fault {
             Fault::Live(LiveFault::Memory) | Fault::Handed(HandedFault::Memory) | Fault::Memory =>
                 4,
             Fault::Live(_) | Fault::Handed(_) | Fault::Clock | Fault::Wav(_) | Fault::Write => 5,
+            Fault::Record | Fault::RecordWrite => 5,
         }
     }
 

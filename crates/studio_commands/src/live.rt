@@ -1,8 +1,10 @@
 //! Live runs, from the octets of a configuration.
-use crate::config::{fault_of, studio_in};
+use crate::config::{Configs, fault_of, studio_in};
 use crate::fault::Fault;
 use command_words::LiveWords;
-use live_parts::{Handed, LiveOptions, LivePorts, Setup, Strangers, TaiOffset, tai_opening};
+use live_parts::{
+    Handed, LiveOptions, LivePorts, Recorded, Setup, Strangers, TaiOffset, tai_opening,
+};
 use std::alloc::Global;
 use std::io::Write;
 use std::net::Net;
@@ -22,13 +24,15 @@ struct Started {
 }
 
 /// Runs the studio that a configuration says, whose report goes to `output`. Where counts are asked for
-/// while it runs, they go where faults go.
+/// while it runs, they go where faults go. The file of its record is made before the first socket is bound.
 pub fn run_config<
     R: Threads + Wait + Sync + Net + Clock + Env + AllocGlobal,
+    C: Configs,
     W: Write,
     E: Write + Send,
 >(
     rt: &R,
+    configs: &C,
     alloc: Global,
     config: &[u8],
     words: LiveWords<'_>,
@@ -43,22 +47,34 @@ pub fn run_config<
         Handed::nothing()
     };
     let strangers = Strangers::none(alloc, &studio).map_err(|_| Fault::Memory)?;
+    let record = record_of(configs, words.record)?;
+    let recorded = Recorded::new();
     let setup = Setup {
         ports: &ports,
         handed: &handed,
         strangers: &strangers,
+        recorded: &recorded,
         began,
     };
     let options = options_of(words);
-    let ran = run_studio_live(rt, alloc, &studio, setup, &options, output, &mut *faults);
+    let ran = run_studio_live(
+        rt,
+        alloc,
+        &studio,
+        setup,
+        &options,
+        output,
+        &mut *faults,
+        record,
+    );
     if matches!(ran, Ok(()) | Err(LiveFault::Unsettled)) {
-        if words.tai_offset.is_some() {
-            let open_at = studio.open_at();
-            writeln!(output, "open_at {open_at}").map_err(|_| Fault::Write)?;
-        }
-        write_strangers(&studio, &strangers, output)?;
+        write_beside(&studio, &strangers, &recorded, words, output)?;
     }
-    ran.map_err(Fault::from)
+    ran?;
+    if recorded.has_failed() {
+        return Err(Fault::RecordWrite);
+    }
+    Ok(())
 }
 
 /// How the run ends, what it tells while it goes on, and in which form it runs.
@@ -69,6 +85,42 @@ fn options_of(words: LiveWords<'_>) -> LiveOptions {
         until_eof: words.until_eof,
         one_thread: words.one_thread,
     }
+}
+
+/// A file at the path of a record, if one is asked for.
+fn record_of<C: Configs>(configs: &C, path: Option<&str>) -> Result<Option<C::File>, Fault> {
+    match path {
+        Some(path) => match configs.create(path) {
+            Ok(file) => Ok(Some(file)),
+            Err(_) => Err(Fault::Record),
+        },
+        None => Ok(None),
+    }
+}
+
+/// Writes what follows the report: when the run was opened, if the system said so, the strangers, and what came of the record.
+fn write_beside<W: Write>(
+    studio: &StudioSpec,
+    strangers: &Strangers,
+    recorded: &Recorded,
+    words: LiveWords<'_>,
+    output: &mut W,
+) -> Result<(), Fault> {
+    if words.tai_offset.is_some() {
+        let open_at = studio.open_at();
+        writeln!(output, "open_at {open_at}").map_err(|_| Fault::Write)?;
+    }
+    write_strangers(studio, strangers, output)?;
+    if words.record.is_some() {
+        write_recorded(recorded, output)?;
+    }
+    Ok(())
+}
+
+/// Writes how many datagrams the record has of those that came.
+fn write_recorded<W: Write>(recorded: &Recorded, output: &mut W) -> Result<(), Fault> {
+    let (written, came) = (recorded.written(), recorded.came());
+    writeln!(output, "record {written} of {came}").map_err(|_| Fault::Write)
 }
 
 /// The studio at its opening time, or, where an offset is said, opened now by International Atomic Time.

@@ -100,7 +100,7 @@ fn answer<
         Asked::Replay(config, path) => replay_capture(configs, alloc, config, path, output),
         Asked::Live(path, words) => {
             let config = config_of(configs, alloc, path)?;
-            run_config(rt, alloc, config.as_slice(), words, output, faults)
+            run_config(rt, configs, alloc, config.as_slice(), words, output, faults)
         }
     }
 }

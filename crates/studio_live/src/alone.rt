@@ -6,14 +6,18 @@ ghost use Rattle.studio_live.specs.Run.{IsEarly, IsRunOf};
 
 use crate::fault::LiveFault;
 use crate::feed::UdpFeed;
+use crate::live_tap::LiveTap;
 use crate::pending::all_pending;
 use crate::receiver::Receiver;
+use crate::record::Record;
+use crate::record_tap::RecordTap;
+use crate::recorder::{Recorder, write_record};
 use crate::sink::UdpSink;
 use crate::socket_rest::SocketRest;
 use crate::start::{Sockets, Start, clock_of, feeds_of, stats_of};
 use crate::stats::Stats;
 use crate::watch::{Signs, Watcher, watch};
-use live_parts::{LiveOptions, SystemClock};
+use live_parts::{LiveOptions, Recorded, SystemClock};
 use std::alloc::Global;
 use std::io::Write;
 use std::net::Net;
@@ -24,7 +28,7 @@ use std::thread::Threads;
 use std::time::Clock;
 use std::vec::IntoIter;
 use stream_rules::StreamSpec;
-use studio_alone::{Quiet, run_alone};
+use studio_alone::run_alone;
 use studio_spec::StudioSpec;
 use studio_workers::WorkReport;
 
@@ -35,10 +39,17 @@ struct Lone<'a, R: Wait + Clock, E> {
     clock: SystemClock<'a, R>,
     sink: UdpSink,
     rest: SocketRest<'a, R, E>,
+    tap: LiveTap,
 }
 
-/// Runs a studio in this thread, and the watcher beside it. It returns once both have ended.
-pub(crate) fn run_in_one_thread<'a, R: Threads + Wait + Sync + Net + Clock, E: Write + Send + Drop>(
+/// Runs a studio in this thread, and the watcher beside it, and what writes a record if there is one. It returns once
+/// all have ended.
+pub(crate) fn run_in_one_thread<
+    'a,
+    R: Threads + Wait + Sync + Net + Clock,
+    E: Write + Send + Drop,
+    D: Write + Send + Drop,
+>(
     rt: &'a R,
     alloc: Global,
     studio: &StudioSpec,
@@ -47,10 +58,13 @@ pub(crate) fn run_in_one_thread<'a, R: Threads + Wait + Sync + Net + Clock, E: W
     start: Start,
     faults: E,
     signs: &'a Signs,
+    record: Option<Record<D>>,
+    recorded: &Recorded,
 ) -> Result<WorkReport, LiveFault>
     ensures run { IfOk result (IsRunOf true studio.now) }
     ensures early { IfErr result IsEarly }
 {
+    let (tap, recorder) = parts_of(record);
     let pending = all_pending(alloc, sockets.receiving.len())?;
     let lone = lone_of(
         rt,
@@ -62,12 +76,26 @@ pub(crate) fn run_in_one_thread<'a, R: Threads + Wait + Sync + Net + Clock, E: W
         faults,
         &signs.stop,
         pending.as_slice(),
+        tap,
     )?;
     let watcher = Watcher::<'a, R, E> {
         until_eof: options.until_eof,
         stats: None,
     };
-    run_beside(rt, alloc, studio, lone, watcher, signs)
+    match recorder {
+        Some(recorder) => {
+            run_recorded(rt, alloc, studio, lone, watcher, signs, recorder, recorded)
+        }
+        None => run_beside(rt, alloc, studio, lone, watcher, signs, recorded),
+    }
+}
+
+/// The two ends of a record, if there is one.
+fn parts_of<D: Drop>(record: Option<Record<D>>) -> (Option<RecordTap>, Option<Recorder<D>>) {
+    match record {
+        Some(Record { tap, recorder }) => (Some(tap), Some(recorder)),
+        None => (None, None),
+    }
 }
 
 /// What a run in one thread is started from: feeds, and the wait for their sockets.
@@ -81,6 +109,7 @@ fn lone_of<'a, R: Wait + Net + Clock, E: Write + Drop>(
     faults: E,
     stop: &'a AtomicBool,
     pending: &'a [AtomicBool],
+    tap: Option<RecordTap>,
 ) -> Result<Lone<'a, R, E>, LiveFault>
     ensures feeds { IfOk result (λ lone. map (λ own. length own.items) lone.feeds.items ≡ map (λ stream. stream.paths) studio.now.streams) }
     ensures early { IfErr result IsEarly }
@@ -103,6 +132,7 @@ fn lone_of<'a, R: Wait + Net + Clock, E: Write + Drop>(
         clock: clock_of(rt, start),
         sink,
         rest,
+        tap: LiveTap { record: tap },
     })
 }
 
@@ -175,6 +205,46 @@ fn next_feeds<F: Drop>(
     Ok(own)
 }
 
+/// Runs an engine with a watcher, and beside both what writes the record.
+fn run_recorded<
+    'a,
+    R: Threads + Wait + Sync + Clock,
+    E: Write + Send + Drop,
+    D: Write + Send + Drop,
+>(
+    rt: &'a R,
+    alloc: Global,
+    studio: &StudioSpec,
+    lone: Lone<'a, R, E>,
+    watcher: Watcher<'a, R, E>,
+    signs: &'a Signs,
+    recorder: Recorder<D>,
+    recorded: &Recorded,
+) -> Result<WorkReport, LiveFault>
+    requires feeds { map (λ own. length own.items) lone.feeds.items ≡ map (λ stream. stream.paths) studio.now.streams }
+    ensures run { IfOk result (IsRunOf true studio.now) }
+    ensures early { IfErr result IsEarly }
+{
+    thread::scope(
+        thread::scope_env(),
+        rt,
+        move |scope| -> Result<WorkReport, LiveFault>
+            requires sync { IsSync R.row }
+            requires feeds { map (λ own. length own.items) lone.feeds.items ≡ map (λ stream. stream.paths) studio.now.streams }
+            ensures run { IfOk result (IsRunOf true studio.entry.now) }
+            ensures early { IfErr result IsEarly }
+        {
+            let Ok(recording) = scope.spawn(move || write_record(rt, recorder)) else {
+                return Err(LiveFault::Thread);
+            };
+            let ran = run_beside(rt, alloc, studio, lone, watcher, signs, recorded);
+            let written = recording.join(rt);
+            recorded.tell_written(written.datagrams, written.failed);
+            ran
+        },
+    )
+}
+
 /// Runs an engine, and the watcher beside it.
 fn run_beside<'a, R: Threads + Wait + Sync + Clock, E: Write + Send + Drop>(
     rt: &'a R,
@@ -183,6 +253,7 @@ fn run_beside<'a, R: Threads + Wait + Sync + Clock, E: Write + Send + Drop>(
     lone: Lone<'a, R, E>,
     watcher: Watcher<'a, R, E>,
     signs: &'a Signs,
+    recorded: &Recorded,
 ) -> Result<WorkReport, LiveFault>
     requires feeds { map (λ own. length own.items) lone.feeds.items ≡ map (λ stream. stream.paths) studio.now.streams }
     ensures run { IfOk result (IsRunOf true studio.now) }
@@ -200,7 +271,7 @@ fn run_beside<'a, R: Threads + Wait + Sync + Clock, E: Write + Send + Drop>(
             let Ok(watching) = scope.spawn(move || watch(rt, watcher, signs)) else {
                 return Err(LiveFault::Thread);
             };
-            let ran = run_lone(rt, alloc, studio, lone);
+            let ran = run_lone(rt, alloc, studio, lone, recorded);
             signs.tell_over();
             watching.join(rt);
             ran
@@ -214,6 +285,7 @@ fn run_lone<R: Wait + Clock, E: Write + Drop>(
     alloc: Global,
     studio: &StudioSpec,
     lone: Lone<'_, R, E>,
+    recorded: &Recorded,
 ) -> Result<WorkReport, LiveFault>
     requires feeds { map (λ own. length own.items) lone.feeds.items ≡ map (λ stream. stream.paths) studio.now.streams }
     ensures run { IfOk result (IsRunOf true studio.now) }
@@ -224,7 +296,9 @@ fn run_lone<R: Wait + Clock, E: Write + Drop>(
         clock,
         sink,
         rest,
+        tap,
     } = lone;
-    let (report, _sink, _tap) = run_alone(rt, alloc, studio, feeds, clock, sink, Quiet, rest)?;
+    let (report, _sink, tap) = run_alone(rt, alloc, studio, feeds, clock, sink, tap, rest)?;
+    recorded.tell_came(tap.came());
     Ok(report)
 }

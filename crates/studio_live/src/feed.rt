@@ -1,10 +1,11 @@
 //! The datagrams of a path, from a socket.
-ghost use Rattle.std.specs.Prelude.{[], ℕ};
+ghost use Rattle.std.specs.Prelude.{◌≡◌, [], ℕ};
 ghost use Rattle.studio_workers.specs.Answers.{IsWithin};
 
 use crate::receiver::Receiver;
 use live_parts::SystemClock;
 use std::io::ErrorKind;
+use std::net::SocketAddrV4;
 use std::sync::atomic::{AtomicBool, Ordering};
 use std::time::Clock;
 use studio_workers::{Clock as ReadClock, Feed, FeedAnswer};
@@ -23,6 +24,8 @@ pub struct UdpFeed<'a, R: Clock> {
     stop: &'a AtomicBool,
     /// Whether it may have a datagram; none where receives wait.
     pending: Option<&'a AtomicBool>,
+    /// Its path's place among those of all streams.
+    place: u32,
 }
 
 impl<'a, R: Clock> UdpFeed<'a, R> {
@@ -33,6 +36,7 @@ impl<'a, R: Clock> UdpFeed<'a, R> {
         until: Option<i64>,
         stop: &'a AtomicBool,
         pending: Option<&'a AtomicBool>,
+        place: u32,
     ) -> UdpFeed<'a, R> {
         UdpFeed {
             receiver,
@@ -40,7 +44,29 @@ impl<'a, R: Clock> UdpFeed<'a, R> {
             until,
             stop,
             pending,
+            place,
         }
+    }
+
+    /// Its path's place, stream by stream and path by path.
+    pub(crate) fn place(&self) -> u32
+        ensures { result ≡ self.now.place }
+    {
+        self.place
+    }
+
+    /// Where its last datagram came from.
+    pub(crate) fn source(&self) -> SocketAddrV4
+        ensures { result ≡ self.now.receiver.from }
+    {
+        self.receiver.from
+    }
+
+    /// Where its datagrams are sent to.
+    pub(crate) fn destination(&self) -> SocketAddrV4
+        ensures { result ≡ self.now.receiver.at }
+    {
+        self.receiver.at
     }
 
     /// Whether a receive is worth its cost.

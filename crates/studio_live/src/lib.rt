@@ -6,13 +6,18 @@
 #![tactic(auto)]
 
 mod alone;
+mod block_end;
 mod fault;
 mod feed;
 mod input;
+mod live_tap;
 mod monitors;
 mod pending;
 mod ready;
 mod receiver;
+mod record;
+mod record_tap;
+mod recorder;
 mod run;
 mod signal;
 mod sink;

@@ -5,7 +5,7 @@ use live_parts::Source;
 use os::FromRawFd;
 use std::io;
 use std::io::ErrorKind;
-use std::net::{Ipv4Addr, Net, SocketAddr, UdpSocket};
+use std::net::{Ipv4Addr, Net, SocketAddr, SocketAddrV4, UdpSocket};
 use std::os::fd::AsRawFd;
 use std::time::Duration;
 
@@ -20,22 +20,43 @@ const RECEIVE_ROOM: u32 = 8 << 20;
 pub(crate) struct Receiver<'a> {
     pub(crate) socket: UdpSocket,
     pub(crate) source: Option<Source<'a>>,
+    /// Where datagrams are sent to for it to receive them.
+    pub(crate) at: SocketAddrV4,
+    /// Where the last of them came from.
+    pub(crate) from: SocketAddrV4,
 }
 
-impl Receiver<'_> {
+impl<'a> Receiver<'a> {
+    /// A socket of a path at an address, of which none came yet. One that was handed over may be at another.
+    pub(crate) fn new(
+        socket: UdpSocket,
+        source: Option<Source<'a>>,
+        at: SocketAddrV4,
+    ) -> Receiver<'a> {
+        let at = match &socket.local_addr() {
+            Ok(SocketAddr::V4(own)) if !own.ip().is_unspecified() => *own,
+            _ => at,
+        };
+        Receiver {
+            socket,
+            source,
+            at,
+            from: SocketAddrV4::new(Ipv4Addr::UNSPECIFIED, 0),
+        }
+    }
+
     /// Receives a datagram into `buf`, and answers how many octets it has; none, if it isn't the source's.
-    pub(crate) fn receive(&self, buf: &mut [u8]) -> io::Result<Option<usize>>
+    pub(crate) fn receive(&mut self, buf: &mut [u8]) -> io::Result<Option<usize>>
         ensures within { IfOk result (λ own. IfSome own (λ count. count ≤ length buf.old)) }
     {
-        let Some(source) = self.source else {
-            let count = self.socket.recv(buf)?;
-            return Ok(Some(count));
-        };
         let (count, from) = self.socket.recv_from(buf)?;
-        if source.has_sent(from) {
-            Ok(Some(count))
-        } else {
-            Ok(None)
+        if let SocketAddr::V4(from) = from {
+            self.from = from;
+        }
+        let source = self.source;
+        match source {
+            Some(source) if !source.has_sent(from) => Ok(None),
+            _ => Ok(Some(count)),
         }
     }
 }

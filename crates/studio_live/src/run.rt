@@ -10,6 +10,7 @@ use crate::alone::run_in_one_thread;
 use crate::fault::LiveFault;
 use crate::feed::UdpFeed;
 use crate::monitors::MonitorStats;
+use crate::record::Record;
 use crate::sink::UdpSink;
 use crate::standard::open_standard;
 use crate::start::{Sockets, Start, clock_of, feeds_of, sockets_of, stats_of};
@@ -48,7 +49,15 @@ struct Work<'a, R: Clock> {
 ///
 /// All sockets are bound, and all memory but the workers' is taken, before the first thread starts. Where the
 /// run was not settled, its report is written all the same, and that is the fault.
-pub fn run_studio_live<R: Threads + Wait + Sync + Net + Clock, W: Write, E: Write + Send + Drop>(
+///
+/// A run in one thread writes a record of what it took to the file `record`, if there is one, and tells how far that
+/// came once it is over. What the file doesn't take in time is not waited for: then the record ends.
+pub fn run_studio_live<
+    R: Threads + Wait + Sync + Net + Clock,
+    W: Write,
+    E: Write + Send + Drop,
+    D: Write + Send + Drop,
+>(
     rt: &R,
     alloc: Global,
     studio: &StudioSpec,
@@ -56,12 +65,13 @@ pub fn run_studio_live<R: Threads + Wait + Sync + Net + Clock, W: Write, E: Writ
     options: &LiveOptions,
     output: &mut W,
     faults: E,
+    record: Option<D>,
 ) -> Result<(), LiveFault>
     ensures ok { OnOk result (WritesRun options.now.one_thread studio.now true (W.contents output.old) (W.contents output.new)) }
     ensures fault { IfErr result (FailsRun options.now.one_thread studio.now (W.contents output.old) (W.contents output.new)) }
 {
     let mut text = TextBuffer::new(alloc)?;
-    let report = run_form(rt, alloc, studio, setup, options, faults)?;
+    let report = run_form(rt, alloc, studio, setup, options, faults, record)?;
     write_report(&mut text, output, &report)?;
     text.finish(output)?;
     if !report.settled {
@@ -71,25 +81,42 @@ pub fn run_studio_live<R: Threads + Wait + Sync + Net + Clock, W: Write, E: Writ
 }
 
 /// Runs a studio in the form that the options say.
-fn run_form<R: Threads + Wait + Sync + Net + Clock, E: Write + Send + Drop>(
+fn run_form<R: Threads + Wait + Sync + Net + Clock, E: Write + Send + Drop, D: Write + Send + Drop>(
     rt: &R,
     alloc: Global,
     studio: &StudioSpec,
     setup: Setup<'_>,
     options: &LiveOptions,
     faults: E,
+    file: Option<D>,
 ) -> Result<WorkReport, LiveFault>
     ensures run { IfOk result (IsRunOf options.now.one_thread studio.now) }
     ensures early { IfErr result IsEarly }
 {
     let signs = Signs::new();
     let start = Start::at(studio, setup.began, options);
+    let record = record_of(alloc, studio, file)?;
     open_standard();
     let sockets = sockets_of(rt, alloc, studio, setup)?;
     if options.one_thread {
-        run_in_one_thread(rt, alloc, studio, sockets, options, start, faults, &signs)
+        let recorded = setup.recorded;
+        run_in_one_thread(
+            rt, alloc, studio, sockets, options, start, faults, &signs, record, recorded,
+        )
     } else {
         run_in_workers(rt, alloc, studio, sockets, options, start, faults, &signs)
+    }
+}
+
+/// The record of a run that goes to a file, if there is one.
+fn record_of<D: Write + Drop>(
+    alloc: Global,
+    studio: &StudioSpec,
+    file: Option<D>,
+) -> Result<Option<Record<D>>, AllocError> {
+    match file {
+        Some(file) => Ok(Some(Record::new(alloc, studio, file)?)),
+        None => Ok(None),
     }
 }
 

@@ -9,7 +9,7 @@ use crate::sink::UdpSink;
 use crate::stats::Stats;
 use live_parts::{LiveOptions, PathAddress, Setup, SystemClock, addresses_of};
 use std::alloc::{AllocError, Global};
-use std::net::Net;
+use std::net::{Net, SocketAddrV4};
 use std::sync::atomic::AtomicBool;
 use std::time::{Clock, Duration};
 use studio_spec::StudioSpec;
@@ -105,7 +105,8 @@ fn receivers_of<'a, R: Net>(
             }
         };
         let source = setup.strangers.source(place, address.from);
-        receivers.push(Receiver { socket, source })?;
+        let at = SocketAddrV4::new(address.at, *port);
+        receivers.push(Receiver::new(socket, source, at))?;
     }
     Ok(receivers)
 }
@@ -145,8 +146,9 @@ pub(crate) fn feeds_of<'a, R: Clock>(
     let mut feeds = Vec::with_capacity(alloc, receivers.len())?;
     for receiver in receivers {
         let own = pending.get(feeds.len());
+        let place = u32::try_from(feeds.len()).unwrap_or(u32::MAX);
         let clock = clock_of(rt, start);
-        feeds.push(UdpFeed::new(receiver, clock, start.until, stop, own))?;
+        feeds.push(UdpFeed::new(receiver, clock, start.until, stop, own, place))?;
     }
     Ok(feeds)
 }
