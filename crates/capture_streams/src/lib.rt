@@ -2,9 +2,9 @@
 //!
 //! `Table::of` reads a capture once and answers a `Table` of its flows, in the order of their first packets, with the counts
 //! of each. `text_of` tells it, a line a flow, and what fits each flow's packets. Flows of one source that share numbers are
-//! paths of one stream: `streams_of` finds them, and `skew_of` reads the capture once more for the times between them.
+//! paths of one stream: `streams_of` finds them, and `skews_of` reads the capture once more for the times between them.
 //!
-//! The capture's octets are the caller's. Memory is taken for the table, the times of one pair of paths, and the text.
+//! The capture's octets are the caller's. Memory is taken for the table, the times of 16 pairs of paths at most, and the text.
 #![tactic(auto)]
 
 mod fit;
@@ -24,7 +24,7 @@ pub use flow::Flow;
 pub use lengths::Lengths;
 pub use numbers::Numbers;
 pub use sighting::{FlowKey, Sighting, sighting_in};
-pub use skew::{Skew, skew_of};
+pub use skew::{Pair, Skew, skew_of, skews_of};
 pub use steps::Steps;
 pub use streams::{Stream, streams_of};
 pub use table::{MOST_FLOWS, Table};

@@ -1,7 +1,7 @@
 //! The times between the arrivals of the same number on two paths.
 use crate::near::{CYCLE, first_number, number_near};
-use crate::sighting::{FlowKey, sighting_in};
-use capture_read::Capture;
+use crate::sighting::{FlowKey, Sighting, sighting_in};
+use capture_read::{Capture, open};
 use std::alloc::{AllocError, Global};
 
 /// How much later than on the first path packets came on the second, in nanoseconds; below 0 earlier.
@@ -21,6 +21,69 @@ struct Times {
     second: Option<u64>,
 }
 
+/// Two flows.
+#[derive(Clone, Copy)]
+pub struct Pair {
+    pub first: FlowKey,
+    pub second: FlowKey,
+}
+
+/// The most pairs whose times are kept at once. Those of a pair take 2.5 MiB.
+const MOST_PAIRS: usize = 16;
+
+/// What is kept of a pair while the capture is read.
+#[derive(Drop)]
+struct Notes {
+    pair: Pair,
+    times: Vec<Times>,
+    greatest: Option<u64>,
+    skews: Vec<i64>,
+}
+
+impl Notes {
+    /// Before the first packet.
+    fn new(alloc: Global, pair: Pair) -> Result<Notes, AllocError> {
+        let none = Times {
+            number: 0,
+            first: None,
+            second: None,
+        };
+        let times = Vec::from_elem(alloc, none, CYCLE)?;
+        Ok(Notes {
+            pair,
+            times,
+            greatest: None,
+            skews: Vec::new(alloc),
+        })
+    }
+
+    /// Notes a packet, if it is of one of the flows.
+    fn note(&mut self, next: &Sighting) -> Result<(), AllocError> {
+        let on_first = next.key.is_same(&self.pair.first);
+        if !on_first && !next.key.is_same(&self.pair.second) {
+            return Ok(());
+        }
+        let number = match self.greatest {
+            None => first_number(next.seq),
+            Some(so_far) => number_near(so_far, next.seq),
+        };
+        self.greatest = Some(self.greatest.unwrap_or(number).max(number));
+        if let Some(place) = self.times.get_mut(usize::from(next.seq))
+            && let Some(time) = next.time
+            && let Some(skew) = noted(place, number, on_first, time)
+        {
+            self.skews.push(skew)?;
+        }
+        Ok(())
+    }
+
+    /// The skew of all that was noted.
+    fn skew(&mut self) -> Option<Skew> {
+        self.skews.sort_unstable();
+        skew_in(self.skews.as_slice())
+    }
+}
+
 /// The skew of the second flow behind the first, over the numbers that came on both. None where no such number has its times.
 pub fn skew_of(
     alloc: Global,
@@ -28,39 +91,70 @@ pub fn skew_of(
     first: &FlowKey,
     second: &FlowKey,
 ) -> Result<Option<Skew>, AllocError> {
-    let none = Times {
-        number: 0,
-        first: None,
-        second: None,
+    let pair = Pair {
+        first: *first,
+        second: *second,
     };
-    let mut times = Vec::from_elem(alloc, none, CYCLE)?;
-    let mut skews = Vec::new(alloc);
-    let mut greatest = None;
+    let mut notes = Notes::new(alloc, pair)?;
     for item in capture {
         let Ok(packet) = item else {
             break;
         };
-        let Some(next) = sighting_in(&packet) else {
-            continue;
-        };
-        let on_first = next.key.is_same(first);
-        if !on_first && !next.key.is_same(second) {
-            continue;
-        }
-        let number = match greatest {
-            None => first_number(next.seq),
-            Some(so_far) => number_near(so_far, next.seq),
-        };
-        greatest = Some(greatest.unwrap_or(number).max(number));
-        if let Some(place) = times.get_mut(usize::from(next.seq))
-            && let Some(time) = next.time
-            && let Some(skew) = noted(place, number, on_first, time)
-        {
-            skews.push(skew)?;
+        if let Some(next) = sighting_in(&packet) {
+            notes.note(&next)?;
         }
     }
-    skews.sort_unstable();
-    Ok(skew_in(skews.as_slice()))
+    Ok(notes.skew())
+}
+
+/// The skew of each pair, in their order. The capture, which octets are, is read once for 16 pairs.
+pub fn skews_of(
+    alloc: Global,
+    octets: &[u8],
+    pairs: &[Pair],
+) -> Result<Vec<Option<Skew>>, AllocError> {
+    let mut skews = Vec::new(alloc);
+    let mut notes = Vec::new(alloc);
+    for pair in pairs.iter() {
+        notes.push(Notes::new(alloc, *pair)?)?;
+        if notes.len() == MOST_PAIRS {
+            note_all(&mut notes, octets)?;
+            take_skews(&mut notes, &mut skews)?;
+        }
+    }
+    note_all(&mut notes, octets)?;
+    take_skews(&mut notes, &mut skews)?;
+    Ok(skews)
+}
+
+/// Notes all packets of a capture.
+fn note_all(notes: &mut Vec<Notes>, octets: &[u8]) -> Result<(), AllocError> {
+    if notes.is_empty() {
+        return Ok(());
+    }
+    let Ok(capture) = open(octets) else {
+        return Ok(());
+    };
+    for item in capture {
+        let Ok(packet) = item else {
+            break;
+        };
+        if let Some(next) = sighting_in(&packet) {
+            for pair in notes.iter_mut() {
+                pair.note(&next)?;
+            }
+        }
+    }
+    Ok(())
+}
+
+/// Adds the skews of what was noted, and lets it go.
+fn take_skews(notes: &mut Vec<Notes>, skews: &mut Vec<Option<Skew>>) -> Result<(), AllocError> {
+    for pair in notes.iter_mut() {
+        skews.push(pair.skew())?;
+    }
+    notes.clear();
+    Ok(())
 }
 
 /// Notes a time, and answers the skew of its number where this is the second of its first two.

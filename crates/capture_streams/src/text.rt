@@ -2,10 +2,9 @@
 use crate::fit::fit_of;
 use crate::flow::Flow;
 use crate::sighting::FlowKey;
-use crate::skew::{Skew, skew_of};
+use crate::skew::{Pair, Skew, skews_of};
 use crate::streams::{Stream, streams_of};
 use crate::table::Table;
-use capture_read::open;
 use std::alloc::{AllocError, Global};
 use std::net::Ipv4Addr;
 
@@ -17,9 +16,23 @@ const NAMES: [&str; 4] = ["a", "b", "c", "d"];
 pub fn text_of(alloc: Global, table: &Table, octets: &[u8]) -> Result<String, AllocError> {
     let mut text = String::new(alloc);
     let streams = streams_of(alloc, table)?;
+    let pairs = pairs_of(alloc, table, streams.as_slice())?;
+    let skews = skews_of(alloc, octets, pairs.as_slice())?;
+    let mut place = 0;
     for (number, stream) in streams.iter().enumerate() {
         push_flows(&mut text, alloc, table, number, stream)?;
-        push_skews(&mut text, alloc, table, number, stream, octets)?;
+        let next = stream
+            .places()
+            .len()
+            .saturating_add(place)
+            .saturating_sub(1);
+        push_skews(
+            &mut text,
+            alloc,
+            number,
+            skews.get(place..next).unwrap_or(&[]),
+        )?;
+        place = next;
     }
     push_rest(&mut text, alloc, table)?;
     Ok(text)
@@ -109,30 +122,42 @@ fn push_fits(text: &mut String, alloc: Global, len: usize, step: u32) -> Result<
     text.push_str(&time)
 }
 
-/// A line for the skew of each further path.
-fn push_skews(
-    text: &mut String,
-    alloc: Global,
-    table: &Table,
-    number: usize,
-    stream: &Stream,
-    octets: &[u8],
-) -> Result<(), AllocError> {
-    let Some(first) = stream.places().first() else {
+/// A stream's first path with each further one, stream by stream.
+fn pairs_of(alloc: Global, table: &Table, streams: &[Stream]) -> Result<Vec<Pair>, AllocError> {
+    let mut pairs = Vec::new(alloc);
+    for stream in streams.iter() {
+        add_pairs(&mut pairs, table, stream.places())?;
+    }
+    Ok(pairs)
+}
+
+/// The first of some flows with each further one.
+fn add_pairs(pairs: &mut Vec<Pair>, table: &Table, places: &[usize]) -> Result<(), AllocError> {
+    let Some(first) = places.first() else {
         return Ok(());
     };
     let Some((first, _)) = table.flow(*first) else {
         return Ok(());
     };
-    for (name, place) in NAMES.iter().zip(stream.places().iter()).skip(1) {
+    for place in places.iter().skip(1) {
         let Some((second, _)) = table.flow(*place) else {
-            break;
+            return Ok(());
         };
-        let Ok(capture) = open(octets) else {
-            break;
-        };
-        if let Some(skew) = skew_of(alloc, capture, &first, &second)? {
-            push_skew(text, alloc, number, name, &skew)?;
+        pairs.push(Pair { first, second })?;
+    }
+    Ok(())
+}
+
+/// A line for the skew of each further path.
+fn push_skews(
+    text: &mut String,
+    alloc: Global,
+    number: usize,
+    skews: &[Option<Skew>],
+) -> Result<(), AllocError> {
+    for (name, skew) in NAMES.iter().skip(1).zip(skews.iter()) {
+        if let Some(skew) = skew {
+            push_skew(text, alloc, number, name, skew)?;
         }
     }
     Ok(())
