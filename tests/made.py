@@ -162,6 +162,16 @@ def two_paths(skew=1000):
     return pcap_of(*first, *second, sent(2000, 1, 1, 112))
 
 
+def three_paths(streams):
+    """Streams of three paths, of five packets each: the second comes later than the first, and the third earlier, by 10 and 20
+    microseconds more for each stream."""
+    records = []
+    for stream in range(streams):
+        for path, behind in enumerate((0, 10 * (stream + 1), -20 * (stream + 1))):
+            records += [(number > 0, 1000 * number + behind + 5000, 3 * stream + path + 1, number + 1, 6 * number, stream + 1) for number in range(5)]
+    return pcap_of(*(sent(*record[1:]) for record in sorted(records, key=lambda record: (record[0], record[1 + (not record[0])]))))
+
+
 def sources(count):
     """Two packets of each of so many sources."""
     return pcap_of(*(sent(0, 1, number, 6 * number, source) for source in range(count) for number in (0, 1)))
