@@ -1,0 +1,66 @@
+-- The deadlines of packets that are in step, from that of one.
+use Rattle.std.specs.Prelude.{◌≡◌, ℕ, ◌^◌, ◌<◌, Bool, true, false, ℤ, pos, ◌+ℤ◌, ◌-ℤ◌, ◌*ℤ◌, ◌≤ℤ◌, ◌<ℤ◌, neg_ℤ, Option, Some, None}
+use Rattle.stream_rules.specs.Anchor.{deadline_of}
+use Rattle.stream_rules.specs.Grid.{expected_timestamp}
+use Rattle.stream_rules.specs.declared.anchor.Anchor.{Anchor}
+use Rattle.stream_rules.specs.declared.fate.Fate.{Fate}
+use Rattle.stream_rules.specs.declared.fate.Fate.TheVariants.{Closed, CountersFull, WrongSource, OffGrid, Late, Ahead, Taken, Double, Unlike, Restarted}
+use Rattle.stream_rules.specs.declared.stream_spec.Stream.{Stream}
+
+-- a packet's timestamp, and its deadline
+pub record KnownDeadline : Type 0 where
+  pub ts : ℕ
+  pub at : ℤ
+
+-- a time that no sum of a few such leaves 64 bits by
+pub record IsShortTime (time : ℤ) : Type 0 where
+  pub low : neg_ℤ (pos (2 ^ 62)) ≤ℤ time
+  pub high : time ≤ℤ pos (2 ^ 62)
+
+-- they are those of a number under an anchor
+pub record IsDeadlineOf (stream : Stream) (anchor : Anchor) (number : ℕ) (known : KnownDeadline) : Type 0 where
+  pub ts : known.ts ≡ expected_timestamp stream anchor number
+  pub at : known.at ≡ deadline_of stream anchor number
+  pub short : IsShortTime known.at
+
+-- from one number to another it is less than 2^31 sampling instants (12 hours)
+pub record IsNearby (stream : Stream) (before number : ℕ) : Type 0 where
+  pub low : neg_ℤ (pos (2 ^ 31)) ≤ℤ ((pos number -ℤ pos before) *ℤ pos stream.frames)
+  pub high : ((pos number -ℤ pos before) *ℤ pos stream.frames) <ℤ pos (2 ^ 31)
+
+-- the packet is an epoch's first, as far as is known
+abbrev pub is_opening : Option KnownDeadline → Fate → Bool
+is_opening known Restarted = true
+is_opening None Taken = true
+is_opening (Some known) Taken = false
+is_opening known Closed = false
+is_opening known CountersFull = false
+is_opening known WrongSource = false
+is_opening known OffGrid = false
+is_opening known Late = false
+is_opening known Ahead = false
+is_opening known Double = false
+is_opening known Unlike = false
+
+-- the packet came in time, and is in step
+abbrev pub is_placed : Fate → Bool
+is_placed Taken = true
+is_placed Double = true
+is_placed Unlike = true
+is_placed Restarted = true
+is_placed Closed = false
+is_placed CountersFull = false
+is_placed WrongSource = false
+is_placed OffGrid = false
+is_placed Late = false
+is_placed Ahead = false
+
+-- what is known from the next deadline, as it stands once an epoch's first packet was taken
+abbrev pub known_from : ℕ → Option ℤ → Option KnownDeadline
+known_from ts None = None
+known_from ts (Some at) = Some (record { ts = ts; at = at })
+
+-- a deadline is so many sampling instants after a time
+pub record IsSpareBefore (deadline now : ℤ) (spare : ℕ) : Type 0 where
+  pub some : 0 < spare
+  pub until : (now +ℤ pos spare) ≡ deadline
