@@ -45,8 +45,9 @@ test:
 	rt ci
 	$(MAKE) -j4 --no-print-directory $(addsuffix .ran,$(scripts))
 	tests/loopback $(program)
+	tests/page $(program)
 	tests/networks $(program)
-	@echo "gate: pages, proofs, edits, tests, examples, faults, statuses, blocks, WAV files, charts, captures, engine, memory, live runs and networks passed"
+	@echo "gate: pages, proofs, edits, tests, examples, faults, statuses, blocks, WAV files, charts, captures, engine, memory, live runs, pages and networks passed"
 
 %.ran:
 	$* $(program)

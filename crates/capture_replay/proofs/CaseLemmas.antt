@@ -1,10 +1,14 @@
 -- What is said of a value that is there.
-use Rattle.std.proofs.Common.{◌≡◌, Option, Some, None, IfSome, Result, Ok, Err, OnOk, IfErr, sym, subst}
+use Rattle.std.proofs.Common.{◌≡◌, Option, Some, None, IfSome, Result, Ok, Err, OnOk, IfErr, refl, sym, subst}
 use Rattle.std.specs.Prelude.{IsErrAnd}
 use Rattle.capture_replay.specs.declared.fault.ReplayFault.{ReplayFault}
 
 pub some_is : {X : Type 0} (o : Option X) (x : X) (P : X → Type 0) → o ≡ Some x → IfSome o P → P x
 some_is o x P is p = subst (λ o. IfSome o P) is p
+
+pub some_when : {X : Type 0} (o : Option X) (P : X → Type 0) → ((x : X) → o ≡ Some x → P x) → IfSome o P
+some_when None P f = tt
+some_when (Some x) P f = f x refl
 
 pub some_maps : {X : Type 0} (o : Option X) (P Q : X → Type 0) → ((x : X) → P x → Q x) → IfSome o P → IfSome o Q
 some_maps None P Q f p = tt

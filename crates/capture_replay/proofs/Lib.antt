@@ -7,3 +7,5 @@ mod ReplayLemmas
 mod PlanLemmas
 mod RecordLemmas
 mod RecordedLemmas
+mod SoundLemmas
+mod ImportedLemmas

@@ -17,7 +17,7 @@ use Rattle.studio_run.specs.Buffer.{BreaksOff, PassesOn}
 use Rattle.studio_run.specs.Report.{datagram_line}
 use Rattle.studio_run.specs.Listing.{datagrams_text}
 use Rattle.studio_run.proofs.BufferLemmas.{BreaksOff-later, PassesOn-none, PassesOn-trans}
-use Rattle.capture_replay.specs.Lines.{BreaksLines, GivesLines}
+use Rattle.capture_replay.specs.Lines.{BreaksLines, GivesLines, Hearing, Tells}
 
 pub line_more : (datagrams : List (List ℕ)) (datagram : List ℕ) → datagrams_text (datagrams ++ datagram ∷ []) ≡ datagrams_text datagrams ++ datagram_line datagram
 line_more datagrams datagram = flat_map-append datagram_line datagrams (datagram ∷ []) ∙ ap (λ l. datagrams_text datagrams ++ l) (append-nil (datagram_line datagram))
@@ -26,44 +26,57 @@ pub lines_more : (datagrams more : List (List ℕ)) → datagrams_text (datagram
 lines_more datagrams more = flat_map-append datagram_line datagrams more
 
 -- no datagram was given yet
-pub gives_none : (studio : Studio) (engine : EngineState) (events same : List TraceEvent) (datagrams : List (List ℕ)) (a : Option (List ℕ)) (h : List ℕ) → events ≡ same
-    → HasSession studio engine events datagrams → GivesLines studio engine same datagrams a h a h
-gives_none studio engine events same datagrams a h e s = record {
+pub gives_none : (studio : Studio) (engine : EngineState) (events same : List TraceEvent) (datagrams : List (List ℕ)) (a : Option (List ℕ)) (h : List ℕ) (H : Hearing) → events ≡ same
+    → HasSession studio engine events datagrams → GivesLines studio engine same datagrams a h a h H H
+gives_none studio engine events same datagrams a h H e s = record {
   more = [];
   stands = subst (HasSession studio engine same) (sym (append-nil datagrams)) (subst (λ l. HasSession studio engine l datagrams) e s);
   wrote = PassesOn-none a h;
+  told = λ es told. subst (H es) (sym (append-nil datagrams)) told;
 }
 
+-- a listener is told of one datagram more
+abbrev pub Hears : Hearing → Hearing → List ℕ → Type 0
+Hears K L datagram = (events : List TraceEvent) (datagrams : List (List ℕ)) → K events datagrams → L events (datagrams ++ datagram ∷ [])
+
+tells_more : (H K L : Hearing) (datagrams more : List (List ℕ)) (output datagram : List ℕ) → output ≡ datagram → Tells H datagrams K (datagrams ++ more) → Hears K L output
+    → Tells H datagrams L (datagrams ++ (more ++ datagram ∷ []))
+tells_more H K L datagrams more output datagram is before hears = λ events told.
+    subst (L events) (append_assoc datagrams more (datagram ∷ []))
+    (subst (λ d. L events ((datagrams ++ more) ++ d ∷ [])) is (hears events (datagrams ++ more) (before events told)))
+
 -- one more was given, and its line follows
-pub gives_more : (studio : Studio) (old new : EngineState) (events more same : List TraceEvent) (datagrams : List (List ℕ)) (a b c : Option (List ℕ)) (h i j before after : List ℕ) (len : ℕ)
-    → more ≡ same → length after ≡ length before → len ≤ length before → (g : GivesLines studio old events datagrams a h b i) → Gives studio new more (datagrams ++ g.more) before after len
-    → PassesOn b i c j (datagram_line (take len after)) → GivesLines studio new same datagrams a h c j
-gives_more studio old new events more same datagrams a b c h i j before after len e long within g d line =
+pub gives_more : (studio : Studio) (old new : EngineState) (events more same : List TraceEvent) (datagrams : List (List ℕ)) (a b c : Option (List ℕ)) (h i j before after : List ℕ) (H K L : Hearing) (len : ℕ)
+    → more ≡ same → length after ≡ length before → len ≤ length before → (g : GivesLines studio old events datagrams a h b i H K) → Gives studio new more (datagrams ++ g.more) before after len
+    → Hears K L (take len after) → PassesOn b i c j (datagram_line (take len after)) → GivesLines studio new same datagrams a h c j H L
+gives_more studio old new events more same datagrams a b c h i j before after H K L len e long within g d hears line =
     let is : take len after ≡ d.datagram = written_is d.datagram before after len d.written long within in
     record {
       more = g.more ++ d.datagram ∷ [];
       stands = subst (HasSession studio new same) (append_assoc datagrams g.more (d.datagram ∷ [])) (subst (λ l. HasSession studio new l ((datagrams ++ g.more) ++ d.datagram ∷ [])) e d.stands);
       wrote = subst (PassesOn a h c j) (sym (line_more g.more d.datagram))
           (PassesOn-trans a b c h i j (datagrams_text g.more) (datagram_line d.datagram) g.wrote (subst (λ l. PassesOn b i c j (datagram_line l)) is line));
+      told = tells_more H K L datagrams g.more (take len after) d.datagram is g.told hears;
     }
 
 -- or a part of it
-pub breaks_more : (studio : Studio) (old new : EngineState) (events more same : List TraceEvent) (datagrams : List (List ℕ)) (a b c : Option (List ℕ)) (h i before after : List ℕ) (len : ℕ)
-    → more ≡ same → length after ≡ length before → len ≤ length before → (g : GivesLines studio old events datagrams a h b i) → Gives studio new more (datagrams ++ g.more) before after len
-    → BreaksOff b i c (datagram_line (take len after)) → BreaksLines studio new same datagrams a h c
-breaks_more studio old new events more same datagrams a b c h i before after len e long within g d line =
+pub breaks_more : (studio : Studio) (old new : EngineState) (events more same : List TraceEvent) (datagrams : List (List ℕ)) (a b c : Option (List ℕ)) (h i before after : List ℕ) (H K L : Hearing) (len : ℕ)
+    → more ≡ same → length after ≡ length before → len ≤ length before → (g : GivesLines studio old events datagrams a h b i H K) → Gives studio new more (datagrams ++ g.more) before after len
+    → Hears K L (take len after) → BreaksOff b i c (datagram_line (take len after)) → BreaksLines studio new same datagrams a h c H L
+breaks_more studio old new events more same datagrams a b c h i before after H K L len e long within g d hears line =
     let is : take len after ≡ d.datagram = written_is d.datagram before after len d.written long within in
     record {
       more = g.more ++ d.datagram ∷ [];
       stands = subst (HasSession studio new same) (append_assoc datagrams g.more (d.datagram ∷ [])) (subst (λ l. HasSession studio new l ((datagrams ++ g.more) ++ d.datagram ∷ [])) e d.stands);
       broke = subst (BreaksOff a h c) (sym (line_more g.more d.datagram))
           (BreaksOff-later a b c h i (datagrams_text g.more) (datagram_line d.datagram) g.wrote (subst (λ l. BreaksOff b i c (datagram_line l)) is line));
+      told = tells_more H K L datagrams g.more (take len after) d.datagram is g.told hears;
     }
 
 -- the last datagram was given
-pub gives_last : (studio : Studio) (old new : EngineState) (events more same : List TraceEvent) (datagrams : List (List ℕ)) (a b : Option (List ℕ)) (h i : List ℕ)
-    → more ≡ same → (g : GivesLines studio old events datagrams a h b i) → HasSession studio new more (datagrams ++ g.more) → GivesLines studio new same datagrams a h b i
-gives_last studio old new events more same datagrams a b h i e g s = record { more = g.more; stands = subst (λ l. HasSession studio new l (datagrams ++ g.more)) e s; wrote = g.wrote }
+pub gives_last : (studio : Studio) (old new : EngineState) (events more same : List TraceEvent) (datagrams : List (List ℕ)) (a b : Option (List ℕ)) (h i : List ℕ) (H K : Hearing)
+    → more ≡ same → (g : GivesLines studio old events datagrams a h b i H K) → HasSession studio new more (datagrams ++ g.more) → GivesLines studio new same datagrams a h b i H K
+gives_last studio old new events more same datagrams a b h i H K e g s = record { more = g.more; stands = subst (λ l. HasSession studio new l (datagrams ++ g.more)) e s; wrote = g.wrote; told = g.told }
 
 -- a turn that goes on is the same turn
 pub turned_twice : (first at next now : ℤ) (events : List TraceEvent) → (at ≡ first) ⊎ (at ≡ now) → (next ≡ at) ⊎ (next ≡ now) → turned at next (turned first at events) ≡ turned first next events

@@ -6,10 +6,9 @@ use Rattle.std.proofs.lemmas.Bool.Decides.{nat_tests}
 use Rattle.std.proofs.lemmas.Int.{ints}
 use Rattle.capture_read.specs.Packet.{PacketView}
 use Rattle.capture_import.specs.declared.clock.CaptureClock.{CaptureClock}
-use Rattle.capture_import.specs.Clock.{clock_begun, clock_with, instants_in, reading_at}
+use Rattle.capture_import.specs.Clock.{clock_begun, clock_with, instants_in}
 use Rattle.capture_import.specs.Trace.{octets_of}
 use Rattle.stream_rules.specs.declared.stream_spec.Stream.{Stream}
-use Rattle.stream_rules.specs.History.{is_tick_in_order}
 use Rattle.lane_align.specs.Lane.{natural}
 use Rattle.studio_spec.specs.Studio.{Studio}
 use Rattle.studio_session.specs.Event.{TraceEvent, Arrival, Reading, Closing}
@@ -18,9 +17,9 @@ use Rattle.studio_session.specs.Pruned.{begin_with_reading, pruned_events}
 use Rattle.studio_session.specs.declared.fault.StudioFault.TheVariants.{Path as NoPath, Stream as NoStream}
 use Rattle.studio_session.proofs.FaultLemmas.{first_none, later_none, time_more}
 use Rattle.studio_engine.specs.Session.{turned}
-use Rattle.capture_replay.specs.Events.{clock_of, closed_events, events_after, events_with, read_at, replay_events, clock_after}
-use Rattle.capture_replay.specs.Plan.{PlanView, Places, clock_past, path_at, places_of, target_of}
-use Rattle.capture_replay.specs.Recorded.{AreRecorded, AreRising, IsAt, IsPacketOf, place_of}
+use Rattle.capture_replay.specs.Events.{events_after, events_with, read_at, replay_events, clock_after}
+use Rattle.capture_replay.specs.Plan.{path_at, places_of}
+use Rattle.capture_replay.specs.Recorded.{AreRecorded, AreRising, IsAt, place_of}
 use Rattle.capture_replay.specs.declared.plan.Target.{Target}
 
 -- the path at a path's place is that path

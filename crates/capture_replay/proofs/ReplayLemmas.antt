@@ -1,5 +1,6 @@
 -- What was written of a report so far.
-use Rattle.std.proofs.Common.{◌≡◌, ◌<◌, ℕ, Bool, List, [], ◌∷◌, ◌++◌, length, map, take, Option, None, IfSome, Ok, sym, ap, subst, ◌∙◌, append-nil}
+use Rattle.std.proofs.Common.{◌≡◌, ◌<◌, ℕ, Bool, List, [], ◌∷◌, ◌++◌, length, map, take, Option, None, IfSome, Ok, refl, sym, ap, subst, ◌∙◌, append-nil}
+use Rattle.std.specs.Prelude.{⊤}
 use Rattle.std.specs.Io.KnownBytes.{Appends}
 use Rattle.std.proofs.Math.Seq.{take-length}
 use Rattle.std.proofs.lemmas.List.{length-map}
@@ -18,16 +19,16 @@ use Rattle.studio_engine.specs.Engine.{EngineState}
 use Rattle.studio_engine.specs.Session.{HasSession}
 use Rattle.studio_run.specs.Buffer.{BreaksOff, PassesOn}
 use Rattle.studio_run.specs.Listing.{datagrams_text}
-use Rattle.studio_run.proofs.BufferLemmas.{BreaksOff-finished, BreaksOff-later, PassesOn-finished, PassesOn-trans}
+use Rattle.studio_run.proofs.BufferLemmas.{BreaksOff-finished, BreaksOff-later, PassesOn-none, PassesOn-finished, PassesOn-trans}
 use Rattle.capture_replay.specs.declared.fault.ReplayFault.{ReplayFault}
 use Rattle.capture_replay.specs.declared.fault.ReplayFault.TheVariants.{Memory, Capture, Run as RunOf, Full, Write}
 use Rattle.capture_replay.specs.declared.run.Run.{Run}
-use Rattle.capture_replay.specs.Lines.{BreaksLines}
-use Rattle.capture_replay.specs.Replay.{BeginsWith, BreaksAt, HasComeToClose, HasGoneOver, HasReplayed, HasTaken, IsReason, IsReplaying, IsRun, IsOwn, Stops, StopsAt, StopsFile}
+use Rattle.capture_replay.specs.Lines.{BreaksLines, Hearing}
+use Rattle.capture_replay.specs.Replay.{BeginsWith, BreaksAt, HasBegun, HasComeToClose, HasGoneOver, HasHeardFirst, HasReplayed, HasTaken, IsReason, IsReplaying, IsRun, IsOwn, Stops, StopsAt, StopsFile}
 use Rattle.capture_replay.specs.Events.{AreFirst, clock_after, clock_of, closed_events, events_of, events_with, read_at}
 use Rattle.capture_replay.specs.Plan.{PlanView, clock_before, clock_past, opening_of, target_of}
 use Rattle.capture_replay.proofs.CaseLemmas.{some_maps}
-use Rattle.capture_replay.proofs.EventLemmas.{clock_more, events_more, first_longer, first_read}
+use Rattle.capture_replay.proofs.EventLemmas.{clock_more, events_more, first_longer, first_read, first_same}
 use Rattle.capture_replay.proofs.LineLemmas.{lines_more}
 
 -- lines of more datagrams follow
@@ -36,39 +37,65 @@ pub wrote_more : (a b c : Option (List ℕ)) (h i : List ℕ) (datagrams more : 
 wrote_more a b c h i datagrams more first second =
     subst (PassesOn a [] c i) (sym (lines_more datagrams more)) (PassesOn-trans a b c [] h i (datagrams_text datagrams) (datagrams_text more) first second)
 
-pub broke_more : (studio : Studio) (engine : EngineState) (events : List TraceEvent) (a b c : Option (List ℕ)) (h : List ℕ) (datagrams : List (List ℕ)) → PassesOn a [] b h (datagrams_text datagrams)
-    → BreaksLines studio engine events datagrams b h c → BreaksAt studio events a c
-broke_more studio engine events a b c h datagrams first broken =
+pub broke_more : (studio : Studio) (engine : EngineState) (events earlier : List TraceEvent) (a b c : Option (List ℕ)) (h : List ℕ) (H K : Hearing) (datagrams : List (List ℕ)) → PassesOn a [] b h (datagrams_text datagrams)
+    → AreFirst earlier events → H earlier datagrams → BreaksLines studio engine events datagrams b h c H K → BreaksAt studio events a c K
+broke_more studio engine events earlier a b c h H K datagrams first early told broken =
     let both = subst (BreaksOff a [] c) (sym (lines_more datagrams broken.more)) (BreaksOff-later a b c [] h (datagrams_text datagrams) (datagrams_text broken.more) first broken.broke) in
-    record { datagrams = datagrams ++ broken.more; first = broken.stands.given.first; count = both.count; wrote = both.wrote }
+    record {
+      datagrams = datagrams ++ broken.more;
+      first = broken.stands.given.first;
+      count = both.count;
+      wrote = both.wrote;
+      told = record { earlier = earlier; early = early; datagrams = datagrams ++ broken.more; first = broken.stands.given.first; told = broken.told earlier told };
+    }
+
+-- what a listener was told of so far
+pub heard_first : (studio : Studio) (events : List TraceEvent) (a b : Option (List ℕ)) (H : Hearing) (run : Run) → HasReplayed studio events a run b H → HasHeardFirst studio events H
+heard_first studio events a b H run r = record { earlier = events; early = first_same events; datagrams = r.datagrams; first = r.session.given.first; told = r.told }
+
+-- before the first event
+pub begun_replayed : (studio : Studio) (a : Option (List ℕ)) (H : Hearing) (run : Run) → HasBegun studio run → H [] [] → HasReplayed studio [] a run a H
+begun_replayed studio a H run b told = record {
+  datagrams = [];
+  session = b.session;
+  rested = b.rested;
+  open_yet = refl;
+  wrote = subst (λ h. PassesOn a [] a h []) (sym b.none) (PassesOn-none a []);
+  told = told;
+}
+
+-- whoever listens
+pub unheard : (studio : Studio) (events : List TraceEvent) (a b : Option (List ℕ)) (H : Hearing) (run : Run) → HasReplayed studio events a run b H → HasReplayed studio events a run b (λ _ _. ⊤)
+unheard studio events a b H run r = record { datagrams = r.datagrams; session = r.session; rested = r.rested; open_yet = r.open_yet; wrote = r.wrote; told = tt }
 
 -- what was held is written
-pub broke_whole : (studio : Studio) (events : List TraceEvent) (a b c : Option (List ℕ)) (run : Run) → HasReplayed studio events a run b → Appends b c run.text → BreaksAt studio events a c
-broke_whole studio events a b c run r rest = record {
+pub broke_whole : (studio : Studio) (events : List TraceEvent) (a b c : Option (List ℕ)) (H : Hearing) (run : Run) → HasReplayed studio events a run b H → Appends b c run.text → BreaksAt studio events a c H
+broke_whole studio events a b c H run r rest = record {
   datagrams = r.datagrams;
   first = r.session.given.first;
   count = length (datagrams_text r.datagrams);
   wrote = subst (Appends a c) (sym (take-length (datagrams_text r.datagrams))) (PassesOn-finished a b c run.text (datagrams_text r.datagrams) r.wrote rest);
+  told = heard_first studio events a b H run r;
 }
 
-pub broke_part : (studio : Studio) (events : List TraceEvent) (a b c : Option (List ℕ)) (run : Run) → HasReplayed studio events a run b
-    → (n : ℕ) × (n < length run.text) × Appends b c (take n run.text) → BreaksAt studio events a c
-broke_part studio events a b c run r part =
+pub broke_part : (studio : Studio) (events : List TraceEvent) (a b c : Option (List ℕ)) (H : Hearing) (run : Run) → HasReplayed studio events a run b H
+    → (n : ℕ) × (n < length run.text) × Appends b c (take n run.text) → BreaksAt studio events a c H
+broke_part studio events a b c H run r part =
     let broken = BreaksOff-finished a b c run.text (datagrams_text r.datagrams) r.wrote part in
-    record { datagrams = r.datagrams; first = r.session.given.first; count = broken.count; wrote = broken.wrote }
+    record { datagrams = r.datagrams; first = r.session.given.first; count = broken.count; wrote = broken.wrote; told = heard_first studio events a b H run r }
 
 -- a fault of an event, where all that was given is written or held
-pub stops_at_run : (studio : Studio) (events : List TraceEvent) (a b : Option (List ℕ)) (run : Run) (fault : ReplayFault) → IsRun fault → HasReplayed studio events a run b → StopsAt studio events a run b fault
-stops_at_run studio events a b run Memory kind r = absurd kind
-stops_at_run studio events a b run (Capture fault) kind r = absurd kind
-stops_at_run studio events a b run (RunOf fault) kind r = r
-stops_at_run studio events a b run Full kind r = r
-stops_at_run studio events a b run Write kind r = absurd kind
+pub stops_at_run : (studio : Studio) (events : List TraceEvent) (a b : Option (List ℕ)) (H : Hearing) (run : Run) (fault : ReplayFault) → IsRun fault → HasReplayed studio events a run b H → StopsAt studio events a run b H fault
+stops_at_run studio events a b H run Memory kind r = absurd kind
+stops_at_run studio events a b H run (Capture fault) kind r = absurd kind
+stops_at_run studio events a b H run (RunOf fault) kind r = r
+stops_at_run studio events a b H run Full kind r = r
+stops_at_run studio events a b H run Write kind r = absurd kind
 
 -- what stops before some events stops before more
-pub stops_longer : (studio : Studio) (all longer : List TraceEvent) (a c : Option (List ℕ)) (run : Run) (fault : ReplayFault) → AreFirst all longer
-    → Stops studio all a run c fault → Stops studio longer a run c fault
-stops_longer studio all longer a c run fault first stops = record { events = stops.events; first = first_longer stops.events all longer stops.first first; at = stops.at }
+pub stops_longer : (studio : Studio) (all longer : List TraceEvent) (a c : Option (List ℕ)) (H : Hearing) (run : Run) (fault : ReplayFault) → AreFirst all longer
+    → Stops studio all a run c H fault → Stops studio longer a run c H fault
+stops_longer studio all longer a c H run fault first stops = record { events = stops.events; first = first_longer stops.events all longer stops.first first; at = stops.at }
 
 -- a stream for each cursor
 pub streams_of_session : (studio : Studio) (engine : EngineState) (events : List TraceEvent) (datagrams : List (List ℕ)) → HasSession studio engine events datagrams
@@ -104,66 +131,66 @@ next_events studio plan packets packet clock is =
     ap (λ k. events_with studio.open_at (opening_of plan) k (events_of studio plan packets) packet (target_of plan packet)) is
     ∙ sym (events_more studio.open_at plan (clock_before plan) [] packets packet)
 
-pub taken_more : (studio : Studio) (plan : PlanView) (packets : List PacketView) (packet : PacketView) (a b c : Option (List ℕ)) (old new : Run) → HasTaken studio plan packets a old b
+pub taken_more : (studio : Studio) (plan : PlanView) (packets : List PacketView) (packet : PacketView) (a b c : Option (List ℕ)) (H K : Hearing) (old new : Run) → HasTaken studio plan packets a old b H
     → new.clock ≡ clock_past old.clock packet (target_of plan packet)
-    → HasReplayed studio (events_with studio.open_at (opening_of plan) old.clock (events_of studio plan packets) packet (target_of plan packet)) a new c
-    → HasTaken studio plan (packets ++ packet ∷ []) a new c
-taken_more studio plan packets packet a b c old new taken clock replayed = record {
+    → HasReplayed studio (events_with studio.open_at (opening_of plan) old.clock (events_of studio plan packets) packet (target_of plan packet)) a new c K
+    → HasTaken studio plan (packets ++ packet ∷ []) a new c K
+taken_more studio plan packets packet a b c H K old new taken clock replayed = record {
   clock = clock ∙ ap (λ k. clock_past k packet (target_of plan packet)) taken.clock ∙ sym (clock_more plan (clock_before plan) packets packet);
-  replayed = subst (λ l. HasReplayed studio l a new c) (next_events studio plan packets packet old.clock taken.clock) replayed;
+  replayed = subst (λ l. HasReplayed studio l a new c K) (next_events studio plan packets packet old.clock taken.clock) replayed;
 }
 
-pub stops_more : (studio : Studio) (plan : PlanView) (packets : List PacketView) (packet : PacketView) (a b c : Option (List ℕ)) (old new : Run) (fault : ReplayFault) → HasTaken studio plan packets a old b
-    → Stops studio (events_with studio.open_at (opening_of plan) old.clock (events_of studio plan packets) packet (target_of plan packet)) a new c fault
-    → Stops studio (events_of studio plan (packets ++ packet ∷ [])) a new c fault
-stops_more studio plan packets packet a b c old new fault taken stops = subst (λ l. Stops studio l a new c fault) (next_events studio plan packets packet old.clock taken.clock) stops
+pub stops_more : (studio : Studio) (plan : PlanView) (packets : List PacketView) (packet : PacketView) (a b c : Option (List ℕ)) (H K : Hearing) (old new : Run) (fault : ReplayFault) → HasTaken studio plan packets a old b H
+    → Stops studio (events_with studio.open_at (opening_of plan) old.clock (events_of studio plan packets) packet (target_of plan packet)) a new c K fault
+    → Stops studio (events_of studio plan (packets ++ packet ∷ [])) a new c K fault
+stops_more studio plan packets packet a b c H K old new fault taken stops = subst (λ l. Stops studio l a new c K fault) (next_events studio plan packets packet old.clock taken.clock) stops
 
-pub taken_same : (studio : Studio) (plan : PlanView) (packets : List PacketView) (a c : Option (List ℕ)) (run : Run) → HasTaken studio plan packets a run c → HasTaken studio plan (packets ++ []) a run c
-taken_same studio plan packets a c run taken = subst (λ l. HasTaken studio plan l a run c) (sym (append-nil packets)) taken
+pub taken_same : (studio : Studio) (plan : PlanView) (packets : List PacketView) (a c : Option (List ℕ)) (H : Hearing) (run : Run) → HasTaken studio plan packets a run c H → HasTaken studio plan (packets ++ []) a run c H
+taken_same studio plan packets a c H run taken = subst (λ l. HasTaken studio plan l a run c H) (sym (append-nil packets)) taken
 
 -- a file told the same packets, as more of it was read
-pub replaying_read : (studio : Studio) (plan : PlanView) (first a : Option (List ℕ)) (run : Run) (parts : Parts) (held held' : List ℕ) (ended ended' : Bool) (left left' c : Option (List ℕ))
+pub replaying_read : (studio : Studio) (plan : PlanView) (first a : Option (List ℕ)) (run : Run) (parts : Parts) (held held' : List ℕ) (ended ended' : Bool) (left left' c : Option (List ℕ)) (H : Hearing)
     → ((file : List ℕ) (packets : List PacketView) → HasTold file packets left parts held ended → HasTold file packets left' parts held' ended')
-    → IsReplaying studio plan first a run parts held ended left c → IsReplaying studio plan first a run parts held' ended' left' c
-replaying_read studio plan first a run parts held held' ended ended' left left' c reads r = record {
+    → IsReplaying studio plan first a run parts held ended left c H → IsReplaying studio plan first a run parts held' ended' left' c H
+replaying_read studio plan first a run parts held held' ended ended' left left' c H reads r = record {
   packets = r.packets;
   told = some_maps first _ _ (λ file told. reads file r.packets told) r.told;
   taken = r.taken;
 }
 
 -- before the first packet
-pub replaying_none : (studio : Studio) (plan : PlanView) (first a : Option (List ℕ)) (run : Run) (parts : Parts) (held : List ℕ) (ended : Bool) (left : Option (List ℕ))
-    → IfSome first (λ file. HasTold file [] left parts held ended) → run.clock ≡ clock_before plan → HasReplayed studio [] a run a → IsReplaying studio plan first a run parts held ended left a
-replaying_none studio plan first a run parts held ended left told clock replayed = record {
+pub replaying_none : (studio : Studio) (plan : PlanView) (first a : Option (List ℕ)) (run : Run) (parts : Parts) (held : List ℕ) (ended : Bool) (left : Option (List ℕ)) (H : Hearing)
+    → IfSome first (λ file. HasTold file [] left parts held ended) → run.clock ≡ clock_before plan → HasReplayed studio [] a run a H → IsReplaying studio plan first a run parts held ended left a H
+replaying_none studio plan first a run parts held ended left H told clock replayed = record {
   packets = [];
   told = told;
   taken = record { clock = clock; replayed = replayed };
 }
 
 -- a reading at the time of the close, behind all packets
-pub come_to_close : (studio : Studio) (plan : PlanView) (closing : Option ℕ) (from : ℕ) (first a b c : Option (List ℕ)) (old new : Run) → from ≡ opening_of plan → (gone : HasGoneOver studio plan first a old b)
-    → ((events : List TraceEvent) → HasReplayed studio events a old b → HasReplayed studio (read_at studio.open_at from events old.clock.reading (clock_with old.clock closing).reading) a new c)
-    → HasComeToClose studio plan closing first a new c
-come_to_close studio plan closing from first a b c old new same gone reads =
+pub come_to_close : (studio : Studio) (plan : PlanView) (closing : Option ℕ) (from : ℕ) (first a b c : Option (List ℕ)) (H K : Hearing) (old new : Run) → from ≡ opening_of plan → (gone : HasGoneOver studio plan first a old b H)
+    → ((events : List TraceEvent) → HasReplayed studio events a old b H → HasReplayed studio (read_at studio.open_at from events old.clock.reading (clock_with old.clock closing).reading) a new c K)
+    → HasComeToClose studio plan closing first a new c K
+come_to_close studio plan closing from first a b c H K old new same gone reads =
     let events = events_of studio plan gone.packets in
     record {
       packets = gone.packets;
       told = gone.told;
-      replayed = subst (λ n. HasReplayed studio (read_at studio.open_at n events (clock_of plan gone.packets).reading (clock_with (clock_of plan gone.packets) closing).reading) a new c) same
-          (subst (λ k. HasReplayed studio (read_at studio.open_at from events k.reading (clock_with k closing).reading) a new c) gone.taken.clock (reads events gone.taken.replayed));
+      replayed = subst (λ n. HasReplayed studio (read_at studio.open_at n events (clock_of plan gone.packets).reading (clock_with (clock_of plan gone.packets) closing).reading) a new c K) same
+          (subst (λ k. HasReplayed studio (read_at studio.open_at from events k.reading (clock_with k closing).reading) a new c K) gone.taken.clock (reads events gone.taken.replayed));
     }
 
-pub stops_at_close : (studio : Studio) (plan : PlanView) (closing : Option ℕ) (from : ℕ) (first a b c : Option (List ℕ)) (old new : Run) (fault : ReplayFault) → from ≡ opening_of plan → IsOwn fault → (gone : HasGoneOver studio plan first a old b)
-    → ((events : List TraceEvent) → HasReplayed studio events a old b → Stops studio (read_at studio.open_at from events old.clock.reading (clock_with old.clock closing).reading) a new c fault)
-    → StopsFile studio plan first a new c fault
-stops_at_close studio plan closing from first a b c old new fault same kind gone reads =
+pub stops_at_close : (studio : Studio) (plan : PlanView) (closing : Option ℕ) (from : ℕ) (first a b c : Option (List ℕ)) (H K : Hearing) (old new : Run) (fault : ReplayFault) → from ≡ opening_of plan → IsOwn fault → (gone : HasGoneOver studio plan first a old b H)
+    → ((events : List TraceEvent) → HasReplayed studio events a old b H → Stops studio (read_at studio.open_at from events old.clock.reading (clock_with old.clock closing).reading) a new c K fault)
+    → StopsFile studio plan first a new c K fault
+stops_at_close studio plan closing from first a b c H K old new fault same kind gone reads =
     let events = events_of studio plan gone.packets in
     record {
       packets = gone.packets;
       closing = closing;
       told = some_maps first _ _ (λ file whole. (begins_whole file gone.packets whole, own_reason file gone.packets fault kind)) gone.told;
-      stops = subst (λ n. Stops studio (read_at studio.open_at n events (clock_of plan gone.packets).reading (clock_with (clock_of plan gone.packets) closing).reading) a new c fault) same
-          (subst (λ k. Stops studio (read_at studio.open_at from events k.reading (clock_with k closing).reading) a new c fault) gone.taken.clock (reads events gone.taken.replayed));
+      stops = subst (λ n. Stops studio (read_at studio.open_at n events (clock_of plan gone.packets).reading (clock_with (clock_of plan gone.packets) closing).reading) a new c K fault) same
+          (subst (λ k. Stops studio (read_at studio.open_at from events k.reading (clock_with k closing).reading) a new c K fault) gone.taken.clock (reads events gone.taken.replayed));
     }
 
 -- the events of packets are the first of those up to a close
@@ -171,10 +198,10 @@ pub before_close : (studio : Studio) (plan : PlanView) (packets : List PacketVie
 before_close studio plan packets closing = first_read studio.open_at (opening_of plan) (events_of studio plan packets) (clock_of plan packets).reading (clock_with (clock_of plan packets) closing).reading
 
 -- a fault comes behind the packets that were told
-pub stops_behind : (studio : Studio) (plan : PlanView) (first a : Option (List ℕ)) (run : Run) (parts : Parts) (held : List ℕ) (ended : Bool) (left c : Option (List ℕ)) (fault : ReplayFault)
-    (r : IsReplaying studio plan first a run parts held ended left c) → ((file : List ℕ) → HasTold file r.packets left parts held ended → IsReason file r.packets fault)
-    → ((events : List TraceEvent) → HasReplayed studio events a run c → StopsAt studio events a run c fault) → StopsFile studio plan first a run c fault
-stops_behind studio plan first a run parts held ended left c fault r reason at = record {
+pub stops_behind : (studio : Studio) (plan : PlanView) (first a : Option (List ℕ)) (run : Run) (parts : Parts) (held : List ℕ) (ended : Bool) (left c : Option (List ℕ)) (H : Hearing) (fault : ReplayFault)
+    (r : IsReplaying studio plan first a run parts held ended left c H) → ((file : List ℕ) → HasTold file r.packets left parts held ended → IsReason file r.packets fault)
+    → ((events : List TraceEvent) → HasReplayed studio events a run c H → StopsAt studio events a run c H fault) → StopsFile studio plan first a run c H fault
+stops_behind studio plan first a run parts held ended left c H fault r reason at = record {
   packets = r.packets;
   closing = None;
   told = some_maps first _ _ (λ file told. (begins file r.packets left parts held ended told, reason file told)) r.told;

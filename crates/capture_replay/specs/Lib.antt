@@ -4,6 +4,8 @@ pub mod Events
 pub mod Record
 pub mod Recorded
 pub mod Lines
+pub mod Sound
+pub mod Imported
 pub mod Replay
 pub use Rattle.capture_read.specs.Packet
 pub use Rattle.capture_read.specs.Capture

@@ -10,6 +10,11 @@ closing_in [] = None
 closing_in (Opened open_at ∷ marks) = closing_in marks
 closing_in (Closed time ∷ marks) = Some time
 
+-- when one was opened, by a mark
+abbrev pub opening_in : RecordMark → Option ℕ
+opening_in (Opened open_at) = Some open_at
+opening_in (Closed time) = None
+
 -- a record's first mark tells when it was opened
 abbrev pub record_by : List RecordMark → Option Record
 record_by [] = None

@@ -1,5 +1,5 @@
 -- The report of a capture, and how far it was written.
-use Rattle.std.specs.Prelude.{◌≡◌, ◌⊎◌, ℕ, ◌++◌, Bool, false, List, [], take, map, Option, Ok, IfSome}
+use Rattle.std.specs.Prelude.{◌≡◌, ◌≢◌, ◌⊎◌, ◌<◌, ℕ, ◌++◌, Bool, false, List, [], length, take, map, Option, Ok, IfSome, ⊤}
 use Rattle.std.specs.Io.KnownBytes.{Appends}
 use Rattle.capture_read.specs.declared.parts.Parts.{Parts}
 use Rattle.capture_read.specs.Packet.{PacketView}
@@ -12,6 +12,7 @@ use Rattle.studio_mix.specs.Blocks.{AreFirstBlocks}
 use Rattle.studio_session.specs.Event.{TraceEvent}
 use Rattle.studio_session.specs.Fault.{closed_at}
 use Rattle.studio_session.specs.Play.{feeds_of}
+use Rattle.studio_session.specs.Run.{AreDatagrams}
 use Rattle.studio_engine.specs.Session.{HasSession}
 use Rattle.studio_run.specs.Buffer.{BreaksOff, PassesOn}
 use Rattle.studio_run.specs.Listing.{datagrams_text}
@@ -20,37 +21,54 @@ use Rattle.studio_run.specs.StudioReport.{IsReport}
 use Rattle.capture_replay.specs.declared.fault.ReplayFault.{ReplayFault}
 use Rattle.capture_replay.specs.declared.fault.ReplayFault.TheVariants.{Memory, Capture, Run as RunOf, Full, Write}
 use Rattle.capture_replay.specs.declared.run.Run.{Run}
+use Rattle.capture_replay.specs.Lines.{Hearing}
 use Rattle.capture_replay.specs.Events.{AreFirst, clock_of, closed_events, events_of, replay_events}
 use Rattle.capture_replay.specs.Plan.{PlanView}
 
--- the engine took these events, and the lines of what it gave were written or are held
-pub record HasReplayed (studio : Studio) (events : List TraceEvent) (written : Option (List ℕ)) (run : Run) (written_then : Option (List ℕ)) : Type 0 where
+-- the engine took these events, the lines of what it gave were written or are held, and a listener was told of both
+pub record HasReplayed (studio : Studio) (events : List TraceEvent) (written : Option (List ℕ)) (run : Run) (written_then : Option (List ℕ)) (heard : Hearing) : Type 0 where
   pub datagrams : List (List ℕ)
   pub session : HasSession studio run.engine events datagrams
   pub rested : run.engine.turning ≡ false
   pub open_yet : closed_at false events ≡ false
   pub wrote : PassesOn written [] written_then run.text (datagrams_text datagrams)
+  pub told : heard events datagrams
+
+-- before the first event
+pub record HasBegun (studio : Studio) (run : Run) : Type 0 where
+  pub session : HasSession studio run.engine [] []
+  pub rested : run.engine.turning ≡ false
+  pub none : run.text ≡ []
+
+-- a listener was told of some of these events, from the front, and of some of the datagrams that they all give
+pub record HasHeardFirst (studio : Studio) (events : List TraceEvent) (heard : Hearing) : Type 0 where
+  pub earlier : List TraceEvent
+  pub early : AreFirst earlier events
+  pub datagrams : List (List ℕ)
+  pub first : AreFirstBlocks studio (feeds_of studio events) datagrams
+  pub told : heard earlier datagrams
 
 -- of the lines of the datagrams that these events give a part from the front was written
-pub record BreaksAt (studio : Studio) (events : List TraceEvent) (written written_then : Option (List ℕ)) : Type 0 where
+pub record BreaksAt (studio : Studio) (events : List TraceEvent) (written written_then : Option (List ℕ)) (heard : Hearing) : Type 0 where
   pub datagrams : List (List ℕ)
   pub first : AreFirstBlocks studio (feeds_of studio events) datagrams
   pub count : ℕ
   pub wrote : Appends written written_then (take count (datagrams_text datagrams))
+  pub told : HasHeardFirst studio events heard
 
 -- a fault came after these events: what is written is a part from the front, or what is written and held is whole
-abbrev pub StopsAt : Studio → List TraceEvent → Option (List ℕ) → Run → Option (List ℕ) → ReplayFault → Type 0
-StopsAt studio events written run written_then Memory = ⊥
-StopsAt studio events written run written_then (Capture fault) = HasReplayed studio events written run written_then
-StopsAt studio events written run written_then (RunOf fault) = HasReplayed studio events written run written_then
-StopsAt studio events written run written_then Full = HasReplayed studio events written run written_then
-StopsAt studio events written run written_then Write = BreaksAt studio events written written_then
+abbrev pub StopsAt : Studio → List TraceEvent → Option (List ℕ) → Run → Option (List ℕ) → Hearing → ReplayFault → Type 0
+StopsAt studio events written run written_then heard Memory = ⊥
+StopsAt studio events written run written_then heard (Capture fault) = HasReplayed studio events written run written_then heard
+StopsAt studio events written run written_then heard (RunOf fault) = HasReplayed studio events written run written_then heard
+StopsAt studio events written run written_then heard Full = HasReplayed studio events written run written_then heard
+StopsAt studio events written run written_then heard Write = BreaksAt studio events written written_then heard
 
 -- it came before all of these events were taken
-pub record Stops (studio : Studio) (all : List TraceEvent) (written : Option (List ℕ)) (run : Run) (written_then : Option (List ℕ)) (fault : ReplayFault) : Type 0 where
+pub record Stops (studio : Studio) (all : List TraceEvent) (written : Option (List ℕ)) (run : Run) (written_then : Option (List ℕ)) (heard : Hearing) (fault : ReplayFault) : Type 0 where
   pub events : List TraceEvent
   pub first : AreFirst events all
-  pub at : StopsAt studio events written run written_then fault
+  pub at : StopsAt studio events written run written_then heard fault
 
 -- a file begins with these packets
 pub record BeginsWith (file : List ℕ) (packets : List PacketView) : Type 0 where
@@ -58,27 +76,27 @@ pub record BeginsWith (file : List ℕ) (packets : List PacketView) : Type 0 whe
   pub all : packets_of file ≡ map Ok packets ++ items
 
 -- the events of these packets were taken, and the clock is theirs
-pub record HasTaken (studio : Studio) (plan : PlanView) (packets : List PacketView) (written : Option (List ℕ)) (run : Run) (written_then : Option (List ℕ)) : Type 0 where
+pub record HasTaken (studio : Studio) (plan : PlanView) (packets : List PacketView) (written : Option (List ℕ)) (run : Run) (written_then : Option (List ℕ)) (heard : Hearing) : Type 0 where
   pub clock : run.clock ≡ clock_of plan packets
-  pub replayed : HasReplayed studio (events_of studio plan packets) written run written_then
+  pub replayed : HasReplayed studio (events_of studio plan packets) written run written_then heard
 
 -- the packets that a file so far told were replayed
-pub record IsReplaying (studio : Studio) (plan : PlanView) (first : Option (List ℕ)) (written : Option (List ℕ)) (run : Run) (parts : Parts) (held : List ℕ) (ended : Bool) (left written_then : Option (List ℕ)) : Type 0 where
+pub record IsReplaying (studio : Studio) (plan : PlanView) (first : Option (List ℕ)) (written : Option (List ℕ)) (run : Run) (parts : Parts) (held : List ℕ) (ended : Bool) (left written_then : Option (List ℕ)) (heard : Hearing) : Type 0 where
   pub packets : List PacketView
   pub told : IfSome first (λ file. HasTold file packets left parts held ended)
-  pub taken : HasTaken studio plan packets written run written_then
+  pub taken : HasTaken studio plan packets written run written_then heard
 
 -- all of a file's were, which has no fault
-pub record HasGoneOver (studio : Studio) (plan : PlanView) (first : Option (List ℕ)) (written : Option (List ℕ)) (run : Run) (written_then : Option (List ℕ)) : Type 0 where
+pub record HasGoneOver (studio : Studio) (plan : PlanView) (first : Option (List ℕ)) (written : Option (List ℕ)) (run : Run) (written_then : Option (List ℕ)) (heard : Hearing) : Type 0 where
   pub packets : List PacketView
   pub told : IfSome first (λ file. HasPackets file packets)
-  pub taken : HasTaken studio plan packets written run written_then
+  pub taken : HasTaken studio plan packets written run written_then heard
 
 -- and a reading at the time of the close, if it is told
-pub record HasComeToClose (studio : Studio) (plan : PlanView) (closing : Option ℕ) (first : Option (List ℕ)) (written : Option (List ℕ)) (run : Run) (written_then : Option (List ℕ)) : Type 0 where
+pub record HasComeToClose (studio : Studio) (plan : PlanView) (closing : Option ℕ) (first : Option (List ℕ)) (written : Option (List ℕ)) (run : Run) (written_then : Option (List ℕ)) (heard : Hearing) : Type 0 where
   pub packets : List PacketView
   pub told : IfSome first (λ file. HasPackets file packets)
-  pub replayed : HasReplayed studio (closed_events studio plan packets closing) written run written_then
+  pub replayed : HasReplayed studio (closed_events studio plan packets closing) written run written_then heard
 
 -- a file's fault is the one behind its packets
 abbrev pub IsFileFault : List ℕ → List PacketView → ReaderFault → Type 0
@@ -95,39 +113,54 @@ IsReason file packets Full = Unit {0}
 IsReason file packets Write = Unit {0}
 
 -- a fault came among the events of a file's first packets, or of a close behind them
-pub record StopsFile (studio : Studio) (plan : PlanView) (first : Option (List ℕ)) (written : Option (List ℕ)) (run : Run) (written_then : Option (List ℕ)) (fault : ReplayFault) : Type 0 where
+pub record StopsFile (studio : Studio) (plan : PlanView) (first : Option (List ℕ)) (written : Option (List ℕ)) (run : Run) (written_then : Option (List ℕ)) (heard : Hearing) (fault : ReplayFault) : Type 0 where
   pub packets : List PacketView
   pub closing : Option ℕ
   pub told : IfSome first (λ file. BeginsWith file packets × IsReason file packets fault)
-  pub stops : Stops studio (closed_events studio plan packets closing) written run written_then fault
+  pub stops : Stops studio (closed_events studio plan packets closing) written run written_then heard fault
 
--- the report of a file's events was written, with a close at this time, if one is told; the file has no fault
-pub record WritesReplay (studio : Studio) (plan : PlanView) (closing : Option ℕ) (left : Option (List ℕ)) (written written_then : Option (List ℕ)) : Type 0 where
+-- a listener was told of all these events, and of exactly the datagrams that they give
+pub record HasHeardAll (studio : Studio) (events : List TraceEvent) (heard : Hearing) : Type 0 where
+  pub datagrams : List (List ℕ)
+  pub given : AreDatagrams studio events datagrams
+  pub told : heard events datagrams
+
+-- the report of a file's events was written, with a close at this time, if one is told, and a listener was told of them; the file has no fault
+pub record WritesReplay (studio : Studio) (plan : PlanView) (closing : Option ℕ) (left : Option (List ℕ)) (written written_then : Option (List ℕ)) (heard : Hearing) : Type 0 where
   pub packets : List PacketView
   pub told : IfSome left (λ file. HasPackets file packets)
   pub writes : WritesEvents studio IsReport (replay_events studio plan packets closing) written written_then
+  pub hears : HasHeardAll studio (replay_events studio plan packets closing) heard
 
 -- of the report of events a part from the front was written: of its datagrams, or of all
-abbrev pub BreaksReport : Studio → List TraceEvent → Option (List ℕ) → Option (List ℕ) → Type 0
-BreaksReport studio events written written_then =
-    BreaksAt studio events written written_then ⊎ ((report : List ℕ) → IsReport studio events report → BreaksOff written [] written_then report)
+abbrev pub BreaksReport : Studio → List TraceEvent → Option (List ℕ) → Option (List ℕ) → Hearing → Type 0
+BreaksReport studio events written written_then heard =
+    BreaksAt studio events written written_then heard
+    ⊎ (((report : List ℕ) → IsReport studio events report → BreaksOff written [] written_then report) × HasHeardAll studio events heard)
 
 -- a part from the front of it was: of the datagrams of its first events, or of all
-pub record WritesFront (studio : Studio) (plan : PlanView) (left : Option (List ℕ)) (written written_then : Option (List ℕ)) (fault : ReplayFault) : Type 0 where
+pub record WritesFront (studio : Studio) (plan : PlanView) (left : Option (List ℕ)) (written written_then : Option (List ℕ)) (heard : Hearing) (fault : ReplayFault) : Type 0 where
   pub packets : List PacketView
   pub told : IfSome left (λ file. BeginsWith file packets × IsReason file packets fault)
   pub closing : Option ℕ
   pub events : List TraceEvent
   pub first : AreFirst events (replay_events studio plan packets closing)
-  pub front : BreaksReport studio events written written_then
+  pub front : BreaksReport studio events written written_then heard
 
 -- why the report was not written: memory was refused before, or a fault came after a part of it
-abbrev pub BreaksOffReplay : Studio → PlanView → Option (List ℕ) → Option (List ℕ) → Option (List ℕ) → ReplayFault → Type 0
-BreaksOffReplay studio plan left written written_then Memory = written_then ≡ written
-BreaksOffReplay studio plan left written written_then (Capture fault) = WritesFront studio plan left written written_then (Capture fault)
-BreaksOffReplay studio plan left written written_then (RunOf fault) = WritesFront studio plan left written written_then (RunOf fault)
-BreaksOffReplay studio plan left written written_then Full = WritesFront studio plan left written written_then Full
-BreaksOffReplay studio plan left written written_then Write = WritesFront studio plan left written written_then Write
+abbrev pub BreaksOffReplay : Studio → PlanView → Option (List ℕ) → Option (List ℕ) → Option (List ℕ) → Hearing → ReplayFault → Type 0
+BreaksOffReplay studio plan left written written_then heard Memory = (written_then ≡ written) × heard [] []
+BreaksOffReplay studio plan left written written_then heard (Capture fault) = WritesFront studio plan left written written_then heard (Capture fault)
+BreaksOffReplay studio plan left written written_then heard (RunOf fault) = WritesFront studio plan left written written_then heard (RunOf fault)
+BreaksOffReplay studio plan left written written_then heard Full = WritesFront studio plan left written written_then heard Full
+BreaksOffReplay studio plan left written written_then heard Write = WritesFront studio plan left written written_then heard Write
+
+-- behind a fault what was held is written: all of it, or a part, which is a fault of its own; nothing behind a write that failed
+abbrev pub EndsBehind : List ℕ → Option (List ℕ) → Option (List ℕ) → ReplayFault → ReplayFault → Type 0
+EndsBehind held written written_then fault result =
+    ((fault ≡ Write) × (result ≡ Write) × (written_then ≡ written))
+    ⊎ ((fault ≢ Write) × (((result ≡ fault) × Appends written written_then held)
+    ⊎ ((result ≡ Write) × ((n : ℕ) × (n < length held) × Appends written written_then (take n held)))))
 
 -- an event is at fault, or there are too many
 abbrev pub IsRun : ReplayFault → Type 0
@@ -149,4 +182,4 @@ IsOwn Write = Unit {0}
 pub record CanClose (studio : Studio) (run : Run) (written_then : Option (List ℕ)) : Type 0 where
   pub events : List TraceEvent
   pub written : Option (List ℕ)
-  pub replayed : HasReplayed studio events written run written_then
+  pub replayed : HasReplayed studio events written run written_then (λ _ _. ⊤)

@@ -14,6 +14,7 @@ ghost use Rattle.studio_session.specs.Fault.{time_at};
 ghost use Rattle.studio_engine.specs.Session.{turned};
 
 use crate::fault::ReplayFault;
+use crate::listener::Listener;
 use crate::plan::{Plan, Target};
 use crate::run::Run;
 use crate::turn::write_turn;
@@ -27,51 +28,53 @@ use studio_session::StudioFault;
 
 impl Run {
     /// Takes the events of what is left of a capture, up to its end.
-    pub(crate) fn go_over<R: Read, W: Write>(
+    pub(crate) fn go_over<R: Read, W: Write, L: Listener>(
         &mut self,
         plan: &Plan<'_>,
         parts: &mut Parts,
         window: &mut Window,
         reader: &mut R,
         writer: &mut W,
+        listener: &mut L,
     ) -> Result<(), ReplayFault>
-        ensures ok { OnOk result ((studio : Studio) (first : Option (List ℕ)) (written : Option (List ℕ))
-            → IsReplaying studio (plan_view plan.now) first written self.old parts.old (octets_of window.old) window.old.ended (R.remaining reader.old) (W.contents writer.old)
-            → HasGoneOver studio (plan_view plan.now) first written self.new (W.contents writer.new)) }
-        ensures fault { IfErr result (λ fault. (studio : Studio) (first : Option (List ℕ)) (written : Option (List ℕ))
-            → IsReplaying studio (plan_view plan.now) first written self.old parts.old (octets_of window.old) window.old.ended (R.remaining reader.old) (W.contents writer.old)
-            → StopsFile studio (plan_view plan.now) first written self.new (W.contents writer.new) fault) }
+        ensures ok { OnOk result ((studio : Studio) (first : Option (List ℕ)) (written : Option (List ℕ)) (begun : L)
+            → IsReplaying studio (plan_view plan.now) first written self.old parts.old (octets_of window.old) window.old.ended (R.remaining reader.old) (W.contents writer.old) (L.heard begun listener.old)
+            → HasGoneOver studio (plan_view plan.now) first written self.new (W.contents writer.new) (L.heard begun listener.new)) }
+        ensures fault { IfErr result (λ fault. (studio : Studio) (first : Option (List ℕ)) (written : Option (List ℕ)) (begun : L)
+            → IsReplaying studio (plan_view plan.now) first written self.old parts.old (octets_of window.old) window.old.ended (R.remaining reader.old) (W.contents writer.old) (L.heard begun listener.old)
+            → StopsFile studio (plan_view plan.now) first written self.new (W.contents writer.new) (L.heard begun listener.new) fault) }
     {
         'parts: for _ in 0..u64::MAX {
             if !has_next(parts, window, reader)? {
                 return Ok(());
             }
-            let len = self.take_next(plan, parts, window, writer)?;
+            let len = self.take_next(plan, parts, window, writer, listener)?;
             window.pass(len);
         }
         Err(ReplayFault::Full)
     }
 
     /// Takes the events of what comes next, and answers its length.
-    fn take_next<W: Write>(
+    fn take_next<W: Write, L: Listener>(
         &mut self,
         plan: &Plan<'_>,
         parts: &mut Parts,
         window: &Window,
         writer: &mut W,
+        listener: &mut L,
     ) -> Result<usize, ReplayFault>
         requires next { IsNext parts.old (octets_of window.now) window.now.ended }
         ensures len { IfOk result (λ len. len ≤ length (octets_of window.now)) }
-        ensures ok { IfOk result (λ len. (studio : Studio) (first : Option (List ℕ)) (written : Option (List ℕ)) (left : Option (List ℕ))
-            → IsReplaying studio (plan_view plan.now) first written self.old parts.old (octets_of window.now) window.now.ended left (W.contents writer.old)
-            → IsReplaying studio (plan_view plan.now) first written self.new parts.new (drop len (octets_of window.now)) window.now.ended left (W.contents writer.new)) }
-        ensures fault { IfErr result (λ fault. (studio : Studio) (first : Option (List ℕ)) (written : Option (List ℕ)) (left : Option (List ℕ))
-            → IsReplaying studio (plan_view plan.now) first written self.old parts.old (octets_of window.now) window.now.ended left (W.contents writer.old)
-            → StopsFile studio (plan_view plan.now) first written self.new (W.contents writer.new) fault) }
+        ensures ok { IfOk result (λ len. (studio : Studio) (first : Option (List ℕ)) (written : Option (List ℕ)) (begun : L) (left : Option (List ℕ))
+            → IsReplaying studio (plan_view plan.now) first written self.old parts.old (octets_of window.now) window.now.ended left (W.contents writer.old) (L.heard begun listener.old)
+            → IsReplaying studio (plan_view plan.now) first written self.new parts.new (drop len (octets_of window.now)) window.now.ended left (W.contents writer.new) (L.heard begun listener.new)) }
+        ensures fault { IfErr result (λ fault. (studio : Studio) (first : Option (List ℕ)) (written : Option (List ℕ)) (begun : L) (left : Option (List ℕ))
+            → IsReplaying studio (plan_view plan.now) first written self.old parts.old (octets_of window.now) window.now.ended left (W.contents writer.old) (L.heard begun listener.old)
+            → StopsFile studio (plan_view plan.now) first written self.new (W.contents writer.new) (L.heard begun listener.new) fault) }
     {
         match next(parts, window) {
             Ok(part) => {
-                self.take_part(plan, &part, writer)?;
+                self.take_part(plan, &part, writer, listener)?;
                 Ok(part.len)
             }
             Err(fault) => Err(ReplayFault::Capture(ReaderFault::Capture(fault))),
@@ -79,58 +82,61 @@ impl Run {
     }
 
     /// Takes the events of a record or a block: those of its packet, if it has one.
-    fn take_part<W: Write>(
+    fn take_part<W: Write, L: Listener>(
         &mut self,
         plan: &Plan<'_>,
         part: &Part<'_>,
         writer: &mut W,
+        listener: &mut L,
     ) -> Result<(), ReplayFault>
-        ensures ok { OnOk result ((studio : Studio) (packets : List PacketView) (written : Option (List ℕ)) → HasTaken studio (plan_view plan.now) packets written self.old (W.contents writer.old)
-            → HasTaken studio (plan_view plan.now) (packets ++ packets_in part.now) written self.new (W.contents writer.new)) }
-        ensures fault { IfErr result (λ fault. (studio : Studio) (packets : List PacketView) (written : Option (List ℕ)) → HasTaken studio (plan_view plan.now) packets written self.old (W.contents writer.old)
-            → Stops studio (events_of studio (plan_view plan.now) (packets ++ packets_in part.now)) written self.new (W.contents writer.new) fault) }
+        ensures ok { OnOk result ((studio : Studio) (packets : List PacketView) (written : Option (List ℕ)) (begun : L) → HasTaken studio (plan_view plan.now) packets written self.old (W.contents writer.old) (L.heard begun listener.old)
+            → HasTaken studio (plan_view plan.now) (packets ++ packets_in part.now) written self.new (W.contents writer.new) (L.heard begun listener.new)) }
+        ensures fault { IfErr result (λ fault. (studio : Studio) (packets : List PacketView) (written : Option (List ℕ)) (begun : L) → HasTaken studio (plan_view plan.now) packets written self.old (W.contents writer.old) (L.heard begun listener.old)
+            → Stops studio (events_of studio (plan_view plan.now) (packets ++ packets_in part.now)) written self.new (W.contents writer.new) (L.heard begun listener.new) fault) }
         ensures kind { IfErr result (λ fault. IsOwn fault) }
     {
         match part.packet {
-            Some(packet) => self.take(plan, &packet, writer),
+            Some(packet) => self.take(plan, &packet, writer, listener),
             None => Ok(()),
         }
     }
 
     /// Takes the events of a packet.
-    fn take<W: Write>(
+    fn take<W: Write, L: Listener>(
         &mut self,
         plan: &Plan<'_>,
         packet: &Packet<'_>,
         writer: &mut W,
+        listener: &mut L,
     ) -> Result<(), ReplayFault>
-        ensures ok { OnOk result ((studio : Studio) (events : List TraceEvent) (written : Option (List ℕ)) → HasReplayed studio events written self.old (W.contents writer.old)
-            → HasReplayed studio (events_with studio.open_at (opening_of (plan_view plan.now)) self.old.clock events (packet_view packet.now) (target_of (plan_view plan.now) (packet_view packet.now))) written self.new (W.contents writer.new)) }
+        ensures ok { OnOk result ((studio : Studio) (events : List TraceEvent) (written : Option (List ℕ)) (begun : L) → HasReplayed studio events written self.old (W.contents writer.old) (L.heard begun listener.old)
+            → HasReplayed studio (events_with studio.open_at (opening_of (plan_view plan.now)) self.old.clock events (packet_view packet.now) (target_of (plan_view plan.now) (packet_view packet.now))) written self.new (W.contents writer.new) (L.heard begun listener.new)) }
         ensures kind { IfErr result (λ fault. IsOwn fault) }
         ensures clock { OnOk result (self.new.clock ≡ clock_past self.old.clock (packet_view packet.now) (target_of (plan_view plan.now) (packet_view packet.now))) }
-        ensures fault { IfErr result (λ fault. (studio : Studio) (events : List TraceEvent) (written : Option (List ℕ)) → HasReplayed studio events written self.old (W.contents writer.old)
-            → Stops studio (events_with studio.open_at (opening_of (plan_view plan.now)) self.old.clock events (packet_view packet.now) (target_of (plan_view plan.now) (packet_view packet.now))) written self.new (W.contents writer.new) fault) }
+        ensures fault { IfErr result (λ fault. (studio : Studio) (events : List TraceEvent) (written : Option (List ℕ)) (begun : L) → HasReplayed studio events written self.old (W.contents writer.old) (L.heard begun listener.old)
+            → Stops studio (events_with studio.open_at (opening_of (plan_view plan.now)) self.old.clock events (packet_view packet.now) (target_of (plan_view plan.now) (packet_view packet.now))) written self.new (W.contents writer.new) (L.heard begun listener.new) fault) }
     {
         let Some(target) = plan.target(packet) else {
             return Ok(());
         };
-        self.read(plan.opening(), packet.time, writer)?;
-        self.arrive(target, octets_in(packet))
+        self.read(plan.opening(), packet.time, writer, listener)?;
+        self.arrive(target, octets_in(packet), listener)
     }
 
     /// Reads the clock, counted from an opening, at a time. A reading that isn't later is no event.
-    pub(crate) fn read<W: Write>(
+    pub(crate) fn read<W: Write, L: Listener>(
         &mut self,
         from: u64,
         time: Option<u64>,
         writer: &mut W,
+        listener: &mut L,
     ) -> Result<(), ReplayFault>
-        ensures ok { OnOk result ((studio : Studio) (events : List TraceEvent) (written : Option (List ℕ)) → HasReplayed studio events written self.old (W.contents writer.old)
-            → HasReplayed studio (read_at studio.open_at from events self.old.clock.reading (clock_with self.old.clock time).reading) written self.new (W.contents writer.new)) }
+        ensures ok { OnOk result ((studio : Studio) (events : List TraceEvent) (written : Option (List ℕ)) (begun : L) → HasReplayed studio events written self.old (W.contents writer.old) (L.heard begun listener.old)
+            → HasReplayed studio (read_at studio.open_at from events self.old.clock.reading (clock_with self.old.clock time).reading) written self.new (W.contents writer.new) (L.heard begun listener.new)) }
         ensures kind { IfErr result (λ fault. IsOwn fault) }
         ensures clock { self.new.clock ≡ clock_with self.old.clock time }
-        ensures fault { IfErr result (λ fault. (studio : Studio) (events : List TraceEvent) (written : Option (List ℕ)) → HasReplayed studio events written self.old (W.contents writer.old)
-            → Stops studio (read_at studio.open_at from events self.old.clock.reading (clock_with self.old.clock time).reading) written self.new (W.contents writer.new) fault) }
+        ensures fault { IfErr result (λ fault. (studio : Studio) (events : List TraceEvent) (written : Option (List ℕ)) (begun : L) → HasReplayed studio events written self.old (W.contents writer.old) (L.heard begun listener.old)
+            → Stops studio (read_at studio.open_at from events self.old.clock.reading (clock_with self.old.clock time).reading) written self.new (W.contents writer.new) (L.heard begun listener.new) fault) }
     {
         let earlier = self.clock.reading();
         self.clock.read(time);
@@ -138,17 +144,23 @@ impl Run {
         if reading <= earlier {
             return Ok(());
         }
-        self.turn(from, reading, writer)
+        self.turn(from, reading, writer, listener)
     }
 
     /// Moves the engine on to a reading. One that repeats its time is no event.
-    fn turn<W: Write>(&mut self, from: u64, reading: u64, writer: &mut W) -> Result<(), ReplayFault>
-        ensures ok { OnOk result ((studio : Studio) (events : List TraceEvent) (written : Option (List ℕ)) → HasReplayed studio events written self.old (W.contents writer.old)
-            → HasReplayed studio (turned (time_at studio.open_at events) (pos (from + reading)) events) written self.new (W.contents writer.new)) }
+    fn turn<W: Write, L: Listener>(
+        &mut self,
+        from: u64,
+        reading: u64,
+        writer: &mut W,
+        listener: &mut L,
+    ) -> Result<(), ReplayFault>
+        ensures ok { OnOk result ((studio : Studio) (events : List TraceEvent) (written : Option (List ℕ)) (begun : L) → HasReplayed studio events written self.old (W.contents writer.old) (L.heard begun listener.old)
+            → HasReplayed studio (turned (time_at studio.open_at events) (pos (from + reading)) events) written self.new (W.contents writer.new) (L.heard begun listener.new)) }
         ensures kind { IfErr result (λ fault. IsOwn fault) }
         ensures clock { self.new.clock ≡ self.old.clock }
-        ensures fault { IfErr result (λ fault. (studio : Studio) (events : List TraceEvent) (written : Option (List ℕ)) → HasReplayed studio events written self.old (W.contents writer.old)
-            → Stops studio (turned (time_at studio.open_at events) (pos (from + reading)) events) written self.new (W.contents writer.new) fault) }
+        ensures fault { IfErr result (λ fault. (studio : Studio) (events : List TraceEvent) (written : Option (List ℕ)) (begun : L) → HasReplayed studio events written self.old (W.contents writer.old) (L.heard begun listener.old)
+            → Stops studio (turned (time_at studio.open_at events) (pos (from + reading)) events) written self.new (W.contents writer.new) (L.heard begun listener.new) fault) }
     {
         let time = self.engine.time();
         let Some(now) = instants_at(from, reading) else {
@@ -157,17 +169,23 @@ impl Run {
         if refuses(&self.engine, now) {
             return Err(ReplayFault::Run(StudioFault::Clock(self.count)));
         }
-        write_turn(&mut self.engine, now, &mut self.text, writer)?;
+        write_turn(&mut self.engine, now, &mut self.text, writer, listener)?;
+        tell_reading(listener, time, now);
         self.count = self.count.saturating_add(usize::from(time != now));
         Ok(())
     }
 
-    /// Takes a datagram that goes to a path.
-    fn arrive(&mut self, target: Target, octets: &[u8]) -> Result<(), ReplayFault>
-        ensures ok { OnOk result ((studio : Studio) (events : List TraceEvent) (written written_then : Option (List ℕ)) → HasReplayed studio events written self.old written_then
-            → HasReplayed studio (events ++ Arrival target.stream target.path octets.now ∷ []) written self.new written_then) }
-        ensures fault { IfErr result (λ fault. (studio : Studio) (events : List TraceEvent) (written written_then : Option (List ℕ)) → HasReplayed studio events written self.old written_then
-            → Stops studio (events ++ Arrival target.stream target.path octets.now ∷ []) written self.new written_then fault) }
+    /// Takes a datagram that goes to a path, and tells of it.
+    fn arrive<L: Listener>(
+        &mut self,
+        target: Target,
+        octets: &[u8],
+        listener: &mut L,
+    ) -> Result<(), ReplayFault>
+        ensures ok { OnOk result ((studio : Studio) (events : List TraceEvent) (written written_then : Option (List ℕ)) (begun : L) → HasReplayed studio events written self.old written_then (L.heard begun listener.old)
+            → HasReplayed studio (events ++ Arrival target.stream target.path octets.now ∷ []) written self.new written_then (L.heard begun listener.new)) }
+        ensures fault { IfErr result (λ fault. (studio : Studio) (events : List TraceEvent) (written written_then : Option (List ℕ)) (begun : L) → HasReplayed studio events written self.old written_then (L.heard begun listener.old)
+            → Stops studio (events ++ Arrival target.stream target.path octets.now ∷ []) written self.new written_then (L.heard begun listener.new) fault) }
         ensures kind { IfErr result (λ fault. IsRun fault) }
         ensures clock { self.new.clock ≡ self.old.clock }
     {
@@ -176,6 +194,7 @@ impl Run {
         };
         match self.engine.arrive(target.stream, path, octets) {
             Ok(_receipt) => {
+                listener.arrived(target.stream, path, octets);
                 self.count = self.count.saturating_add(1);
                 Ok(())
             }
@@ -202,6 +221,15 @@ fn instants_at(from: u64, reading: u64) -> Option<i64>
 {
     let instants = from.checked_add(reading)?;
     i64::try_from(instants).ok()
+}
+
+/// Tells of a reading that is not the one before.
+fn tell_reading<L: Listener>(listener: &mut L, before: i64, now: i64)
+    ensures { (begun : L) (events : List TraceEvent) (datagrams : List (List ℕ)) → L.heard begun listener.old events datagrams → L.heard begun listener.new (turned before now events) datagrams }
+{
+    if before != now {
+        listener.read(now);
+    }
 }
 
 /// Whether the clock of an engine that is open refuses a reading.

@@ -5,12 +5,13 @@ ghost use Rattle.studio_run.specs.Play.{WritesEvents};
 ghost use Rattle.studio_run.specs.StudioReport.{IsReport};
 ghost use Rattle.lane_align.specs.Lane.{natural};
 ghost use Rattle.capture_reader.specs.Window.{octets_of};
-ghost use Rattle.capture_replay.specs.Plan.{Flows, PlanView, clock_before, places_of, plan_view};
-ghost use Rattle.capture_replay.specs.Replay.{BreaksOffReplay, BreaksReport, CanClose, HasComeToClose, HasReplayed, IsReplaying, StopsFile, WritesReplay};
+ghost use Rattle.capture_replay.specs.Plan.{Flows, clock_before, places_of, plan_view};
+ghost use Rattle.capture_replay.specs.Replay.{BreaksOffReplay, BreaksReport, CanClose, EndsBehind, HasBegun, HasComeToClose, HasHeardAll, HasReplayed, IsReplaying, StopsFile, WritesReplay};
 ghost use Rattle.studio_spec.specs.Studio.{Studio};
 
 use crate::counts::write_all_counts;
 use crate::fault::ReplayFault;
+use crate::listener::Listener;
 use crate::plan::Plan;
 use crate::run::Run;
 use crate::turn::write_rest;
@@ -24,37 +25,50 @@ use studio_run::{TextBuffer, WriteFault};
 use studio_spec::StudioSpec;
 
 /// Goes over the capture that a reader gives, and writes the report of what it says by these routes: the datagrams of all
-/// blocks that are ready, and the counts of each stream. A fault ends it there: after some datagrams, and without counts.
-pub fn replay<R: Read, W: Write>(
+/// blocks that are ready, and the counts of each stream. A listener is told of these datagrams, and of all events. A fault
+/// ends both there: after some datagrams, and without counts.
+pub fn replay<R: Read, W: Write, L: Listener>(
     alloc: Global,
     spec: &StudioSpec,
     routes: &[Route],
     reader: &mut R,
     writer: &mut W,
+    listener: &mut L,
 ) -> Result<(), ReplayFault>
-    ensures ok { OnOk result (WritesReplay spec.now (Flows routes.now) None (R.remaining reader.old) (W.contents writer.old) (W.contents writer.new)) }
-    ensures fault { IfErr result (λ fault. BreaksOffReplay spec.now (Flows routes.now) (R.remaining reader.old) (W.contents writer.old) (W.contents writer.new) fault) }
+    requires fresh { L.heard listener.old listener.old [] [] }
+    ensures ok { OnOk result (WritesReplay spec.now (Flows routes.now) None (R.remaining reader.old) (W.contents writer.old) (W.contents writer.new) (L.heard listener.old listener.new)) }
+    ensures fault { IfErr result (λ fault. BreaksOffReplay spec.now (Flows routes.now) (R.remaining reader.old) (W.contents writer.old) (W.contents writer.new) (L.heard listener.old listener.new) fault) }
 {
-    replay_by(alloc, spec, &Plan::Flows(routes), None, reader, writer)
+    replay_by(
+        alloc,
+        spec,
+        &Plan::Flows(routes),
+        None,
+        reader,
+        writer,
+        listener,
+    )
 }
 
 /// The same of a record of the studio's own run, by the places of its paths: interfaces count through the paths of all
 /// streams, readings are nanoseconds from the studio's opening on, and so is the time of the close, if it is known.
-pub fn replay_record<R: Read, W: Write>(
+pub fn replay_record<R: Read, W: Write, L: Listener>(
     alloc: Global,
     spec: &StudioSpec,
     closing: Option<u64>,
     reader: &mut R,
     writer: &mut W,
+    listener: &mut L,
 ) -> Result<(), ReplayFault>
-    ensures ok { OnOk result (WritesReplay spec.now (places_of spec.now) closing (R.remaining reader.old) (W.contents writer.old) (W.contents writer.new)) }
-    ensures fault { IfErr result (λ fault. BreaksOffReplay spec.now (places_of spec.now) (R.remaining reader.old) (W.contents writer.old) (W.contents writer.new) fault) }
+    requires fresh { L.heard listener.old listener.old [] [] }
+    ensures ok { OnOk result (WritesReplay spec.now (places_of spec.now) closing (R.remaining reader.old) (W.contents writer.old) (W.contents writer.new) (L.heard listener.old listener.new)) }
+    ensures fault { IfErr result (λ fault. BreaksOffReplay spec.now (places_of spec.now) (R.remaining reader.old) (W.contents writer.old) (W.contents writer.new) (L.heard listener.old listener.new) fault) }
 {
     let plan = Plan::Places {
         streams: spec.streams(),
         open_at: instants_of(spec.open_at()),
     };
-    replay_by(alloc, spec, &plan, closing, reader, writer)
+    replay_by(alloc, spec, &plan, closing, reader, writer, listener)
 }
 
 /// A time that is none before 0.
@@ -65,22 +79,32 @@ fn instants_of(time: i64) -> u64
 }
 
 /// Writes the report of a capture by a plan, with a close at a time, if that is known.
-fn replay_by<R: Read, W: Write>(
+fn replay_by<R: Read, W: Write, L: Listener>(
     alloc: Global,
     spec: &StudioSpec,
     plan: &Plan<'_>,
     closing: Option<u64>,
     reader: &mut R,
     writer: &mut W,
+    listener: &mut L,
 ) -> Result<(), ReplayFault>
-    ensures ok { OnOk result (WritesReplay spec.now (plan_view plan.now) closing (R.remaining reader.old) (W.contents writer.old) (W.contents writer.new)) }
-    ensures fault { IfErr result (λ fault. BreaksOffReplay spec.now (plan_view plan.now) (R.remaining reader.old) (W.contents writer.old) (W.contents writer.new) fault) }
+    requires fresh { L.heard listener.old listener.old [] [] }
+    ensures ok { OnOk result (WritesReplay spec.now (plan_view plan.now) closing (R.remaining reader.old) (W.contents writer.old) (W.contents writer.new) (L.heard listener.old listener.new)) }
+    ensures fault { IfErr result (λ fault. BreaksOffReplay spec.now (plan_view plan.now) (R.remaining reader.old) (W.contents writer.old) (W.contents writer.new) (L.heard listener.old listener.new) fault) }
 {
     let mut run = Run::new(alloc, spec, plan)?;
     let (mut window, mut parts) = open(alloc, reader)?;
-    match run.go_to_close(plan, closing, &mut parts, &mut window, reader, writer) {
+    match run.go_to_close(
+        plan,
+        closing,
+        &mut parts,
+        &mut window,
+        reader,
+        writer,
+        listener,
+    ) {
         Ok(()) => {
-            run.close(spec, writer)?;
+            run.close(spec, writer, listener)?;
             Ok(())
         }
         Err(fault) => Err(run.break_off(fault, writer)),
@@ -90,7 +114,7 @@ fn replay_by<R: Read, W: Write>(
 impl Run {
     /// Before the first event.
     fn new(alloc: Global, spec: &StudioSpec, plan: &Plan<'_>) -> Result<Run, AllocError>
-        ensures stands { IfOk result (λ run. (written : Option (List ℕ)) → HasReplayed spec.now [] written run written) }
+        ensures begun { IfOk result (λ run. HasBegun spec.now run) }
         ensures clock { IfOk result (λ run. run.clock ≡ clock_before (plan_view plan.now)) }
     {
         let engine = Engine::new(alloc, spec)?;
@@ -104,7 +128,7 @@ impl Run {
     }
 
     /// Takes the events of what is left of a capture, and a reading at the time of the close.
-    fn go_to_close<R: Read, W: Write>(
+    fn go_to_close<R: Read, W: Write, L: Listener>(
         &mut self,
         plan: &Plan<'_>,
         closing: Option<u64>,
@@ -112,32 +136,41 @@ impl Run {
         window: &mut Window,
         reader: &mut R,
         writer: &mut W,
+        listener: &mut L,
     ) -> Result<(), ReplayFault>
-        ensures ok { OnOk result ((studio : Studio) (first : Option (List ℕ)) (written : Option (List ℕ))
-            → IsReplaying studio (plan_view plan.now) first written self.old parts.old (octets_of window.old) window.old.ended (R.remaining reader.old) (W.contents writer.old)
-            → HasComeToClose studio (plan_view plan.now) closing first written self.new (W.contents writer.new)) }
-        ensures fault { IfErr result (λ fault. (studio : Studio) (first : Option (List ℕ)) (written : Option (List ℕ))
-            → IsReplaying studio (plan_view plan.now) first written self.old parts.old (octets_of window.old) window.old.ended (R.remaining reader.old) (W.contents writer.old)
-            → StopsFile studio (plan_view plan.now) first written self.new (W.contents writer.new) fault) }
+        ensures ok { OnOk result ((studio : Studio) (first : Option (List ℕ)) (written : Option (List ℕ)) (begun : L)
+            → IsReplaying studio (plan_view plan.now) first written self.old parts.old (octets_of window.old) window.old.ended (R.remaining reader.old) (W.contents writer.old) (L.heard begun listener.old)
+            → HasComeToClose studio (plan_view plan.now) closing first written self.new (W.contents writer.new) (L.heard begun listener.new)) }
+        ensures fault { IfErr result (λ fault. (studio : Studio) (first : Option (List ℕ)) (written : Option (List ℕ)) (begun : L)
+            → IsReplaying studio (plan_view plan.now) first written self.old parts.old (octets_of window.old) window.old.ended (R.remaining reader.old) (W.contents writer.old) (L.heard begun listener.old)
+            → StopsFile studio (plan_view plan.now) first written self.new (W.contents writer.new) (L.heard begun listener.new) fault) }
     {
-        self.go_over(plan, parts, window, reader, writer)?;
-        self.read(plan.opening(), closing, writer)
+        self.go_over(plan, parts, window, reader, writer, listener)?;
+        self.read(plan.opening(), closing, writer, listener)
     }
 
     /// Ends the report.
-    fn close<W: Write>(self, spec: &StudioSpec, writer: &mut W) -> Result<(), WriteFault>
+    fn close<W: Write, L: Listener>(
+        self,
+        spec: &StudioSpec,
+        writer: &mut W,
+        listener: &mut L,
+    ) -> Result<(), WriteFault>
         requires { CanClose spec.now self (W.contents writer.old) }
-        ensures ok { OnOk result ((events : List TraceEvent) (written : Option (List ℕ)) → HasReplayed spec.now events written self (W.contents writer.old)
+        ensures ok { OnOk result ((events : List TraceEvent) (written : Option (List ℕ)) (begun : L) → HasReplayed spec.now events written self (W.contents writer.old) (L.heard begun listener.old)
             → WritesEvents spec.now IsReport (events ++ Closing ∷ []) written (W.contents writer.new)) }
-        ensures fault { OnErr result ((events : List TraceEvent) (written : Option (List ℕ)) → HasReplayed spec.now events written self (W.contents writer.old)
-            → BreaksReport spec.now (events ++ Closing ∷ []) written (W.contents writer.new)) }
+        ensures hears { OnOk result ((events : List TraceEvent) (written : Option (List ℕ)) (begun : L) → HasReplayed spec.now events written self (W.contents writer.old) (L.heard begun listener.old)
+            → HasHeardAll spec.now (events ++ Closing ∷ []) (L.heard begun listener.new)) }
+        ensures fault { OnErr result ((events : List TraceEvent) (written : Option (List ℕ)) (begun : L) → HasReplayed spec.now events written self (W.contents writer.old) (L.heard begun listener.old)
+            → BreaksReport spec.now (events ++ Closing ∷ []) written (W.contents writer.new) (L.heard begun listener.new)) }
     {
         let mut engine = self.engine;
         let mut text = self.text;
         let Ok(()) = engine.close() else {
             unreachable!()
         };
-        write_rest(&mut engine, &mut text, writer)?;
+        listener.closed();
+        write_rest(&mut engine, &mut text, writer, listener)?;
         let _all = engine.settled();
         write_all_counts(&mut text, writer, &engine, spec.streams())?;
         text.finish(writer)?;
@@ -146,8 +179,7 @@ impl Run {
 
     /// Ends what is written behind a fault. Answers the fault, or that of a write.
     fn break_off<W: Write>(self, fault: ReplayFault, writer: &mut W) -> ReplayFault
-        ensures { (studio : Studio) (plan : PlanView) (first written : Option (List ℕ)) → StopsFile studio plan first written self (W.contents writer.old) fault
-            → BreaksOffReplay studio plan first written (W.contents writer.new) result }
+        ensures { EndsBehind self.text (W.contents writer.old) (W.contents writer.new) fault result }
     {
         let mut text = self.text;
         match fault {

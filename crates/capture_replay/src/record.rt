@@ -1,12 +1,12 @@
 //! When a live run was opened and closed, as its record says it.
-ghost use Rattle.std.specs.Prelude.{◌≡◌, ◌++◌, ℕ, List, Option, Some, None, IfOk, IfSome};
+ghost use Rattle.std.specs.Prelude.{◌≡◌, ◌∷◌, ◌++◌, [], ℕ, List, Option, Some, None, IfOk, IfSome};
 ghost use Rattle.std.specs.Option.{option_to_list};
 ghost use Rattle.capture_read.specs.declared.mark.RecordMark.{RecordMark as MarkOf};
 ghost use Rattle.capture_read.specs.declared.mark.RecordMark.TheVariants.{Opened};
 ghost use Rattle.capture_read.specs.Marks.{marks_of};
 ghost use Rattle.capture_reader.specs.Window.{octets_of};
 ghost use Rattle.capture_reader.specs.Reader.{HasMarked, IsNext};
-ghost use Rattle.capture_replay.specs.Record.{closing_in, record_by};
+ghost use Rattle.capture_replay.specs.Record.{closing_in, opening_in, record_by};
 
 use capture_read::{Parts, RecordMark};
 use capture_reader::{ReaderFault, Window, has_next, next, open};
@@ -22,36 +22,51 @@ pub struct Record {
     pub closing: Option<u64>,
 }
 
-/// What a file says of a live run's times, if it is a record of one: its first block tells when the studio was opened.
+/// What a file says of a live run's times, if it is a record of one: the first mark in it tells when the studio was opened.
 /// It goes over the file to the close, or to its first fault.
 pub fn record_of<R: Read>(alloc: Global, reader: &mut R) -> Result<Option<Record>, ReaderFault>
-    ensures { IfOk result (λ given. IfSome given (λ r. IfSome (R.remaining reader.old) (λ file. record_by (marks_of file) ≡ Some r))) }
+    ensures { IfOk result (λ given. IfSome (R.remaining reader.old) (λ file. record_by (marks_of file) ≡ given)) }
 {
-    let (mut window, mut parts) = match open(alloc, reader) {
-        Ok(opened) => opened,
-        Err(ReaderFault::Capture(_)) => return Ok(None),
-        Err(fault) => return Err(fault),
-    };
-    if !has_next(&parts, &mut window, reader)? {
-        return Ok(None);
-    }
-    let Some(mark) = next_mark(&mut parts, &mut window) else {
-        return Ok(None);
-    };
-    let Some(open_at) = opened_at(mark) else {
+    let (mut window, mut parts) = open(alloc, reader)?;
+    let Some(open_at) = opening_of(&mut parts, &mut window, reader)? else {
         return Ok(None);
     };
     let closing = close_of(&mut parts, &mut window, reader)?;
     Ok(Some(Record { open_at, closing }))
 }
 
+/// When the studio was opened, by the first mark of what is left of a file that told none so far.
+fn opening_of<R: Read>(
+    parts: &mut Parts,
+    window: &mut Window,
+    reader: &mut R,
+) -> Result<Option<u64>, ReaderFault>
+    ensures opened { IfOk result (λ given. IfSome given (λ open_at. (file : List ℕ) → HasMarked file [] (R.remaining reader.old) parts.old (octets_of window.old) window.old.ended
+        → HasMarked file (Opened open_at ∷ []) (R.remaining reader.new) parts.new (octets_of window.new) window.new.ended)) }
+    ensures none { IfOk result (λ given. given ≡ None → (file : List ℕ) → HasMarked file [] (R.remaining reader.old) parts.old (octets_of window.old) window.old.ended
+        → record_by (marks_of file) ≡ None) }
+{
+    'parts: for _ in 0..u64::MAX {
+        if !has_next(parts, window, reader)? {
+            return Ok(None);
+        }
+        let Some(mark) = next_mark(parts, window) else {
+            return Ok(None);
+        };
+        if let Some(mark) = mark {
+            return Ok(opened_at(mark));
+        }
+    }
+    Err(ReaderFault::Unread)
+}
+
 /// When a mark tells that a studio was opened.
-fn opened_at(mark: Option<RecordMark>) -> Option<u64>
-    ensures { IfSome result (λ open_at. mark ≡ Some (Opened open_at)) }
+fn opened_at(mark: RecordMark) -> Option<u64>
+    ensures { result ≡ opening_in mark }
 {
     match mark {
-        Some(RecordMark::Opened(open_at)) => Some(open_at),
-        _ => None,
+        RecordMark::Opened(open_at) => Some(open_at),
+        RecordMark::Closed(_) => None,
     }
 }
 

@@ -23,8 +23,8 @@ pub enum Asked<'a> {
     Streams(&'a str),
     /// A capture as a trace, or the configuration that fits it.
     Import(&'a str, ImportOptions<'a>),
-    /// The report of a capture: by the configuration at the first path, of the capture at the second.
-    Replay(&'a str, &'a str),
+    /// The report of a capture, by a configuration.
+    Replay(&'a str, ReplayWords<'a>),
     /// A run of a configuration's studio on sockets.
     Live(&'a str, LiveWords<'a>),
 }
@@ -36,6 +36,17 @@ pub struct StreamWords<'a> {
     pub stream: &'a str,
     /// The file's path.
     pub file: &'a str,
+}
+
+/// A capture that is replayed, and what is written beside its report.
+#[derive(Clone, Copy)]
+pub struct ReplayWords<'a> {
+    /// The capture's path.
+    pub file: &'a str,
+    /// The path of the mix's WAV file, if one is asked for.
+    pub wav: Option<&'a str>,
+    /// The path of the picture, if one is asked for.
+    pub chart: Option<&'a str>,
 }
 
 /// What is imported of a capture.
@@ -56,6 +67,8 @@ pub struct LiveWords<'a> {
     pub instants: Option<i64>,
     /// Every how many seconds each stream's counts are told; if none, only at the end.
     pub stats: Option<u32>,
+    /// The port at which a page shows the run, if one is asked for.
+    pub page: Option<u16>,
     /// Whether it ends where standard input does.
     pub until_eof: bool,
     /// Whether it runs in one thread.

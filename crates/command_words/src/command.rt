@@ -93,7 +93,12 @@ fn import_command<'a>(alloc: Global) -> Result<Command<'a>, AllocError> {
 /// The word of a capture's report.
 fn replay_command<'a>(alloc: Global) -> Result<Command<'a>, AllocError> {
     let about = "Plays a capture of any length, as play does the trace that import writes of it";
-    with_config(alloc, "replay", about)?.arg(capture_arg(alloc))
+    let wav = "Write the mix to this WAV file too";
+    let chart = "Draw what each path gave to each stream to this file too, as an SVG";
+    with_config(alloc, "replay", about)?
+        .arg(capture_arg(alloc))?
+        .arg(option(alloc, "wav", "FILE", wav))?
+        .arg(option(alloc, "chart", "FILE", chart))
 }
 
 /// The word of a live run.
@@ -102,6 +107,7 @@ fn live_command<'a>(alloc: Global) -> Result<Command<'a>, AllocError> {
         "Receives from sockets, and sends the mix to two ports, at the configuration's addresses or 127.0.0.1";
     let instants = "End after so many sampling instants at 48 kHz, 1 to 1099511627776";
     let stats = "Tell each stream's counts on standard error so often";
+    let page = "Serve a page of the run at this port of 127.0.0.1; at 0 the system picks one";
     let listen_fds = "Take the sockets that were handed over, as by sd_listen_fds(3)";
     let one_thread = "Run in one thread, in place of a worker for each path and stream";
     let record = "Write what was received to this pcapng file, for replay; of a run in one thread";
@@ -113,6 +119,7 @@ fn live_command<'a>(alloc: Global) -> Result<Command<'a>, AllocError> {
             1..=MOST_INSTANTS,
         )))?
         .arg(option(alloc, "stats", "SECONDS", stats).value_parser(value_parser!(u32).range(1..)))?
+        .arg(option(alloc, "page", "PORT", page).value_parser(value_parser!(u16)))?
         .arg(flag(alloc, "until-eof", "End where standard input does"))?
         .arg(flag(alloc, "listen-fds", listen_fds))?
         .arg(flag(alloc, "one-thread", one_thread))?

@@ -5,5 +5,5 @@ mod asked;
 mod command;
 mod words;
 
-pub use asked::{Asked, ImportOptions, LiveWords, StreamWords};
+pub use asked::{Asked, ImportOptions, LiveWords, ReplayWords, StreamWords};
 pub use words::asked_for;

@@ -1,5 +1,5 @@
 //! From the words to what they ask for.
-use crate::asked::{Asked, ImportOptions, LiveWords, StreamWords};
+use crate::asked::{Asked, ImportOptions, LiveWords, ReplayWords, StreamWords};
 use crate::command::command;
 use clap::{ArgMatches, Error};
 use std::alloc::Global;
@@ -26,7 +26,7 @@ fn asked_of_config<'a>(name: &str, path: &'a str, matches: &ArgMatches<'a>) -> A
         "play" => play_in(path, matches),
         "chart" => Asked::Chart(path),
         "check" => Asked::Check(path),
-        "replay" => Asked::Replay(path, matches.get_str("FILE").unwrap_or(path)),
+        "replay" => Asked::Replay(path, replay_words(path, matches)),
         "live" => Asked::Live(path, live_words(matches)),
         _ => marks_in(path, matches),
     }
@@ -51,6 +51,15 @@ fn play_in<'a>(path: &'a str, matches: &ArgMatches<'a>) -> Asked<'a> {
     }
 }
 
+/// What a capture is replayed to.
+fn replay_words<'a>(config: &'a str, matches: &ArgMatches<'a>) -> ReplayWords<'a> {
+    ReplayWords {
+        file: matches.get_str("FILE").unwrap_or(config),
+        wav: matches.get_str("wav"),
+        chart: matches.get_str("chart"),
+    }
+}
+
 /// What a live run is asked for. Where it opens by International Atomic Time, the system says how far that is ahead if
 /// no word does.
 fn live_words<'a>(matches: &ArgMatches<'a>) -> LiveWords<'a> {
@@ -58,6 +67,7 @@ fn live_words<'a>(matches: &ArgMatches<'a>) -> LiveWords<'a> {
     LiveWords {
         instants: matches.get_one::<i64>("instants"),
         stats: matches.get_one::<u32>("stats"),
+        page: matches.get_one::<u16>("page"),
         until_eof: matches.get_flag("until-eof"),
         one_thread: matches.get_flag("one-thread"),
         listen_fds: matches.get_flag("listen-fds"),

@@ -23,6 +23,6 @@ pub use options::LiveOptions;
 pub use ports::LivePorts;
 pub use recorded::Recorded;
 pub use report::write_report;
-pub use setup::Setup;
+pub use setup::{Setup, StreamName};
 pub use strangers::{Source, Strangers};
 pub use tai::{Opening, TaiOffset, tai_opening};

@@ -4,13 +4,19 @@ use crate::handed::Handed;
 use crate::ports::LivePorts;
 use crate::recorded::Recorded;
 use crate::strangers::Strangers;
+use arrayvec::ArrayString;
 use std::time::Duration;
+
+/// How people call a stream.
+pub type StreamName = ArrayString<64>;
 
 /// What a live run is set up with, beside its studio and its options.
 #[derive(Clone, Copy)]
 pub struct Setup<'a> {
     pub ports: &'a LivePorts,
     pub handed: &'a Handed,
+    /// The name of each stream, if it has one.
+    pub names: &'a [Option<StreamName>],
     /// Where datagrams from elsewhere than a path's source are counted.
     pub strangers: &'a Strangers,
     /// Where it is told what came of the record, if one is asked for.

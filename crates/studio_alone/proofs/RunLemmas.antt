@@ -93,6 +93,30 @@ module _ {F C K T : Type 0} (feed_told : F → List Answer) (clock_told : C → 
         last = refl;
       }
 
+  -- a tap that looked was told nothing
+  pub looked : (old : Desk F C K T) (tap : T) → IsTurned feed_told clock_told sink_handed tap_heard studio all clock before earlier old → Hears (tap_heard old.tap) [] (tap_heard tap)
+      → IsTurned feed_told clock_told sink_handed tap_heard studio all clock before earlier (record old { tap = tap })
+  looked old tap h none =
+      let run = h.run in
+      let told = heard_by studio.open_at (events_by studio.open_at run.rounds) in
+      record {
+        run = record {
+          rounds = run.rounds;
+          datagrams = run.datagrams;
+          stands = run.stands;
+          time = run.time;
+          bounded = run.bounded;
+          clocked = run.clocked;
+          given = run.given;
+          count = run.count;
+          handed = run.handed;
+          heard = subst (λ l. Hears earlier l (tap_heard tap)) (append-nil told) (adds_more earlier (tap_heard old.tap) (tap_heard tap) told [] run.heard none);
+        };
+        front = h.front;
+        answer = h.answer;
+        last = h.last;
+      }
+
   -- what arrived since the last
   pub take-more : (old new : Desk F C K T) (h : IsTurned feed_told clock_told sink_handed tap_heard studio all clock before earlier old) (olds news : List (Vec (Taker F) Global)) (count : ℕ)
       → old.takers.items ≡ olds → new.takers.items ≡ news → new.clock ≡ old.clock → new.sink ≡ old.sink → new.counts ≡ old.counts

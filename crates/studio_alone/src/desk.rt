@@ -70,6 +70,15 @@ impl<F: Feed, C: Clock, K: Sink, T: Tap<F>> Desk<F, C, K, T> {
         self.turn()
     }
 
+    /// Lets the tap look at the engine.
+    fn look(&mut self)
+        ensures on { (studio : Studio) (all : List (List (List Answer))) (clock : List ℤ) (before : Option (List (List ℕ))) (earlier : Option (List Heard))
+            → IsTurned F.told C.told K.handed T.heard studio all clock before earlier self.old → IsTurned F.told C.told K.handed T.heard studio all clock before earlier self.new }
+        ensures takers { self.new.takers ≡ self.old.takers }
+    {
+        self.tap.rests(&self.engine);
+    }
+
     /// Takes what the feeds have, and answers for how many sampling instants the run may rest for them.
     fn take(&mut self, buf: &mut [u8]) -> Result<i64, Stopped>
         requires room { length buf.old ≡ 2048 }
@@ -85,7 +94,7 @@ impl<F: Feed, C: Clock, K: Sink, T: Tap<F>> Desk<F, C, K, T> {
         Ok(most)
     }
 
-    /// Reads the clock, sends what is due by then, rests for so many sampling instants at most, and takes what the feeds
+    /// Reads the clock, sends what is due by then, lets the tap look, rests for so many sampling instants at most, and takes what the feeds
     /// have by the last reading, or by another one where that is old. Answers for how many instants the run may rest
     /// for the feeds; none where all of them had ended before.
     pub(crate) fn round<P: Rest>(
@@ -103,6 +112,7 @@ impl<F: Feed, C: Clock, K: Sink, T: Tap<F>> Desk<F, C, K, T> {
         if have_all_ended(self.takers.as_slice()) {
             return Ok(None);
         }
+        self.look();
         let most = until_deadline(&self.engine, most);
         let is_new = rest.rest(&self.engine, most);
         self.turn_again(is_new)?;

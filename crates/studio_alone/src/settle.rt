@@ -20,7 +20,7 @@ pub(crate) fn settle<F: Feed, C: Clock, K: Sink, T: Tap<F>>(desk: &mut Desk<F, C
     if desk.engine.close().is_err() {
         return false;
     }
-    desk.tap.closed(desk.engine.time());
+    desk.tap.closed(&desk.engine);
     send_rest(&mut desk.engine, &mut desk.sink, &mut desk.counts);
     desk.engine.settled()
 }

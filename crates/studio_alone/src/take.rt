@@ -50,8 +50,8 @@ fn take_one<F: Feed, T: Tap<F>>(
     match taker.feed.next(buf) {
         FeedAnswer::Datagram(count) => {
             taker.in_a_row = 0;
-            engine.arrive(stream, path, &buf[..count])?;
-            tap.arrived(stream, path, engine.time(), &buf[..count], &taker.feed);
+            let receipt = engine.arrive(stream, path, &buf[..count])?;
+            tap.arrived(engine, stream, path, &buf[..count], receipt, &taker.feed);
             Ok(Taken::Datagram)
         }
         FeedAnswer::Nothing => {

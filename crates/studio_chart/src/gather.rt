@@ -8,7 +8,7 @@ use std::alloc::{AllocError, Global};
 
 /// What was seen of a stream, by span, and what its copies had to spare.
 #[derive(Drop)]
-pub(crate) struct Gathered {
+pub struct Gathered {
     pub(crate) bins: Bins,
     pub(crate) spares: Spares,
 }

@@ -1,14 +1,16 @@
 //! What is seen of a stream while its events are taken.
-ghost use Rattle.std.specs.Prelude.{◌≡◌, ◌+◌, ◌<◌, None, length};
+ghost use Rattle.std.specs.Prelude.{◌≡◌, ◌+◌, ◌<◌, None, true, length, IfOk};
 ghost use Rattle.studio_session.specs.Cursor.{IsSameCursor};
 
 use crate::observer::Observer;
 use crate::sighting::{Copied, Kind, Sighting};
 use path_merge::{Fate, MarkKindRef, PacketRef, Path};
+use std::alloc::{AllocError, Global};
 use stream_rules::{StreamSpec, is_taken};
 use studio_session::{
     Cursor, EventSource, MOST_ARRIVAL_OCTETS, Outline, Receipt, ReceptionRef, receive_ref,
 };
+use studio_spec::StudioSpec;
 
 /// The media time of one packet of an epoch, by which those of its others are known.
 #[derive(Clone, Copy)]
@@ -36,43 +38,132 @@ struct View {
     ruler: Option<Ruler>,
 }
 
+/// A stream that is watched, event by event.
+#[derive(Drop)]
+pub struct Watch {
+    pub(crate) cursor: Cursor,
+    /// How many events were taken.
+    place: usize,
+    view: View,
+    pub(crate) ghost counted: { cursor.place ≡ place },
+    pub(crate) ghost settled: { cursor.reading ≡ None },
+}
+
+impl Watch {
+    /// A stream of a studio, before the first event.
+    pub fn new(
+        alloc: Global,
+        spec: &StudioSpec,
+        stream: StreamSpec,
+        number: u8,
+    ) -> Result<Watch, AllocError>
+        ensures first { IfOk result (λ watch. watch.cursor.place ≡ 0) }
+    {
+        let cursor = Cursor::new(alloc, stream, number, spec.open_at())?;
+        Ok(Watch {
+            cursor,
+            place: 0,
+            view: View {
+                time: spec.open_at(),
+                ruler: None,
+            },
+        })
+    }
+
+    /// The stream.
+    pub(crate) fn spec(&self) -> StreamSpec {
+        self.cursor.spec()
+    }
+
+    /// Takes a datagram that came on a path of a stream, and tells what became of its packet if the stream is this one.
+    pub fn arrived<O: Observer>(
+        &mut self,
+        stream: usize,
+        path: Path,
+        octets: &[u8],
+        observer: &mut O,
+    ) {
+        if self.has(stream, path) {
+            self.take(path, octets, observer);
+        } else {
+            self.pass_over();
+        }
+    }
+
+    /// Takes a reading of the clock, and tells of the slots that are lost by then.
+    pub fn read<O: Observer>(&mut self, now: i64, observer: &mut O)
+        ensures place { self.old.cursor.place < usize.MAX → self.new.cursor.place ≡ self.old.cursor.place + 1 }
+    {
+        if self.place == usize::MAX {
+            return;
+        }
+        self.cursor.hand_reading(now);
+        self.place += 1;
+        see_lost(&mut self.cursor, observer);
+        self.view.time = now;
+    }
+
+    /// Takes the close, and tells of the slots that are lost by then.
+    pub fn closed<O: Observer>(&mut self, observer: &mut O)
+        ensures place { self.old.cursor.place < usize.MAX → self.new.cursor.place ≡ self.old.cursor.place + 1 }
+    {
+        if self.place == usize::MAX {
+            return;
+        }
+        self.cursor.hand_close();
+        self.place += 1;
+        see_lost(&mut self.cursor, observer);
+    }
+
+    /// Whether a path is one of the stream's.
+    fn has(&self, stream: usize, path: Path) -> bool
+        ensures { result ≡ true → path < self.now.cursor.spec.paths }
+    {
+        stream == usize::from(self.cursor.number()) && path.number() < self.cursor.spec().paths()
+    }
+
+    /// Takes a datagram of the stream.
+    fn take<O: Observer>(&mut self, path: Path, octets: &[u8], observer: &mut O)
+        requires path { path < self.old.cursor.spec.paths }
+        ensures place { self.old.cursor.place < usize.MAX → self.new.cursor.place ≡ self.old.cursor.place + 1 }
+    {
+        if self.place == usize::MAX {
+            return;
+        }
+        take_arrival(&mut self.cursor, path, octets, &mut self.view, observer);
+        self.place += 1;
+    }
+
+    /// Passes over another stream's datagram.
+    fn pass_over(&mut self)
+        ensures place { self.old.cursor.place < usize.MAX → self.new.cursor.place ≡ self.old.cursor.place + 1 }
+    {
+        if self.place == usize::MAX {
+            return;
+        }
+        self.cursor.hand_over();
+        self.place += 1;
+    }
+}
+
 /// Takes all events of a stream from the first on, and tells what is seen of each of its arrivals and of each slot that is
 /// handed on as lost.
-pub fn watch_stream<E: EventSource, O: Observer>(
-    cursor: &mut Cursor,
-    source: &E,
-    open_at: i64,
-    observer: &mut O,
-)
-    requires first { cursor.old.place ≡ 0 }
-    requires settled { cursor.old.reading ≡ None }
-    ensures all { cursor.new.place ≡ length (E.events source.now) }
-    ensures settled { cursor.new.reading ≡ None }
+pub fn watch_stream<E: EventSource, O: Observer>(watch: &mut Watch, source: &E, observer: &mut O)
+    ensures all { watch.old.cursor.place ≡ 0 → watch.new.cursor.place ≡ length (E.events source.now) }
 {
-    let mut view = View {
-        time: open_at,
-        ruler: None,
-    };
     for place in 0..source.count() {
         match source.outline(place) {
             Outline::Arrive { stream, path } => {
-                if stream == cursor.number() && path.number() < cursor.spec().paths() {
+                if watch.has(usize::from(stream), path) {
                     let mut room = [0; MOST_ARRIVAL_OCTETS];
                     let octets = source.octets(place, &mut room);
-                    take_arrival(cursor, path, octets, &mut view, observer);
+                    watch.take(path, octets, observer);
                 } else {
-                    cursor.hand_over();
+                    watch.pass_over();
                 }
             }
-            Outline::Tick(now) => {
-                cursor.hand_reading(now);
-                see_lost(cursor, observer);
-                view.time = now;
-            }
-            Outline::Close => {
-                cursor.hand_close();
-                see_lost(cursor, observer);
-            }
+            Outline::Tick(now) => watch.read(now, observer),
+            Outline::Close => watch.closed(observer),
         }
     }
 }

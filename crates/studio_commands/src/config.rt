@@ -8,6 +8,7 @@ use std::io::Read;
 use studio_run::ReadFault;
 use studio_spec::{Kind, SpecError, StudioSpec};
 use studio_wav::FileFault;
+use toml::Table;
 use wav_file::Overwrite;
 
 /// The most octets of a configuration.
@@ -49,20 +50,25 @@ pub fn studio_of<C: Configs>(configs: &C, alloc: Global, path: &str) -> Result<S
 
 /// The studio that the octets of a configuration say.
 pub fn studio_in(alloc: Global, octets: &[u8]) -> Result<StudioSpec, Fault> {
+    let table = table_in(alloc, octets)?;
+    StudioSpec::from_table(alloc, &table).map_err(fault_of)
+}
+
+/// The table that the octets of a configuration say.
+pub(crate) fn table_in(alloc: Global, octets: &[u8]) -> Result<Table, Fault> {
     if octets.len() > MOST_OCTETS {
         return Err(Fault::Config(ConfigFault::TooLong));
     }
     let Ok(text) = str::from_utf8(octets) else {
         return Err(Fault::Config(ConfigFault::NotToml));
     };
-    let table = toml::table_from_str(alloc, text).map_err(|error| {
+    toml::table_from_str(alloc, text).map_err(|error| {
         if error.is_memory() {
             Fault::Memory
         } else {
             Fault::Config(ConfigFault::NotToml)
         }
-    })?;
-    StudioSpec::from_table(alloc, &table).map_err(fault_of)
+    })
 }
 
 /// What is wrong with a studio, or want of memory.

@@ -5,12 +5,14 @@
 //! caller's: it hands in `Configs`.
 #![tactic(auto)]
 
+mod beside;
 mod captures;
 mod config;
 mod fault;
 mod import;
 mod live;
 mod named_file;
+mod names;
 mod program;
 mod replay;
 mod told;

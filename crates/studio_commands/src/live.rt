@@ -1,6 +1,7 @@
 //! Live runs, from the octets of a configuration.
 use crate::config::{Configs, fault_of, studio_in};
 use crate::fault::Fault;
+use crate::names::names_in;
 use command_words::LiveWords;
 use live_parts::{
     Handed, LiveOptions, LivePorts, Recorded, Setup, Strangers, TaiOffset, tai_opening,
@@ -8,6 +9,7 @@ use live_parts::{
 use std::alloc::Global;
 use std::io::Write;
 use std::net::Net;
+use std::random::RandomSource;
 use std::rt::Env;
 use std::sync::Wait;
 use std::thread::Threads;
@@ -26,7 +28,7 @@ struct Started {
 /// Runs the studio that a configuration says, whose report goes to `output`. Where counts are asked for
 /// while it runs, they go where faults go. The file of its record is made before the first socket is bound.
 pub fn run_config<
-    R: Threads + Wait + Sync + Net + Clock + Env + AllocGlobal,
+    R: Threads + Wait + Sync + Net + Clock + RandomSource + Env + AllocGlobal,
     C: Configs,
     W: Write,
     E: Write + Send,
@@ -46,12 +48,14 @@ pub fn run_config<
     } else {
         Handed::nothing()
     };
+    let names = names_in(alloc, config)?;
     let strangers = Strangers::none(alloc, &studio).map_err(|_| Fault::Memory)?;
     let record = record_of(configs, words.record)?;
     let recorded = Recorded::new();
     let setup = Setup {
         ports: &ports,
         handed: &handed,
+        names: names.as_slice(),
         strangers: &strangers,
         recorded: &recorded,
         began,
@@ -82,6 +86,7 @@ fn options_of(words: LiveWords<'_>) -> LiveOptions {
     LiveOptions {
         instants: words.instants,
         stats: words.stats,
+        page: words.page,
         until_eof: words.until_eof,
         one_thread: words.one_thread,
     }

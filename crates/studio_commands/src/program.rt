@@ -11,6 +11,7 @@ use command_words::{Asked, asked_for};
 use std::alloc::Global;
 use std::io::{Read, Write};
 use std::net::Net;
+use std::random::RandomSource;
 use std::rt::Env;
 use std::sync::Wait;
 use std::thread::Threads;
@@ -22,7 +23,7 @@ use studio_summary::write_summary;
 /// Runs the program: its text goes to `output`, and the line of a fault to `faults`. Answers the
 /// exit status.
 pub fn run<
-    R: Threads + Wait + Sync + Net + Clock + Env + AllocGlobal,
+    R: Threads + Wait + Sync + Net + Clock + RandomSource + Env + AllocGlobal,
     C: Configs,
     I: Read,
     W: Write,
@@ -48,7 +49,7 @@ pub fn run<
 
 /// Does what the words ask for. Counts that are told beside a listing go where faults go.
 fn answer<
-    R: Threads + Wait + Sync + Net + Clock + Env + AllocGlobal,
+    R: Threads + Wait + Sync + Net + Clock + RandomSource + Env + AllocGlobal,
     C: Configs,
     I: Read,
     W: Write,
@@ -97,7 +98,9 @@ fn answer<
         Asked::Import(path, options) => {
             import_capture(configs, alloc, path, &options, output, faults)
         }
-        Asked::Replay(config, path) => replay_capture(configs, alloc, config, path, output),
+        Asked::Replay(config, words) => {
+            replay_capture(configs, alloc, config, words, output, faults)
+        }
         Asked::Live(path, words) => {
             let config = config_of(configs, alloc, path)?;
             run_config(rt, configs, alloc, config.as_slice(), words, output, faults)

@@ -1,62 +1,155 @@
-//! A capture as the report of what it says.
+//! A capture as the report of what it says, with a WAV file and a picture beside it.
+ghost use Rattle.std.specs.Prelude.{[]};
+
+use crate::beside::{Beside, begin_sound, end_sound, write_picture};
 use crate::config::{Configs, fault_of, studio_of};
 use crate::fault::{CaptureError, Fault};
 use crate::import::unrouted;
-use capture_import::routes_of;
+use capture_import::{Routes, routes_of};
 use capture_reader::ReaderFault;
-use capture_replay::{Record, ReplayFault, flows_of, record_of, replay, replay_record};
+use capture_replay::{Listener, ReplayFault, flows_of, record_of, replay, replay_record};
+use command_words::ReplayWords;
 use std::alloc::Global;
+use std::io;
 use std::io::Write;
+use studio_chart::{Extent, Streams};
 use studio_run::ReadFault;
 use studio_spec::StudioSpec;
 
-/// Writes the report of the capture at a path, by the configuration at another. It goes over the capture twice: first for
-/// its flows, or, where it is the record of a live run, for when that was opened and closed.
-pub fn replay_capture<C: Configs, W: Write>(
+/// What is known of a capture before it is replayed.
+#[derive(Drop)]
+enum Known {
+    /// It is the record of a live run, which was closed so many nanoseconds after its opening, if it was.
+    Record(Option<u64>),
+    /// Its flows have routes.
+    Flows(Routes),
+}
+
+/// A capture, and the studio that it is replayed by.
+#[derive(Drop)]
+struct Source<'a> {
+    path: &'a str,
+    studio: StudioSpec,
+    known: Known,
+}
+
+/// Writes the report of a capture, by the configuration at a path. It goes over the capture first for its flows, or, where
+/// it is the record of a live run, for when that was opened and closed; and once more after the report for a picture.
+/// Before a fault of a file beside it its path is told where faults go.
+pub fn replay_capture<C: Configs, W: Write, E: Write>(
     configs: &C,
     alloc: Global,
     config: &str,
-    path: &str,
+    words: ReplayWords<'_>,
     output: &mut W,
+    faults: &mut E,
 ) -> Result<(), Fault> {
     let studio = studio_of(configs, alloc, config)?;
-    let record = record_of(alloc, &mut input_at(configs, path)?).map_err(reader_fault)?;
-    match record {
-        Some(record) => replay_live(configs, alloc, studio, path, &record, output),
-        None => replay_flows(configs, alloc, &studio, path, output),
+    let source = source_of(configs, alloc, studio, words.file)?;
+    let streams = match words.chart {
+        Some(_) => Some(Streams::reach(alloc, &source.studio).map_err(|_| Fault::Memory)?),
+        None => None,
+    };
+    let sound = begin_sound(configs, words.wav, source.studio.output(), faults)?;
+    let mut beside = Beside { sound, streams };
+    let played = source.play(configs, alloc, output, &mut beside);
+    let Beside { sound, streams } = beside;
+    end_sound(sound, played, words.wav, faults)?;
+    match (words.chart, streams) {
+        (Some(path), Some(streams)) => source.draw(configs, alloc, &streams, path, faults),
+        _ => Ok(()),
     }
 }
 
-/// Writes the report of a live run by its record: of the studio opened when it was.
-fn replay_live<C: Configs, W: Write>(
+/// The capture at a path, and the studio for it: of a live run's record that opened when it was.
+fn source_of<'a, C: Configs>(
     configs: &C,
     alloc: Global,
     studio: StudioSpec,
-    path: &str,
-    record: &Record,
-    output: &mut W,
-) -> Result<(), Fault> {
+    path: &'a str,
+) -> Result<Source<'a>, Fault> {
+    let record = record_of(alloc, &mut input_at(configs, path)?).map_err(reader_fault)?;
+    let Some(record) = record else {
+        let known = Known::Flows(routes_at(configs, alloc, path)?);
+        return Ok(Source {
+            path,
+            studio,
+            known,
+        });
+    };
     let open_at = i64::try_from(record.open_at).unwrap_or(i64::MAX);
-    let studio = studio.shifted(alloc, open_at).map_err(fault_of)?;
-    let mut input = input_at(configs, path)?;
-    replay_record(alloc, &studio, record.closing, &mut input, output).map_err(Fault::from)
+    Ok(Source {
+        path,
+        studio: studio.shifted(alloc, open_at).map_err(fault_of)?,
+        known: Known::Record(record.closing),
+    })
 }
 
-/// Writes the report of a capture by its flows.
-fn replay_flows<C: Configs, W: Write>(
-    configs: &C,
-    alloc: Global,
-    studio: &StudioSpec,
-    path: &str,
-    output: &mut W,
-) -> Result<(), Fault> {
+/// The routes of the flows of the capture at a path.
+fn routes_at<C: Configs>(configs: &C, alloc: Global, path: &str) -> Result<Routes, Fault> {
     let table = flows_of(alloc, &mut input_at(configs, path)?).map_err(reader_fault)?;
-    let routes = match routes_of(alloc, &table, &[]) {
-        Ok(routes) => routes,
-        Err(fault) => return Err(unrouted(&table, fault)),
-    };
-    let mut input = input_at(configs, path)?;
-    replay(alloc, studio, routes.list(), &mut input, output).map_err(Fault::from)
+    match routes_of(alloc, &table, &[]) {
+        Ok(routes) => Ok(routes),
+        Err(fault) => Err(unrouted(&table, fault)),
+    }
+}
+
+impl Source<'_> {
+    /// Writes the report, and tells a listener.
+    fn play<C: Configs, W: Write, L: Listener>(
+        &self,
+        configs: &C,
+        alloc: Global,
+        output: &mut W,
+        listener: &mut L,
+    ) -> Result<(), Fault>
+        requires fresh { L.heard listener.old listener.old [] [] }
+    {
+        let mut input = input_at(configs, self.path)?;
+        let played = match &self.known {
+            Known::Record(closing) => {
+                replay_record(alloc, &self.studio, *closing, &mut input, output, listener)
+            }
+            Known::Flows(routes) => {
+                replay(
+                    alloc,
+                    &self.studio,
+                    routes.list(),
+                    &mut input,
+                    output,
+                    listener,
+                )
+            }
+        };
+        played.map_err(Fault::from)
+    }
+
+    /// Goes over the capture again, and draws what was seen of it to the file at a path.
+    fn draw<C: Configs, E: Write>(
+        &self,
+        configs: &C,
+        alloc: Global,
+        streams: &Streams<Extent>,
+        path: &str,
+        faults: &mut E,
+    ) -> Result<(), Fault> {
+        let mut beside = Beside::<C::File, _> {
+            sound: None,
+            streams: Some(
+                streams
+                    .again(alloc, &self.studio)
+                    .map_err(|_| Fault::Memory)?,
+            ),
+        };
+        self.play(configs, alloc, &mut io::sink(), &mut beside)?;
+        match &beside.streams {
+            Some(seen) => {
+                let picture = seen.picture(alloc).map_err(|_| Fault::Memory)?;
+                write_picture(configs, path, picture.as_slice(), faults)
+            }
+            None => Ok(()),
+        }
+    }
 }
 
 /// The capture at a path.

@@ -12,7 +12,7 @@ ghost use Rattle.studio_session.specs.Run.{blocks_left};
 ghost use Rattle.stream_rules.specs.Counts.{tally_of};
 ghost use Rattle.stream_rules.specs.PathCounts.{path_tally_of};
 ghost use Rattle.studio_engine.specs.Deadline.{IsUnreadyBefore};
-ghost use Rattle.studio_engine.specs.Engine.{HasAllMarks, arrive_fault_of, path_fault_of};
+ghost use Rattle.studio_engine.specs.Engine.{HasAllMarks, arrive_fault_of, path_fault_of, stream_deadline_of};
 ghost use Rattle.studio_engine.specs.Session.{Gives, HasGivenReady, HasSession, shut, turned};
 
 use crate::deadline::reading_past;
@@ -35,7 +35,7 @@ const MOST_EVENTS: usize = 4_611_686_018_427_387_904;
 /// A studio as one object.
 ///
 /// Inputs: `arrive`, `turn` and `close`. Outputs: `turn`, and `drain` after a close. Readers: `time`,
-/// `next_deadline`, `counts`, `path_counts`, `settled`. No call but `new` takes memory.
+/// `next_deadline`, `stream_deadline`, `counts`, `path_counts`, `settled`. No call but `new` takes memory.
 #[derive(Drop)]
 pub struct Engine {
     mixer: Mixer,
@@ -306,6 +306,17 @@ impl Engine {
         ensures { result ≡ length self.now.cursors }
     {
         self.cursors.len()
+    }
+
+    /// When the next slot of a stream is due: never before its first packet, nor after a close; none, too, where there is
+    /// no such stream.
+    pub fn stream_deadline(&self, stream: usize) -> Option<i64>
+        ensures { result ≡ stream_deadline_of (slice_get self.now.cursors stream) }
+    {
+        match self.cursors.get(stream) {
+            Some(cursor) => cursor.next_deadline(),
+            None => None,
+        }
     }
 
     /// The counts of a stream's merge, of the marks so far; none where there is no such stream.

@@ -1,7 +1,8 @@
 -- What of a record went to its file, one write further.
-use Rattle.std.proofs.Common.{◌≡◌, ◌≤◌, ◌+◌, ◌-◌, ℕ, List, ◌++◌, length, take, drop, sym, ap, ◌∙◌, arith}
+use Rattle.std.proofs.Common.{◌≡◌, ◌⊎◌, inl, inr, ◌≤◌, ◌<◌, ◌+◌, ◌-◌, ℕ, Bool, true, false, nat_lt, min, List, [], ◌++◌, length, take, drop, refl, sym, ap, ◌∙◌, arith}
+use Rattle.std.proofs.lemmas.Bool.Decides.{nat_tests}
 use Rattle.std.specs.List.{copy_within}
-use Rattle.std.proofs.lemmas.List.{drop-take, length-append, length-drop, length-take-le, take-append-drop, take-append-le}
+use Rattle.std.proofs.lemmas.List.{drop-take, nil_from_length, length-append, length-drop, length-take-le, take-append-drop, take-append-le}
 use Rattle.std.proofs.Math.Seq.{take-append-add, take-append_seam}
 use borrow.Rule.Slice.PartMut.{put_mid, post_of}
 
@@ -64,3 +65,14 @@ same_length old fresh h hl same =
     let d : length (post_of h k old) ≡ length (drop h old) - k = length-drop k (drop h old) in
     let e = length-drop h old in
     omega (arith, a, b, c, d, e, same, hl)
+
+-- where nothing was taken, nothing was there, or no room
+sees_by : (b : Bool) (known : List ℕ) (len held h room taken : ℕ) → nat_lt held len ≡ b → h ≡ min held len → room ≡ len - h → (taken < room → length known ≡ 0) → taken ≡ 0
+    → (known ≡ []) ⊎ (len ≤ held)
+sees_by true known len held h room taken less least rest most none =
+    let some : held < len = grind (arith, nat_tests, less) in
+    inl (nil_from_length known (most (omega (arith, some, least, rest, none))))
+sees_by false known len held h room taken less least rest most none = inr (grind (arith, nat_tests, less))
+
+pub sees_none : (known : List ℕ) (len held h room taken : ℕ) → h ≡ min held len → room ≡ len - h → (taken < room → length known ≡ 0) → taken ≡ 0 → (known ≡ []) ⊎ (len ≤ held)
+sees_none known len held h room taken least rest most none = sees_by (nat_lt held len) known len held h room taken refl least rest most none

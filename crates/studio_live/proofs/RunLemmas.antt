@@ -7,11 +7,12 @@ use Rattle.std.specs.Prelude.{IfErr, IsErrAnd}
 use Rattle.studio_spec.specs.Studio.{Studio}
 use Rattle.studio_live.specs.Run.{BreaksOffRun, FailsRun, IsEarly}
 use Rattle.studio_live.specs.declared.fault.LiveFault.{LiveFault}
-use Rattle.studio_live.specs.declared.fault.LiveFault.TheVariants.{Memory, Socket, Thread, Unsettled, Write}
+use Rattle.studio_live.specs.declared.fault.LiveFault.TheVariants.{Memory, Socket, Page, Thread, Unsettled, Write}
 
 early_writes_nothing : (one : Bool) (studio : Studio) (written : Option (List ℕ)) (fault : LiveFault) → IsEarly fault → FailsRun one studio written written fault
 early_writes_nothing one studio written Memory early = refl
 early_writes_nothing one studio written Socket early = refl
+early_writes_nothing one studio written Page early = refl
 early_writes_nothing one studio written Thread early = refl
 early_writes_nothing one studio written Unsettled early = absurd early
 early_writes_nothing one studio written Write early = absurd early

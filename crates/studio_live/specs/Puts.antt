@@ -1,8 +1,8 @@
 -- What a record's ring was sent.
-use Rattle.std.specs.Prelude.{◌≡◌, ◌⊎◌, ℕ, zero, suc, ◌+◌, List, [], ◌∷◌, ◌++◌, ℤ, pos, ◌+ℤ◌, Some, true, false}
+use Rattle.std.specs.Prelude.{◌≡◌, ◌⊎◌, ◌<◌, ℕ, zero, suc, ◌+◌, List, [], ◌∷◌, ◌++◌, length, ℤ, pos, ◌+ℤ◌, Some, true, false}
 use Rattle.std.specs.Net.Addr.{ipv4_octets}
 use Rattle.std.specs.declared.net.socket_addr.SocketAddrV4.{SocketAddrV4}
-use Rattle.rtrb.specs.Ring.{sent}
+use Rattle.rtrb.specs.Ring.{known_free, sent}
 use Rattle.capture_write.specs.Arrival.{ArrivalView}
 use Rattle.capture_write.specs.Blocks.{closing_block, datagram_block, interface_block, section_block}
 use Rattle.capture_write.specs.Times.{nanoseconds_in_64}
@@ -14,9 +14,10 @@ use Rattle.studio_live.specs.declared.block_end.BlockEnd.{BlockEnd}
 abbrev pub Ends : BlockEnd → BlockEnd → Type 0
 Ends old new = (new.ended ≡ true) × (sent new.ring ≡ sent old.ring)
 
--- a block was sent, all of it, or none of it
+-- a block was sent, all of it; or none of it, where that had ended before, or the ring was not known to have room for it
 abbrev pub Puts : BlockEnd → List ℕ → BlockEnd → Type 0
-Puts old block new = ((new.ended ≡ false) × (sent new.ring ≡ sent old.ring ++ block)) ⊎ Ends old new
+Puts old block new =
+    ((new.ended ≡ false) × (sent new.ring ≡ sent old.ring ++ block)) ⊎ (Ends old new × ((old.ended ≡ true) ⊎ (known_free new.ring < length block)))
 
 -- nanoseconds after the opening that a time is
 abbrev pub IsSince : ℤ → ℤ → ℕ → Type 0

@@ -10,7 +10,7 @@ use Rattle.studio_alone.specs.Runs.{IsSettledRun as IsSettledAlone}
 use Rattle.studio_workers.specs.declared.report.WorkReport.{WorkReport}
 use Rattle.live_parts.specs.Report.{report_text}
 use Rattle.studio_live.specs.declared.fault.LiveFault.{LiveFault}
-use Rattle.studio_live.specs.declared.fault.LiveFault.TheVariants.{Memory, Socket, Thread, Unsettled, Write}
+use Rattle.studio_live.specs.declared.fault.LiveFault.TheVariants.{Memory, Socket, Page, Thread, Unsettled, Write}
 
 -- there is a feed for each path, which tells these answers
 abbrev pub HasFeeds : Studio → List (List (List Answer)) → Type 0
@@ -43,6 +43,7 @@ pub record BreaksOffRun (one_thread : Bool) (studio : Studio) (written written_t
 abbrev pub IsEarly : LiveFault → Type 0
 IsEarly Memory = Unit {0}
 IsEarly Socket = Unit {0}
+IsEarly Page = Unit {0}
 IsEarly Thread = Unit {0}
 IsEarly Unsettled = ⊥
 IsEarly Write = ⊥
@@ -51,6 +52,7 @@ IsEarly Write = ⊥
 abbrev pub FailsRun : Bool → Studio → Option (List ℕ) → Option (List ℕ) → LiveFault → Type 0
 FailsRun one_thread studio written written_then Memory = written_then ≡ written
 FailsRun one_thread studio written written_then Socket = written_then ≡ written
+FailsRun one_thread studio written written_then Page = written_then ≡ written
 FailsRun one_thread studio written written_then Thread = written_then ≡ written
 FailsRun one_thread studio written written_then Unsettled = WritesRun one_thread studio false written written_then
 FailsRun one_thread studio written written_then Write = BreaksOffRun one_thread studio written written_then

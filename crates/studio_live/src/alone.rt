@@ -7,18 +7,19 @@ ghost use Rattle.studio_live.specs.Run.{IsEarly, IsRunOf};
 use crate::fault::LiveFault;
 use crate::feed::UdpFeed;
 use crate::live_tap::LiveTap;
+use crate::metered_sink::MeteredSink;
 use crate::pending::all_pending;
 use crate::receiver::Receiver;
 use crate::record::Record;
 use crate::record_tap::RecordTap;
 use crate::recorder::{Recorder, write_record};
-use crate::sink::UdpSink;
+use crate::showing::Showing;
 use crate::socket_rest::SocketRest;
-use crate::start::{Sockets, Start, clock_of, feeds_of, stats_of};
-use crate::stats::Stats;
+use crate::start::{Sockets, Start, clock_of, feeds_of};
 use crate::watch::{Signs, Watcher, watch};
 use live_parts::{LiveOptions, Recorded, SystemClock};
-use std::alloc::Global;
+use live_view::EngineView;
+use std::alloc::{AllocError, Global};
 use std::io::Write;
 use std::net::Net;
 use std::sync::Wait;
@@ -37,9 +38,9 @@ use studio_workers::WorkReport;
 struct Lone<'a, R: Wait + Clock, E> {
     feeds: Vec<Vec<UdpFeed<'a, R>>>,
     clock: SystemClock<'a, R>,
-    sink: UdpSink,
-    rest: SocketRest<'a, R, E>,
-    tap: LiveTap,
+    sink: MeteredSink<'a>,
+    rest: SocketRest<'a, R>,
+    tap: LiveTap<'a, E>,
 }
 
 /// Runs a studio in this thread, and the watcher beside it, and what writes a record if there is one. It returns once
@@ -56,7 +57,7 @@ pub(crate) fn run_in_one_thread<
     sockets: Sockets<'a>,
     options: &LiveOptions,
     start: Start,
-    faults: E,
+    showing: Showing<'a, E>,
     signs: &'a Signs,
     record: Option<Record<D>>,
     recorded: &Recorded,
@@ -71,16 +72,15 @@ pub(crate) fn run_in_one_thread<
         alloc,
         studio,
         sockets,
-        options,
         start,
-        faults,
+        showing,
         &signs.stop,
         pending.as_slice(),
         tap,
     )?;
     let watcher = Watcher::<'a, R, E> {
         until_eof: options.until_eof,
-        stats: None,
+        view: None,
     };
     match recorder {
         Some(recorder) => {
@@ -104,9 +104,8 @@ fn lone_of<'a, R: Wait + Net + Clock, E: Write + Drop>(
     alloc: Global,
     studio: &StudioSpec,
     sockets: Sockets<'a>,
-    options: &LiveOptions,
     start: Start,
-    faults: E,
+    showing: Showing<'a, E>,
     stop: &'a AtomicBool,
     pending: &'a [AtomicBool],
     tap: Option<RecordTap>,
@@ -115,40 +114,48 @@ fn lone_of<'a, R: Wait + Net + Clock, E: Write + Drop>(
     ensures early { IfErr result IsEarly }
 {
     let Sockets { receiving, sink } = sockets;
-    let stats = stats_of(rt, alloc, studio, options, start)?;
-    let clock = clock_of(rt, start);
+    let meter = showing.meter;
+    let view = view_of(alloc, studio, showing)?;
     let rest = rest_of(
         rt,
         alloc,
         receiving.as_slice(),
         pending,
-        clock,
-        stats,
-        faults,
+        clock_of(rt, start),
     )?;
     let feeds = own_feeds(rt, alloc, studio, receiving, start, stop, pending)?;
     Ok(Lone {
         feeds,
         clock: clock_of(rt, start),
-        sink,
+        sink: MeteredSink { sink, meter },
         rest,
-        tap: LiveTap { record: tap },
+        tap: LiveTap { record: tap, view },
     })
 }
 
+/// What is seen of a run's engine, if it is to be shown.
+fn view_of<'a, E: Write + Drop>(
+    alloc: Global,
+    studio: &StudioSpec,
+    showing: Showing<'a, E>,
+) -> Result<Option<EngineView<'a, E>>, AllocError> {
+    match showing.board {
+        Some(board) => Ok(Some(EngineView::new(alloc, studio.streams(), board)?)),
+        None => Ok(None),
+    }
+}
+
 /// The wait for these sockets.
-fn rest_of<'a, R: Wait + Net + Clock, E: Write + Drop>(
+fn rest_of<'a, R: Wait + Net + Clock>(
     rt: &'a R,
     alloc: Global,
     receiving: &[Receiver<'_>],
     pending: &'a [AtomicBool],
     clock: SystemClock<'a, R>,
-    stats: Option<Stats<'a, R>>,
-    faults: E,
-) -> Result<SocketRest<'a, R, E>, LiveFault>
+) -> Result<SocketRest<'a, R>, LiveFault>
     ensures early { IfErr result IsEarly }
 {
-    let rest = SocketRest::new(rt, rt, alloc, receiving, pending, clock, stats, faults)?;
+    let rest = SocketRest::new(rt, rt, alloc, receiving, pending, clock)?;
     Ok(rest)
 }
 
@@ -165,7 +172,7 @@ fn own_feeds<'a, R: Clock>(
     ensures each { IfOk result (λ all. map (λ own. length own.items) all.items ≡ map (λ stream. stream.paths) studio.now.streams) }
     ensures early { IfErr result IsEarly }
 {
-    let feeds = feeds_of(rt, alloc, receiving, start, stop, pending)?;
+    let feeds = feeds_of(rt, alloc, receiving, start, stop, pending, &[])?;
     by_stream(alloc, feeds, studio.streams())
 }
 

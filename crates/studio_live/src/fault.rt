@@ -20,6 +20,9 @@ pub enum LiveFault {
     /// A socket couldn't be made, bound or set, or there isn't one for each path.
     #[error("device: socket")]
     Socket,
+    /// The port of the page couldn't be bound.
+    #[error("device: socket page")]
+    Page,
     /// A worker or the watcher couldn't be started.
     #[error("device: thread")]
     Thread,

@@ -6,7 +6,7 @@ use crate::receiver::Receiver;
 use live_parts::SystemClock;
 use std::io::ErrorKind;
 use std::net::SocketAddrV4;
-use std::sync::atomic::{AtomicBool, Ordering};
+use std::sync::atomic::{AtomicBool, AtomicU64, Ordering};
 use std::time::Clock;
 use studio_workers::{Clock as ReadClock, Feed, FeedAnswer};
 
@@ -24,6 +24,8 @@ pub struct UdpFeed<'a, R: Clock> {
     stop: &'a AtomicBool,
     /// Whether it may have a datagram; none where receives wait.
     pending: Option<&'a AtomicBool>,
+    /// Where it counts its datagrams, if that is asked for.
+    came: Option<&'a AtomicU64>,
     /// Its path's place among those of all streams.
     place: u32,
 }
@@ -36,6 +38,7 @@ impl<'a, R: Clock> UdpFeed<'a, R> {
         until: Option<i64>,
         stop: &'a AtomicBool,
         pending: Option<&'a AtomicBool>,
+        came: Option<&'a AtomicU64>,
         place: u32,
     ) -> UdpFeed<'a, R> {
         UdpFeed {
@@ -44,6 +47,7 @@ impl<'a, R: Clock> UdpFeed<'a, R> {
             until,
             stop,
             pending,
+            came,
             place,
         }
     }
@@ -74,6 +78,13 @@ impl<'a, R: Clock> UdpFeed<'a, R> {
         match self.pending {
             Some(pending) => pending.load(Ordering::SeqCst),
             None => true,
+        }
+    }
+
+    /// Counts a datagram.
+    fn count(&self) {
+        if let Some(came) = self.came {
+            came.fetch_add(1, Ordering::SeqCst);
         }
     }
 
@@ -117,7 +128,10 @@ impl<R: Clock> Feed for UdpFeed<'_, R> {
                 return FeedAnswer::Nothing;
             }
             match self.receiver.receive(buf) {
-                Ok(Some(count)) => return FeedAnswer::Datagram(count),
+                Ok(Some(count)) => {
+                    self.count();
+                    return FeedAnswer::Datagram(count);
+                }
                 Ok(None) => {}
                 Err(fault) => return self.answer_of(fault.kind()),
             }

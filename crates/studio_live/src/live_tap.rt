@@ -1,20 +1,25 @@
-//! The tap of a run in one thread, with a record or with none.
+//! The tap of a run in one thread: its record and what is seen of it, where these are asked for.
 ghost use Rattle.std.specs.Prelude.{[], ◌∷◌, None};
 ghost use Rattle.studio_alone.specs.Taps.{Came, Closed, Hears};
 
 use crate::feed::UdpFeed;
 use crate::record_tap::RecordTap;
+use live_view::EngineView;
+use std::io::Write;
 use std::time::Clock;
 use stream_rules::Path;
 use studio_alone::Tap;
+use studio_engine::Engine;
+use studio_session::Receipt;
 
-/// What is told of what a run takes: a record, if one is asked for.
+/// What is told of what a run takes: a record and a view, each if it is asked for.
 #[derive(Drop)]
-pub(crate) struct LiveTap {
+pub(crate) struct LiveTap<'v, E> {
     pub(crate) record: Option<RecordTap>,
+    pub(crate) view: Option<EngineView<'v, E>>,
 }
 
-impl LiveTap {
+impl<E: Drop> LiveTap<'_, E> {
     /// How many datagrams the record was told.
     pub(crate) fn came(&self) -> u64 {
         match &self.record {
@@ -24,25 +29,38 @@ impl LiveTap {
     }
 }
 
-impl<'a, R: Clock> Tap<UdpFeed<'a, R>> for LiveTap {
+impl<'a, R: Clock, E: Write + Drop> Tap<UdpFeed<'a, R>> for LiveTap<'_, E> {
     ghost heard = { λ tap. None };
 
     fn arrived(
         &mut self,
-        _stream: usize,
-        _path: Path,
-        time: i64,
+        engine: &Engine,
+        stream: usize,
+        path: Path,
         octets: &[u8],
+        receipt: Receipt,
         feed: &UdpFeed<'a, R>,
     ) {
         if let Some(record) = &mut self.record {
-            record.arrived(time, octets, feed);
+            record.arrived(engine.time(), octets, feed);
+        }
+        if let Some(view) = &mut self.view {
+            view.note(engine, stream, path, octets, receipt);
         }
     }
 
-    fn closed(&mut self, time: i64) {
+    fn rests(&mut self, engine: &Engine) {
+        if let Some(view) = &mut self.view {
+            view.look(engine);
+        }
+    }
+
+    fn closed(&mut self, engine: &Engine) {
         if let Some(record) = &mut self.record {
-            record.closed(time);
+            record.closed(engine.time());
+        }
+        if let Some(view) = &mut self.view {
+            view.close(engine);
         }
     }
 }

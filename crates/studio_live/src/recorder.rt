@@ -1,6 +1,6 @@
 //! What writes a record to its file.
-ghost use Rattle.std.specs.Prelude.{◌≤◌, length, IfSome, OnOk};
-ghost use Rattle.studio_live.specs.Passes.{Passes};
+ghost use Rattle.std.specs.Prelude.{◌≡◌, ◌≤◌, length, IfOk, IfSome, OnOk};
+ghost use Rattle.studio_live.specs.Passes.{Passes, SeesNone};
 
 use rtrb::Consumer;
 use std::alloc::{AllocError, Global};
@@ -70,6 +70,7 @@ impl<D: Write + Drop> Recorder<D> {
     /// Writes the blocks that are whole by now, and answers how many octets were taken of the ring.
     fn write_some(&mut self) -> io::Result<usize>
         ensures passes { OnOk result (Passes D.contents self.old self.new) }
+        ensures empty { IfOk result (λ taken. taken ≡ 0 → SeesNone self.old self.new) }
     {
         let octets = self.octets.as_mut_slice();
         let held = self.held.min(octets.len());

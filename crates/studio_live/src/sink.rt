@@ -93,6 +93,13 @@ impl UdpSink {
     }
 }
 
+impl UdpSink {
+    /// Where the two copies go.
+    pub(crate) fn addresses(&self) -> [SocketAddr; 2] {
+        [self.a.to, self.b.to]
+    }
+}
+
 impl Sink for UdpSink {
     ghost handed = { λ sink. None };
 

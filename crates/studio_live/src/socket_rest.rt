@@ -1,13 +1,11 @@
 //! How a run in one thread waits for its sockets.
 
 use crate::receiver::Receiver;
-use crate::stats::Stats;
 use live_parts::SystemClock;
 use mio::unix::SourceFd;
 use mio::{Events, Interest, Poll, Token};
 use std::alloc::Global;
 use std::io;
-use std::io::Write;
 use std::net::Net;
 use std::os::fd::AsRawFd;
 use std::sync::Wait;
@@ -40,13 +38,13 @@ const QUIET_WAIT: u64 = 4;
 /// How many sockets are told of at once. The others stay known as ready.
 const MOST_EVENTS: usize = 64;
 
-/// A wait for one of several sockets to become ready, and what is told of the streams meanwhile.
+/// A wait for one of several sockets to become ready.
 ///
 /// While datagrams come it doesn't end at each: it waits a millisecond, and tells which sockets became ready meanwhile.
 /// What came by then is judged by the reading before, unless that is older. Once nothing has come for
 /// a while it sleeps longer, past deadlines of silence; the first datagram ends that.
 #[derive(Drop)]
-pub(crate) struct SocketRest<'a, R: Wait + Clock, E> {
+pub(crate) struct SocketRest<'a, R: Wait + Clock> {
     rt: &'a R,
     poll: Poll,
     events: Events,
@@ -60,11 +58,9 @@ pub(crate) struct SocketRest<'a, R: Wait + Clock, E> {
     is_busy: bool,
     /// In how many waits since then none did.
     quiet: u32,
-    stats: Option<Stats<'a, R>>,
-    writer: E,
 }
 
-impl<'a, R: Wait + Clock, E: Write + Drop> SocketRest<'a, R, E> {
+impl<'a, R: Wait + Clock> SocketRest<'a, R> {
     /// A wait for these sockets, whose receives don't wait from then on.
     pub(crate) fn new(
         rt: &'a R,
@@ -73,9 +69,7 @@ impl<'a, R: Wait + Clock, E: Write + Drop> SocketRest<'a, R, E> {
         receivers: &[Receiver<'_>],
         pending: &'a [AtomicBool],
         clock: SystemClock<'a, R>,
-        stats: Option<Stats<'a, R>>,
-        writer: E,
-    ) -> io::Result<SocketRest<'a, R, E>> {
+    ) -> io::Result<SocketRest<'a, R>> {
         let poll = Poll::new(net)?;
         for (number, receiver) in receivers.iter().enumerate() {
             receiver.socket.set_nonblocking(true)?;
@@ -93,25 +87,7 @@ impl<'a, R: Wait + Clock, E: Write + Drop> SocketRest<'a, R, E> {
             clock,
             is_busy: false,
             quiet: 0,
-            stats,
-            writer,
         })
-    }
-
-    /// Writes a line for each stream if it is time.
-    fn tell(&mut self, engine: &Engine) {
-        let Some(stats) = &mut self.stats else {
-            return;
-        };
-        let Some(now) = stats.due() else {
-            return;
-        };
-        for stream in 0..engine.streams() {
-            if let Some(counts) = engine.counts(stream) {
-                stats.keep(stream, counts);
-            }
-        }
-        stats.tell(now, &mut self.writer);
     }
 
     /// Sleeps less than a millisecond while datagrams come, or where a socket may have one left, and answers for how many
@@ -178,9 +154,8 @@ impl<'a, R: Wait + Clock, E: Write + Drop> SocketRest<'a, R, E> {
     }
 }
 
-impl<R: Wait + Clock, E: Write + Drop> Rest for SocketRest<'_, R, E> {
+impl<R: Wait + Clock> Rest for SocketRest<'_, R> {
     fn rest(&mut self, engine: &Engine, most: i64) -> bool {
-        self.tell(engine);
         self.wait(u64::try_from(most).unwrap_or(0));
         self.clock.now().saturating_sub(engine.time()) <= OLDEST
     }

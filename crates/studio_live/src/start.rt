@@ -6,11 +6,10 @@ use crate::fault::LiveFault;
 use crate::feed::UdpFeed;
 use crate::receiver::{Receiver, inherited_socket, receiving_socket};
 use crate::sink::UdpSink;
-use crate::stats::Stats;
 use live_parts::{LiveOptions, PathAddress, Setup, SystemClock, addresses_of};
 use std::alloc::{AllocError, Global};
 use std::net::{Net, SocketAddrV4};
-use std::sync::atomic::AtomicBool;
+use std::sync::atomic::{AtomicBool, AtomicU64};
 use std::time::{Clock, Duration};
 use studio_spec::StudioSpec;
 
@@ -38,21 +37,6 @@ impl Start {
                 .map(|instants| open_at.saturating_add(instants)),
         }
     }
-}
-
-/// What is told of the streams, if it is asked for.
-pub(crate) fn stats_of<'a, R: Clock>(
-    rt: &'a R,
-    alloc: Global,
-    studio: &StudioSpec,
-    options: &LiveOptions,
-    start: Start,
-) -> Result<Option<Stats<'a, R>>, AllocError> {
-    let Some(seconds) = options.stats else {
-        return Ok(None);
-    };
-    let clock = clock_of(rt, start);
-    Ok(Some(Stats::new(alloc, studio.streams(), clock, seconds)?))
 }
 
 /// The sockets of a run.
@@ -132,7 +116,7 @@ pub(crate) fn clock_of<R: Clock>(rt: &R, start: Start) -> SystemClock<'_, R> {
     SystemClock::since(rt, start.began, start.open_at)
 }
 
-/// A feed for each socket, with its flag if it has one.
+/// A feed for each socket, with its flag and the place of its count, if it has them.
 pub(crate) fn feeds_of<'a, R: Clock>(
     rt: &'a R,
     alloc: Global,
@@ -140,15 +124,18 @@ pub(crate) fn feeds_of<'a, R: Clock>(
     start: Start,
     stop: &'a AtomicBool,
     pending: &'a [AtomicBool],
+    came: &'a [AtomicU64],
 ) -> Result<Vec<UdpFeed<'a, R>>, AllocError>
     ensures { IfOk result (λ feeds. length feeds.items ≡ length receivers.entry.items) }
 {
     let mut feeds = Vec::with_capacity(alloc, receivers.len())?;
     for receiver in receivers {
-        let own = pending.get(feeds.len());
+        let flag = pending.get(feeds.len());
+        let count = came.get(feeds.len());
         let place = u32::try_from(feeds.len()).unwrap_or(u32::MAX);
         let clock = clock_of(rt, start);
-        feeds.push(UdpFeed::new(receiver, clock, start.until, stop, own, place))?;
+        let until = start.until;
+        feeds.push(UdpFeed::new(receiver, clock, until, stop, flag, count, place))?;
     }
     Ok(feeds)
 }

@@ -1,7 +1,7 @@
-//! What watches a run beside its workers: it sees when the run is to end, and tells counts on the way.
+//! What watches a run beside its workers: it sees when the run is to end, and shows it on the way.
 
 use crate::input::has_input_ended;
-use crate::monitors::MonitorStats;
+use crate::monitors::MonitorView;
 use crate::signal::is_asked_to_end;
 use std::io::Write;
 use std::sync::Wait;
@@ -45,7 +45,7 @@ impl Signs {
 pub(crate) struct Watcher<'a, R: Clock, E> {
     /// Whether the run ends where standard input does.
     pub(crate) until_eof: bool,
-    pub(crate) stats: Option<MonitorStats<'a, R, E>>,
+    pub(crate) view: Option<MonitorView<'a, R, E>>,
 }
 
 /// Looks again and again until the workers have ended: whether the feeds are to end, and what the
@@ -64,8 +64,8 @@ pub(crate) fn watch<R: Wait + Clock, E: Write + Drop>(
         if is_asked_to_end() || watcher.until_eof && has_input_ended() {
             signs.stop.store(true, Ordering::SeqCst);
         }
-        if let Some(stats) = &mut watcher.stats {
-            stats.look();
+        if let Some(view) = &mut watcher.view {
+            view.look();
         }
     }
 }

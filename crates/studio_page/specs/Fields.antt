@@ -14,9 +14,9 @@ use Rattle.studio_page.specs.declared.kind.Kind.TheVariants.{Counter, Gauge}
 
 -- how a number of a path is called
 abbrev pub path_key : PathField → List ℕ
-path_key Path.Offered = codes "datagrams"
-path_key Path.Sent = codes "packets"
+path_key Path.Datagrams = codes "datagrams"
 path_key Path.First = codes "first"
+path_key Path.Sent = codes "packets"
 path_key Path.Lost = codes "lost"
 path_key Path.Double = codes "double"
 path_key Path.Unlike = codes "unlike"
@@ -30,9 +30,9 @@ path_key Path.SpareMedian = codes "spare_median"
 
 -- whether it only rises
 abbrev pub path_kind : PathField → Kind
-path_kind Path.Offered = Counter
-path_kind Path.Sent = Counter
+path_kind Path.Datagrams = Counter
 path_kind Path.First = Counter
+path_kind Path.Sent = Counter
 path_kind Path.Lost = Counter
 path_kind Path.Double = Counter
 path_kind Path.Unlike = Counter
@@ -46,9 +46,9 @@ path_kind Path.SpareMedian = Gauge
 
 -- what it counts
 abbrev pub path_help : PathField → List ℕ
-path_help Path.Offered = codes "Datagrams that came on the path."
+path_help Path.Datagrams = codes "Datagrams that came on the path."
+path_help Path.First = codes "Packets of which the path brought the first copy."
 path_help Path.Sent = codes "Datagrams that were packets of the stream."
-path_help Path.First = codes "Slots whose packet the path brought first."
 path_help Path.Lost = codes "Packets of the stream that the path never brought."
 path_help Path.Double = codes "Further copies, with the payload of the first."
 path_help Path.Unlike = codes "Further copies, with another payload than the first."
@@ -58,7 +58,7 @@ path_help Path.WrongType = codes "Datagrams of another payload type."
 path_help Path.WrongLength = codes "Datagrams of another length."
 path_help Path.Full = codes "Packets that found no room on their way to the merge."
 path_help Path.SpareLeast = codes "The least time before its deadline that a packet of the last second came, in periods of 48 kHz."
-path_help Path.SpareMedian = codes "The median time before their deadlines that packets of the last second came, in periods of 48 kHz."
+path_help Path.SpareMedian = codes "The median time before their deadlines that packets of the last second came, in periods of 48 kHz; past 6138 it may be more."
 
 -- how a number of a stream is called
 abbrev pub stream_key : StreamField → List ℕ
@@ -73,7 +73,6 @@ stream_key Stream.Late = codes "late"
 stream_key Stream.Ahead = codes "ahead"
 stream_key Stream.WrongSource = codes "wrong_source"
 stream_key Stream.Restarts = codes "restarts"
-stream_key Stream.Epoch = codes "epoch"
 stream_key Stream.Latency = codes "latency"
 
 -- whether it only rises
@@ -89,7 +88,6 @@ stream_kind Stream.Late = Counter
 stream_kind Stream.Ahead = Counter
 stream_kind Stream.WrongSource = Counter
 stream_kind Stream.Restarts = Counter
-stream_kind Stream.Epoch = Gauge
 stream_kind Stream.Latency = Gauge
 
 -- what it counts
@@ -105,37 +103,36 @@ stream_help Stream.Late = codes "Packets that came after their deadline."
 stream_help Stream.Ahead = codes "Packets beyond the reorder window."
 stream_help Stream.WrongSource = codes "Packets of another synchronization source."
 stream_help Stream.Restarts = codes "Packets that opened a new epoch."
-stream_help Stream.Epoch = codes "The epoch of the last slot."
 stream_help Stream.Latency = codes "From a packet's media time to its deadline, in periods of 48 kHz."
 
 -- how a number of an output channel is called
 abbrev pub output_key : OutputField → List ℕ
 output_key Output.Peak = codes "peak"
-output_key Output.Saturated = codes "saturated"
+output_key Output.FullScale = codes "full_scale"
 
 -- whether it only rises
 abbrev pub output_kind : OutputField → Kind
 output_kind Output.Peak = Gauge
-output_kind Output.Saturated = Counter
+output_kind Output.FullScale = Counter
 
 -- what it counts
 abbrev pub output_help : OutputField → List ℕ
-output_help Output.Peak = codes "The greatest magnitude of a sample of the last 50 ms, of 8388608 at full scale."
-output_help Output.Saturated = codes "Samples that were saturated."
+output_help Output.Peak = codes "The greatest magnitude of a sample of the last tenth of a second, of 8388608 at full scale."
+output_help Output.FullScale = codes "Samples at full scale, as saturated ones are."
 
 -- a number of a path, if it is known
 abbrev pub path_value : PathField → PathState → Option ℕ
-path_value Path.Offered path = Some path.counts.offered
-path_value Path.Sent path = Some path.counts.sent
+path_value Path.Datagrams path = Some path.datagrams
 path_value Path.First path = Some path.first
-path_value Path.Lost path = Some path.lost
-path_value Path.Double path = Some path.double
-path_value Path.Unlike path = Some path.unlike
-path_value Path.Late path = Some path.late
-path_value Path.Bad path = Some path.counts.bad
-path_value Path.WrongType path = Some path.counts.wrong_type
-path_value Path.WrongLength path = Some path.counts.wrong_length
-path_value Path.Full path = Some path.counts.full
+path_value Path.Sent path = option_map (λ counts. counts.sent) path.counts
+path_value Path.Lost path = option_map (λ copies. copies.lost) path.copies
+path_value Path.Double path = option_map (λ copies. copies.double) path.copies
+path_value Path.Unlike path = option_map (λ copies. copies.unlike) path.copies
+path_value Path.Late path = option_map (λ copies. copies.late) path.copies
+path_value Path.Bad path = option_map (λ counts. counts.bad) path.counts
+path_value Path.WrongType path = option_map (λ counts. counts.wrong_type) path.counts
+path_value Path.WrongLength path = option_map (λ counts. counts.wrong_length) path.counts
+path_value Path.Full path = option_map (λ counts. counts.full) path.counts
 path_value Path.SpareLeast path = option_map (λ spare. spare.least) path.spare
 path_value Path.SpareMedian path = option_map (λ spare. spare.median) path.spare
 
@@ -152,10 +149,9 @@ stream_value Stream.Late stream = stream.counts.late
 stream_value Stream.Ahead stream = stream.counts.ahead
 stream_value Stream.WrongSource stream = stream.counts.wrong_source
 stream_value Stream.Restarts stream = stream.counts.restarts
-stream_value Stream.Epoch stream = stream.epoch
 stream_value Stream.Latency stream = stream.latency
 
 -- a number of an output channel
 abbrev pub output_value : OutputField → OutputState → ℕ
 output_value Output.Peak output = output.peak
-output_value Output.Saturated output = output.saturated
+output_value Output.FullScale output = output.full_scale

@@ -66,7 +66,7 @@ th:first-child, td:first-child { text-align: left; padding-left: 0; }
 th:last-child, td:last-child { padding-right: 0; text-align: left; padding-left: 5px; }
 tr.silent td { background: var(--bad-ground); }
 tr.silent td:first-child { font-weight: 700; }
-.spare { display: inline-block; position: relative; width: 3.4em; height: .75em; background: var(--track); border-radius: 2px; margin-right: 4px; overflow: hidden; }
+.spare { display: inline-block; position: relative; width: 2.5em; height: .75em; background: var(--track); border-radius: 2px; margin-right: 4px; overflow: hidden; }
 .spare i { position: absolute; inset: 0 auto 0 0; background: var(--bar); opacity: .55; }
 .spare b { position: absolute; inset: 0 auto 0 0; background: var(--bar); }
 .note { margin: 1px 0 0; color: var(--soft); overflow: hidden; text-overflow: ellipsis; white-space: nowrap; min-height: 1.3em; }
@@ -94,7 +94,7 @@ const CONDITIONS = {
 const REFUSED = { unlike: "unlike", bad: "no RTP", wrong_type: "type", wrong_length: "length", full: "no room" };
 const REFUSED_BY_STREAM = { off_grid: "off grid", ahead: "ahead", wrong_source: "source" };
 
-let shape = "", view = null, history = [];
+let shape = "", view = null, paint = null, history = [];
 
 // ---- elements
 
@@ -121,8 +121,18 @@ function style(element, name) {
   if (element.className !== name) element.className = name;
 }
 
+function set(element, property, value) {
+  if (element[property + "Now"] === value) return;
+  element[property + "Now"] = value;
+  element.style[property] = value;
+}
+
+function percent(share) {
+  return (100 * Math.min(1, Math.max(0, share))).toFixed(1);
+}
+
 function width(element, share) {
-  element.style.width = (100 * Math.min(1, Math.max(0, share))).toFixed(1) + "%";
+  set(element, "width", percent(share) + "%");
 }
 
 const whole = new Intl.NumberFormat("en");
@@ -130,6 +140,8 @@ const exact = n => whole.format(Math.round(n));
 // up to five digits, and then the first three: the whole number stands at /state
 const few = new Intl.NumberFormat("en", { notation: "compact", maximumSignificantDigits: 3 });
 const count = n => n < 99999.5 ? exact(n) : few.format(n);
+// what isn't known is a dash
+const known = (n, text) => n === null ? "\u2013" : text(n);
 const millis = n => (1000 * n / RATE).toFixed(n < 4800 ? 1 : 0);
 const decibels = peak => peak > 0 ? 20 * Math.log10(peak / FULL_SCALE) : -Infinity;
 const level = db => db === -Infinity ? "\u2212\u221e" : db.toFixed(1).replace("-", "\u2212");
@@ -167,13 +179,13 @@ function buildOutput(parent, n) {
   const text = make("span", line);
   const meter = make("div", box, "meter");
   const clip = make("p", box);
-  return { clip, text, bar: make("i", meter), held: make("b", meter), hold: -Infinity, holdAt: 0, saturated: null, clipAt: -Infinity };
+  return { clip, text, bar: make("i", meter), held: make("b", meter), hold: -Infinity, holdAt: 0, full: null, clipAt: -Infinity };
 }
 
 function buildStream(parent, stream, n) {
   const box = make("section", parent, "stream");
   const top = make("div", box, "top");
-  make("h2", top, "", stream.name === null ? "stream " + n : stream.name);
+  make("h2", top, "", stream.name || "stream " + n);
   const word = make("span", top, "word");
   word.classList.add("right");
   const line = make("div", box, "top");
@@ -229,7 +241,9 @@ function draw(state, now) {
     shape = wanted;
     history = [];
     view = build(state);
+    paint = null;
   }
+  if (paint === null) measure();
   const since = earlier(state, now);
   const nets = view.nets.map(() => ({ rate: 0, lost: 0, all: 0, first: 0, slots: 0, running: false, silent: false }));
   state.streams.forEach((stream, n) => drawStream(view.streams[n], stream, since.old.streams[n], since.last.streams[n], since.seconds, now, nets));
@@ -241,10 +255,11 @@ function drawNet(net, sum) {
   const silent = sum.running && sum.silent, losing = sum.lost > 0;
   mark(net.box, "silent", silent);
   mark(net.box, "losing", losing);
-  show(net.word, silent ? "\u2715 silent" : losing ? "\u25b2 losing" : sum.running ? "\u25cf whole" : "\u25cb idle");
+  const well = sum.lost === null ? "\u25cf heard" : "\u25cf whole";
+  show(net.word, silent ? "\u2715 silent" : losing ? "\u25b2 losing" : sum.running ? well : "\u25cb idle");
   style(net.word, "word " + (silent || losing ? "bad" : sum.running ? "good" : "soft"));
   show(net.rate, count(sum.rate) + " pk/s");
-  show(net.lost, "lost " + count(sum.lost) + "/s, " + exact(sum.all) + " in all");
+  show(net.lost, sum.lost === null ? "" : "lost " + count(sum.lost) + "/s, " + exact(sum.all) + " in all");
   show(net.first, "first " + share(sum.first, sum.slots));
 }
 
@@ -257,21 +272,27 @@ function drawStream(it, stream, old, last, seconds, now, nets) {
   show(it.word, word);
   style(it.word, "right word " + kind);
   mark(it.box, "lost", stream.state === "lost");
-  show(it.epoch, "epoch " + exact(stream.epoch));
+  show(it.epoch, "epoch " + exact(stream.restarts));
   fill(it.bins, stream.got - last.got, stream.lost - last.lost, now);
   const lately = it.bins.reduce((sum, bin) => sum + bin.lost, 0);
   show(it.counts, "got " + exact(stream.got) + "  lost " + exact(stream.lost) + (lately > 0 ? " (" + count(lately) + " in 60 s)" : ""));
   style(it.counts, lately > 0 ? "right bad" : "right");
-  drawStrip(it.strip, it.bins, now, lately);
+  drawStrip(it, now, lately);
   const slots = stream.got - old.got;
   stream.paths.forEach((path, n) => {
     drawPath(it.paths[n], stream, path, old.paths[n], slots, seconds);
     sumPath(nets[n], stream, path, old.paths[n], slots, seconds);
   });
-  const words = notes(stream);
-  show(it.note, words.length > 0 ? "refused: " + words.join(", ") : "nothing refused");
+  const words = notes(stream), none = stream.paths.some(path => path.bad === null) ? "refused on paths: not known" : "nothing refused";
+  show(it.note, words.length > 0 ? "refused: " + words.join(", ") : none);
   style(it.note, words.length > 0 ? "note warn" : "note");
 }
+
+// the packets of a path, or where those aren't told apart its datagrams
+const came = path => path.packets ?? path.datagrams;
+
+// how much more there is, if it is known
+const more = (now, before) => now === null || before === null ? null : now - before;
 
 // whether nothing came for so long that it is worth a word
 function isSilent(rate, seconds) {
@@ -279,8 +300,8 @@ function isSilent(rate, seconds) {
 }
 
 function sumPath(net, stream, path, old, slots, seconds) {
-  net.rate += (path.packets - old.packets) / seconds;
-  net.lost += (path.lost - old.lost) / seconds;
+  net.rate += (came(path) - came(old)) / seconds;
+  net.lost = path.lost === null ? null : net.lost + more(path.lost, old.lost) / seconds;
   net.all += path.lost;
   net.first += path.first - old.first;
   net.slots += slots;
@@ -289,20 +310,20 @@ function sumPath(net, stream, path, old, slots, seconds) {
 }
 
 function drawPath(it, stream, path, old, slots, seconds) {
-  const rate = (path.packets - old.packets) / seconds;
+  const rate = (came(path) - came(old)) / seconds;
   const silent = isSilent(rate, seconds) && (stream.state === "running" || stream.state === "lost");
   mark(it.row, "silent", silent);
   show(it.cells.rate, silent ? "silent" : count(rate));
-  show(it.cells.lost, count(path.lost));
+  show(it.cells.lost, known(path.lost, count));
   style(it.cells.lost, path.lost > old.lost ? "bad word" : "");
   show(it.cells.first, share(path.first - old.first, slots));
-  show(it.cells.double, count(path.double));
-  show(it.cells.late, count(path.late));
+  show(it.cells.double, known(path.double, count));
+  show(it.cells.late, known(path.late, count));
   style(it.cells.late, path.late > old.late ? "bad word" : path.late > 0 ? "warn" : "");
-  const known = path.spare_least !== null;
-  it.bar.style.display = known ? "inline-block" : "none";
-  show(it.spare, known ? millis(path.spare_least) + ", " + millis(path.spare_median) : "no packet");
-  if (known) {
+  const spares = path.spare_least !== null;
+  set(it.bar, "display", spares ? "inline-block" : "none");
+  show(it.spare, spares ? millis(path.spare_least) + ", " + millis(path.spare_median) : path.lost === null ? "\u2013" : "none in time");
+  if (spares) {
     width(it.least, path.spare_least / stream.latency);
     width(it.median, path.spare_median / stream.latency);
   }
@@ -329,28 +350,41 @@ function fill(bins, got, lost, now) {
   while (bins.length > BINS) bins.shift();
 }
 
-// got stands on the ground, lost hangs from above
-function drawStrip(canvas, bins, now, lately) {
-  const scale = window.devicePixelRatio || 1;
-  const wide = Math.round(canvas.clientWidth * scale), high = Math.round(canvas.clientHeight * scale);
-  if (canvas.width !== wide || canvas.height !== high) { canvas.width = wide; canvas.height = high; }
-  const pen = canvas.getContext("2d"), colors = getComputedStyle(document.documentElement);
-  pen.clearRect(0, 0, wide, high);
-  pen.fillStyle = colors.getPropertyValue("--track");
+// sizes and colors are read once, and again where they may have changed
+function measure() {
+  const scale = window.devicePixelRatio || 1, colors = getComputedStyle(document.documentElement);
+  const sizes = view.streams.map(it => [it.strip.clientWidth * scale, it.strip.clientHeight * scale]);
+  view.streams.forEach((it, n) => {
+    [it.strip.width, it.strip.height] = sizes[n].map(Math.round);
+    it.drawn = "";
+  });
+  const color = name => colors.getPropertyValue(name);
+  paint = { scale, track: color("--track"), bar: color("--bar"), bad: color("--bad") };
+}
+
+addEventListener("resize", () => { paint = null; });
+matchMedia("(prefers-color-scheme: dark)").addEventListener("change", () => { paint = null; });
+
+// got stands on the ground, lost hangs from above; drawn again where a second or a loss is new
+function drawStrip(it, now, lately) {
+  const newest = Math.floor(now / 1000), drawn = newest + " " + lately;
+  if (it.drawn === drawn) return;
+  it.drawn = drawn;
+  const { width: wide, height: high } = it.strip, pen = it.strip.getContext("2d");
+  pen.fillStyle = paint.track;
   pen.fillRect(0, 0, wide, high);
-  const step = wide / BINS, newest = Math.floor(now / 1000);
-  for (const bin of bins) {
+  const edge = second => Math.round(wide * (BINS - newest + second) / BINS);
+  for (const bin of it.bins) {
     const all = bin.got + bin.lost;
     if (all === 0) continue;
-    const left = Math.round((BINS - 1 - (newest - bin.second)) * step), right = Math.round((BINS - (newest - bin.second)) * step);
+    const left = edge(bin.second - 1), across = edge(bin.second) - left - paint.scale;
     const lost = bin.lost === 0 ? 0 : Math.max(.25, bin.lost / all);
-    pen.fillStyle = colors.getPropertyValue("--bar");
-    pen.fillRect(left, high * (lost === 0 ? .55 : Math.max(lost, .55)), right - left - scale, high);
-    pen.fillStyle = colors.getPropertyValue("--bad");
-    pen.fillRect(left, 0, right - left - scale, high * lost);
+    pen.fillStyle = paint.bar;
+    pen.fillRect(left, high * Math.max(lost, .55), across, high);
+    pen.fillStyle = paint.bad;
+    pen.fillRect(left, 0, across, high * lost);
   }
-  const label = "the last minute: lost " + count(lately);
-  if (canvas.getAttribute("aria-label") !== label) canvas.setAttribute("aria-label", label);
+  it.strip.setAttribute("aria-label", "the last minute: lost " + exact(lately));
 }
 
 // ---- meters
@@ -358,14 +392,15 @@ function drawStrip(canvas, bins, now, lately) {
 function drawOutput(it, output, now) {
   const db = decibels(output.peak);
   if (db >= it.hold || now - it.holdAt > HOLD) { it.hold = db; it.holdAt = now; }
-  if (it.saturated !== null && output.saturated > it.saturated) it.clipAt = now;
-  it.saturated = output.saturated;
+  if (it.full !== null && output.full_scale > it.full) it.clipAt = now;
+  it.full = output.full_scale;
   const clips = now - it.clipAt < HOLD;
-  show(it.clip, clips ? "\u25b2 CLIP, " + exact(output.saturated) + " saturated" : output.saturated > 0 ? exact(output.saturated) + " saturated" : "none saturated");
-  style(it.clip, clips ? "bad word" : output.saturated > 0 ? "warn" : "soft");
+  const full = output.full_scale;
+  show(it.clip, (clips ? "\u25b2 CLIP, " : "") + (full > 0 ? exact(full) : "none") + " at full scale");
+  style(it.clip, clips ? "bad word" : full > 0 ? "warn" : "soft");
   show(it.text, level(it.hold) + " dBFS");
   width(it.bar, 1 - db / FLOOR);
-  it.held.style.left = "calc(" + (100 * Math.min(1, Math.max(0, 1 - it.hold / FLOOR))).toFixed(1) + "% - 2px)";
+  set(it.held, "left", "calc(" + percent(1 - it.hold / FLOOR) + "% - 2px)");
 }
 
 // ---- asking, ten times a second, one request after another

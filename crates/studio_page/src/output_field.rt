@@ -9,11 +9,11 @@ use crate::snapshot::OutputState;
 #[derive(Clone, Copy, Debug, PartialEq, Eq)]
 pub enum OutputField {
     Peak,
-    Saturated,
+    FullScale,
 }
 
 /// The numbers of an output channel, in the order in which they are shown.
-pub const OUTPUT_FIELDS: [OutputField; 2] = [OutputField::Peak, OutputField::Saturated];
+pub const OUTPUT_FIELDS: [OutputField; 2] = [OutputField::Peak, OutputField::FullScale];
 
 impl OutputField {
     /// How it is called.
@@ -22,7 +22,7 @@ impl OutputField {
     {
         match self {
             OutputField::Peak => "peak",
-            OutputField::Saturated => "saturated",
+            OutputField::FullScale => "full_scale",
         }
     }
 
@@ -42,8 +42,8 @@ impl OutputField {
     {
         match self {
             OutputField::Peak =>
-                "The greatest magnitude of a sample of the last 50 ms, of 8388608 at full scale.",
-            OutputField::Saturated => "Samples that were saturated.",
+                "The greatest magnitude of a sample of the last tenth of a second, of 8388608 at full scale.",
+            OutputField::FullScale => "Samples at full scale, as saturated ones are.",
         }
     }
 
@@ -53,7 +53,7 @@ impl OutputField {
     {
         match self {
             OutputField::Peak => u64::from(output.peak),
-            OutputField::Saturated => output.saturated,
+            OutputField::FullScale => output.full_scale,
         }
     }
 }

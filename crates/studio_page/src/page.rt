@@ -1,10 +1,10 @@
 //! Who answers the requests.
-ghost use Rattle.std.specs.Prelude.{◌≡◌, ◌^◌, [], ◌∷◌, ◌++◌, OnOk, IfOk};
-ghost use Rattle.bytes.specs.Filled.{Filled};
-ghost use Rattle.http.specs.Request.{head_of};
-ghost use Rattle.http_uri.specs.Uri.{uri_path};
+ghost use Rattle.std.specs.Prelude.{◌≡◌, [], OnOk, IfOk};
+ghost use Rattle.http_server.specs.Connection.{config_of, history};
+ghost use Rattle.http_server.specs.History.{IsServed, Rests};
 ghost use Rattle.http_server.specs.Response.{IsBlank, IsResponse};
-ghost use Rattle.studio_page.specs.Answer.{IsAnswer, is_read, content_of, shown_fields, refused_fields};
+ghost use Rattle.studio_page.specs.Answered.{page_answers, AnswersMore};
+ghost use Rattle.studio_page.specs.Answer.{is_read, content_of, shown_fields, refused_fields};
 
 use crate::html::page_html;
 use crate::metrics::metrics_of;
@@ -13,7 +13,7 @@ use crate::snapshot::Snapshot;
 use crate::state::state_of;
 use bytes::Bytes;
 use http::{HeaderName, HeaderValue, Method, Request, StatusCode};
-use http_server::{Response, Service};
+use http_server::{Connection, Response, Service};
 use std::alloc::{AllocError, Global};
 
 /// Answers the requests of all connections from one snapshot, which the caller renews between them.
@@ -30,11 +30,21 @@ impl Page {
     {
         Page { alloc, snapshot }
     }
+
+    /// Answers what was read of a client. To be called after each read, and after each write.
+    pub fn answer(&mut self, connection: &mut Connection)
+        ensures served { ∥ IsServed (config_of connection.new) (history connection.new) ∥₁ }
+        ensures answers { AnswersMore self.old.snapshot (history connection.old) (history connection.new) }
+        ensures rests { Rests (config_of connection.new) (history connection.new) }
+        ensures same { self.new ≡ self.old }
+        ensures config { config_of connection.new ≡ config_of connection.old }
+    {
+        connection.advance(self);
+    }
 }
 
 impl Service for Page {
-    ghost answers = { λ old request response new.
-        IsAnswer old.snapshot (head_of request).method (uri_path (head_of request).uri) response × (new ≡ old) };
+    ghost answers = { page_answers };
 
     fn call(
         &mut self,

@@ -8,9 +8,9 @@ use crate::snapshot::PathState;
 /// A number of a path.
 #[derive(Clone, Copy, Debug, PartialEq, Eq)]
 pub enum PathField {
-    Offered,
-    Sent,
+    Datagrams,
     First,
+    Sent,
     Lost,
     Double,
     Unlike,
@@ -25,9 +25,9 @@ pub enum PathField {
 
 /// The numbers of a path, in the order in which they are shown.
 pub const PATH_FIELDS: [PathField; 13] = [
-    PathField::Offered,
-    PathField::Sent,
+    PathField::Datagrams,
     PathField::First,
+    PathField::Sent,
     PathField::Lost,
     PathField::Double,
     PathField::Unlike,
@@ -46,9 +46,9 @@ impl PathField {
         ensures { result.now ≡ path_key self }
     {
         match self {
-            PathField::Offered => "datagrams",
-            PathField::Sent => "packets",
+            PathField::Datagrams => "datagrams",
             PathField::First => "first",
+            PathField::Sent => "packets",
             PathField::Lost => "lost",
             PathField::Double => "double",
             PathField::Unlike => "unlike",
@@ -77,9 +77,9 @@ impl PathField {
         ensures { result.now ≡ path_help self }
     {
         match self {
-            PathField::Offered => "Datagrams that came on the path.",
+            PathField::Datagrams => "Datagrams that came on the path.",
+            PathField::First => "Packets of which the path brought the first copy.",
             PathField::Sent => "Datagrams that were packets of the stream.",
-            PathField::First => "Slots whose packet the path brought first.",
             PathField::Lost => "Packets of the stream that the path never brought.",
             PathField::Double => "Further copies, with the payload of the first.",
             PathField::Unlike => "Further copies, with another payload than the first.",
@@ -91,7 +91,7 @@ impl PathField {
             PathField::SpareLeast =>
                 "The least time before its deadline that a packet of the last second came, in periods of 48 kHz.",
             PathField::SpareMedian =>
-                "The median time before their deadlines that packets of the last second came, in periods of 48 kHz.",
+                "The median time before their deadlines that packets of the last second came, in periods of 48 kHz; past 6138 it may be more.",
         }
     }
 
@@ -100,17 +100,17 @@ impl PathField {
         ensures { result ≡ path_value self path.now }
     {
         match self {
-            PathField::Offered => Some(path.counts.offered),
-            PathField::Sent => Some(path.counts.sent),
+            PathField::Datagrams => Some(path.datagrams),
             PathField::First => Some(path.first),
-            PathField::Lost => Some(path.lost),
-            PathField::Double => Some(path.double),
-            PathField::Unlike => Some(path.unlike),
-            PathField::Late => Some(path.late),
-            PathField::Bad => Some(path.counts.bad),
-            PathField::WrongType => Some(path.counts.wrong_type),
-            PathField::WrongLength => Some(path.counts.wrong_length),
-            PathField::Full => Some(path.counts.full),
+            PathField::Sent => path.counts.map(|counts| counts.sent),
+            PathField::Lost => path.copies.map(|copies| copies.lost),
+            PathField::Double => path.copies.map(|copies| copies.double),
+            PathField::Unlike => path.copies.map(|copies| copies.unlike),
+            PathField::Late => path.copies.map(|copies| copies.late),
+            PathField::Bad => path.counts.map(|counts| counts.bad),
+            PathField::WrongType => path.counts.map(|counts| counts.wrong_type),
+            PathField::WrongLength => path.counts.map(|counts| counts.wrong_length),
+            PathField::Full => path.counts.map(|counts| counts.full),
             PathField::SpareLeast => path.spare.map(|spare| spare.least),
             PathField::SpareMedian => path.spare.map(|spare| spare.median),
         }

@@ -24,38 +24,45 @@ pub enum Condition {
 #[derive(Clone, Copy, Debug, PartialEq, Eq)]
 pub struct Spare {
     pub least: u64,
+    /// Rounded down to 6; past 6,138 it may be more.
     pub median: u64,
 }
 
-/// What is seen of a path.
-#[derive(Clone, Copy, Debug)]
-pub struct PathState {
-    /// Its datagrams, by what became of them before the merge.
-    pub counts: PathCounts,
-    /// The slots whose packet it brought first.
-    pub first: u64,
+/// What became of a path's packets beside those of the stream's other paths.
+#[derive(Clone, Copy, Debug, PartialEq, Eq)]
+pub struct Copies {
     /// The numbers of the span that it never brought.
     pub lost: u64,
     /// Its packets that were doubles, unlike the first copy, or late.
     pub double: u64,
     pub unlike: u64,
     pub late: u64,
-    /// None, where no packet came in the last second.
+}
+
+/// What is seen of a path. What a run doesn't know is none.
+#[derive(Clone, Copy, Debug)]
+pub struct PathState {
+    /// The datagrams that came on it.
+    pub datagrams: u64,
+    /// The packets of which it brought the first copy.
+    pub first: u64,
+    /// Its datagrams, by what became of them before the merge.
+    pub counts: Option<PathCounts>,
+    pub copies: Option<Copies>,
+    /// None, too, where no packet came in the last second.
     pub spare: Option<Spare>,
 }
 
 impl Default for PathState {
     ghost is_default = { λ path. path.spare ≡ None };
 
-    /// Nothing was offered.
+    /// Nothing came, and nothing more is known.
     fn default() -> PathState {
         PathState {
-            counts: PathCounts::new(),
+            datagrams: 0,
             first: 0,
-            lost: 0,
-            double: 0,
-            unlike: 0,
-            late: 0,
+            counts: None,
+            copies: None,
             spare: None,
         }
     }
@@ -66,8 +73,6 @@ impl Default for PathState {
 pub struct StreamState {
     pub name: Option<Name>,
     pub condition: Condition,
-    /// The epoch of its last slot.
-    pub epoch: u64,
     /// From a packet's media time to its deadline, in sampling instants.
     pub latency: u64,
     pub counts: Counts,
@@ -82,7 +87,6 @@ impl Default for StreamState {
         StreamState {
             name: None,
             condition: Condition::NoPacket,
-            epoch: 0,
             latency: 0,
             counts: Counts::new(),
             paths: ArrayVec::new(),
@@ -93,10 +97,10 @@ impl Default for StreamState {
 /// What is seen of an output channel.
 #[derive(Clone, Copy, Debug, Default, PartialEq, Eq)]
 pub struct OutputState {
-    /// The greatest magnitude of its samples in the last 50 ms, of 8,388,608 at full scale.
+    /// The greatest magnitude of its samples since the snapshot before, of 8,388,608 at full scale.
     pub peak: u32,
-    /// Its samples that were saturated, since the start.
-    pub saturated: u64,
+    /// Its samples at full scale, as a saturated one is, since the start.
+    pub full_scale: u64,
 }
 
 /// All that is seen: the streams and the output channels of a studio, in their order.

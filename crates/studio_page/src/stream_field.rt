@@ -19,12 +19,11 @@ pub enum StreamField {
     Ahead,
     WrongSource,
     Restarts,
-    Epoch,
     Latency,
 }
 
 /// The numbers of a stream, in the order in which they are shown.
-pub const STREAM_FIELDS: [StreamField; 13] = [
+pub const STREAM_FIELDS: [StreamField; 12] = [
     StreamField::Got,
     StreamField::Lost,
     StreamField::Arrived,
@@ -36,7 +35,6 @@ pub const STREAM_FIELDS: [StreamField; 13] = [
     StreamField::Ahead,
     StreamField::WrongSource,
     StreamField::Restarts,
-    StreamField::Epoch,
     StreamField::Latency,
 ];
 
@@ -57,7 +55,6 @@ impl StreamField {
             StreamField::Ahead => "ahead",
             StreamField::WrongSource => "wrong_source",
             StreamField::Restarts => "restarts",
-            StreamField::Epoch => "epoch",
             StreamField::Latency => "latency",
         }
     }
@@ -67,7 +64,7 @@ impl StreamField {
         ensures { result ≡ stream_kind self }
     {
         match self {
-            StreamField::Epoch | StreamField::Latency => Kind::Gauge,
+            StreamField::Latency => Kind::Gauge,
             _ => Kind::Counter,
         }
     }
@@ -88,7 +85,6 @@ impl StreamField {
             StreamField::Ahead => "Packets beyond the reorder window.",
             StreamField::WrongSource => "Packets of another synchronization source.",
             StreamField::Restarts => "Packets that opened a new epoch.",
-            StreamField::Epoch => "The epoch of the last slot.",
             StreamField::Latency =>
                 "From a packet's media time to its deadline, in periods of 48 kHz.",
         }
@@ -110,7 +106,6 @@ impl StreamField {
             StreamField::Ahead => stream.counts.ahead,
             StreamField::WrongSource => stream.counts.wrong_source,
             StreamField::Restarts => stream.counts.restarts,
-            StreamField::Epoch => stream.epoch,
             StreamField::Latency => stream.latency,
         }
     }

@@ -47,7 +47,7 @@ impl Client {
     pub(crate) fn turn(&mut self, page: &mut Page, now: Duration) {
         self.progress = Progress::GoesOn;
         for _ in 0..MOST_STEPS {
-            self.connection.advance(page);
+            page.answer(&mut self.connection);
             self.progress = self.step();
             if self.progress != Progress::GoesOn {
                 return;

@@ -5,7 +5,7 @@ use Rattle.studio_spec.specs.Studio.{channel_total}
 use Rattle.studio_spec.specs.Config.{top_rows, streams_of, config_fault_of}
 use Rattle.studio_spec.specs.Rows.{Row, required, whole, few_tables, a_table, key_of, first_of, first_in, at_table, row_fault, rows_fault, unknown_fault, table_fault}
 use Rattle.studio_spec.specs.NetworkTable.{path_rows, sender_rows}
-use Rattle.studio_spec.specs.StreamTable.{packet_rows, source_rows, wait_rows, port_rows, stream_rows, stream_fault}
+use Rattle.studio_spec.specs.StreamTable.{packet_rows, source_rows, wait_rows, port_rows, name_rows, stream_rows, stream_fault}
 use Rattle.studio_spec.specs.OutputTable.{number_rows, gains_row, change_row, address_rows, output_rows, output_of, each_fault, change_fault, schedule_fault, output_fault}
 use Rattle.studio_spec.specs.declared.config.fault.Place.{Place}
 use Rattle.studio_spec.specs.declared.config.fault.Place.TheVariants as at
@@ -25,15 +25,21 @@ rows_fault-append place m [] more = refl
 rows_fault-append place m (row ∷ rows) more = ap (first_of (row_fault place m row)) (rows_fault-append place m rows more) ∙ first_of-first_of (row_fault place m row) (rows_fault place m rows) (rows_fault place m more)
 
 -- the rows of a stream's table, group by group
-pub stream_rows-fault : (place : Place) (m : Members) → rows_fault place m stream_rows ≡ first_of (rows_fault place m packet_rows) (first_of (rows_fault place m source_rows) (first_of (rows_fault place m wait_rows) (first_of (rows_fault place m port_rows) (rows_fault place m path_rows))))
+abbrev stream_parts : Place → Members → Option SpecError
+stream_parts place m =
+    first_of (rows_fault place m packet_rows) (first_of (rows_fault place m source_rows) (first_of (rows_fault place m wait_rows)
+    (first_of (rows_fault place m port_rows) (first_of (rows_fault place m path_rows) (rows_fault place m name_rows)))))
+
+pub stream_rows-fault : (place : Place) (m : Members) → rows_fault place m stream_rows ≡ stream_parts place m
 stream_rows-fault place m =
-    rows_fault-append place m packet_rows (source_rows ++ wait_rows ++ port_rows ++ path_rows)
-    ∙ ap (first_of (rows_fault place m packet_rows)) (rows_fault-append place m source_rows (wait_rows ++ port_rows ++ path_rows)
-    ∙ ap (first_of (rows_fault place m source_rows)) (rows_fault-append place m wait_rows (port_rows ++ path_rows)
-    ∙ ap (first_of (rows_fault place m wait_rows)) (rows_fault-append place m port_rows path_rows)))
+    rows_fault-append place m packet_rows (source_rows ++ wait_rows ++ port_rows ++ path_rows ++ name_rows)
+    ∙ ap (first_of (rows_fault place m packet_rows)) (rows_fault-append place m source_rows (wait_rows ++ port_rows ++ path_rows ++ name_rows)
+    ∙ ap (first_of (rows_fault place m source_rows)) (rows_fault-append place m wait_rows (port_rows ++ path_rows ++ name_rows)
+    ∙ ap (first_of (rows_fault place m wait_rows)) (rows_fault-append place m port_rows (path_rows ++ name_rows)
+    ∙ ap (first_of (rows_fault place m port_rows)) (rows_fault-append place m path_rows name_rows))))
 
 -- a fault of a key is that of the stream
-pub stream_fault-rows : (place : Place) (m : Members) (e : SpecError) → first_of (rows_fault place m packet_rows) (first_of (rows_fault place m source_rows) (first_of (rows_fault place m wait_rows) (first_of (rows_fault place m port_rows) (rows_fault place m path_rows)))) ≡ Some e → stream_fault place m ≡ Some e
+pub stream_fault-rows : (place : Place) (m : Members) (e : SpecError) → stream_parts place m ≡ Some e → stream_fault place m ≡ Some e
 stream_fault-rows place m e faulty =
     let rows : rows_fault place m stream_rows ≡ Some e = stream_rows-fault place m ∙ faulty in
     rw rows

@@ -20,6 +20,8 @@ pub data Range : Type 0 where
   one_of : List (List ℕ) → Range
   -- the text of an IPv4 address
   an_address : Range
+  -- a text of at most so many octets
+  a_text : ℕ → Range
   -- a table
   a_table : Range
   -- an array of tables
@@ -79,11 +81,17 @@ abbrev pub address_fault : Option (List ℕ) → Option Kind
 address_fault (Some text) = range_fault (is_some (address_of text))
 address_fault None = Some WrongKind
 
+-- the fault of a text that has to have at most so many octets
+abbrev pub length_fault : ℕ → Option (List ℕ) → Option Kind
+length_fault most (Some text) = range_fault (nat_le (length text) most)
+length_fault most None = Some WrongKind
+
 -- the first fault of a value: its kind, then its range
 abbrev pub value_fault : Range → Data → Option Kind
 value_fault (whole least greatest) d = whole_fault least greatest (as_integer d)
 value_fault (one_of texts) d = text_fault texts (as_str d)
 value_fault an_address d = address_fault (as_str d)
+value_fault (a_text most) d = length_fault most (as_str d)
 value_fault a_table d = kind_fault (is_table d)
 value_fault tables d = kind_fault (are_tables d)
 value_fault (few_tables least greatest) d =

@@ -7,7 +7,7 @@ use Rattle.stream_rules.specs.declared.stream_spec.StreamClock.TheVariants.{Medi
 use Rattle.toml.specs.Data.{Members}
 use Rattle.studio_spec.specs.Values.{number_at, number_or, text_at, encoding_at, is_media}
 use Rattle.studio_spec.specs.NetworkTable.{path_rows}
-use Rattle.studio_spec.specs.Rows.{Row, required, optional, whole, one_of, encodings, clocks, first_of, at_table, table_fault}
+use Rattle.studio_spec.specs.Rows.{Row, required, optional, whole, a_text, one_of, encodings, clocks, first_of, at_table, table_fault}
 use Rattle.studio_spec.specs.declared.config.keys.Key.TheVariants as key
 use Rattle.studio_spec.specs.declared.config.fault.Place.{Place}
 use Rattle.studio_spec.specs.declared.config.fault.Kind.TheVariants as kind
@@ -47,8 +47,12 @@ port_rows =
     ∷ optional key.PortD (whole 1 65535)
     ∷ []
 
+-- how people call it
+abbrev pub name_rows : List Row
+name_rows = optional key.Name (a_text 64) ∷ []
+
 abbrev pub stream_rows : List Row
-stream_rows = packet_rows ++ source_rows ++ wait_rows ++ port_rows ++ path_rows
+stream_rows = packet_rows ++ source_rows ++ wait_rows ++ port_rows ++ path_rows ++ name_rows
 
 -- the media clock with its offset, which is 0 if absent, or the clock of arrivals
 abbrev pub clock_of : Members → StreamClock

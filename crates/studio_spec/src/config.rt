@@ -7,6 +7,7 @@ mod gains;
 mod keys;
 mod known;
 mod lookup;
+mod name;
 mod networks;
 mod numbers;
 mod output;

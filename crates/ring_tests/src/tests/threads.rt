@@ -1,5 +1,5 @@
 //! One stream on two paths by four threads: two that offer, one that merges, one that mixes.
-use super::rings::studio_of;
+use super::rings::{last_of, open_ends};
 use path_merge::Counts;
 use std::alloc::Global;
 use std::process::Abort;
@@ -8,7 +8,7 @@ use std::test::Fail;
 use std::thread;
 use std::thread::{Parker, Threads};
 use std::time::Duration;
-use studio_rings::{Ends, MixEnd, Offer, PathCounts, PathEnd, StreamEnd, open};
+use studio_rings::{MixEnd, Offer, PathCounts, PathEnd, StreamEnd};
 
 /// The packets that each path sends.
 const PACKETS: u8 = 100;
@@ -87,16 +87,11 @@ fn mix_all(rt: &(impl Wait + Abort), mut mix: MixEnd, blocks: u8) {
 }
 
 /// The four threads, over rings of so many places. The last packet's deadline is not reached.
-fn by_threads(
-    rt: &(impl Threads + Wait + Abort + Sync),
-    alloc: Global,
-    places: usize,
-) -> Result<(), Fail> {
-    let studio = studio_of(rt, alloc, 128)?;
-    let mut ends = open(alloc, &studio, places)?;
-    let second = ends.paths.pop().ok_or("two paths")?;
-    let first = ends.paths.pop().ok_or("two paths")?;
-    let stream = ends.streams.pop().ok_or("one stream")?;
+fn by_threads(rt: &(impl Threads + Wait + Abort + Sync), alloc: Global, places: usize) {
+    let mut ends = open_ends(rt, alloc, 128, places);
+    let second = last_of(rt, &mut ends.paths);
+    let first = last_of(rt, &mut ends.paths);
+    let stream = last_of(rt, &mut ends.streams);
     let mix = ends.mix;
     thread::scope(thread::scope_env(), rt, |scope| {
         let Ok(by_first) = scope.spawn(move || send_all(rt, first)) else {
@@ -117,14 +112,13 @@ fn by_threads(
         let counts = merged.join(rt);
         assert!(rt; (counts.arrived, counts.got, counts.lost) == (200, 99, 0));
     });
-    Ok(())
 }
 
 /// Rings of 1 to 4,096 places between threads: each datagram has its packet's samples.
 #[test]
 fn threads_over_rings_of_any_length_lose_nothing(rt: HostRuntime) -> Result<(), Fail> {
     for places in [1usize, 2, 3, 64, 4_096] {
-        by_threads(&rt, rt.alloc(), places)?;
+        by_threads(&rt, rt.alloc(), places);
     }
     Ok(())
 }

@@ -10,6 +10,7 @@ ghost use Rattle.studio_spec.specs.declared.config.keys.Key.TheVariants as key;
 use crate::config::fault::{Kind, Place, SpecError};
 use crate::config::keys::Key;
 use crate::config::known::check_known;
+use crate::config::name::check_name;
 use crate::config::networks::read_path_addresses;
 use crate::config::numbers::{optional_whole, port, whole, whole_or};
 use crate::config::packets::read_packets;
@@ -19,7 +20,7 @@ use stream_rules::{Stream, StreamClock, StreamSpec};
 use toml::Table;
 
 /// The keys of a stream's table.
-const KEYS: [Key; 22] = [
+const KEYS: [Key; 23] = [
     Key::Encoding,
     Key::Channels,
     Key::Frames,
@@ -42,6 +43,7 @@ const KEYS: [Key; 22] = [
     Key::SourceB,
     Key::SourceC,
     Key::SourceD,
+    Key::Name,
 ];
 
 /// The source that packets come from, if it is said, and the clock of their media times.
@@ -81,6 +83,7 @@ pub(crate) fn read_stream(table: &Table, place: Place) -> Result<StreamEntry, Sp
     let wait = read_wait(table, place)?;
     let ports = read_ports(table, place)?;
     let addresses = read_path_addresses(table, place)?;
+    check_name(table, place)?;
     check_known(table, place, &KEYS)?;
     let stream = Stream {
         enc: packets.enc,

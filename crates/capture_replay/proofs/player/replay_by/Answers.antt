@@ -2,9 +2,9 @@ use Rattle.capture_replay.specs.Events.{closed_events, replay_events}
 use Rattle.capture_replay.specs.Plan.{plan_view}
 use Rattle.capture_replay.specs.declared.fault.ReplayFault.TheVariants.{Capture, Write}
 use Rattle.capture_replay.proofs.CaseLemmas.{some_maps, told}
-use Rattle.capture_replay.proofs.EndLemmas.{unopened}
+use Rattle.capture_replay.proofs.EndLemmas.{ends_behind, unopened}
 use Rattle.capture_replay.proofs.EventLemmas.{first_same}
-use Rattle.capture_replay.proofs.ReplayLemmas.{begins_whole, replaying_none}
+use Rattle.capture_replay.proofs.ReplayLemmas.{begins_whole, begun_replayed, replaying_none, unheard}
 use Rattle.capture_replay.proofs.player.replay_by.Goals as goal
 
 pub returns-in_err-window-clause-fault : goal.returns-in_err-window-clause-fault
@@ -13,7 +13,7 @@ returns-in_err-window-clause-fault g c =
     let written = g.W.Write.contents c.args.writer.now in
     let fault = c.in_err-window.field-0.0 in
     told _ (Capture fault) c.from_residual-in_err-window.result c.from_residual-in_err-window.ensures.1
-    (unopened c.args.spec.now (plan_view c.args.plan.now) first written c.in_ok-run.run' fault (c.in_ok-run.ensures.stands written) c.in_err-window.ensures.fault)
+    (unopened c.args.spec.now (plan_view c.args.plan.now) first written (g.L.Listener.heard c.args.listener.now c.args.listener.now) c.in_ok-run.run' fault (begun_replayed c.args.spec.now written _ _ c.in_ok-run.ensures.begun c.requires.fresh) c.in_err-window.ensures.fault)
 
 pub close-requires : goal.close-requires
 close-requires g c =
@@ -21,8 +21,8 @@ close-requires g c =
     let plan = plan_view c.args.plan.now in
     let first = g.R.Read.remaining c.args.reader.now in
     let written = g.W.Write.contents c.args.writer.now in
-    let come = c.in-Ok.ensures.ok spec first written (replaying_none spec plan first written _ _ _ _ _ c.in_ok-window.ensures.told c.in_ok-run.ensures.clock (c.in_ok-run.ensures.stands written)) in
-    record { events = closed_events spec plan come.packets c.args.closing; written = written; replayed = come.replayed }
+    let come = c.in-Ok.ensures.ok spec first written c.args.listener.now (replaying_none spec plan first written _ _ _ _ _ _ c.in_ok-window.ensures.told c.in_ok-run.ensures.clock (begun_replayed spec written _ _ c.in_ok-run.ensures.begun c.requires.fresh)) in
+    record { events = closed_events spec plan come.packets c.args.closing; written = written; replayed = unheard spec (closed_events spec plan come.packets c.args.closing) written _ _ _ come.replayed }
 
 pub returns-in_err-close-in-Ok-clause-fault : goal.returns-in_err-close-in-Ok-clause-fault
 returns-in_err-close-in-Ok-clause-fault g c =
@@ -30,14 +30,14 @@ returns-in_err-close-in-Ok-clause-fault g c =
     let plan = plan_view c.args.plan.now in
     let first = g.R.Read.remaining c.args.reader.now in
     let written = g.W.Write.contents c.args.writer.now in
-    let come = c.in-Ok.ensures.ok spec first written (replaying_none spec plan first written _ _ _ _ _ c.in_ok-window.ensures.told c.in_ok-run.ensures.clock (c.in_ok-run.ensures.stands written)) in
+    let come = c.in-Ok.ensures.ok spec first written c.args.listener.now (replaying_none spec plan first written _ _ _ _ _ _ c.in_ok-window.ensures.told c.in_ok-run.ensures.clock (begun_replayed spec written _ _ c.in_ok-run.ensures.begun c.requires.fresh)) in
     told _ Write c.from_residual-in_err-close-in-Ok.result c.from_residual-in_err-close-in-Ok.ensures.1 (record {
       packets = come.packets;
       closing = c.args.closing;
       told = some_maps first _ _ (λ file whole. (begins_whole file come.packets whole, tt)) come.told;
       events = replay_events spec plan come.packets c.args.closing;
       first = first_same (replay_events spec plan come.packets c.args.closing);
-      front = c.in_err-close-in-Ok.ensures.fault (closed_events spec plan come.packets c.args.closing) written come.replayed;
+      front = c.in_err-close-in-Ok.ensures.fault (closed_events spec plan come.packets c.args.closing) written c.args.listener.now come.replayed;
     })
 
 pub returns-in-Ok-clause-ok : goal.returns-in-Ok-clause-ok
@@ -46,8 +46,8 @@ returns-in-Ok-clause-ok g c =
     let plan = plan_view c.args.plan.now in
     let first = g.R.Read.remaining c.args.reader.now in
     let written = g.W.Write.contents c.args.writer.now in
-    let come = c.in-Ok.ensures.ok spec first written (replaying_none spec plan first written _ _ _ _ _ c.in_ok-window.ensures.told c.in_ok-run.ensures.clock (c.in_ok-run.ensures.stands written)) in
-    record { packets = come.packets; told = come.told; writes = c.in_ok-close-in-Ok.ensures.ok (closed_events spec plan come.packets c.args.closing) written come.replayed }
+    let come = c.in-Ok.ensures.ok spec first written c.args.listener.now (replaying_none spec plan first written _ _ _ _ _ _ c.in_ok-window.ensures.told c.in_ok-run.ensures.clock (begun_replayed spec written _ _ c.in_ok-run.ensures.begun c.requires.fresh)) in
+    record { packets = come.packets; told = come.told; writes = c.in_ok-close-in-Ok.ensures.ok (closed_events spec plan come.packets c.args.closing) written c.args.listener.now come.replayed; hears = c.in_ok-close-in-Ok.ensures.hears (closed_events spec plan come.packets c.args.closing) written c.args.listener.now come.replayed }
 
 pub returns-clause-fault : goal.returns-clause-fault
 returns-clause-fault g c =
@@ -55,5 +55,5 @@ returns-clause-fault g c =
     let plan = plan_view c.args.plan.now in
     let first = g.R.Read.remaining c.args.reader.now in
     let written = g.W.Write.contents c.args.writer.now in
-    c.break_off.ensures spec plan first written (c.in-Err.ensures.fault spec first written
-    (replaying_none spec plan first written _ _ _ _ _ c.in_ok-window.ensures.told c.in_ok-run.ensures.clock (c.in_ok-run.ensures.stands written)))
+    ends_behind spec plan first written _ _ _ c.go_to_close.new.self c.in-Err.fault c.break_off.result c.break_off.ensures (c.in-Err.ensures.fault spec first written c.args.listener.now
+    (replaying_none spec plan first written _ _ _ _ _ _ c.in_ok-window.ensures.told c.in_ok-run.ensures.clock (begun_replayed spec written _ _ c.in_ok-run.ensures.begun c.requires.fresh)))

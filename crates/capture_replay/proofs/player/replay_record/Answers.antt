@@ -13,12 +13,13 @@ returns-clause-ok g c =
     let first = g.R.Read.remaining c.args.reader.now in
     let written = g.W.Write.contents c.args.writer.now in
     let then = g.W.Write.contents c.replay_by.new.writer in
+    let heard = g.L.Listener.heard c.args.listener.now c.replay_by.new.listener in
     let small = c.open_at.type_inv in
     let bits : to_z w64 (of_z w64 c.open_at.result) ≡ c.open_at.result = omega (arith, ints, small) in
     let same : Places c.streams.result.now c.instants_of.result ≡ places_of spec =
     ap (λ l. Places l c.instants_of.result) c.streams.ensures.value ∙ ap (Places spec.streams) (c.instants_of.ensures ∙ ap natural (bits ∙ c.open_at.ensures.value)) in
-    ok_then c.replay_by.result (WritesReplay spec (Places c.streams.result.now c.instants_of.result) c.args.closing first written then) (WritesReplay spec (places_of spec) c.args.closing first written then)
-    (λ writes. subst (λ (plan : PlanView). WritesReplay spec plan c.args.closing first written then) same writes) c.replay_by.ensures.ok
+    ok_then c.replay_by.result (WritesReplay spec (Places c.streams.result.now c.instants_of.result) c.args.closing first written then heard) (WritesReplay spec (places_of spec) c.args.closing first written then heard)
+    (λ writes. subst (λ (plan : PlanView). WritesReplay spec plan c.args.closing first written then heard) same writes) c.replay_by.ensures.ok
 
 pub returns-clause-fault : goal.returns-clause-fault
 returns-clause-fault g c =
@@ -26,9 +27,10 @@ returns-clause-fault g c =
     let first = g.R.Read.remaining c.args.reader.now in
     let written = g.W.Write.contents c.args.writer.now in
     let then = g.W.Write.contents c.replay_by.new.writer in
+    let heard = g.L.Listener.heard c.args.listener.now c.replay_by.new.listener in
     let small = c.open_at.type_inv in
     let bits : to_z w64 (of_z w64 c.open_at.result) ≡ c.open_at.result = omega (arith, ints, small) in
     let same : Places c.streams.result.now c.instants_of.result ≡ places_of spec =
     ap (λ l. Places l c.instants_of.result) c.streams.ensures.value ∙ ap (Places spec.streams) (c.instants_of.ensures ∙ ap natural (bits ∙ c.open_at.ensures.value)) in
-    err_then c.replay_by.result (λ (fault : ReplayFault). BreaksOffReplay spec (Places c.streams.result.now c.instants_of.result) first written then fault) (λ (fault : ReplayFault). BreaksOffReplay spec (places_of spec) first written then fault)
-    (λ fault breaks. subst (λ (plan : PlanView). BreaksOffReplay spec plan first written then fault) same breaks) c.replay_by.ensures.fault
+    err_then c.replay_by.result (λ (fault : ReplayFault). BreaksOffReplay spec (Places c.streams.result.now c.instants_of.result) first written then heard fault) (λ (fault : ReplayFault). BreaksOffReplay spec (places_of spec) first written then heard fault)
+    (λ fault breaks. subst (λ (plan : PlanView). BreaksOffReplay spec plan first written then heard fault) same breaks) c.replay_by.ensures.fault

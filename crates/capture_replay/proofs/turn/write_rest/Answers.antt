@@ -8,7 +8,7 @@ rounds-init g c = record {
   room = refl;
   output = refl;
   closed = refl;
-  stands = λ studio events datagrams s. gives_none studio _ events events datagrams _ _ refl s;
+  stands = λ studio events datagrams begun s. gives_none studio _ events events datagrams _ _ _ refl s;
 }
 
 pub rounds-preserved : goal.rounds-preserved
@@ -23,10 +23,10 @@ rounds-preserved g c =
       room = long;
       output = c.drain.ensures.output ∙ inv.output;
       closed = c.drain.ensures.closed ∙ inv.closed;
-      stands = λ studio events datagrams s.
-          let r = inv.stands studio events datagrams s in
-          gives_more studio c.rounds.engine c.drain.new.self events events events datagrams _ _ _ _ _ _ c.rounds.out c.drain.new.out c.in-Some.len refl same within r
-          (c.in-Some.ensures.some studio events (datagrams ++ r.more) r.stands) c.in_ok-write_datagram-in-Some.ensures.ok;
+      stands = λ studio events datagrams begun s.
+          let r = inv.stands studio events datagrams begun s in
+          gives_more studio c.rounds.engine c.drain.new.self events events events datagrams _ _ _ _ _ _ c.rounds.out c.drain.new.out _ _ _ c.in-Some.len refl same within r
+          (c.in-Some.ensures.some studio events (datagrams ++ r.more) r.stands) (c.output.ensures.heard begun) c.in_ok-write_datagram-in-Some.ensures.ok;
     }
 
 pub returns-in_err-write_datagram-in-Some-clause-fault : goal.returns-in_err-write_datagram-in-Some-clause-fault
@@ -38,12 +38,12 @@ returns-in_err-write_datagram-in-Some-clause-fault g c =
     let long = same ∙ inv.room in
     let within : c.in-Some.len ≤ length c.rounds.out = omega (arith, len, short, long, same) in
     let is : c.from_residual.result ≡ Err c.in_err-write_datagram-in-Some.field-0.0 = search rules in
-    rw is (λ studio events datagrams s.
-    let r = inv.stands studio events datagrams s in
-    breaks_more studio c.rounds.engine c.drain.new.self events events events datagrams _ _ _ _ _ c.rounds.out c.drain.new.out c.in-Some.len refl same within r
-    (c.in-Some.ensures.some studio events (datagrams ++ r.more) r.stands) c.in_err-write_datagram-in-Some.ensures.fault)
+    rw is (λ studio events datagrams begun s.
+    let r = inv.stands studio events datagrams begun s in
+    breaks_more studio c.rounds.engine c.drain.new.self events events events datagrams _ _ _ _ _ c.rounds.out c.drain.new.out _ _ _ c.in-Some.len refl same within r
+    (c.in-Some.ensures.some studio events (datagrams ++ r.more) r.stands) (c.output.ensures.heard begun) c.in_err-write_datagram-in-Some.ensures.fault)
 
 pub returns-in-None-clause-ok : goal.returns-in-None-clause-ok
-returns-in-None-clause-ok g c = λ studio events datagrams s.
-    let r = c.rounds.invariant.stands studio events datagrams s in
-    gives_last studio c.rounds.engine c.drain.new.self events events events datagrams _ _ _ _ refl r (c.in-None.ensures.none refl studio events (datagrams ++ r.more) r.stands)
+returns-in-None-clause-ok g c = λ studio events datagrams begun s.
+    let r = c.rounds.invariant.stands studio events datagrams begun s in
+    gives_last studio c.rounds.engine c.drain.new.self events events events datagrams _ _ _ _ _ _ refl r (c.in-None.ensures.none refl studio events (datagrams ++ r.more) r.stands)

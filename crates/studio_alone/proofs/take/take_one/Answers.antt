@@ -1,4 +1,4 @@
-use Rattle.std.proofs.Common.{rules, ◌≡◌, ◌+◌, true, [], ◌∷◌, take, refl, ◌∙◌, arith, w64, to_z, of_z}
+use Rattle.std.proofs.Common.{rules, ◌≡◌, ◌+◌, true, [], ◌∷◌, take, refl, arith}
 use Rattle.studio_alone.proofs.AnswerLemmas.{goes-datagram, goes-end, goes-fault, goes-last, goes-nothing, goes-nowhere}
 use Rattle.studio_alone.proofs.TakeLemmas.{takes-none}
 use Rattle.studio_alone.proofs.TellLemmas.{hears_one}
@@ -7,17 +7,15 @@ use Rattle.studio_alone.proofs.take.take_one.Goals as goal
 pub returns-then-taker : goal.returns-then-taker
 returns-then-taker g c = λ studio events datagrams s. takes-none g.F.Feed.told studio _ events datagrams _ _ _ _ _ 1 s (goes-nowhere g.F.Feed.told c.args.taker.now)
 
-pub returns-in_ok-arrive-in-Datagram : goal.returns-in_ok-arrive-in-Datagram
-returns-in_ok-arrive-in-Datagram g c = λ studio events datagrams s.
-    let stands = c.in_ok-arrive-in-Datagram.ensures.stands studio events datagrams s in
-    let time = to_z w64 (of_z w64 c.time.result) in
-    let read : time ≡ c.time.result = search rules in
+pub returns-in_ok-receipt-in-Datagram : goal.returns-in_ok-receipt-in-Datagram
+returns-in_ok-receipt-in-Datagram g c = λ studio events datagrams s.
+    let stands = c.in_ok-receipt-in-Datagram.ensures.stands studio events datagrams s in
     record {
       given = take c.in-Datagram.count c.next.new.buf ∷ [];
       few = omega arith;
       stands = stands;
-      heard = hears_one studio.open_at events (g.T.Tap.heard c.args.tap.now) (g.T.Tap.heard c.arrived.new.self) c.args.stream c.args.path time (take c.in-Datagram.count c.next.new.buf)
-          (read ∙ (c.time.ensures.value ∙ stands.time)) c.arrived.ensures.heard;
+      heard = hears_one studio.open_at events (g.T.Tap.heard c.args.tap.now) (g.T.Tap.heard c.arrived.new.self) c.args.stream c.args.path c.arrive.new.self.time (take c.in-Datagram.count c.next.new.buf)
+          stands.time c.arrived.ensures.heard;
       goes_on = goes-datagram g.F.Feed.told c.args.taker.now (record { feed = c.next.new.self; in_a_row = 0; faults = c.args.taker.now.faults; ended = c.args.taker.now.ended }) c.next.new.buf c.in-Datagram.count c.if-taker.false c.if-taker.false refl (c.in-Datagram.ensures.tells c.requires.room);
     }
 

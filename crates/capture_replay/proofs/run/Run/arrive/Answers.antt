@@ -5,7 +5,7 @@ use Rattle.studio_engine.specs.Session.{HasSession}
 use Rattle.capture_replay.proofs.run.Run.arrive.Goals as goal
 
 pub returns-in-Ok-clause-ok : goal.returns-in-Ok-clause-ok
-returns-in-Ok-clause-ok c = λ studio events written then r.
+returns-in-Ok-clause-ok g c = λ studio events written then begun r.
     let target = c.args.target in
     let octets = c.args.octets.now in
     let event : TraceEvent = Arrival target.stream target.path octets in
@@ -16,4 +16,5 @@ returns-in-Ok-clause-ok c = λ studio events written then r.
       rested = c.in-Ok.ensures.turning ∙ r.rested;
       open_yet = closed_more false events event ∙ r.open_yet;
       wrote = r.wrote;
+      told = subst (λ e. g.L.Listener.heard begun c.arrived.new.self (events ++ e ∷ []) r.datagrams) same (c.arrived.ensures.heard begun events r.datagrams r.told);
     }

@@ -7,16 +7,16 @@ use Rattle.capture_replay.proofs.run.Run.go_to_close.Goals as goal
 pub returns-in_err-go_over-clause-fault : goal.returns-in_err-go_over-clause-fault
 returns-in_err-go_over-clause-fault g c =
     let is : c.from_residual.result ≡ Err c.in_err-go_over.field-0.0 = search rules in
-    rw is (λ studio first written r. c.in_err-go_over.ensures.fault studio first written r)
+    rw is (λ studio first written begun r. c.in_err-go_over.ensures.fault studio first written begun r)
 
 pub returns-clause-ok : goal.returns-clause-ok
 returns-clause-ok g c =
-    ok_then c.read.result _ _ (λ reads studio first written r.
-    come_to_close studio (plan_view c.args.plan.now) c.args.closing c.opening.result first written _ _ c.go_over.new.self c.read.new.self c.opening.ensures
-    (c.in_ok-go_over.ensures.ok studio first written r) (λ events replayed. reads studio events written replayed)) c.read.ensures.ok
+    ok_then c.read.result _ _ (λ reads studio first written begun r.
+    come_to_close studio (plan_view c.args.plan.now) c.args.closing c.opening.result first written _ _ _ _ c.go_over.new.self c.read.new.self c.opening.ensures
+    (c.in_ok-go_over.ensures.ok studio first written begun r) (λ events replayed. reads studio events written begun replayed)) c.read.ensures.ok
 
 pub returns-clause-fault : goal.returns-clause-fault
 returns-clause-fault g c =
-    err_both c.read.result _ _ _ (λ fault kind stops studio first written r.
-    stops_at_close studio (plan_view c.args.plan.now) c.args.closing c.opening.result first written _ _ c.go_over.new.self c.read.new.self fault c.opening.ensures kind
-    (c.in_ok-go_over.ensures.ok studio first written r) (λ events replayed. stops studio events written replayed)) c.read.ensures.kind c.read.ensures.fault
+    err_both c.read.result _ _ _ (λ fault kind stops studio first written begun r.
+    stops_at_close studio (plan_view c.args.plan.now) c.args.closing c.opening.result first written _ _ _ _ c.go_over.new.self c.read.new.self fault c.opening.ensures kind
+    (c.in_ok-go_over.ensures.ok studio first written begun r) (λ events replayed. stops studio events written begun replayed)) c.read.ensures.kind c.read.ensures.fault

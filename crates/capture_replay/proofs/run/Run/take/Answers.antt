@@ -20,13 +20,13 @@ returns-in_err-read-clause-fault g c =
     let clock = c.args.self.now.clock in
     let target = c.in-Some.target in
     let known : target_of plan packet ≡ Some target = sym c.target.ensures ∙ c.in-Some.is in
-    rw is (λ studio events written r.
+    rw is (λ studio events written begun r.
     let before = read_at studio.open_at (opening_of plan) events clock.reading (clock_with clock packet.time).reading in
-    subst (λ o. Stops studio (events_with studio.open_at (opening_of plan) clock events packet o) written c.read.new.self (g.W.Write.contents c.read.new.writer) fault) (sym known)
-    (stops_longer studio before (events_with studio.open_at (opening_of plan) clock events packet (Some target)) written _ c.read.new.self fault
+    subst (λ o. Stops studio (events_with studio.open_at (opening_of plan) clock events packet o) written c.read.new.self (g.W.Write.contents c.read.new.writer) (g.L.Listener.heard begun c.read.new.listener) fault) (sym known)
+    (stops_longer studio before (events_with studio.open_at (opening_of plan) clock events packet (Some target)) written _ _ c.read.new.self fault
     (first_more before (Arrival target.stream target.path (octets_of packet.ip.body) ∷ []))
-    (subst (λ from. Stops studio (read_at studio.open_at from events clock.reading (clock_with clock packet.time).reading) written c.read.new.self (g.W.Write.contents c.read.new.writer) fault) c.opening.ensures
-    (c.in_err-read.ensures.fault studio events written r))))
+    (subst (λ from. Stops studio (read_at studio.open_at from events clock.reading (clock_with clock packet.time).reading) written c.read.new.self (g.W.Write.contents c.read.new.writer) (g.L.Listener.heard begun c.read.new.listener) fault) c.opening.ensures
+    (c.in_err-read.ensures.fault studio events written begun r))))
 
 pub returns-clause-fault : goal.returns-clause-fault
 returns-clause-fault g c =
@@ -36,8 +36,8 @@ returns-clause-fault g c =
     let target = c.in-Some.target in
     let last = g.W.Write.contents c.read.new.writer in
     let known : target_of plan packet ≡ Some target = sym c.target.ensures ∙ c.in-Some.is in
-    err_then c.arrive.result _ _ (λ fault stops studio events written r.
+    err_then c.arrive.result _ _ (λ fault stops studio events written begun r.
     let before = read_at studio.open_at (opening_of plan) events clock.reading (clock_with clock packet.time).reading in
-    subst (λ o. Stops studio (events_with studio.open_at (opening_of plan) clock events packet o) written c.arrive.new.self last fault) (sym known)
-    (subst (λ l. Stops studio (before ++ Arrival target.stream target.path l ∷ []) written c.arrive.new.self last fault) c.octets_in.ensures
-    (stops studio before written last (subst (λ from. HasReplayed studio (read_at studio.open_at from events clock.reading (clock_with clock packet.time).reading) written c.read.new.self last) c.opening.ensures (c.in_ok-read.ensures.ok studio events written r))))) c.arrive.ensures.fault
+    subst (λ o. Stops studio (events_with studio.open_at (opening_of plan) clock events packet o) written c.arrive.new.self last (g.L.Listener.heard begun c.arrive.new.listener) fault) (sym known)
+    (subst (λ l. Stops studio (before ++ Arrival target.stream target.path l ∷ []) written c.arrive.new.self last (g.L.Listener.heard begun c.arrive.new.listener) fault) c.octets_in.ensures
+    (stops studio before written last begun (subst (λ from. HasReplayed studio (read_at studio.open_at from events clock.reading (clock_with clock packet.time).reading) written c.read.new.self last (g.L.Listener.heard begun c.read.new.listener)) c.opening.ensures (c.in_ok-read.ensures.ok studio events written begun r))))) c.arrive.ensures.fault

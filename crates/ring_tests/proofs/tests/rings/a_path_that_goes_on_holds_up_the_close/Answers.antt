@@ -11,4 +11,4 @@ same c = ((refl, refl, refl, refl), refl)
 pub path_done-requires-clause-token : goal.path_done-requires-clause-token
 path_done-requires-clause-token g c = λ side at.
     let fin = subst (λ o. IfSome o (λ (done : PathDone). Finishes c.offer.new.self.ring done.token)) c.in-Some.is c.finish-first_done.ensures.token in
-    token_of c.in_ok-ends.ends.first.ring c.offer.new.self.ring c.in-Some.first_done.token side.ring side.ring (c.in_ok-ends.ensures.first_is side at) c.offer.ensures.ring (same side.ring) fin
+    token_of c.one_stream-ends.result.first.ring c.offer.new.self.ring c.in-Some.first_done.token side.ring side.ring (c.one_stream-ends.ensures.first_is side at) c.offer.ensures.ring (same side.ring) fin

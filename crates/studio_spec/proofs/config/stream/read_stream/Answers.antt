@@ -27,3 +27,8 @@ pub returns-in_err-addresses-clause-fault : goal.returns-in_err-addresses-clause
 returns-in_err-addresses-clause-fault c =
     let is : c.from_residual-in_err-addresses.result ≡ Err c.in_err-addresses.field-0.0 = search rules in
     rw is (stream_fault-rows c.args.place (table_view c.args.table.now) c.in_err-addresses.field-0.0 (rw (c.in_ok-packets.ensures.ok, c.in_ok-source.ensures.ok, c.in_ok-wait.ensures.ok, c.in_ok-ports.ensures.ok, c.in_err-addresses.ensures.fault)))
+
+pub returns-in_err-check_name-clause-fault : goal.returns-in_err-check_name-clause-fault
+returns-in_err-check_name-clause-fault c =
+    let is : c.from_residual-in_err-check_name.result ≡ Err c.in_err-check_name.field-0.0 = search rules in
+    rw is (stream_fault-rows c.args.place (table_view c.args.table.now) c.in_err-check_name.field-0.0 (rw (c.in_ok-packets.ensures.ok, c.in_ok-source.ensures.ok, c.in_ok-wait.ensures.ok, c.in_ok-ports.ensures.ok, c.in_ok-addresses.ensures.ok, c.in_err-check_name.ensures.fault)))

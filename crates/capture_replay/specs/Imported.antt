@@ -1,0 +1,24 @@
+-- What an import writes as lines that a trace can have.
+use Rattle.std.specs.Prelude.{◌≡◌, ◌≤◌, ◌<◌, ◌^◌, List, [], ◌∷◌, length, Some, IfSome}
+use Rattle.hex.specs.Hex.{IsBytes}
+use Rattle.capture_read.specs.Packet.{PacketView}
+use Rattle.capture_import.specs.declared.route.Route.{Route}
+use Rattle.capture_import.specs.Trace.{octets_of, route_of}
+
+-- a route names a path a to d, 97 to 100, of one of 16 streams
+pub record IsPathRoute (route : Route) : Type 0 where
+  pub low : 97 ≤ route.letter
+  pub high : route.letter ≤ 100
+  pub stream : route.stream ≤ 15
+
+-- a packet has a datagram of 1 to 2,000 octets, and a time of 64 bits if any
+pub record IsLineOf (packet : PacketView) : Type 0 where
+  pub some : 0 < length (octets_of packet.ip.body)
+  pub few : length (octets_of packet.ip.body) ≤ 2000
+  pub bytes : IsBytes (octets_of packet.ip.body)
+  pub time : IfSome packet.time (λ t. t < 2 ^ 64)
+
+-- so it is with each packet that has a route
+abbrev pub AreLines : List Route → List PacketView → Type 0
+AreLines routes [] = Unit {0}
+AreLines routes (packet ∷ packets) = ((route : Route) → route_of routes packet ≡ Some route → IsPathRoute route × IsLineOf packet) × AreLines routes packets

@@ -1,0 +1,62 @@
+//! Each stream's counts, told while a run goes on.
+
+use crate::ready::{FAULTS, is_ready};
+use std::alloc::{AllocError, Global};
+use std::io::Write;
+use studio_page::Snapshot;
+use studio_run::{TextBuffer, WriteFault, write_running_counts};
+
+/// A second, in sampling instants.
+const SECOND: i64 = 48_000;
+
+/// When lines of the streams' counts are due, and what they are written with.
+#[derive(Drop)]
+pub struct Stats {
+    /// From one telling to the next, in sampling instants.
+    every: i64,
+    next: i64,
+    text: TextBuffer,
+}
+
+impl Stats {
+    /// Every so many seconds from a time on, in sampling instants.
+    pub fn new(alloc: Global, from: i64, seconds: u32) -> Result<Stats, AllocError> {
+        let every = i64::from(seconds).saturating_mul(SECOND);
+        Ok(Stats {
+            every,
+            next: from.saturating_add(every),
+            text: TextBuffer::new(alloc)?,
+        })
+    }
+
+    /// Whether it is time for lines.
+    pub(crate) fn is_due(&self, now: i64) -> bool {
+        now >= self.next
+    }
+
+    /// Writes a line for each stream of a snapshot, at this time. After a write that failed nothing more is written.
+    pub(crate) fn tell<W: Write>(&mut self, now: i64, snapshot: &Snapshot, writer: &mut W) {
+        self.next = match self.write_lines(now, snapshot, writer) {
+            Ok(()) => now.saturating_add(self.every),
+            Err(WriteFault) => i64::MAX,
+        };
+    }
+
+    /// Writes a line for each stream, as long as standard error takes it at once. The other lines are dropped.
+    fn write_lines<W: Write>(
+        &mut self,
+        now: i64,
+        snapshot: &Snapshot,
+        writer: &mut W,
+    ) -> Result<(), WriteFault> {
+        for (number, stream) in (0u8..).zip(snapshot.streams.iter()) {
+            if !is_ready(FAULTS, libc::net::POLLOUT) {
+                return Ok(());
+            }
+            let paths = stream.paths.len() as u8;
+            write_running_counts(&mut self.text, writer, number, paths, now, &stream.counts)?;
+            self.text.finish(writer)?;
+        }
+        Ok(())
+    }
+}

@@ -1,0 +1,62 @@
+//! A snapshot, in which each number is another.
+use std::process::Abort;
+use stream_rules::{Counts, PathCounts};
+use studio_page::{Condition, Copies, Name, OutputState, PathState, Snapshot, Spare, StreamState};
+
+/// A name with all that has to be escaped.
+pub(super) const NAME: &str = "L\"\\\n<b>";
+
+/// Two datagrams that were no packets.
+fn path_counts() -> PathCounts {
+    let mut counts = PathCounts::new();
+    counts.add_full();
+    counts.add_full();
+    counts
+}
+
+/// A path whose packets came 12 and 30 sampling instants before their deadlines.
+fn heard_path() -> PathState {
+    PathState {
+        datagrams: 2,
+        first: 3,
+        counts: Some(path_counts()),
+        copies: Some(Copies {
+            lost: 4,
+            double: 5,
+            unlike: 6,
+            late: 7,
+        }),
+        spare: Some(Spare {
+            least: 12,
+            median: 30,
+        }),
+    }
+}
+
+/// A lost slot.
+fn counts() -> Counts {
+    let mut counts = Counts::new();
+    counts.add_slot(false);
+    counts
+}
+
+/// A stream with a name and two paths, of one of which little is known, and two output channels.
+pub(super) fn snapshot(rt: &impl Abort) -> Snapshot {
+    let mut stream = StreamState::default();
+    stream.name = Name::from(NAME).ok();
+    stream.condition = Condition::Running;
+    stream.latency = 240;
+    stream.counts = counts();
+    assert!(rt; stream.paths.try_push(heard_path()).is_ok());
+    assert!(rt; stream.paths.try_push(PathState::default()).is_ok());
+    let mut snapshot = Snapshot::new();
+    assert!(rt; snapshot.streams.try_push(stream).is_ok());
+    for peak in [8_388_608, 0] {
+        let output = OutputState {
+            peak,
+            full_scale: 2,
+        };
+        assert!(rt; snapshot.outputs.try_push(output).is_ok());
+    }
+    snapshot
+}

@@ -1,0 +1,112 @@
+//! What is written of a capture beside its report.
+ghost use Rattle.std.specs.Prelude.{⊤};
+
+use crate::config::Configs;
+use crate::fault::Fault;
+use capture_replay::{Listener, Sound};
+use mix_packets::OutSpec;
+use std::io::Write;
+use stream_rules::Path;
+use studio_chart::{Observer, Streams};
+use studio_run::write_text;
+use studio_wav::FileFault;
+use wav_file::Overwrite;
+
+/// The mix's file, and the streams that are watched, where they are asked for.
+#[derive(Drop)]
+pub(crate) struct Beside<F: Overwrite, O> {
+    pub(crate) sound: Option<Sound<F>>,
+    pub(crate) streams: Option<Streams<O>>,
+}
+
+impl<F: Overwrite + Drop, O: Observer + Drop> Listener for Beside<F, O> {
+    ghost heard = { λ _ _ _ _. ⊤ };
+
+    fn arrived(&mut self, stream: usize, path: Path, octets: &[u8]) {
+        if let Some(streams) = &mut self.streams {
+            streams.arrived(stream, path, octets);
+        }
+    }
+
+    fn read(&mut self, time: i64) {
+        if let Some(streams) = &mut self.streams {
+            streams.read(time);
+        }
+    }
+
+    fn closed(&mut self) {
+        if let Some(streams) = &mut self.streams {
+            streams.closed();
+        }
+    }
+
+    fn output(&mut self, datagram: &[u8]) {
+        if let Some(sound) = &mut self.sound {
+            sound.output(datagram);
+        }
+    }
+}
+
+/// Begins the mix's file, if one is asked for.
+pub(crate) fn begin_sound<C: Configs, E: Write>(
+    configs: &C,
+    path: Option<&str>,
+    output: &OutSpec,
+    faults: &mut E,
+) -> Result<Option<Sound<C::File>>, Fault> {
+    let Some(path) = path else {
+        return Ok(None);
+    };
+    let begun = match configs.create(path) {
+        Ok(file) => Sound::begin(file, output),
+        Err(fault) => Err(fault),
+    };
+    match begun {
+        Ok(sound) => Ok(Some(sound)),
+        Err(fault) => Err(file_fault("wav", path, fault, faults)),
+    }
+}
+
+/// Ends the mix's file behind a report, or behind the fault that ended that.
+pub(crate) fn end_sound<F: Overwrite + Drop, E: Write>(
+    sound: Option<Sound<F>>,
+    played: Result<(), Fault>,
+    path: Option<&str>,
+    faults: &mut E,
+) -> Result<(), Fault> {
+    let (Some(sound), Some(path)) = (sound, path) else {
+        return played;
+    };
+    if played.is_err() {
+        let _ = sound.break_off();
+        return played;
+    }
+    match sound.finish() {
+        Ok(_file) => Ok(()),
+        Err(fault) => Err(file_fault("wav", path, fault, faults)),
+    }
+}
+
+/// Writes a picture to the file at a path.
+pub(crate) fn write_picture<C: Configs, E: Write>(
+    configs: &C,
+    path: &str,
+    picture: &[u8],
+    faults: &mut E,
+) -> Result<(), Fault> {
+    match configs.create(path) {
+        Ok(mut file) => write_text(&mut file, picture).map_err(|_| file_fault(
+            "chart",
+            path,
+            FileFault::Write,
+            faults,
+        )),
+        Err(fault) => Err(file_fault("chart", path, fault, faults)),
+    }
+}
+
+/// The fault of a file, whose path is told first.
+fn file_fault<E: Write>(word: &str, path: &str, fault: FileFault, faults: &mut E) -> Fault {
+    let _ = write!(faults, "{word} {path}: ");
+    Fault::Wav(fault)
+}
