@@ -112,10 +112,7 @@ impl Schedule {
         ensures { IfOk result (λ copy. copy ≡ self.now) }
     {
         let first = copied_matrix(alloc, &self.first)?;
-        let mut later = Vec::new(alloc);
-        for change in &self.later {
-            later.push((change.0, copied_matrix(alloc, &change.1)?))?;
-        }
+        let later = copied_changes(alloc, self.later.as_slice())?;
         Ok(Schedule { first, later })
     }
 
@@ -146,6 +143,21 @@ fn copied_matrix(alloc: Global, matrix: &Matrix) -> Result<Matrix, AllocError>
         Ok(copy) => Ok(copy),
         Err(_) => Err(AllocError),
     }
+}
+
+/// The same changes.
+fn copied_changes(
+    alloc: Global,
+    changes: &[(i64, Matrix)],
+) -> Result<Vec<(i64, Matrix)>, AllocError>
+    ensures { IfOk result (λ copy. copy.items ≡ changes.now) }
+{
+    let mut copy = Vec::with_capacity(alloc, changes.len())?;
+    for change in changes {
+        let matrix = copied_matrix(alloc, &change.1)?;
+        copy.push((change.0, matrix))?;
+    }
+    Ok(copy)
 }
 
 /// The first fault of these changes.
