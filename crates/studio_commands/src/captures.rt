@@ -1,9 +1,10 @@
 //! What a capture holds.
 use crate::config::Configs;
 use crate::fault::{CaptureError, Fault};
-use capture_streams::{Table, text_of};
+use capture_streams::Table;
 use std::alloc::Global;
 use std::io::Write;
+use streams_text::text_of;
 use studio_run::{ReadFault, write_text};
 
 /// Writes a line for each RTP flow of the capture at a path, stream by stream. A fault of the capture comes behind them.

@@ -1,0 +1,199 @@
+//! What a capture holds, as a text.
+use capture_streams::{
+    Flow, FlowKey, Lengths, Pair, Skew, Steps, Stream, Table, fit_of, skews_of, streams_of,
+};
+use std::alloc::{AllocError, Global};
+use std::net::Ipv4Addr;
+
+/// The names of a stream's paths.
+const NAMES: [&str; 4] = ["a", "b", "c", "d"];
+
+/// The encodings, with the octets of a sample.
+const ENCODINGS: [(&str, usize); 2] = [("L16", 2), ("L24", 3)];
+
+/// A line for each flow of a capture's table, stream by stream; behind those of a stream of several paths one for each
+/// further path's skew. The octets are the capture's.
+pub fn text_of(alloc: Global, table: &Table, octets: &[u8]) -> Result<String, AllocError> {
+    let streams = streams_of(alloc, table)?;
+    let pairs = pairs_of(alloc, table, streams.as_slice())?;
+    let skews = skews_of(alloc, octets, pairs.as_slice())?;
+    let mut text = String::new(alloc);
+    push_streams(&mut text, table, streams.as_slice(), skews.as_slice())?;
+    push_rest(&mut text, table)?;
+    Ok(text)
+}
+
+/// The lines of each stream, whose skews stand stream by stream.
+fn push_streams(
+    text: &mut String,
+    table: &Table,
+    streams: &[Stream],
+    skews: &[Option<Skew>],
+) -> Result<(), AllocError> {
+    let mut place = 0usize;
+    for (number, stream) in streams.iter().enumerate() {
+        push_flows(text, table, number, stream)?;
+        let further = stream.places().len().saturating_sub(1);
+        let next = place.saturating_add(further);
+        push_skews(text, number, skews.get(place..next).unwrap_or(&[]))?;
+        place = next;
+    }
+    Ok(())
+}
+
+/// The line of each path.
+fn push_flows(
+    text: &mut String,
+    table: &Table,
+    number: usize,
+    stream: &Stream,
+) -> Result<(), AllocError> {
+    for (name, place) in NAMES.iter().zip(stream.places().iter()) {
+        if let Some((key, flow)) = table.flow(*place) {
+            write!(text, "stream {number} path {name}: ")?;
+            push_flow(text, &key, flow)?;
+        }
+    }
+    Ok(())
+}
+
+/// A flow's addresses, counts and form.
+fn push_flow(text: &mut String, key: &FlowKey, flow: &Flow) -> Result<(), AllocError> {
+    push_ends(text, key)?;
+    let (packets, lost, repeated) = (flow.packets(), flow.lost(), flow.numbers().repeated());
+    write!(
+        text,
+        "packets {packets}, lost {lost}, repeated {repeated}, payload "
+    )?;
+    push_lengths(text, flow.lengths())?;
+    push_steps(text, flow.lengths(), flow.steps())
+}
+
+/// Where a flow's packets come from and go to, and their type.
+fn push_ends(text: &mut String, key: &FlowKey) -> Result<(), AllocError> {
+    let (from, to) = (Ipv4Addr::from_bits(key.from), Ipv4Addr::from_bits(key.to));
+    let (from_port, to_port, ssrc, pt) = (key.from_port, key.to_port, key.ssrc, key.pt);
+    write!(
+        text,
+        "{from}:{from_port} to {to}:{to_port}, source {ssrc}, type {pt}, "
+    )
+}
+
+/// Payload lengths.
+fn push_lengths(text: &mut String, lengths: Lengths) -> Result<(), AllocError> {
+    let (least, greatest) = (lengths.least, lengths.greatest);
+    if least == greatest {
+        write!(text, "{least} octets, ")
+    } else {
+        write!(text, "{least} to {greatest} octets, ")
+    }
+}
+
+/// Timestamp steps, and what fits them and the payload lengths.
+fn push_steps(text: &mut String, lengths: Lengths, steps: Steps) -> Result<(), AllocError> {
+    match steps.first {
+        None => text.push_str("step unknown\n"),
+        Some(_) if steps.varies => text.push_str("steps vary\n"),
+        Some(step) if lengths.least != lengths.greatest => writeln!(text, "step {step}"),
+        Some(step) => push_fits(text, lengths.least, step),
+    }
+}
+
+/// A step, the encodings and channels that fit it, and the packet time.
+fn push_fits(text: &mut String, len: usize, step: u32) -> Result<(), AllocError> {
+    write!(text, "step {step}: ")?;
+    if !push_encodings(text, len, step)? {
+        return text.push_str("no L16 or L24\n");
+    }
+    let micros = u64::from(step) * 125 / 6;
+    let (ms, us) = (micros / 1000, micros % 1000);
+    writeln!(text, ", packets of {ms}.{us:03} ms at 48 kHz")
+}
+
+/// The encodings and channels that fit, if any do.
+fn push_encodings(text: &mut String, len: usize, step: u32) -> Result<bool, AllocError> {
+    let mut before = "";
+    for (name, octets) in ENCODINGS {
+        if let Some(fit) = fit_of(len, step, octets) {
+            let channels = fit.channels;
+            write!(text, "{before}{name}, channels {channels}")?;
+            before = " or ";
+        }
+    }
+    Ok(!before.is_empty())
+}
+
+/// A stream's first path with each further one, stream by stream.
+fn pairs_of(alloc: Global, table: &Table, streams: &[Stream]) -> Result<Vec<Pair>, AllocError> {
+    let mut pairs = Vec::new(alloc);
+    for stream in streams.iter() {
+        add_pairs(&mut pairs, table, stream.places())?;
+    }
+    Ok(pairs)
+}
+
+/// The first of some flows with each further one.
+fn add_pairs(pairs: &mut Vec<Pair>, table: &Table, places: &[usize]) -> Result<(), AllocError> {
+    let Some((first, further)) = places.split_first() else {
+        return Ok(());
+    };
+    for place in further {
+        if let Some(pair) = pair_of(table, *first, *place) {
+            pairs.push(pair)?;
+        }
+    }
+    Ok(())
+}
+
+/// The flows at two places of a table.
+fn pair_of(table: &Table, first: usize, second: usize) -> Option<Pair> {
+    let (first, _) = table.flow(first)?;
+    let (second, _) = table.flow(second)?;
+    Some(Pair { first, second })
+}
+
+/// A line for the skew of each further path.
+fn push_skews(text: &mut String, number: usize, skews: &[Option<Skew>]) -> Result<(), AllocError> {
+    for (name, skew) in NAMES.iter().skip(1).zip(skews.iter()) {
+        if let Some(skew) = skew {
+            write!(text, "stream {number} path {name} behind a: ")?;
+            push_skew(text, skew)?;
+        }
+    }
+    Ok(())
+}
+
+/// A path's skew.
+fn push_skew(text: &mut String, skew: &Skew) -> Result<(), AllocError> {
+    push_time(text, "least", skew.least)?;
+    push_time(text, ", median", skew.median)?;
+    push_time(text, ", greatest", skew.greatest)?;
+    text.push_str("\n")
+}
+
+/// Nanoseconds as milliseconds with three places, cut, behind a name.
+fn push_time(text: &mut String, name: &str, nanoseconds: i64) -> Result<(), AllocError> {
+    let micros = nanoseconds.unsigned_abs() / 1000;
+    let sign = if nanoseconds < 0 && micros > 0 {
+        "-"
+    } else {
+        ""
+    };
+    let (ms, us) = (micros / 1000, micros % 1000);
+    write!(text, "{name} {sign}{ms}.{us:03} ms")
+}
+
+/// What isn't in a flow's line.
+fn push_rest(text: &mut String, table: &Table) -> Result<(), AllocError> {
+    let (beyond, others) = (table.beyond(), table.others());
+    if beyond > 0 {
+        writeln!(text, "packets of flows beyond the first 256: {beyond}")?;
+    }
+    if others > 0 {
+        writeln!(
+            text,
+            "UDP packets that are cut, in fragments or no RTP: {others}"
+        )?;
+    }
+    Ok(())
+}
