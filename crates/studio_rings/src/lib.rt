@@ -6,7 +6,7 @@
 //! time; at the end `path_done` with each path's proof, `close` until it is `Ok` (turns take what is left),
 //! `drain_turn` until it is true, and `finish`. Of the mixer: a `turn` with room for a datagram, again and again; at
 //! the end `stream_done` with each stream's proof, and turns until `settled` is true and one gives
-//! nothing. Of a monitor: `next`. The caller sees that a proof goes to the ends it was opened with.
+//! nothing. Of a monitor: `next`. `open_watched` gives `Watches` besides, which tell what becomes of each path's packets. The caller sees that a proof goes to the ends it was opened with.
 //! `studio_workers` does all of this in threads.
 #![tactic(auto)]
 
@@ -32,15 +32,17 @@ mod stream_end;
 mod take;
 mod take_marks;
 mod turn;
+mod watches;
 
 pub use ends::{Ends, OpenFault};
 pub use mix::MixNote;
 pub use mix_end::MixEnd;
 pub use monitor_end::MonitorEnd;
-pub use opening::open;
+pub use opening::{open, open_watched};
 pub use path::{Offer, PathDone};
 pub use path_end::PathEnd;
 pub use stream::{PathsOpen, StreamDone};
 pub use stream_end::StreamEnd;
 pub use stream_rules::PathCounts;
 pub use turn::{StopReason, TurnNote};
+pub use watches::Watches;

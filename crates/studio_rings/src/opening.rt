@@ -13,6 +13,7 @@ use crate::monitor_end::MonitorEnd;
 use crate::packet_ring::{PacketOut, open_packets};
 use crate::path_end::PathEnd;
 use crate::stream_end::StreamEnd;
+use crate::watches::{Tellers, Watches};
 use path_merge::{Merge, StreamSpec};
 use rtrb::RingBuffer;
 use std::alloc::{AllocError, Global};
@@ -34,14 +35,17 @@ fn open_path(
     alloc: Global,
     spec: &StreamSpec,
     ring_len: usize,
+    tellers: &mut Tellers,
 ) -> Result<(PathEnd, PacketOut), AllocError>
     ensures { IfOk result (λ r. IsFreshPath spec.now ring_len r.0 r.1) }
 {
+    let teller = tellers.of_path(alloc)?;
     let (ring, side) = open_packets(alloc, spec.payload_len(), ring_len)?;
     let end = PathEnd {
         spec: *spec,
         ring,
         counts: PathCounts::new(),
+        teller,
     };
     Ok((end, side))
 }
@@ -52,13 +56,14 @@ fn open_paths(
     spec: &StreamSpec,
     ring_len: usize,
     paths: &mut Vec<PathEnd>,
+    tellers: &mut Tellers,
 ) -> Result<Vec<PacketOut>, AllocError>
     ensures { IfOk result (λ sides. (own : List PathEnd) × (paths.new.items ≡ paths.old.items ++ own)
         × (length own ≡ spec.now.paths) × (vec_len sides ≡ spec.now.paths) × AllFreshPaths spec.now ring_len own sides.items) }
 {
     let mut sides = Vec::new(alloc);
     for _ in 0..spec.paths() {
-        let (end, side) = open_path(alloc, spec, ring_len)?;
+        let (end, side) = open_path(alloc, spec, ring_len, tellers)?;
         paths.push(end)?;
         sides.push(side)?;
     }
@@ -72,6 +77,7 @@ fn open_stream(
     open_at: i64,
     sides: Vec<PacketOut>,
     ring_len: usize,
+    tellers: &mut Tellers,
 ) -> Result<(StreamEnd, MonitorEnd, MarkOut), AllocError>
     requires not_low { pos 0 ≤ℤ open_at }
     requires not_high { open_at ≤ℤ pos (2 ^ 60) }
@@ -80,6 +86,7 @@ fn open_stream(
         → IfOk result (λ r. IsFreshStream open_at ring_len spec.now own r.0) }
     ensures rings { IfOk result (λ r. AreFreshRings ring_len r.0 r.1 r.2) }
 {
+    let teller = tellers.of_stream(alloc, spec)?;
     let merge = Merge::new(alloc, *spec, open_at)?;
     let _len = spec.payload_len();
     let format = spec.format();
@@ -91,6 +98,7 @@ fn open_stream(
         marks,
         monitor,
         merge,
+        teller,
     };
     Ok((end, MonitorEnd { ring: look }, side))
 }
@@ -102,13 +110,14 @@ fn add_stream(
     open_at: i64,
     ring_len: usize,
     ends: &mut StreamEnds,
+    tellers: &mut Tellers,
 ) -> Result<(), AllocError>
     requires not_low { pos 0 ≤ℤ open_at }
     requires not_high { open_at ≤ℤ pos (2 ^ 60) }
     ensures { OnOk result (AddsStream open_at ring_len spec.now ends.old ends.new) }
 {
-    let sides = open_paths(alloc, spec, ring_len, &mut ends.paths)?;
-    let (end, monitor, side) = open_stream(alloc, spec, open_at, sides, ring_len)?;
+    let sides = open_paths(alloc, spec, ring_len, &mut ends.paths, tellers)?;
+    let (end, monitor, side) = open_stream(alloc, spec, open_at, sides, ring_len, tellers)?;
     ends.streams.push(end)?;
     ends.monitors.push(monitor)?;
     ends.marks.push(side)?;
@@ -121,6 +130,7 @@ fn open_streams(
     specs: &[StreamSpec],
     open_at: i64,
     ring_len: usize,
+    tellers: &mut Tellers,
 ) -> Result<StreamEnds, AllocError>
     requires not_low { pos 0 ≤ℤ open_at }
     requires not_high { open_at ≤ℤ pos (2 ^ 60) }
@@ -133,7 +143,7 @@ fn open_streams(
         marks: Vec::new(alloc),
     };
     for spec in specs {
-        add_stream(alloc, spec, open_at, ring_len, &mut ends)?;
+        add_stream(alloc, spec, open_at, ring_len, &mut ends, tellers)?;
     }
     Ok(ends)
 }
@@ -150,7 +160,12 @@ fn open_mix(alloc: Global, studio: &StudioSpec, sides: Vec<MarkOut>) -> Result<M
 }
 
 /// The ends of all paths, streams and monitors, and of the mixer.
-fn open_ends(alloc: Global, studio: &StudioSpec, ring_len: usize) -> Result<Ends, AllocError>
+fn open_ends(
+    alloc: Global,
+    studio: &StudioSpec,
+    ring_len: usize,
+    tellers: &mut Tellers,
+) -> Result<Ends, AllocError>
     ensures { IfOk result (λ ends. AreOpened studio.now ring_len ends) }
 {
     let StreamEnds {
@@ -158,7 +173,7 @@ fn open_ends(alloc: Global, studio: &StudioSpec, ring_len: usize) -> Result<Ends
         streams,
         monitors,
         marks,
-    } = open_streams(alloc, studio.streams(), studio.open_at(), ring_len)?;
+    } = open_streams(alloc, studio.streams(), studio.open_at(), ring_len, tellers)?;
     let mix = open_mix(alloc, studio, marks)?;
     Ok(Ends {
         paths,
@@ -176,8 +191,37 @@ pub fn open(alloc: Global, studio: &StudioSpec, ring_len: usize) -> Result<Ends,
     ensures places { IfOk result (λ ends. (1 ≤ ring_len) × (ring_len ≤ 65536)) }
     ensures fault { IfErr result (λ fault. fault ≡ open_fault_of ring_len) }
 {
+    open_with(alloc, studio, ring_len, &mut Tellers::new(alloc, false))
+}
+
+/// The same, with watches, which are told what becomes of each path's packets.
+pub fn open_watched(
+    alloc: Global,
+    studio: &StudioSpec,
+    ring_len: usize,
+) -> Result<(Ends, Watches), OpenFault>
+    ensures opened { IfOk result (λ r. AreOpened studio.now ring_len r.0) }
+    ensures places { IfOk result (λ r. (1 ≤ ring_len) × (ring_len ≤ 65536)) }
+    ensures fault { IfErr result (λ fault. fault ≡ open_fault_of ring_len) }
+{
+    let mut tellers = Tellers::new(alloc, true);
+    let ends = open_with(alloc, studio, ring_len, &mut tellers)?;
+    Ok((ends, tellers.watches))
+}
+
+/// Opens the rings, and those of the watches that are wanted.
+fn open_with(
+    alloc: Global,
+    studio: &StudioSpec,
+    ring_len: usize,
+    tellers: &mut Tellers,
+) -> Result<Ends, OpenFault>
+    ensures opened { IfOk result (λ ends. AreOpened studio.now ring_len ends) }
+    ensures places { IfOk result (λ ends. (1 ≤ ring_len) × (ring_len ≤ 65536)) }
+    ensures fault { IfErr result (λ fault. fault ≡ open_fault_of ring_len) }
+{
     if ring_len < 1 || 65536 < ring_len {
         return Err(OpenFault::RingLength);
     }
-    open_ends(alloc, studio, ring_len).map_err(|_| OpenFault::Memory)
+    open_ends(alloc, studio, ring_len, tellers).map_err(|_| OpenFault::Memory)
 }

@@ -17,6 +17,7 @@ use path_merge::{Merge, PacketRef, Path, SlotWindow, StreamSpec};
 use rtrb::{Finished, RingBuffer};
 use std::alloc::{AllocError, Global};
 use std::marker::Model;
+use stream_watch::StreamTeller;
 
 /// A pushing end, by its rooms.
 #[derive(Drop)]
@@ -146,6 +147,7 @@ impl PacketOut {
         spec: &StreamSpec,
         merge: &mut Merge<SlotWindow>,
         path: Path,
+        teller: &mut Option<StreamTeller>,
     ) -> u32
         requires spec { merge.old.spec ≡ spec.now }
         requires path { path < spec.now.paths }
@@ -153,9 +155,9 @@ impl PacketOut {
             × Joins merge.old merge.new (λ stream. arrivals_by path (fitting stream packets)) }
     {
         match &mut self.end {
-            Sides::Short(side) => take_path(side, spec, merge, path),
-            Sides::Middle(side) => take_path(side, spec, merge, path),
-            Sides::Long(side) => take_path(side, spec, merge, path),
+            Sides::Short(side) => take_path(side, spec, merge, path, teller),
+            Sides::Middle(side) => take_path(side, spec, merge, path, teller),
+            Sides::Long(side) => take_path(side, spec, merge, path, teller),
         }
     }
 

@@ -11,6 +11,7 @@ ghost use Rattle.studio_rings.specs.declared.path.Offer.TheVariants as offer;
 use crate::packet_ring::{PacketIn, PacketToken};
 use crate::path_end::PathEnd;
 use stream_rules::{PathCounts, ReceptionRef, receive_ref};
+use stream_watch::PathTeller;
 
 /// What became of a datagram: the first of these that holds.
 #[derive(Clone, Copy, PartialEq, Eq, Debug)]
@@ -48,6 +49,13 @@ fn lacks_room(ring: &mut PacketIn, reception: ReceptionRef<'_>) -> bool
     }
 }
 
+/// Tells counts, if somebody is to be told.
+fn tell(teller: &mut Option<PathTeller>, counts: PathCounts) {
+    if let Some(teller) = teller {
+        teller.tell(counts);
+    }
+}
+
 impl PathEnd {
     /// Sends the packet of a datagram to its stream, if it is one of the stream.
     pub fn offer(&mut self, datagram: &[u8]) -> Offer
@@ -63,9 +71,11 @@ impl PathEnd {
         let reception = receive_ref(&self.spec, datagram);
         if lacks_room(&mut self.ring, reception) {
             self.counts.add_full();
+            tell(&mut self.teller, self.counts);
             return Offer::Full;
         }
         self.counts.add_ref(reception);
+        tell(&mut self.teller, self.counts);
         match reception {
             ReceptionRef::Sent(packet) => {
                 self.ring.push(packet);
@@ -89,6 +99,7 @@ impl PathEnd {
             spec: _,
             ring,
             counts,
+            teller: _,
         } = self;
         match ring.finish() {
             Some(token) => (Some(PathDone { token }), counts),

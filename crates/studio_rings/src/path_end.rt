@@ -9,6 +9,7 @@ ghost use Rattle.studio_rings.specs.RoomRings.{HasRoomFor};
 use crate::packet_ring::PacketIn;
 use path_merge::StreamSpec;
 use stream_rules::PathCounts;
+use stream_watch::PathTeller;
 
 /// The end of a path: its datagrams go in.
 ///
@@ -18,6 +19,8 @@ pub struct PathEnd {
     pub(crate) spec: StreamSpec,
     pub(crate) ring: PacketIn,
     pub(crate) counts: PathCounts,
+    /// Who is told these counts, if anybody is.
+    pub(crate) teller: Option<PathTeller>,
     ghost few: { counts.offered ≤ 2 ^ 62 },
     ghost all_counted: { counts.sent ≡ length (sent ring) },
     ghost roomy: { HasRoomFor (payload_length (format_of spec)) ring },

@@ -21,8 +21,9 @@ use crate::path::PathDone;
 use crate::stream_end::StreamEnd;
 use crate::take::take_all;
 use crate::turn::{StopReason, TurnNote, push_marks};
-use path_merge::{ClockFault, Counts, StreamSpec, clock_fault};
+use path_merge::{ClockFault, Counts, Merge, SlotWindow, StreamSpec, clock_fault};
 use rtrb::Producer;
+use stream_watch::StreamTeller;
 
 /// Which paths haven't finished, or have sent packets that were not taken.
 #[derive(Clone, Copy, PartialEq, Eq, Debug)]
@@ -47,6 +48,13 @@ fn show_counts(monitor: &mut Producer<Counts>, counts: Counts)
     }
 }
 
+/// Tells what became of the packets, if somebody is to be told.
+fn tell(teller: &mut Option<StreamTeller>, merge: &Merge<SlotWindow>) {
+    if let Some(teller) = teller {
+        teller.tell(merge.counts(), merge.time());
+    }
+}
+
 impl StreamEnd {
     /// Takes packets of all paths, path by path, and then hands on marks up to `now`.
     pub fn turn(&mut self, now: i64) -> Result<TurnNote, ClockFault>
@@ -58,9 +66,15 @@ impl StreamEnd {
         if let Some(fault) = clock_fault(self.merge.time(), self.merge.closed(), now) {
             return Err(fault);
         }
-        let from = take_all(&mut self.sides, &self.spec, &mut self.merge);
+        let from = take_all(
+            &mut self.sides,
+            &self.spec,
+            &mut self.merge,
+            &mut self.teller,
+        );
         let (marks, why_stopped) = push_marks(&mut self.marks, &mut self.merge, now);
         show_counts(&mut self.monitor, self.merge.counts());
+        tell(&mut self.teller, &self.merge);
         Ok(TurnNote {
             from,
             marks,
@@ -166,6 +180,7 @@ impl StreamEnd {
             marks,
             monitor: _,
             merge: _,
+            teller: _,
         } = self;
         match marks.finish() {
             Some(token) => (Some(StreamDone { token }), counts),

@@ -7,10 +7,24 @@ ghost use Rattle.studio_rings.specs.Turns.{AllTakePackets, Joins, TakesPackets, 
 use crate::packet_ring::PacketOut;
 use crate::packet_room::PacketRoom;
 use crate::side::Side;
-use path_merge::{Merge, Path, SlotWindow, StreamSpec};
+use path_merge::{Fate, Merge, PacketRef, Path, SlotWindow, StreamSpec};
+use stream_watch::StreamTeller;
 
 /// How many packets of a path, or marks, one turn takes at most.
 pub(crate) const BATCH: u32 = 64;
+
+/// Notes what became of a packet, if somebody is to be told.
+fn note(
+    teller: &mut Option<StreamTeller>,
+    merge: &Merge<SlotWindow>,
+    path: Path,
+    packet: PacketRef<'_>,
+    fate: Fate,
+) {
+    if let Some(teller) = teller {
+        teller.note(path, packet, fate, merge.next_deadline(), merge.time());
+    }
+}
 
 /// Offers a packet to the merge if it has the stream's length.
 fn join_packet<const N: usize>(
@@ -18,6 +32,7 @@ fn join_packet<const N: usize>(
     merge: &mut Merge<SlotWindow>,
     path: Path,
     room: &PacketRoom<N>,
+    teller: &mut Option<StreamTeller>,
 )
     requires spec { merge.old.spec ≡ spec.now }
     requires path { path < spec.now.paths }
@@ -25,7 +40,8 @@ fn join_packet<const N: usize>(
 {
     let packet = room.lent();
     if packet.payload.len() == spec.payload_len() {
-        let _ = merge.offer_ref(path, packet);
+        let fate = merge.offer_ref(path, packet);
+        note(teller, merge, path, packet, fate);
     }
 }
 
@@ -35,6 +51,7 @@ pub(crate) fn take_path<const N: usize>(
     spec: &StreamSpec,
     merge: &mut Merge<SlotWindow>,
     path: Path,
+    teller: &mut Option<StreamTeller>,
 ) -> u32
     requires spec { merge.old.spec ≡ spec.now }
     requires path { path < spec.now.paths }
@@ -46,7 +63,7 @@ pub(crate) fn take_path<const N: usize>(
         if side.is_empty() {
             return taken;
         }
-        join_packet(spec, merge, path, side.next());
+        join_packet(spec, merge, path, side.next(), teller);
         side.pass();
         taken += 1;
     }
@@ -58,6 +75,7 @@ pub(crate) fn take_all(
     sides: &mut Vec<PacketOut>,
     spec: &StreamSpec,
     merge: &mut Merge<SlotWindow>,
+    teller: &mut Option<StreamTeller>,
 ) -> [u32; 4]
     requires spec { merge.old.spec ≡ spec.now }
     requires paths { vec_len sides.old ≡ spec.now.paths }
@@ -72,7 +90,7 @@ pub(crate) fn take_all(
             unreachable!();
         };
         let place = usize::from(number);
-        let count = sides[place].take(spec, merge, path);
+        let count = sides[place].take(spec, merge, path, teller);
         from[place] = count;
     }
     from

@@ -20,7 +20,7 @@ const MEDIA: StreamClock = StreamClock::Media { offset: 0 };
 
 /// One stream of L24 on two paths, in packets of six sampling instants, twelve later, over a window of so many numbers;
 /// its output is alike.
-fn studio_of(rt: &impl Abort, alloc: Global, width: u16) -> StudioSpec {
+pub(super) fn studio_of(rt: &impl Abort, alloc: Global, width: u16) -> StudioSpec {
     studio_in(alloc, MEDIA, width).expect(rt, "there is memory")
 }
 

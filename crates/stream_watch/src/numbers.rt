@@ -1,0 +1,20 @@
+//! What is told of a stream.
+
+use stream_rules::Counts;
+use stream_tally::{PathTally, Spare};
+
+/// What became of the packets of one path.
+#[derive(Clone, Copy, Debug, PartialEq, Eq)]
+pub struct PathNumbers {
+    pub tally: PathTally,
+    /// How long before their deadlines they came in the last whole second; none where none came.
+    pub spare: Option<Spare>,
+}
+
+/// What became of a stream's packets, at one moment of its merge.
+#[derive(Clone, Copy, Debug)]
+pub struct StreamNumbers {
+    pub counts: Counts,
+    /// Path by path. Of a path that the stream hasn't all is 0.
+    pub paths: [PathNumbers; 4],
+}
