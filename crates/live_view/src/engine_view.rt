@@ -1,21 +1,30 @@
 //! What is seen of an engine while its run goes on.
 
 use crate::board::Board;
-use crate::copy_watch::CopyWatch;
+use crate::copies::see_numbers;
+use crate::told::see_datagrams;
 use path_merge::Path;
 use std::alloc::{AllocError, Global};
 use std::io::Write;
-use stream_rules::StreamSpec;
+use stream_rules::{ReceptionRef, StreamSpec, receive_ref};
+use stream_watch::CopyWatch;
 use studio_engine::Engine;
-use studio_page::{PathState, StreamState};
+use studio_page::StreamState;
 use studio_session::Receipt;
+
+/// What is fixed of a stream, and what came of its packets.
+#[derive(Drop)]
+struct Watched {
+    spec: StreamSpec,
+    copies: CopyWatch,
+}
 
 /// A board, and what came of each stream's packets where it has a page.
 #[derive(Drop)]
 pub struct EngineView<'a, E> {
     board: Board<'a, E>,
     /// One for each stream, or none at all.
-    watches: Vec<CopyWatch>,
+    watched: Vec<Watched>,
 }
 
 impl<'a, E: Write + Drop> EngineView<'a, E> {
@@ -25,13 +34,16 @@ impl<'a, E: Write + Drop> EngineView<'a, E> {
         streams: &[StreamSpec],
         board: Board<'a, E>,
     ) -> Result<EngineView<'a, E>, AllocError> {
-        let mut watches = Vec::new(alloc);
+        let mut watched = Vec::new(alloc);
         if board.has_page() {
             for stream in streams {
-                watches.push(CopyWatch::new(alloc, stream)?)?;
+                watched.push(Watched {
+                    spec: *stream,
+                    copies: CopyWatch::new(alloc, stream)?,
+                })?;
             }
         }
-        Ok(EngineView { board, watches })
+        Ok(EngineView { board, watched })
     }
 
     /// Notes a datagram that the engine took just now, and what it answered.
@@ -46,9 +58,11 @@ impl<'a, E: Write + Drop> EngineView<'a, E> {
         let Receipt::Offered(fate) = receipt else {
             return;
         };
-        if let Some(watch) = self.watches.get_mut(stream) {
-            let due = engine.stream_deadline(stream);
-            watch.note(path, octets, fate, due, engine.time());
+        if let Some(watched) = self.watched.get_mut(stream) {
+            if let ReceptionRef::Sent(packet) = receive_ref(&watched.spec, octets) {
+                let due = engine.stream_deadline(stream);
+                watched.copies.note(path, packet, fate, due, engine.time());
+            }
         }
     }
 
@@ -69,14 +83,14 @@ impl<'a, E: Write + Drop> EngineView<'a, E> {
         let now = engine.time();
         let mut snapshot = self.board.blank();
         for (number, stream) in snapshot.streams.as_mut_slice().iter_mut().enumerate() {
-            see_stream(engine, number, self.watches.get(number), stream);
+            see_stream(engine, number, self.watched.get(number), stream);
         }
         self.board.show(now, snapshot, has_ended);
     }
 }
 
 /// Sees a stream of an engine.
-fn see_stream(engine: &Engine, number: usize, watch: Option<&CopyWatch>, stream: &mut StreamState) {
+fn see_stream(engine: &Engine, number: usize, watched: Option<&Watched>, stream: &mut StreamState) {
     let Some(counts) = engine.counts(number) else {
         return;
     };
@@ -86,9 +100,12 @@ fn see_stream(engine: &Engine, number: usize, watch: Option<&CopyWatch>, stream:
             return;
         };
         state.first = counts.taken_by[usize::from(path.number())];
-        see_path(engine, number, path, state);
-        if let Some(watch) = watch {
-            watch.tell(path, counts.lost, engine.time(), state);
+        if let Some(counts) = engine.path_counts(number, path) {
+            see_datagrams(counts, state);
+        }
+        if let Some(watched) = watched {
+            let numbers = watched.copies.numbers(path, engine.time());
+            see_numbers(&numbers, counts.lost, state);
         }
     }
 }
@@ -96,12 +113,4 @@ fn see_stream(engine: &Engine, number: usize, watch: Option<&CopyWatch>, stream:
 /// The path of a number, if there may be one.
 fn path_at(place: usize) -> Option<Path> {
     Path::new(u8::try_from(place).ok()?)
-}
-
-/// Sees what became of a path's datagrams.
-fn see_path(engine: &Engine, stream: usize, path: Path, state: &mut PathState) {
-    state.counts = engine.path_counts(stream, path);
-    if let Some(counts) = state.counts {
-        state.datagrams = counts.offered;
-    }
 }

@@ -2,19 +2,22 @@
 //!
 //! A `Board` has all that a snapshot says beside counts: names, conditions, peaks. Once it `is_due`, its caller fills a `blank`
 //! snapshot with the counts that it knows, and `show` pushes that to the page's ring and writes the lines that are due from it.
-//! An `EngineView` does so for an engine, and tallies each path's copies; a `Meter` measures the mix where it is sent.
+//! An `EngineView` does so for an engine, and tallies each path's copies; for workers `see_told` and `see_datagrams` say what their
+//! watches were told. A `Meter` measures the mix where it is sent.
 #![tactic(auto)]
 
 mod board;
-mod copy_watch;
+mod copies;
 mod engine_view;
 mod meter;
 mod ready;
 mod seen;
 mod stats;
+mod told;
 
 pub use board::Board;
 pub use engine_view::EngineView;
 pub use meter::Meter;
 pub use ready::{FAULTS, INPUT, is_ready};
 pub use stats::Stats;
+pub use told::{see_datagrams, see_told};
