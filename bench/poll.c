@@ -1,7 +1,9 @@
 // What the receives and sends of a live run in one thread cost by themselves: each millisecond every socket is asked
-// until it has no more, and a datagram is sent to each port of the mix. Nothing is merged or mixed.
+// until it has no more, and a datagram is sent to each port of the mix. Nothing is merged or mixed. It notes which packets
+// came later after their stream's first one than the latency allows, by the clock as it was read before they were taken.
 //
-// Words: SIZE MIX_A MIX_B PORT.., on 127.0.0.1. It ends by SIGTERM, and then prints how many datagrams it received.
+// Words: SIZE LATENCY FRAMES MIX_A MIX_B PORT.., on 127.0.0.1, two ports a stream; latency and a packet's frames are in
+// sampling instants. It ends by SIGTERM, and then prints how many datagrams it received, and how many were late.
 #include <arpa/inet.h>
 #include <poll.h>
 #include <signal.h>
@@ -38,31 +40,55 @@ static int receiver(int port) {
   return s;
 }
 
-static uint64_t take_all(int s) {
-  static char octets[2048];
-  uint64_t taken = 0;
-  while (recv(s, octets, sizeof octets, 0) >= 0) taken++;
-  return taken;
+// A stream's first packet, and the full number of its last one.
+struct stream {
+  int is_known;
+  uint64_t at;
+  int64_t first, last;
+};
+
+struct counts {
+  uint64_t received, late;
+};
+
+static int is_late(struct stream *stream, const uint8_t *octets, uint64_t at, int frames, int latency) {
+  uint16_t seq = octets[2] << 8 | octets[3];
+  if (!stream->is_known) *stream = (struct stream){1, at, seq, seq};
+  stream->last += (int16_t)(seq - (uint16_t)stream->last);
+  int64_t due = (stream->last - stream->first) * frames + latency;
+  return (int64_t)(at - stream->at) > due * 62500 / 3;
+}
+
+static void take_all(int s, struct stream *stream, uint64_t at, int frames, int latency, struct counts *counts) {
+  static uint8_t octets[2048];
+  while (recv(s, octets, sizeof octets, 0) >= 12) {
+    counts->received++;
+    counts->late += is_late(stream, octets, at, frames, latency);
+  }
 }
 
 int main(int count, char **words) {
   static char datagram[MOST_OCTETS];
   struct pollfd sockets[MOST_SOCKETS];
-  size_t size = count > 3 ? atoi(words[1]) : 0;
-  int paths = count - 4, mixer = socket(AF_INET, SOCK_DGRAM, 0);
+  static struct stream streams[MOST_SOCKETS / 2];
+  size_t size = count > 5 ? atoi(words[1]) : 0;
+  int paths = count - 6, mixer = socket(AF_INET, SOCK_DGRAM, 0);
   if (paths < 1 || paths > MOST_SOCKETS || size > MOST_OCTETS) return 2;
-  struct sockaddr_in mix[2] = {at(atoi(words[2])), at(atoi(words[3]))};
-  for (int i = 0; i < paths; i++) sockets[i] = (struct pollfd){receiver(atoi(words[4 + i])), POLLIN, 0};
+  int latency = atoi(words[2]), frames = atoi(words[3]);
+  struct sockaddr_in mix[2] = {at(atoi(words[4])), at(atoi(words[5]))};
+  for (int i = 0; i < paths; i++) sockets[i] = (struct pollfd){receiver(atoi(words[6 + i])), POLLIN, 0};
   signal(SIGTERM, end);
-  uint64_t received = 0;
+  struct counts counts = {0, 0};
   for (uint64_t sent = now() / MILLISECOND; !is_over;) {
-    nanosleep(&(struct timespec){0, MILLISECOND - now() % MILLISECOND}, NULL);
+    uint64_t before = now();
+    nanosleep(&(struct timespec){0, MILLISECOND - before % MILLISECOND}, NULL);
+    uint64_t after = now(), judged = after - before <= MILLISECOND ? before : after;
     if (poll(sockets, paths, 0) > 0)
       for (int i = 0; i < paths; i++)
-        if (sockets[i].revents) received += take_all(sockets[i].fd);
+        if (sockets[i].revents) take_all(sockets[i].fd, &streams[i / 2], judged, frames, latency, &counts);
     for (uint64_t due = now() / MILLISECOND; sent < due; sent++)
       for (int i = 0; i < 2; i++) sendto(mixer, datagram, size, 0, (void *)&mix[i], sizeof mix[i]);
   }
-  printf("%llu\n", (unsigned long long)received);
+  printf("%llu %llu\n", (unsigned long long)counts.received, (unsigned long long)counts.late);
   return 0;
 }
