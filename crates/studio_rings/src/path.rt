@@ -87,6 +87,13 @@ impl PathEnd {
         }
     }
 
+    /// Tells its watch what became of the datagrams, if it has one: where none comes for now.
+    pub fn tell(&mut self)
+        ensures { self.new ≡ record self.old { teller = self.new.teller } }
+    {
+        tell(&mut self.teller, self.counts);
+    }
+
     /// Gives up the end: the proof of it, and what became of the datagrams. No proof where the other
     /// end is gone.
     pub fn finish(self) -> (Option<PathDone>, PathCounts)

@@ -252,12 +252,14 @@ sends-datagram told left rest p q r k n b h t s =
     (subst (λ (x : Stream). r.counts.offered < 2 ^ 62 → CountsOthers x (take n b ∷ []) (path_tally_of q.counts) (path_tally_of r.counts)) h.spec s.others)
     s.full s.offered
 
-pub sends-nothing : (told left rest : List Answer) (p q : PathEnd) (k : ℕ) (b : List ℕ)
-    → SendsSoFar told p left k q → Tells left b Nothing rest → SendsSoFar told p rest 0 q
+pub sends-nothing : (told left rest : List Answer) (p q r : PathEnd) (k : ℕ) (b : List ℕ)
+    → SendsSoFar told p left k q → r ≡ record q { teller = r.teller } → Tells left b Nothing rest → SendsSoFar told p rest 0 r
 unfolding reaches_end told_datagrams
-sends-nothing told left rest p q k b h t =
+sends-nothing told left rest p q r k b h same t =
     let e = told-next k left b Nothing rest h.whole t in
-    record { ring = h.ring; spec = h.spec; whole = rw e at h.whole; more = h.more; sends = h.sends; some = rw e at h.some; all = rw e at h.all; tried = h.tried; before = rw e at h.before; grows = h.grows; lacking = h.lacking; others = h.others }
+    let sends : SendsSoFar told p rest 0 (record q { teller = r.teller }) =
+    record { ring = h.ring; spec = h.spec; whole = rw e at h.whole; more = h.more; sends = h.sends; some = rw e at h.some; all = rw e at h.all; tried = h.tried; before = rw e at h.before; grows = h.grows; lacking = h.lacking; others = h.others } in
+    subst (SendsSoFar told p rest 0) (sym same) sends
 
 pub sends-fault : (told left rest : List Answer) (p q : PathEnd) (k : ℕ) (b : List ℕ)
     → (k ≡ 999 → ⊥) → SendsSoFar told p left k q → Tells left b Fault rest → SendsSoFar told p rest (k + 1) q

@@ -113,6 +113,7 @@ fn run_feed<R: Wait, F: Feed>(
             }
             FeedAnswer::Nothing => {
                 in_a_row = 0;
+                end.tell();
                 rest_for(rt, &feed, &mut pause);
             }
             FeedAnswer::Fault => {

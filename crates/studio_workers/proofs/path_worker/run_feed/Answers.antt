@@ -1,4 +1,6 @@
-use Rattle.std.proofs.Common.{rules, arith, inl, inr, refl, ◌∙◌}
+use Rattle.std.proofs.Common.{rules, arith, inl, inr, refl, ◌∙◌, ap, sym, subst}
+use Rattle.rtrb.specs.Ring.{SameProducer}
+use Rattle.studio_rings.specs.declared.path_end.PathEnd.{PathEnd}
 use Rattle.std.proofs.lemmas.Option.{IfSome_then}
 use Rattle.studio_workers.specs.declared.feed.FeedAnswer.TheVariants.{Fault, Ended}
 use Rattle.studio_workers.proofs.FeedLemmas.{sends-start, sends-datagram, sends-nothing, sends-fault, sends-end}
@@ -22,9 +24,9 @@ pub loop-preserved-in-Nothing : goal.loop-preserved-in-Nothing
 loop-preserved-in-Nothing g c = record {
   row = omega arith;
   room = search rules;
-  ring = c.loop.invariant.ring;
-  spec = c.loop.invariant.spec;
-  sends = λ w. sends-nothing _ _ _ c.args.end c.loop.end _ _ (c.loop.invariant.sends w) (c.in-Nothing.ensures.tells c.loop.invariant.room);
+  ring = subst (λ (end : PathEnd). SameProducer c.args.end.ring end.ring) (sym c.tell.ensures) c.loop.invariant.ring;
+  spec = ap (λ (end : PathEnd). end.spec) c.tell.ensures ∙ c.loop.invariant.spec;
+  sends = λ w. sends-nothing _ _ _ c.args.end c.loop.end c.tell.new.self _ _ (c.loop.invariant.sends w) c.tell.ensures (c.in-Nothing.ensures.tells c.loop.invariant.room);
 }
 
 pub loop-preserved : goal.loop-preserved
