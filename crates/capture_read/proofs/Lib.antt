@@ -2,7 +2,7 @@ pub mod CaptureLemmas
 pub mod DecimalLemmas
 pub mod FrontLemmas
 pub mod InterfaceLemmas
-pub mod MarksLemmas
+pub mod EntryLemmas
 pub mod OptionsLemmas
 pub mod PartsLemmas
 pub mod SectionLemmas

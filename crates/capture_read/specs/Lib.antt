@@ -11,4 +11,4 @@ pub mod Pcap
 pub mod Section
 pub mod Capture
 pub mod Parts
-pub mod Marks
+pub mod Entries

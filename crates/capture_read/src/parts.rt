@@ -1,10 +1,9 @@
 //! A capture's records and blocks, where its octets come piece by piece.
 ghost use Rattle.std.specs.Prelude.{◌≡◌, ◌⊎◌, ◌+◌, ◌<◌, ◌≤◌, ◌^◌, ◌++◌, ◌∷◌, ℕ, List, [], false, drop, length, option_map, IfOk, IfErr, OnErr, Err};
-ghost use Rattle.std.specs.Option.{option_to_list};
 ghost use Rattle.capture_read.specs.Capture.{packets_of, with_packet};
 ghost use Rattle.capture_read.specs.Packet.{packet_view};
 ghost use Rattle.capture_read.specs.Capture.{HasRead};
-ghost use Rattle.capture_read.specs.Marks.{marks_at, marks_of};
+ghost use Rattle.capture_read.specs.Entries.{entries_at, entries_in, entries_of};
 ghost use Rattle.capture_read.specs.Parts.{IsEnough, is_cut_in, items_at, state_at};
 
 use crate::capture::is_pcapng;
@@ -27,7 +26,7 @@ impl Parts {
     /// The place of the first record or block, of a capture that begins with these octets: at least 24, or all that there are.
     pub fn open(front: &[u8]) -> Result<Parts, CaptureFault>
         ensures parts { IfOk result (λ parts. (rest : List ℕ) → IsEnough front.now rest → packets_of (front.now ++ rest) ≡ items_at parts (drop parts.place (front.now ++ rest))) }
-        ensures marks { IfOk result (λ parts. (rest : List ℕ) → IsEnough front.now rest → marks_of (front.now ++ rest) ≡ marks_at parts (drop parts.place (front.now ++ rest))) }
+        ensures entries { IfOk result (λ parts. (rest : List ℕ) → IsEnough front.now rest → entries_of (front.now ++ rest) ≡ entries_at parts (drop parts.place (front.now ++ rest))) }
         ensures place { IfOk result (λ parts. parts.place ≤ length front.now) }
         ensures fault { IfErr result (λ fault. (rest : List ℕ) → IsEnough front.now rest → packets_of (front.now ++ rest) ≡ Err fault ∷ []) }
     {
@@ -84,12 +83,12 @@ impl Parts {
         requires place { self.old.place + length front.now < 2 ^ 64 }
         ensures part { IfOk result (λ part. (rest : List ℕ) → (is_cut_in self.old front.now ≡ false) ⊎ (rest ≡ [])
             → items_at self.old (front.now ++ rest) ≡ with_packet (option_map packet_view part.packet) (items_at self.new (drop part.len front.now ++ rest))) }
-        ensures mark { IfOk result (λ part. (rest : List ℕ) → (is_cut_in self.old front.now ≡ false) ⊎ (rest ≡ [])
-            → marks_at self.old (front.now ++ rest) ≡ option_to_list part.mark ++ marks_at self.new (drop part.len front.now ++ rest)) }
+        ensures entries { IfOk result (λ part. (rest : List ℕ) → (is_cut_in self.old front.now ≡ false) ⊎ (rest ≡ [])
+            → entries_at self.old (front.now ++ rest) ≡ entries_in (option_map packet_view part.packet) part.mark ++ entries_at self.new (drop part.len front.now ++ rest)) }
         ensures len { IfOk result (λ part. (1 ≤ part.len) × (part.len ≤ length front.now) × (self.new.place ≡ self.old.place + part.len)) }
         ensures fault { IfErr result (λ fault. (rest : List ℕ) → (is_cut_in self.old front.now ≡ false) ⊎ (rest ≡ [])
             → items_at self.old (front.now ++ rest) ≡ Err fault ∷ []) }
-        ensures no_mark { OnErr result ((rest : List ℕ) → (is_cut_in self.old front.now ≡ false) ⊎ (rest ≡ []) → marks_at self.old (front.now ++ rest) ≡ []) }
+        ensures no_entry { OnErr result ((rest : List ℕ) → (is_cut_in self.old front.now ≡ false) ⊎ (rest ≡ []) → entries_at self.old (front.now ++ rest) ≡ []) }
     {
         match self.read(front) {
             Ok(part) => {

@@ -1,3 +1,2 @@
 mod WindowLemmas
 mod ReaderLemmas
-mod MarkedLemmas

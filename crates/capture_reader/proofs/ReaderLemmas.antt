@@ -1,5 +1,5 @@
--- A capture's packets, told as its octets come.
-use Rattle.std.proofs.Common.{◌≡◌, ◌⊎◌, inl, inr, ◌≤◌, ◌<◌, ◌+◌, ℕ, Bool, true, false, List, [], ◌∷◌, ◌++◌, length, take, drop, map, Option, Some, None, IfSome, Result, Ok, Err, IfOk, IfErr, refl, sym, ap, subst, ◌∙◌, arith, append_assoc, append-nil, take-append-drop, length-append}
+-- A capture's entries, told as its octets come.
+use Rattle.std.proofs.Common.{◌≡◌, ◌⊎◌, inl, inr, ◌≤◌, ◌<◌, ◌+◌, ℕ, Bool, true, false, List, [], ◌∷◌, ◌++◌, length, take, drop, map, Option, Some, None, IfSome, Result, Ok, Err, IfOk, IfErr, OnErr, refl, sym, ap, subst, ◌∙◌, arith, append_assoc, append-nil, take-append-drop, length-append}
 use Rattle.std.specs.Option.{option_to_list}
 use Rattle.std.specs.Io.KnownBytes.{Consumes, IsAtEnd}
 use Rattle.std.proofs.KnownBytes.{Consumes-trans}
@@ -9,11 +9,13 @@ use Rattle.capture_read.specs.declared.cursor.Format.TheVariants as format
 use Rattle.capture_read.specs.declared.order.Order.{Order}
 use Rattle.capture_read.specs.declared.parts.Parts.{Parts}
 use Rattle.capture_read.specs.declared.fault.CaptureFault.{CaptureFault}
+use Rattle.capture_read.specs.declared.mark.RecordMark.{RecordMark}
 use Rattle.capture_read.specs.Packet.{PacketView}
 use Rattle.capture_read.specs.Capture.{Item, packets_of, packets_past, with_packet}
+use Rattle.capture_read.specs.Entries.{Entry, Packet, Mark, entries_at, entries_in, entries_of, entries_past}
 use Rattle.capture_read.specs.Parts.{IsEnough, is_cut_as, is_cut_in, items_at}
 use Rattle.capture_reader.specs.Window.{Reads}
-use Rattle.capture_reader.specs.Reader.{HasOpened, HasPackets, HasTold, IsFaultBehind, IsFilled}
+use Rattle.capture_reader.specs.Reader.{HasEntries, HasOpened, HasTold, IsFaultBehind, IsFilled, packets_among}
 
 -- what is said of a value that is there
 pub some_of : {X : Type 0} (o : Option X) (P : X → Type 0) → ((x : X) → o ≡ Some x → P x) → IfSome o P
@@ -33,15 +35,16 @@ pub at_end : (left : Option (List ℕ)) (rest : List ℕ) → left ≡ Some rest
 at_end left rest e end = subst IsAtEnd e end
 
 -- more octets came
-pub told_more : (file : List ℕ) (packets : List PacketView) (left then : Option (List ℕ)) (parts : Parts) (held longer : List ℕ) (ended now : Bool)
-    → HasTold file packets left parts held ended → Reads left then held longer now → HasTold file packets then parts longer now
-told_more file packets left then parts held longer ended now told reads =
+pub told_more : (file : List ℕ) (entries : List Entry) (left then : Option (List ℕ)) (parts : Parts) (held longer : List ℕ) (ended now : Bool)
+    → HasTold file entries left parts held ended → Reads left then held longer now → HasTold file entries then parts longer now
+told_more file entries left then parts held longer ended now told reads =
     let came = consumed left then told.rest reads.octets told.left_is reads.read in
+    let same : held ++ told.rest ≡ longer ++ came.0 = ap (λ l. held ++ l) came.2 ∙ sym (append_assoc held reads.octets came.0) ∙ ap (λ l. l ++ came.0) (sym reads.grown) in
     record {
       rest = came.0;
       left_is = came.1;
-      all = told.all ∙ ap (λ l. map Ok packets ++ items_at parts l)
-          (ap (λ l. held ++ l) came.2 ∙ sym (append_assoc held reads.octets came.0) ∙ ap (λ l. l ++ came.0) (sym reads.grown));
+      packets = told.packets ∙ ap (λ l. map Ok (packets_among entries) ++ items_at parts l) same;
+      all = told.all ∙ ap (λ l. entries ++ entries_at parts l) same;
       end = λ e. at_end then came.0 came.1 (reads.end e);
     }
 
@@ -54,26 +57,51 @@ items_none : (parts : Parts) → items_at parts [] ≡ []
 unfolding packets_past
 items_none parts = refl
 
+entries_none : (parts : Parts) → entries_at parts [] ≡ []
+unfolding entries_past
+entries_none parts = refl
+
 pub none_taken : (held : List ℕ) → take 983040 held ≡ [] → held ≡ []
 none_taken [] e = refl
 none_taken (x ∷ held) e = absurd (let f : x ∷ take 983039 held ≡ [] = e in cc)
 
 -- no octet is left
-pub told_end : (file : List ℕ) (packets : List PacketView) (left : Option (List ℕ)) (parts : Parts) (held : List ℕ) (ended : Bool)
-    → take 983040 held ≡ [] → IsFilled parts held ended → HasTold file packets left parts held ended → HasPackets file packets
-told_end file packets left parts held ended empty filled told =
+pub told_end : (file : List ℕ) (entries : List Entry) (left : Option (List ℕ)) (parts : Parts) (held : List ℕ) (ended : Bool)
+    → take 983040 held ≡ [] → IsFilled parts held ended → HasTold file entries left parts held ended → HasEntries file entries
+told_end file entries left parts held ended empty filled told =
     let none = none_taken held empty in
     let over : ended ≡ true = elim filled [
       | inl whole ↦ absurd (let f : false ≡ true = sym whole ∙ ap (is_cut_in parts) empty ∙ cut_none parts.format parts.section.order in cc)
       | inr short ↦ short.0
     ] in
-    told.all ∙ ap (λ l. map Ok packets ++ items_at parts l) (ap (λ l. l ++ told.rest) none ∙ told.end over)
-    ∙ ap (λ l. map Ok packets ++ l) (items_none parts) ∙ append-nil (map Ok packets)
+    let nothing : held ++ told.rest ≡ [] = ap (λ l. l ++ told.rest) none ∙ told.end over in
+    let packets = packets_among entries in
+    record {
+      packets = told.packets ∙ ap (λ l. map Ok packets ++ items_at parts l) nothing ∙ ap (λ l. map Ok packets ++ l) (items_none parts) ∙ append-nil (map Ok packets);
+      all = told.all ∙ ap (λ l. entries ++ entries_at parts l) nothing ∙ ap (λ l. entries ++ l) (entries_none parts) ∙ append-nil entries;
+    }
 
 -- a packet more, if there is one
 with_more : (packets : List PacketView) (packet : Option PacketView) (items : List Item) → map Ok packets ++ with_packet packet items ≡ map Ok (packets ++ option_to_list packet) ++ items
 with_more packets None items = ap (λ l. map Ok l ++ items) (sym (append-nil packets))
 with_more packets (Some p) items = sym (append_assoc (map Ok packets) (Ok p ∷ []) items) ∙ ap (λ l. l ++ items) (sym (map-append Ok packets (p ∷ [])))
+
+-- the packets among the entries of a record or a block more
+among_marks : (tells : Option RecordMark) → packets_among (entries_in None tells) ≡ []
+among_marks None = refl
+among_marks (Some mark) = refl
+
+among_one : (packet : Option PacketView) (tells : Option RecordMark) → packets_among (entries_in packet tells) ≡ option_to_list packet
+among_one None tells = among_marks tells
+among_one (Some p) tells = ap (λ l. p ∷ l) (among_marks tells)
+
+among_both : (entries more : List Entry) → packets_among (entries ++ more) ≡ packets_among entries ++ packets_among more
+among_both [] more = refl
+among_both (Packet p ∷ entries) more = ap (λ l. p ∷ l) (among_both entries more)
+among_both (Mark mark ∷ entries) more = among_both entries more
+
+pub among_more : (entries : List Entry) (packet : Option PacketView) (tells : Option RecordMark) → packets_among (entries ++ entries_in packet tells) ≡ packets_among entries ++ option_to_list packet
+among_more entries packet tells = among_both entries (entries_in packet tells) ∙ ap (λ l. packets_among entries ++ l) (among_one packet tells)
 
 -- the octets behind those that are lent
 pub behind : (parts : Parts) (held : List ℕ) (rest : List ℕ) (ended : Bool) → IsFilled parts held ended → (ended ≡ true → rest ≡ [])
@@ -89,36 +117,49 @@ left_of len held rest within =
     sym (append_assoc (drop len (take 983040 held)) (drop 983040 held) rest)
     ∙ ap (λ l. l ++ rest) (sym (drop-append-le len (take 983040 held) (drop 983040 held) within) ∙ ap (drop len) (take-append-drop 983040 held))
 
+-- what holds of what is lent holds of what is held
+lent_as : {X : Type 0} (f : List ℕ → X) (x : List ℕ → X) (parts : Parts) (held rest : List ℕ) (ended : Bool) (front : List ℕ) → front ≡ take 983040 held → IsFilled parts held ended → (ended ≡ true → rest ≡ [])
+    → ((rest : List ℕ) → (is_cut_in parts front ≡ false) ⊎ (rest ≡ []) → f (front ++ rest) ≡ x rest) → f (held ++ rest) ≡ x (drop 983040 held ++ rest)
+lent_as f x parts held rest ended front is filled end says =
+    let next : (rest : List ℕ) → (is_cut_in parts (take 983040 held) ≡ false) ⊎ (rest ≡ []) → f (take 983040 held ++ rest) ≡ x rest =
+    subst (λ l. (rest : List ℕ) → (is_cut_in parts l ≡ false) ⊎ (rest ≡ []) → f (l ++ rest) ≡ x rest) is says in
+    ap f (lent held rest) ∙ next (drop 983040 held ++ rest) (behind parts held rest ended filled end)
+
 -- a record or a block is passed over
-pub told_next : (file : List ℕ) (packets : List PacketView) (left : Option (List ℕ)) (parts then : Parts) (held : List ℕ) (ended : Bool) (len : ℕ) (packet : Option PacketView) (front : List ℕ) → front ≡ take 983040 held
+pub told_next : (file : List ℕ) (entries : List Entry) (left : Option (List ℕ)) (parts then : Parts) (held : List ℕ) (ended : Bool) (len : ℕ) (packet : Option PacketView) (tells : Option RecordMark) (front : List ℕ) → front ≡ take 983040 held
     → IsFilled parts held ended → len ≤ length front
     → ((rest : List ℕ) → (is_cut_in parts front ≡ false) ⊎ (rest ≡ []) → items_at parts (front ++ rest) ≡ with_packet packet (items_at then (drop len front ++ rest)))
-    → HasTold file packets left parts held ended → HasTold file (packets ++ option_to_list packet) left then (drop len held) ended
-told_next file packets left parts then held ended len packet front is filled short passes told =
+    → ((rest : List ℕ) → (is_cut_in parts front ≡ false) ⊎ (rest ≡ []) → entries_at parts (front ++ rest) ≡ entries_in packet tells ++ entries_at then (drop len front ++ rest))
+    → HasTold file entries left parts held ended → HasTold file (entries ++ entries_in packet tells) left then (drop len held) ended
+told_next file entries left parts then held ended len packet tells front is filled short passes lists told =
     let within : len ≤ length (take 983040 held) = subst (λ f. len ≤ length f) is short in
-    let next : (rest : List ℕ) → (is_cut_in parts (take 983040 held) ≡ false) ⊎ (rest ≡ [])
-    → items_at parts (take 983040 held ++ rest) ≡ with_packet packet (items_at then (drop len (take 983040 held) ++ rest)) =
-    subst (λ f. (rest : List ℕ) → (is_cut_in parts f ≡ false) ⊎ (rest ≡ []) → items_at parts (f ++ rest) ≡ with_packet packet (items_at then (drop len f ++ rest))) is passes in
+    let here : drop len front ++ (drop 983040 held ++ told.rest) ≡ drop len held ++ told.rest = ap (λ f. drop len f ++ (drop 983040 held ++ told.rest)) is ∙ left_of len held told.rest within in
+    let packets = packets_among entries in
     record {
       rest = told.rest;
       left_is = told.left_is;
-      all = told.all ∙ ap (λ l. map Ok packets ++ items_at parts l) (lent held told.rest)
-          ∙ ap (λ l. map Ok packets ++ l) (next (drop 983040 held ++ told.rest) (behind parts held told.rest ended filled told.end)
-          ∙ ap (λ l. with_packet packet (items_at then l)) (left_of len held told.rest within))
-          ∙ with_more packets packet (items_at then (drop len held ++ told.rest));
+      packets = told.packets
+          ∙ ap (λ l. map Ok packets ++ l) (lent_as (items_at parts) (λ r. with_packet packet (items_at then (drop len front ++ r))) parts held told.rest ended front is filled told.end passes
+          ∙ ap (λ l. with_packet packet (items_at then l)) here)
+          ∙ with_more packets packet (items_at then (drop len held ++ told.rest))
+          ∙ ap (λ l. map Ok l ++ items_at then (drop len held ++ told.rest)) (sym (among_more entries packet tells));
+      all = told.all
+          ∙ ap (λ l. entries ++ l) (lent_as (entries_at parts) (λ r. entries_in packet tells ++ entries_at then (drop len front ++ r)) parts held told.rest ended front is filled told.end lists
+          ∙ ap (λ l. entries_in packet tells ++ entries_at then l) here)
+          ∙ sym (append_assoc entries (entries_in packet tells) (entries_at then (drop len held ++ told.rest)));
       end = told.end;
     }
 
 -- or it is at fault
-pub told_fault : (file : List ℕ) (packets : List PacketView) (left : Option (List ℕ)) (parts : Parts) (held : List ℕ) (ended : Bool) (fault : CaptureFault) (front : List ℕ) → front ≡ take 983040 held
+pub told_fault : (file : List ℕ) (entries : List Entry) (left : Option (List ℕ)) (parts : Parts) (held : List ℕ) (ended : Bool) (fault : CaptureFault) (front : List ℕ) → front ≡ take 983040 held
     → IsFilled parts held ended
     → ((rest : List ℕ) → (is_cut_in parts front ≡ false) ⊎ (rest ≡ []) → items_at parts (front ++ rest) ≡ Err fault ∷ [])
-    → HasTold file packets left parts held ended → IsFaultBehind file packets fault
-told_fault file packets left parts held ended fault front is filled fails told =
-    let next : (rest : List ℕ) → (is_cut_in parts (take 983040 held) ≡ false) ⊎ (rest ≡ []) → items_at parts (take 983040 held ++ rest) ≡ Err fault ∷ [] =
-    subst (λ f. (rest : List ℕ) → (is_cut_in parts f ≡ false) ⊎ (rest ≡ []) → items_at parts (f ++ rest) ≡ Err fault ∷ []) is fails in
-    told.all ∙ ap (λ l. map Ok packets ++ items_at parts l) (lent held told.rest)
-    ∙ ap (λ l. map Ok packets ++ l) (next (drop 983040 held ++ told.rest) (behind parts held told.rest ended filled told.end))
+    → ((rest : List ℕ) → (is_cut_in parts front ≡ false) ⊎ (rest ≡ []) → entries_at parts (front ++ rest) ≡ [])
+    → HasTold file entries left parts held ended → IsFaultBehind file entries fault
+told_fault file entries left parts held ended fault front is filled fails lists told = record {
+  packets = told.packets ∙ ap (λ l. map Ok (packets_among entries) ++ l) (lent_as (items_at parts) (λ _. Err fault ∷ []) parts held told.rest ended front is filled told.end fails);
+  all = told.all ∙ ap (λ l. entries ++ l) (lent_as (entries_at parts) (λ _. []) parts held told.rest ended front is filled told.end lists) ∙ append-nil entries;
+}
 
 -- the header of a file shows, or all of the file
 pub shown : (held rest : List ℕ) (ended : Bool) → (ended ≡ false → 24 ≤ length held) → length held < 983040 → (ended ≡ true → rest ≡ []) → IsEnough (take 983040 held) rest
@@ -127,19 +168,20 @@ shown held rest false enough few end = inl (subst (λ l. 24 ≤ length l) (sym (
 
 pub told_open : (file : List ℕ) (left then : Option (List ℕ)) (parts : Parts) (held : List ℕ) (ended : Bool) (front : List ℕ) → front ≡ take 983040 held → left ≡ Some file → HasOpened left then held ended
     → ((rest : List ℕ) → IsEnough front rest → packets_of (front ++ rest) ≡ items_at parts (drop parts.place (front ++ rest)))
+    → ((rest : List ℕ) → IsEnough front rest → entries_of (front ++ rest) ≡ entries_at parts (drop parts.place (front ++ rest)))
     → parts.place ≤ length front → HasTold file [] then parts (drop parts.place held) ended
-told_open file left then parts held ended front front_is is opened says short =
-    let within : parts.place ≤ length (take 983040 held) = subst (λ f. parts.place ≤ length f) front_is short in
-    let parsed : (rest : List ℕ) → IsEnough (take 983040 held) rest → packets_of (take 983040 held ++ rest) ≡ items_at parts (drop parts.place (take 983040 held ++ rest)) =
-    subst (λ f. (rest : List ℕ) → IsEnough f rest → packets_of (f ++ rest) ≡ items_at parts (drop parts.place (f ++ rest))) front_is says in
+told_open file left then parts held ended front front_is is opened says lists short =
     let came = consumed left then file held is opened.read in
-    let all : take 983040 held ≡ held = take_all 983040 held (omega (arith, opened.few)) in
+    let whole : front ≡ held = front_is ∙ take_all 983040 held (omega (arith, opened.few)) in
     let end : (ended ≡ true → came.0 ≡ []) = λ e. at_end then came.0 came.1 (opened.end e) in
+    let enough : IsEnough front came.0 = subst (λ f. IsEnough f came.0) (sym front_is) (shown held came.0 ended opened.enough opened.few end) in
+    let all : file ≡ front ++ came.0 = came.2 ∙ ap (λ l. l ++ came.0) (sym whole) in
+    let here : drop parts.place (front ++ came.0) ≡ drop parts.place held ++ came.0 = drop-append-le parts.place front came.0 short ∙ ap (λ l. drop parts.place l ++ came.0) whole in
     record {
       rest = came.0;
       left_is = came.1;
-      all = ap packets_of (came.2 ∙ ap (λ l. l ++ came.0) (sym all)) ∙ parsed came.0 (shown held came.0 ended opened.enough opened.few end)
-          ∙ ap (items_at parts) (drop-append-le parts.place (take 983040 held) came.0 within ∙ ap (λ l. drop parts.place l ++ came.0) all);
+      packets = ap packets_of all ∙ says came.0 enough ∙ ap (items_at parts) here;
+      all = ap entries_of all ∙ lists came.0 enough ∙ ap (entries_at parts) here;
       end = end;
     }
 
@@ -176,6 +218,10 @@ pub ok_both : {X E : Type 0} (r : Result X E) (P Q R : X → Type 0) → ((x : X
 ok_both (Ok x) P Q R f p q = f x p q
 ok_both (Err e) P Q R f p q = tt
 
-pub err_maps : {X E : Type 0} (r : Result X E) (P Q : E → Type 0) → ((e : E) → P e → Q e) → IfErr r P → IfErr r Q
-err_maps (Ok x) P Q f p = tt
-err_maps (Err e) P Q f p = f e p
+pub ok_each : {X E : Type 0} (r : Result X E) (P Q R S : X → Type 0) → ((x : X) → P x → Q x → R x → S x) → IfOk r P → IfOk r Q → IfOk r R → IfOk r S
+ok_each (Ok x) P Q R S f p q r = f x p q r
+ok_each (Err e) P Q R S f p q r = tt
+
+pub err_both : {X E : Type 0} (r : Result X E) (P : E → Type 0) (Q : Type 0) (R : E → Type 0) → ((e : E) → P e → Q → R e) → IfErr r P → OnErr r Q → IfErr r R
+err_both (Ok x) P Q R f p q = tt
+err_both (Err e) P Q R f p q = f e p q

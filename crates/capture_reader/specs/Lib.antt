@@ -3,4 +3,4 @@ pub mod Reader
 pub use Rattle.capture_read.specs.Packet
 pub use Rattle.capture_read.specs.Capture
 pub use Rattle.capture_read.specs.Parts
-pub use Rattle.capture_read.specs.Marks
+pub use Rattle.capture_read.specs.Entries

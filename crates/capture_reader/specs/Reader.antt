@@ -3,45 +3,47 @@ use Rattle.std.specs.Prelude.{◌≡◌, ◌⊎◌, ℕ, ◌≤◌, ◌<◌, ◌
 use Rattle.std.specs.Option.{option_to_list}
 use Rattle.std.specs.Io.KnownBytes.{Consumes, IsAtEnd}
 use Rattle.capture_read.specs.declared.fault.CaptureFault.{CaptureFault}
-use Rattle.capture_read.specs.declared.mark.RecordMark.{RecordMark}
 use Rattle.capture_read.specs.declared.part.Part.{Part}
 use Rattle.capture_read.specs.declared.parts.Parts.{Parts}
 use Rattle.capture_read.specs.Packet.{PacketView, packet_view}
 use Rattle.capture_read.specs.Capture.{packets_of}
 use Rattle.capture_read.specs.Parts.{is_cut_in, items_at}
-use Rattle.capture_read.specs.Marks.{marks_at, marks_of}
+use Rattle.capture_read.specs.Entries.{Entry, Packet, Mark, entries_at, entries_in, entries_of}
 use Rattle.capture_reader.specs.declared.fault.ReaderFault.{ReaderFault}
 use Rattle.capture_reader.specs.declared.fault.ReaderFault.TheVariants.{Unread, Capture, Long, Memory}
 
--- the first packets of a file are these; the others are those of the octets that are held and of what is left of the file
-pub record HasTold (file : List ℕ) (packets : List PacketView) (left : Option (List ℕ)) (parts : Parts) (held : List ℕ) (ended : Bool) : Type 0 where
+-- the packets among entries
+abbrev pub packets_among : List Entry → List PacketView
+packets_among [] = []
+packets_among (Packet packet ∷ entries) = packet ∷ packets_among entries
+packets_among (Mark mark ∷ entries) = packets_among entries
+
+-- the first entries of a file are these, and their packets its first packets; the others are those of the octets that are held and
+-- of what is left of the file
+pub record HasTold (file : List ℕ) (entries : List Entry) (left : Option (List ℕ)) (parts : Parts) (held : List ℕ) (ended : Bool) : Type 0 where
   pub rest : List ℕ
   pub left_is : left ≡ Some rest
-  pub all : packets_of file ≡ map Ok packets ++ items_at parts (held ++ rest)
+  pub packets : packets_of file ≡ map Ok (packets_among entries) ++ items_at parts (held ++ rest)
+  pub all : entries_of file ≡ entries ++ entries_at parts (held ++ rest)
   pub end : ended ≡ true → rest ≡ []
 
--- the file has these packets, and no fault
-abbrev pub HasPackets : List ℕ → List PacketView → Type 0
-HasPackets file packets = packets_of file ≡ map Ok packets
+-- the file has these entries, and no fault
+pub record HasEntries (file : List ℕ) (entries : List Entry) : Type 0 where
+  pub packets : packets_of file ≡ map Ok (packets_among entries)
+  pub all : entries_of file ≡ entries
 
--- behind these packets the file has this fault
-abbrev pub IsFaultBehind : List ℕ → List PacketView → CaptureFault → Type 0
-IsFaultBehind file packets fault = packets_of file ≡ map Ok packets ++ Err fault ∷ []
+-- behind these entries the file has this fault
+pub record IsFaultBehind (file : List ℕ) (entries : List Entry) (fault : CaptureFault) : Type 0 where
+  pub packets : packets_of file ≡ map Ok (packets_among entries) ++ Err fault ∷ []
+  pub all : entries_of file ≡ entries
 
 -- the packet of a record or a block, if it has one
 abbrev pub packets_in : Part → List PacketView
 packets_in part = option_to_list (option_map packet_view part.packet)
 
--- the same of the marks of a record: the first of a file are these
-pub record HasMarked (file : List ℕ) (marks : List RecordMark) (left : Option (List ℕ)) (parts : Parts) (held : List ℕ) (ended : Bool) : Type 0 where
-  pub rest : List ℕ
-  pub left_is : left ≡ Some rest
-  pub all : marks_of file ≡ marks ++ marks_at parts (held ++ rest)
-  pub end : ended ≡ true → rest ≡ []
-
--- the mark of a record or a block, if it has one
-abbrev pub marks_in : Part → List RecordMark
-marks_in part = option_to_list part.mark
+-- its packet and its mark
+abbrev pub part_entries : Part → List Entry
+part_entries part = entries_in (option_map packet_view part.packet) part.mark
 
 -- the octets show the header of a file, or all of the file
 pub record HasOpened (left left_then : Option (List ℕ)) (held : List ℕ) (ended : Bool) : Type 0 where

@@ -1,11 +1,9 @@
 //! A capture's records and blocks, one by one.
 ghost use Rattle.std.specs.Prelude.{◌≡◌, ℕ, ◌≤◌, ◌<◌, ◌++◌, List, [], Option, length, false, true, take, drop, IfOk, IfErr, OnErr, OnOk, IfSome};
-ghost use Rattle.capture_read.specs.declared.mark.RecordMark.{RecordMark};
-ghost use Rattle.capture_read.specs.Marks.{marks_of};
-ghost use Rattle.capture_read.specs.Packet.{PacketView};
+ghost use Rattle.capture_read.specs.Entries.{Entry};
 ghost use Rattle.capture_read.specs.Parts.{is_cut_in};
 ghost use Rattle.capture_reader.specs.Window.{octets_of, Reads};
-ghost use Rattle.capture_reader.specs.Reader.{HasMarked, HasOpened, HasPackets, HasTold, IsFaultBehind, IsFilled, IsLong, IsNext, IsOpenFault, marks_in, packets_in};
+ghost use Rattle.capture_reader.specs.Reader.{HasEntries, HasOpened, HasTold, IsFaultBehind, IsFilled, IsLong, IsNext, IsOpenFault, part_entries};
 ghost use Rattle.capture_reader.specs.declared.fault.ReaderFault.TheVariants.{Unread};
 
 use crate::fault::ReaderFault;
@@ -26,7 +24,6 @@ const MOST_READS: u32 = 1_000_000;
 /// Opens a capture by the header of its file.
 pub fn open<R: Read>(alloc: Global, reader: &mut R) -> Result<(Window, Parts), ReaderFault>
     ensures told { IfOk result (λ opened. IfSome (R.remaining reader.old) (λ file. HasTold file [] (R.remaining reader.new) opened.1 (octets_of opened.0) opened.0.ended)) }
-    ensures marked { IfOk result (λ opened. IfSome (R.remaining reader.old) (λ file. HasMarked file [] (R.remaining reader.new) opened.1 (octets_of opened.0) opened.0.ended)) }
     ensures fault { IfErr result (λ fault. IfSome (R.remaining reader.old) (λ file. IsOpenFault file fault)) }
 {
     let mut window = Window::new(alloc)?;
@@ -65,15 +62,11 @@ pub fn has_next<R: Read>(
     window: &mut Window,
     reader: &mut R,
 ) -> Result<bool, ReaderFault>
-    ensures told { OnOk result ((file : List ℕ) (packets : List PacketView) → HasTold file packets (R.remaining reader.old) parts.now (octets_of window.old) window.old.ended
-        → HasTold file packets (R.remaining reader.new) parts.now (octets_of window.new) window.new.ended) }
-    ensures marked { OnOk result ((file : List ℕ) (marks : List RecordMark) → HasMarked file marks (R.remaining reader.old) parts.now (octets_of window.old) window.old.ended
-        → HasMarked file marks (R.remaining reader.new) parts.now (octets_of window.new) window.new.ended) }
-    ensures last { IfOk result (λ some. some ≡ false → (file : List ℕ) (marks : List RecordMark) → HasMarked file marks (R.remaining reader.old) parts.now (octets_of window.old) window.old.ended
-        → marks_of file ≡ marks) }
+    ensures told { OnOk result ((file : List ℕ) (entries : List Entry) → HasTold file entries (R.remaining reader.old) parts.now (octets_of window.old) window.old.ended
+        → HasTold file entries (R.remaining reader.new) parts.now (octets_of window.new) window.new.ended) }
     ensures next { IfOk result (λ some. some ≡ true → IsNext parts.now (octets_of window.new) window.new.ended) }
-    ensures end { IfOk result (λ some. some ≡ false → (file : List ℕ) (packets : List PacketView) → HasTold file packets (R.remaining reader.old) parts.now (octets_of window.old) window.old.ended
-        → HasPackets file packets) }
+    ensures end { IfOk result (λ some. some ≡ false → (file : List ℕ) (entries : List Entry) → HasTold file entries (R.remaining reader.old) parts.now (octets_of window.old) window.old.ended
+        → HasEntries file entries) }
     ensures fault { IfErr result (λ fault. IsLong fault) }
 {
     fill(parts, window, reader)?;
@@ -88,10 +81,8 @@ pub fn has_next<R: Read>(
 
 /// Reads on until the record or the block that comes next is whole, or the file ends.
 fn fill<R: Read>(parts: &Parts, window: &mut Window, reader: &mut R) -> Result<(), ReaderFault>
-    ensures told { OnOk result ((file : List ℕ) (packets : List PacketView) → HasTold file packets (R.remaining reader.old) parts.now (octets_of window.old) window.old.ended
-        → HasTold file packets (R.remaining reader.new) parts.now (octets_of window.new) window.new.ended) }
-    ensures marked { OnOk result ((file : List ℕ) (marks : List RecordMark) → HasMarked file marks (R.remaining reader.old) parts.now (octets_of window.old) window.old.ended
-        → HasMarked file marks (R.remaining reader.new) parts.now (octets_of window.new) window.new.ended) }
+    ensures told { OnOk result ((file : List ℕ) (entries : List Entry) → HasTold file entries (R.remaining reader.old) parts.now (octets_of window.old) window.old.ended
+        → HasTold file entries (R.remaining reader.new) parts.now (octets_of window.new) window.new.ended) }
     ensures filled { OnOk result (IsFilled parts.now (octets_of window.new) window.new.ended) }
     ensures fault { IfErr result (λ fault. IsLong fault) }
 {
@@ -114,14 +105,10 @@ fn fill<R: Read>(parts: &Parts, window: &mut Window, reader: &mut R) -> Result<(
 pub fn next<'a>(parts: &mut Parts, window: &'a Window) -> Result<Part<'a>, CaptureFault>
     requires { IsNext parts.old (octets_of window.now) window.now.ended }
     ensures len { IfOk result (λ part. part.len ≤ length (octets_of window.now)) }
-    ensures told { IfOk result (λ part. (file : List ℕ) (packets : List PacketView) (left : Option (List ℕ)) → HasTold file packets left parts.old (octets_of window.now) window.now.ended
-        → HasTold file (packets ++ packets_in part) left parts.new (drop part.len (octets_of window.now)) window.now.ended) }
-    ensures marked { IfOk result (λ part. (file : List ℕ) (marks : List RecordMark) (left : Option (List ℕ)) → HasMarked file marks left parts.old (octets_of window.now) window.now.ended
-        → HasMarked file (marks ++ marks_in part) left parts.new (drop part.len (octets_of window.now)) window.now.ended) }
-    ensures last { OnErr result ((file : List ℕ) (marks : List RecordMark) (left : Option (List ℕ)) → HasMarked file marks left parts.old (octets_of window.now) window.now.ended
-        → marks_of file ≡ marks) }
-    ensures fault { IfErr result (λ fault. (file : List ℕ) (packets : List PacketView) (left : Option (List ℕ)) → HasTold file packets left parts.old (octets_of window.now) window.now.ended
-        → IsFaultBehind file packets fault) }
+    ensures told { IfOk result (λ part. (file : List ℕ) (entries : List Entry) (left : Option (List ℕ)) → HasTold file entries left parts.old (octets_of window.now) window.now.ended
+        → HasTold file (entries ++ part_entries part) left parts.new (drop part.len (octets_of window.now)) window.now.ended) }
+    ensures fault { IfErr result (λ fault. (file : List ℕ) (entries : List Entry) (left : Option (List ℕ)) → HasTold file entries left parts.old (octets_of window.now) window.now.ended
+        → IsFaultBehind file entries fault) }
 {
     parts.next(window.front())
 }

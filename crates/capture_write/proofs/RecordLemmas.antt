@@ -9,15 +9,15 @@ use Rattle.capture_read.specs.declared.order.Order.TheVariants.{Big, Little}
 use Rattle.capture_read.specs.Octets.{number_at}
 use Rattle.capture_read.specs.Section.{is_section_header, no_section}
 use Rattle.capture_read.specs.Capture.{Item, is_pcapng, packets_from, packets_of, packets_past}
-use Rattle.capture_read.specs.Marks.{marks_from, marks_of, marks_past}
+use Rattle.capture_read.specs.Entries.{Mark, Packet, entries_from, entries_of, entries_past}
 use Rattle.capture_write.specs.Arrival.{ArrivalView}
 use Rattle.capture_write.specs.Blocks.{block_octets, closing_block, datagram_block, interface_block, section_block, section_held}
-use Rattle.capture_write.specs.Record.{IsArrival, IsName, Name, closed_record, datagram_blocks, interface_blocks, items_of, open_record, packet_of}
+use Rattle.capture_write.specs.Record.{IsArrival, IsName, Name, closed_record, datagram_blocks, interface_blocks, items_of, open_record, packet_entries, packet_of}
 use Rattle.capture_write.proofs.ClosingLemmas.{tells_closing}
 use Rattle.capture_write.proofs.DatagramLemmas.{tells_datagram}
 use Rattle.capture_write.proofs.InterfaceLemmas.{raw, tells_interface}
 use Rattle.capture_write.proofs.OpeningLemmas.{tells_opening, whole_opening}
-use Rattle.capture_write.proofs.WholeLemmas.{at, told_mark, told_packet}
+use Rattle.capture_write.proofs.WholeLemmas.{at, told_entries, told_packet}
 
 -- so many interfaces
 raws : ℕ → List Interface
@@ -63,19 +63,19 @@ interfaces_packets (name ∷ names) n place rest items every few then =
     ∙ interfaces_packets names (suc n) (place + length block) rest items all (omega (arith, few))
     (λ p. ap (λ k. packets_from (at (raws k)) p rest) (omega arith) ∙ then p)
 
-interfaces_marks : (names : List Name) (n : ℕ) (rest : List ℕ) → All IsName names → n + length names ≤ 64
-    → marks_from (at (raws n)) (interface_blocks names ++ rest) ≡ marks_from (at (raws (n + length names))) rest
-interfaces_marks [] n rest names few = ap (λ k. marks_from (at (raws k)) rest) (omega arith)
-interfaces_marks (name ∷ names) n rest every few =
+interfaces_entries : (names : List Name) (n : ℕ) (rest : List ℕ) → All IsName names → n + length names ≤ 64
+    → entries_from (at (raws n)) (interface_blocks names ++ rest) ≡ entries_from (at (raws (n + length names))) rest
+interfaces_entries [] n rest names few = ap (λ k. entries_from (at (raws k)) rest) (omega arith)
+interfaces_entries (name ∷ names) n rest every few =
     let is : IsName name = of_first IsName name names every in
     let all : All IsName names = of_others IsName name names every in
     let block : List ℕ = interface_block name.0 name.1 in
     let size = count_raws n in
-    ap (marks_from (at (raws n))) (append_assoc block (interface_blocks names) rest)
-    ∙ told_mark Little (raws n) (raws n ++ raw ∷ []) block (interface_blocks names ++ rest) None None (tells_interface (raws n) name.0 name.1 is (omega (arith, size, few)))
-    ∙ ap (λ l. marks_from (at l) (interface_blocks names ++ rest)) (more_raws n)
-    ∙ interfaces_marks names (suc n) rest all (omega (arith, few))
-    ∙ ap (λ k. marks_from (at (raws k)) rest) (omega arith)
+    ap (entries_from (at (raws n))) (append_assoc block (interface_blocks names) rest)
+    ∙ told_entries Little (raws n) (raws n ++ raw ∷ []) block (interface_blocks names ++ rest) None None (tells_interface (raws n) name.0 name.1 is (omega (arith, size, few)))
+    ∙ ap (λ l. entries_from (at l) (interface_blocks names ++ rest)) (more_raws n)
+    ∙ interfaces_entries names (suc n) rest all (omega (arith, few))
+    ∙ ap (λ k. entries_from (at (raws k)) rest) (omega arith)
 
 -- and behind the datagrams
 datagrams_packets : (arrivals : List ArrivalView) (n : ℕ) (place : ℕ) (rest : List ℕ) (items : List Item) → All (IsArrival n) arrivals → n ≤ 64
@@ -90,16 +90,16 @@ datagrams_packets (a ∷ arrivals) n place rest items every few then =
     ∙ told_packet Little (raws n) (raws n) block (datagram_blocks arrivals ++ rest) (Some (packet_of a)) None place (tells_datagram (raws n) n a is few (raw_at n a.interface is.interface))
     ∙ ap (λ l. Ok (packet_of a) ∷ l) (datagrams_packets arrivals n (place + length block) rest items all few then)
 
-datagrams_marks : (arrivals : List ArrivalView) (n : ℕ) (rest : List ℕ) → All (IsArrival n) arrivals → n ≤ 64
-    → marks_from (at (raws n)) (datagram_blocks arrivals ++ rest) ≡ marks_from (at (raws n)) rest
-datagrams_marks [] n rest all few = refl
-datagrams_marks (a ∷ arrivals) n rest every few =
+datagrams_entries : (arrivals : List ArrivalView) (n : ℕ) (rest : List ℕ) → All (IsArrival n) arrivals → n ≤ 64
+    → entries_from (at (raws n)) (datagram_blocks arrivals ++ rest) ≡ packet_entries arrivals ++ entries_from (at (raws n)) rest
+datagrams_entries [] n rest all few = refl
+datagrams_entries (a ∷ arrivals) n rest every few =
     let is : IsArrival n a = of_first (IsArrival n) a arrivals every in
     let all : All (IsArrival n) arrivals = of_others (IsArrival n) a arrivals every in
     let block : List ℕ = datagram_block a in
-    ap (marks_from (at (raws n))) (append_assoc block (datagram_blocks arrivals) rest)
-    ∙ told_mark Little (raws n) (raws n) block (datagram_blocks arrivals ++ rest) (Some (packet_of a)) None (tells_datagram (raws n) n a is few (raw_at n a.interface is.interface))
-    ∙ datagrams_marks arrivals n rest all few
+    ap (entries_from (at (raws n))) (append_assoc block (datagram_blocks arrivals) rest)
+    ∙ told_entries Little (raws n) (raws n) block (datagram_blocks arrivals ++ rest) (Some (packet_of a)) None (tells_datagram (raws n) n a is few (raw_at n a.interface is.interface))
+    ∙ ap (λ l. Packet (packet_of a) ∷ l) (datagrams_entries arrivals n rest all few)
 
 -- the first block shows the format
 begins_ours : (n : ℕ) (rest : List ℕ) → is_section_header (section_block n ++ rest) ≡ true
@@ -118,17 +118,17 @@ packets_ours : (n : ℕ) (rest : List ℕ) → n < 2 ^ 63 → packets_of (sectio
 unfolding packets_of
 packets_ours n rest small = rw (is_ours n rest small) refl
 
-marks_ours : (n : ℕ) (rest : List ℕ) → n < 2 ^ 63 → marks_of (section_block n ++ rest) ≡ marks_from (record { format = format.Pcapng; section = no_section }) (section_block n ++ rest)
-unfolding marks_of
-marks_ours n rest small = rw (is_ours n rest small) refl
+entries_ours : (n : ℕ) (rest : List ℕ) → n < 2 ^ 63 → entries_of (section_block n ++ rest) ≡ entries_from (record { format = format.Pcapng; section = no_section }) (section_block n ++ rest)
+unfolding entries_of
+entries_ours n rest small = rw (is_ours n rest small) refl
 
 -- what follows the section header
 opened_packets : (n : ℕ) (rest : List ℕ) (items : List Item) → n < 2 ^ 63 → ((place : ℕ) → packets_from (at []) place rest ≡ items) → packets_of (section_block n ++ rest) ≡ items
 opened_packets n rest items small then =
     packets_ours n rest small ∙ told_packet Big [] [] (section_block n) rest None (Some (Opened n)) 0 (tells_opening Big [] n small) ∙ then (0 + length (section_block n))
 
-opened_marks : (n : ℕ) (rest : List ℕ) → n < 2 ^ 63 → marks_of (section_block n ++ rest) ≡ Opened n ∷ marks_from (at []) rest
-opened_marks n rest small = marks_ours n rest small ∙ told_mark Big [] [] (section_block n) rest None (Some (Opened n)) (tells_opening Big [] n small)
+opened_entries : (n : ℕ) (rest : List ℕ) → n < 2 ^ 63 → entries_of (section_block n ++ rest) ≡ Mark (Opened n) ∷ entries_from (at []) rest
+opened_entries n rest small = entries_ours n rest small ∙ told_entries Big [] [] (section_block n) rest None (Some (Opened n)) (tells_opening Big [] n small)
 
 -- a record with something behind it
 in_turn : (s i d rest : List ℕ) → s ++ i ++ d ++ rest ≡ s ++ (i ++ (d ++ rest))
@@ -144,25 +144,25 @@ record_packets n names arrivals rest items small named few all then =
     (λ place. interfaces_packets names 0 place (datagram_blocks arrivals ++ rest) (items_of arrivals ++ items) named (omega (arith, few))
     (λ p. ap (λ k. packets_from (at (raws k)) p (datagram_blocks arrivals ++ rest)) (omega arith) ∙ datagrams_packets arrivals (length names) p rest items all few then))
 
-record_marks : (n : ℕ) (names : List Name) (arrivals : List ArrivalView) (rest : List ℕ) → n < 2 ^ 63 → All IsName names → length names ≤ 64
+record_entries : (n : ℕ) (names : List Name) (arrivals : List ArrivalView) (rest : List ℕ) → n < 2 ^ 63 → All IsName names → length names ≤ 64
     → All (IsArrival (length names)) arrivals
-    → marks_of (open_record n names arrivals ++ rest) ≡ Opened n ∷ marks_from (at (raws (length names))) rest
+    → entries_of (open_record n names arrivals ++ rest) ≡ Mark (Opened n) ∷ (packet_entries arrivals ++ entries_from (at (raws (length names))) rest)
 unfolding raws
-record_marks n names arrivals rest small named few all =
-    ap marks_of (in_turn (section_block n) (interface_blocks names) (datagram_blocks arrivals) rest)
-    ∙ opened_marks n (interface_blocks names ++ (datagram_blocks arrivals ++ rest)) small
-    ∙ ap (λ l. Opened n ∷ l)
-    (interfaces_marks names 0 (datagram_blocks arrivals ++ rest) named (omega (arith, few))
-    ∙ ap (λ k. marks_from (at (raws k)) (datagram_blocks arrivals ++ rest)) (omega arith)
-    ∙ datagrams_marks arrivals (length names) rest all few)
+record_entries n names arrivals rest small named few all =
+    ap entries_of (in_turn (section_block n) (interface_blocks names) (datagram_blocks arrivals) rest)
+    ∙ opened_entries n (interface_blocks names ++ (datagram_blocks arrivals ++ rest)) small
+    ∙ ap (λ l. Mark (Opened n) ∷ l)
+    (interfaces_entries names 0 (datagram_blocks arrivals ++ rest) named (omega (arith, few))
+    ∙ ap (λ k. entries_from (at (raws k)) (datagram_blocks arrivals ++ rest)) (omega arith)
+    ∙ datagrams_entries arrivals (length names) rest all few)
 
 nothing_left : (interfaces : List Interface) (place : ℕ) → packets_from (at interfaces) place [] ≡ []
 unfolding packets_past
 nothing_left interfaces place = refl
 
-no_mark_left : (interfaces : List Interface) → marks_from (at interfaces) [] ≡ []
-unfolding marks_past
-no_mark_left interfaces = refl
+no_entry_left : (interfaces : List Interface) → entries_from (at interfaces) [] ≡ []
+unfolding entries_past
+no_entry_left interfaces = refl
 
 -- one that isn't closed
 pub open_packets : (n : ℕ) (names : List Name) (arrivals : List ArrivalView) → n < 2 ^ 63 → All IsName names → length names ≤ 64 → All (IsArrival (length names)) arrivals
@@ -171,11 +171,12 @@ open_packets n names arrivals small named few all =
     ap packets_of (sym (append-nil (open_record n names arrivals)))
     ∙ record_packets n names arrivals [] [] small named few all (λ place. nothing_left (raws (length names)) place) ∙ append-nil (items_of arrivals)
 
-pub open_marks : (n : ℕ) (names : List Name) (arrivals : List ArrivalView) → n < 2 ^ 63 → All IsName names → length names ≤ 64 → All (IsArrival (length names)) arrivals
-    → marks_of (open_record n names arrivals) ≡ Opened n ∷ []
-open_marks n names arrivals small named few all =
-    ap marks_of (sym (append-nil (open_record n names arrivals)))
-    ∙ record_marks n names arrivals [] small named few all ∙ ap (λ l. Opened n ∷ l) (no_mark_left (raws (length names)))
+pub open_entries : (n : ℕ) (names : List Name) (arrivals : List ArrivalView) → n < 2 ^ 63 → All IsName names → length names ≤ 64 → All (IsArrival (length names)) arrivals
+    → entries_of (open_record n names arrivals) ≡ Mark (Opened n) ∷ packet_entries arrivals
+open_entries n names arrivals small named few all =
+    ap entries_of (sym (append-nil (open_record n names arrivals)))
+    ∙ record_entries n names arrivals [] small named few all
+    ∙ ap (λ l. Mark (Opened n) ∷ l) (ap (λ l. packet_entries arrivals ++ l) (no_entry_left (raws (length names))) ∙ append-nil (packet_entries arrivals))
 
 -- and one that is
 closing_packets : (interfaces : List Interface) (time place : ℕ) → time < 2 ^ 64 → slice_get interfaces 0 ≡ Some raw → packets_from (at interfaces) place (closing_block time) ≡ []
@@ -184,11 +185,11 @@ closing_packets interfaces time place fits first =
     ∙ told_packet Little interfaces interfaces (closing_block time) [] None (Some (Closed time)) place (tells_closing interfaces time fits first)
     ∙ nothing_left interfaces (place + length (closing_block time))
 
-closing_marks : (interfaces : List Interface) (time : ℕ) → time < 2 ^ 64 → slice_get interfaces 0 ≡ Some raw → marks_from (at interfaces) (closing_block time) ≡ Closed time ∷ []
-closing_marks interfaces time fits first =
-    ap (marks_from (at interfaces)) (sym (append-nil (closing_block time)))
-    ∙ told_mark Little interfaces interfaces (closing_block time) [] None (Some (Closed time)) (tells_closing interfaces time fits first)
-    ∙ ap (λ l. Closed time ∷ l) (no_mark_left interfaces)
+closing_entries : (interfaces : List Interface) (time : ℕ) → time < 2 ^ 64 → slice_get interfaces 0 ≡ Some raw → entries_from (at interfaces) (closing_block time) ≡ Mark (Closed time) ∷ []
+closing_entries interfaces time fits first =
+    ap (entries_from (at interfaces)) (sym (append-nil (closing_block time)))
+    ∙ told_entries Little interfaces interfaces (closing_block time) [] None (Some (Closed time)) (tells_closing interfaces time fits first)
+    ∙ ap (λ l. Mark (Closed time) ∷ l) (no_entry_left interfaces)
 
 pub closed_packets : (n : ℕ) (names : List Name) (arrivals : List ArrivalView) (time : ℕ) → n < 2 ^ 63 → All IsName names → 1 ≤ length names → length names ≤ 64
     → All (IsArrival (length names)) arrivals → time < 2 ^ 64 → packets_of (closed_record n names arrivals time) ≡ items_of arrivals
@@ -197,8 +198,8 @@ closed_packets n names arrivals time small named some few all fits =
     (λ place. closing_packets (raws (length names)) time place fits (raw_at (length names) 0 (omega (arith, some))))
     ∙ append-nil (items_of arrivals)
 
-pub closed_marks : (n : ℕ) (names : List Name) (arrivals : List ArrivalView) (time : ℕ) → n < 2 ^ 63 → All IsName names → 1 ≤ length names → length names ≤ 64
-    → All (IsArrival (length names)) arrivals → time < 2 ^ 64 → marks_of (closed_record n names arrivals time) ≡ Opened n ∷ Closed time ∷ []
-closed_marks n names arrivals time small named some few all fits =
-    record_marks n names arrivals (closing_block time) small named few all
-    ∙ ap (λ l. Opened n ∷ l) (closing_marks (raws (length names)) time fits (raw_at (length names) 0 (omega (arith, some))))
+pub closed_entries : (n : ℕ) (names : List Name) (arrivals : List ArrivalView) (time : ℕ) → n < 2 ^ 63 → All IsName names → 1 ≤ length names → length names ≤ 64
+    → All (IsArrival (length names)) arrivals → time < 2 ^ 64 → entries_of (closed_record n names arrivals time) ≡ Mark (Opened n) ∷ (packet_entries arrivals ++ Mark (Closed time) ∷ [])
+closed_entries n names arrivals time small named some few all fits =
+    record_entries n names arrivals (closing_block time) small named few all
+    ∙ ap (λ l. Mark (Opened n) ∷ (packet_entries arrivals ++ l)) (closing_entries (raws (length names)) time fits (raw_at (length names) 0 (omega (arith, some))))

@@ -1,6 +1,5 @@
 -- A block that is written is read as a whole one.
 use Rattle.std.proofs.Common.{◌≡◌, ◌<◌, ◌≤◌, ◌+◌, ◌-◌, ◌%◌, ◌^◌, ℕ, true, false, List, [], ◌++◌, length, Option, Ok, nat_lt, ◌==◌, refl, ap, ◌∙◌, inl, arith, length-append}
-use Rattle.std.specs.Option.{option_to_list}
 use Rattle.std.proofs.Math.Seq.{drop-length, take-length}
 use Rattle.std.proofs.lemmas.Bool.Decides.{nat_tests}
 use Rattle.byteorder.specs.Endian.{little_bytes}
@@ -14,9 +13,9 @@ use Rattle.capture_read.specs.Octets.{number_at}
 use Rattle.capture_read.specs.Packet.{PacketView}
 use Rattle.capture_read.specs.Section.{SectionView, block_in, block_of, block_within, content_of, length_of, order_of, with_length}
 use Rattle.capture_read.specs.Capture.{State, packets_from, part_as, with_packet}
-use Rattle.capture_read.specs.Marks.{marks_from}
+use Rattle.capture_read.specs.Entries.{entries_from, entries_in}
 use Rattle.capture_read.specs.Parts.{is_block_cut}
-use Rattle.capture_read.proofs.MarksLemmas.{passed_mark}
+use Rattle.capture_read.proofs.EntryLemmas.{passed_entries}
 use Rattle.capture_read.proofs.PartsLemmas.{passed_part}
 use Rattle.capture_write.specs.Blocks.{block_octets}
 use Rattle.capture_write.proofs.OctetLemmas.{number_behind}
@@ -95,11 +94,11 @@ told_packet order old new octets rest packet tells place told =
     (read_whole order old octets told.order_is told.whole ∙ told.holds, refl) refl (inl (uncut order octets told.order_is told.whole))
     ∙ ap (λ l. with_packet packet (packets_from (at new) (place + length octets) (l ++ rest))) (drop-length octets)
 
-pub told_mark : (order : Order) (old new : List Interface) (octets rest : List ℕ) (packet : Option PacketView) (tells : Option RecordMark)
+pub told_entries : (order : Order) (old new : List Interface) (octets rest : List ℕ) (packet : Option PacketView) (tells : Option RecordMark)
     → Tells order old new octets packet tells
-    → marks_from (from order old) (octets ++ rest) ≡ option_to_list tells ++ marks_from (at new) rest
+    → entries_from (from order old) (octets ++ rest) ≡ entries_in packet tells ++ entries_from (at new) rest
 unfolding part_as
-told_mark order old new octets rest packet tells told =
-    passed_mark (from order old) (at new) (length octets) octets rest packet tells (omega (arith, told.whole.long)) (omega (arith, told.whole.long)) (omega arith)
+told_entries order old new octets rest packet tells told =
+    passed_entries (from order old) (at new) (length octets) octets rest packet tells (omega (arith, told.whole.long)) (omega (arith, told.whole.long)) (omega arith)
     (read_whole order old octets told.order_is told.whole ∙ told.holds, refl) (inl (uncut order octets told.order_is told.whole))
-    ∙ ap (λ l. option_to_list tells ++ marks_from (at new) (l ++ rest)) (drop-length octets)
+    ∙ ap (λ l. entries_in packet tells ++ entries_from (at new) (l ++ rest)) (drop-length octets)

@@ -3,6 +3,7 @@ use Rattle.std.specs.Prelude.{◌≡◌, ◌<◌, ◌≤◌, ◌^◌, ℕ, List,
 use Rattle.capture_read.specs.Packet.{PacketView}
 use Rattle.capture_read.specs.Ipv4.{Whole}
 use Rattle.capture_read.specs.Capture.{Item}
+use Rattle.capture_read.specs.Entries.{Entry, Packet}
 use Rattle.capture_write.specs.Arrival.{ArrivalView}
 use Rattle.capture_write.specs.Blocks.{section_block, interface_block, datagram_block, closing_block}
 
@@ -55,3 +56,7 @@ packet_of a = record {
 
 abbrev pub items_of : List ArrivalView → List Item
 items_of arrivals = map (λ a. Ok (packet_of a)) arrivals
+
+-- the same as entries
+abbrev pub packet_entries : List ArrivalView → List Entry
+packet_entries arrivals = map (λ a. Packet (packet_of a)) arrivals

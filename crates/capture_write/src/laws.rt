@@ -1,12 +1,12 @@
 //! What the definitions promise together. Nothing is computed here: the clauses are the laws.
-ghost use Rattle.std.specs.Prelude.{◌≡◌, ◌<◌, ◌≤◌, ◌^◌, ◌∷◌, [], ℕ, List, length};
+ghost use Rattle.std.specs.Prelude.{◌≡◌, ◌<◌, ◌≤◌, ◌^◌, ◌∷◌, ◌++◌, [], ℕ, List, length};
 ghost use Rattle.std.specs.List.{All};
 ghost use Rattle.capture_read.specs.Capture.{packets_of};
-ghost use Rattle.capture_read.specs.Marks.{marks_of};
+ghost use Rattle.capture_read.specs.Entries.{Mark, entries_of};
 ghost use Rattle.capture_read.specs.declared.mark.RecordMark.TheVariants.{Closed, Opened};
 ghost use Rattle.capture_write.specs.Arrival.{ArrivalView};
 ghost use Rattle.capture_write.specs.Packet.{HasAddresses, carried, header_octets, words_sum};
-ghost use Rattle.capture_write.specs.Record.{IsArrival, IsName, Name, closed_record, items_of, open_record};
+ghost use Rattle.capture_write.specs.Record.{IsArrival, IsName, Name, closed_record, items_of, open_record, packet_entries};
 ghost use Rattle.capture_write.specs.Times.{instants_in, nanoseconds_of};
 
 /// Sampling instants that are written as nanoseconds come back.
@@ -19,15 +19,15 @@ pub fn checksums_are_right()
     ensures { (a : ArrivalView) → HasAddresses a → length a.octets ≤ 2048 → carried (carried (words_sum (header_octets a))) ≡ 65535 }
 {}
 
-/// A record is read as the datagrams that were written, with its opening, and with its close if that was written: the blocks of the
+/// A record is read as the datagrams that were written, behind its opening, and before its close if that was written: the blocks of the
 /// opening, of up to 64 interfaces, of datagrams on these, and of the close, each behind the one before.
 pub fn records_are_read_back()
     ensures open_packets { (open_at : ℕ) (names : List Name) (arrivals : List ArrivalView) → open_at < 2 ^ 63 → All IsName names → length names ≤ 64
         → All (IsArrival (length names)) arrivals → packets_of (open_record open_at names arrivals) ≡ items_of arrivals }
-    ensures open_marks { (open_at : ℕ) (names : List Name) (arrivals : List ArrivalView) → open_at < 2 ^ 63 → All IsName names → length names ≤ 64
-        → All (IsArrival (length names)) arrivals → marks_of (open_record open_at names arrivals) ≡ Opened open_at ∷ [] }
+    ensures open_entries { (open_at : ℕ) (names : List Name) (arrivals : List ArrivalView) → open_at < 2 ^ 63 → All IsName names → length names ≤ 64
+        → All (IsArrival (length names)) arrivals → entries_of (open_record open_at names arrivals) ≡ Mark (Opened open_at) ∷ packet_entries arrivals }
     ensures closed_packets { (open_at : ℕ) (names : List Name) (arrivals : List ArrivalView) (closed : ℕ) → open_at < 2 ^ 63 → All IsName names → 1 ≤ length names → length names ≤ 64
         → All (IsArrival (length names)) arrivals → closed < 2 ^ 64 → packets_of (closed_record open_at names arrivals closed) ≡ items_of arrivals }
-    ensures closed_marks { (open_at : ℕ) (names : List Name) (arrivals : List ArrivalView) (closed : ℕ) → open_at < 2 ^ 63 → All IsName names → 1 ≤ length names → length names ≤ 64
-        → All (IsArrival (length names)) arrivals → closed < 2 ^ 64 → marks_of (closed_record open_at names arrivals closed) ≡ Opened open_at ∷ Closed closed ∷ [] }
+    ensures closed_entries { (open_at : ℕ) (names : List Name) (arrivals : List ArrivalView) (closed : ℕ) → open_at < 2 ^ 63 → All IsName names → 1 ≤ length names → length names ≤ 64
+        → All (IsArrival (length names)) arrivals → closed < 2 ^ 64 → entries_of (closed_record open_at names arrivals closed) ≡ Mark (Opened open_at) ∷ (packet_entries arrivals ++ Mark (Closed closed) ∷ []) }
 {}

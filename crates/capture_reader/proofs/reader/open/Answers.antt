@@ -1,7 +1,6 @@
 use Rattle.std.proofs.Common.{◌≤◌, ◌≡◌, ◌∙◌, [], length, drop, ap, sym, subst}
 use Rattle.capture_reader.specs.Window.{octets_of}
-use Rattle.capture_reader.specs.Reader.{HasMarked, HasTold}
-use Rattle.capture_reader.proofs.MarkedLemmas.{marked_open}
+use Rattle.capture_reader.specs.Reader.{HasTold}
 use Rattle.capture_reader.proofs.ReaderLemmas.{fault_open, lent_within, some_of, told_open}
 use Rattle.capture_reader.proofs.reader.open.Goals as goal
 
@@ -20,19 +19,7 @@ returns-in-Ok-clause-told g c =
     subst (λ h. HasTold file [] left parts h c.pass.new.self.ended) (sym octets)
     (subst (λ e. HasTold file [] left parts (drop parts.place held) e) (sym c.pass.ensures.ended)
     (told_open file (g.R.Read.remaining c.args.reader.now) left parts held c.read_header.new.window.ended c.front.result.now c.front.ensures is c.in_ok-read_header.ensures.ok
-    c.in-Ok.ensures.parts c.in-Ok.ensures.place)))
-
-pub returns-in-Ok-clause-marked : goal.returns-in-Ok-clause-marked
-returns-in-Ok-clause-marked g c =
-    let held = octets_of c.read_header.new.window in
-    let left = g.R.Read.remaining c.read_header.new.reader in
-    let parts = c.in-Ok.parts in
-    let octets : octets_of c.pass.new.self ≡ drop parts.place held = c.pass.ensures.octets ∙ ap (λ n. drop n held) c.place.ensures in
-    some_of (g.R.Read.remaining c.args.reader.now) _ (λ file is.
-    subst (λ h. HasMarked file [] left parts h c.pass.new.self.ended) (sym octets)
-    (subst (λ e. HasMarked file [] left parts (drop parts.place held) e) (sym c.pass.ensures.ended)
-    (marked_open file (g.R.Read.remaining c.args.reader.now) left parts held c.read_header.new.window.ended c.front.result.now c.front.ensures is c.in_ok-read_header.ensures.ok
-    c.in-Ok.ensures.marks c.in-Ok.ensures.place)))
+    c.in-Ok.ensures.parts c.in-Ok.ensures.entries c.in-Ok.ensures.place)))
 
 pub returns-in-Err-clause-fault : goal.returns-in-Err-clause-fault
 returns-in-Err-clause-fault g c =

@@ -1,10 +1,10 @@
-use Rattle.capture_write.proofs.RecordLemmas.{closed_marks, closed_packets, open_marks, open_packets}
+use Rattle.capture_write.proofs.RecordLemmas.{closed_entries, closed_packets, open_entries, open_packets}
 use Rattle.capture_write.proofs.laws.records_are_read_back.Goals as goal
 
 pub returns : goal.returns
 returns c = record {
   open_packets = open_packets;
-  open_marks = open_marks;
+  open_entries = open_entries;
   closed_packets = closed_packets;
-  closed_marks = closed_marks;
+  closed_entries = closed_entries;
 }

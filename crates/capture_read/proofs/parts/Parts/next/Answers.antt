@@ -1,7 +1,7 @@
 use Rattle.std.proofs.Common.{option_map}
 use Rattle.capture_read.specs.Packet.{packet_view}
 use Rattle.capture_read.specs.Parts.{state_at}
-use Rattle.capture_read.proofs.MarksLemmas.{passed_mark, unmarked_fault}
+use Rattle.capture_read.proofs.EntryLemmas.{passed_entries, no_entry_behind}
 use Rattle.capture_read.proofs.PartsLemmas.{passed_fault, passed_part}
 use Rattle.capture_read.proofs.parts.Parts.next.Goals as goal
 
@@ -10,14 +10,14 @@ returns-in-Ok-clause-part c = λ rest whole.
     passed_part (state_at c.args.self.now) (state_at c.read.new.self) c.args.self.now.place c.read.new.self.place c.in-Ok.part.len c.args.front.now rest
     (option_map packet_view c.in-Ok.part.packet) c.in-Ok.part.mark c.requires.some c.in-Ok.ensures.bounds.0 c.in-Ok.ensures.bounds.1 c.in-Ok.ensures.part c.read.ensures.place whole
 
-pub returns-in-Ok-clause-mark : goal.returns-in-Ok-clause-mark
-returns-in-Ok-clause-mark c = λ rest whole.
-    passed_mark (state_at c.args.self.now) (state_at c.read.new.self) c.in-Ok.part.len c.args.front.now rest
+pub returns-in-Ok-clause-entries : goal.returns-in-Ok-clause-entries
+returns-in-Ok-clause-entries c = λ rest whole.
+    passed_entries (state_at c.args.self.now) (state_at c.read.new.self) c.in-Ok.part.len c.args.front.now rest
     (option_map packet_view c.in-Ok.part.packet) c.in-Ok.part.mark c.requires.some c.in-Ok.ensures.bounds.0 c.in-Ok.ensures.bounds.1 c.in-Ok.ensures.part whole
 
-pub returns-in-Err-clause-no_mark : goal.returns-in-Err-clause-no_mark
-returns-in-Err-clause-no_mark c = λ rest whole.
-    unmarked_fault (state_at c.args.self.now) c.args.front.now rest c.in-Err.kind c.requires.some c.in-Err.ensures.part whole
+pub returns-in-Err-clause-no_entry : goal.returns-in-Err-clause-no_entry
+returns-in-Err-clause-no_entry c = λ rest whole.
+    no_entry_behind (state_at c.args.self.now) c.args.front.now rest c.in-Err.kind c.requires.some c.in-Err.ensures.part whole
 
 pub returns-in-Err-clause-fault : goal.returns-in-Err-clause-fault
 returns-in-Err-clause-fault c = λ rest whole.

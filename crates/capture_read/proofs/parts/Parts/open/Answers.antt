@@ -2,8 +2,8 @@ use Rattle.std.proofs.Common.{List, ℕ, ◌++◌, drop, sym, ap, ◌∙◌}
 use Rattle.capture_read.specs.declared.cursor.Format.TheVariants as format
 use Rattle.capture_read.specs.Section.{SectionView}
 use Rattle.capture_read.specs.Capture.{packets_from}
-use Rattle.capture_read.specs.Marks.{marks_from}
-use Rattle.capture_read.proofs.MarksLemmas.{marked_pcap, marked_pcapng}
+use Rattle.capture_read.specs.Entries.{entries_from}
+use Rattle.capture_read.proofs.EntryLemmas.{listed_pcap, listed_pcapng}
 use Rattle.capture_read.proofs.PartsLemmas.{opened_none, opened_pcap, opened_pcapng}
 use Rattle.capture_read.proofs.parts.Parts.open.Goals as goal
 
@@ -13,17 +13,17 @@ returns-then-is_pcapng-clause-parts c = λ rest enough.
     opened_pcapng front rest (sym c.if-is_pcapng.ensures) enough
     ∙ ap (λ (section : SectionView). packets_from (record { format = format.Pcapng; section = section }) 0 (front ++ rest)) (sym c.new.ensures)
 
-pub returns-then-is_pcapng-clause-marks : goal.returns-then-is_pcapng-clause-marks
-returns-then-is_pcapng-clause-marks c = λ rest enough.
+pub returns-then-is_pcapng-clause-entries : goal.returns-then-is_pcapng-clause-entries
+returns-then-is_pcapng-clause-entries c = λ rest enough.
     let front : List ℕ = c.args.front.now in
-    marked_pcapng front rest (sym c.if-is_pcapng.ensures) enough
-    ∙ ap (λ (section : SectionView). marks_from (record { format = format.Pcapng; section = section }) (front ++ rest)) (sym c.new.ensures)
+    listed_pcapng front rest (sym c.if-is_pcapng.ensures) enough
+    ∙ ap (λ (section : SectionView). entries_from (record { format = format.Pcapng; section = section }) (front ++ rest)) (sym c.new.ensures)
 
-pub returns-in-Ok-clause-marks : goal.returns-in-Ok-clause-marks
-returns-in-Ok-clause-marks c = λ rest enough.
+pub returns-in-Ok-clause-entries : goal.returns-in-Ok-clause-entries
+returns-in-Ok-clause-entries c = λ rest enough.
     let front : List ℕ = c.args.front.now in
-    marked_pcap front rest c.in-Ok.pcap (sym c.if-is_pcapng.ensures) (sym c.in-Ok.ensures.header) enough
-    ∙ ap (λ (section : SectionView). marks_from (record { format = format.Pcap c.in-Ok.pcap; section = section }) (drop 24 (front ++ rest))) (sym c.new-in-Ok.ensures)
+    listed_pcap front rest c.in-Ok.pcap (sym c.if-is_pcapng.ensures) (sym c.in-Ok.ensures.header) enough
+    ∙ ap (λ (section : SectionView). entries_from (record { format = format.Pcap c.in-Ok.pcap; section = section }) (drop 24 (front ++ rest))) (sym c.new-in-Ok.ensures)
 
 pub returns-in-Ok-clause-parts : goal.returns-in-Ok-clause-parts
 returns-in-Ok-clause-parts c = λ rest enough.
