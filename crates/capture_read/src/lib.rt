@@ -10,8 +10,9 @@
 //! as came. While `is_cut` says that more are needed, more are read; `next` passes over a record or a block. It also tells a
 //! block's `mark`: that a live run's record begins, with the time of the opening, or the time of an interface's statistics.
 //!
-//! Nothing here takes memory, copies a payload or reads a file. What a file holds is `packets_of`, and in order
-//! with its marks `entries_of`, by the formats (draft-ietf-opsawg-pcap and draft-ietf-opsawg-pcapng) and tcpdump's registry of link types.
+//! Nothing here takes memory, copies a payload or reads a file. What a file holds is `packets_of`, and in order with
+//! its marks `entries_of`, by the formats (draft-ietf-opsawg-pcap and draft-ietf-opsawg-pcapng) and tcpdump's registry
+//! of link types.
 #![tactic(auto)]
 
 mod capture;

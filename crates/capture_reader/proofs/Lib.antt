@@ -1,2 +1,3 @@
 mod WindowLemmas
 mod ReaderLemmas
+pub mod EntryLemmas

@@ -12,10 +12,11 @@ use Rattle.capture_read.specs.declared.fault.CaptureFault.{CaptureFault}
 use Rattle.capture_read.specs.declared.mark.RecordMark.{RecordMark}
 use Rattle.capture_read.specs.Packet.{PacketView}
 use Rattle.capture_read.specs.Capture.{Item, packets_of, packets_past, with_packet}
-use Rattle.capture_read.specs.Entries.{Entry, Packet, Mark, entries_at, entries_in, entries_of, entries_past}
+use Rattle.capture_read.specs.Entries.{Entry, entries_at, entries_in, entries_of, entries_past}
 use Rattle.capture_read.specs.Parts.{IsEnough, is_cut_as, is_cut_in, items_at}
 use Rattle.capture_reader.specs.Window.{Reads}
 use Rattle.capture_reader.specs.Reader.{HasEntries, HasOpened, HasTold, IsFaultBehind, IsFilled, packets_among}
+use Rattle.capture_reader.proofs.EntryLemmas.{among_more}
 
 -- what is said of a value that is there
 pub some_of : {X : Type 0} (o : Option X) (P : X → Type 0) → ((x : X) → o ≡ Some x → P x) → IfSome o P
@@ -85,23 +86,6 @@ told_end file entries left parts held ended empty filled told =
 with_more : (packets : List PacketView) (packet : Option PacketView) (items : List Item) → map Ok packets ++ with_packet packet items ≡ map Ok (packets ++ option_to_list packet) ++ items
 with_more packets None items = ap (λ l. map Ok l ++ items) (sym (append-nil packets))
 with_more packets (Some p) items = sym (append_assoc (map Ok packets) (Ok p ∷ []) items) ∙ ap (λ l. l ++ items) (sym (map-append Ok packets (p ∷ [])))
-
--- the packets among the entries of a record or a block more
-among_marks : (tells : Option RecordMark) → packets_among (entries_in None tells) ≡ []
-among_marks None = refl
-among_marks (Some mark) = refl
-
-among_one : (packet : Option PacketView) (tells : Option RecordMark) → packets_among (entries_in packet tells) ≡ option_to_list packet
-among_one None tells = among_marks tells
-among_one (Some p) tells = ap (λ l. p ∷ l) (among_marks tells)
-
-among_both : (entries more : List Entry) → packets_among (entries ++ more) ≡ packets_among entries ++ packets_among more
-among_both [] more = refl
-among_both (Packet p ∷ entries) more = ap (λ l. p ∷ l) (among_both entries more)
-among_both (Mark mark ∷ entries) more = among_both entries more
-
-pub among_more : (entries : List Entry) (packet : Option PacketView) (tells : Option RecordMark) → packets_among (entries ++ entries_in packet tells) ≡ packets_among entries ++ option_to_list packet
-among_more entries packet tells = among_both entries (entries_in packet tells) ∙ ap (λ l. packets_among entries ++ l) (among_one packet tells)
 
 -- the octets behind those that are lent
 pub behind : (parts : Parts) (held : List ℕ) (rest : List ℕ) (ended : Bool) → IsFilled parts held ended → (ended ≡ true → rest ≡ [])
