@@ -1,7 +1,6 @@
 //! A capture's records and blocks, one by one.
-ghost use Rattle.std.specs.Prelude.{◌≡◌, ℕ, ◌≤◌, ◌<◌, ◌++◌, List, [], Option, length, false, true, take, drop, IfOk, IfErr, OnErr, OnOk, IfSome};
+ghost use Rattle.std.specs.Prelude.{◌≡◌, ℕ, ◌≤◌, ◌<◌, ◌++◌, List, [], Option, length, false, true, take, drop, IfOk, IfErr, OnOk, IfSome};
 ghost use Rattle.capture_read.specs.Entries.{Entry};
-ghost use Rattle.capture_read.specs.Parts.{is_cut_in};
 ghost use Rattle.capture_reader.specs.Window.{octets_of, Reads};
 ghost use Rattle.capture_reader.specs.Reader.{HasEntries, HasOpened, HasTold, IsFaultBehind, IsFilled, IsLong, IsNext, IsOpenFault, part_entries};
 ghost use Rattle.capture_reader.specs.declared.fault.ReaderFault.TheVariants.{Unread};

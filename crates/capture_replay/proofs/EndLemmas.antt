@@ -1,9 +1,10 @@
 -- How a replay ends.
-use Rattle.std.proofs.Common.{◌≡◌, inl, inr, ◌<◌, ℕ, Bool, true, false, List, [], ◌∷◌, ◌++◌, length, take, Option, None, IfSome, refl, sym, subst, ◌∙◌}
+use Rattle.std.proofs.Common.{◌≡◌, inl, inr, ◌<◌, ℕ, Bool, true, false, List, [], ◌∷◌, ◌++◌, length, take, Option, IfSome, refl, sym, subst, ◌∙◌}
 use Rattle.std.specs.Io.KnownBytes.{Appends}
 use Rattle.std.proofs.KnownBytes.{Appends-nil}
 use Rattle.std.proofs.lemmas.Bool.{false≢true}
 use Rattle.capture_read.specs.Capture.{packets_of}
+use Rattle.capture_read.specs.Entries.{entries_of}
 use Rattle.capture_reader.specs.declared.fault.ReaderFault.{ReaderFault}
 use Rattle.capture_reader.specs.declared.fault.ReaderFault.TheVariants as reader
 use Rattle.capture_reader.specs.Reader.{IsOpenFault}
@@ -25,7 +26,7 @@ use Rattle.capture_replay.specs.declared.fault.ReplayFault.{ReplayFault}
 use Rattle.capture_replay.specs.declared.fault.ReplayFault.TheVariants.{Memory, Capture, Run as RunOf, Full, Write}
 use Rattle.capture_replay.specs.declared.run.Run.{Run}
 use Rattle.capture_replay.specs.Lines.{Hearing}
-use Rattle.capture_replay.specs.Events.{closed_events, replay_events}
+use Rattle.capture_replay.specs.Events.{events_told, file_events}
 use Rattle.capture_replay.specs.Plan.{PlanView}
 use Rattle.capture_replay.specs.Replay.{BreaksOffReplay, BreaksReport, EndsBehind, HasHeardAll, HasReplayed, IsReason, StopsAt, StopsFile, WritesFront}
 use Rattle.capture_replay.proofs.CaseLemmas.{some_maps}
@@ -42,11 +43,10 @@ open_reason file reader.Memory is = tt
 pub unopened : (studio : Studio) (plan : PlanView) (first a : Option (List ℕ)) (H : Hearing) (run : Run) (fault : ReaderFault) → HasReplayed studio [] a run a H → IfSome first (λ file. IsOpenFault file fault)
     → BreaksOffReplay studio plan first a a H (Capture fault)
 unopened studio plan first a H run fault r is = record {
-  packets = [];
-  told = some_maps first _ _ (λ file why. (record { items = packets_of file; all = refl }, open_reason file fault why)) is;
-  closing = None;
+  entries = [];
+  told = some_maps first _ _ (λ file why. (record { items = packets_of file; packets = refl; later = entries_of file; all = refl }, open_reason file fault why)) is;
   events = [];
-  first = record { later = replay_events studio plan [] None; whole = refl };
+  first = record { later = file_events studio plan []; whole = refl };
   front = inl (record { datagrams = r.datagrams; first = r.session.given.first; count = 0; wrote = Appends-nil a; told = heard_first studio [] a a H run r });
 }
 
@@ -54,11 +54,10 @@ unopened studio plan first a H run fault r is = record {
 ends_front : (studio : Studio) (plan : PlanView) (first a b c : Option (List ℕ)) (H : Hearing) (run : Run) (fault : ReplayFault) (s : StopsFile studio plan first a run b H fault)
     → BreaksReport studio s.stops.events a c H → WritesFront studio plan first a c H fault
 ends_front studio plan first a b c H run fault s front = record {
-  packets = s.packets;
+  entries = s.entries;
   told = s.told;
-  closing = s.closing;
   events = s.stops.events;
-  first = first_longer s.stops.events (closed_events studio plan s.packets s.closing) (replay_events studio plan s.packets s.closing) s.stops.first (first_more (closed_events studio plan s.packets s.closing) (Closing ∷ []));
+  first = first_longer s.stops.events (events_told studio plan s.entries) (file_events studio plan s.entries) s.stops.first (first_more (events_told studio plan s.entries) (Closing ∷ []));
   front = front;
 }
 
@@ -80,9 +79,8 @@ held_at studio events a b H run Write other at = absurd (other refl)
 
 as_write : (studio : Studio) (plan : PlanView) (first a c : Option (List ℕ)) (H : Hearing) (fault : ReplayFault) → WritesFront studio plan first a c H fault → BreaksOffReplay studio plan first a c H Write
 as_write studio plan first a c H fault w = record {
-  packets = w.packets;
+  entries = w.entries;
   told = some_maps first _ _ (λ file both. (both.0, tt)) w.told;
-  closing = w.closing;
   events = w.events;
   first = w.first;
   front = w.front;

@@ -1,15 +1,18 @@
 -- What was written of a report so far.
-use Rattle.std.proofs.Common.{◌≡◌, ◌<◌, ℕ, Bool, List, [], ◌∷◌, ◌++◌, length, map, take, Option, None, IfSome, Ok, refl, sym, ap, subst, ◌∙◌, append-nil}
+use Rattle.std.proofs.Common.{◌≡◌, ◌<◌, ℕ, Bool, List, [], ◌∷◌, ◌++◌, length, map, take, Option, None, option_map, IfSome, Ok, refl, sym, ap, subst, ◌∙◌, append-nil}
 use Rattle.std.specs.Prelude.{⊤}
 use Rattle.std.specs.Io.KnownBytes.{Appends}
 use Rattle.std.proofs.Math.Seq.{take-length}
 use Rattle.std.proofs.lemmas.List.{length-map}
 use Rattle.capture_read.specs.declared.parts.Parts.{Parts}
-use Rattle.capture_read.specs.Packet.{PacketView}
+use Rattle.capture_read.specs.declared.part.Part.{Part}
+use Rattle.capture_read.specs.Entries.{Entry, entries_at}
+use Rattle.capture_read.specs.Packet.{PacketView, packet_view}
 use Rattle.capture_read.specs.Parts.{items_at}
 use Rattle.capture_reader.specs.declared.fault.ReaderFault.{ReaderFault}
 use Rattle.capture_reader.specs.declared.fault.ReaderFault.TheVariants as reader
-use Rattle.capture_reader.specs.Reader.{HasPackets, HasTold, IsLong}
+use Rattle.capture_reader.specs.Reader.{HasEntries, HasTold, IsLong, packets_among, packets_in, part_entries}
+use Rattle.capture_reader.proofs.EntryLemmas.{among_more}
 use Rattle.capture_import.specs.declared.clock.CaptureClock.{CaptureClock}
 use Rattle.capture_import.specs.Clock.{clock_with}
 use Rattle.studio_mix.specs.Feed.{Feed}
@@ -25,11 +28,13 @@ use Rattle.capture_replay.specs.declared.fault.ReplayFault.TheVariants.{Memory, 
 use Rattle.capture_replay.specs.declared.run.Run.{Run}
 use Rattle.capture_replay.specs.Lines.{BreaksLines, Hearing}
 use Rattle.capture_replay.specs.Replay.{BeginsWith, BreaksAt, HasBegun, HasComeToClose, HasGoneOver, HasHeardFirst, HasReplayed, HasTaken, IsReason, IsReplaying, IsRun, IsOwn, Stops, StopsAt, StopsFile}
-use Rattle.capture_replay.specs.Events.{AreFirst, clock_after, clock_of, closed_events, events_of, events_with, read_at}
-use Rattle.capture_replay.specs.Plan.{PlanView, clock_before, clock_past, opening_of, target_of}
+use Rattle.capture_replay.specs.Events.{AreFirst, clock_after, clock_of, closed_events, events_of, events_told, events_with, read_at}
+use Rattle.capture_replay.specs.Plan.{PlanView, clock_before, clock_past, closing_of, opening_of, target_of}
+use Rattle.capture_replay.specs.Record.{closing_in, closing_with}
 use Rattle.capture_replay.proofs.CaseLemmas.{some_maps}
 use Rattle.capture_replay.proofs.EventLemmas.{clock_more, events_more, first_longer, first_read, first_same}
 use Rattle.capture_replay.proofs.LineLemmas.{lines_more}
+use Rattle.capture_replay.proofs.RecordLemmas.{closing_more}
 
 -- lines of more datagrams follow
 pub wrote_more : (a b c : Option (List ℕ)) (h i : List ℕ) (datagrams more : List (List ℕ)) → PassesOn a [] b h (datagrams_text datagrams) → PassesOn b h c i (datagrams_text more)
@@ -104,25 +109,30 @@ streams_of_session studio engine events datagrams s =
     let played = s.given.played in
     ap length (sym played.fed.streams) ∙ length-map played.feeds (λ (feed : Feed). feed.stream) ∙ sym played.count
 
--- a file that told packets begins with them
-pub begins : (file : List ℕ) (packets : List PacketView) (left : Option (List ℕ)) (parts : Parts) (held : List ℕ) (ended : Bool) → HasTold file packets left parts held ended → BeginsWith file packets
-begins file packets left parts held ended told = record { items = items_at parts (held ++ told.rest); all = told.all }
+-- a file that told entries begins with them
+pub begins : (file : List ℕ) (entries : List Entry) (left : Option (List ℕ)) (parts : Parts) (held : List ℕ) (ended : Bool) → HasTold file entries left parts held ended → BeginsWith file entries
+begins file entries left parts held ended told = record { items = items_at parts (held ++ told.rest); packets = told.packets; later = entries_at parts (held ++ told.rest); all = told.all }
 
-pub begins_whole : (file : List ℕ) (packets : List PacketView) → HasPackets file packets → BeginsWith file packets
-begins_whole file packets whole = record { items = []; all = whole ∙ sym (append-nil (map Ok packets)) }
+pub begins_whole : (file : List ℕ) (entries : List Entry) → HasEntries file entries → BeginsWith file entries
+begins_whole file entries whole = record {
+  items = [];
+  packets = whole.packets ∙ sym (append-nil (map Ok (packets_among entries)));
+  later = [];
+  all = whole.all ∙ sym (append-nil entries);
+}
 
-pub own_reason : (file : List ℕ) (packets : List PacketView) (fault : ReplayFault) → IsOwn fault → IsReason file packets fault
-own_reason file packets Memory kind = tt
-own_reason file packets (Capture fault) kind = absurd kind
-own_reason file packets (RunOf fault) kind = tt
-own_reason file packets Full kind = tt
-own_reason file packets Write kind = tt
+pub own_reason : (file : List ℕ) (entries : List Entry) (fault : ReplayFault) → IsOwn fault → IsReason file entries fault
+own_reason file entries Memory kind = tt
+own_reason file entries (Capture fault) kind = absurd kind
+own_reason file entries (RunOf fault) kind = tt
+own_reason file entries Full kind = tt
+own_reason file entries Write kind = tt
 
-pub long_reason : (file : List ℕ) (packets : List PacketView) (fault : ReaderFault) → IsLong fault → IsReason file packets (Capture fault)
-long_reason file packets reader.Unread kind = tt
-long_reason file packets (reader.Capture fault) kind = absurd kind
-long_reason file packets (reader.Long place) kind = tt
-long_reason file packets reader.Memory kind = absurd kind
+pub long_reason : (file : List ℕ) (entries : List Entry) (fault : ReaderFault) → IsLong fault → IsReason file entries (Capture fault)
+long_reason file entries reader.Unread kind = tt
+long_reason file entries (reader.Capture fault) kind = absurd kind
+long_reason file entries (reader.Long place) kind = tt
+long_reason file entries reader.Memory kind = absurd kind
 
 -- one packet more was taken
 next_events : (studio : Studio) (plan : PlanView) (packets : List PacketView) (packet : PacketView) (clock : CaptureClock) → clock ≡ clock_after plan (clock_before plan) packets
@@ -148,62 +158,97 @@ stops_more studio plan packets packet a b c H K old new fault taken stops = subs
 pub taken_same : (studio : Studio) (plan : PlanView) (packets : List PacketView) (a c : Option (List ℕ)) (H : Hearing) (run : Run) → HasTaken studio plan packets a run c H → HasTaken studio plan (packets ++ []) a run c H
 taken_same studio plan packets a c H run taken = subst (λ l. HasTaken studio plan l a run c H) (sym (append-nil packets)) taken
 
--- a file told the same packets, as more of it was read
-pub replaying_read : (studio : Studio) (plan : PlanView) (first a : Option (List ℕ)) (run : Run) (parts : Parts) (held held' : List ℕ) (ended ended' : Bool) (left left' c : Option (List ℕ)) (H : Hearing)
-    → ((file : List ℕ) (packets : List PacketView) → HasTold file packets left parts held ended → HasTold file packets left' parts held' ended')
-    → IsReplaying studio plan first a run parts held ended left c H → IsReplaying studio plan first a run parts held' ended' left' c H
-replaying_read studio plan first a run parts held held' ended ended' left left' c H reads r = record {
-  packets = r.packets;
-  told = some_maps first _ _ (λ file told. reads file r.packets told) r.told;
+-- a file told the same entries, as more of it was read
+pub replaying_read : (studio : Studio) (plan : PlanView) (first a : Option (List ℕ)) (run : Run) (parts : Parts) (held held' : List ℕ) (ended ended' : Bool) (left left' c : Option (List ℕ)) (H : Hearing) (closing : Option ℕ)
+    → ((file : List ℕ) (entries : List Entry) → HasTold file entries left parts held ended → HasTold file entries left' parts held' ended')
+    → IsReplaying studio plan first a run parts held ended left c H closing → IsReplaying studio plan first a run parts held' ended' left' c H closing
+replaying_read studio plan first a run parts held held' ended ended' left left' c H closing reads r = record {
+  entries = r.entries;
+  told = some_maps first _ _ (λ file told. reads file r.entries told) r.told;
   taken = r.taken;
+  closes = r.closes;
 }
 
--- before the first packet
+-- before the first entry
 pub replaying_none : (studio : Studio) (plan : PlanView) (first a : Option (List ℕ)) (run : Run) (parts : Parts) (held : List ℕ) (ended : Bool) (left : Option (List ℕ)) (H : Hearing)
-    → IfSome first (λ file. HasTold file [] left parts held ended) → run.clock ≡ clock_before plan → HasReplayed studio [] a run a H → IsReplaying studio plan first a run parts held ended left a H
+    → IfSome first (λ file. HasTold file [] left parts held ended) → run.clock ≡ clock_before plan → HasReplayed studio [] a run a H → IsReplaying studio plan first a run parts held ended left a H None
 replaying_none studio plan first a run parts held ended left H told clock replayed = record {
-  packets = [];
+  entries = [];
   told = told;
   taken = record { clock = clock; replayed = replayed };
+  closes = refl;
 }
 
 -- a reading at the time of the close, behind all packets
-pub come_to_close : (studio : Studio) (plan : PlanView) (closing : Option ℕ) (from : ℕ) (first a b c : Option (List ℕ)) (H K : Hearing) (old new : Run) → from ≡ opening_of plan → (gone : HasGoneOver studio plan first a old b H)
+closing_same : (plan : PlanView) (entries : List Entry) (told closing : Option ℕ) → closing ≡ closing_of plan told → told ≡ closing_in entries → closing ≡ closing_of plan (closing_in entries)
+closing_same plan entries told closing same closes = same ∙ ap (closing_of plan) closes
+
+pub come_to_close : (studio : Studio) (plan : PlanView) (told closing : Option ℕ) (from : ℕ) (first a b c : Option (List ℕ)) (H K : Hearing) (old new : Run) → from ≡ opening_of plan → closing ≡ closing_of plan told
+    → (gone : HasGoneOver studio plan first a old b H told)
     → ((events : List TraceEvent) → HasReplayed studio events a old b H → HasReplayed studio (read_at studio.open_at from events old.clock.reading (clock_with old.clock closing).reading) a new c K)
-    → HasComeToClose studio plan closing first a new c K
-come_to_close studio plan closing from first a b c H K old new same gone reads =
-    let events = events_of studio plan gone.packets in
+    → HasComeToClose studio plan first a new c K
+come_to_close studio plan told closing from first a b c H K old new same closes gone reads =
+    let packets = packets_among gone.entries in
+    let events = events_of studio plan packets in
     record {
-      packets = gone.packets;
+      entries = gone.entries;
       told = gone.told;
-      replayed = subst (λ n. HasReplayed studio (read_at studio.open_at n events (clock_of plan gone.packets).reading (clock_with (clock_of plan gone.packets) closing).reading) a new c K) same
-          (subst (λ k. HasReplayed studio (read_at studio.open_at from events k.reading (clock_with k closing).reading) a new c K) gone.taken.clock (reads events gone.taken.replayed));
+      replayed = subst (λ o. HasReplayed studio (closed_events studio plan packets o) a new c K) (closing_same plan gone.entries told closing closes gone.closes)
+          (subst (λ n. HasReplayed studio (read_at studio.open_at n events (clock_of plan packets).reading (clock_with (clock_of plan packets) closing).reading) a new c K) same
+          (subst (λ k. HasReplayed studio (read_at studio.open_at from events k.reading (clock_with k closing).reading) a new c K) gone.taken.clock (reads events gone.taken.replayed)));
     }
 
-pub stops_at_close : (studio : Studio) (plan : PlanView) (closing : Option ℕ) (from : ℕ) (first a b c : Option (List ℕ)) (H K : Hearing) (old new : Run) (fault : ReplayFault) → from ≡ opening_of plan → IsOwn fault → (gone : HasGoneOver studio plan first a old b H)
+pub stops_at_close : (studio : Studio) (plan : PlanView) (told closing : Option ℕ) (from : ℕ) (first a b c : Option (List ℕ)) (H K : Hearing) (old new : Run) (fault : ReplayFault) → from ≡ opening_of plan → closing ≡ closing_of plan told
+    → IsOwn fault → (gone : HasGoneOver studio plan first a old b H told)
     → ((events : List TraceEvent) → HasReplayed studio events a old b H → Stops studio (read_at studio.open_at from events old.clock.reading (clock_with old.clock closing).reading) a new c K fault)
     → StopsFile studio plan first a new c K fault
-stops_at_close studio plan closing from first a b c H K old new fault same kind gone reads =
-    let events = events_of studio plan gone.packets in
+stops_at_close studio plan told closing from first a b c H K old new fault same closes kind gone reads =
+    let packets = packets_among gone.entries in
+    let events = events_of studio plan packets in
     record {
-      packets = gone.packets;
-      closing = closing;
-      told = some_maps first _ _ (λ file whole. (begins_whole file gone.packets whole, own_reason file gone.packets fault kind)) gone.told;
-      stops = subst (λ n. Stops studio (read_at studio.open_at n events (clock_of plan gone.packets).reading (clock_with (clock_of plan gone.packets) closing).reading) a new c K fault) same
-          (subst (λ k. Stops studio (read_at studio.open_at from events k.reading (clock_with k closing).reading) a new c K fault) gone.taken.clock (reads events gone.taken.replayed));
+      entries = gone.entries;
+      told = some_maps first _ _ (λ file whole. (begins_whole file gone.entries whole, own_reason file gone.entries fault kind)) gone.told;
+      stops = subst (λ o. Stops studio (closed_events studio plan packets o) a new c K fault) (closing_same plan gone.entries told closing closes gone.closes)
+          (subst (λ n. Stops studio (read_at studio.open_at n events (clock_of plan packets).reading (clock_with (clock_of plan packets) closing).reading) a new c K fault) same
+          (subst (λ k. Stops studio (read_at studio.open_at from events k.reading (clock_with k closing).reading) a new c K fault) gone.taken.clock (reads events gone.taken.replayed)));
     }
 
 -- the events of packets are the first of those up to a close
-pub before_close : (studio : Studio) (plan : PlanView) (packets : List PacketView) (closing : Option ℕ) → AreFirst (events_of studio plan packets) (closed_events studio plan packets closing)
-before_close studio plan packets closing = first_read studio.open_at (opening_of plan) (events_of studio plan packets) (clock_of plan packets).reading (clock_with (clock_of plan packets) closing).reading
+pub before_close : (studio : Studio) (plan : PlanView) (entries : List Entry) → AreFirst (events_of studio plan (packets_among entries)) (events_told studio plan entries)
+before_close studio plan entries =
+    let packets = packets_among entries in
+    first_read studio.open_at (opening_of plan) (events_of studio plan packets) (clock_of plan packets).reading (clock_with (clock_of plan packets) (closing_of plan (closing_in entries))).reading
 
--- a fault comes behind the packets that were told
-pub stops_behind : (studio : Studio) (plan : PlanView) (first a : Option (List ℕ)) (run : Run) (parts : Parts) (held : List ℕ) (ended : Bool) (left c : Option (List ℕ)) (H : Hearing) (fault : ReplayFault)
-    (r : IsReplaying studio plan first a run parts held ended left c H) → ((file : List ℕ) → HasTold file r.packets left parts held ended → IsReason file r.packets fault)
+-- a fault comes behind the entries that were told
+pub stops_behind : (studio : Studio) (plan : PlanView) (first a : Option (List ℕ)) (run : Run) (parts : Parts) (held : List ℕ) (ended : Bool) (left c : Option (List ℕ)) (H : Hearing) (closing : Option ℕ) (fault : ReplayFault)
+    (r : IsReplaying studio plan first a run parts held ended left c H closing) → ((file : List ℕ) → HasTold file r.entries left parts held ended → IsReason file r.entries fault)
     → ((events : List TraceEvent) → HasReplayed studio events a run c H → StopsAt studio events a run c H fault) → StopsFile studio plan first a run c H fault
-stops_behind studio plan first a run parts held ended left c H fault r reason at = record {
-  packets = r.packets;
-  closing = None;
-  told = some_maps first _ _ (λ file told. (begins file r.packets left parts held ended told, reason file told)) r.told;
-  stops = record { events = events_of studio plan r.packets; first = before_close studio plan r.packets None; at = at (events_of studio plan r.packets) r.taken.replayed };
+stops_behind studio plan first a run parts held ended left c H closing fault r reason at = record {
+  entries = r.entries;
+  told = some_maps first _ _ (λ file told. (begins file r.entries left parts held ended told, reason file told)) r.told;
+  stops = record { events = events_of studio plan (packets_among r.entries); first = before_close studio plan r.entries; at = at (events_of studio plan (packets_among r.entries)) r.taken.replayed };
 }
+
+-- a record or a block more was told
+pub replaying_more : (studio : Studio) (plan : PlanView) (first a : Option (List ℕ)) (run : Run) (parts : Parts) (held : List ℕ) (ended : Bool) (left c : Option (List ℕ)) (H : Hearing) (closing : Option ℕ) (entries : List Entry) (part : Part)
+    → IfSome first (λ file. HasTold file (entries ++ part_entries part) left parts held ended) → HasTaken studio plan (packets_among entries ++ packets_in part) a run c H → closing ≡ closing_in entries
+    → IsReplaying studio plan first a run parts held ended left c H (closing_with closing part.mark)
+replaying_more studio plan first a run parts held ended left c H closing entries part told taken closes = record {
+  entries = entries ++ part_entries part;
+  told = told;
+  taken = subst (λ l. HasTaken studio plan l a run c H) (sym (among_more entries (option_map packet_view part.packet) part.mark)) taken;
+  closes = ap (λ o. closing_with o part.mark) closes ∙ sym (closing_more entries (option_map packet_view part.packet) part.mark);
+}
+
+-- or its packet's events stopped
+pub stops_among : (studio : Studio) (plan : PlanView) (first a : Option (List ℕ)) (run : Run) (c : Option (List ℕ)) (H : Hearing) (fault : ReplayFault) (entries : List Entry) (part : Part)
+    → IfSome first (λ file. BeginsWith file (entries ++ part_entries part)) → IsOwn fault → Stops studio (events_of studio plan (packets_among entries ++ packets_in part)) a run c H fault
+    → StopsFile studio plan first a run c H fault
+stops_among studio plan first a run c H fault entries part begins kind stops =
+    let all = entries ++ part_entries part in
+    record {
+      entries = all;
+      told = some_maps first _ _ (λ file b. (b, own_reason file all fault kind)) begins;
+      stops = stops_longer studio (events_of studio plan (packets_among all)) (events_told studio plan all) a c H run fault (before_close studio plan all)
+          (subst (λ l. Stops studio (events_of studio plan l) a run c H fault) (sym (among_more entries (option_map packet_view part.packet) part.mark)) stops);
+    }

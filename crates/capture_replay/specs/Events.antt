@@ -1,6 +1,8 @@
 -- The events that a capture says, by a plan of where its datagrams go.
 use Rattle.std.specs.Prelude.{◌≡◌, ℕ, ◌+◌, ◌++◌, nat_lt, List, [], ◌∷◌, ℤ, pos, Option, Some, None, if◌then◌else◌}
 use Rattle.capture_read.specs.Packet.{PacketView}
+use Rattle.capture_read.specs.Entries.{Entry}
+use Rattle.capture_reader.specs.Reader.{packets_among}
 use Rattle.capture_import.specs.declared.clock.CaptureClock.{CaptureClock}
 use Rattle.capture_import.specs.Clock.{clock_with}
 use Rattle.capture_import.specs.Trace.{octets_of}
@@ -8,7 +10,8 @@ use Rattle.studio_spec.specs.Studio.{Studio}
 use Rattle.studio_session.specs.Event.{TraceEvent, Arrival, Closing}
 use Rattle.studio_session.specs.Fault.{time_at}
 use Rattle.studio_engine.specs.Session.{turned}
-use Rattle.capture_replay.specs.Plan.{PlanView, clock_before, clock_past, opening_of, target_of}
+use Rattle.capture_replay.specs.Plan.{PlanView, clock_before, clock_past, closing_of, opening_of, target_of}
+use Rattle.capture_replay.specs.Record.{closing_in}
 use Rattle.capture_replay.specs.declared.plan.Target.{Target}
 
 -- a reading, counted from a time, that is later than the one before is an event, but where it repeats the opening time
@@ -46,6 +49,13 @@ closed_events studio plan packets closing =
 
 abbrev pub replay_events : Studio → PlanView → List PacketView → Option ℕ → List TraceEvent
 replay_events studio plan packets closing = closed_events studio plan packets closing ++ Closing ∷ []
+
+-- those of a file's entries up to its close, and with it: the marks tell when it is, where the plan goes by them
+abbrev pub events_told : Studio → PlanView → List Entry → List TraceEvent
+events_told studio plan entries = closed_events studio plan (packets_among entries) (closing_of plan (closing_in entries))
+
+abbrev pub file_events : Studio → PlanView → List Entry → List TraceEvent
+file_events studio plan entries = replay_events studio plan (packets_among entries) (closing_of plan (closing_in entries))
 
 -- some events are the first of others
 pub record AreFirst (events all : List TraceEvent) : Type 0 where

@@ -9,7 +9,7 @@ pub mod Imported
 pub mod Replay
 pub use Rattle.capture_read.specs.Packet
 pub use Rattle.capture_read.specs.Capture
-pub use Rattle.capture_read.specs.Marks
+pub use Rattle.capture_read.specs.Entries
 pub use Rattle.capture_reader.specs.Window
 pub use Rattle.capture_reader.specs.Reader
 pub use Rattle.capture_streams.specs.Table

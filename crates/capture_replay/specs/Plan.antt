@@ -52,6 +52,11 @@ abbrev pub clock_before : PlanView → CaptureClock
 clock_before (Flows routes) = clock_begun
 clock_before (Places streams open_at) = clock_with clock_begun (Some 0)
 
+-- the time of the close, where marks told this of it: only a record goes by them
+abbrev pub closing_of : PlanView → Option ℕ → Option ℕ
+closing_of (Flows routes) told = None
+closing_of (Places streams open_at) told = told
+
 -- packets that go nowhere move no clock
 abbrev pub clock_past : CaptureClock → PacketView → Option Target → CaptureClock
 clock_past clock packet None = clock

@@ -1,22 +1,35 @@
--- What the marks of a file say of a live run.
+-- What the entries of a file say of a live run.
 use Rattle.std.specs.Prelude.{ℕ, List, [], ◌∷◌, Option, Some, None}
 use Rattle.capture_read.specs.declared.mark.RecordMark.{RecordMark}
 use Rattle.capture_read.specs.declared.mark.RecordMark.TheVariants.{Opened, Closed}
-use Rattle.capture_replay.specs.declared.record.Record.{Record}
+use Rattle.capture_read.specs.Entries.{Entry, Packet, Mark}
 
--- when the studio was closed, by the first mark that tells it
-abbrev pub closing_in : List RecordMark → Option ℕ
+-- when the studio was opened, by a mark
+abbrev pub opening_by : RecordMark → Option ℕ
+opening_by (Opened open_at) = Some open_at
+opening_by (Closed time) = None
+
+-- by those of a file: the first mark before the first packet tells it, or the file is no record
+abbrev pub opening_in : List Entry → Option ℕ
+opening_in [] = None
+opening_in (Packet packet ∷ entries) = None
+opening_in (Mark mark ∷ entries) = opening_by mark
+
+-- what the entries of a record or a block decide of that: nothing where there are none
+abbrev pub opening_decided : List Entry → Option (Option ℕ)
+opening_decided [] = None
+opening_decided (entry ∷ entries) = Some (opening_in (entry ∷ entries))
+
+-- when the studio was closed, by the first mark that tells it, wherever it stands
+abbrev pub closing_in : List Entry → Option ℕ
 closing_in [] = None
-closing_in (Opened open_at ∷ marks) = closing_in marks
-closing_in (Closed time ∷ marks) = Some time
+closing_in (Packet packet ∷ entries) = closing_in entries
+closing_in (Mark (Opened open_at) ∷ entries) = closing_in entries
+closing_in (Mark (Closed time) ∷ entries) = Some time
 
--- when one was opened, by a mark
-abbrev pub opening_in : RecordMark → Option ℕ
-opening_in (Opened open_at) = Some open_at
-opening_in (Closed time) = None
-
--- a record's first mark tells when it was opened
-abbrev pub record_by : List RecordMark → Option Record
-record_by [] = None
-record_by (Opened open_at ∷ marks) = Some (record { open_at = open_at; closing = closing_in marks })
-record_by (Closed time ∷ marks) = None
+-- with one mark more, if there is one
+abbrev pub closing_with : Option ℕ → Option RecordMark → Option ℕ
+closing_with (Some time) mark = Some time
+closing_with None None = None
+closing_with None (Some (Opened open_at)) = None
+closing_with None (Some (Closed time)) = Some time

@@ -1,12 +1,13 @@
 -- The report of a capture, and how far it was written.
-use Rattle.std.specs.Prelude.{◌≡◌, ◌≢◌, ◌⊎◌, ◌<◌, ℕ, ◌++◌, Bool, false, List, [], length, take, map, Option, Ok, IfSome, ⊤}
+use Rattle.std.specs.Prelude.{◌≡◌, ◌≢◌, ◌⊎◌, ◌<◌, ℕ, ◌++◌, Bool, false, List, [], ◌∷◌, length, take, map, Option, Ok, Err, IfSome, ⊤}
 use Rattle.std.specs.Io.KnownBytes.{Appends}
 use Rattle.capture_read.specs.declared.parts.Parts.{Parts}
+use Rattle.capture_read.specs.Entries.{Entry, entries_of}
 use Rattle.capture_read.specs.Packet.{PacketView}
 use Rattle.capture_read.specs.Capture.{Item, packets_of}
 use Rattle.capture_reader.specs.declared.fault.ReaderFault.{ReaderFault}
 use Rattle.capture_reader.specs.declared.fault.ReaderFault.TheVariants as reader
-use Rattle.capture_reader.specs.Reader.{HasPackets, HasTold, IsFaultBehind}
+use Rattle.capture_reader.specs.Reader.{HasEntries, HasTold, packets_among}
 use Rattle.studio_spec.specs.Studio.{Studio}
 use Rattle.studio_mix.specs.Blocks.{AreFirstBlocks}
 use Rattle.studio_session.specs.Event.{TraceEvent}
@@ -22,8 +23,9 @@ use Rattle.capture_replay.specs.declared.fault.ReplayFault.{ReplayFault}
 use Rattle.capture_replay.specs.declared.fault.ReplayFault.TheVariants.{Memory, Capture, Run as RunOf, Full, Write}
 use Rattle.capture_replay.specs.declared.run.Run.{Run}
 use Rattle.capture_replay.specs.Lines.{Hearing}
-use Rattle.capture_replay.specs.Events.{AreFirst, clock_of, closed_events, events_of, replay_events}
+use Rattle.capture_replay.specs.Events.{AreFirst, clock_of, events_of, events_told, file_events}
 use Rattle.capture_replay.specs.Plan.{PlanView}
+use Rattle.capture_replay.specs.Record.{closing_in}
 
 -- the engine took these events, the lines of what it gave were written or are held, and a listener was told of both
 pub record HasReplayed (studio : Studio) (events : List TraceEvent) (written : Option (List ℕ)) (run : Run) (written_then : Option (List ℕ)) (heard : Hearing) : Type 0 where
@@ -70,54 +72,57 @@ pub record Stops (studio : Studio) (all : List TraceEvent) (written : Option (Li
   pub first : AreFirst events all
   pub at : StopsAt studio events written run written_then heard fault
 
--- a file begins with these packets
-pub record BeginsWith (file : List ℕ) (packets : List PacketView) : Type 0 where
+-- a file begins with these entries
+pub record BeginsWith (file : List ℕ) (entries : List Entry) : Type 0 where
   pub items : List Item
-  pub all : packets_of file ≡ map Ok packets ++ items
+  pub packets : packets_of file ≡ map Ok (packets_among entries) ++ items
+  pub later : List Entry
+  pub all : entries_of file ≡ entries ++ later
 
 -- the events of these packets were taken, and the clock is theirs
 pub record HasTaken (studio : Studio) (plan : PlanView) (packets : List PacketView) (written : Option (List ℕ)) (run : Run) (written_then : Option (List ℕ)) (heard : Hearing) : Type 0 where
   pub clock : run.clock ≡ clock_of plan packets
   pub replayed : HasReplayed studio (events_of studio plan packets) written run written_then heard
 
--- the packets that a file so far told were replayed
-pub record IsReplaying (studio : Studio) (plan : PlanView) (first : Option (List ℕ)) (written : Option (List ℕ)) (run : Run) (parts : Parts) (held : List ℕ) (ended : Bool) (left written_then : Option (List ℕ)) (heard : Hearing) : Type 0 where
-  pub packets : List PacketView
-  pub told : IfSome first (λ file. HasTold file packets left parts held ended)
-  pub taken : HasTaken studio plan packets written run written_then heard
+-- the packets among the entries that a file told so far were replayed, and this is known of the close
+pub record IsReplaying (studio : Studio) (plan : PlanView) (first : Option (List ℕ)) (written : Option (List ℕ)) (run : Run) (parts : Parts) (held : List ℕ) (ended : Bool) (left written_then : Option (List ℕ)) (heard : Hearing) (closing : Option ℕ) : Type 0 where
+  pub entries : List Entry
+  pub told : IfSome first (λ file. HasTold file entries left parts held ended)
+  pub taken : HasTaken studio plan (packets_among entries) written run written_then heard
+  pub closes : closing ≡ closing_in entries
 
--- all of a file's were, which has no fault
-pub record HasGoneOver (studio : Studio) (plan : PlanView) (first : Option (List ℕ)) (written : Option (List ℕ)) (run : Run) (written_then : Option (List ℕ)) (heard : Hearing) : Type 0 where
-  pub packets : List PacketView
-  pub told : IfSome first (λ file. HasPackets file packets)
-  pub taken : HasTaken studio plan packets written run written_then heard
+-- those of a whole file were, which has no fault
+pub record HasGoneOver (studio : Studio) (plan : PlanView) (first : Option (List ℕ)) (written : Option (List ℕ)) (run : Run) (written_then : Option (List ℕ)) (heard : Hearing) (closing : Option ℕ) : Type 0 where
+  pub entries : List Entry
+  pub told : IfSome first (λ file. HasEntries file entries)
+  pub taken : HasTaken studio plan (packets_among entries) written run written_then heard
+  pub closes : closing ≡ closing_in entries
 
--- and a reading at the time of the close, if it is told
-pub record HasComeToClose (studio : Studio) (plan : PlanView) (closing : Option ℕ) (first : Option (List ℕ)) (written : Option (List ℕ)) (run : Run) (written_then : Option (List ℕ)) (heard : Hearing) : Type 0 where
-  pub packets : List PacketView
-  pub told : IfSome first (λ file. HasPackets file packets)
-  pub replayed : HasReplayed studio (closed_events studio plan packets closing) written run written_then heard
+-- and a reading at the time of the close, if its marks tell one
+pub record HasComeToClose (studio : Studio) (plan : PlanView) (first : Option (List ℕ)) (written : Option (List ℕ)) (run : Run) (written_then : Option (List ℕ)) (heard : Hearing) : Type 0 where
+  pub entries : List Entry
+  pub told : IfSome first (λ file. HasEntries file entries)
+  pub replayed : HasReplayed studio (events_told studio plan entries) written run written_then heard
 
 -- a file's fault is the one behind its packets
-abbrev pub IsFileFault : List ℕ → List PacketView → ReaderFault → Type 0
-IsFileFault file packets reader.Unread = Unit {0}
-IsFileFault file packets (reader.Capture fault) = IsFaultBehind file packets fault
-IsFileFault file packets (reader.Long place) = Unit {0}
-IsFileFault file packets reader.Memory = Unit {0}
+abbrev pub IsFileFault : List ℕ → List Entry → ReaderFault → Type 0
+IsFileFault file entries reader.Unread = Unit {0}
+IsFileFault file entries (reader.Capture fault) = packets_of file ≡ map Ok (packets_among entries) ++ Err fault ∷ []
+IsFileFault file entries (reader.Long place) = Unit {0}
+IsFileFault file entries reader.Memory = Unit {0}
 
-abbrev pub IsReason : List ℕ → List PacketView → ReplayFault → Type 0
-IsReason file packets Memory = Unit {0}
-IsReason file packets (Capture fault) = IsFileFault file packets fault
-IsReason file packets (RunOf fault) = Unit {0}
-IsReason file packets Full = Unit {0}
-IsReason file packets Write = Unit {0}
+abbrev pub IsReason : List ℕ → List Entry → ReplayFault → Type 0
+IsReason file entries Memory = Unit {0}
+IsReason file entries (Capture fault) = IsFileFault file entries fault
+IsReason file entries (RunOf fault) = Unit {0}
+IsReason file entries Full = Unit {0}
+IsReason file entries Write = Unit {0}
 
--- a fault came among the events of a file's first packets, or of a close behind them
+-- a fault came among the events of a file's first entries
 pub record StopsFile (studio : Studio) (plan : PlanView) (first : Option (List ℕ)) (written : Option (List ℕ)) (run : Run) (written_then : Option (List ℕ)) (heard : Hearing) (fault : ReplayFault) : Type 0 where
-  pub packets : List PacketView
-  pub closing : Option ℕ
-  pub told : IfSome first (λ file. BeginsWith file packets × IsReason file packets fault)
-  pub stops : Stops studio (closed_events studio plan packets closing) written run written_then heard fault
+  pub entries : List Entry
+  pub told : IfSome first (λ file. BeginsWith file entries × IsReason file entries fault)
+  pub stops : Stops studio (events_told studio plan entries) written run written_then heard fault
 
 -- a listener was told of all these events, and of exactly the datagrams that they give
 pub record HasHeardAll (studio : Studio) (events : List TraceEvent) (heard : Hearing) : Type 0 where
@@ -125,12 +130,12 @@ pub record HasHeardAll (studio : Studio) (events : List TraceEvent) (heard : Hea
   pub given : AreDatagrams studio events datagrams
   pub told : heard events datagrams
 
--- the report of a file's events was written, with a close at this time, if one is told, and a listener was told of them; the file has no fault
-pub record WritesReplay (studio : Studio) (plan : PlanView) (closing : Option ℕ) (left : Option (List ℕ)) (written written_then : Option (List ℕ)) (heard : Hearing) : Type 0 where
-  pub packets : List PacketView
-  pub told : IfSome left (λ file. HasPackets file packets)
-  pub writes : WritesEvents studio IsReport (replay_events studio plan packets closing) written written_then
-  pub hears : HasHeardAll studio (replay_events studio plan packets closing) heard
+-- the report of a file's events was written, and a listener was told of them; the file has no fault
+pub record WritesReplay (studio : Studio) (plan : PlanView) (left : Option (List ℕ)) (written written_then : Option (List ℕ)) (heard : Hearing) : Type 0 where
+  pub entries : List Entry
+  pub told : IfSome left (λ file. HasEntries file entries)
+  pub writes : WritesEvents studio IsReport (file_events studio plan entries) written written_then
+  pub hears : HasHeardAll studio (file_events studio plan entries) heard
 
 -- of the report of events a part from the front was written: of its datagrams, or of all
 abbrev pub BreaksReport : Studio → List TraceEvent → Option (List ℕ) → Option (List ℕ) → Hearing → Type 0
@@ -140,11 +145,10 @@ BreaksReport studio events written written_then heard =
 
 -- a part from the front of it was: of the datagrams of its first events, or of all
 pub record WritesFront (studio : Studio) (plan : PlanView) (left : Option (List ℕ)) (written written_then : Option (List ℕ)) (heard : Hearing) (fault : ReplayFault) : Type 0 where
-  pub packets : List PacketView
-  pub told : IfSome left (λ file. BeginsWith file packets × IsReason file packets fault)
-  pub closing : Option ℕ
+  pub entries : List Entry
+  pub told : IfSome left (λ file. BeginsWith file entries × IsReason file entries fault)
   pub events : List TraceEvent
-  pub first : AreFirst events (replay_events studio plan packets closing)
+  pub first : AreFirst events (file_events studio plan entries)
   pub front : BreaksReport studio events written written_then heard
 
 -- why the report was not written: memory was refused before, or a fault came after a part of it

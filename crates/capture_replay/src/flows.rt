@@ -1,8 +1,8 @@
 //! The flows of a capture that is read from a file.
 ghost use Rattle.std.specs.Prelude.{◌≡◌, ◌≤◌, ◌++◌, ℕ, List, map, length, drop, Option, None, Ok, IfOk, IfSome, OnOk};
-ghost use Rattle.capture_read.specs.Packet.{PacketView};
+ghost use Rattle.capture_read.specs.Entries.{Entry};
 ghost use Rattle.capture_reader.specs.Window.{octets_of};
-ghost use Rattle.capture_reader.specs.Reader.{HasTold, IsNext, packets_in};
+ghost use Rattle.capture_reader.specs.Reader.{HasTold, IsNext, packets_among, part_entries};
 ghost use Rattle.capture_replay.specs.Flows.{HasTable};
 ghost use Rattle.capture_read.specs.Capture.{packets_of};
 ghost use Rattle.capture_streams.specs.Table.{no_table, table_after, table_view};
@@ -39,8 +39,8 @@ fn add_all<R: Read>(
     window: &mut Window,
     reader: &mut R,
 ) -> Result<(), ReaderFault>
-    ensures { OnOk result ((file : List ℕ) (packets : List PacketView) → HasTold file packets (R.remaining reader.old) parts.old (octets_of window.old) window.old.ended
-        → table_view table.old ≡ table_after no_table (map Ok packets) → table_view table.new ≡ table_after no_table (packets_of file)) }
+    ensures { OnOk result ((file : List ℕ) (entries : List Entry) → HasTold file entries (R.remaining reader.old) parts.old (octets_of window.old) window.old.ended
+        → table_view table.old ≡ table_after no_table (map Ok (packets_among entries)) → table_view table.new ≡ table_after no_table (packets_of file)) }
 {
     'parts: for _ in 0..u64::MAX {
         if !has_next(parts, window, reader)? {
@@ -63,11 +63,11 @@ fn add_next(
 ) -> Result<Option<usize>, AllocError>
     requires { IsNext parts.old (octets_of window.now) window.now.ended }
     ensures len { IfOk result (λ given. IfSome given (λ len. len ≤ length (octets_of window.now))) }
-    ensures told { IfOk result (λ given. IfSome given (λ len. (file : List ℕ) (packets : List PacketView) (left : Option (List ℕ)) → HasTold file packets left parts.old (octets_of window.now) window.now.ended
-        → table_view table.old ≡ table_after no_table (map Ok packets)
+    ensures told { IfOk result (λ given. IfSome given (λ len. (file : List ℕ) (entries : List Entry) (left : Option (List ℕ)) → HasTold file entries left parts.old (octets_of window.now) window.now.ended
+        → table_view table.old ≡ table_after no_table (map Ok (packets_among entries))
         → HasTable file left (table_view table.new) parts.new (drop len (octets_of window.now)) window.now.ended)) }
-    ensures fault { IfOk result (λ given. given ≡ None → (file : List ℕ) (packets : List PacketView) (left : Option (List ℕ)) → HasTold file packets left parts.old (octets_of window.now) window.now.ended
-        → table_view table.old ≡ table_after no_table (map Ok packets) → table_view table.new ≡ table_after no_table (packets_of file)) }
+    ensures fault { IfOk result (λ given. given ≡ None → (file : List ℕ) (entries : List Entry) (left : Option (List ℕ)) → HasTold file entries left parts.old (octets_of window.now) window.now.ended
+        → table_view table.old ≡ table_after no_table (map Ok (packets_among entries)) → table_view table.new ≡ table_after no_table (packets_of file)) }
 {
     match next(parts, window) {
         Ok(part) => {
@@ -83,8 +83,8 @@ fn add_next(
 
 /// Takes in the packet of a record or a block, if it has one.
 fn add_part(alloc: Global, table: &mut Table, part: &Part<'_>) -> Result<(), AllocError>
-    ensures { OnOk result ((packets : List PacketView) → table_view table.old ≡ table_after no_table (map Ok packets)
-        → table_view table.new ≡ table_after no_table (map Ok (packets ++ packets_in part.now))) }
+    ensures { OnOk result ((entries : List Entry) → table_view table.old ≡ table_after no_table (map Ok (packets_among entries))
+        → table_view table.new ≡ table_after no_table (map Ok (packets_among (entries ++ part_entries part.now)))) }
 {
     match part.packet {
         Some(packet) => table.take(alloc, Ok(packet)),

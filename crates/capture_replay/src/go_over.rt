@@ -1,5 +1,5 @@
 //! The events of a capture, packet by packet.
-ghost use Rattle.std.specs.Prelude.{◌≡◌, ◌≤◌, ◌<◌, ◌+◌, ◌^◌, ◌∷◌, ◌++◌, [], ℕ, pos, List, Option, length, drop, false, is_some, IfOk, IfErr, IfSome, OnOk};
+ghost use Rattle.std.specs.Prelude.{◌≡◌, ◌≤◌, ◌<◌, ◌+◌, ◌^◌, ◌∷◌, ◌++◌, [], ℕ, pos, List, Option, None, length, drop, false, is_some, IfOk, IfErr, IfSome, OnOk};
 ghost use Rattle.capture_read.specs.Packet.{PacketView, packet_view};
 ghost use Rattle.capture_reader.specs.Window.{octets_of};
 ghost use Rattle.capture_reader.specs.Reader.{IsNext, packets_in};
@@ -7,8 +7,9 @@ ghost use Rattle.capture_import.specs.Clock.{clock_with};
 ghost use Rattle.path_merge.specs.Clock.{clock_fault_of};
 ghost use Rattle.studio_spec.specs.Studio.{Studio};
 ghost use Rattle.studio_session.specs.Event.{TraceEvent, Arrival};
-ghost use Rattle.capture_replay.specs.Events.{closed_events, events_of, events_with, read_at};
+ghost use Rattle.capture_replay.specs.Events.{events_of, events_with, read_at};
 ghost use Rattle.capture_replay.specs.Plan.{clock_past, opening_of, plan_view, target_of};
+ghost use Rattle.capture_replay.specs.Record.{closing_with};
 ghost use Rattle.capture_replay.specs.Replay.{HasGoneOver, HasReplayed, HasTaken, IsOwn, IsReplaying, IsRun, Stops, StopsFile};
 ghost use Rattle.studio_session.specs.Fault.{time_at};
 ghost use Rattle.studio_engine.specs.Session.{turned};
@@ -16,10 +17,11 @@ ghost use Rattle.studio_engine.specs.Session.{turned};
 use crate::fault::ReplayFault;
 use crate::listener::Listener;
 use crate::plan::{Plan, Target};
+use crate::record::closed_at;
 use crate::run::Run;
 use crate::turn::write_turn;
 use capture_import::octets_in;
-use capture_read::{Packet, Part, Parts};
+use capture_read::{Packet, Part, Parts, RecordMark};
 use capture_reader::{ReaderFault, Window, has_next, next};
 use path_merge::{Path, clock_fault};
 use std::io::{Read, Write};
@@ -27,7 +29,8 @@ use studio_engine::{ArriveFault, Engine};
 use studio_session::StudioFault;
 
 impl Run {
-    /// Takes the events of what is left of a capture, up to its end.
+    /// Takes the events of what is left of a capture, up to its end. Answers when the studio was closed, in nanoseconds, by the
+    /// first mark that tells it.
     pub(crate) fn go_over<R: Read, W: Write, L: Listener>(
         &mut self,
         plan: &Plan<'_>,
@@ -36,25 +39,27 @@ impl Run {
         reader: &mut R,
         writer: &mut W,
         listener: &mut L,
-    ) -> Result<(), ReplayFault>
-        ensures ok { OnOk result ((studio : Studio) (first : Option (List ℕ)) (written : Option (List ℕ)) (begun : L)
-            → IsReplaying studio (plan_view plan.now) first written self.old parts.old (octets_of window.old) window.old.ended (R.remaining reader.old) (W.contents writer.old) (L.heard begun listener.old)
-            → HasGoneOver studio (plan_view plan.now) first written self.new (W.contents writer.new) (L.heard begun listener.new)) }
+    ) -> Result<Option<u64>, ReplayFault>
+        ensures ok { IfOk result (λ closing. (studio : Studio) (first : Option (List ℕ)) (written : Option (List ℕ)) (begun : L)
+            → IsReplaying studio (plan_view plan.now) first written self.old parts.old (octets_of window.old) window.old.ended (R.remaining reader.old) (W.contents writer.old) (L.heard begun listener.old) None
+            → HasGoneOver studio (plan_view plan.now) first written self.new (W.contents writer.new) (L.heard begun listener.new) closing) }
         ensures fault { IfErr result (λ fault. (studio : Studio) (first : Option (List ℕ)) (written : Option (List ℕ)) (begun : L)
-            → IsReplaying studio (plan_view plan.now) first written self.old parts.old (octets_of window.old) window.old.ended (R.remaining reader.old) (W.contents writer.old) (L.heard begun listener.old)
+            → IsReplaying studio (plan_view plan.now) first written self.old parts.old (octets_of window.old) window.old.ended (R.remaining reader.old) (W.contents writer.old) (L.heard begun listener.old) None
             → StopsFile studio (plan_view plan.now) first written self.new (W.contents writer.new) (L.heard begun listener.new) fault) }
     {
+        let mut closing = None;
         'parts: for _ in 0..u64::MAX {
             if !has_next(parts, window, reader)? {
-                return Ok(());
+                return Ok(closing);
             }
-            let len = self.take_next(plan, parts, window, writer, listener)?;
+            let (len, mark) = self.take_next(plan, parts, window, writer, listener)?;
+            closing = closed_at(closing, mark);
             window.pass(len);
         }
         Err(ReplayFault::Full)
     }
 
-    /// Takes the events of what comes next, and answers its length.
+    /// Takes the events of what comes next, and answers its length and its mark.
     fn take_next<W: Write, L: Listener>(
         &mut self,
         plan: &Plan<'_>,
@@ -62,20 +67,20 @@ impl Run {
         window: &Window,
         writer: &mut W,
         listener: &mut L,
-    ) -> Result<usize, ReplayFault>
+    ) -> Result<(usize, Option<RecordMark>), ReplayFault>
         requires next { IsNext parts.old (octets_of window.now) window.now.ended }
-        ensures len { IfOk result (λ len. len ≤ length (octets_of window.now)) }
-        ensures ok { IfOk result (λ len. (studio : Studio) (first : Option (List ℕ)) (written : Option (List ℕ)) (begun : L) (left : Option (List ℕ))
-            → IsReplaying studio (plan_view plan.now) first written self.old parts.old (octets_of window.now) window.now.ended left (W.contents writer.old) (L.heard begun listener.old)
-            → IsReplaying studio (plan_view plan.now) first written self.new parts.new (drop len (octets_of window.now)) window.now.ended left (W.contents writer.new) (L.heard begun listener.new)) }
-        ensures fault { IfErr result (λ fault. (studio : Studio) (first : Option (List ℕ)) (written : Option (List ℕ)) (begun : L) (left : Option (List ℕ))
-            → IsReplaying studio (plan_view plan.now) first written self.old parts.old (octets_of window.now) window.now.ended left (W.contents writer.old) (L.heard begun listener.old)
+        ensures len { IfOk result (λ passed. passed.0 ≤ length (octets_of window.now)) }
+        ensures ok { IfOk result (λ passed. (studio : Studio) (first : Option (List ℕ)) (written : Option (List ℕ)) (begun : L) (left : Option (List ℕ)) (closing : Option ℕ)
+            → IsReplaying studio (plan_view plan.now) first written self.old parts.old (octets_of window.now) window.now.ended left (W.contents writer.old) (L.heard begun listener.old) closing
+            → IsReplaying studio (plan_view plan.now) first written self.new parts.new (drop passed.0 (octets_of window.now)) window.now.ended left (W.contents writer.new) (L.heard begun listener.new) (closing_with closing passed.1)) }
+        ensures fault { IfErr result (λ fault. (studio : Studio) (first : Option (List ℕ)) (written : Option (List ℕ)) (begun : L) (left : Option (List ℕ)) (closing : Option ℕ)
+            → IsReplaying studio (plan_view plan.now) first written self.old parts.old (octets_of window.now) window.now.ended left (W.contents writer.old) (L.heard begun listener.old) closing
             → StopsFile studio (plan_view plan.now) first written self.new (W.contents writer.new) (L.heard begun listener.new) fault) }
     {
         match next(parts, window) {
             Ok(part) => {
                 self.take_part(plan, &part, writer, listener)?;
-                Ok(part.len)
+                Ok((part.len, part.mark))
             }
             Err(fault) => Err(ReplayFault::Capture(ReaderFault::Capture(fault))),
         }

@@ -2,7 +2,8 @@
 //!
 //! `flows_of` goes over the file once, for its flows, of which `capture_import` makes routes. `replay` goes over it once more, and
 //! writes the report of the events that the capture says by these routes: those of the trace that `capture_import` writes.
-//! `replay_record` does so of the record of a live run, by its interfaces and its times, with the studio that it was a run of.
+//! `opening_of` says whether a file is the record of a live run, by what stands before its first packet. `replay_record` goes over
+//! such a file once, by its interfaces and its times, up to the close that it tells, with the studio that it was a run of.
 //! A `Listener` is told of these events and of the datagrams that they give: a `Sound` writes them to a WAV file.
 #![tactic(auto)]
 
@@ -24,5 +25,5 @@ pub use flows::flows_of;
 pub use laws::{a_record_says_its_run, a_replay_takes_its_import};
 pub use listener::{Deaf, Listener};
 pub use player::{replay, replay_record};
-pub use record::{Record, record_of};
+pub use record::opening_of;
 pub use sound::Sound;

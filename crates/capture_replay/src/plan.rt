@@ -2,7 +2,7 @@
 ghost use Rattle.std.specs.Prelude.{◌≡◌, Some};
 ghost use Rattle.capture_replay.specs.Plan as spec;
 ghost use Rattle.capture_read.specs.Packet.{packet_view};
-ghost use Rattle.capture_replay.specs.Plan.{clock_before, opening_of, plan_view, target_of};
+ghost use Rattle.capture_replay.specs.Plan.{clock_before, closing_of, opening_of, plan_view, target_of};
 
 use capture_import::{CaptureClock, Route, route_in};
 use capture_read::Packet;
@@ -45,6 +45,16 @@ impl Plan<'_> {
         match self {
             Plan::Flows(_) => 0,
             Plan::Places { open_at, .. } => *open_at,
+        }
+    }
+
+    /// When the studio was closed, where marks told this: only a record's tell it.
+    pub(crate) fn closing(&self, told: Option<u64>) -> Option<u64>
+        ensures { result ≡ closing_of (plan_view self.now) told }
+    {
+        match self {
+            Plan::Flows(_) => None,
+            Plan::Places { .. } => told,
         }
     }
 

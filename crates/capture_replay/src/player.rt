@@ -36,39 +36,31 @@ pub fn replay<R: Read, W: Write, L: Listener>(
     listener: &mut L,
 ) -> Result<(), ReplayFault>
     requires fresh { L.heard listener.old listener.old [] [] }
-    ensures ok { OnOk result (WritesReplay spec.now (Flows routes.now) None (R.remaining reader.old) (W.contents writer.old) (W.contents writer.new) (L.heard listener.old listener.new)) }
+    ensures ok { OnOk result (WritesReplay spec.now (Flows routes.now) (R.remaining reader.old) (W.contents writer.old) (W.contents writer.new) (L.heard listener.old listener.new)) }
     ensures fault { IfErr result (λ fault. BreaksOffReplay spec.now (Flows routes.now) (R.remaining reader.old) (W.contents writer.old) (W.contents writer.new) (L.heard listener.old listener.new) fault) }
 {
-    replay_by(
-        alloc,
-        spec,
-        &Plan::Flows(routes),
-        None,
-        reader,
-        writer,
-        listener,
-    )
+    replay_by(alloc, spec, &Plan::Flows(routes), reader, writer, listener)
 }
 
 /// The same of a record of the studio's own run, by the places of its paths: interfaces count through the paths of all
-/// streams, readings are nanoseconds from the studio's opening on, and so is the time of the close, if it is known.
+/// streams, readings are nanoseconds from the studio's opening on, and so is the time of the close, which the first mark of
+/// one tells. Wherever that stands, the studio is closed behind all packets; where none does, at the last one's reading.
 pub fn replay_record<R: Read, W: Write, L: Listener>(
     alloc: Global,
     spec: &StudioSpec,
-    closing: Option<u64>,
     reader: &mut R,
     writer: &mut W,
     listener: &mut L,
 ) -> Result<(), ReplayFault>
     requires fresh { L.heard listener.old listener.old [] [] }
-    ensures ok { OnOk result (WritesReplay spec.now (places_of spec.now) closing (R.remaining reader.old) (W.contents writer.old) (W.contents writer.new) (L.heard listener.old listener.new)) }
+    ensures ok { OnOk result (WritesReplay spec.now (places_of spec.now) (R.remaining reader.old) (W.contents writer.old) (W.contents writer.new) (L.heard listener.old listener.new)) }
     ensures fault { IfErr result (λ fault. BreaksOffReplay spec.now (places_of spec.now) (R.remaining reader.old) (W.contents writer.old) (W.contents writer.new) (L.heard listener.old listener.new) fault) }
 {
     let plan = Plan::Places {
         streams: spec.streams(),
         open_at: instants_of(spec.open_at()),
     };
-    replay_by(alloc, spec, &plan, closing, reader, writer, listener)
+    replay_by(alloc, spec, &plan, reader, writer, listener)
 }
 
 /// A time that is none before 0.
@@ -78,31 +70,22 @@ fn instants_of(time: i64) -> u64
     time.max(0) as u64
 }
 
-/// Writes the report of a capture by a plan, with a close at a time, if that is known.
+/// Writes the report of a capture by a plan.
 fn replay_by<R: Read, W: Write, L: Listener>(
     alloc: Global,
     spec: &StudioSpec,
     plan: &Plan<'_>,
-    closing: Option<u64>,
     reader: &mut R,
     writer: &mut W,
     listener: &mut L,
 ) -> Result<(), ReplayFault>
     requires fresh { L.heard listener.old listener.old [] [] }
-    ensures ok { OnOk result (WritesReplay spec.now (plan_view plan.now) closing (R.remaining reader.old) (W.contents writer.old) (W.contents writer.new) (L.heard listener.old listener.new)) }
+    ensures ok { OnOk result (WritesReplay spec.now (plan_view plan.now) (R.remaining reader.old) (W.contents writer.old) (W.contents writer.new) (L.heard listener.old listener.new)) }
     ensures fault { IfErr result (λ fault. BreaksOffReplay spec.now (plan_view plan.now) (R.remaining reader.old) (W.contents writer.old) (W.contents writer.new) (L.heard listener.old listener.new) fault) }
 {
     let mut run = Run::new(alloc, spec, plan)?;
     let (mut window, mut parts) = open(alloc, reader)?;
-    match run.go_to_close(
-        plan,
-        closing,
-        &mut parts,
-        &mut window,
-        reader,
-        writer,
-        listener,
-    ) {
+    match run.go_to_close(plan, &mut parts, &mut window, reader, writer, listener) {
         Ok(()) => {
             run.close(spec, writer, listener)?;
             Ok(())
@@ -131,7 +114,6 @@ impl Run {
     fn go_to_close<R: Read, W: Write, L: Listener>(
         &mut self,
         plan: &Plan<'_>,
-        closing: Option<u64>,
         parts: &mut Parts,
         window: &mut Window,
         reader: &mut R,
@@ -139,14 +121,14 @@ impl Run {
         listener: &mut L,
     ) -> Result<(), ReplayFault>
         ensures ok { OnOk result ((studio : Studio) (first : Option (List ℕ)) (written : Option (List ℕ)) (begun : L)
-            → IsReplaying studio (plan_view plan.now) first written self.old parts.old (octets_of window.old) window.old.ended (R.remaining reader.old) (W.contents writer.old) (L.heard begun listener.old)
-            → HasComeToClose studio (plan_view plan.now) closing first written self.new (W.contents writer.new) (L.heard begun listener.new)) }
+            → IsReplaying studio (plan_view plan.now) first written self.old parts.old (octets_of window.old) window.old.ended (R.remaining reader.old) (W.contents writer.old) (L.heard begun listener.old) None
+            → HasComeToClose studio (plan_view plan.now) first written self.new (W.contents writer.new) (L.heard begun listener.new)) }
         ensures fault { IfErr result (λ fault. (studio : Studio) (first : Option (List ℕ)) (written : Option (List ℕ)) (begun : L)
-            → IsReplaying studio (plan_view plan.now) first written self.old parts.old (octets_of window.old) window.old.ended (R.remaining reader.old) (W.contents writer.old) (L.heard begun listener.old)
+            → IsReplaying studio (plan_view plan.now) first written self.old parts.old (octets_of window.old) window.old.ended (R.remaining reader.old) (W.contents writer.old) (L.heard begun listener.old) None
             → StopsFile studio (plan_view plan.now) first written self.new (W.contents writer.new) (L.heard begun listener.new) fault) }
     {
-        self.go_over(plan, parts, window, reader, writer, listener)?;
-        self.read(plan.opening(), closing, writer, listener)
+        let told = self.go_over(plan, parts, window, reader, writer, listener)?;
+        self.read(plan.opening(), plan.closing(told), writer, listener)
     }
 
     /// Ends the report.

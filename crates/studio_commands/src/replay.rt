@@ -7,7 +7,7 @@ use crate::fault::{CaptureError, Fault};
 use crate::import::unrouted;
 use capture_import::{Routes, routes_of};
 use capture_reader::ReaderFault;
-use capture_replay::{Listener, ReplayFault, flows_of, record_of, replay, replay_record};
+use capture_replay::{Listener, ReplayFault, flows_of, opening_of, replay, replay_record};
 use command_words::ReplayWords;
 use std::alloc::Global;
 use std::io;
@@ -19,8 +19,8 @@ use studio_spec::StudioSpec;
 /// What is known of a capture before it is replayed.
 #[derive(Drop)]
 enum Known {
-    /// It is the record of a live run, which was closed so many nanoseconds after its opening, if it was.
-    Record(Option<u64>),
+    /// It is the record of a live run.
+    Record,
     /// Its flows have routes.
     Flows(Routes),
 }
@@ -33,9 +33,10 @@ struct Source<'a> {
     known: Known,
 }
 
-/// Writes the report of a capture, by the configuration at a path. It goes over the capture first for its flows, or, where
-/// it is the record of a live run, for when that was opened and closed; and once more after the report for a picture.
-/// Before a fault of a file beside it its path is told where faults go.
+/// Writes the report of a capture, by the configuration at a path. It reads the front of the capture, up to its first packet,
+/// for whether it is the record of a live run. Over a record it goes once; over another capture twice, first for its flows,
+/// which have to be known before the first event; and once more after the report for a picture. Before a fault of a file
+/// beside it its path is told where faults go.
 pub fn replay_capture<C: Configs, W: Write, E: Write>(
     configs: &C,
     alloc: Global,
@@ -68,8 +69,8 @@ fn source_of<'a, C: Configs>(
     studio: StudioSpec,
     path: &'a str,
 ) -> Result<Source<'a>, Fault> {
-    let record = record_of(alloc, &mut input_at(configs, path)?).map_err(reader_fault)?;
-    let Some(record) = record else {
+    let opening = opening_of(alloc, &mut input_at(configs, path)?).map_err(reader_fault)?;
+    let Some(opening) = opening else {
         let known = Known::Flows(routes_at(configs, alloc, path)?);
         return Ok(Source {
             path,
@@ -77,11 +78,11 @@ fn source_of<'a, C: Configs>(
             known,
         });
     };
-    let open_at = i64::try_from(record.open_at).unwrap_or(i64::MAX);
+    let open_at = i64::try_from(opening).unwrap_or(i64::MAX);
     Ok(Source {
         path,
         studio: studio.shifted(alloc, open_at).map_err(fault_of)?,
-        known: Known::Record(record.closing),
+        known: Known::Record,
     })
 }
 
@@ -107,9 +108,7 @@ impl Source<'_> {
     {
         let mut input = input_at(configs, self.path)?;
         let played = match &self.known {
-            Known::Record(closing) => {
-                replay_record(alloc, &self.studio, *closing, &mut input, output, listener)
-            }
+            Known::Record => replay_record(alloc, &self.studio, &mut input, output, listener),
             Known::Flows(routes) => {
                 replay(
                     alloc,
@@ -160,7 +159,7 @@ fn input_at<C: Configs>(configs: &C, path: &str) -> Result<C::Input, Fault> {
     })
 }
 
-/// Why a capture's flows were not found.
+/// Why a capture's opening or its flows were not found.
 fn reader_fault(fault: ReaderFault) -> Fault {
     Fault::Replay(ReplayFault::from(fault))
 }

@@ -1,4 +1,4 @@
-use Rattle.capture_replay.specs.Events.{closed_events, replay_events}
+use Rattle.capture_replay.specs.Events.{events_told, file_events}
 use Rattle.capture_replay.specs.Plan.{plan_view}
 use Rattle.capture_replay.specs.declared.fault.ReplayFault.TheVariants.{Capture, Write}
 use Rattle.capture_replay.proofs.CaseLemmas.{some_maps, told}
@@ -22,7 +22,7 @@ close-requires g c =
     let first = g.R.Read.remaining c.args.reader.now in
     let written = g.W.Write.contents c.args.writer.now in
     let come = c.in-Ok.ensures.ok spec first written c.args.listener.now (replaying_none spec plan first written _ _ _ _ _ _ c.in_ok-window.ensures.told c.in_ok-run.ensures.clock (begun_replayed spec written _ _ c.in_ok-run.ensures.begun c.requires.fresh)) in
-    record { events = closed_events spec plan come.packets c.args.closing; written = written; replayed = unheard spec (closed_events spec plan come.packets c.args.closing) written _ _ _ come.replayed }
+    record { events = events_told spec plan come.entries; written = written; replayed = unheard spec (events_told spec plan come.entries) written _ _ _ come.replayed }
 
 pub returns-in_err-close-in-Ok-clause-fault : goal.returns-in_err-close-in-Ok-clause-fault
 returns-in_err-close-in-Ok-clause-fault g c =
@@ -32,12 +32,11 @@ returns-in_err-close-in-Ok-clause-fault g c =
     let written = g.W.Write.contents c.args.writer.now in
     let come = c.in-Ok.ensures.ok spec first written c.args.listener.now (replaying_none spec plan first written _ _ _ _ _ _ c.in_ok-window.ensures.told c.in_ok-run.ensures.clock (begun_replayed spec written _ _ c.in_ok-run.ensures.begun c.requires.fresh)) in
     told _ Write c.from_residual-in_err-close-in-Ok.result c.from_residual-in_err-close-in-Ok.ensures.1 (record {
-      packets = come.packets;
-      closing = c.args.closing;
-      told = some_maps first _ _ (λ file whole. (begins_whole file come.packets whole, tt)) come.told;
-      events = replay_events spec plan come.packets c.args.closing;
-      first = first_same (replay_events spec plan come.packets c.args.closing);
-      front = c.in_err-close-in-Ok.ensures.fault (closed_events spec plan come.packets c.args.closing) written c.args.listener.now come.replayed;
+      entries = come.entries;
+      told = some_maps first _ _ (λ file whole. (begins_whole file come.entries whole, tt)) come.told;
+      events = file_events spec plan come.entries;
+      first = first_same (file_events spec plan come.entries);
+      front = c.in_err-close-in-Ok.ensures.fault (events_told spec plan come.entries) written c.args.listener.now come.replayed;
     })
 
 pub returns-in-Ok-clause-ok : goal.returns-in-Ok-clause-ok
@@ -47,7 +46,7 @@ returns-in-Ok-clause-ok g c =
     let first = g.R.Read.remaining c.args.reader.now in
     let written = g.W.Write.contents c.args.writer.now in
     let come = c.in-Ok.ensures.ok spec first written c.args.listener.now (replaying_none spec plan first written _ _ _ _ _ _ c.in_ok-window.ensures.told c.in_ok-run.ensures.clock (begun_replayed spec written _ _ c.in_ok-run.ensures.begun c.requires.fresh)) in
-    record { packets = come.packets; told = come.told; writes = c.in_ok-close-in-Ok.ensures.ok (closed_events spec plan come.packets c.args.closing) written c.args.listener.now come.replayed; hears = c.in_ok-close-in-Ok.ensures.hears (closed_events spec plan come.packets c.args.closing) written c.args.listener.now come.replayed }
+    record { entries = come.entries; told = come.told; writes = c.in_ok-close-in-Ok.ensures.ok (events_told spec plan come.entries) written c.args.listener.now come.replayed; hears = c.in_ok-close-in-Ok.ensures.hears (events_told spec plan come.entries) written c.args.listener.now come.replayed }
 
 pub returns-clause-fault : goal.returns-clause-fault
 returns-clause-fault g c =

@@ -18,8 +18,8 @@ returns-clause-ok g c =
     let bits : to_z w64 (of_z w64 c.open_at.result) ≡ c.open_at.result = omega (arith, ints, small) in
     let same : Places c.streams.result.now c.instants_of.result ≡ places_of spec =
     ap (λ l. Places l c.instants_of.result) c.streams.ensures.value ∙ ap (Places spec.streams) (c.instants_of.ensures ∙ ap natural (bits ∙ c.open_at.ensures.value)) in
-    ok_then c.replay_by.result (WritesReplay spec (Places c.streams.result.now c.instants_of.result) c.args.closing first written then heard) (WritesReplay spec (places_of spec) c.args.closing first written then heard)
-    (λ writes. subst (λ (plan : PlanView). WritesReplay spec plan c.args.closing first written then heard) same writes) c.replay_by.ensures.ok
+    ok_then c.replay_by.result (WritesReplay spec (Places c.streams.result.now c.instants_of.result) first written then heard) (WritesReplay spec (places_of spec) first written then heard)
+    (λ writes. subst (λ (plan : PlanView). WritesReplay spec plan first written then heard) same writes) c.replay_by.ensures.ok
 
 pub returns-clause-fault : goal.returns-clause-fault
 returns-clause-fault g c =
