@@ -4,6 +4,7 @@ pub mod Events
 pub mod Record
 pub mod Recorded
 pub mod Lines
+pub mod Heard
 pub mod Sound
 pub mod Imported
 pub mod Replay

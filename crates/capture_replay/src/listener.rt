@@ -1,6 +1,7 @@
 //! Who is told what a replay takes and gives.
 ghost use Rattle.std.specs.Prelude.{◌≡◌, ◌≤◌, ◌∷◌, ◌++◌, [], ⊤, ℕ, List, length};
 ghost use Rattle.studio_session.specs.Event.{TraceEvent, Arrival, Closing, Reading};
+ghost use Rattle.capture_replay.specs.Heard.{HasHeardIf};
 
 use path_merge::Path;
 
@@ -42,4 +43,33 @@ impl Listener for Deaf {
     fn closed(&mut self) {}
 
     fn output(&mut self, _datagram: &[u8]) {}
+}
+
+/// A listener that there may not be.
+impl<L: Listener> Listener for Option<L> {
+    ghost heard = { λ begun now events datagrams. HasHeardIf L.heard begun now events datagrams };
+
+    fn arrived(&mut self, stream: usize, path: Path, octets: &[u8]) {
+        if let Some(listener) = self {
+            listener.arrived(stream, path, octets);
+        }
+    }
+
+    fn read(&mut self, time: i64) {
+        if let Some(listener) = self {
+            listener.read(time);
+        }
+    }
+
+    fn closed(&mut self) {
+        if let Some(listener) = self {
+            listener.closed();
+        }
+    }
+
+    fn output(&mut self, datagram: &[u8]) {
+        if let Some(listener) = self {
+            listener.output(datagram);
+        }
+    }
 }

@@ -37,6 +37,7 @@ impl<F: Overwrite + Drop> Sound<F> {
     pub fn begin(file: F, output: &OutSpec) -> Result<Sound<F>, FileFault>
         ensures head { IfOk result (λ sound. F.Write.contents file ≡ Some [] → HasHead sound) }
         ensures format { IfOk result (λ sound. sound.wav.format ≡ output_format output.now) }
+        ensures fresh { IfOk result (λ sound. HasSounded sound sound []) }
     {
         let mut file = file;
         let format = WavFormat {
