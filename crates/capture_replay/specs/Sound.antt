@@ -4,8 +4,10 @@ use Rattle.std.specs.Io.KnownBytes.{Appends}
 use Rattle.wav_file.specs.declared.format.WavFormat.{WavFormat}
 use Rattle.wav_file.specs.Head.{head_octets}
 use Rattle.wav_file.specs.File.{WavState}
+use Rattle.studio_session.specs.Event.{TraceEvent}
 use Rattle.studio_wav.specs.Recording.{HasAdded}
 use Rattle.studio_wav.specs.Samples.{samples_in}
+use Rattle.capture_replay.specs.Heard.{HasHeardIf}
 
 -- what contracts see of a file that is written: its octets, if it tells them, its format and count, and whether a write failed
 pub record SoundState : Type 0 where
@@ -35,6 +37,10 @@ HasAddedBy true first now datagrams = HasAddedFirst first now datagrams
 
 abbrev pub HasSounded : SoundState → SoundState → List (List ℕ) → Type 0
 HasSounded first now datagrams = HasAddedBy now.failed first now datagrams
+
+-- the same of one that there may be, whatever the events
+abbrev pub HasSoundedIf : Option SoundState → Option SoundState → List TraceEvent → List (List ℕ) → Type 0
+HasSoundedIf first now events datagrams = HasHeardIf (λ first now _ datagrams. HasSounded first now datagrams) first now events datagrams
 
 -- a file that holds the samples of the first so many of these datagrams, with the sizes of these, and a rest that doesn't count
 pub record HasFront (format : WavFormat) (made : Option (List ℕ)) (datagrams : List (List ℕ)) : Type 0 where

@@ -1,5 +1,6 @@
 //! What is written of a capture beside its report.
-ghost use Rattle.std.specs.Prelude.{⊤};
+ghost use Rattle.std.specs.Prelude.{[], IfOk};
+ghost use Rattle.capture_replay.specs.Sound.{HasSoundedIf};
 
 use crate::config::Configs;
 use crate::fault::Fault;
@@ -20,30 +21,31 @@ pub(crate) struct Beside<F: Overwrite, O> {
 }
 
 impl<F: Overwrite + Drop, O: Observer + Drop> Listener for Beside<F, O> {
-    ghost heard = { λ _ _ _ _. ⊤ };
+    ghost heard = { λ begun now events datagrams. HasSoundedIf begun.sound now.sound events datagrams };
 
     fn arrived(&mut self, stream: usize, path: Path, octets: &[u8]) {
+        self.sound.arrived(stream, path, octets);
         if let Some(streams) = &mut self.streams {
             streams.arrived(stream, path, octets);
         }
     }
 
     fn read(&mut self, time: i64) {
+        self.sound.read(time);
         if let Some(streams) = &mut self.streams {
             streams.read(time);
         }
     }
 
     fn closed(&mut self) {
+        self.sound.closed();
         if let Some(streams) = &mut self.streams {
             streams.closed();
         }
     }
 
     fn output(&mut self, datagram: &[u8]) {
-        if let Some(sound) = &mut self.sound {
-            sound.output(datagram);
-        }
+        self.sound.output(datagram);
     }
 }
 
@@ -53,7 +55,9 @@ pub(crate) fn begin_sound<C: Configs, E: Write>(
     path: Option<&str>,
     output: &OutSpec,
     faults: &mut E,
-) -> Result<Option<Sound<C::File>>, Fault> {
+) -> Result<Option<Sound<C::File>>, Fault>
+    ensures { IfOk result (λ sound. HasSoundedIf sound sound [] []) }
+{
     let Some(path) = path else {
         return Ok(None);
     };
