@@ -9,7 +9,7 @@ abbrev pub opening_by : RecordMark → Option ℕ
 opening_by (Opened open_at) = Some open_at
 opening_by (Closed time) = None
 
--- by those of a file: the first mark before the first packet tells it, or the file is no record
+-- by the entries of a file: the first mark before its first packet tells it, or the file is no record of a run
 abbrev pub opening_in : List Entry → Option ℕ
 opening_in [] = None
 opening_in (Packet packet ∷ entries) = None
