@@ -8,3 +8,4 @@ mod runs;
 mod steps;
 mod windows;
 mod wire;
+mod words;

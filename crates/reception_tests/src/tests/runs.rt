@@ -3,55 +3,41 @@ ghost use Rattle.std.specs.Prelude.{◌<◌, ◌^◌, pos, ◌≤ℤ◌, All};
 ghost use Rattle.path_merge.specs.Run.{IsEventOf};
 
 use super::bench::{Bench, slots_bench, sorted_bench};
-use super::cases::{STREAM, events_of, spec_of};
+use super::cases::{STREAM, are_events_of, events_of, spec_of};
 use super::steps::Sent;
-use path_merge::{Event, Fate, Path, RunFault, StreamSpec, Window, run_merge};
-use std::alloc::{AllocError, Global};
+use path_merge::{Event, Fate, Merge, Path, RunFault, StreamSpec, Window, run_merge};
+use std::alloc::Global;
 use std::process::Abort;
-use std::test::Fail;
 
 /// Packets 65,537 to 265,536, each at its own media time but for every thousandth: those alone are lost, through three cycles.
 #[test]
-fn three_cycles_with_every_thousandth_lost(rt: HostRuntime) -> Result<(), Fail> {
+fn three_cycles_with_every_thousandth_lost(rt: HostRuntime) {
     let spec = spec_of(&rt, STREAM);
-    loses_every_thousandth(&rt, &mut slots_bench(&rt, rt.alloc(), spec, 0)?)?;
-    loses_every_thousandth(&rt, &mut sorted_bench(&rt, rt.alloc(), spec, 0)?)?;
-    Ok(())
+    loses_every_thousandth(&rt, &mut slots_bench(&rt, rt.alloc(), spec, 0));
+    loses_every_thousandth(&rt, &mut sorted_bench(&rt, rt.alloc(), spec, 0));
 }
 
-fn loses_every_thousandth<W: Window>(
-    rt: &impl Abort,
-    bench: &mut Bench<W>,
-) -> Result<(), AllocError> {
+fn loses_every_thousandth<W: Window>(rt: &impl Abort, bench: &mut Bench<W>) {
     for step in 0..200_000u32 {
-        offer_or_lose(rt, bench, step)?;
+        bench.tick(rt, i64::from(step) * 6);
+        if !is_lost(step) {
+            take_in_time(rt, bench, 65_537 + step, step * 6);
+        }
     }
-    bench.close(rt)?;
-    assert!(rt;
-        bench.marks == wanted_marks(*bench.fates.allocator())?,
-        "the marks"
+    bench.close(rt);
+    has_wanted_marks(rt, *bench.fates.allocator(), &bench.marks);
+    bench.has_counts(
+        rt,
+        "199800 arrived, 199800 from_a, 199800 got, 200 lost",
+        "",
     );
-    let counts = bench.counts_text()?;
-    assert!(rt; counts.as_str() == "199800 arrived, 199800 from_a, 199800 got, 200 lost");
-    Ok(())
 }
 
-/// The packet of a step at its own media time, but for every thousandth number.
-fn offer_or_lose<W: Window>(
-    rt: &impl Abort,
-    bench: &mut Bench<W>,
-    step: u32,
-) -> Result<(), AllocError>
-    requires { step < 200_000 }
-{
-    bench.tick(rt, i64::from(step) * 6)?;
-    if is_lost(step) {
-        return Ok(());
-    }
+/// Offers the packet of a number, which is taken.
+fn take_in_time<W: Window>(rt: &impl Abort, bench: &mut Bench<W>, number: u32, ts: u32) {
     let path = Path::new(0).expect(rt, "a path");
-    let fate = bench.offer(rt, path, in_time(65_537 + step, step * 6));
-    assert!(rt; fate == Fate::Taken, "step {step}");
-    Ok(())
+    let fate = bench.offer(rt, path, Sent::new((number % 65_536) as u16, ts));
+    assert!(rt; fate == Fate::Taken, "number {number}");
 }
 
 /// Whether a step's number is a thousandth.
@@ -61,54 +47,38 @@ fn is_lost(step: u32) -> bool
     (65_537 + step) % 1000 == 0
 }
 
-/// The marks that the steps give.
-fn wanted_marks(alloc: Global) -> Result<String, AllocError> {
-    let mut wanted = String::from_str(alloc, "quiet -6")?;
+/// The marks are those that the steps give.
+fn has_wanted_marks(rt: &impl Abort, alloc: Global, marks: &str) {
+    let mut wanted = String::from_str(alloc, "quiet -6").expect(rt, "there is memory");
     for step in 0..200_000u32 {
         let word = if is_lost(step) { "lost" } else { "got" };
-        write!(wanted, ", {word} {} {}", 65_537 + step, step * 6)?;
+        let media = step * 6;
+        write!(wanted, ", {word} {} {media}", 65_537 + step).expect(rt, "there is memory");
     }
-    wanted.push_str(", end")?;
-    Ok(wanted)
-}
-
-/// The packet of a number.
-fn in_time(number: u32, ts: u32) -> Sent {
-    Sent {
-        seq: (number % 65_536) as u16,
-        ts,
-        source: 1,
-        odd: false,
-    }
+    assert!(rt;
+        marks.strip_suffix(", end") == Some(wanted.as_str()),
+        "the marks"
+    );
 }
 
 /// Packets 65,536 to 131,071, and then a restart: the epoch's first number is 66,043, as near 65,536 as ever.
 #[test]
-fn numbers_begin_again_with_an_epoch(rt: HostRuntime) -> Result<(), Fail> {
+fn numbers_begin_again_with_an_epoch(rt: HostRuntime) {
     let spec = spec_of(&rt, STREAM);
-    restarts_after_a_cycle(&rt, &mut slots_bench(&rt, rt.alloc(), spec, 0)?)?;
-    restarts_after_a_cycle(&rt, &mut sorted_bench(&rt, rt.alloc(), spec, 0)?)?;
-    Ok(())
+    restarts_after_a_cycle(&rt, &mut slots_bench(&rt, rt.alloc(), spec, 0));
+    restarts_after_a_cycle(&rt, &mut sorted_bench(&rt, rt.alloc(), spec, 0));
 }
 
-fn restarts_after_a_cycle<W: Window>(
-    rt: &impl Abort,
-    bench: &mut Bench<W>,
-) -> Result<(), AllocError> {
-    let path = Path::new(0).expect(rt, "a path");
+fn restarts_after_a_cycle<W: Window>(rt: &impl Abort, bench: &mut Bench<W>) {
     for step in 0..65_536u32 {
-        bench.tick(rt, i64::from(step) * 6)?;
-        let fate = bench.offer(rt, path, in_time(step, step * 6));
-        assert!(rt; fate == Fate::Taken, "packet {step}");
+        bench.tick(rt, i64::from(step) * 6);
+        take_in_time(rt, bench, step, step * 6);
     }
-    bench.take_all(rt, "tick 393222, a 500 393188 x 8, tick 393242")?;
+    bench.take_all(rt, "tick 393222, a 500 393188 x 8, tick 393242");
     let last = ", got 131071 393210, got 1:66043 393230";
     assert!(rt; bench.marks.ends_with(last), "the last marks");
-    let counts = bench.counts_text()?;
-    assert!(rt;
-        counts.as_str() == "65544 arrived, 65537 from_a, 7 off_grid, 65537 got, 1 restarts"
-    );
-    Ok(())
+    let counts = "65544 arrived, 65537 from_a, 7 off_grid, 65537 got, 1 restarts";
+    bench.has_counts(rt, counts, "");
 }
 
 /// An opening time, steps, and the place of the first reading out of order.
@@ -140,26 +110,22 @@ fn place_of_fault(alloc: Global, spec: StreamSpec, open_at: i64, events: &[Event
 
 /// Readings that go back, lie before the opening or past 2^60, or follow a close: `run_merge` names the first by its place.
 #[test]
-fn a_run_names_the_first_reading_out_of_order(rt: HostRuntime) -> Result<(), Fail> {
+fn a_run_names_the_first_reading_out_of_order(rt: HostRuntime) {
     let spec = spec_of(&rt, STREAM);
-    for (open_at, steps, want) in READINGS {
-        assert!(rt; 0 <= open_at && open_at <= 10);
-        let events = events_of(&rt, rt.alloc(), &spec, steps)?;
-        let place = place_of_fault(rt.alloc(), spec, open_at, &events);
-        assert!(rt; place == want, "{steps}");
+    for (open_at, steps, want) in &READINGS {
+        let events = events_of(&rt, rt.alloc(), &spec, *steps);
+        assert!(rt; 0 <= *open_at && *open_at <= 10);
+        let place = place_of_fault(rt.alloc(), spec, *open_at, &events);
+        assert!(rt; place == *want, "{steps}");
     }
-    Ok(())
 }
 
 /// A run of 101 marks, whose list grows several times, made twice: with one allocation refused, all marks or want of memory.
 #[test]
-fn each_refused_allocation_of_a_run_is_answered(rt: HostRuntime) -> Result<(), Fail> {
+fn each_refused_allocation_of_a_run_is_answered(rt: HostRuntime) {
     let spec = spec_of(&rt, STREAM);
-    let steps = "a 1 0, tick 606, close";
-    let events = match events_of(&rt, rt.alloc(), &spec, steps) {
-        Ok(events) => events,
-        Err(_) => events_of(&rt, rt.alloc(), &spec, steps)?,
-    };
+    let events = [arrival(&rt, &spec), Event::Tick(606), Event::Close];
+    assert!(rt; are_events_of(&spec, &events));
     let first = mark_count(&rt, rt.alloc(), spec, &events);
     let second = mark_count(&rt, rt.alloc(), spec, &events);
     let counts = [first.unwrap_or(101), second.unwrap_or(101)];
@@ -168,7 +134,12 @@ fn each_refused_allocation_of_a_run_is_answered(rt: HostRuntime) -> Result<(), F
         first.is_some() || second.is_some(),
         "one of the runs succeeds"
     );
-    Ok(())
+}
+
+/// The packet (1, 0) on the first path.
+fn arrival(rt: &impl Abort, spec: &StreamSpec) -> Event {
+    let path = Path::new(0).expect(rt, "a path");
+    Event::Arrive(path, Sent::new(1, 0).packet(spec))
 }
 
 /// How many marks a run gave, or none for want of memory.
@@ -184,10 +155,9 @@ fn mark_count(rt: &impl Abort, alloc: Global, spec: StreamSpec, events: &[Event]
 
 /// A merge, made twice: with one allocation refused, one of them at most says want of memory.
 #[test]
-fn each_refused_allocation_is_answered(rt: HostRuntime) -> Result<(), Fail> {
+fn each_refused_allocation_is_answered(rt: HostRuntime) {
     let spec = spec_of(&rt, STREAM);
-    let first = slots_bench(&rt, rt.alloc(), spec, 0).is_ok();
-    let second = slots_bench(&rt, rt.alloc(), spec, 0).is_ok();
+    let first = Merge::new(rt.alloc(), spec, 0).is_ok();
+    let second = Merge::new(rt.alloc(), spec, 0).is_ok();
     assert!(rt; first || second, "a merge");
-    Ok(())
 }

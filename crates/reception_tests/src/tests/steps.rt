@@ -9,7 +9,7 @@ use std::process::Abort;
 use std::str::{FromStr, SplitWhitespace};
 
 /// A packet as it was sent.
-#[derive(Clone, Copy, Debug)]
+#[derive(Clone, Copy)]
 pub struct Sent {
     pub seq: u16,
     pub ts: u32,
@@ -18,6 +18,16 @@ pub struct Sent {
 }
 
 impl Sent {
+    /// A packet of the first source.
+    pub fn new(seq: u16, ts: u32) -> Sent {
+        Sent {
+            seq,
+            ts,
+            source: 1,
+            odd: false,
+        }
+    }
+
     /// The next packet of its sender.
     pub fn next(self) -> Sent {
         Sent {
@@ -46,7 +56,7 @@ impl Sent {
 }
 
 /// What happens to a stream.
-#[derive(Clone, Copy, Debug)]
+#[derive(Clone, Copy)]
 pub enum Step {
     /// So many packets in sequence come in on a path.
     On(Path, Sent, u16),
@@ -59,36 +69,47 @@ pub enum Step {
 
 /// The step that words say.
 pub fn step_of(rt: &impl Abort, text: &str) -> Step {
-    let mut words = text.split_whitespace();
-    let number = match words.next() {
-        Some("tick") => return Step::Tick(number(rt, &mut words)),
-        Some("advance") => return Step::Advance(number(rt, &mut words)),
-        Some("close") => return Step::Close,
-        Some("a") => 0,
-        Some("b") => 1,
-        Some("c") => 2,
-        _ => { panic!(rt; "no step: {text}") }
-    };
-    let path = Path::new(number).expect(rt, "a path");
-    arrival(rt, path, &mut words)
+    let words = &mut text.split_whitespace();
+    let word = words.next().expect(rt, "a step is missing");
+    match path_of(word) {
+        Some(path) => arrival(rt, path, words),
+        None => reading(rt, word, words),
+    }
+}
+
+/// The path of a word, if it says one.
+fn path_of(word: &str) -> Option<Path> {
+    match word {
+        "a" => Path::new(0),
+        "b" => Path::new(1),
+        "c" => Path::new(2),
+        _ => None,
+    }
+}
+
+/// A reading of the clock, or the close.
+fn reading(rt: &impl Abort, word: &str, words: &mut SplitWhitespace<'_>) -> Step {
+    match word {
+        "tick" => Step::Tick(number(rt, words)),
+        "advance" => Step::Advance(number(rt, words)),
+        "close" => Step::Close,
+        _ => { panic!(rt; "no step: {word}") }
+    }
 }
 
 /// The packets that come in on a path.
 fn arrival(rt: &impl Abort, path: Path, words: &mut SplitWhitespace<'_>) -> Step {
-    let mut sent = Sent {
-        seq: number(rt, words),
-        ts: number(rt, words),
-        source: 1,
-        odd: false,
-    };
+    let mut sent = Sent::new(number(rt, words), number(rt, words));
     let mut times = 1;
     for _ in 0..3u8 {
-        match words.next() {
-            None => break,
-            Some("of") => sent.source = number(rt, words),
-            Some("odd") => sent.odd = true,
-            Some("x") => times = number(rt, words),
-            Some(word) => { panic!(rt; "no packet: {word}") }
+        let Some(word) = words.next() else {
+            break;
+        };
+        match word {
+            "of" => sent.source = number(rt, words),
+            "odd" => sent.odd = true,
+            "x" => times = number(rt, words),
+            _ => { panic!(rt; "no packet: {word}") }
         }
     }
     Step::On(path, sent, times)

@@ -2,19 +2,23 @@
 ghost use Rattle.rtp_wire.specs.Sample.{FitsEncoding};
 
 use rtp_wire::{Enc, WireFault, read, read_samples, sample, write_sample, write_samples};
-use std::alloc::{AllocError, Global};
-use std::test::Fail;
+use std::alloc::Global;
+use std::process::Abort;
 
 /// What stands behind the first octet of each header here: type 96, number 1, timestamp 0, source 1.
 const REST: [u8; 11] = [0x60, 0, 1, 0, 0, 0, 0, 0, 0, 0, 1];
 
 /// A datagram with that header, behind the given first octet.
-fn datagram(alloc: Global, first: u8, after: &[u8]) -> Result<Vec<u8>, AllocError> {
+fn datagram(rt: &impl Abort, alloc: Global, first: u8, after: &[u8]) -> Vec<u8> {
     let mut octets = Vec::new(alloc);
-    octets.push(first)?;
-    octets.extend_from_slice(&REST)?;
-    octets.extend_from_slice(after)?;
-    Ok(octets)
+    octets.push(first).expect(rt, "there is memory");
+    octets
+        .extend_from_slice(&REST)
+        .expect(rt, "there is memory");
+    octets
+        .extend_from_slice(after)
+        .expect(rt, "there is memory");
+    octets
 }
 
 fn payload_of(octets: &[u8]) -> Result<&[u8], WireFault> {
@@ -39,15 +43,20 @@ const ROWS: [Row; 12] = [
     (0x80, &[9], Ok(&[9])),
 ];
 
+/// A row's datagram has its fault or payload.
+fn is_told(rt: &impl Abort, alloc: Global, row: Row) {
+    let (first, after, want) = row;
+    let octets = datagram(rt, alloc, first, after);
+    assert!(rt; payload_of(&octets) == want, "behind {first}");
+}
+
 /// Cut headers, other versions, sources, extensions and padding: the first fault, or the payload.
 #[test]
-fn header_faults_and_payloads(rt: HostRuntime) -> Result<(), Fail> {
-    for (first, after, want) in ROWS {
-        let octets = datagram(rt.alloc(), first, after)?;
-        assert!(rt; payload_of(&octets) == want, "behind {first}");
+fn header_faults_and_payloads(rt: HostRuntime) {
+    for row in ROWS {
+        is_told(&rt, rt.alloc(), row);
     }
     assert!(rt; payload_of(&REST) == Err(WireFault::Short), "eleven octets");
-    Ok(())
 }
 
 /// A header with two sources, an extension and padding, and its payload.

@@ -1,0 +1,132 @@
+//! Fates, marks and counts in words, with commas between them.
+use path_merge::{Body, ClockFault, Counts, Fate, Mark, MarkKind, StreamSpec};
+use std::process::Abort;
+
+/// Says a word, behind others.
+pub fn say(rt: &impl Abort, text: &mut String, word: &str) {
+    if !text.is_empty() {
+        text.push_str(", ").expect(rt, "there is memory");
+    }
+    text.push_str(word).expect(rt, "there is memory");
+}
+
+/// What was said is what had to be.
+pub fn says(rt: &impl Abort, text: &str, wanted: &str, shows: &str) {
+    assert!(rt; text == wanted, "{shows}: {text}");
+}
+
+pub fn say_fault(rt: &impl Abort, text: &mut String, fault: ClockFault) {
+    let word = match fault {
+        ClockFault::WentBack => "WentBack",
+        ClockFault::TooFar => "TooFar",
+        ClockFault::Closed => "Closed",
+    };
+    say(rt, text, word);
+}
+
+/// Says a mark: `got N M`, `lost N M`, of a later epoch with `K:` before N; `quiet T`; `end`.
+pub fn say_mark(rt: &impl Abort, spec: &StreamSpec, text: &mut String, mark: &Mark) {
+    assert!(rt;
+        mark.format() == spec.format(),
+        "a mark says its stream's format"
+    );
+    match mark.kind() {
+        MarkKind::Slot {
+            epoch,
+            number,
+            media,
+            body,
+        } => {
+            say(rt, text, word_of(rt, *number, body));
+            say_place(rt, text, *epoch, *number, *media);
+        }
+        MarkKind::Quiet { until } => {
+            say(rt, text, "quiet ");
+            write!(text, "{until}").expect(rt, "there is memory");
+        }
+        MarkKind::End => say(rt, text, "end"),
+    }
+}
+
+/// Says a slot's number and media time.
+fn say_place(rt: &impl Abort, text: &mut String, epoch: u64, number: u64, media: i64) {
+    if epoch != 0 {
+        write!(text, " {epoch}:{number} {media}").expect(rt, "there is memory");
+    } else {
+        write!(text, " {number} {media}").expect(rt, "there is memory");
+    }
+}
+
+/// Whether a slot got its packet, whose payload has to be the packet's own.
+fn word_of(rt: &impl Abort, number: u64, body: &Body) -> &'static str {
+    let Body::Got(payload) = body else {
+        return "lost";
+    };
+    let [.., low] = number.to_be_bytes();
+    let Some((last, others)) = payload.as_slice().split_last() else {
+        panic!(rt; "a payload without octets")
+    };
+    assert!(rt; *last == low, "the last octet of number {number}");
+    for (place, octet) in others.iter().enumerate() {
+        assert!(rt;
+            usize::from(*octet) == (place + 1) % 256,
+            "octet {place} of number {number}"
+        );
+    }
+    "got"
+}
+
+/// Says fates, each with how often it came in a row.
+pub fn say_fates(rt: &impl Abort, text: &mut String, fates: &[Fate]) {
+    let mut times: usize = 0;
+    for (place, fate) in fates.iter().enumerate() {
+        times = times.saturating_add(1);
+        if fates.get(place + 1) != Some(fate) {
+            say(rt, text, "");
+            write!(text, "{times} {fate:?}").expect(rt, "there is memory");
+            times = 0;
+        }
+    }
+}
+
+/// Says how many there are of something.
+fn say_count(rt: &impl Abort, text: &mut String, count: u64, name: &str) {
+    say(rt, text, "");
+    write!(text, "{count} {name}").expect(rt, "there is memory");
+}
+
+/// What `say_counts` calls the counts, in their order.
+const NAMES: [&str; 14] = [
+    "arrived", "from_a", "from_b", "from_c", "from_d", "double", "unlike", "off_grid", "late",
+    "ahead", "source", "got", "lost", "restarts",
+];
+
+/// Says the counts that are not 0; `taken` is by path.
+pub fn say_counts(rt: &impl Abort, text: &mut String, counts: &Counts) {
+    for (name, count) in NAMES.iter().zip(values_of(counts).iter()) {
+        if *count != 0 {
+            say_count(rt, text, *count, *name);
+        }
+    }
+}
+
+/// The counts in that order.
+fn values_of(counts: &Counts) -> [u64; 14] {
+    let [a, b, c, d] = counts.taken_by;
+    [
+        counts.arrived,
+        a,
+        b,
+        c,
+        d,
+        counts.double,
+        counts.unlike,
+        counts.off_grid,
+        counts.late,
+        counts.ahead,
+        counts.wrong_source,
+        counts.got,
+        counts.lost,
+        counts.restarts,
+    ]
+}
