@@ -1,5 +1,4 @@
 //! Ready datagrams of one stream, and the words that ask for them.
-use anyhow::bail;
 use path_merge::{StreamClock, StreamSpec};
 use rtp_wire::Enc;
 use std::alloc::Global;
@@ -19,31 +18,23 @@ pub(crate) struct Datagrams {
 }
 
 /// The number that the next word says.
-pub(crate) fn number(words: &mut Args) -> anyhow::Result<u32> {
-    let Some(word) = words.next() else {
-        bail!("a word is missing");
-    };
-    let Ok(number) = word.parse::<u32>() else {
-        bail!("not a number");
-    };
-    Ok(number)
+pub(crate) fn number(words: &mut Args) -> Option<u32> {
+    words.next()?.parse::<u32>().ok()
 }
 
 /// A stream whose packets have so many octets, with the longest latency that the window spans.
-pub(crate) fn stream(octets: u32, width: u32) -> anyhow::Result<StreamSpec> {
+pub(crate) fn stream(octets: u32, width: u32) -> Option<StreamSpec> {
     let (channels, frames) = match octets {
         18 => (1, 6),
         144 => (1, 48),
         288 => (2, 48),
         1152 => (2, 192),
-        _ => bail!("octets are 18, 144, 288 or 1152"),
+        _ => return None,
     };
-    let Ok(width) = u16::try_from(width) else {
-        bail!("no such window");
-    };
+    let width = u16::try_from(width).ok()?;
     let latency = u32::from(width.saturating_sub(2)) * u32::from(frames);
     let clock = StreamClock::Media { offset: 0 };
-    let spec = StreamSpec::new(
+    StreamSpec::new(
         Enc::L24,
         channels,
         frames,
@@ -53,27 +44,33 @@ pub(crate) fn stream(octets: u32, width: u32) -> anyhow::Result<StreamSpec> {
         latency,
         width,
         2,
-    )?;
-    Ok(spec)
+    )
+    .ok()
 }
 
 /// The datagrams of all numbers.
-pub(crate) fn make_datagrams(alloc: Global, spec: &StreamSpec) -> anyhow::Result<Datagrams> {
-    let len = spec.payload_len();
-    let mut octets = Vec::new(alloc);
-    for number in 0..NUMBERS {
-        octets.extend_from_slice(&[0x80, 96])?;
-        octets.extend_from_slice(&(number as u16).to_be_bytes())?;
-        octets.extend_from_slice(&(number * u32::from(spec.frames())).to_be_bytes())?;
-        octets.extend_from_slice(&7u32.to_be_bytes())?;
-        for place in 0..len {
-            octets.push(((number as usize + place) % 256) as u8)?;
-        }
+pub(crate) fn make_datagrams(alloc: Global, spec: &StreamSpec) -> Option<Datagrams> {
+    let len = HEADER + spec.payload_len();
+    let mut octets = vec![in alloc; 0u8; len * NUMBERS as usize].ok()?;
+    for (datagram, number) in octets.as_mut_slice().chunks_mut(len).zip(0..NUMBERS) {
+        write_datagram(datagram, number, u32::from(spec.frames()));
     }
-    Ok(Datagrams {
-        octets,
-        len: HEADER + len,
-    })
+    Some(Datagrams { octets, len })
+}
+
+/// Writes the datagram of a number.
+fn write_datagram(datagram: &mut [u8], number: u32, frames: u32) {
+    let [_, _, high, low] = number.to_be_bytes();
+    let [first, second, third, fourth] = number.wrapping_mul(frames).to_be_bytes();
+    let head = [
+        0x80, 96, high, low, first, second, third, fourth, 0, 0, 0, 7,
+    ];
+    for (octet, value) in datagram.iter_mut().zip(head.iter()) {
+        *octet = *value;
+    }
+    for (octet, value) in datagram.iter_mut().skip(HEADER).zip(number..) {
+        *octet = (value % 256) as u8;
+    }
 }
 
 impl Datagrams {

@@ -9,20 +9,21 @@ use path_merge::{MarkKindRef, MarkRef, Merge, Path, SlotWindow, StreamSpec};
 use rtp_wire::read;
 use std::alloc::Global;
 use std::env::Args;
-use std::ops::Range;
 use std::rt::Clock;
 use std::time::Instant;
 
-/// The numbers of each half.
-const HALF: u32 = NUMBERS / 2;
-
-/// What happens to a merge.
+/// What happens to a merge at a number: a packet comes in on each path, or none, and then the clock moves on by a packet's time.
 #[derive(Clone, Copy)]
-enum Step {
-    /// The datagram of this number comes in on a path.
-    Arrive(Path, u32),
-    /// The clock moves on by a packet's time.
-    Tick,
+struct Turn {
+    first: Arrival,
+    second: Arrival,
+}
+
+/// The datagram of a number comes in on a path.
+#[derive(Clone, Copy)]
+enum Arrival {
+    On(Path, u32),
+    Nothing,
 }
 
 /// Merges one shape as the words say: OCTETS WIDTH HALVES.
@@ -34,86 +35,123 @@ pub fn time_merge(
     alloc: Global,
     words: &mut Args,
 ) -> anyhow::Result<()> {
-    let octets = number(words)?;
-    let width = number(words)?;
-    let halves = number(words)?;
-    let spec = stream(octets, width)?;
-    let datagrams = make_datagrams(alloc, &spec)?;
-    let merge = Merge::new(alloc, spec, 0)?;
-    let (picos, sum) = time_halves(rt, alloc, merge, &spec, &datagrams, halves)?;
+    let (Some(octets), Some(width), Some(halves)) = (number(words), number(words), number(words))
+    else {
+        bail!("merge: OCTETS WIDTH HALVES");
+    };
+    let Some((picos, sum)) = time_shape(rt, alloc, octets, width, halves) else {
+        bail!("no such stream, or no memory for it");
+    };
     println!(rt; "merge {octets} {width} {picos} {sum}")?;
     Ok(())
 }
 
+/// The picoseconds that an arrival took, and the sum.
+fn time_shape(
+    clock: &impl Clock,
+    alloc: Global,
+    octets: u32,
+    width: u32,
+    halves: u32,
+) -> Option<(u128, u64)> {
+    let spec = stream(octets, width)?;
+    let datagrams = make_datagrams(alloc, &spec)?;
+    let merge = &mut Merge::new(alloc, spec, 0).ok()?;
+    time_halves(clock, alloc, merge, &spec, &datagrams, halves)
+}
+
 /// Fills the window by the first half, and times the second where there is one.
 fn time_halves(
-    rt: &impl Clock,
+    clock: &impl Clock,
     alloc: Global,
-    mut merge: Merge<SlotWindow>,
+    merge: &mut Merge<SlotWindow>,
     spec: &StreamSpec,
     datagrams: &Datagrams,
     halves: u32,
-) -> anyhow::Result<(u128, u64)>
-    requires { merge.spec ≡ spec.now }
+) -> Option<(u128, u64)>
+    requires { merge.old.spec ≡ spec.now }
 {
-    let first = make_steps(alloc, 0..HALF)?;
-    let second = make_steps(alloc, HALF..NUMBERS)?;
-    let sum = merge_all(&mut merge, spec, datagrams, &first);
+    let turns = make_turns(alloc)?;
+    let (first, second) = turns.as_slice().split_at_checked(turns.len() / 2)?;
+    let sum = merge_all(merge, spec, datagrams, first);
     if halves != 2 {
-        return Ok((0, sum));
+        return Some((0, sum));
     }
-    let start = Instant::now(rt)?;
-    let more = merge_all(&mut merge, spec, datagrams, &second);
-    let picos = start.elapsed(rt)?.as_nanos() * 1000 / u128::from(NUMBERS);
-    Ok((picos, sum.wrapping_add(more)))
+    let start = Instant::now(clock).ok()?;
+    let more = merge_all(merge, spec, datagrams, second);
+    let picos = start.elapsed(clock).ok()?.as_nanos() * 1000 / u128::from(NUMBERS);
+    Some((picos, sum.wrapping_add(more)))
 }
 
-/// What happens at these numbers: each path loses one packet in a hundred, the first one swaps two in fifty,
-/// the second is four behind, and after each number the clock moves on.
-fn make_steps(alloc: Global, numbers: Range<u32>) -> anyhow::Result<Vec<Step>> {
-    let (Some(first), Some(second)) = (Path::new(0), Path::new(1)) else {
-        bail!("no two paths");
-    };
-    let mut steps = Vec::new(alloc);
-    for number in numbers {
-        let swapped = match number % 50 {
-            10 => number.saturating_add(1),
-            11 => number.saturating_sub(1),
-            _ => number,
+/// What happens at each number.
+fn make_turns(alloc: Global) -> Option<Vec<Turn>> {
+    let (first, second) = (Path::new(0)?, Path::new(1)?);
+    let mut turns = Vec::new(alloc);
+    for number in 0..NUMBERS {
+        let turn = Turn {
+            first: packet_of(first, swapped(number), 37),
+            second: packet_of(second, number.wrapping_sub(4), 71),
         };
-        if swapped % 100 != 37 {
-            steps.push(Step::Arrive(first, swapped))?;
-        }
-        if number >= 4 && (number - 4) % 100 != 71 {
-            steps.push(Step::Arrive(second, number - 4))?;
-        }
-        steps.push(Step::Tick)?;
+        turns.push(turn).ok()?;
     }
-    Ok(steps)
+    Some(turns)
 }
 
-/// Takes these steps, and sums what the fates and marks say.
+/// The first path swaps two in fifty.
+fn swapped(number: u32) -> u32 {
+    match number % 50 {
+        10 => number.saturating_add(1),
+        11 => number.saturating_sub(1),
+        _ => number,
+    }
+}
+
+/// A path's packet, of which it loses one in a hundred. The second path is four behind, and begins with none.
+fn packet_of(path: Path, number: u32, lost: u32) -> Arrival {
+    if number >= NUMBERS || number % 100 == lost {
+        Arrival::Nothing
+    } else {
+        Arrival::On(path, number)
+    }
+}
+
+/// Takes these turns, and sums what the fates and marks say.
 fn merge_all(
     merge: &mut Merge<SlotWindow>,
     spec: &StreamSpec,
     datagrams: &Datagrams,
-    steps: &[Step],
+    turns: &[Turn],
 ) -> u64
     requires { merge.old.spec ≡ spec.now }
     ensures { merge.new.spec ≡ merge.old.spec }
 {
     let mut sum = 0u64;
-    for step in steps {
-        let found = match step {
-            Step::Arrive(path, number) => match datagrams.of(*number) {
-                Some(datagram) => arrive(merge, spec, *path, datagram),
-                None => 0,
-            },
-            Step::Tick => give(merge, spec),
-        };
-        sum = sum.wrapping_add(found);
+    for turn in turns {
+        sum = sum.wrapping_add(take(merge, spec, datagrams, turn.first));
+        sum = sum.wrapping_add(take(merge, spec, datagrams, turn.second));
+        sum = sum.wrapping_add(give(merge, spec));
     }
     sum
+}
+
+/// Takes what comes in, and says what it adds to the sum.
+#[inline(always)]
+fn take(
+    merge: &mut Merge<SlotWindow>,
+    spec: &StreamSpec,
+    datagrams: &Datagrams,
+    arrival: Arrival,
+) -> u64
+    requires { merge.old.spec ≡ spec.now }
+    ensures { merge.new.spec ≡ merge.old.spec }
+{
+    let Arrival::On(path, number) = arrival else {
+        return 0;
+    };
+    match datagrams.of(number) {
+        Some(datagram) => arrive(merge, spec, path, datagram),
+        None => 0,
+    }
 }
 
 /// Offers the packet of a datagram. A call of its own, as a receiver makes it for each datagram.

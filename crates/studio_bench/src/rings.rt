@@ -1,7 +1,7 @@
 //! Packets from a path's end to the mixer's: ready datagrams in, marks taken, by one thread or by two.
 use crate::datagrams::{Datagrams, NUMBERS, make_datagrams, number, stream};
 use crate::studio::studio_of;
-use anyhow::{Context, bail};
+use anyhow::bail;
 use mix_packets::OutSpec;
 use path_merge::StreamSpec;
 use rtp_wire::Enc;
@@ -44,80 +44,99 @@ pub fn time_rings(
     alloc: Global,
     words: &mut Args,
 ) -> anyhow::Result<()> {
-    let octets = number(words)?;
-    let threads = number(words)?;
-    let spec = stream(octets, WIDTH)?;
-    let datagrams = make_datagrams(alloc, &spec)?;
-    let (path, taker) = open_ends(alloc, spec)?;
-    let (taker, nanos) = timed(rt, threads, path, &datagrams, taker)?;
-    println!(rt;
-        "rings {octets} {threads} {} {} {}",
-        nanos / u128::from(NUMBERS),
-        taker.marks,
-        taker.datagrams
-    )?;
+    let (Some(octets), Some(threads)) = (number(words), number(words)) else {
+        bail!("rings: OCTETS THREADS");
+    };
+    let Some((nanos, marks, given)) = time_shape(rt, alloc, octets, threads) else {
+        bail!("no such stream, no such threads, or no memory for them");
+    };
+    let each = nanos / u128::from(NUMBERS);
+    println!(rt; "rings {octets} {threads} {each} {marks} {given}")?;
     Ok(())
 }
 
-/// The ends of one stream, whose output has one channel in the same packets.
-fn open_ends(alloc: Global, spec: StreamSpec) -> anyhow::Result<(PathEnd, Taker)> {
-    let output = OutSpec::new(Enc::L24, 1, spec.frames(), 97, 2, 0, 0, 0)?;
-    let studio = studio_of(alloc, spec, 1, output, 32_768)?;
-    let ends = open(alloc, &studio, PLACES)?;
-    taken_apart(ends, spec.frames())
+/// The nanoseconds of all packets, and how many marks and datagrams there were.
+fn time_shape(
+    rt: &(impl Clock + Threads + Wait + Sync),
+    alloc: Global,
+    octets: u32,
+    threads: u32,
+) -> Option<(u128, u32, u32)> {
+    let spec = stream(octets, WIDTH)?;
+    let datagrams = make_datagrams(alloc, &spec)?;
+    let mut ends = open_ends(alloc, spec)?;
+    let path = ends.paths.pop()?;
+    let taker = taker_of(ends, spec.frames())?;
+    timed(rt, threads, path, &datagrams, taker)
 }
 
-/// The first path's end, and the ends behind it.
-fn taken_apart(ends: Ends, frames: u16) -> anyhow::Result<(PathEnd, Taker)> {
-    let mut ends = ends;
-    let path = ends.paths.pop().context("a path")?;
-    let stream = ends.streams.pop().context("a stream")?;
-    let taker = Taker {
-        stream,
-        mix: ends.mix,
-        frames,
-        came: 0,
-        marks: 0,
-        datagrams: 0,
-    };
-    Ok((path, taker))
-}
-
-/// Hands all datagrams through, by one thread or two, and says how many nanoseconds that took.
+/// Hands all datagrams through, by one thread or two.
 fn timed(
     rt: &(impl Clock + Threads + Wait + Sync),
     threads: u32,
     path: PathEnd,
     datagrams: &Datagrams,
     taker: Taker,
-) -> anyhow::Result<(Taker, u128)> {
-    let start = Instant::now(rt)?;
+) -> Option<(u128, u32, u32)> {
+    let start = Instant::now(rt).ok()?;
     let taker = match threads {
         1 => by_one(path, datagrams, taker),
         2 => by_two(rt, path, datagrams, taker)?,
-        _ => bail!("threads are 1 or 2"),
+        _ => return None,
     };
-    Ok((taker, start.elapsed(rt)?.as_nanos()))
+    let nanos = start.elapsed(rt).ok()?.as_nanos();
+    Some((nanos, taker.marks, taker.datagrams))
+}
+
+/// The ends behind those of the paths.
+fn taker_of(ends: Ends, frames: u16) -> Option<Taker> {
+    let mut ends = ends;
+    let stream = ends.streams.pop()?;
+    Some(Taker {
+        stream,
+        mix: ends.mix,
+        frames,
+        came: 0,
+        marks: 0,
+        datagrams: 0,
+    })
+}
+
+/// The ends of one stream, whose output has one channel in the same packets.
+fn open_ends(alloc: Global, spec: StreamSpec) -> Option<Ends> {
+    let output = OutSpec::new(Enc::L24, 1, spec.frames(), 97, 2, 0, 0, 0).ok()?;
+    let studio = studio_of(alloc, spec, 1, output, 32_768)?;
+    open(alloc, &studio, PLACES).ok()
 }
 
 impl Taker {
     /// Takes what came, up to a batch, and all marks and datagrams that are final by then.
     fn take(&mut self) {
+        self.take_packets();
+        let mut out = [0u8; 1452];
+        for _ in 0..PLACES {
+            if !self.mix_next(&mut out) {
+                break;
+            }
+        }
+    }
+
+    fn take_packets(&mut self) {
         let now = i64::from(self.came).wrapping_mul(i64::from(self.frames));
         if let Ok(note) = self.stream.turn(now) {
             let [first, second, _, _] = note.from;
             self.came = self.came.wrapping_add(first).wrapping_add(second);
         }
-        let mut out = [0u8; 1452];
-        for _ in 0..PLACES {
-            let _len = self.mix.datagram_len();
-            let note = self.mix.turn(&mut out);
-            self.marks = self.marks.wrapping_add(note.taken);
-            if note.len.is_none() {
-                return;
-            }
-            self.datagrams = self.datagrams.wrapping_add(1);
-        }
+    }
+
+    /// Whether the mixer gave a datagram.
+    fn mix_next(&mut self, out: &mut [u8; 1452]) -> bool {
+        let _len = self.mix.datagram_len();
+        let note = self.mix.turn(out);
+        self.marks = self.marks.wrapping_add(note.taken);
+        let is_given = note.len.is_some();
+        self.datagrams = self.datagrams.wrapping_add(u32::from(is_given));
+        is_given
     }
 }
 
@@ -132,26 +151,26 @@ fn by_one(mut path: PathEnd, datagrams: &Datagrams, mut taker: Taker) -> Taker {
     taker
 }
 
-/// One thread offers, again where there is no room, and another takes until all came.
+/// One thread offers, again where there is no room, and another takes until all came; none where there is no thread.
 fn by_two(
     rt: &(impl Threads + Wait + Sync),
     path: PathEnd,
     datagrams: &Datagrams,
-    taker: Taker,
-) -> anyhow::Result<Taker> {
-    thread::scope(thread::scope_env(), rt, |scope| -> anyhow::Result<Taker> {
-        let Ok(_sender) = scope.spawn(move || offer_all(rt, path, datagrams)) else {
-            bail!("no thread could be made");
-        };
-        Ok(take_all(rt, taker))
+    mut taker: Taker,
+) -> Option<Taker> {
+    thread::scope(thread::scope_env(), rt, |scope| -> Option<Taker> {
+        let _sender = scope.spawn(move || offer_all(rt, path, datagrams)).ok()?;
+        take_all(rt, &mut taker);
+        Some(taker)
     })
 }
 
 /// Offers each datagram until it isn't refused for want of room.
 fn offer_all(rt: &impl Wait, mut path: PathEnd, datagrams: &Datagrams) {
     for number in 0..NUMBERS {
+        let datagram = datagrams.of(number).unwrap_or(b"");
         for _ in rt.forever() {
-            if path.offer(datagrams.of(number).unwrap_or(b"")) != Offer::Full {
+            if path.offer(datagram) != Offer::Full {
                 break;
             }
             hint::spin_loop();
@@ -160,12 +179,11 @@ fn offer_all(rt: &impl Wait, mut path: PathEnd, datagrams: &Datagrams) {
 }
 
 /// Takes until all packets came.
-fn take_all(rt: &impl Wait, mut taker: Taker) -> Taker {
+fn take_all(rt: &impl Wait, taker: &mut Taker) {
     for _ in rt.forever() {
         taker.take();
         if taker.came >= NUMBERS {
-            return taker;
+            break;
         }
     }
-    taker
 }

@@ -11,7 +11,7 @@ use anyhow::bail;
 use mix_packets::OutSpec;
 use path_merge::{StreamClock, StreamSpec};
 use rtp_wire::Enc;
-use std::alloc::{AllocError, Global};
+use std::alloc::Global;
 use std::env::Args;
 use std::rt::Clock as SystemTime;
 use std::sync::Wait;
@@ -46,12 +46,12 @@ struct Progress {
 }
 
 impl Progress {
-    fn new(alloc: Global) -> Result<Progress, AllocError> {
+    fn new(alloc: Global) -> Option<Progress> {
         let mut given = Vec::new(alloc);
         for _ in 0..STREAMS * PATHS {
-            given.push(AtomicU64::new(0))?;
+            given.push(AtomicU64::new(0)).ok()?;
         }
-        Ok(Progress {
+        Some(Progress {
             blocks: AtomicU64::new(0),
             last: AtomicU64::new(u64::MAX),
             given,
@@ -194,6 +194,14 @@ impl<R: SystemTime> Sink for ComparingSink<'_, R> {
     }
 }
 
+/// What a run came to.
+struct Outcome {
+    blocks: u64,
+    lost: u64,
+    differences: u64,
+    good: bool,
+}
+
 /// Runs the workers as the words say: SECONDS PLACES. Prints how many blocks were sent, how many packets
 /// were lost, and how many datagrams were not those of the plain program.
 pub fn run_long<R: Threads + Wait + Sync + SystemTime + Print>(
@@ -201,31 +209,47 @@ pub fn run_long<R: Threads + Wait + Sync + SystemTime + Print>(
     alloc: Global,
     words: &mut Args,
 ) -> anyhow::Result<()> {
-    let seconds = number(words)?;
-    let places = number(words)?;
-    let progress = Progress::new(alloc)?;
-    let sink = ComparingSink {
-        rt,
-        progress: &progress,
-        start: Instant::now(rt)?,
-        time: Duration::from_secs(u64::from(seconds)),
-        blocks: 0,
-        lost: 0,
-        differences: 0,
+    let (Some(seconds), Some(places)) = (number(words), number(words)) else {
+        bail!("workers: SECONDS PLACES");
     };
-    let (report, sink) = run_over(rt, alloc, places as usize, &progress, sink)?;
-    let good = is_as_told(&report, &sink);
+    let Some(outcome) = run_for(rt, alloc, seconds, places as usize) else {
+        bail!("no such rings, or no memory or thread for the run");
+    };
+    let Outcome {
+        blocks,
+        lost,
+        differences,
+        good,
+    } = outcome;
+    let word = if good { "good" } else { "bad" };
     println!(rt;
-        "workers {seconds} {places} blocks {} lost {} differences {} {}",
-        sink.blocks,
-        sink.lost,
-        sink.differences,
-        if good { "good" } else { "bad" }
+        "workers {seconds} {places} blocks {blocks} lost {lost} differences {differences} {word}"
     )?;
     if !good {
         bail!("the run differs from the plain program");
     }
     Ok(())
+}
+
+/// Runs the workers for some time; none where they can't be started.
+fn run_for<R: Threads + Wait + Sync + SystemTime>(
+    rt: &R,
+    alloc: Global,
+    seconds: u32,
+    places: usize,
+) -> Option<Outcome> {
+    let start = Instant::now(rt).ok()?;
+    let progress = Progress::new(alloc)?;
+    let sink = ComparingSink {
+        rt,
+        progress: &progress,
+        start,
+        time: Duration::from_secs(u64::from(seconds)),
+        blocks: 0,
+        lost: 0,
+        differences: 0,
+    };
+    run_over(rt, alloc, places, &progress, sink)
 }
 
 /// Runs the workers over rings of so many places.
@@ -235,16 +259,24 @@ fn run_over<'a, R: Threads + Wait + Sync + SystemTime>(
     places: usize,
     progress: &'a Progress,
     sink: ComparingSink<'a, R>,
-) -> anyhow::Result<(WorkReport, ComparingSink<'a, R>)> {
-    let studio = studio(alloc)?;
+) -> Option<Outcome> {
     let feeds = feeds_of(alloc, progress)?;
     let clocks = clocks_of(alloc, progress)?;
-    let ends = open(alloc, &studio, places)?;
+    let studio = studio(alloc)?;
+    let Ok(ends) = open(alloc, &studio, places) else {
+        return None;
+    };
     if feeds.len() != ends.paths.len() || clocks.len() != ends.streams.len() {
-        bail!("a feed for each path, and a clock for each stream");
+        return None;
     }
     let _sound = studio.streams();
-    Ok(run_workers(rt, alloc, ends, feeds, clocks, sink)?)
+    let (report, sink) = run_workers(rt, alloc, ends, feeds, clocks, sink).ok()?;
+    Some(Outcome {
+        blocks: sink.blocks,
+        lost: sink.lost,
+        differences: sink.differences,
+        good: is_as_told(&report, &sink),
+    })
 }
 
 /// Whether a run came to all blocks, each as the plain program has it, and counted what was lost.
@@ -265,40 +297,48 @@ fn is_as_told<R: SystemTime>(report: &WorkReport, sink: &ComparingSink<'_, R>) -
 }
 
 /// The studio of a long run.
-fn studio(alloc: Global) -> anyhow::Result<StudioSpec> {
+fn studio(alloc: Global) -> Option<StudioSpec> {
     let clock = StreamClock::Media { offset: 0 };
     let frames = FRAMES as u16;
     let paths = PATHS as u8;
-    let spec = StreamSpec::new(Enc::L24, 1, frames, 96, None, clock, LATENCY, WINDOW, paths)?;
-    let output = OutSpec::new(Enc::L24, 1, frames, 97, 200, 0, 0, 0)?;
-    studio_of(alloc, spec, STREAMS as u32, output, GAIN)
+    let spec = StreamSpec::new(Enc::L24, 1, frames, 96, None, clock, LATENCY, WINDOW, paths).ok()?;
+    let output = OutSpec::new(Enc::L24, 1, frames, 97, 200, 0, 0, 0).ok()?;
+    studio_of(alloc, spec, STREAMS as usize, output, GAIN)
 }
 
 /// A feed for each path, stream by stream.
-fn feeds_of<'a>(alloc: Global, progress: &'a Progress) -> Result<Vec<PathFeed<'a>>, AllocError> {
+fn feeds_of<'a>(alloc: Global, progress: &'a Progress) -> Option<Vec<PathFeed<'a>>> {
     let mut feeds = Vec::new(alloc);
     for stream in 0..STREAMS {
-        for path in 0..PATHS {
-            feeds.push(PathFeed {
-                progress,
-                stream,
-                path,
-                turn: 0,
-                waited: false,
-            })?;
-        }
+        push_feeds(&mut feeds, progress, stream)?;
     }
-    Ok(feeds)
+    Some(feeds)
+}
+
+/// The feeds of a stream's paths, behind others.
+fn push_feeds<'a>(
+    feeds: &mut Vec<PathFeed<'a>>,
+    progress: &'a Progress,
+    stream: u64,
+) -> Option<()> {
+    for path in 0..PATHS {
+        let feed = PathFeed {
+            progress,
+            stream,
+            path,
+            turn: 0,
+            waited: false,
+        };
+        feeds.push(feed).ok()?;
+    }
+    Some(())
 }
 
 /// A clock for each stream.
-fn clocks_of<'a>(
-    alloc: Global,
-    progress: &'a Progress,
-) -> Result<Vec<DeadlineClock<'a>>, AllocError> {
+fn clocks_of<'a>(alloc: Global, progress: &'a Progress) -> Option<Vec<DeadlineClock<'a>>> {
     let mut clocks = Vec::new(alloc);
     for stream in 0..STREAMS {
-        clocks.push(DeadlineClock { progress, stream })?;
+        clocks.push(DeadlineClock { progress, stream }).ok()?;
     }
-    Ok(clocks)
+    Some(clocks)
 }
