@@ -1,19 +1,22 @@
 //! The reading before which no datagram comes.
-use super::studios::{give, give_none, six, take};
-use std::test::Fail;
+use super::calls::TAKEN;
+use super::studios::{Step, play};
 
-/// With no packet the first block of six is silence at 18, a latency past its end; with one at 0 it comes at 12.
+const DEADLINES: [Step; 9] = [
+    Step::Deadline(Some(18)),
+    Step::Hand(0, 1, TAKEN),
+    Step::Deadline(Some(12)),
+    Step::Give(12, 0, 1),
+    Step::Deadline(None),
+    Step::Turn(12, Ok(None)),
+    Step::Deadline(Some(18)),
+    Step::Close(Ok(())),
+    Step::Deadline(None),
+];
+
+/// With no packet the first block of six is silence at 18, a latency past its end; with one at 0 it comes at 12. There is none
+/// while a turn isn't finished, and none after a close.
 #[test]
-fn the_next_deadline_is_that_of_the_block(rt: HostRuntime) -> Result<(), Fail> {
-    let mut engine = six(&rt, rt.alloc())?;
-    assert!(rt; engine.next_deadline() == Some(18));
-    take(&rt, &mut engine, 0, 1);
-    assert!(rt; engine.next_deadline() == Some(12));
-    give(&rt, &mut engine, 12, 0, 1);
-    assert!(rt; engine.next_deadline() == None, "the turn isn't finished");
-    give_none(&rt, &mut engine, 12);
-    assert!(rt; engine.next_deadline() == Some(18));
-    assert!(rt; engine.close().is_ok());
-    assert!(rt; engine.next_deadline() == None);
-    Ok(())
+fn the_next_deadline_is_that_of_the_block(rt: HostRuntime) {
+    play(&rt, rt.alloc(), &DEADLINES);
 }
