@@ -1,15 +1,17 @@
 //! Vectors for outputs and their datagrams.
 use mix_packets::{OutSpec, Packer};
 use rtp_wire::{Enc, read};
-use std::test::Fail;
+use std::process::Abort;
 
 /// 2^60, the latest start.
 const LATEST: i64 = 1_152_921_504_606_846_976;
 
 /// Sequence number 65535 and timestamp 2^32 - 48 are followed by 0 and 0.
 #[test]
-fn sequence_and_timestamp_wrap(rt: HostRuntime) -> Result<(), Fail> {
-    let spec = OutSpec::new(Enc::L24, 1, 48, 97, 2, 65_535, 4_294_967_248, 0)?;
+fn sequence_and_timestamp_wrap(rt: HostRuntime) {
+    let Ok(spec) = OutSpec::new(Enc::L24, 1, 48, 97, 2, 65_535, 4_294_967_248, 0) else {
+        panic!(rt; "an output without a fault")
+    };
     let mut packer = Packer::new(spec);
     assert!(rt; packer.number() == 0);
     let mut out = [0x55u8; 157];
@@ -25,7 +27,6 @@ fn sequence_and_timestamp_wrap(rt: HostRuntime) -> Result<(), Fail> {
     assert!(rt; packer.next(&[1000; 48], &mut out) == 156);
     assert!(rt; &out[..15] == [0x80, 0x61, 0, 0, 0, 0, 0, 0, 0, 0, 0, 2, 0, 3, 0xe8].as_slice());
     assert!(rt; (packer.number(), out[156]) == (2, 0x55));
-    Ok(())
 }
 
 /// A start and an offset, and the first timestamp.
@@ -39,31 +40,39 @@ const OFFSETS: [(i64, u32, u32); 5] = [
 
 /// The first timestamp is the start plus the offset, modulo 2^32, up to the last start.
 #[test]
-fn the_offset_is_ahead_of_the_start(rt: HostRuntime) -> Result<(), Fail> {
-    for (start, offset, want) in OFFSETS {
-        let spec = OutSpec::new(Enc::L16, 1, 6, 96, 1, 0, start, offset)?;
-        let mut out = [0u8; 24];
-        let _len = Packer::new(spec).next(&[0; 6], &mut out);
-        let view = read(&out)?;
-        assert!(rt; view.ts == want, "start {start}, offset {offset}");
+fn the_offset_is_ahead_of_the_start(rt: HostRuntime) {
+    for (start, offset, want) in &OFFSETS {
+        let ts = first_timestamp(&rt, *start, *offset);
+        assert!(rt; ts == *want, "start {start}, offset {offset}");
     }
-    Ok(())
 }
 
-/// The octets of the least, the greatest and ordinary samples of both encodings.
+/// The timestamp of the first datagram of an output of L16.
+fn first_timestamp(rt: &impl Abort, start: i64, offset: u32) -> u32 {
+    let spec = OutSpec::new(Enc::L16, 1, 6, 96, 1, 0, start, offset).expect(rt, "an output");
+    let mut out = [0u8; 24];
+    let _len = Packer::new(spec).next(&[0; 6], &mut out);
+    read(&out).expect(rt, "a datagram").ts
+}
+
+/// The octets of the least, the greatest and ordinary samples of L16.
 #[test]
-fn samples_stand_frame_by_frame_at_their_extremes(rt: HostRuntime) -> Result<(), Fail> {
-    let spec = OutSpec::new(Enc::L16, 2, 6, 96, 1, 0, 0, 0)?;
+fn samples_of_16_bits_stand_frame_by_frame_at_their_extremes(rt: HostRuntime) {
+    let spec = OutSpec::new(Enc::L16, 2, 6, 96, 1, 0, 0, 0).expect(&rt, "an output");
     let block = [-32_768, 32_767, -1, 1, 0, 2, 0, 3, 0, 4, 0, 258];
     let mut out = [0u8; 36];
     assert!(rt; Packer::new(spec).next(&block, &mut out) == 36);
     assert!(rt; &out[12..22] == [0x80, 0, 0x7f, 0xff, 0xff, 0xff, 0, 1, 0, 0].as_slice());
     assert!(rt; &out[34..] == [1, 2].as_slice());
-    let spec = OutSpec::new(Enc::L24, 1, 6, 96, 1, 0, 0, 0)?;
+}
+
+/// The octets of the least, the greatest and ordinary samples of L24.
+#[test]
+fn samples_of_24_bits_stand_frame_by_frame_at_their_extremes(rt: HostRuntime) {
+    let spec = OutSpec::new(Enc::L24, 1, 6, 96, 1, 0, 0, 0).expect(&rt, "an output");
     let block = [-8_388_608, 8_388_607, -1, 0, 1, 66_051];
     let mut out = [0u8; 30];
     assert!(rt; Packer::new(spec).next(&block, &mut out) == 30);
     assert!(rt; &out[12..21] == [0x80, 0, 0, 0x7f, 0xff, 0xff, 0xff, 0xff, 0xff].as_slice());
     assert!(rt; &out[21..] == [0, 0, 0, 0, 0, 1, 1, 2, 3].as_slice());
-    Ok(())
 }

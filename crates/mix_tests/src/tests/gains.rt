@@ -5,7 +5,6 @@ ghost use Rattle.gain_mix.specs.Mix.{Is24Bits};
 use gain_mix::{Matrix, MatrixFault, Schedule, ScheduleFault, mix_block, mix_frame, mix_span};
 use std::alloc::Global;
 use std::process::Abort;
-use std::test::Fail;
 
 /// Whether all values have 24 bits.
 fn are_24_bits(values: &[i32]) -> bool
@@ -42,46 +41,59 @@ const SUMS: [Sum; 9] = [
 
 /// The table of sums in MIXING.md: halves go up, and the sum alone is limited.
 #[test]
-fn rounds_half_up_and_saturates_once(rt: HostRuntime) -> Result<(), Fail> {
-    for (gains, ins, shift, sum) in SUMS {
-        let matrix = Matrix::new(rt.alloc(), 1, 3, &gains)?;
+fn rounds_half_up_and_saturates_once(rt: HostRuntime) {
+    for (gains, ins, shift, sum) in &SUMS {
+        let matrix = matrix_of(&rt, rt.alloc(), 1, 3, gains);
         let mut outs = [0];
-        mix(&rt, &matrix, &ins, &mut outs, 1, shift);
-        assert!(rt; outs == [sum]);
+        mix(&rt, &matrix, ins, &mut outs, 1, *shift);
+        assert!(rt; outs == [*sum]);
     }
-    Ok(())
+}
+
+fn matrix_of(rt: &impl Abort, alloc: Global, outs: usize, ins: usize, gains: &[i32]) -> Matrix {
+    Matrix::new(alloc, outs, ins, gains).expect(rt, "a shape that fits, and memory")
 }
 
 /// The table of frames in MIXING.md: each output by its own row of gains.
 #[test]
-fn gains_mix_inputs_by_row(rt: HostRuntime) -> Result<(), Fail> {
-    let matrix = Matrix::new(rt.alloc(), 2, 2, &[65_536, 0, 32_768, -32_768])?;
+fn gains_mix_inputs_by_row(rt: HostRuntime) {
+    let matrix = matrix_of(&rt, rt.alloc(), 2, 2, &[65_536, 0, 32_768, -32_768]);
     let ins = [10, 3, -8_388_608, 8_388_607];
     let mut outs = [0; 4];
     mix(&rt, &matrix, &ins, &mut outs, 2, 16);
     assert!(rt; outs == [10, 4, -8_388_608, -8_388_607]);
-    Ok(())
 }
 
-/// A matrix whose gains are all the same.
-fn even_matrix(alloc: Global, outs: usize, ins: usize, gain: i32) -> Result<Matrix, MatrixFault> {
-    let gains = [gain; 8];
-    if 8 < outs || 8 < ins || 8 < outs * ins {
-        return Err(MatrixFault::Shape);
-    }
-    Matrix::new(alloc, outs, ins, &gains[..outs * ins])
+/// A change, with a matrix of so many outputs and inputs, whose gains are all the same.
+fn push_change(
+    rt: &impl Abort,
+    later: &mut Vec<(i64, Matrix)>,
+    time: i64,
+    shape: (usize, usize),
+    gain: i32,
+) {
+    let matrix = even_matrix(rt, *later.allocator(), shape, gain);
+    assert!(rt; later.push((time, matrix)).is_ok(), "there is memory");
+}
+
+/// A matrix of so many outputs and inputs, whose gains are all the same.
+fn even_matrix(rt: &impl Abort, alloc: Global, shape: (usize, usize), gain: i32) -> Matrix {
+    let (outs, ins) = shape;
+    assert!(rt; outs <= 2 && ins <= 3);
+    matrix_of(rt, alloc, outs, ins, &[gain; 6][..outs * ins])
 }
 
 /// The fault of a schedule of these times and shapes, if any.
 fn schedule_fault(
+    rt: &impl Abort,
     alloc: Global,
     changes: &[(i64, usize, usize)],
-) -> Result<Option<ScheduleFault>, Fail> {
+) -> Option<ScheduleFault> {
     let mut later = Vec::new(alloc);
     for (time, outs, ins) in changes {
-        later.push((*time, even_matrix(alloc, *outs, *ins, 0)?))?;
+        push_change(rt, &mut later, *time, (*outs, *ins), 0);
     }
-    Ok(Schedule::new(even_matrix(alloc, 2, 3, 0)?, later).err())
+    Schedule::new(even_matrix(rt, alloc, (2, 3), 0), later).err()
 }
 
 /// Two changes, each a time with its matrix' outputs and inputs, and the fault.
@@ -104,30 +116,21 @@ const PAIRS: [Pair; 9] = [
 
 /// Each limit of a schedule's times and shapes from both sides: `Shape`, `Time`, `Order`.
 #[test]
-fn schedule_faults(rt: HostRuntime) -> Result<(), Fail> {
-    for (changes, want) in PAIRS {
-        let fault = schedule_fault(rt.alloc(), &changes)?;
-        assert!(rt; fault == want, "{changes:?}");
+fn schedule_faults(rt: HostRuntime) {
+    for (changes, want) in &PAIRS {
+        let fault = schedule_fault(&rt, rt.alloc(), changes);
+        assert!(rt; fault == *want, "{changes:?}");
     }
-    let fault = schedule_fault(rt.alloc(), &[])?;
-    assert!(rt; fault == None, "no change");
-    Ok(())
-}
-
-/// A change to a matrix of one gain.
-fn push_change(later: &mut Vec<(i64, Matrix)>, time: i64, gain: i32) -> Result<(), Fail> {
-    let matrix = even_matrix(*later.allocator(), 1, 1, gain)?;
-    later.push((time, matrix))?;
-    Ok(())
+    assert!(rt; schedule_fault(&rt, rt.alloc(), &[]) == None, "no change");
 }
 
 /// A gain of 1, from 100 on of 2, and from 103 on of -1.
-fn two_changes(alloc: Global) -> Result<Schedule, Fail> {
+fn two_changes(rt: &impl Abort, alloc: Global) -> Schedule {
     let mut later = Vec::new(alloc);
-    push_change(&mut later, 100, 131_072)?;
-    push_change(&mut later, 103, -65_536)?;
-    let first = even_matrix(alloc, 1, 1, 65_536)?;
-    Ok(Schedule::new(first, later)?)
+    push_change(rt, &mut later, 100, (1, 1), 131_072);
+    push_change(rt, &mut later, 103, (1, 1), -65_536);
+    let schedule = Schedule::new(even_matrix(rt, alloc, (1, 1), 65_536), later);
+    schedule.expect(rt, "changes in order")
 }
 
 /// Times, and the gain that is in force then.
@@ -141,43 +144,45 @@ const IN_FORCE: [(i64, i32); 5] = [
 
 /// Each change is in force from its own time on.
 #[test]
-fn gains_are_in_force_from_their_time_on(rt: HostRuntime) -> Result<(), Fail> {
-    let schedule = two_changes(rt.alloc())?;
+fn gains_are_in_force_from_their_time_on(rt: HostRuntime) {
+    let schedule = two_changes(&rt, rt.alloc());
     assert!(rt; schedule.later().len() == 2);
-    for (t, gain) in IN_FORCE {
-        assert!(rt; schedule.at(t).gains() == [gain].as_slice(), "at {t}");
+    for (t, gain) in &IN_FORCE {
+        assert!(rt; schedule.at(*t).gains() == [*gain].as_slice(), "at {t}");
     }
-    Ok(())
 }
 
 /// The table of changes in MIXING.md: each takes effect at its own instant, within a span.
 #[test]
-fn gains_change_within_a_span(rt: HostRuntime) -> Result<(), Fail> {
-    let schedule = two_changes(rt.alloc())?;
+fn gains_change_within_a_span(rt: HostRuntime) {
+    let schedule = two_changes(&rt, rt.alloc());
     let ins = [1, 2, 3, 4, 5, 6];
     let mut outs = [0; 6];
     assert!(rt; are_24_bits(&ins));
     assert!(rt; schedule.first().ins() == 1 && schedule.first().outs() == 1);
     mix_span(&schedule, 98, &ins, &mut outs, 6, 16);
     assert!(rt; outs == [1, 2, 6, 8, 10, -6]);
-    Ok(())
+}
+
+/// Whether a matrix was made, with its gains; else memory was refused.
+fn is_made(rt: &impl Abort, alloc: Global, gains: &[i32]) -> bool {
+    match Matrix::new(alloc, 2, 2, gains) {
+        Ok(matrix) => {
+            assert!(rt; matrix.gains() == gains);
+            true
+        }
+        Err(fault) => {
+            assert!(rt; fault == MatrixFault::Memory);
+            false
+        }
+    }
 }
 
 /// A matrix, made twice with any one allocation refused: want of memory at most once.
 #[test]
-fn each_refused_allocation_is_answered(rt: HostRuntime) -> Result<(), Fail> {
+fn each_refused_allocation_is_answered(rt: HostRuntime) {
     let gains = [65_536, 0, 0, 65_536];
-    for _ in 0..2 {
-        match Matrix::new(rt.alloc(), 2, 2, &gains) {
-            Ok(matrix) => assert!(rt; matrix.gains() == gains.as_slice()),
-            Err(fault) => {
-                assert!(rt; fault == MatrixFault::Memory);
-                assert!(rt;
-                    Matrix::new(rt.alloc(), 2, 2, &gains).is_ok(),
-                    "with memory again"
-                );
-            }
-        }
-    }
-    Ok(())
+    let first = is_made(&rt, rt.alloc(), &gains);
+    let second = is_made(&rt, rt.alloc(), &gains);
+    assert!(rt; first || second, "with memory again");
 }

@@ -13,10 +13,10 @@ fits enc e = subst (λ x. FitsEncoding x (pos 1000)) (sym e) (record { low = ome
 
 pub next-requires-clause-fit : goal.next-requires-clause-fit
 next-requires-clause-fit g c =
-    let enc : c.new-packer.result.spec.enc ≡ L24 = ap (λ (p : PackerState). p.spec.enc) c.new-packer.ensures ∙ ap (λ (s : Output). s.enc) c.in_ok-spec.ensures.ok in
+    let enc : c.new-packer.result.spec.enc ≡ L24 = ap (λ (p : PackerState). p.spec.enc) c.new-packer.ensures ∙ ap (λ (s : Output). s.enc) c.in-Ok.ensures.ok in
     All-replicate (FitsEncoding c.new-packer.result.spec.enc) 48 (pos 1000) (fits c.new-packer.result.spec.enc enc)
 
 pub next-requires-2-clause-fit : goal.next-requires-2-clause-fit
 next-requires-2-clause-fit g c =
-    let enc : c.next.new.self.spec.enc ≡ L24 = ap (λ (p : PackerState). p.spec.enc) c.next.ensures.number ∙ ap (λ (p : PackerState). p.spec.enc) c.new-packer.ensures ∙ ap (λ (s : Output). s.enc) c.in_ok-spec.ensures.ok in
+    let enc : c.next.new.self.spec.enc ≡ L24 = ap (λ (p : PackerState). p.spec.enc) c.next.ensures.number ∙ ap (λ (p : PackerState). p.spec.enc) c.new-packer.ensures ∙ ap (λ (s : Output). s.enc) c.in-Ok.ensures.ok in
     All-replicate (FitsEncoding c.next.new.self.spec.enc) 48 (pos 1000) (fits c.next.new.self.spec.enc enc)
