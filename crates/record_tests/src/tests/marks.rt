@@ -1,7 +1,7 @@
 //! What the blocks of a record tell, and what others don't.
 use super::record::{latest_header, record};
 use capture_read::{Parts, RecordMark};
-use std::test::Fail;
+use std::process::Abort;
 
 /// The length of each block, and what it tells.
 const PARTS: [(usize, Option<RecordMark>); 5] = [
@@ -30,18 +30,17 @@ fn goes_on<'a>(
 
 /// A record says at which time its studio was opened, and at which it was closed.
 #[test]
-fn a_record_says_its_opening_and_its_close(rt: HostRuntime) -> Result<(), Fail> {
+fn a_record_says_its_opening_and_its_close(rt: HostRuntime) {
     let record = record();
-    let mut parts = Parts::open(&record)?;
+    let mut parts = Parts::open(&record).expect(&rt, "a record");
     let mut left = Some(record.as_slice());
-    for (len, mark) in PARTS {
+    for (len, mark) in &PARTS {
         let Some(rest) = left else {
             break;
         };
-        left = goes_on(&mut parts, rest, len, mark);
+        left = goes_on(&mut parts, rest, *len, *mark);
     }
     assert!(rt; left == Some(&[]), "five blocks, and nothing more");
-    Ok(())
 }
 
 /// A place in a header that says the latest opening, the octet to stand there, and what it tells then.
@@ -68,14 +67,18 @@ const CHANGES: [(usize, u8, Option<RecordMark>); 12] = [
     (67, b'n', None),
 ];
 
+/// What a header tells.
+fn told(rt: &impl Abort, header: &[u8; 76]) -> Option<RecordMark> {
+    let mut parts = Parts::open(header).expect(rt, "a header");
+    parts.next(header).expect(rt, "a block").mark
+}
+
 /// A comment of another form, of another writer or past 2^63 says no opening, and nor do options that are cut; none is a fault.
 #[test]
-fn only_a_whole_number_of_ours_is_an_opening(rt: HostRuntime) -> Result<(), Fail> {
-    for (place, octet, mark) in CHANGES {
+fn only_a_whole_number_of_ours_is_an_opening(rt: HostRuntime) {
+    for (place, octet, mark) in &CHANGES {
         let mut octets = latest_header();
-        octets[place % 76] = octet;
-        let part = Parts::open(&octets)?.next(&octets)?;
-        assert!(rt; part.mark == mark, "{octet} at {place}");
+        octets[*place % 76] = *octet;
+        assert!(rt; told(&rt, &octets) == *mark, "{octet} at {place}");
     }
-    Ok(())
 }

@@ -8,7 +8,6 @@ use capture_write::{
     write_opening,
 };
 use std::net::Ipv4Addr;
-use std::test::Fail;
 
 /// A datagram of three octets, on the second interface.
 fn arrival() -> Arrival<'static>
@@ -73,8 +72,8 @@ const TIMES: [(u64, Option<u64>); 7] = [
 /// A time is rounded up, and there is none past 64 bits.
 #[test]
 fn times_are_rounded_up(rt: HostRuntime) {
-    for (instants, want) in TIMES {
-        assert!(rt; nanoseconds_after(instants) == want, "{instants}");
+    for (instants, want) in &TIMES {
+        assert!(rt; nanoseconds_after(*instants) == *want, "{instants}");
     }
 }
 
@@ -97,10 +96,9 @@ fn packet() -> Packet<'static> {
 
 /// A record is a capture of the datagrams that came.
 #[test]
-fn a_record_is_a_capture_of_its_datagrams(rt: HostRuntime) -> Result<(), Fail> {
+fn a_record_is_a_capture_of_its_datagrams(rt: HostRuntime) {
     let record = record();
-    let mut capture = open(&record)?;
+    let mut capture = open(&record).expect(&rt, "a capture");
     assert!(rt; capture.next() == Some(Ok(packet())), "the datagram");
     assert!(rt; capture.next() == None, "nothing more");
-    Ok(())
 }
