@@ -3,6 +3,8 @@
 
 mod asked;
 mod command;
+mod known;
+mod part;
 mod words;
 
 pub use asked::{Asked, ImportOptions, LiveWords, ReplayWords, StreamWords};

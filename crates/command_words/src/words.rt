@@ -7,6 +7,11 @@ use std::alloc::Global;
 /// What the words ask for. Help and the version are errors too, with their texts.
 pub fn asked_for<'a>(alloc: Global, words: &'a [String]) -> Result<Asked<'a>, Error> {
     let matches = command(alloc)?.try_get_matches_from(words)?;
+    asked_in(alloc, &matches)
+}
+
+/// What words that the program knows ask for.
+fn asked_in<'a>(alloc: Global, matches: &ArgMatches<'a>) -> Result<Asked<'a>, Error> {
     let Some((name, inner)) = matches.subcommand() else {
         return Ok(Asked::Standard);
     };
