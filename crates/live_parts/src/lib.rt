@@ -2,7 +2,7 @@
 //!
 //! `LivePorts::of` finds the ports that a studio needs, or names the first that is absent; `addresses_of` says where
 //! each path is received, and `Handed::told` which sockets are there already. By `tai_opening` a studio can be opened
-//! now. `write_report` writes what a run came to.
+//! now; a `Start` has the clock of the run, and says when that ends its feeds. `write_report` writes what a run came to.
 #![tactic(auto)]
 
 mod addresses;
@@ -13,6 +13,7 @@ mod ports;
 mod recorded;
 mod report;
 mod setup;
+mod start;
 mod strangers;
 mod tai;
 
@@ -24,5 +25,6 @@ pub use ports::LivePorts;
 pub use recorded::Recorded;
 pub use report::write_report;
 pub use setup::{Setup, StreamName};
+pub use start::Start;
 pub use strangers::{Source, Strangers};
 pub use tai::{Opening, TaiOffset, tai_opening};

@@ -1,13 +1,11 @@
 -- What a live run wrote.
-use Rattle.std.proofs.Common.{◌≡◌, refl, sym, subst, ap, ◌∙◌, Bool, ℕ, List, [], ◌∷◌, length, map, Option, Result, Ok, Err}
-use Rattle.std.proofs.lemmas.List.{length-map}
-use Rattle.std.specs.declared.vec.Vec.{Vec}
-use Rattle.std.specs.declared.alloc.Global.{Global}
+use Rattle.std.proofs.Common.{◌≡◌, refl, sym, subst, Bool, ℕ, List, Option, Result, Ok, Err}
 use Rattle.std.specs.Prelude.{IfErr, IsErrAnd}
 use Rattle.studio_spec.specs.Studio.{Studio}
-use Rattle.studio_live.specs.Run.{BreaksOffRun, FailsRun, IsEarly}
-use Rattle.studio_live.specs.declared.fault.LiveFault.{LiveFault}
-use Rattle.studio_live.specs.declared.fault.LiveFault.TheVariants.{Memory, Socket, Page, Thread, Unsettled, Write}
+use Rattle.studio_live.specs.Run.{BreaksOffRun, FailsRun}
+use Rattle.live_run.specs.Run.{IsEarly}
+use Rattle.live_run.specs.declared.fault.LiveFault.{LiveFault}
+use Rattle.live_run.specs.declared.fault.LiveFault.TheVariants.{Memory, Socket, Page, Thread, Unsettled, Write}
 
 early_writes_nothing : (one : Bool) (studio : Studio) (written : Option (List ℕ)) (fault : LiveFault) → IsEarly fault → FailsRun one studio written written fault
 early_writes_nothing one studio written Memory early = refl
@@ -28,11 +26,3 @@ module _ {T : Type 0} where
       → BreaksOffRun one studio written written_then → IfErr r (FailsRun one studio written written_then)
   broke_off one studio written written_then (Ok it) is breaks = absurd is
   broke_off one studio written written_then (Err fault) is breaks = subst (FailsRun one studio written written_then) (sym is) breaks
-
-module _ {F T : Type 0} where
-  -- what feeds tell is as many lists as there are feeds
-  pub lengths_told : (told : F → T) (all : List (Vec F Global)) → map (λ (own : List T). length own) (map (λ (own : Vec F Global). map told own.items) all) ≡ map (λ (own : Vec F Global). length own.items) all
-  lengths_told told [] = refl
-  lengths_told told (own ∷ rest) =
-      ap (λ (n : ℕ). n ∷ map (λ (others : List T). length others) (map (λ (others : Vec F Global). map told others.items) rest)) (length-map own.items told)
-      ∙ ap (λ (l : List ℕ). length own.items ∷ l) (lengths_told told rest)

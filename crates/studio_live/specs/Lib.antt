@@ -1,3 +1,1 @@
 pub mod Run
-pub mod Puts
-pub mod Passes

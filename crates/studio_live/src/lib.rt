@@ -5,30 +5,9 @@
 //! and writes the report once all feeds have ended. Its caller hands in the runtime, the memory and both writers.
 #![tactic(auto)]
 
-mod alone;
-mod block_end;
-mod fault;
-mod feed;
-mod input;
-mod live_tap;
-mod metered_sink;
-mod monitors;
-mod pending;
-mod receiver;
-mod record;
-mod record_tap;
-mod recorder;
+mod form;
 mod run;
-mod showing;
-mod signal;
-mod sink;
-mod socket_rest;
 mod standard;
-mod start;
-mod watch;
 
-pub use fault::LiveFault;
-pub use feed::UdpFeed;
+pub use live_run::LiveFault;
 pub use run::run_studio_live;
-pub use signal::has_ending_signal;
-pub use sink::UdpSink;

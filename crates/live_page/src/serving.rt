@@ -1,0 +1,81 @@
+//! What answers the clients of a run's page.
+ghost use Rattle.std.specs.Prelude.{IfErr};
+ghost use Rattle.live_run.specs.Run.{IsEarly};
+
+use live_run::LiveFault;
+use rtrb::{Producer, RingBuffer};
+use std::alloc::Global;
+use std::hash::RandomState;
+use std::io;
+use std::io::ErrorKind;
+use std::net::{Net, SocketAddr};
+use std::random::RandomSource;
+use std::sync::Wait;
+use std::time::Clock;
+use studio_page::{Page, Snapshot};
+use studio_serve::{PageServer, RingSource, serve_page};
+
+/// How many snapshots may wait for the page. It takes the newest.
+const PLACES: usize = 4;
+
+/// What answers the page's clients.
+#[derive(Drop)]
+pub struct Serving {
+    server: PageServer,
+    page: Page,
+    source: RingSource,
+}
+
+impl Serving {
+    /// Listens at a port of this machine, and answers where the page's snapshots go.
+    pub(crate) fn bind<R: Net + RandomSource>(
+        rt: &R,
+        alloc: Global,
+        port: u16,
+    ) -> Result<(Serving, Producer<Snapshot>), LiveFault>
+        ensures early { IfErr result IsEarly }
+    {
+        let (producer, consumer) = RingBuffer::new(alloc, PLACES)?;
+        match bound(rt, alloc, port) {
+            Ok(server) => Ok((
+                Serving {
+                    server,
+                    page: Page::new(alloc, Snapshot::new()),
+                    source: RingSource::new(consumer),
+                },
+                producer,
+            )),
+            Err(fault) => Err(fault_of(fault.kind())),
+        }
+    }
+
+    /// Where it listens.
+    pub fn address(&self) -> io::Result<SocketAddr> {
+        self.server.address()
+    }
+
+    /// Answers the page's clients until the run has ended.
+    pub fn serve<R: Wait + Clock>(self, rt: &R) {
+        let Serving {
+            server,
+            page,
+            source,
+        } = self;
+        serve_page(rt, server, page, source);
+    }
+}
+
+/// The server of a page, which listens at a port of this machine.
+fn bound<R: Net + RandomSource>(rt: &R, alloc: Global, port: u16) -> io::Result<PageServer> {
+    PageServer::bind(rt, alloc, RandomState::new(rt)?, port)
+}
+
+/// Why there is no page.
+fn fault_of(kind: ErrorKind) -> LiveFault
+    ensures { IsEarly result }
+{
+    match kind {
+        ErrorKind::OutOfMemory => LiveFault::Memory,
+        _ => LiveFault::Page,
+    }
+}

@@ -1,0 +1,89 @@
+//! Why a live run came to no report of a settled run.
+ghost use Rattle.std.specs.Prelude.{◌≡◌};
+ghost use Rattle.live_run.specs.Run.{IsEarly};
+ghost use Rattle.live_run.specs.declared.fault.LiveFault.TheVariants.{Write};
+
+use std::alloc::{AllocError, AllocFailed};
+use std::io;
+use std::io::ErrorKind;
+use studio_rings::OpenFault;
+use studio_run::WriteFault;
+use studio_workers::WorkFault;
+use thiserror::Error;
+
+/// Why a live run came to no report of a settled run.
+#[derive(Clone, Copy, Debug, PartialEq, Eq, Error)]
+pub enum LiveFault {
+    /// Memory was refused.
+    #[error("out of memory")]
+    Memory,
+    /// A socket couldn't be made, bound or set, or there isn't one for each path.
+    #[error("device: socket")]
+    Socket,
+    /// The port of the page couldn't be bound.
+    #[error("device: socket page")]
+    Page,
+    /// A worker or the watcher couldn't be started.
+    #[error("device: thread")]
+    Thread,
+    /// Its report was written, but a worker gave up its end before all was handed on.
+    #[error("live: not settled")]
+    Unsettled,
+    /// The report was not written whole.
+    #[error("device: write")]
+    Write,
+}
+
+impl From<AllocError> for LiveFault {
+    ghost from_gives = { λ _ to. IsEarly to };
+
+    fn from(_fault: AllocError) -> LiveFault {
+        LiveFault::Memory
+    }
+}
+
+impl<T: Drop> From<AllocFailed<T>> for LiveFault {
+    ghost from_gives = { λ _ to. IsEarly to };
+
+    fn from(_refused: AllocFailed<T>) -> LiveFault {
+        LiveFault::Memory
+    }
+}
+
+impl From<io::Error> for LiveFault {
+    ghost from_gives = { λ _ to. IsEarly to };
+
+    fn from(fault: io::Error) -> LiveFault {
+        match fault.kind() {
+            ErrorKind::OutOfMemory => LiveFault::Memory,
+            _ => LiveFault::Socket,
+        }
+    }
+}
+
+impl From<OpenFault> for LiveFault {
+    ghost from_gives = { λ _ to. IsEarly to };
+
+    fn from(_fault: OpenFault) -> LiveFault {
+        LiveFault::Memory
+    }
+}
+
+impl From<WorkFault> for LiveFault {
+    ghost from_gives = { λ _ to. IsEarly to };
+
+    fn from(fault: WorkFault) -> LiveFault {
+        match fault {
+            WorkFault::Memory => LiveFault::Memory,
+            WorkFault::Start => LiveFault::Thread,
+        }
+    }
+}
+
+impl From<WriteFault> for LiveFault {
+    ghost from_gives = { λ _ to. to ≡ Write };
+
+    fn from(_fault: WriteFault) -> LiveFault {
+        LiveFault::Write
+    }
+}

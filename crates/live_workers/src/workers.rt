@@ -1,0 +1,98 @@
+//! A live run by workers, with a watcher beside them.
+ghost use Rattle.std.specs.Prelude.{◌≡◌, false, length, IfOk, IfErr};
+ghost use Rattle.std.specs.Thread.{IsSync};
+ghost use Rattle.studio_workers.specs.StreamResults.{AreOpenedTogether};
+ghost use Rattle.live_run.specs.Run.{IsEarly, IsRunOf};
+
+use crate::monitors::MonitorView;
+use crate::rings::{Rings, rings_of};
+use crate::work::work_of;
+use live_parts::Start;
+use live_run::{LiveFault, Setting, Showing, Watcher, run_watched};
+use live_sockets::{Flags, Sockets};
+use live_view::Board;
+use std::alloc::{AllocError, Global};
+use std::io::Write;
+use std::sync::Wait;
+use std::sync::atomic::AtomicU64;
+use std::thread::Threads;
+use std::time::Clock;
+use studio_rings::MonitorEnd;
+use studio_spec::StudioSpec;
+use studio_workers::WorkReport;
+
+/// Runs a studio's workers, and the watcher beside them. It returns once all have ended; all memory but the workers' is taken
+/// before the first thread starts.
+pub fn run_in_workers<'a, R: Threads + Wait + Sync + Clock, E: Write + Send + Drop>(
+    rt: &'a R,
+    alloc: Global,
+    studio: &StudioSpec,
+    sockets: Sockets<'a>,
+    setting: Setting<'a, E>,
+) -> Result<WorkReport, LiveFault>
+    ensures run { IfOk result (IsRunOf false studio.now) }
+    ensures early { IfErr result IsEarly }
+{
+    let rings = rings_of(alloc, studio, sockets.receiving.len())?;
+    run_on_rings(rt, alloc, studio, rings, sockets, setting)
+}
+
+/// Runs the workers on these rings and sockets, and the watcher beside them.
+fn run_on_rings<'a, R: Threads + Wait + Sync + Clock, E: Write + Send + Drop>(
+    rt: &'a R,
+    alloc: Global,
+    studio: &StudioSpec,
+    rings: Rings,
+    sockets: Sockets<'a>,
+    setting: Setting<'a, E>,
+) -> Result<WorkReport, LiveFault>
+    requires opened { AreOpenedTogether studio.now 256 rings.ends }
+    requires paths { length rings.ends.paths.items ≡ length sockets.receiving.items }
+    ensures run { IfOk result (IsRunOf false studio.now) }
+    ensures early { IfErr result IsEarly }
+{
+    let Setting {
+        start,
+        until_eof,
+        showing,
+        signs,
+    } = setting;
+    let Showing { board, meter, came } = showing;
+    let Rings { ends, monitors } = rings;
+    let view = view_of(rt, alloc, monitors, start, came, board)?;
+    let flags = Flags {
+        stop: &signs.stop,
+        pending: &[],
+        came,
+    };
+    let work = work_of(rt, alloc, ends, sockets, start, flags, meter)?;
+    let watcher = Watcher { until_eof, view };
+    run_watched(
+        rt,
+        watcher,
+        signs,
+        move || -> Result<WorkReport, LiveFault>
+            requires sync { IsSync R.row }
+            requires opened { AreOpenedTogether studio.now 256 work.ends }
+            requires feeds { length work.feeds.items ≡ length work.ends.paths.items }
+            requires clocks { length work.clocks.items ≡ length work.ends.streams.items }
+            ensures run { IfOk result (IsRunOf false studio.entry.now) }
+            ensures early { IfErr result IsEarly }
+        { work.run(rt, alloc, studio) },
+    )?
+}
+
+/// What is seen of the streams by their monitors, if it is to be shown.
+fn view_of<'a, R: Clock, E: Write + Drop>(
+    rt: &'a R,
+    alloc: Global,
+    monitors: Vec<MonitorEnd>,
+    start: Start,
+    came: &'a [AtomicU64],
+    board: Option<Board<'a, E>>,
+) -> Result<Option<MonitorView<'a, R, E>>, AllocError> {
+    match board {
+        Some(board) => Ok(Some(MonitorView::new(alloc, monitors, came, start.clock(rt), board)?)),
+        None => Ok(None),
+    }
+}

@@ -1,0 +1,30 @@
+//! Both ends of a record.
+
+use crate::record_tap::RecordTap;
+use crate::recorder::Recorder;
+use rtrb::RingBuffer;
+use std::alloc::{AllocError, Global};
+use std::io::Write;
+use studio_spec::StudioSpec;
+
+/// How many octets the ring of a record holds.
+const RING_OCTETS: usize = 8 << 20;
+
+/// What makes a record's blocks, and what writes them.
+#[derive(Drop)]
+pub struct Record<D> {
+    pub tap: RecordTap,
+    pub recorder: Recorder<D>,
+}
+
+impl<D: Write + Drop> Record<D> {
+    /// The record of a run of this studio, which goes to a file.
+    pub fn new(alloc: Global, studio: &StudioSpec, file: D) -> Result<Record<D>, AllocError> {
+        let (producer, consumer) = RingBuffer::new(alloc, RING_OCTETS)?;
+        let recorder = Recorder::new(alloc, consumer, file)?;
+        Ok(Record {
+            tap: RecordTap::new(producer, studio),
+            recorder,
+        })
+    }
+}
