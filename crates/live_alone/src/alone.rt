@@ -81,18 +81,13 @@ fn run_on_sockets<
         showing,
         signs,
     } = setting;
-    let Showing {
-        board,
-        meter,
-        came: _,
-    } = showing;
+    let Showing { board, meter } = showing;
     let Recording { record, told } = recording;
     let (record, recorder) = ends_of(record);
     let tap = LiveTap::new(alloc, studio, record, board)?;
     let flags = Flags {
         stop: &signs.stop,
         pending,
-        came: &[],
     };
     let lone = lone_of(rt, alloc, studio, sockets, start, flags, meter)?;
     let watched = Watched {

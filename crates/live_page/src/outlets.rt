@@ -13,7 +13,6 @@ use std::alloc::{AllocError, Global};
 use std::io::Write;
 use std::net::Net;
 use std::random::RandomSource;
-use std::sync::atomic::AtomicU64;
 use studio_page::Snapshot;
 use studio_spec::StudioSpec;
 
@@ -23,8 +22,6 @@ pub struct Seen<'a> {
     /// The name of each stream, if it has one.
     pub names: &'a [Option<StreamName>],
     pub meter: &'a Meter,
-    /// How many datagrams came on each path, stream by stream and path by path.
-    pub came: &'a [AtomicU64],
 }
 
 /// What a run is shown through.
@@ -99,7 +96,6 @@ fn showing_of<'a, E: Write + Drop>(
     Ok(Showing {
         board,
         meter: has_page.then_some(seen.meter),
-        came: if has_page { seen.came } else { &[] },
     })
 }
 
@@ -121,6 +117,6 @@ fn board_of<'a, E: Write + Drop>(
         None => None,
     };
     let streams = studio.streams();
-    let Seen { names, meter, .. } = seen;
+    let Seen { names, meter } = seen;
     Ok(Some(Board::new(alloc, streams, names, now, stats, ring, meter, faults)?))
 }

@@ -3,7 +3,6 @@
 use crate::signs::Signs;
 use live_parts::Start;
 use live_view::{Board, Meter};
-use std::sync::atomic::AtomicU64;
 
 /// What a run shows of itself, where it counts and measures for that.
 #[derive(Drop)]
@@ -12,8 +11,6 @@ pub struct Showing<'a, E> {
     pub board: Option<Board<'a, E>>,
     /// None, where no page is asked for.
     pub meter: Option<&'a Meter>,
-    /// How many datagrams came on each path, stream by stream and path by path; empty, where no page is asked for.
-    pub came: &'a [AtomicU64],
 }
 
 /// What a run is set in, beside its studio and its sockets.

@@ -6,7 +6,7 @@ use crate::receiver::Receiver;
 use live_parts::{Start, SystemClock};
 use std::io::ErrorKind;
 use std::net::SocketAddrV4;
-use std::sync::atomic::{AtomicBool, AtomicU64, Ordering};
+use std::sync::atomic::{AtomicBool, Ordering};
 use std::time::Clock;
 use studio_workers::{Clock as ReadClock, Feed, FeedAnswer};
 
@@ -20,8 +20,6 @@ pub struct Flags<'a> {
     pub stop: &'a AtomicBool,
     /// For each path, whether its socket may have a datagram; empty where receives wait.
     pub pending: &'a [AtomicBool],
-    /// For each path, how many datagrams came; empty where that isn't asked for.
-    pub came: &'a [AtomicU64],
 }
 
 /// A socket, whose receives wait or have a flag that says whether they are tried. It ends once it is told to stop, or
@@ -35,8 +33,6 @@ pub struct UdpFeed<'a, R: Clock> {
     stop: &'a AtomicBool,
     /// Whether it may have a datagram; none where receives wait.
     pending: Option<&'a AtomicBool>,
-    /// Where it counts its datagrams, if that is asked for.
-    came: Option<&'a AtomicU64>,
     /// Its path's place among those of all streams.
     place: u32,
 }
@@ -56,7 +52,6 @@ impl<'a, R: Clock> UdpFeed<'a, R> {
             until: start.until(),
             stop: flags.stop,
             pending: flags.pending.get(place),
-            came: flags.came.get(place),
             place: u32::try_from(place).unwrap_or(u32::MAX),
         }
     }
@@ -87,13 +82,6 @@ impl<'a, R: Clock> UdpFeed<'a, R> {
         match self.pending {
             Some(pending) => pending.load(Ordering::SeqCst),
             None => true,
-        }
-    }
-
-    /// Counts a datagram.
-    fn count(&self) {
-        if let Some(came) = self.came {
-            came.fetch_add(1, Ordering::SeqCst);
         }
     }
 
@@ -137,10 +125,7 @@ impl<R: Clock> Feed for UdpFeed<'_, R> {
                 return FeedAnswer::Nothing;
             }
             match self.receiver.receive(buf) {
-                Ok(Some(count)) => {
-                    self.count();
-                    return FeedAnswer::Datagram(count);
-                }
+                Ok(Some(count)) => return FeedAnswer::Datagram(count),
                 Ok(None) => {}
                 Err(fault) => return self.answer_of(fault.kind()),
             }

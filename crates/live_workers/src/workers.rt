@@ -4,8 +4,8 @@ ghost use Rattle.std.specs.Thread.{IsSync};
 ghost use Rattle.studio_workers.specs.StreamResults.{AreOpenedTogether};
 ghost use Rattle.live_run.specs.Run.{IsEarly, IsRunOf};
 
-use crate::monitors::MonitorView;
 use crate::rings::{Rings, rings_of};
+use crate::watches::WatchView;
 use crate::work::work_of;
 use live_parts::Start;
 use live_run::{LiveFault, Setting, Showing, Watcher, run_watched};
@@ -14,10 +14,9 @@ use live_view::Board;
 use std::alloc::{AllocError, Global};
 use std::io::Write;
 use std::sync::Wait;
-use std::sync::atomic::AtomicU64;
 use std::thread::Threads;
 use std::time::Clock;
-use studio_rings::MonitorEnd;
+use studio_rings::Watches;
 use studio_spec::StudioSpec;
 use studio_workers::WorkReport;
 
@@ -33,7 +32,8 @@ pub fn run_in_workers<'a, R: Threads + Wait + Sync + Clock, E: Write + Send + Dr
     ensures run { IfOk result (IsRunOf false studio.now) }
     ensures early { IfErr result IsEarly }
 {
-    let rings = rings_of(alloc, studio, sockets.receiving.len())?;
+    let is_shown = setting.showing.board.is_some();
+    let rings = rings_of(alloc, studio, sockets.receiving.len(), is_shown)?;
     run_on_rings(rt, alloc, studio, rings, sockets, setting)
 }
 
@@ -57,13 +57,12 @@ fn run_on_rings<'a, R: Threads + Wait + Sync + Clock, E: Write + Send + Drop>(
         showing,
         signs,
     } = setting;
-    let Showing { board, meter, came } = showing;
-    let Rings { ends, monitors } = rings;
-    let view = view_of(rt, alloc, monitors, start, came, board)?;
+    let Showing { board, meter } = showing;
+    let Rings { ends, watches } = rings;
+    let view = view_of(rt, alloc, watches, start, board)?;
     let flags = Flags {
         stop: &signs.stop,
         pending: &[],
-        came,
     };
     let work = work_of(rt, alloc, ends, sockets, start, flags, meter)?;
     let watcher = Watcher { until_eof, view };
@@ -82,17 +81,19 @@ fn run_on_rings<'a, R: Threads + Wait + Sync + Clock, E: Write + Send + Drop>(
     )?
 }
 
-/// What is seen of the streams by their monitors, if it is to be shown.
+/// What is seen of the run by its watches, if it is to be shown.
 fn view_of<'a, R: Clock, E: Write + Drop>(
     rt: &'a R,
     alloc: Global,
-    monitors: Vec<MonitorEnd>,
+    watches: Option<Watches>,
     start: Start,
-    came: &'a [AtomicU64],
     board: Option<Board<'a, E>>,
-) -> Result<Option<MonitorView<'a, R, E>>, AllocError> {
-    match board {
-        Some(board) => Ok(Some(MonitorView::new(alloc, monitors, came, start.clock(rt), board)?)),
-        None => Ok(None),
+) -> Result<Option<WatchView<'a, R, E>>, AllocError> {
+    match (watches, board) {
+        (Some(watches), Some(board)) => {
+            let view = WatchView::new(alloc, watches, start.clock(rt), board)?;
+            Ok(Some(view))
+        }
+        _ => Ok(None),
     }
 }

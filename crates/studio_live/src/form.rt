@@ -17,7 +17,6 @@ use std::io::Write;
 use std::net::Net;
 use std::random::RandomSource;
 use std::sync::Wait;
-use std::sync::atomic::AtomicU64;
 use std::thread::Threads;
 use std::time::Clock;
 use studio_spec::StudioSpec;
@@ -51,11 +50,9 @@ pub(crate) fn run_form<
 {
     let signs = Signs::new();
     let meter = Meter::new(studio.output().enc(), studio.output().channels());
-    let came = no_counts(alloc, setup.ports.paths.len())?;
     let seen = Seen {
         names: setup.names,
         meter: &meter,
-        came: came.as_slice(),
     };
     let recording = recording_of(alloc, studio, setup.recorded, file)?;
     run_seen(
@@ -75,15 +72,6 @@ fn recording_of<'a, D: Write + Drop>(
         None => None,
     };
     Ok(Recording { record, told })
-}
-
-/// So many counts, each 0.
-fn no_counts(alloc: Global, count: usize) -> Result<Vec<AtomicU64>, AllocError> {
-    let mut counts = Vec::with_capacity(alloc, count)?;
-    for _ in 0..count {
-        counts.push(AtomicU64::new(0))?;
-    }
-    Ok(counts)
 }
 
 /// Binds the sockets of a run and what it is shown through, and runs it.
