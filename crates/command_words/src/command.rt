@@ -1,19 +1,19 @@
 //! The parser of the words that the program knows.
 use crate::known::{Known, WORDS};
-use clap::Command;
+use clap::{Arg, Command};
 use std::alloc::{AllocError, Global};
 
 /// The program's words.
 pub(crate) fn command<'a>(alloc: Global) -> Result<Command<'a>, AllocError> {
-    let mut command = program(alloc)?;
+    let mut words = Vec::with_capacity(alloc, WORDS.len())?;
     for known in WORDS {
-        command = command.subcommand(command_of(alloc, known)?)?;
+        words.push(command_of(alloc, known)?)?;
     }
-    Ok(command)
+    program(alloc, words)
 }
 
-/// The program, with no word yet.
-fn program<'a>(alloc: Global) -> Result<Command<'a>, AllocError> {
+/// The program with these words.
+fn program<'a>(alloc: Global, words: Vec<Command<'a>>) -> Result<Command<'a>, AllocError> {
     let about =
         "Receives studio audio over IP, from a trace or live. Formats: docs/FORMATS.md. Without a word it lists \
              the marks of the trace on standard input, by the configuration of examples/first";
@@ -21,14 +21,22 @@ fn program<'a>(alloc: Global) -> Result<Command<'a>, AllocError> {
         .about(about)
         .version("0.2.0")
         .no_binary_name(true);
-    command.bin_name("darbexum")
+    command.subcommands(words)?.bin_name("darbexum")
 }
 
 /// A word that the program knows, with all that may stand behind it.
 fn command_of<'a>(alloc: Global, known: &Known) -> Result<Command<'a>, AllocError> {
-    let mut command = Command::new(alloc, known.name).about(known.about);
+    let parts = parts_of(alloc, known)?;
+    Command::new(alloc, known.name)
+        .about(known.about)
+        .args(parts)
+}
+
+/// All that may stand behind a word.
+fn parts_of<'a>(alloc: Global, known: &Known) -> Result<Vec<Arg<'a>>, AllocError> {
+    let mut parts = Vec::with_capacity(alloc, known.parts.len())?;
     for part in known.parts {
-        command = command.arg(part.arg(alloc)?)?;
+        parts.push(part.arg(alloc)?)?;
     }
-    Ok(command)
+    Ok(parts)
 }

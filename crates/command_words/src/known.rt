@@ -1,5 +1,6 @@
 //! The words that the program knows, with what may stand behind them, and their help.
 use crate::part::{Bound, Form, Part};
+use clap::ArgAction;
 use clap::builder::ValueParser;
 
 /// The most sampling instants of a live run.
@@ -38,7 +39,7 @@ pub(crate) const WORDS: &[Known] = &[
             Part {
                 name: "wav",
                 help: "Write the samples of a stream to this WAV file too, lost packets as silence",
-                form: Form::Values(&["STREAM", "FILE"], ValueParser::String),
+                form: Form::Option(ArgAction::Set, &["STREAM", "FILE"], ValueParser::String),
                 bound: Bound::Excludes("counts"),
             },
         ],
@@ -71,7 +72,7 @@ pub(crate) const WORDS: &[Known] = &[
             Part {
                 name: "path",
                 help: "Take the flows to this address alone; may be given again. Without it all that fit are taken",
-                form: Form::Again(&["ADDRESS:PORT"]),
+                form: Form::Option(ArgAction::Append, &["ADDRESS:PORT"], ValueParser::String),
                 bound: Bound::Free,
             },
             Part {
@@ -82,7 +83,11 @@ pub(crate) const WORDS: &[Known] = &[
             Part {
                 name: "latency",
                 help: "Its latency; without it twice the greatest skew between paths, and 10 ms at least",
-                form: Form::Values(&["MS"], ValueParser::Signed(1, MOST_LATENCY)),
+                form: Form::Option(
+                    ArgAction::Set,
+                    &["MS"],
+                    ValueParser::Signed(1, MOST_LATENCY),
+                ),
                 bound: Bound::Free,
             },
         ],
@@ -114,19 +119,27 @@ const LIVE: &[Part] = &[
     Part {
         name: "instants",
         help: "End after so many sampling instants at 48 kHz, 1 to 1099511627776",
-        form: Form::Values(&["N"], ValueParser::Signed(1, MOST_INSTANTS)),
+        form: Form::Option(
+            ArgAction::Set,
+            &["N"],
+            ValueParser::Signed(1, MOST_INSTANTS),
+        ),
         bound: Bound::Free,
     },
     Part {
         name: "stats",
         help: "Tell each stream's counts on standard error so often",
-        form: Form::Values(&["SECONDS"], ValueParser::Signed(1, MOST_SECONDS)),
+        form: Form::Option(
+            ArgAction::Set,
+            &["SECONDS"],
+            ValueParser::Signed(1, MOST_SECONDS),
+        ),
         bound: Bound::Free,
     },
     Part {
         name: "page",
         help: "Serve a page of the run at this port of 127.0.0.1; at 0 the system picks one",
-        form: Form::Values(&["PORT"], ValueParser::Signed(0, LAST_PORT)),
+        form: Form::Option(ArgAction::Set, &["PORT"], ValueParser::Signed(0, LAST_PORT)),
         bound: Bound::Free,
     },
     Part {
@@ -153,13 +166,13 @@ const LIVE: &[Part] = &[
     Part {
         name: "clock",
         help: "Open now by International Atomic Time, as the media clock of ST 2110 counts it",
-        form: Form::Values(&["tai"], ValueParser::Names(&["tai"])),
+        form: Form::Option(ArgAction::Set, &["tai"], ValueParser::Names(&["tai"])),
         bound: Bound::Free,
     },
     Part {
         name: "tai-offset",
         help: "How many seconds that time is ahead of the system's, or system where that was told",
-        form: Form::Values(&["SECONDS"], ValueParser::String),
+        form: Form::Option(ArgAction::Set, &["SECONDS"], ValueParser::String),
         bound: Bound::Needs("clock"),
     },
 ];
@@ -191,7 +204,7 @@ const MIX: Part = Part {
 const FLAG: Part = Part {
     name: "",
     help: "",
-    form: Form::Flag,
+    form: Form::FLAG,
     bound: Bound::Free,
 };
 
@@ -199,6 +212,6 @@ const FLAG: Part = Part {
 const FILE: Part = Part {
     name: "",
     help: "",
-    form: Form::Values(&["FILE"], ValueParser::String),
+    form: Form::Option(ArgAction::Set, &["FILE"], ValueParser::String),
     bound: Bound::Free,
 };

@@ -17,12 +17,13 @@ pub(crate) struct Part {
 pub(crate) enum Form {
     /// A path alone, which must be there.
     Path,
+    /// An option, what it does, what help calls its values, and which of them it takes.
+    Option(ArgAction, &'static [&'static str], ValueParser<'static>),
+}
+
+impl Form {
     /// An option that stands alone.
-    Flag,
-    /// An option with values of these names, of this kind.
-    Values(&'static [&'static str], ValueParser<'static>),
-    /// The same with texts, which may be given again.
-    Again(&'static [&'static str]),
+    pub(crate) const FLAG: Form = Form::Option(ArgAction::SetTrue, &[], ValueParser::Bool);
 }
 
 /// What else is given where an option is.
@@ -39,27 +40,19 @@ pub(crate) enum Bound {
 impl Part {
     /// The part for the parser of words.
     pub(crate) fn arg<'a>(&self, alloc: Global) -> Result<Arg<'a>, AllocError> {
-        let arg = self.form.shape(Arg::new(alloc, self.name), self.name);
-        self.bound.bind(arg.help(self.help))
-    }
-}
-
-impl Form {
-    /// A part of this name and form.
-    fn shape<'a>(&self, arg: Arg<'a>, name: &'a str) -> Arg<'a> {
-        match *self {
-            Form::Path => arg.required(true),
-            Form::Flag => arg.long(name).action(ArgAction::SetTrue),
-            Form::Values(values, kind) => option(arg, name, values)
-                .action(ArgAction::Set)
-                .value_parser(kind),
-            Form::Again(values) => option(arg, name, values).action(ArgAction::Append),
+        let arg = Arg::new(alloc, self.name).help(self.help);
+        match self.form {
+            Form::Path => Ok(arg.required(true)),
+            Form::Option(action, values, kind) => {
+                let arg = arg.long(self.name).action(action);
+                self.bound.bind(arg.value_names(values).value_parser(kind))
+            }
         }
     }
 }
 
 impl Bound {
-    /// A part that is bound to others so.
+    /// An option that is bound to others so.
     fn bind<'a>(&self, arg: Arg<'a>) -> Result<Arg<'a>, AllocError> {
         match *self {
             Bound::Free => Ok(arg),
@@ -67,9 +60,4 @@ impl Bound {
             Bound::Excludes(other) => arg.conflicts_with(other),
         }
     }
-}
-
-/// An option with values of these names.
-fn option<'a>(arg: Arg<'a>, name: &'a str, values: &'a [&'a str]) -> Arg<'a> {
-    arg.long(name).value_names(values)
 }
