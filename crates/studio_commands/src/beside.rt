@@ -98,14 +98,21 @@ pub(crate) fn write_picture<C: Configs, E: Write>(
     picture: &[u8],
     faults: &mut E,
 ) -> Result<(), Fault> {
-    match configs.create(path) {
-        Ok(mut file) => write_text(&mut file, picture).map_err(|_| file_fault(
-            "chart",
-            path,
-            FileFault::Write,
-            faults,
-        )),
+    let written = match configs.create(path) {
+        Ok(mut file) => written_picture(&mut file, picture),
+        Err(fault) => Err(fault),
+    };
+    match written {
+        Ok(()) => Ok(()),
         Err(fault) => Err(file_fault("chart", path, fault, faults)),
+    }
+}
+
+/// Writes a picture to its file.
+fn written_picture<W: Write>(file: &mut W, picture: &[u8]) -> Result<(), FileFault> {
+    match write_text(file, picture) {
+        Ok(()) => Ok(()),
+        Err(_) => Err(FileFault::Write),
     }
 }
 

@@ -24,18 +24,34 @@ pub(crate) fn capture_of<C: Configs>(
     alloc: Global,
     path: &str,
 ) -> Result<Vec<u8>, Fault> {
-    configs.octets(alloc, path).map_err(|fault| match fault {
-        ReadFault::Device => Fault::Capture(CaptureError::Unread),
-        ReadFault::TooMany => Fault::Capture(CaptureError::TooLong),
-        ReadFault::Memory => Fault::Memory,
-    })
+    match configs.octets(alloc, path) {
+        Ok(octets) => Ok(octets),
+        Err(ReadFault::Device) => Err(Fault::Capture(CaptureError::Unread)),
+        Err(ReadFault::TooMany) => Err(Fault::Capture(CaptureError::TooLong)),
+        Err(ReadFault::Memory) => Err(Fault::Memory),
+    }
 }
 
 /// The same of a capture's octets.
 fn write_streams<W: Write>(alloc: Global, octets: &[u8], output: &mut W) -> Result<(), Fault> {
-    let table = Table::of(alloc, octets).map_err(|_| Fault::Memory)?;
-    let text = text_of(alloc, &table, octets).map_err(|_| Fault::Memory)?;
-    write_text(output, text.as_bytes()).map_err(|_| Fault::Write)?;
+    let table = Table::of(alloc, octets)?;
+    write_table(alloc, &table, octets, output)?;
+    own_fault(&table)
+}
+
+/// Writes the lines of a capture's flows.
+fn write_table<W: Write>(
+    alloc: Global,
+    table: &Table,
+    octets: &[u8],
+    output: &mut W,
+) -> Result<(), Fault> {
+    let text = text_of(alloc, table, octets)?;
+    Ok(write_text(output, text.as_bytes())?)
+}
+
+/// A capture's own fault, if it has one.
+pub(crate) fn own_fault(table: &Table) -> Result<(), Fault> {
     match table.fault() {
         Some(fault) => Err(Fault::Capture(CaptureError::Octet(fault))),
         None => Ok(()),

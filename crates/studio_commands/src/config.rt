@@ -6,7 +6,7 @@ use crate::fault::{ConfigFault, Fault};
 use std::alloc::Global;
 use std::io::Read;
 use studio_run::ReadFault;
-use studio_spec::{Kind, SpecError, StudioSpec};
+use studio_spec::StudioSpec;
 use studio_wav::FileFault;
 use toml::Table;
 use wav_file::Overwrite;
@@ -35,11 +35,12 @@ pub trait Configs {
 
 /// The octets of the configuration at a path.
 pub fn config_of<C: Configs>(configs: &C, alloc: Global, path: &str) -> Result<Vec<u8>, Fault> {
-    configs.octets(alloc, path).map_err(|fault| match fault {
-        ReadFault::Device => Fault::Config(ConfigFault::Unread),
-        ReadFault::TooMany => Fault::Config(ConfigFault::TooLong),
-        ReadFault::Memory => Fault::Memory,
-    })
+    match configs.octets(alloc, path) {
+        Ok(octets) => Ok(octets),
+        Err(ReadFault::Device) => Err(Fault::Config(ConfigFault::Unread)),
+        Err(ReadFault::TooMany) => Err(Fault::Config(ConfigFault::TooLong)),
+        Err(ReadFault::Memory) => Err(Fault::Memory),
+    }
 }
 
 /// The studio of the configuration at a path.
@@ -51,7 +52,7 @@ pub fn studio_of<C: Configs>(configs: &C, alloc: Global, path: &str) -> Result<S
 /// The studio that the octets of a configuration say.
 pub fn studio_in(alloc: Global, octets: &[u8]) -> Result<StudioSpec, Fault> {
     let table = table_in(alloc, octets)?;
-    StudioSpec::from_table(alloc, &table).map_err(fault_of)
+    Ok(StudioSpec::from_table(alloc, &table)?)
 }
 
 /// The table that the octets of a configuration say.
@@ -62,21 +63,10 @@ pub(crate) fn table_in(alloc: Global, octets: &[u8]) -> Result<Table, Fault> {
     let Ok(text) = str::from_utf8(octets) else {
         return Err(Fault::Config(ConfigFault::NotToml));
     };
-    toml::table_from_str(alloc, text).map_err(|error| {
-        if error.is_memory() {
-            Fault::Memory
-        } else {
-            Fault::Config(ConfigFault::NotToml)
-        }
-    })
-}
-
-/// What is wrong with a studio, or want of memory.
-pub fn fault_of(error: SpecError) -> Fault {
-    if error.kind == Kind::Memory {
-        Fault::Memory
-    } else {
-        Fault::Config(ConfigFault::Studio(error))
+    match toml::table_from_str(alloc, text) {
+        Ok(table) => Ok(table),
+        Err(error) if error.is_memory() => Err(Fault::Memory),
+        Err(_) => Err(Fault::Config(ConfigFault::NotToml)),
     }
 }
 

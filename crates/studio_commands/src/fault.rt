@@ -4,9 +4,12 @@ use capture_read::CaptureFault;
 use capture_reader::ReaderFault;
 use capture_replay::ReplayFault;
 use live_parts::HandedFault;
+use std::alloc::{AllocError, AllocFailed};
+use std::io;
 use std::io::Write;
 use studio_live::LiveFault;
-use studio_run::{PlayFault, SpecError, StudioFault};
+use studio_run::{PlayFault, SpecError, StudioFault, WriteFault};
+use studio_spec::Kind;
 use studio_wav::{FileFault, StreamFault};
 use thiserror::Error;
 
@@ -122,6 +125,48 @@ impl Fault {
     pub fn tell<E: Write>(&self, faults: &mut E) -> u8 {
         let _ = writeln!(faults, "{self}");
         self.status()
+    }
+}
+
+impl From<AllocError> for Fault {
+    fn from(_fault: AllocError) -> Fault {
+        Fault::Memory
+    }
+}
+
+impl<T: Drop> From<AllocFailed<T>> for Fault {
+    fn from(_refused: AllocFailed<T>) -> Fault {
+        Fault::Memory
+    }
+}
+
+impl From<WriteFault> for Fault {
+    fn from(_fault: WriteFault) -> Fault {
+        Fault::Write
+    }
+}
+
+impl From<SpecError> for Fault {
+    /// What is wrong with a studio, or want of memory.
+    fn from(fault: SpecError) -> Fault {
+        match fault.kind {
+            Kind::Memory => Fault::Memory,
+            _ => Fault::Config(ConfigFault::Studio(fault)),
+        }
+    }
+}
+
+impl From<ReaderFault> for Fault {
+    fn from(fault: ReaderFault) -> Fault {
+        Fault::Replay(ReplayFault::from(fault))
+    }
+}
+
+/// What a write to the output came to.
+pub(crate) fn written(write: io::Result<()>) -> Result<(), Fault> {
+    match write {
+        Ok(()) => Ok(()),
+        Err(_) => Err(Fault::Write),
     }
 }
 

@@ -1,5 +1,5 @@
 //! A capture as a trace, and the configuration that fits it.
-use crate::captures::capture_of;
+use crate::captures::{capture_of, own_fault};
 use crate::config::Configs;
 use crate::fault::{CaptureError, Fault};
 use capture_import::{ImportFault, Routes, config_text, routes_of, trace_text};
@@ -22,23 +22,30 @@ pub fn import_capture<C: Configs, W: Write, E: Write>(
 ) -> Result<(), Fault> {
     let names = addresses_in(alloc, options.names.as_slice())?;
     let octets = capture_of(configs, alloc, path)?;
-    let table = Table::of(alloc, octets.as_slice()).map_err(|_| Fault::Memory)?;
-    let routes = match routes_of(alloc, &table, names.as_slice()) {
-        Ok(routes) => routes,
-        Err(fault) => return Err(unrouted(&table, fault)),
-    };
-    write_import(alloc, &table, octets.as_slice(), &routes, options, output)?;
+    let octets = octets.as_slice();
+    let table = Table::of(alloc, octets)?;
+    let routes = routed(alloc, &table, names.as_slice())?;
+    write_import(alloc, &table, octets, &routes, options, output)?;
     if routes.left_out() > 0 {
         let _ = writeln!(faults, "capture: flows left out: {}", routes.left_out());
     }
-    match table.fault() {
-        Some(fault) => Err(Fault::Capture(CaptureError::Octet(fault))),
-        None => Ok(()),
+    own_fault(&table)
+}
+
+/// The routes of a capture's flows to these addresses, or of all that fit.
+pub(crate) fn routed(
+    alloc: Global,
+    table: &Table,
+    names: &[SocketAddrV4],
+) -> Result<Routes, Fault> {
+    match routes_of(alloc, table, names) {
+        Ok(routes) => Ok(routes),
+        Err(fault) => Err(unrouted(table, fault)),
     }
 }
 
 /// A capture's own fault, or why it has no routes.
-pub(crate) fn unrouted(table: &Table, fault: ImportFault) -> Fault {
+fn unrouted(table: &Table, fault: ImportFault) -> Fault {
     match (fault, table.fault()) {
         (ImportFault::NoFlow | ImportFault::Unknown, Some(fault)) => {
             Fault::Capture(CaptureError::Octet(fault))
@@ -57,11 +64,38 @@ fn write_import<W: Write>(
     output: &mut W,
 ) -> Result<(), Fault> {
     if options.config {
-        let text = config_text(alloc, table, octets, routes, options.latency).map_err(fault_of)?;
-        return write_text(output, text.as_bytes()).map_err(|_| Fault::Write);
+        write_config(alloc, table, octets, routes, options, output)
+    } else {
+        write_trace(alloc, octets, routes, output)
     }
-    let text = trace_text(alloc, octets, routes.list()).map_err(fault_of)?;
-    write_text(output, text.as_slice()).map_err(|_| Fault::Write)
+}
+
+/// Writes the configuration that fits a capture's trace.
+fn write_config<W: Write>(
+    alloc: Global,
+    table: &Table,
+    octets: &[u8],
+    routes: &Routes,
+    options: &ImportOptions<'_>,
+    output: &mut W,
+) -> Result<(), Fault> {
+    match config_text(alloc, table, octets, routes, options.latency) {
+        Ok(text) => Ok(write_text(output, text.as_bytes())?),
+        Err(fault) => Err(fault_of(fault)),
+    }
+}
+
+/// Writes a capture's trace.
+fn write_trace<W: Write>(
+    alloc: Global,
+    octets: &[u8],
+    routes: &Routes,
+    output: &mut W,
+) -> Result<(), Fault> {
+    match trace_text(alloc, octets, routes.list()) {
+        Ok(text) => Ok(write_text(output, text.as_slice())?),
+        Err(fault) => Err(fault_of(fault)),
+    }
 }
 
 /// What is wrong with a capture as a trace, or want of memory.
@@ -76,8 +110,10 @@ fn fault_of(fault: ImportFault) -> Fault {
 fn addresses_in(alloc: Global, words: &[&str]) -> Result<Vec<SocketAddrV4>, Fault> {
     let mut addresses = Vec::new(alloc);
     for word in words.iter() {
-        let address = word.parse::<SocketAddrV4>().map_err(|_| Fault::Address)?;
-        addresses.push(address).map_err(|_| Fault::Memory)?;
+        let Ok(address) = word.parse::<SocketAddrV4>() else {
+            return Err(Fault::Address);
+        };
+        addresses.push(address)?;
     }
     Ok(addresses)
 }

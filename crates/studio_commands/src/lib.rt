@@ -16,6 +16,7 @@ mod names;
 mod program;
 mod replay;
 mod told;
+mod traces;
 mod wav;
 
 pub use config::Configs;

@@ -1,10 +1,11 @@
 //! Live runs, from the octets of a configuration.
-use crate::config::{Configs, fault_of, studio_in};
-use crate::fault::Fault;
+use crate::config::{Configs, config_of, studio_in};
+use crate::fault::{Fault, written};
 use crate::names::names_in;
 use command_words::LiveWords;
 use live_parts::{
-    Handed, LiveOptions, LivePorts, Recorded, Setup, Strangers, TaiOffset, tai_opening,
+    Handed, LiveOptions, LivePorts, Opening, Recorded, Setup, Strangers, StreamName, TaiOffset,
+    tai_opening,
 };
 use std::alloc::Global;
 use std::io::Write;
@@ -25,6 +26,25 @@ struct Started {
     began: Option<Duration>,
 }
 
+/// Runs the studio of the configuration at a path.
+pub(crate) fn run_live<
+    R: Threads + Wait + Sync + Net + Clock + RandomSource + Env + AllocGlobal,
+    C: Configs,
+    W: Write,
+    E: Write + Send,
+>(
+    rt: &R,
+    configs: &C,
+    alloc: Global,
+    path: &str,
+    words: LiveWords<'_>,
+    output: &mut W,
+    faults: &mut E,
+) -> Result<(), Fault> {
+    let config = config_of(configs, alloc, path)?;
+    run_config(rt, configs, alloc, config.as_slice(), words, output, faults)
+}
+
 /// Runs the studio that a configuration says, whose report goes to `output`. Where counts are asked for
 /// while it runs, they go where faults go. The file of its record is made before the first socket is bound.
 pub fn run_config<
@@ -41,41 +61,86 @@ pub fn run_config<
     output: &mut W,
     faults: &mut E,
 ) -> Result<(), Fault> {
-    let Started { studio, began } = opened(rt, alloc, studio_in(alloc, config)?, words.tai_offset)?;
-    let ports = LivePorts::of(alloc, &studio).map_err(fault_of)?;
-    let handed = if words.listen_fds {
-        Handed::told(rt, alloc, studio.streams())?
-    } else {
-        Handed::nothing()
-    };
-    let names = names_in(alloc, config)?;
-    let strangers = Strangers::none(alloc, &studio).map_err(|_| Fault::Memory)?;
+    let started = opened(rt, alloc, studio_in(alloc, config)?, words.tai_offset)?;
+    let given = given_of(rt, alloc, &started.studio, config, words.listen_fds)?;
     let record = record_of(configs, words.record)?;
     let recorded = Recorded::new();
     let setup = Setup {
-        ports: &ports,
-        handed: &handed,
-        names: names.as_slice(),
-        strangers: &strangers,
+        ports: &given.ports,
+        handed: &given.handed,
+        names: given.names.as_slice(),
+        strangers: &given.strangers,
         recorded: &recorded,
-        began,
+        began: started.began,
     };
-    let options = options_of(words);
     let ran = run_studio_live(
         rt,
         alloc,
-        &studio,
+        &started.studio,
         setup,
-        &options,
+        &options_of(words),
         output,
         &mut *faults,
         record,
     );
+    end(ran, &started.studio, setup, words, output)
+}
+
+/// What a run is given beside its studio.
+#[derive(Drop)]
+struct Given {
+    ports: LivePorts,
+    handed: Handed,
+    names: Vec<Option<StreamName>>,
+    strangers: Strangers,
+}
+
+/// What a run of a configuration's studio is given.
+fn given_of<R: Env + AllocGlobal>(
+    rt: &R,
+    alloc: Global,
+    studio: &StudioSpec,
+    config: &[u8],
+    listen_fds: bool,
+) -> Result<Given, Fault> {
+    let ports = LivePorts::of(alloc, studio)?;
+    let handed = handed_of(rt, alloc, studio, listen_fds)?;
+    let names = names_in(alloc, config)?;
+    let strangers = Strangers::none(alloc, studio)?;
+    Ok(Given {
+        ports,
+        handed,
+        names,
+        strangers,
+    })
+}
+
+/// The sockets that were handed over, if they are to be taken.
+fn handed_of<R: Env + AllocGlobal>(
+    rt: &R,
+    alloc: Global,
+    studio: &StudioSpec,
+    listen_fds: bool,
+) -> Result<Handed, Fault> {
+    if !listen_fds {
+        return Ok(Handed::nothing());
+    }
+    Ok(Handed::told(rt, alloc, studio.streams())?)
+}
+
+/// Writes what follows the report, where there is one, and answers what the run came to.
+fn end<W: Write>(
+    ran: Result<(), LiveFault>,
+    studio: &StudioSpec,
+    setup: Setup<'_>,
+    words: LiveWords<'_>,
+    output: &mut W,
+) -> Result<(), Fault> {
     if matches!(ran, Ok(()) | Err(LiveFault::Unsettled)) {
-        write_beside(&studio, &strangers, &recorded, words, output)?;
+        write_beside(studio, setup, words, output)?;
     }
     ran?;
-    if recorded.has_failed() {
+    if setup.recorded.has_failed() {
         return Err(Fault::RecordWrite);
     }
     Ok(())
@@ -106,26 +171,25 @@ fn record_of<C: Configs>(configs: &C, path: Option<&str>) -> Result<Option<C::Fi
 /// Writes what follows the report: when the run was opened, if the system said so, the strangers, and what came of the record.
 fn write_beside<W: Write>(
     studio: &StudioSpec,
-    strangers: &Strangers,
-    recorded: &Recorded,
+    setup: Setup<'_>,
     words: LiveWords<'_>,
     output: &mut W,
 ) -> Result<(), Fault> {
     if words.tai_offset.is_some() {
         let open_at = studio.open_at();
-        writeln!(output, "open_at {open_at}").map_err(|_| Fault::Write)?;
+        written(writeln!(output, "open_at {open_at}"))?;
     }
-    write_strangers(studio, strangers, output)?;
+    write_strangers(studio, setup.strangers, output)?;
     if words.record.is_some() {
-        write_recorded(recorded, output)?;
+        write_recorded(setup.recorded, output)?;
     }
     Ok(())
 }
 
 /// Writes how many datagrams the record has of those that came.
 fn write_recorded<W: Write>(recorded: &Recorded, output: &mut W) -> Result<(), Fault> {
-    let (written, came) = (recorded.written(), recorded.came());
-    writeln!(output, "record {written} of {came}").map_err(|_| Fault::Write)
+    let (count, came) = (recorded.written(), recorded.came());
+    written(writeln!(output, "record {count} of {came}"))
 }
 
 /// The studio at its opening time, or, where an offset is said, opened now by International Atomic Time.
@@ -139,12 +203,20 @@ fn opened<R: Clock>(
         let began = rt.monotonic().ok();
         return Ok(Started { studio, began });
     };
-    let opening = tai_opening(rt, offset_of(word)?).ok_or(Fault::Clock)?;
-    let studio = studio.shifted(alloc, opening.at).map_err(fault_of)?;
+    let opening = opening_of(rt, word)?;
+    let studio = studio.shifted(alloc, opening.at)?;
     Ok(Started {
         studio,
         began: Some(opening.began),
     })
+}
+
+/// Now by International Atomic Time, which is as far ahead as a word says.
+fn opening_of<R: Clock>(rt: &R, word: &str) -> Result<Opening, Fault> {
+    match tai_opening(rt, offset_of(word)?) {
+        Some(opening) => Ok(opening),
+        None => Err(Fault::Clock),
+    }
 }
 
 /// The offset that a word says.
@@ -169,7 +241,7 @@ fn write_strangers<W: Write>(
         for (path, name) in (0..stream.paths()).zip(["a", "b", "c", "d"]) {
             if has_source(studio, number, path) {
                 let count = strangers.count(place);
-                writeln!(output, "strangers {number} {name} {count}").map_err(|_| Fault::Write)?;
+                written(writeln!(output, "strangers {number} {name} {count}"))?;
             }
             place = place.saturating_add(1);
         }

@@ -14,7 +14,7 @@ pub(crate) fn names_in(alloc: Global, octets: &[u8]) -> Result<Vec<Option<Stream
     };
     if let Some(streams) = value.as_array() {
         for stream in streams {
-            names.push(name_in(stream)).map_err(|_| Fault::Memory)?;
+            names.push(name_in(stream))?;
         }
     }
     Ok(names)

@@ -1,11 +1,12 @@
 //! From the words of a command line to its exit status.
 use crate::captures::list_streams;
-use crate::config::{Configs, config_of, standard_studio, studio_of};
+use crate::config::Configs;
 use crate::fault::Fault;
 use crate::import::import_capture;
-use crate::live::run_config;
+use crate::live::run_live;
 use crate::replay::replay_capture;
 use crate::told::told;
+use crate::traces::{check, draw, list, list_standard, list_with_counts, play_trace};
 use crate::wav::{list_to_wav, play_to_wav};
 use command_words::{Asked, asked_for};
 use std::alloc::Global;
@@ -16,9 +17,6 @@ use std::rt::Env;
 use std::sync::Wait;
 use std::thread::Threads;
 use std::time::Clock;
-use studio_chart::chart;
-use studio_run::{list_marks, list_marks_and_counts, play};
-use studio_summary::write_summary;
 
 /// Runs the program: its text goes to `output`, and the line of a fault to `faults`. Answers the
 /// exit status.
@@ -64,36 +62,20 @@ fn answer<
     faults: &mut E,
 ) -> Result<(), Fault> {
     match asked {
-        Asked::Standard => {
-            let studio = standard_studio(alloc)?;
-            list_marks(alloc, &studio, input, output).map_err(Fault::from)
-        }
-        Asked::Marks(path) => {
-            let studio = studio_of(configs, alloc, path)?;
-            list_marks(alloc, &studio, input, output).map_err(Fault::from)
-        }
+        Asked::Standard => list_standard(alloc, input, output),
+        Asked::Marks(path) => list(configs, alloc, path, input, output),
         Asked::MarksAndCounts(path) => {
-            let studio = studio_of(configs, alloc, path)?;
-            list_marks_and_counts(alloc, &studio, input, output, faults).map_err(Fault::from)
+            list_with_counts(configs, alloc, path, input, output, faults)
         }
         Asked::MarksToWav(path, words) => {
             list_to_wav(configs, alloc, path, words, input, output, faults)
         }
-        Asked::Play(path) => {
-            let studio = studio_of(configs, alloc, path)?;
-            play(alloc, &studio, input, output).map_err(Fault::from)
-        }
+        Asked::Play(path) => play_trace(configs, alloc, path, input, output),
         Asked::PlayToWav(path, file) => {
             play_to_wav(configs, alloc, path, file, input, output, faults)
         }
-        Asked::Chart(path) => {
-            let studio = studio_of(configs, alloc, path)?;
-            chart(alloc, &studio, input, output).map_err(Fault::from)
-        }
-        Asked::Check(path) => {
-            let studio = studio_of(configs, alloc, path)?;
-            write_summary(&studio, output).map_err(|_| Fault::Write)
-        }
+        Asked::Chart(path) => draw(configs, alloc, path, input, output),
+        Asked::Check(path) => check(configs, alloc, path, output),
         Asked::Streams(path) => list_streams(configs, alloc, path, output),
         Asked::Import(path, options) => {
             import_capture(configs, alloc, path, &options, output, faults)
@@ -101,9 +83,6 @@ fn answer<
         Asked::Replay(config, words) => {
             replay_capture(configs, alloc, config, words, output, faults)
         }
-        Asked::Live(path, words) => {
-            let config = config_of(configs, alloc, path)?;
-            run_config(rt, configs, alloc, config.as_slice(), words, output, faults)
-        }
+        Asked::Live(path, words) => run_live(rt, configs, alloc, path, words, output, faults),
     }
 }

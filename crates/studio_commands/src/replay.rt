@@ -2,12 +2,12 @@
 ghost use Rattle.std.specs.Prelude.{[]};
 
 use crate::beside::{Beside, begin_sound, end_sound, write_picture};
-use crate::config::{Configs, fault_of, studio_of};
+use crate::config::{Configs, studio_of};
 use crate::fault::{CaptureError, Fault};
-use crate::import::unrouted;
-use capture_import::{Routes, routes_of};
-use capture_reader::ReaderFault;
-use capture_replay::{Listener, ReplayFault, flows_of, opening_of, replay, replay_record};
+use crate::import::routed;
+use capture_import::Routes;
+use capture_replay::{Listener, flows_of, opening_of, replay, replay_record};
+use capture_streams::Table;
 use command_words::ReplayWords;
 use std::alloc::Global;
 use std::io;
@@ -47,19 +47,7 @@ pub fn replay_capture<C: Configs, W: Write, E: Write>(
 ) -> Result<(), Fault> {
     let studio = studio_of(configs, alloc, config)?;
     let source = source_of(configs, alloc, studio, words.file)?;
-    let streams = match words.chart {
-        Some(_) => Some(Streams::reach(alloc, &source.studio).map_err(|_| Fault::Memory)?),
-        None => None,
-    };
-    let sound = begin_sound(configs, words.wav, source.studio.output(), faults)?;
-    let mut beside = Beside { sound, streams };
-    let played = source.play(configs, alloc, output, &mut beside);
-    let Beside { sound, streams } = beside;
-    end_sound(sound, played, words.wav, faults)?;
-    match (words.chart, streams) {
-        (Some(path), Some(streams)) => source.draw(configs, alloc, &streams, path, faults),
-        _ => Ok(()),
-    }
+    source.replay(configs, alloc, words, output, faults)
 }
 
 /// The capture at a path, and the studio for it: of a live run's record that opened when it was.
@@ -69,33 +57,74 @@ fn source_of<'a, C: Configs>(
     studio: StudioSpec,
     path: &'a str,
 ) -> Result<Source<'a>, Fault> {
-    let opening = opening_of(alloc, &mut input_at(configs, path)?).map_err(reader_fault)?;
-    let Some(opening) = opening else {
-        let known = Known::Flows(routes_at(configs, alloc, path)?);
-        return Ok(Source {
+    match opening_at(configs, alloc, path)? {
+        Some(opening) => recorded(alloc, studio, path, opening),
+        None => Ok(Source {
             path,
             studio,
-            known,
-        });
-    };
+            known: Known::Flows(routes_at(configs, alloc, path)?),
+        }),
+    }
+}
+
+/// A live run's record at a path, and the studio for it, which opens when the run did.
+fn recorded<'a>(
+    alloc: Global,
+    studio: StudioSpec,
+    path: &'a str,
+    opening: u64,
+) -> Result<Source<'a>, Fault> {
     let open_at = i64::try_from(opening).unwrap_or(i64::MAX);
     Ok(Source {
         path,
-        studio: studio.shifted(alloc, open_at).map_err(fault_of)?,
+        studio: studio.shifted(alloc, open_at)?,
         known: Known::Record,
     })
 }
 
+/// When the studio of a live run was opened, if the capture at a path is the record of one.
+fn opening_at<C: Configs>(configs: &C, alloc: Global, path: &str) -> Result<Option<u64>, Fault> {
+    let mut input = input_at(configs, path)?;
+    Ok(opening_of(alloc, &mut input)?)
+}
+
 /// The routes of the flows of the capture at a path.
 fn routes_at<C: Configs>(configs: &C, alloc: Global, path: &str) -> Result<Routes, Fault> {
-    let table = flows_of(alloc, &mut input_at(configs, path)?).map_err(reader_fault)?;
-    match routes_of(alloc, &table, &[]) {
-        Ok(routes) => Ok(routes),
-        Err(fault) => Err(unrouted(&table, fault)),
-    }
+    let table = table_at(configs, alloc, path)?;
+    routed(alloc, &table, &[])
+}
+
+/// The flows of the capture at a path.
+fn table_at<C: Configs>(configs: &C, alloc: Global, path: &str) -> Result<Table, Fault> {
+    let mut input = input_at(configs, path)?;
+    Ok(flows_of(alloc, &mut input)?)
 }
 
 impl Source<'_> {
+    /// Writes the report, and what is asked for beside it.
+    fn replay<C: Configs, W: Write, E: Write>(
+        &self,
+        configs: &C,
+        alloc: Global,
+        words: ReplayWords<'_>,
+        output: &mut W,
+        faults: &mut E,
+    ) -> Result<(), Fault> {
+        let streams = match words.chart {
+            Some(_) => Some(Streams::reach(alloc, &self.studio)?),
+            None => None,
+        };
+        let sound = begin_sound(configs, words.wav, self.studio.output(), faults)?;
+        let mut beside = Beside { sound, streams };
+        let played = self.play(configs, alloc, output, &mut beside);
+        let Beside { sound, streams } = beside;
+        end_sound(sound, played, words.wav, faults)?;
+        match (words.chart, streams) {
+            (Some(path), Some(streams)) => self.draw(configs, alloc, &streams, path, faults),
+            _ => Ok(()),
+        }
+    }
+
     /// Writes the report, and tells a listener.
     fn play<C: Configs, W: Write, L: Listener>(
         &self,
@@ -120,7 +149,7 @@ impl Source<'_> {
                 )
             }
         };
-        played.map_err(Fault::from)
+        Ok(played?)
     }
 
     /// Goes over the capture again, and draws what was seen of it to the file at a path.
@@ -134,16 +163,12 @@ impl Source<'_> {
     ) -> Result<(), Fault> {
         let mut beside = Beside::<C::File, _> {
             sound: None,
-            streams: Some(
-                streams
-                    .again(alloc, &self.studio)
-                    .map_err(|_| Fault::Memory)?,
-            ),
+            streams: Some(streams.again(alloc, &self.studio)?),
         };
         self.play(configs, alloc, &mut io::sink(), &mut beside)?;
         match &beside.streams {
             Some(seen) => {
-                let picture = seen.picture(alloc).map_err(|_| Fault::Memory)?;
+                let picture = seen.picture(alloc)?;
                 write_picture(configs, path, picture.as_slice(), faults)
             }
             None => Ok(()),
@@ -153,13 +178,9 @@ impl Source<'_> {
 
 /// The capture at a path.
 fn input_at<C: Configs>(configs: &C, path: &str) -> Result<C::Input, Fault> {
-    configs.open(path).map_err(|fault| match fault {
-        ReadFault::Memory => Fault::Memory,
-        ReadFault::Device | ReadFault::TooMany => Fault::Capture(CaptureError::Unread),
-    })
-}
-
-/// Why a capture's opening or its flows were not found.
-fn reader_fault(fault: ReaderFault) -> Fault {
-    Fault::Replay(ReplayFault::from(fault))
+    match configs.open(path) {
+        Ok(input) => Ok(input),
+        Err(ReadFault::Memory) => Err(Fault::Memory),
+        Err(_) => Err(Fault::Capture(CaptureError::Unread)),
+    }
 }

@@ -37,7 +37,9 @@ pub(crate) fn list_to_wav<C: Configs, I: Read, W: Write, E: Write>(
     output: &mut W,
     faults: &mut E,
 ) -> Result<(), Fault> {
-    let stream = words.stream.parse::<u8>().map_err(|_| Fault::Stream)?;
+    let Ok(stream) = words.stream.parse::<u8>() else {
+        return Err(Fault::Stream);
+    };
     let studio = studio_of(configs, alloc, config)?;
     let path = words.file;
     let file = NamedFile { configs, path };

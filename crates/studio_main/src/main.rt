@@ -2,6 +2,7 @@
 #![tactic(auto)]
 
 use std::alloc::Global;
+use std::env::Args;
 use std::io::ErrorKind;
 use std::process::ExitCode;
 use std::rt::Env;
@@ -23,7 +24,10 @@ impl Configs for HostConfigs<'_> {
     type Input = fs::File;
 
     fn open(&self, path: &str) -> Result<fs::File, ReadFault> {
-        fs::open(self.rt, path).map_err(|_| ReadFault::Device)
+        match fs::open(self.rt, path) {
+            Ok(file) => Ok(file),
+            Err(_) => Err(ReadFault::Device),
+        }
     }
 
     fn octets(&self, alloc: Global, path: &str) -> Result<Vec<u8>, ReadFault> {
@@ -61,13 +65,25 @@ fn main(rt: HostRuntime) -> ExitCode {
 
 /// The words of the command line, without the program's name.
 fn words_of(rt: &(impl Env + AllocGlobal)) -> Result<Vec<String>, Fault> {
-    let mut words = Vec::new(rt.alloc());
-    let all = env::args(rt).map_err(|fault| match fault.kind() {
-        ErrorKind::OutOfMemory => Fault::Memory,
-        _ => Fault::Usage,
-    })?;
+    match env::args(rt) {
+        Ok(all) => words_in(rt.alloc(), all),
+        Err(fault) => Err(fault_of(fault.kind())),
+    }
+}
+
+/// All words but the first, which is the program's name.
+fn words_in(alloc: Global, all: Args) -> Result<Vec<String>, Fault> {
+    let mut words = Vec::new(alloc);
     for word in all.skip(1) {
-        words.push(word).map_err(|_| Fault::Memory)?;
+        words.push(word)?;
     }
     Ok(words)
+}
+
+/// Why the words of the command line are not known.
+fn fault_of(kind: ErrorKind) -> Fault {
+    match kind {
+        ErrorKind::OutOfMemory => Fault::Memory,
+        _ => Fault::Usage,
+    }
 }
