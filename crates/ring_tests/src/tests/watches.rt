@@ -1,61 +1,87 @@
 //! What the watches of one stream are told.
-use super::rings::{last_of, studio_of};
-use std::process::Abort;
+use super::rings::studio_of;
 use std::test::Fail;
-use studio_rings::{Offer, PathEnd, open_watched};
+use studio_rings::{Ends, Offer, Watches, open_watched};
 use test_studios::{FIRST, SECOND};
 
-/// Offers a packet, which finds room.
-fn send(rt: &impl Abort, path: &mut PathEnd, packet: &[u8]) {
-    assert!(rt; path.offer(packet) == Offer::Sent);
+/// What is done with the ends of one stream on two paths, and what its watches have to tell.
+#[derive(Clone, Copy)]
+enum Step {
+    /// A path is offered a packet, which finds room.
+    Send(usize, &'static [u8; 30]),
+    /// A path's watch has its datagrams offered and sent, or nothing.
+    Path(usize, Option<(u64, u64)>),
+    /// A turn at a reading.
+    Turn(i64),
+    /// The stream's watch has the first copies and the doubles of both paths, or nothing.
+    Stream(Option<[(u64, u64); 2]>),
 }
 
-/// Each path's watch is told the counts of the first datagram since it was asked; the stream's is told which path brought the first
-/// copies and which doubles, once in a tenth of a second.
+/// A path's watch is told the counts of the first datagram since it was asked; the stream's is told once in a tenth of a second.
+const STEPS: [Step; 14] = [
+    Step::Path(0, None),
+    Step::Send(0, &FIRST),
+    Step::Send(0, &SECOND),
+    Step::Send(1, &SECOND),
+    Step::Path(0, Some((1, 1))),
+    Step::Path(0, None),
+    Step::Send(0, &SECOND),
+    Step::Path(0, Some((3, 3))),
+    Step::Path(1, Some((1, 1))),
+    Step::Stream(None),
+    Step::Turn(0),
+    Step::Stream(Some([(2, 1), (0, 1)])),
+    Step::Turn(12),
+    Step::Stream(None),
+];
+
+fn told_of_path(watches: &mut Watches, path: usize) -> Option<(u64, u64)> {
+    let counts = watches.paths.get_mut(path)?.latest()?;
+    Some((counts.offered, counts.sent))
+}
+
+fn told_of_stream(watches: &mut Watches) -> Option<[(u64, u64); 2]> {
+    let numbers = watches.streams.first_mut()?.latest()?;
+    let [a, b, _, _] = numbers.paths;
+    Some([
+        (a.tally.first, a.tally.double),
+        (b.tally.first, b.tally.double),
+    ])
+}
+
+fn sends(ends: &mut Ends, path: usize, packet: &[u8; 30]) -> bool {
+    match ends.paths.get_mut(path) {
+        Some(end) => end.offer(packet) == Offer::Sent,
+        None => false,
+    }
+}
+
+fn turns(ends: &mut Ends, now: i64) -> bool {
+    match ends.streams.first_mut() {
+        Some(end) => end.turn(now).is_ok(),
+        None => false,
+    }
+}
+
+/// Whether what came of a step is what had to.
+fn is_as_told(ends: &mut Ends, watches: &mut Watches, step: Step) -> bool {
+    match step {
+        Step::Send(path, packet) => sends(ends, path, packet),
+        Step::Path(path, want) => told_of_path(watches, path) == want,
+        Step::Turn(now) => turns(ends, now),
+        Step::Stream(want) => told_of_stream(watches) == want,
+    }
+}
+
+/// Two packets on the first path, of which the second path brings the later one too, and the first path once more.
 #[test]
 fn watches_tell_what_becomes_of_each_paths_packets(rt: HostRuntime) -> Result<(), Fail> {
     let studio = studio_of(&rt, rt.alloc(), 8);
     let Ok((mut ends, mut watches)) = open_watched(rt.alloc(), &studio, 4) else {
         panic!(rt; "there is memory")
     };
-    let mut second = last_of(&rt, &mut ends.paths);
-    let mut first = last_of(&rt, &mut ends.paths);
-    let mut stream = last_of(&rt, &mut ends.streams);
-    let mut of_second = last_of(&rt, &mut watches.paths);
-    let mut of_first = last_of(&rt, &mut watches.paths);
-    let mut of_stream = last_of(&rt, &mut watches.streams);
-    send(&rt, &mut first, FIRST);
-    send(&rt, &mut first, SECOND);
-    send(&rt, &mut second, SECOND);
-    let Some(counts) = of_first.latest() else {
-        panic!(rt; "its counts were told")
-    };
-    assert!(rt; (counts.offered, counts.sent) == (1, 1));
-    send(&rt, &mut first, SECOND);
-    let Some(counts) = of_first.latest() else {
-        panic!(rt; "its counts were told again")
-    };
-    assert!(rt; (counts.offered, counts.sent) == (3, 3));
-    assert!(rt; of_second.latest().is_some());
-    assert!(rt; of_stream.latest().is_none(), "no turn was made");
-    let Ok(_) = stream.turn(0) else {
-        panic!(rt; "the reading is in order")
-    };
-    let Some(numbers) = of_stream.latest() else {
-        panic!(rt; "the stream's numbers were told")
-    };
-    let [a, b, c, _] = numbers.paths;
-    assert!(rt; (a.tally.first, a.tally.double) == (2, 1));
-    assert!(rt; (b.tally.first, b.tally.double) == (0, 1));
-    assert!(rt; (c.tally.first, c.tally.double) == (0, 0));
-    assert!(rt; numbers.counts.taken == 2);
-    assert!(rt; a.spare.is_none(), "no whole second went by");
-    let Ok(_) = stream.turn(12) else {
-        panic!(rt; "the reading is in order")
-    };
-    assert!(rt;
-        of_stream.latest().is_none(),
-        "no tenth of a second went by"
-    );
+    for (place, step) in STEPS.iter().enumerate() {
+        assert!(rt; is_as_told(&mut ends, &mut watches, *step), "step {place}");
+    }
     Ok(())
 }
