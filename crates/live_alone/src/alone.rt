@@ -9,6 +9,7 @@ use crate::pending::all_pending;
 use live_parts::Recorded;
 use live_run::{LiveFault, Setting, Showing, Signs, Unseen, Watcher, run_beside, run_watched};
 use live_sockets::{Flags, Sockets};
+use run_devices::WorkReport;
 use run_record::{Record, RecordTap, Recorder, write_record};
 use std::alloc::Global;
 use std::io::Write;
@@ -18,7 +19,6 @@ use std::sync::atomic::AtomicBool;
 use std::thread::Threads;
 use std::time::Clock;
 use studio_spec::StudioSpec;
-use studio_workers::WorkReport;
 
 /// The record of a run, if there is one, and where it is told what came of it.
 #[derive(Drop)]

@@ -9,6 +9,7 @@ use live_parts::{Recorded, Start, SystemClock};
 use live_run::{LiveFault, MeteredSink};
 use live_sockets::{Flags, Receiver, Sockets, UdpFeed, UdpSink, feeds_of};
 use live_view::Meter;
+use run_devices::WorkReport;
 use std::alloc::Global;
 use std::io::Write;
 use std::net::Net;
@@ -16,7 +17,6 @@ use std::sync::Wait;
 use std::time::Clock;
 use studio_alone::run_alone;
 use studio_spec::StudioSpec;
-use studio_workers::WorkReport;
 
 /// What a run in one thread is started from, beside its tap.
 #[derive(Drop)]

@@ -4,6 +4,7 @@ use live_parts::SystemClock;
 use live_sockets::Receiver;
 use mio::unix::SourceFd;
 use mio::{Events, Interest, Poll, Token};
+use run_devices::Clock as ReadClock;
 use std::alloc::Global;
 use std::io;
 use std::net::Net;
@@ -13,7 +14,6 @@ use std::thread::Parker;
 use std::time::{Clock, Duration};
 use studio_alone::Rest;
 use studio_engine::Engine;
-use studio_workers::Clock as ReadClock;
 
 /// A millisecond, in sampling instants.
 const MILLISECOND: u64 = 48;

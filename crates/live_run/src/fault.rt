@@ -3,12 +3,12 @@ ghost use Rattle.std.specs.Prelude.{◌≡◌};
 ghost use Rattle.live_run.specs.Run.{IsEarly};
 ghost use Rattle.live_run.specs.declared.fault.LiveFault.TheVariants.{Write};
 
+use run_devices::WorkFault;
 use std::alloc::{AllocError, AllocFailed};
 use std::io;
 use std::io::ErrorKind;
 use studio_rings::OpenFault;
 use studio_run::WriteFault;
-use studio_workers::WorkFault;
 use thiserror::Error;
 
 /// Why a live run came to no report of a settled run.

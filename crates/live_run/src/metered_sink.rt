@@ -2,7 +2,7 @@
 ghost use Rattle.std.specs.Prelude.{None};
 
 use live_view::Meter;
-use studio_workers::{SendAnswer, Sink};
+use run_devices::{SendAnswer, Sink};
 
 /// A sink, with a meter if a page is asked for.
 #[derive(Drop)]

@@ -3,6 +3,7 @@
 use live_parts::SystemClock;
 use live_run::View;
 use live_view::{Board, see_datagrams, see_told};
+use run_devices::Clock;
 use std::alloc::{AllocError, Global};
 use std::io::Write;
 use std::time;
@@ -10,7 +11,6 @@ use stream_rules::PathCounts;
 use stream_watch::StreamNumbers;
 use studio_page::Snapshot;
 use studio_rings::Watches;
-use studio_workers::Clock;
 
 /// The watches of all paths and streams, what they last told, and what is shown of it.
 #[derive(Drop)]

@@ -11,6 +11,7 @@ use live_parts::Start;
 use live_run::{LiveFault, Setting, Showing, Watcher, run_watched};
 use live_sockets::{Flags, Sockets};
 use live_view::Board;
+use run_devices::WorkReport;
 use std::alloc::{AllocError, Global};
 use std::io::Write;
 use std::sync::Wait;
@@ -18,7 +19,6 @@ use std::thread::Threads;
 use std::time::Clock;
 use studio_rings::Watches;
 use studio_spec::StudioSpec;
-use studio_workers::WorkReport;
 
 /// Runs a studio's workers, and the watcher beside them. It returns once all have ended; all memory but the workers' is taken
 /// before the first thread starts.

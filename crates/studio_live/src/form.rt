@@ -11,6 +11,7 @@ use live_run::{LiveFault, Setting, Signs, run_beside};
 use live_sockets::{Sockets, sockets_of};
 use live_view::Meter;
 use live_workers::run_in_workers;
+use run_devices::WorkReport;
 use run_record::Record;
 use std::alloc::{AllocError, Global};
 use std::io::Write;
@@ -20,7 +21,6 @@ use std::sync::Wait;
 use std::thread::Threads;
 use std::time::Clock;
 use studio_spec::StudioSpec;
-use studio_workers::WorkReport;
 
 /// What a run is started from, beside its studio.
 #[derive(Drop)]

@@ -29,19 +29,20 @@ use Rattle.studio_rings.specs.declared.side.Side.{Side}
 use Rattle.studio_rings.specs.declared.stream.StreamDone.{StreamDone}
 use Rattle.studio_rings.specs.declared.stream_end.StreamEnd.{StreamEnd}
 use Rattle.studio_rings.proofs.StreamLemmas.{packets_by-append}
-use Rattle.studio_workers.specs.Answers.{Answer, CountsOthers, IsPartOf, reaches_end, told_datagrams, told_packets}
-use Rattle.studio_workers.specs.Clocks.{GoByClock, events_in}
-use Rattle.studio_workers.specs.Paths.{IsPathResult, SendsFeed}
-use Rattle.studio_workers.specs.Runs.{HasPathHistory, HavePathHistories, sent_total}
+use Rattle.run_devices.specs.Answers.{Answer, CountsOthers, IsPartOf, reaches_end, told_datagrams, told_packets}
+use Rattle.run_devices.specs.Clocks.{GoByClock, events_in}
+use Rattle.single_workers.specs.Paths.{IsPathResult, SendsFeed}
+use Rattle.single_workers.specs.Runs.{HasPathHistory, HavePathHistories, sent_total}
+use Rattle.single_workers.specs.Turns.{GoesOn, HaveArrived, HaveTold}
+use Rattle.single_workers.proofs.StreamTurnLemmas.{events-joined}
+use Rattle.single_workers.specs.declared.path_job.PathJob.{PathJob}
+use Rattle.single_workers.specs.declared.path_job.PathResult.{PathResult}
+use Rattle.single_workers.specs.declared.timed_stream.TimedStream.{TimedStream}
 use Rattle.studio_workers.specs.Streams.{EndsStream, HasEnded, HasMarks, PathsGiveTokens, IsStreamResult, all_told, ends_of, told_by, told_of}
-use Rattle.studio_workers.specs.Turns.{ClosesLater, Drains, GoesOn, HaveArrived, HaveTold}
-use Rattle.studio_workers.proofs.StreamTurnLemmas.{events-joined}
+use Rattle.studio_workers.specs.Ends.{ClosesLater, Drains}
 use Rattle.studio_workers.proofs.ZipLemmas.{zip-length}
-use Rattle.studio_workers.specs.declared.path_job.PathJob.{PathJob}
-use Rattle.studio_workers.specs.declared.path_job.PathResult.{PathResult}
 use Rattle.studio_workers.specs.declared.stream_job.StreamJob.{StreamJob}
 use Rattle.studio_workers.specs.declared.stream_job.StreamResult.{StreamResult}
-use Rattle.studio_workers.specs.declared.timed_stream.TimedStream.{TimedStream}
 
 -- the token of an end whose ring is the same as this one's
 pub same_token : {T A P : Type 0} (p q : Producer T A P) (done : Finished T A P) → SameProducer p q → SameRing q.end done.end → SameRing p.end done.end

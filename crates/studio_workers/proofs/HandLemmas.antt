@@ -12,14 +12,14 @@ use Rattle.studio_rings.specs.Tokens.{HandsIn}
 use Rattle.studio_rings.specs.declared.path.PathDone.{PathDone}
 use Rattle.studio_rings.specs.declared.path_end.PathEnd.{PathEnd}
 use Rattle.studio_rings.specs.declared.side.Side.{Side}
-use Rattle.studio_workers.specs.Answers.{Answer}
-use Rattle.studio_workers.specs.Paths.{IsPathResult, IsTokenOf}
+use Rattle.run_devices.specs.Answers.{Answer}
+use Rattle.single_workers.specs.Paths.{IsPathResult, IsTokenOf}
+use Rattle.single_workers.specs.Turns.{AreSameRings, GoesOn, HaveTold}
+use Rattle.single_workers.specs.declared.path_job.PathJob.{PathJob}
+use Rattle.single_workers.specs.declared.path_job.PathResult.{PathResult}
+use Rattle.single_workers.specs.declared.timed_stream.TimedStream.{TimedStream}
+use Rattle.single_workers.proofs.StreamTurnLemmas.{goes-still, rings-self, same_marks}
 use Rattle.studio_workers.specs.Streams.{AllTokensFit, ArePairs, FitsAt, HandsOne, PathsGiveTokens, all_told, told_by}
-use Rattle.studio_workers.specs.Turns.{AreSameRings, GoesOn, HaveTold}
-use Rattle.studio_workers.specs.declared.path_job.PathJob.{PathJob}
-use Rattle.studio_workers.specs.declared.path_job.PathResult.{PathResult}
-use Rattle.studio_workers.specs.declared.timed_stream.TimedStream.{TimedStream}
-use Rattle.studio_workers.proofs.StreamTurnLemmas.{goes-still, rings-self, same_marks}
 
 -- a path's ring is the same, and has the path's token where all were given
 abbrev pub IsHandedIn : Bool → PathResult → Side Packet → Side Packet → Type 0

@@ -4,9 +4,9 @@ use Rattle.stream_rules.specs.declared.stream_spec.Stream.{Stream}
 use Rattle.studio_rings.specs.FreshEnds.{AllFreshStreams, IsFreshStream}
 use Rattle.studio_rings.specs.declared.path_end.PathEnd.{PathEnd}
 use Rattle.studio_rings.specs.declared.stream_end.StreamEnd.{StreamEnd}
+use Rattle.single_workers.specs.declared.path_job.PathJob.{PathJob}
 use Rattle.studio_workers.specs.Jobs.{AreJobsOf, HasRoom, HaveRoom, feeds_in}
 use Rattle.studio_workers.specs.Streams.{ends_of}
-use Rattle.studio_workers.specs.declared.path_job.PathJob.{PathJob}
 use Rattle.studio_workers.specs.declared.stream_job.StreamJob.{StreamJob}
 
 -- two ways to cut a list at one place

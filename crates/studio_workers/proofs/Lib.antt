@@ -1,9 +1,6 @@
-pub mod FeedLemmas
-pub mod StreamTurnLemmas
 pub mod ZipLemmas
-pub mod MixWorkerLemmas
-pub mod StreamTokenLemmas
 pub mod HandLemmas
+pub mod CloseLemmas
 pub mod EndLemmas
 pub mod NestLemmas
 pub mod JobLemmas

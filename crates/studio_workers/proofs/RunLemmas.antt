@@ -24,20 +24,20 @@ use Rattle.studio_rings.specs.declared.side.Side.{Side}
 use Rattle.studio_rings.specs.declared.stream.StreamDone.{StreamDone}
 use Rattle.studio_rings.specs.declared.stream_end.StreamEnd.{StreamEnd}
 use Rattle.studio_rings.specs.declared.mix_end.MixEnd.{MixEnd}
-use Rattle.studio_workers.specs.Answers.{Answer}
+use Rattle.run_devices.specs.Answers.{Answer}
+use Rattle.run_devices.specs.declared.report.WorkReport.{WorkReport}
+use Rattle.single_workers.specs.MixWorker.{Mixes}
+use Rattle.single_workers.specs.Runs.{HaveStreamHistories, IsSettledRun, feeds_of}
+use Rattle.single_workers.specs.StreamTokens.{AllGiveTokens, AllTellMarks, AreTold}
+use Rattle.single_workers.specs.declared.path_job.PathJob.{PathJob}
+use Rattle.single_workers.proofs.StreamTokenLemmas.{AreTokensFor}
 use Rattle.studio_workers.specs.Jobs.{AreJobsOf, HaveRoom, feeds_in}
-use Rattle.studio_workers.specs.MixWorker.{Mixes}
-use Rattle.studio_workers.specs.Runs.{HaveStreamHistories, IsSettledRun, feeds_of}
 use Rattle.studio_workers.specs.StreamResults.{AreOpenedTogether, counts_in, dones_in, fault_numbers}
-use Rattle.studio_workers.specs.StreamTokens.{AllGiveTokens, AllTellMarks, AreTold}
 use Rattle.studio_workers.specs.Streams.{AllReady, ArePairs, HasMarks, IsStreamResult, ends_of, told_of}
-use Rattle.studio_workers.specs.declared.path_job.PathJob.{PathJob}
 use Rattle.studio_workers.specs.declared.stream_job.StreamJob.{StreamJob}
 use Rattle.studio_workers.specs.declared.stream_job.StreamResult.{StreamResult}
-use Rattle.studio_workers.specs.declared.report.WorkReport.{WorkReport}
 use Rattle.studio_workers.proofs.EndLemmas.{some_of}
 use Rattle.studio_workers.proofs.JobLemmas.{cut_once, map_length}
-use Rattle.studio_workers.proofs.StreamTokenLemmas.{AreTokensFor}
 
 module _ {F : Type 0} where
   pairs_of : (stream : Stream) (places : ℕ) (paths : List (PathJob F)) (sides : List (Side Packet)) → AllFreshPaths stream places (ends_of paths) sides → ArePairs paths sides

@@ -16,15 +16,15 @@ use Rattle.studio_rings.specs.Tokens.{HandsIn}
 use Rattle.studio_rings.specs.declared.path.PathDone.{PathDone}
 use Rattle.studio_rings.specs.declared.path_end.PathEnd.{PathEnd}
 use Rattle.studio_rings.specs.declared.side.Side.{Side}
-use Rattle.studio_workers.specs.Answers.{Answer}
-use Rattle.studio_workers.specs.Clocks.{GoByClock, events_in}
-use Rattle.studio_workers.specs.Runs.{HasStreamHistory}
-use Rattle.studio_workers.specs.Turns.{HaveArrived}
-use Rattle.studio_workers.specs.declared.path_job.PathJob.{PathJob}
-use Rattle.studio_workers.specs.declared.path_job.PathResult.{PathResult}
+use Rattle.run_devices.specs.Answers.{Answer}
+use Rattle.run_devices.specs.Clocks.{GoByClock, events_in}
+use Rattle.single_workers.specs.Runs.{HasStreamHistory}
+use Rattle.single_workers.specs.Turns.{HaveArrived}
+use Rattle.single_workers.specs.declared.path_job.PathJob.{PathJob}
+use Rattle.single_workers.specs.declared.path_job.PathResult.{PathResult}
+use Rattle.single_workers.specs.declared.timed_stream.TimedStream.{TimedStream}
 use Rattle.studio_workers.specs.declared.stream_job.StreamJob.{StreamJob}
 use Rattle.studio_workers.specs.declared.stream_job.StreamResult.{StreamResult}
-use Rattle.studio_workers.specs.declared.timed_stream.TimedStream.{TimedStream}
 
 abbrev pub all_told : Option PathDone → List Packet
 all_told None = []

@@ -6,8 +6,8 @@ ghost use Rattle.studio_rings.specs.FreshEnds.{AllFreshStreams};
 ghost use Rattle.studio_workers.specs.Jobs.{AreJobsOf, HasRoom, HaveRoom, feeds_in};
 ghost use Rattle.studio_workers.specs.Streams.{ends_of};
 
-use crate::path_job::{PathJob, PathResult};
 use crate::stream_job::StreamJob;
+use single_workers::{PathJob, PathResult};
 use std::alloc::{AllocError, Global};
 use std::sync::atomic::AtomicBool;
 use std::vec::IntoIter;

@@ -7,29 +7,15 @@
 //! the way takes the monitors' ends out before. The tests are those of `studio_uses`.
 #![tactic(auto)]
 
-mod clock;
-mod feed;
 mod jobs;
-mod mix_worker;
 mod parts;
-mod path_job;
 mod path_nest;
-mod path_worker;
-mod pause;
-mod report;
 mod run;
-mod send_counts;
-mod settle;
-mod sink;
 mod stream_job;
 mod stream_nest;
 mod stream_worker;
-mod timed_stream;
-mod timed_turn;
 
-pub use clock::Clock;
-pub use feed::{Feed, FeedAnswer};
-pub use report::{WorkFault, WorkReport};
 pub use run::run_workers;
-pub use send_counts::SendCounts;
-pub use sink::{SendAnswer, Sink};
+pub use run_devices::{
+    Clock, Feed, FeedAnswer, SendAnswer, SendCounts, Sink, WorkFault, WorkReport,
+};

@@ -2,14 +2,11 @@
 ghost use Rattle.std.specs.Prelude.{◌≡◌, ◌+◌, ◌≤◌, ◌++◌, [], ◌∷◌, List, length, vec_len, vec_capacity, IfOk};
 ghost use Rattle.std.specs.Thread.{IsSync};
 ghost use Rattle.std.specs.List.{AllZip};
-ghost use Rattle.studio_workers.specs.Paths.{IsPathResult};
-ghost use Rattle.studio_workers.specs.Turns.{GoesOn};
+ghost use Rattle.single_workers.specs.Paths.{IsPathResult};
+ghost use Rattle.single_workers.specs.Turns.{GoesOn};
 
-use crate::clock::Clock;
-use crate::feed::Feed;
-use crate::path_job::{PathJob, PathResult};
-use crate::path_worker::run_path;
-use crate::timed_stream::TimedStream;
+use run_devices::{Clock, Feed};
+use single_workers::{PathJob, PathResult, TimedStream, run_path};
 use std::snapshot::Snapshot;
 use std::sync::Wait;
 use std::sync::atomic::{AtomicBool, Ordering};

@@ -1,6 +1,6 @@
 //! What a stream's worker starts from, and what it comes to.
 
-use crate::path_job::{PathJob, PathResult};
+use single_workers::{PathJob, PathResult};
 use std::sync::atomic::AtomicBool;
 use stream_rules::{PathCounts, StreamCounts};
 use studio_rings::{StreamDone, StreamEnd};

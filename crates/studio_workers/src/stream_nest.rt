@@ -3,16 +3,14 @@ ghost use Rattle.std.specs.Prelude.{◌≡◌, ◌+◌, ◌≤◌, ◌++◌, [],
 ghost use Rattle.std.specs.Option.{option_to_list};
 ghost use Rattle.std.specs.Thread.{IsSync};
 ghost use Rattle.std.specs.List.{AllZip};
-ghost use Rattle.studio_workers.specs.MixWorker.{Mixes};
+ghost use Rattle.single_workers.specs.MixWorker.{Mixes};
 ghost use Rattle.studio_workers.specs.Streams.{AllReady, IsReady, IsStreamResult};
 
-use crate::clock::Clock;
-use crate::feed::Feed;
-use crate::mix_worker::{MixResult, run_mixer};
 use crate::path_nest::Stopped;
-use crate::sink::Sink;
 use crate::stream_job::{StreamJob, StreamResult};
 use crate::stream_worker::run_stream;
+use run_devices::{Clock, Feed, Sink};
+use single_workers::{MixResult, run_mixer};
 use std::snapshot::Snapshot;
 use std::sync::Wait;
 use std::sync::atomic::{AtomicBool, Ordering};

@@ -1,15 +1,13 @@
 //! The worker of a stream.
 ghost use Rattle.std.specs.Prelude.{◌≡◌, ◌≤◌, map, length, vec_len, vec_capacity, true, IfOk};
+ghost use Rattle.single_workers.specs.Turns.{GoesOn, HaveTold};
 ghost use Rattle.studio_workers.specs.Streams.{AllTokensFit, EndsStream, FitsAt, HandsOne, PathsGiveTokens, IsReady, IsStreamResult, told_by};
-ghost use Rattle.studio_workers.specs.Turns.{ClosesLater, Drains, GoesOn, HaveTold};
+ghost use Rattle.studio_workers.specs.Ends.{ClosesLater, Drains};
 
-use crate::clock::Clock;
-use crate::feed::Feed;
-use crate::path_job::PathResult;
 use crate::path_nest::{Stopped, run_paths};
-use crate::pause::Pause;
 use crate::stream_job::{StreamJob, StreamResult};
-use crate::timed_stream::TimedStream;
+use run_devices::{Clock, Feed};
+use single_workers::{PathResult, Pause, TimedStream};
 use std::sync::Wait;
 use std::sync::atomic::{AtomicBool, Ordering};
 use std::thread::Threads;

@@ -2,9 +2,9 @@ use Rattle.std.proofs.Common.{◌≡◌, ◌≤◌, List, [], ◌∷◌, ◌++�
 use Rattle.std.specs.Vec.Iter.{into_iter_items}
 use Rattle.stream_rules.specs.declared.stream_spec.Stream.{Stream}
 use Rattle.studio_rings.specs.declared.stream_end.StreamEnd.{StreamEnd}
+use Rattle.single_workers.specs.declared.path_job.PathJob.{PathJob}
 use Rattle.studio_workers.specs.Jobs.{HaveRoom, feeds_in}
 use Rattle.studio_workers.specs.Streams.{ends_of}
-use Rattle.studio_workers.specs.declared.path_job.PathJob.{PathJob}
 use Rattle.studio_workers.specs.declared.stream_job.StreamJob.{StreamJob}
 use Rattle.studio_workers.proofs.HandLemmas.{no_items}
 use Rattle.studio_workers.proofs.JobLemmas.{AreSomeFresh, MakesJobs, enough, fresh-left, makes-all, makes-one, map_length, none_fresh, room-more}

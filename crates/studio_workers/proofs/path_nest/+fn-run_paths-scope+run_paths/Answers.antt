@@ -1,6 +1,6 @@
 use Rattle.std.proofs.Common.{rules, [], ◌∷◌, ◌++◌, arith, sym, ap, ◌∙◌, append-nil, append_assoc}
+use Rattle.single_workers.specs.Paths.{IsPathResult}
 use Rattle.studio_workers.proofs.ZipLemmas.{zip-none, zip-snoc}
-use Rattle.studio_workers.specs.Paths.{IsPathResult}
 use Rattle.studio_workers.proofs.path_nest.+fn-run_paths-scope+run_paths.Goals as goal
 
 pub scope-returns : goal.scope-returns

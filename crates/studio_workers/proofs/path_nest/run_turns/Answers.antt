@@ -1,4 +1,4 @@
-use Rattle.studio_workers.proofs.StreamTurnLemmas.{goes-none, goes-trans}
+use Rattle.single_workers.proofs.StreamTurnLemmas.{goes-none, goes-trans}
 use Rattle.studio_workers.proofs.path_nest.run_turns.Goals as goal
 
 pub loop-init : goal.loop-init

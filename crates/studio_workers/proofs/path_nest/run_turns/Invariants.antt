@@ -1,4 +1,4 @@
-use Rattle.studio_workers.specs.Turns.{GoesOn}
+use Rattle.single_workers.specs.Turns.{GoesOn}
 use Rattle.studio_workers.proofs.path_nest.run_turns.Given as goal
 
 abbrev pub invariant-loop : goal.invariant-loop

@@ -1,13 +1,13 @@
 use Rattle.std.proofs.Common.{◌≡◌, ℕ, true, List, [], length, Option, Vec, Global, sym, ap, subst, ◌∙◌, arith}
 use Rattle.std.specs.List.{AllZip}
 use Rattle.studio_rings.specs.declared.stream.StreamDone.{StreamDone}
-use Rattle.studio_workers.specs.MixWorker.{Mixes}
+use Rattle.single_workers.specs.MixWorker.{Mixes}
+use Rattle.single_workers.specs.StreamTokens.{AllGiveTokens, AreTokensOf, AreTold}
+use Rattle.single_workers.proofs.StreamTokenLemmas.{tokens-opened}
 use Rattle.studio_workers.specs.StreamResults.{counts_in, dones_in}
-use Rattle.studio_workers.specs.StreamTokens.{AllGiveTokens, AreTokensOf, AreTold}
 use Rattle.studio_workers.specs.Streams.{IsStreamResult}
 use Rattle.studio_workers.proofs.HandLemmas.{no_items}
 use Rattle.studio_workers.proofs.RunLemmas.{faults-of-feeds, jobs-ready, settled-run, tokens-for, zip_after}
-use Rattle.studio_workers.proofs.StreamTokenLemmas.{tokens-opened}
 use Rattle.studio_workers.proofs.run.run_workers.Goals as goal
 
 pub run_streams-requires-clause-ready : goal.run_streams-requires-clause-ready

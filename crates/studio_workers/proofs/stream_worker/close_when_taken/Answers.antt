@@ -1,4 +1,5 @@
-use Rattle.studio_workers.proofs.StreamTurnLemmas.{closes-later, goes-none, goes-trans}
+use Rattle.single_workers.proofs.StreamTurnLemmas.{goes-none, goes-trans}
+use Rattle.studio_workers.proofs.CloseLemmas.{closes-later}
 use Rattle.studio_workers.proofs.stream_worker.close_when_taken.Goals as goal
 
 pub loop-init : goal.loop-init

@@ -1,4 +1,4 @@
-use Rattle.studio_workers.specs.Turns.{GoesOn, KeepsTokens}
+use Rattle.single_workers.specs.Turns.{GoesOn, KeepsTokens}
 use Rattle.studio_workers.proofs.stream_worker.close_when_taken.Given as goal
 
 abbrev pub invariant-loop : goal.invariant-loop

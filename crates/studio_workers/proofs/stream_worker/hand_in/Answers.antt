@@ -1,9 +1,9 @@
 use Rattle.std.proofs.Common.{◌≡◌, List, [], ◌∷◌, ◌++◌, refl, sym, ap, subst, ◌∙◌, arith, append_assoc, length-append}
 use Rattle.std.specs.Vec.Iter.{into_iter_items}
+use Rattle.single_workers.specs.declared.path_job.PathResult.{PathResult}
+use Rattle.single_workers.proofs.StreamTurnLemmas.{goes-none, goes-trans}
 use Rattle.studio_workers.specs.Streams.{AllTokensFit}
-use Rattle.studio_workers.specs.declared.path_job.PathResult.{PathResult}
 use Rattle.studio_workers.proofs.HandLemmas.{counted-more, fits-at, handed-next, handed-result, no_items, whole_front}
-use Rattle.studio_workers.proofs.StreamTurnLemmas.{goes-none, goes-trans}
 use Rattle.studio_workers.proofs.stream_worker.hand_in.Goals as goal
 
 pub loop-result-init : goal.loop-result-init

@@ -1,7 +1,7 @@
 use Rattle.std.proofs.Common.{◌≡◌, ◌+◌, ◌++◌, length, map, vec_len, vec_capacity}
 use Rattle.std.specs.Vec.Iter.{into_iter_items, into_iter_len}
-use Rattle.studio_workers.specs.Turns.{GoesOn}
-use Rattle.studio_workers.specs.declared.path_job.PathResult.{PathResult}
+use Rattle.single_workers.specs.Turns.{GoesOn}
+use Rattle.single_workers.specs.declared.path_job.PathResult.{PathResult}
 use Rattle.studio_workers.proofs.HandLemmas.{AreHandedIn}
 use Rattle.studio_workers.proofs.stream_worker.hand_in.Given as goal
 

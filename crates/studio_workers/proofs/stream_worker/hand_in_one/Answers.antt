@@ -1,6 +1,6 @@
 use Rattle.std.proofs.Common.{refl}
+use Rattle.single_workers.proofs.StreamTurnLemmas.{goes-none}
 use Rattle.studio_workers.proofs.HandLemmas.{goes-handed}
-use Rattle.studio_workers.proofs.StreamTurnLemmas.{goes-none}
 use Rattle.studio_workers.proofs.stream_worker.hand_in_one.Goals as goal
 
 pub returns-in-Some-clause-later : goal.returns-in-Some-clause-later

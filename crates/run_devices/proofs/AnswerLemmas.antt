@@ -1,0 +1,10 @@
+-- A feed's answers, one after another.
+use Rattle.std.proofs.Common.{◌≡◌, ℕ, true, List, [], ◌∷◌, refl}
+use Rattle.run_devices.specs.Answers.{Answer, Tells, answer_of, reaches_end}
+use Rattle.run_devices.specs.declared.feed.FeedAnswer.{FeedAnswer}
+
+-- what was told is what was answered
+pub told-next : (k : ℕ) (left : List Answer) (b : List ℕ) (r : FeedAnswer) (rest : List Answer) → reaches_end k left ≡ true → Tells left b r rest → left ≡ answer_of b r ∷ rest
+unfolding reaches_end
+told-next k [] b r rest w t = absurd (cc)
+told-next k (a ∷ rs) b r rest w t = rw (t.0, t.1) refl

@@ -1,0 +1,4 @@
+pub mod FeedLemmas
+pub mod StreamTurnLemmas
+pub mod MixWorkerLemmas
+pub mod StreamTokenLemmas

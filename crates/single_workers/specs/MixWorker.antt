@@ -1,0 +1,26 @@
+-- What the mixer's worker gives, and what its sink is handed.
+use Rattle.std.specs.Prelude.{◌≡◌, ℕ, ◌+◌, ◌<◌, ◌^◌, Bool, true, List, [], ◌∷◌, ◌++◌, length, Option}
+use Rattle.rtrb.specs.Ring.{SameConsumer}
+use Rattle.stream_rules.specs.MarkFacts.{MarkView}
+use Rattle.studio_spec.specs.Studio.{Studio}
+use Rattle.studio_rings.specs.Datagrams.{AreAllGiven, HasGiven}
+use Rattle.studio_rings.specs.declared.side.Side.{Side}
+use Rattle.studio_rings.specs.declared.mix_end.MixEnd.{MixEnd}
+use Rattle.run_devices.specs.Sinks.{Hands}
+
+-- the same rings, with the same tokens
+abbrev pub AreSameSides : List (Side MarkView) → List (Side MarkView) → Type 0
+AreSameSides [] [] = Unit {0}
+AreSameSides (old ∷ olds) (new ∷ news) = (SameConsumer old.ring new.ring × (new.done ≡ old.done)) × AreSameSides olds news
+AreSameSides [] (new ∷ news) = ⊥
+AreSameSides (old ∷ olds) [] = ⊥
+
+module _ {K : Type 0} where
+  -- the end gave some datagrams, and the sink was handed just these, each once, where it tells; where it was idle, no more can be given of what came
+  pub record Mixes (handed : K → Option (List (List ℕ))) (s : MixEnd) (sink : K) (counted : ℕ) (idle : Bool) (t : MixEnd) (new_sink : K) (new_counted : ℕ) : Type 0 where
+    pub datagrams : List (List ℕ)
+    pub count : counted + length datagrams < 2 ^ 64 → new_counted ≡ counted + length datagrams
+    pub hands : Hands (handed sink) datagrams (handed new_sink)
+    pub rings : AreSameSides s.sides.items t.sides.items
+    pub given : (studio : Studio) (before : List (List ℕ)) → HasGiven studio s before → HasGiven studio t (before ++ datagrams)
+    pub all : idle ≡ true → (studio : Studio) (before : List (List ℕ)) → HasGiven studio s before → AreAllGiven studio t (before ++ datagrams)

@@ -1,0 +1,76 @@
+-- What a run's report says of the streams' histories and of the datagrams.
+use Rattle.std.specs.Prelude.{◌≡◌, ℕ, suc, ◌-◌, ◌*◌, ◌<◌, ◌≤◌, ◌^◌, true, List, [], ◌∷◌, ◌++◌, length, sum_by, ℤ, Option}
+use Rattle.stream_rules.specs.declared.stream_spec.Stream.{Stream}
+use Rattle.stream_rules.specs.History.{is_closed, is_well_timed}
+use Rattle.stream_rules.specs.Marks.{marks_of}
+use Rattle.stream_rules.specs.Counts.{counts_of, tally_of}
+use Rattle.stream_rules.specs.declared.event.Event.{Event}
+use Rattle.stream_rules.specs.declared.event.Event.TheVariants.{Close}
+use Rattle.studio_spec.specs.Studio.{Studio}
+use Rattle.studio_mix.specs.Feed.{Feed}
+use Rattle.studio_mix.specs.Blocks.{AreBlocks}
+use Rattle.stream_rules.specs.PathCounts.{empty_path_tally, path_tally_of}
+use Rattle.stream_rules.specs.declared.path_counts.PathCounts.{PathCounts}
+use Rattle.stream_rules.specs.declared.stream_counts.StreamCounts.{StreamCounts}
+use Rattle.studio_rings.specs.Streams.{packets_by}
+use Rattle.run_devices.specs.Answers.{Answer, CountsOthers, IsPartOf, reaches_end, told_datagrams, told_packets}
+use Rattle.run_devices.specs.Clocks.{GoByClock, events_in}
+use Rattle.run_devices.specs.Sinks.{Hands}
+use Rattle.run_devices.specs.declared.report.WorkReport.{WorkReport}
+
+-- the arrivals of a path are packets of its feed's datagrams, in order, each at most once, and all of them where at most 1,000 offers found no room; for each that is lacking 1,001 offers found none, and each other datagram was counted once
+pub record HasPathHistory (stream : Stream) (path : ℕ) (told : List Answer) (counts : PathCounts) (events : List Event) : Type 0 where
+  pub sent : counts.sent ≡ length (packets_by path events)
+  pub some : reaches_end 0 told ≡ true → IsPartOf (packets_by path events) (told_packets stream 0 told)
+  pub all : reaches_end 0 told ≡ true → counts.full ≤ 1000 → counts.offered < 2 ^ 62 → packets_by path events ≡ told_packets stream 0 told
+  pub lacking : reaches_end 0 told ≡ true → counts.offered < 2 ^ 62 → (length (told_packets stream 0 told) - length (packets_by path events)) * 1001 ≤ counts.full
+  pub others : reaches_end 0 told ≡ true → counts.offered < 2 ^ 62 → CountsOthers stream (told_datagrams 0 told) empty_path_tally (path_tally_of counts)
+
+-- so it is of each path, from this one on
+abbrev pub HavePathHistories : Stream → ℕ → List (List Answer) → List PathCounts → List Event → Type 0
+HavePathHistories stream path [] [] events = Unit {0}
+HavePathHistories stream path (told ∷ more) (counts ∷ rest) events = HasPathHistory stream path told counts events × HavePathHistories stream (suc path) more rest events
+HavePathHistories stream path [] (counts ∷ rest) events = ⊥
+HavePathHistories stream path (told ∷ more) [] events = ⊥
+
+-- how many packets its paths sent
+abbrev pub sent_total : List PathCounts → ℕ
+sent_total paths = sum_by (λ (counts : PathCounts). counts.sent) paths
+
+-- a stream had this history, and came to its end by turns that go by what its clock tells
+pub record HasStreamHistory (open_at : ℤ) (places : ℕ) (stream : Stream) (told : List (List Answer)) (clock : List ℤ) (counts : StreamCounts) (events : List Event) : Type 0 where
+  pub well_timed : is_well_timed open_at events ≡ true
+  pub closed : is_closed events ≡ true
+  pub turns : List (List Event)
+  pub made : events ≡ events_in turns ++ Close ∷ []
+  pub timed : GoByClock stream open_at places open_at clock [] turns
+  pub merge : tally_of counts.merge ≡ counts_of stream open_at events (marks_of stream open_at events)
+  pub arrived : sent_total counts.paths.items ≤ 2 ^ 62 → counts.merge.arrived ≡ sent_total counts.paths.items
+  pub paths : HavePathHistories stream 0 told counts.paths.items events
+
+-- so it is of each stream; the feeds stand stream by stream, as many as the stream has paths, and there is a clock for each
+abbrev pub HaveStreamHistories : ℤ → ℕ → List Stream → List (List Answer) → List (List ℤ) → List StreamCounts → List (List Event) → Type 0
+HaveStreamHistories open_at places [] told clocks [] [] = (told ≡ []) × (clocks ≡ [])
+HaveStreamHistories open_at places (stream ∷ streams) told clocks (counts ∷ rest) (events ∷ histories) =
+    (own : List (List Answer)) × (others : List (List Answer)) × (clock : List ℤ) × (left : List (List ℤ))
+    × (told ≡ own ++ others) × (length own ≡ stream.paths) × (clocks ≡ clock ∷ left)
+    × HasStreamHistory open_at places stream own clock counts events × HaveStreamHistories open_at places streams others left rest histories
+HaveStreamHistories open_at places [] told clocks (counts ∷ rest) histories = ⊥
+HaveStreamHistories open_at places [] told clocks [] (events ∷ histories) = ⊥
+HaveStreamHistories open_at places (stream ∷ streams) told clocks [] histories = ⊥
+HaveStreamHistories open_at places (stream ∷ streams) told clocks (counts ∷ rest) [] = ⊥
+
+-- each stream, with all marks of its history
+abbrev pub feeds_of : ℤ → List Stream → List (List Event) → List Feed
+feeds_of open_at [] histories = []
+feeds_of open_at (stream ∷ streams) [] = []
+feeds_of open_at (stream ∷ streams) (events ∷ histories) = record { stream = stream; marks = marks_of stream open_at events } ∷ feeds_of open_at streams histories
+
+-- what a settled run over rings of so many places came to: each stream has a whole history, and a sink that tells at the end was handed the datagrams of exactly the ready blocks of their marks, in order
+pub record IsSettledRun (studio : Studio) (places : ℕ) (told : List (List Answer)) (clocks : List (List ℤ)) (report : WorkReport) (before after : Option (List (List ℕ))) : Type 0 where
+  pub histories : List (List Event)
+  pub streams : HaveStreamHistories studio.open_at places studio.streams told clocks report.streams.items histories
+  pub datagrams : List (List ℕ)
+  pub blocks : AreBlocks studio (feeds_of studio.open_at studio.streams histories) datagrams
+  pub count : length datagrams < 2 ^ 64 → report.blocks ≡ length datagrams
+  pub handed : Hands before datagrams after
