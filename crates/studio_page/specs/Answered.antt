@@ -6,7 +6,6 @@ use Rattle.http_uri.specs.Uri.{uri_path}
 use Rattle.http_server.specs.declared.response.Response.{Response}
 use Rattle.http_server.specs.Exchange.{Call}
 use Rattle.http_server.specs.History.{History}
-use Rattle.studio_page.specs.declared.page.Page.{Page}
 use Rattle.studio_page.specs.declared.snapshot.Snapshot.{Snapshot}
 use Rattle.studio_page.specs.Answer.{IsAnswer}
 
@@ -15,8 +14,8 @@ abbrev pub IsAnswered : Snapshot → Request (List ℕ) → Response → Type 0
 IsAnswered snapshot request response = IsAnswer snapshot (head_of request).method (uri_path (head_of request).uri) response
 
 -- an answer leaves the page as it was
-abbrev pub page_answers : Page → Request (List ℕ) → Response → Page → Type 0
-page_answers old request response new = IsAnswered old.snapshot request response × (new ≡ old)
+abbrev pub page_answers : Snapshot → Request (List ℕ) → Response → Snapshot → Type 0
+page_answers old request response new = IsAnswered old request response × (new ≡ old)
 
 -- further requests were answered, each from the snapshot
 pub record AnswersMore (snapshot : Snapshot) (old new : History) : Type 0 where

@@ -74,9 +74,11 @@ impl PageServer {
 
     /// Whether a client may go on at once.
     fn has_more(&self) -> bool {
-        for (_, client) in self.clients.iter() {
-            if client.progress == Progress::GoesOn {
-                return true;
+        for place in 0..MOST_CLIENTS {
+            if let Some(client) = self.clients.get(place) {
+                if client.progress == Progress::GoesOn {
+                    return true;
+                }
             }
         }
         false
@@ -121,16 +123,16 @@ impl PageServer {
 
     /// Takes a client, if memory and the system allow it; else it is let go.
     fn take(&mut self, mut stream: TcpStream, now: Duration) {
-        let token = Token(self.clients.vacant_key());
-        let both = Interest::READABLE | Interest::WRITABLE;
-        if self
-            .poll
-            .registry()
-            .register(&mut stream, token, both)
-            .is_ok()
-        {
+        if self.is_told_of(&mut stream) {
             let connection = open(self.alloc, self.keys);
             let _ = self.clients.insert(Client::new(stream, connection, now));
         }
+    }
+
+    /// Asks to be told of a client that gets the next free place; false where the system refuses.
+    fn is_told_of(&self, stream: &mut TcpStream) -> bool {
+        let token = Token(self.clients.vacant_key());
+        let both = Interest::READABLE | Interest::WRITABLE;
+        self.poll.registry().register(stream, token, both).is_ok()
     }
 }

@@ -10,8 +10,8 @@ const LOOK: u64 = 50;
 
 /// What knows a run.
 pub trait SnapshotSource {
-    /// Renews what is newer in a snapshot, without waiting; false, once the run has ended.
-    fn renew(&mut self, snapshot: &mut Snapshot) -> bool;
+    /// Renews a page where there is a newer snapshot, without waiting; false, once the run has ended.
+    fn renew(&mut self, page: &mut Page) -> bool;
 }
 
 /// Whole snapshots out of a ring, of which the newest counts. The run ends where the ring's producer does.
@@ -28,11 +28,11 @@ impl RingSource {
 }
 
 impl SnapshotSource for RingSource {
-    fn renew(&mut self, snapshot: &mut Snapshot) -> bool {
+    fn renew(&mut self, page: &mut Page) -> bool {
         let is_over = self.ring.is_abandoned();
         for _ in 0..self.ring.slots() {
             if let Ok(newer) = self.ring.pop() {
-                *snapshot = newer;
+                page.renew(newer);
             }
         }
         !is_over
@@ -49,7 +49,7 @@ pub fn serve_page<R: Wait + Clock, S: SnapshotSource + Drop>(
     let mut now = Duration::ZERO;
     for _ in rt.forever() {
         server.wait(Duration::from_millis(LOOK));
-        if !source.renew(&mut page.snapshot) {
+        if !source.renew(&mut page) {
             return;
         }
         now = rt.monotonic().unwrap_or(now);
