@@ -4,6 +4,7 @@
 #![tactic(auto)]
 
 mod rings;
+mod told;
 mod watches;
 mod work;
 mod workers;

@@ -5,6 +5,7 @@ ghost use Rattle.studio_workers.specs.StreamResults.{AreOpenedTogether};
 ghost use Rattle.live_run.specs.Run.{IsEarly, IsRunOf};
 
 use crate::rings::{Rings, rings_of};
+use crate::told::Told;
 use crate::watches::WatchView;
 use crate::work::work_of;
 use live_parts::Start;
@@ -91,8 +92,13 @@ fn view_of<'a, R: Clock, E: Write + Drop>(
 ) -> Result<Option<WatchView<'a, R, E>>, AllocError> {
     match (watches, board) {
         (Some(watches), Some(board)) => {
-            let view = WatchView::new(alloc, watches, start.clock(rt), board)?;
-            Ok(Some(view))
+            let told = Told::nothing(alloc, watches.paths.len(), watches.streams.len())?;
+            Ok(Some(WatchView {
+                watches,
+                told,
+                clock: start.clock(rt),
+                board,
+            }))
         }
         _ => Ok(None),
     }
