@@ -1,8 +1,7 @@
 //! Live runs, from the octets of a configuration.
-use crate::config::{Configs, config_of, studio_in};
-use crate::fault::{Fault, written};
 use crate::names::names_in;
 use command_words::LiveWords;
+use file_commands::{Configs, Fault, config_of, studio_in, written};
 use live_parts::{
     Handed, LiveOptions, LivePorts, Opening, Recorded, Setup, Strangers, StreamName, TaiOffset,
     tai_opening,

@@ -1,6 +1,5 @@
 //! The names of a configuration's streams, which are for people alone.
-use crate::config::table_in;
-use crate::fault::Fault;
+use file_commands::{Fault, table_in};
 use live_parts::StreamName;
 use std::alloc::Global;
 use toml::Value;

@@ -1,14 +1,11 @@
 //! From the words of a command line to its exit status.
-use crate::captures::list_streams;
-use crate::config::Configs;
-use crate::fault::Fault;
-use crate::import::import_capture;
 use crate::live::run_live;
-use crate::replay::replay_capture;
 use crate::told::told;
-use crate::traces::{check, draw, list, list_standard, list_with_counts, play_trace};
-use crate::wav::{list_to_wav, play_to_wav};
 use command_words::{Asked, asked_for};
+use file_commands::{
+    Configs, Fault, check, draw, import_capture, list, list_standard, list_streams, list_to_wav,
+    list_with_counts, play_to_wav, play_trace, replay_capture,
+};
 use std::alloc::Global;
 use std::io::{Read, Write};
 use std::net::Net;

@@ -1,11 +1,11 @@
 //! What is told in place of a run.
-use crate::fault::Fault;
 use clap::Error;
 use clap::error::ErrorKind;
+use file_commands::Fault;
 use std::io::Write;
 
 /// Tells what the words ask for in place of a run, or what is wrong with them. Answers the status.
-pub fn told<W: Write, E: Write>(error: &Error, output: &mut W, faults: &mut E) -> u8 {
+pub(crate) fn told<W: Write, E: Write>(error: &Error, output: &mut W, faults: &mut E) -> u8 {
     if error.kind() == ErrorKind::OutOfMemory {
         return Fault::Memory.tell(faults);
     }

@@ -44,7 +44,11 @@ pub fn config_of<C: Configs>(configs: &C, alloc: Global, path: &str) -> Result<V
 }
 
 /// The studio of the configuration at a path.
-pub fn studio_of<C: Configs>(configs: &C, alloc: Global, path: &str) -> Result<StudioSpec, Fault> {
+pub(crate) fn studio_of<C: Configs>(
+    configs: &C,
+    alloc: Global,
+    path: &str,
+) -> Result<StudioSpec, Fault> {
     let octets = config_of(configs, alloc, path)?;
     studio_in(alloc, octets.as_slice())
 }
@@ -56,7 +60,7 @@ pub fn studio_in(alloc: Global, octets: &[u8]) -> Result<StudioSpec, Fault> {
 }
 
 /// The table that the octets of a configuration say.
-pub(crate) fn table_in(alloc: Global, octets: &[u8]) -> Result<Table, Fault> {
+pub fn table_in(alloc: Global, octets: &[u8]) -> Result<Table, Fault> {
     if octets.len() > MOST_OCTETS {
         return Err(Fault::Config(ConfigFault::TooLong));
     }
@@ -72,7 +76,7 @@ pub(crate) fn table_in(alloc: Global, octets: &[u8]) -> Result<Table, Fault> {
 
 /// The studio of a run without words: one stream of L24, mono, in packets of 6 sampling instants on
 /// two paths.
-pub fn standard_studio(alloc: Global) -> Result<StudioSpec, Fault> {
+pub(crate) fn standard_studio(alloc: Global) -> Result<StudioSpec, Fault> {
     let text = "open_at = 0\n[[stream]]\nencoding = \"L24\"\nchannels = 1\nframes = 6\npt = 96\n\
         clock = \"media\"\nlatency = 12\nwindow = 8\n[output]\nencoding = \"L24\"\nchannels = 1\n\
         frames = 6\npt = 97\nssrc = 2\nseq = 0\nstart = 0\ngains = [[65536]]\n";

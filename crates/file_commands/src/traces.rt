@@ -8,7 +8,7 @@ use studio_run::{list_marks, list_marks_and_counts, play};
 use studio_summary::write_summary;
 
 /// Lists the marks of the trace by the configuration of a run without words.
-pub(crate) fn list_standard<I: Read, W: Write>(
+pub fn list_standard<I: Read, W: Write>(
     alloc: Global,
     input: &mut I,
     output: &mut W,
@@ -18,7 +18,7 @@ pub(crate) fn list_standard<I: Read, W: Write>(
 }
 
 /// Lists the marks of the trace by the configuration at a path.
-pub(crate) fn list<C: Configs, I: Read, W: Write>(
+pub fn list<C: Configs, I: Read, W: Write>(
     configs: &C,
     alloc: Global,
     path: &str,
@@ -30,7 +30,7 @@ pub(crate) fn list<C: Configs, I: Read, W: Write>(
 }
 
 /// The same, and writes the counts where faults go.
-pub(crate) fn list_with_counts<C: Configs, I: Read, W: Write, E: Write>(
+pub fn list_with_counts<C: Configs, I: Read, W: Write, E: Write>(
     configs: &C,
     alloc: Global,
     path: &str,
@@ -43,7 +43,7 @@ pub(crate) fn list_with_counts<C: Configs, I: Read, W: Write, E: Write>(
 }
 
 /// Writes the report of the trace by the configuration at a path.
-pub(crate) fn play_trace<C: Configs, I: Read, W: Write>(
+pub fn play_trace<C: Configs, I: Read, W: Write>(
     configs: &C,
     alloc: Global,
     path: &str,
@@ -55,7 +55,7 @@ pub(crate) fn play_trace<C: Configs, I: Read, W: Write>(
 }
 
 /// Draws the trace by the configuration at a path.
-pub(crate) fn draw<C: Configs, I: Read, W: Write>(
+pub fn draw<C: Configs, I: Read, W: Write>(
     configs: &C,
     alloc: Global,
     path: &str,
@@ -67,7 +67,7 @@ pub(crate) fn draw<C: Configs, I: Read, W: Write>(
 }
 
 /// Says what the configuration at a path means.
-pub(crate) fn check<C: Configs, W: Write>(
+pub fn check<C: Configs, W: Write>(
     configs: &C,
     alloc: Global,
     path: &str,

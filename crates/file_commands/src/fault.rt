@@ -4,10 +4,10 @@ use capture_read::CaptureFault;
 use capture_reader::ReaderFault;
 use capture_replay::ReplayFault;
 use live_parts::HandedFault;
+use live_run::LiveFault;
 use std::alloc::{AllocError, AllocFailed};
 use std::io;
 use std::io::Write;
-use studio_live::LiveFault;
 use studio_run::{PlayFault, SpecError, StudioFault, WriteFault};
 use studio_spec::Kind;
 use studio_wav::{FileFault, StreamFault};
@@ -163,7 +163,7 @@ impl From<ReaderFault> for Fault {
 }
 
 /// What a write to the output came to.
-pub(crate) fn written(write: io::Result<()>) -> Result<(), Fault> {
+pub fn written(write: io::Result<()>) -> Result<(), Fault> {
     match write {
         Ok(()) => Ok(()),
         Err(_) => Err(Fault::Write),

@@ -9,7 +9,7 @@ use studio_wav::{RecordFault, list_and_record, play_and_record};
 
 /// Plays the trace by the configuration at a path, and writes the mix to the file at another. Before a fault of that
 /// file its path is told where faults go.
-pub(crate) fn play_to_wav<C: Configs, I: Read, W: Write, E: Write>(
+pub fn play_to_wav<C: Configs, I: Read, W: Write, E: Write>(
     configs: &C,
     alloc: Global,
     config: &str,
@@ -28,7 +28,7 @@ pub(crate) fn play_to_wav<C: Configs, I: Read, W: Write, E: Write>(
 
 /// Writes a stream's samples to a file, and lists the marks of the trace, by the configuration at a path. Before a fault
 /// of that file its path is told where faults go.
-pub(crate) fn list_to_wav<C: Configs, I: Read, W: Write, E: Write>(
+pub fn list_to_wav<C: Configs, I: Read, W: Write, E: Write>(
     configs: &C,
     alloc: Global,
     config: &str,
