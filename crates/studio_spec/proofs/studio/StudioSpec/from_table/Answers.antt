@@ -12,8 +12,28 @@ use Rattle.studio_spec.specs.OutputTable.{output_of, schedule_of, each_fault, ou
 use Rattle.studio_spec.specs.Config.{streams_of, port_table, bind_table, sender_table}
 use Rattle.studio_spec.specs.declared.config.fault.Place.TheVariants as at
 use Rattle.studio_spec.specs.declared.config.keys.Key.TheVariants as key
-use Rattle.studio_spec.proofs.FaultLemmas.{top_fault-none, config_fault-output}
+use Rattle.studio_spec.proofs.FaultLemmas.{top_fault-none, config_fault-output, config_fault-open_at, config_fault-tables, config_fault-output_table, config_fault-unknown}
 use Rattle.studio_spec.proofs.studio.StudioSpec.from_table.Goals as goal
+
+pub returns-in_err-open_at-clause-fault : goal.returns-in_err-open_at-clause-fault
+returns-in_err-open_at-clause-fault c =
+    let is : c.from_residual.result ≡ Err c.in_err-open_at.field-0.0 = search rules in
+    rw is (inr (config_fault-open_at (table_view c.args.table.now) c.in_err-open_at.field-0.0 c.in_err-open_at.ensures.fault))
+
+pub returns-in_err-tables-clause-fault : goal.returns-in_err-tables-clause-fault
+returns-in_err-tables-clause-fault c =
+    let is : c.from_residual-in_err-tables.result ≡ Err c.in_err-tables.field-0.0 = search rules in
+    rw is (inr (config_fault-tables (table_view c.args.table.now) c.in_err-tables.field-0.0 c.in_ok-open_at.ensures.ok c.in_err-tables.ensures.fault))
+
+pub returns-in_err-output_table-clause-fault : goal.returns-in_err-output_table-clause-fault
+returns-in_err-output_table-clause-fault c =
+    let is : c.from_residual-in_err-output_table.result ≡ Err c.in_err-output_table.field-0.0 = search rules in
+    rw is (inr (config_fault-output_table (table_view c.args.table.now) c.in_err-output_table.field-0.0 c.in_ok-open_at.ensures.ok c.in_ok-tables.ensures.ok c.in_err-output_table.ensures.fault))
+
+pub returns-in_err-check_known-clause-fault : goal.returns-in_err-check_known-clause-fault
+returns-in_err-check_known-clause-fault c =
+    let is : c.from_residual-in_err-check_known.result ≡ Err c.in_err-check_known.field-0.0 = search rules in
+    rw is (inr (config_fault-unknown (table_view c.args.table.now) c.in_err-check_known.field-0.0 c.in_ok-open_at.ensures.ok c.in_ok-tables.ensures.ok c.in_ok-output_table.ensures.ok c.in_err-check_known.ensures.fault))
 
 pub returns-in_err-output-clause-fault : goal.returns-in_err-output-clause-fault
 returns-in_err-output-clause-fault c =
