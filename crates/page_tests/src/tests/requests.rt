@@ -1,17 +1,36 @@
 //! Requests and their answers, octet by octet.
 use super::sample::snapshot;
+use super::texts::STATE;
 use http_server::{Connection, serve};
+use std::alloc::Global;
 use std::hash::RandomState;
-use std::test::Fail;
+use std::process::Abort;
+use std::random::RandomSource;
 use studio_page::{HTML, Page, open, state_of};
 
 /// What a page sends to a client that sends these octets and no more.
-fn answers(rt: &HostRuntime, page: &mut Page, octets: &[u8]) -> Result<Vec<u8>, Fail> {
-    let mut connection: Connection = open(rt.alloc(), RandomState::new(rt)?);
-    let mut sent = Vec::new(rt.alloc());
+fn answers(
+    rt: &(impl Abort + RandomSource),
+    alloc: Global,
+    page: &mut Page,
+    octets: &[u8],
+) -> Vec<u8> {
+    let keys = RandomState::new(rt).expect(rt, "random octets");
+    let mut connection = open(alloc, keys);
+    let mut sent = Vec::new(alloc);
+    assert!(rt; is_served(&mut connection, page, octets, &mut sent));
+    sent
+}
+
+/// Serves a client until its connection is done.
+fn is_served(
+    connection: &mut Connection,
+    page: &mut Page,
+    octets: &[u8],
+    sent: &mut Vec<u8>,
+) -> bool {
     let mut unread = octets;
-    serve(&mut connection, page, &mut unread, &mut sent)?;
-    Ok(sent)
+    serve(connection, page, &mut unread, sent).is_ok()
 }
 
 /// Requests that are answered in few words.
@@ -55,64 +74,70 @@ const SHORT: [(&str, &str); 9] = [
 
 /// What stands nowhere, what can't be read so, heads alone, bodies that are too long or cut, and what is no request.
 #[test]
-fn requests_are_answered_octet_by_octet(rt: HostRuntime) -> Result<(), Fail> {
-    let mut page = Page::new(rt.alloc(), snapshot(&rt));
-    for (request, answer) in SHORT {
-        let sent = answers(&rt, &mut page, request.as_bytes())?;
-        assert_eq!(rt; sent.as_slice(), answer.as_bytes(), "{request}");
+fn requests_are_answered_octet_by_octet(rt: HostRuntime) {
+    let page = &mut Page::new(rt.alloc(), snapshot(&rt));
+    for (request, answer) in &SHORT {
+        let sent = answers(&rt, rt.alloc(), page, request.as_bytes());
+        assert!(rt; sent.as_slice() == answer.as_bytes(), "{request}");
     }
-    Ok(())
 }
+
+/// What comes to a client that asks for the state and then for the page, up to the length of the latter.
+const KEPT: [&str; 3] = [
+    "HTTP/1.1 200 OK\r\ncontent-type: application/json\r\ncache-control: no-store\r\n\
+    content-length: 625\r\n\r\n",
+    STATE,
+    "HTTP/1.1 200 OK\r\ncontent-type: text/html; charset=utf-8\r\ncache-control: no-store\r\ncontent-length: ",
+];
 
 /// One request after another on one connection: each has its answer whole, with the length of its body.
 #[test]
-fn a_connection_is_kept(rt: HostRuntime) -> Result<(), Fail> {
-    let mut page = Page::new(rt.alloc(), snapshot(&rt));
-    let sent = answers(
-        &rt,
-        &mut page,
-        b"GET /state HTTP/1.1\r\nHost: h\r\n\r\nGET /?now HTTP/1.1\r\nHost: h\r\n\r\n",
-    )?;
-    let state = state_of(rt.alloc(), &snapshot(&rt))?;
-    let mut wanted = Vec::new(rt.alloc());
-    wanted.extend_from_slice(
-        b"HTTP/1.1 200 OK\r\ncontent-type: application/json\r\ncache-control: no-store\r\n\
-        content-length: 625\r\n\r\n",
-    )?;
-    wanted.extend_from_slice(state.as_slice())?;
-    wanted.extend_from_slice(
-        b"HTTP/1.1 200 OK\r\ncontent-type: text/html; charset=utf-8\r\ncache-control: no-store\r\ncontent-length: ",
-    )?;
-    assert!(rt; sent.starts_with(wanted.as_slice()));
-    assert!(rt; sent.ends_with(HTML.as_bytes()));
-    Ok(())
+fn a_connection_is_kept(rt: HostRuntime) {
+    let page = &mut Page::new(rt.alloc(), snapshot(&rt));
+    let requests = b"GET /state HTTP/1.1\r\nHost: h\r\n\r\nGET /?now HTTP/1.1\r\nHost: h\r\n\r\n";
+    let sent = answers(&rt, rt.alloc(), page, requests);
+    let mut rest = sent.as_slice();
+    for part in &KEPT {
+        rest = rest.strip_prefix(part.as_bytes()).expect(&rt, "a part");
+    }
+    assert!(rt; rest.ends_with(HTML.as_bytes()));
+}
+
+/// A request that begins so, of 9,000 octets.
+fn long_request(rt: &impl Abort, alloc: Global, front: &str) -> Vec<u8> {
+    let mut request = Vec::from_slice(alloc, front.as_bytes()).expect(rt, "there is memory");
+    request.resize(9_000, b'x').expect(rt, "there is memory");
+    request
 }
 
 /// A head of more than 8,192 octets is refused, wherever it is cut.
 #[test]
-fn a_long_head_is_refused(rt: HostRuntime) -> Result<(), Fail> {
-    let mut page = Page::new(rt.alloc(), snapshot(&rt));
-    for (front, code) in [
-        ("GET / HTTP/1.1\r\nHost: h\r\nX: ", "431"),
-        ("GET /", "414"),
-    ] {
-        let mut request = Vec::new(rt.alloc());
-        request.extend_from_slice(front.as_bytes())?;
-        request.resize(9_000, b'x')?;
-        let sent = answers(&rt, &mut page, request.as_slice())?;
-        assert!(rt;
-            sent.len() > 12 && &sent[9..12] == code.as_bytes(),
-            "{front}"
-        );
-    }
-    Ok(())
+fn a_long_head_is_refused(rt: HostRuntime) {
+    let page = &mut Page::new(rt.alloc(), snapshot(&rt));
+    let sent = answers(
+        &rt,
+        rt.alloc(),
+        page,
+        &long_request(&rt, rt.alloc(), "GET / HTTP/1.1\r\nHost: h\r\nX: "),
+    );
+    assert!(rt; sent.starts_with(b"HTTP/1.1 431 "));
+    let sent = answers(
+        &rt,
+        rt.alloc(),
+        page,
+        &long_request(&rt, rt.alloc(), "GET /"),
+    );
+    assert!(rt; sent.starts_with(b"HTTP/1.1 414 "));
 }
+
+/// What would have a browser fetch something from elsewhere.
+const FROM_ELSEWHERE: [&str; 5] = ["http:", "https:", "src=", "@import", "url("];
 
 /// The page is at most 40 KB, and nothing in it comes from elsewhere.
 #[test]
 fn the_page_stands_alone(rt: HostRuntime) {
     assert!(rt; HTML.len() <= 40_000);
-    for from_elsewhere in ["http:", "https:", "src=", "@import", "url("] {
-        assert!(rt; !HTML.contains(from_elsewhere), "{from_elsewhere}");
+    for from_elsewhere in &FROM_ELSEWHERE {
+        assert!(rt; !HTML.contains(*from_elsewhere), "{from_elsewhere}");
     }
 }

@@ -3,7 +3,7 @@ use super::sample::snapshot;
 use std::hash::RandomState;
 use std::io::{ErrorKind, Read, Write};
 use std::net::TcpStream;
-use std::test::Fail;
+use std::process::Abort;
 use std::time::Duration;
 use studio_page::Page;
 use studio_serve::{MOST_CLIENTS, PageServer};
@@ -14,7 +14,6 @@ const REQUEST: &[u8] = b"GET /nothing HTTP/1.1\r\nHost: h\r\n\r\n";
 const ANSWER: &[u8] = b"HTTP/1.1 404 Not Found\r\ncontent-length: 0\r\n\r\n";
 
 /// Who is taken, and who came past the 64th.
-#[derive(Clone, Copy, Debug, PartialEq, Eq)]
 enum Fate {
     Answered,
     LetGo,
@@ -32,29 +31,14 @@ fn fate_of(client: &mut TcpStream) -> Fate {
     }
 }
 
-/// So many clients, each of which has sent a request.
-fn clients(rt: &HostRuntime, server: &PageServer, count: usize) -> Result<Vec<TcpStream>, Fail> {
-    let address = server.address()?;
-    let mut clients = Vec::new(rt.alloc());
-    for _ in 0..count {
-        let mut client = TcpStream::connect(rt, address)?;
-        client.write_all(REQUEST)?;
-        client.set_nonblocking(true)?;
-        clients.push(client)?;
-    }
-    Ok(clients)
+/// The client sends a request.
+fn ask(rt: &impl Abort, client: &mut TcpStream) {
+    assert!(rt; client.write_all(REQUEST).is_ok());
+    assert!(rt; client.set_nonblocking(true).is_ok());
 }
 
-/// 70 clients at once: 64 are answered, and the others let go. Those who then do nothing are let go after 10 s.
-#[test]
-fn clients_are_answered_or_let_go(rt: HostRuntime) -> Result<(), Fail> {
-    let mut page = Page::new(rt.alloc(), snapshot(&rt));
-    let mut server = PageServer::bind(&rt, rt.alloc(), RandomState::new(&rt)?, 0)?;
-    let mut clients = clients(&rt, &server, MOST_CLIENTS + 6)?;
-    for turn in 0..20 {
-        server.wait(Duration::from_millis(10));
-        server.turn(&mut page, Duration::from_millis(turn));
-    }
+/// How many were answered, and how many let go.
+fn fates_of(clients: &mut [TcpStream]) -> (u32, u32) {
     let (mut answered, mut let_go) = (0u32, 0u32);
     for client in clients.iter_mut() {
         match fate_of(client) {
@@ -63,10 +47,27 @@ fn clients_are_answered_or_let_go(rt: HostRuntime) -> Result<(), Fail> {
             Fate::Waits => {}
         }
     }
-    assert_eq!(rt; (answered, let_go), (64, 6));
-    server.turn(&mut page, Duration::from_secs(11));
-    for client in clients.iter_mut() {
-        assert_eq!(rt; fate_of(client), Fate::LetGo);
+    (answered, let_go)
+}
+
+/// 70 clients at once: 64 are answered, and the others let go. Those who then do nothing are let go after 10 s.
+#[test]
+fn clients_are_answered_or_let_go(rt: HostRuntime) {
+    let page = &mut Page::new(rt.alloc(), snapshot(&rt));
+    let keys = RandomState::new(&rt).expect(&rt, "random octets");
+    let mut server = PageServer::bind(&rt, rt.alloc(), keys, 0).expect(&rt, "a port");
+    let address = server.address().expect(&rt, "an address");
+    let mut clients = Vec::new(rt.alloc());
+    for _ in 0..MOST_CLIENTS + 6 {
+        let mut client = TcpStream::connect(&rt, address).expect(&rt, "a connection");
+        ask(&rt, &mut client);
+        assert!(rt; clients.push(client).is_ok());
     }
-    Ok(())
+    for turn in 0..20 {
+        server.wait(Duration::from_millis(10));
+        server.turn(page, Duration::from_millis(turn));
+    }
+    assert!(rt; fates_of(&mut clients) == (64, 6));
+    server.turn(page, Duration::from_secs(11));
+    assert!(rt; fates_of(&mut clients) == (0, 70));
 }

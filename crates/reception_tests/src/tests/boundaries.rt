@@ -6,23 +6,46 @@ use path_merge::{Fate, Path, Stream, StreamClock, Window};
 use std::alloc::Global;
 use std::process::Abort;
 
-/// The fate of a packet on the second path, at a time, behind (1, 0) on the first.
-fn second_fate<W: Window>(rt: &impl Abort, bench: &mut Bench<W>, time: i64, second: Sent) -> Fate {
-    let (a, b) = (Path::new(0), Path::new(1));
-    let first = bench.offer(rt, a.expect(rt, "a path"), Sent::new(1, 0));
-    assert!(rt; first == Fate::Taken, "the first packet");
-    bench.tick(rt, time);
-    bench.offer(rt, b.expect(rt, "a path"), second)
+/// The fate of a packet on the second path; at a time, if one is given, behind (1, 0) on the first.
+fn fate_on<W: Window>(
+    rt: &impl Abort,
+    bench: &mut Bench<W>,
+    time: Option<i64>,
+    sent: Sent,
+) -> Fate {
+    if let Some(time) = time {
+        let a = Path::new(0).expect(rt, "a path");
+        let first = bench.offer(rt, a, Sent::new(1, 0));
+        assert!(rt; first == Fate::Taken, "the first packet");
+        bench.tick(rt, time);
+    }
+    bench.offer(rt, Path::new(1).expect(rt, "a path"), sent)
 }
+
+/// The same by both windows, at a stream with this clock and opening time.
+fn fate_of(
+    rt: &impl Abort,
+    alloc: Global,
+    opened: (StreamClock, i64),
+    time: Option<i64>,
+    sent: Sent,
+) -> Fate {
+    let (clock, open_at) = opened;
+    let spec = spec_of(rt, Stream { clock, ..STREAM });
+    let slots = fate_on(rt, &mut slots_bench(rt, alloc, spec, open_at), time, sent);
+    let sorted = fate_on(rt, &mut sorted_bench(rt, alloc, spec, open_at), time, sent);
+    assert!(rt; slots == sorted, "both windows: timestamp {}", sent.ts);
+    slots
+}
+
+const MEDIA: StreamClock = StreamClock::Media { offset: 0 };
+
+const OFFSET: StreamClock = StreamClock::Media { offset: 1000 };
 
 /// The fate of number 65537 + k, whose timestamp is 6 k, at a time, behind the first packet.
 fn fate_at(rt: &impl Abort, alloc: Global, time: i64, k: u32) -> Fate {
-    let spec = spec_of(rt, STREAM);
-    let second = Sent::new((k.wrapping_add(1) % 65_536) as u16, k.wrapping_mul(6));
-    let slots = second_fate(rt, &mut slots_bench(rt, alloc, spec, 0), time, second);
-    let sorted = second_fate(rt, &mut sorted_bench(rt, alloc, spec, 0), time, second);
-    assert!(rt; slots == sorted, "both windows at {time}: {k}");
-    slots
+    let sent = Sent::new((k.wrapping_add(1) % 65_536) as u16, k.wrapping_mul(6));
+    fate_of(rt, alloc, (MEDIA, 0), Some(time), sent)
 }
 
 /// A time, which number is due next, and the fate of a packet of that number.
@@ -65,21 +88,6 @@ fn fates_around(rt: &impl Abort, alloc: Global, time: i64, next: u32) {
     }
 }
 
-/// The fate of a first packet of this timestamp, where the stream opens at 100.
-fn first_fate(rt: &impl Abort, alloc: Global, clock: StreamClock, ts: u32) -> Fate {
-    let spec = spec_of(rt, Stream { clock, ..STREAM });
-    let path = Path::new(0).expect(rt, "a path");
-    let first = Sent::new(1, ts);
-    let slots = slots_bench(rt, alloc, spec, 100).offer(rt, path, first);
-    let sorted = sorted_bench(rt, alloc, spec, 100).offer(rt, path, first);
-    assert!(rt; slots == sorted, "both windows: timestamp {ts}");
-    slots
-}
-
-const MEDIA: StreamClock = StreamClock::Media { offset: 0 };
-
-const OFFSET: StreamClock = StreamClock::Media { offset: 1000 };
-
 /// A clock, a first packet's timestamp, and its fate.
 const FIRSTS: [(StreamClock, u32, Fate); 12] = [
     (MEDIA, 87, Fate::Late),
@@ -100,7 +108,7 @@ const FIRSTS: [(StreamClock, u32, Fate); 12] = [
 #[test]
 fn every_boundary_of_a_first_packet(rt: HostRuntime) {
     for (clock, ts, want) in &FIRSTS {
-        let fate = first_fate(&rt, rt.alloc(), *clock, *ts);
+        let fate = fate_of(&rt, rt.alloc(), (*clock, 100), None, Sent::new(1, *ts));
         assert!(rt; fate == *want, "timestamp {ts}, {clock:?}");
     }
 }

@@ -5,7 +5,9 @@ ghost use Rattle.path_merge.specs.Run.{IsEventOf};
 use super::bench::{Bench, slots_bench, sorted_bench};
 use super::steps::{Sent, Step, step_of};
 use super::words::{say_mark, says};
-use path_merge::{Event, Mark, Path, Stream, StreamClock, StreamSpec, Window, run_merge};
+use path_merge::{
+    Event, Mark, Path, SpecFault, Stream, StreamClock, StreamSpec, Window, run_merge,
+};
 use rtp_wire::Enc;
 use std::alloc::Global;
 use std::process::Abort;
@@ -25,7 +27,11 @@ pub const STREAM: Stream = Stream {
 
 /// A stream in which there is no fault.
 pub fn spec_of(rt: &impl Abort, stream: Stream) -> StreamSpec {
-    StreamSpec::of(stream).expect(rt, "a stream")
+    checked(stream).expect(rt, "a stream")
+}
+
+fn checked(stream: Stream) -> Result<StreamSpec, SpecFault> {
+    StreamSpec::of(stream)
 }
 
 /// What happens to a stream, and what has to come of it, in the words of `steps` and `bench`.

@@ -1,25 +1,20 @@
 //! What a trace can't say of lanes: marks that may not follow, a room that is full, and refused memory.
 ghost use Rattle.std.specs.Prelude.{◌≡◌};
+ghost use Rattle.stream_rules.specs.MarkFacts.{HasLength, payload_length};
 
+use super::cases::{STREAM, spec_of};
 use lane_align::{Cover, Lane};
-use rtp_wire::{Enc, Payload};
+use rtp_wire::Payload;
 use std::alloc::Global;
 use std::process::Abort;
-use stream_rules::{Body, Format, Mark, StreamClock, StreamSpec};
-
-/// A stream of L24.
-fn stream(rt: &impl Abort, channels: u8, frames: u16) -> StreamSpec {
-    let clock = StreamClock::Media { offset: 0 };
-    let spec = StreamSpec::new(Enc::L24, channels, frames, 96, None, clock, 12, 8, 2);
-    spec.expect(rt, "a stream without a fault")
-}
+use stream_rules::{Body, Format, Mark, Stream, StreamSpec};
 
 /// A stream of one channel, in packets of six.
 fn mono(rt: &impl Abort) -> StreamSpec
     ensures channels { result.channels ≡ 1 }
     ensures frames { result.frames ≡ 6 }
 {
-    let spec = stream(rt, 1, 6);
+    let spec = spec_of(rt, STREAM);
     assert!(rt; spec.channels() == 1 && spec.frames() == 6);
     spec
 }
@@ -31,6 +26,8 @@ enum Plain {
     Quiet(i16),
     /// A lost slot: its epoch, number and media time.
     Lost(u8, u32, i16),
+    /// The slot that stands in its place, with these samples.
+    Got(u8, u32, i16, [u8; 6]),
     End,
 }
 
@@ -38,32 +35,53 @@ enum Plain {
 fn mark_of(format: Format, plain: Plain) -> Mark {
     match plain {
         Plain::Quiet(until) => Mark::quiet(format, i64::from(until)),
-        Plain::Lost(epoch, number, media) => {
-            let (epoch, number) = (u64::from(epoch), u64::from(number));
-            Mark::slot(format, epoch, number, i64::from(media), Body::Lost)
+        Plain::Lost(epoch, number, media) => slot(format, epoch, number, media, Body::Lost),
+        Plain::Got(epoch, number, media, samples) => {
+            slot(format, epoch, number, media, body_of(format, &samples))
         }
         Plain::End => Mark::end(format),
     }
 }
 
-/// The slot that stands in the place of a lost one, with these samples.
-fn got(
-    rt: &impl Abort,
-    format: Format,
-    epoch: u8,
-    number: u32,
-    media: i16,
-    samples: &[u8],
-) -> Mark {
+fn slot(format: Format, epoch: u8, number: u32, media: i16, body: Body) -> Mark
+    requires { HasLength (payload_length format) body }
+{
+    let (epoch, number) = (u64::from(epoch), u64::from(number));
+    Mark::slot(format, epoch, number, i64::from(media), body)
+}
+
+/// These samples, if they fill a packet.
+fn body_of(format: Format, samples: &[u8]) -> Body
+    ensures { HasLength (payload_length format) result }
+{
     let mut octets = Payload::new();
     for sample in samples {
         let _ = octets.try_push(0);
         let _ = octets.try_push(0);
         let _ = octets.try_push(*sample);
     }
-    assert!(rt; octets.len() == format.payload_len());
-    let (epoch, number) = (u64::from(epoch), u64::from(number));
-    Mark::slot(format, epoch, number, i64::from(media), Body::Got(octets))
+    if octets.len() != format.payload_len() {
+        return Body::Lost;
+    }
+    Body::Got(octets)
+}
+
+/// What is done with a lane, and what has to come of it.
+#[derive(Clone, Copy)]
+enum Step {
+    /// A mark that is wanted is fed.
+    Feed(Plain),
+    /// A mark that there is room for is kept, though it may not be wanted.
+    Keep(Plain),
+    NoRoom(Plain),
+    /// A mark may not follow what the lane has.
+    Refuse(Plain),
+    /// The same of a mark in a stream of two channels.
+    RefuseOther(Plain),
+    /// No mark is wanted for the next block.
+    Covered,
+    /// The next block has these samples.
+    Play([i32; 12]),
 }
 
 /// A lane of one channel, and blocks of twelve.
@@ -91,136 +109,123 @@ impl Player {
         }
     }
 
-    /// Whether a mark is wanted for the next block.
-    fn wants(&self) -> bool {
-        self.lane.wants(self.lane.position() + 12)
-    }
-
-    /// Feeds silence up to a media time, which has to be wanted and accepted.
-    fn take_quiet(&mut self, rt: &impl Abort, until: i16) {
-        let mark = mark_of(self.lane.format(), Plain::Quiet(until));
-        let end = self.lane.position() + 12;
-        assert!(rt; self.lane.wants(end), "a mark is wanted");
-        assert!(rt; self.lane.accepts(&mark), "the mark is accepted");
-        self.lane.feed(mark);
-    }
-
-    /// Keeps a mark, which has to be accepted and to have room.
-    fn keep_mark(&mut self, rt: &impl Abort, mark: &Mark) {
-        let lent = mark.lent();
-        assert!(rt; self.lane.accepts_ref(&lent), "the mark is accepted");
-        assert!(rt; self.lane.has_room(&lent), "there is room");
-        self.lane.keep_ref(&lent);
-    }
-
-    fn keep(&mut self, rt: &impl Abort, plain: Plain) {
-        let mark = mark_of(self.lane.format(), plain);
-        self.keep_mark(rt, &mark);
-    }
-
-    /// Keeps a slot of these samples.
-    fn keep_got(&mut self, rt: &impl Abort, epoch: u8, number: u32, media: i16, samples: &[u8]) {
-        let mark = got(rt, self.lane.format(), epoch, number, media, samples);
-        self.keep_mark(rt, &mark);
-    }
-
-    /// Whether there is room for a mark.
-    fn has_room(&self, plain: Plain) -> bool {
-        let mark = mark_of(self.lane.format(), plain);
-        self.lane.has_room(&mark.lent())
-    }
-
-    /// The next block is covered, and has these samples.
-    fn plays(&mut self, rt: &impl Abort, samples: &[i32]) {
-        let mut out = [0; 12];
-        let position = self.lane.position();
-        assert!(rt; position < 1_000_000);
-        assert!(rt; !self.lane.wants(position + 12), "the block is covered");
-        self.lane.read_block(&mut out);
-        assert!(rt; out.as_slice() == samples);
-    }
-
-    /// None of these marks may follow what the lane has.
-    fn refuses(&self, rt: &impl Abort, format: Format, marks: &[Plain]) {
-        for (place, plain) in marks.iter().enumerate() {
-            let mark = mark_of(format, *plain);
-            assert!(rt; !self.lane.accepts(&mark), "mark {place}");
+    /// Takes these steps.
+    fn take(&mut self, rt: &impl Abort, steps: &[Step]) {
+        for (place, step) in steps.iter().enumerate() {
+            assert!(rt; self.is_as_told(*step), "step {place}");
         }
     }
+
+    /// Whether what came of a step is what had to.
+    fn is_as_told(&mut self, step: Step) -> bool {
+        let format = self.lane.format();
+        match step {
+            Step::Feed(plain) => self.feeds(&mark_of(format, plain)),
+            Step::Keep(plain) => self.keeps(&mark_of(format, plain)),
+            Step::NoRoom(plain) => !self.lane.has_room(&mark_of(format, plain).lent()),
+            Step::Refuse(plain) => !self.lane.accepts(&mark_of(format, plain)),
+            Step::RefuseOther(plain) => {
+                let other = Format {
+                    channels: 2,
+                    ..format
+                };
+                !self.lane.accepts(&mark_of(other, plain))
+            }
+            Step::Covered => !self.lane.wants(self.lane.position() + 12),
+            Step::Play(samples) => self.plays(&samples),
+        }
+    }
+
+    fn feeds(&mut self, mark: &Mark) -> bool {
+        let mark = mark.lent();
+        let is_taken = self.lane.wants(self.lane.position() + 12) && self.lane.accepts_ref(&mark);
+        if is_taken {
+            self.lane.feed_ref(&mark);
+        }
+        is_taken
+    }
+
+    fn keeps(&mut self, mark: &Mark) -> bool {
+        let mark = mark.lent();
+        let is_taken = self.lane.accepts_ref(&mark) && self.lane.has_room(&mark);
+        if is_taken {
+            self.lane.keep_ref(&mark);
+        }
+        is_taken
+    }
+
+    fn plays(&mut self, samples: &[i32; 12]) -> bool {
+        let mut out = [0; 12];
+        let position = self.lane.position();
+        if position >= 1_000_000 || self.lane.wants(position + 12) {
+            return false;
+        }
+        self.lane.read_block(&mut out);
+        out == *samples
+    }
 }
 
-/// The samples of three packets, as they are sent and as they are played.
-const SENT: [u8; 18] = [
-    1, 2, 3, 4, 5, 6, 7, 8, 9, 10, 11, 12, 13, 14, 15, 16, 17, 18,
+const A_ROOM: [Step; 12] = [
+    Step::Feed(Plain::Quiet(14)),
+    Step::Covered,
+    Step::Keep(Plain::Got(0, 70_000, 15, [1, 2, 3, 4, 5, 6])),
+    Step::NoRoom(Plain::Lost(1, 9, 25)),
+    Step::Keep(Plain::Got(1, 9, 24, [7, 8, 9, 10, 11, 12])),
+    Step::NoRoom(Plain::Lost(1, 10, 30)),
+    Step::Play([0; 12]),
+    Step::Keep(Plain::Got(1, 10, 30, [13, 14, 15, 16, 17, 18])),
+    Step::Keep(Plain::Lost(1, 11, 36)),
+    Step::Keep(Plain::End),
+    Step::Play([0, 0, 0, 1, 2, 3, 4, 5, 6, 0, 0, 0]),
+    Step::Play([7, 8, 9, 10, 11, 12, 13, 14, 15, 16, 17, 18]),
 ];
-
-const LAST: [i32; 12] = [7, 8, 9, 10, 11, 12, 13, 14, 15, 16, 17, 18];
-
-/// The first packet's samples amid silence.
-const AMID_SILENCE: [i32; 12] = [0, 0, 0, 1, 2, 3, 4, 5, 6, 0, 0, 0];
-
-/// Keeps two slots, which fill a room of 30 frames but for six.
-fn fill(rt: &impl Abort, player: &mut Player) {
-    player.keep_got(rt, 0, 70_000, 15, &SENT[..6]);
-    assert!(rt; !player.has_room(Plain::Lost(1, 9, 25)), "to 31 of 30");
-    player.keep_got(rt, 1, 9, 24, &SENT[6..12]);
-    assert!(rt; !player.has_room(Plain::Lost(1, 10, 30)), "to 36 of 30");
-}
 
 /// Marks of two epochs, kept before they are wanted in a room of 30 frames, which begins at the next block.
 #[test]
 fn a_room_is_filled_to_its_last_frame(rt: HostRuntime) {
     let player = &mut Player::with_room(&rt, rt.alloc());
-    player.take_quiet(&rt, 14);
-    assert!(rt; !player.wants(), "the block is silent");
-    fill(&rt, player);
-    player.plays(&rt, &[0; 12]);
-    player.keep_got(&rt, 1, 10, 30, &SENT[12..]);
-    player.keep(&rt, Plain::Lost(1, 11, 36));
-    player.keep(&rt, Plain::End);
+    player.take(&rt, &A_ROOM);
     assert!(rt; player.lane.cover() == Cover::All);
-    player.plays(&rt, &AMID_SILENCE);
-    player.plays(&rt, &LAST);
     assert!(rt; player.lane.end() == 42);
 }
 
-/// After silence up to 3.
-const AFTER_SILENCE: [Plain; 2] = [Plain::Quiet(3), Plain::Lost(0, 70_000, 2)];
-
-/// Which another stream's marks are after the same.
-const OF_ANOTHER: [Plain; 2] = [Plain::Quiet(4), Plain::Lost(0, 70_000, 3)];
-
-/// After a slot of 70,000 at 27.
-const AFTER_A_SLOT: [Plain; 6] = [
-    Plain::Lost(1, 9, 32),
-    Plain::Lost(2, 9, 50),
-    Plain::Lost(0, 70_001, 34),
-    Plain::Lost(0, 70_000, 33),
-    Plain::Lost(0, 70_002, 33),
-    Plain::Quiet(40),
+const FOLLOWERS: [Step; 17] = [
+    Step::Keep(Plain::Quiet(3)),
+    Step::Refuse(Plain::Quiet(3)),
+    Step::Refuse(Plain::Lost(0, 70_000, 2)),
+    Step::RefuseOther(Plain::Quiet(4)),
+    Step::RefuseOther(Plain::Lost(0, 70_000, 3)),
+    Step::Keep(Plain::Lost(0, 70_000, 27)),
+    Step::Refuse(Plain::Lost(1, 9, 32)),
+    Step::Refuse(Plain::Lost(2, 9, 50)),
+    Step::Refuse(Plain::Lost(0, 70_001, 34)),
+    Step::Refuse(Plain::Lost(0, 70_000, 33)),
+    Step::Refuse(Plain::Lost(0, 70_002, 33)),
+    Step::Refuse(Plain::Quiet(40)),
+    Step::Keep(Plain::Lost(1, 9, 33)),
+    Step::Keep(Plain::End),
+    Step::Refuse(Plain::Lost(1, 10, 39)),
+    Step::Refuse(Plain::Quiet(60)),
+    Step::Refuse(Plain::End),
 ];
-
-const AFTER_THE_END: [Plain; 3] = [Plain::Lost(1, 10, 39), Plain::Quiet(60), Plain::End];
 
 /// After silence up to 3, a slot at 27, one of the next epoch and the end: marks of other times, numbers, epochs and streams.
 #[test]
 fn marks_that_do_not_follow_are_refused(rt: HostRuntime) {
-    let player = &mut Player::new(&rt, rt.alloc());
-    let format = player.lane.format();
-    player.keep(&rt, Plain::Quiet(3));
-    player.refuses(&rt, format, &AFTER_SILENCE);
-    player.refuses(&rt, stream(&rt, 2, 6).format(), &OF_ANOTHER);
-    player.keep(&rt, Plain::Lost(0, 70_000, 27));
-    player.refuses(&rt, format, &AFTER_A_SLOT);
-    player.keep(&rt, Plain::Lost(1, 9, 33));
-    player.keep(&rt, Plain::End);
-    player.refuses(&rt, format, &AFTER_THE_END);
+    Player::new(&rt, rt.alloc()).take(&rt, &FOLLOWERS);
 }
 
 /// A lane, made twice: with one allocation refused, one of them at most says want of memory.
 #[test]
 fn each_refused_allocation_is_answered(rt: HostRuntime) {
-    let spec = stream(&rt, 8, 48);
+    let spec = spec_of(
+        &rt,
+        Stream {
+            channels: 8,
+            frames: 48,
+            ..STREAM
+        },
+    );
     let first = Lane::new(rt.alloc(), spec, 0, 192).is_ok();
     let second = Lane::new(rt.alloc(), spec, 0, 192).is_ok();
     assert!(rt; first || second, "with memory again");

@@ -39,13 +39,9 @@ impl Sent {
 
     /// The packet for a stream: its payload counts up from 1, and ends in the sequence number's low octet.
     pub fn packet(self, spec: &StreamSpec) -> Packet {
-        let len = spec.payload_len();
-        let mut payload = Payload::new();
-        for place in 1..len {
-            let _ = payload.try_push((place % 256) as u8);
-        }
         let [_, low] = self.seq.to_be_bytes();
-        let _ = payload.try_push(if self.odd { !low } else { low });
+        let last = if self.odd { !low } else { low };
+        let payload = payload_of(spec.payload_len(), last);
         Packet {
             seq: self.seq,
             ts: self.ts,
@@ -53,6 +49,16 @@ impl Sent {
             payload,
         }
     }
+}
+
+/// So many octets, which count up from 1, but for the last.
+pub fn payload_of(len: usize, last: u8) -> Payload {
+    let mut payload = Payload::new();
+    for place in 1..len {
+        let _ = payload.try_push((place % 256) as u8);
+    }
+    let _ = payload.try_push(last);
+    payload
 }
 
 /// What happens to a stream.

@@ -1,4 +1,5 @@
 //! Fates, marks and counts in words, with commas between them.
+use super::steps::payload_of;
 use path_merge::{Body, ClockFault, Counts, Fate, Mark, MarkKind, StreamSpec};
 use std::process::Abort;
 
@@ -63,16 +64,11 @@ fn word_of(rt: &impl Abort, number: u64, body: &Body) -> &'static str {
         return "lost";
     };
     let [.., low] = number.to_be_bytes();
-    let Some((last, others)) = payload.as_slice().split_last() else {
-        panic!(rt; "a payload without octets")
-    };
-    assert!(rt; *last == low, "the last octet of number {number}");
-    for (place, octet) in others.iter().enumerate() {
-        assert!(rt;
-            usize::from(*octet) == (place + 1) % 256,
-            "octet {place} of number {number}"
-        );
-    }
+    let sent = payload_of(payload.len(), low);
+    assert!(rt;
+        payload.as_slice() == sent.as_slice(),
+        "the octets of number {number}"
+    );
     "got"
 }
 
