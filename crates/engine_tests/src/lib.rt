@@ -1,5 +1,0 @@
-//! Tests of an engine: its calls one by one.
-#![tactic(auto)]
-
-#[cfg(test)]
-mod tests;

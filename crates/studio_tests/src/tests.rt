@@ -1,0 +1,21 @@
+//! The tests: of a mix, of an engine, of rings, and of workers and of one thread.
+mod alone;
+mod callers;
+mod calls;
+mod datagrams;
+mod deadlines;
+mod fakes;
+mod gains;
+mod holding;
+mod lists;
+mod memory;
+mod mixer;
+mod mixing;
+mod packets;
+mod rings;
+mod small_studios;
+mod studios;
+mod threads;
+mod timed;
+mod watches;
+mod workers;

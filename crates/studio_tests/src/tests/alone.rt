@@ -1,0 +1,105 @@
+//! Whole runs in one thread, over feeds, clocks and a sink in memory.
+
+use super::fakes::{FailingSink, FaultyFeed, NoRest};
+use super::timed::{TimedClock, TimedFeed, TimedSink, WholeRest};
+use super::workers::{
+    FAILURES, Failing, gave_both, has_failed, list_of, one_stream, only, sends, two_packets,
+};
+use std::alloc::Global;
+use std::process::Abort;
+use std::sync::Wait;
+use std::sync::atomic::AtomicI64;
+use studio_alone::{Quiet, Rest, run_alone};
+use studio_uses::{MemoryClock, MemoryFeed, MemorySink};
+use studio_workers::{Clock, Feed, Sink, WorkReport};
+
+/// Runs one stream on two paths.
+fn run_one<R: Wait + Abort, F: Feed, C: Clock, K: Sink, P: Rest>(
+    rt: &R,
+    alloc: Global,
+    feeds: [F; 2],
+    clock: C,
+    sink: K,
+    rest: P,
+) -> (WorkReport, K) {
+    let studio = one_stream(alloc).expect(rt, "a studio");
+    let feeds = list_of(rt, alloc, [list_of(rt, alloc, feeds)]);
+    let done = run_alone(rt, alloc, &studio, feeds, clock, sink, Quiet, rest);
+    let Ok((report, sink, _)) = done else {
+        panic!(rt; "there is memory")
+    };
+    (report, sink)
+}
+
+/// An address that refuses a datagram counts a fault, and the other address gets all.
+#[test]
+fn one_thread_and_an_address_that_fails(rt: HostRuntime) {
+    let alloc = rt.alloc();
+    let packets = two_packets(&rt, alloc);
+    let feeds = [MemoryFeed::new(&packets), MemoryFeed::new(&[])];
+    let sink = FailingSink::new(&rt, alloc, 1);
+    let (report, sink) = run_one(&rt, alloc, feeds, MemoryClock::new(&[0]), sink, NoRest);
+    assert!(rt; only(&rt, &report).got == 2);
+    assert!(rt; sends(&report) == (2, [2, 1], [0, 1]));
+    gave_both(&rt, sink.handed());
+}
+
+/// Runs one stream whose feeds fail, by a clock with these readings.
+fn run_failing<R: Wait + Abort>(
+    rt: &R,
+    alloc: Global,
+    readings: &[i64],
+    first: Failing,
+    second: Failing,
+) -> WorkReport {
+    let packets = two_packets(rt, alloc);
+    let feeds = [first, second].map(|(first, later)| FaultyFeed::new(first, later, &packets));
+    let sink = MemorySink::new(alloc);
+    let (report, sink) = run_one(rt, alloc, feeds, MemoryClock::new(readings), sink, NoRest);
+    gave_both(rt, sink.kept());
+    report
+}
+
+/// A feed that fails is asked again, and ends, as in a run by workers.
+#[test]
+fn one_thread_ends_a_feed_after_1000_faults(rt: HostRuntime) {
+    for (first, second, arrivals, faults) in &FAILURES {
+        let report = run_failing(&rt, rt.alloc(), &[0], *first, *second);
+        has_failed(&rt, &report, *arrivals, *faults);
+    }
+}
+
+/// It goes by the greatest answer so far, and from the opening time on: after each fault the clock is read again.
+#[test]
+fn one_thread_by_a_clock_that_goes_back(rt: HostRuntime) {
+    let readings = [-5, 11, 5, i64::MIN, 11, 0];
+    let report = run_failing(&rt, rt.alloc(), &readings, (2, 1), (2, 1));
+    has_failed(&rt, &report, [4, 2, 2], [4, 4]);
+}
+
+/// Both packets on the first path, of a run that rests as long as it may until a time: when its datagrams went out.
+fn times_until<R: Wait + Abort>(rt: &R, alloc: Global, until: i64) -> Vec<i64> {
+    let packets = two_packets(rt, alloc);
+    let time = AtomicI64::new(0);
+    let time = &time;
+    let feeds = [MemoryFeed::new(&packets), MemoryFeed::new(&[])];
+    let feeds = feeds.map(|feed| TimedFeed { time, feed, until });
+    let times = Vec::new(alloc);
+    let sink = TimedSink { time, times };
+    let (_, sink) = run_one(
+        rt,
+        alloc,
+        feeds,
+        TimedClock { time },
+        sink,
+        WholeRest { time },
+    );
+    sink.times
+}
+
+/// Packets of 0 and 6 are due a latency of 12 later, and so is the silence behind them: no rest goes past one.
+#[test]
+fn one_thread_rests_to_each_deadline(rt: HostRuntime) {
+    let times = times_until(&rt, rt.alloc(), 24);
+    assert!(rt; times.as_slice() == [12i64, 18, 24].as_slice(), "{times:?}");
+}

@@ -1,0 +1,93 @@
+//! What the watches of one stream are told.
+use super::packets::{FIRST, SECOND};
+use super::rings::{MEDIA, studio_of};
+use std::alloc::Global;
+use std::process::Abort;
+use studio_rings::{Ends, Offer, Watches, open_watched};
+
+/// What is done with the ends of one stream on two paths, and what its watches have to tell.
+#[derive(Clone, Copy)]
+enum Step {
+    /// A path is offered a packet, which finds room.
+    Send(usize, &'static [u8; 30]),
+    /// A path's watch has its datagrams offered and sent, or nothing.
+    Path(usize, Option<(u64, u64)>),
+    /// A turn at a reading.
+    Turn(i64),
+    /// The stream's watch has the first copies and the doubles of both paths, or nothing.
+    Stream(Option<[(u64, u64); 2]>),
+}
+
+/// A path's watch is told the counts of the first datagram since it was asked; the stream's is told once in a tenth of a second.
+const STEPS: [Step; 14] = [
+    Step::Path(0, None),
+    Step::Send(0, &FIRST),
+    Step::Send(0, &SECOND),
+    Step::Send(1, &SECOND),
+    Step::Path(0, Some((1, 1))),
+    Step::Path(0, None),
+    Step::Send(0, &SECOND),
+    Step::Path(0, Some((3, 3))),
+    Step::Path(1, Some((1, 1))),
+    Step::Stream(None),
+    Step::Turn(0),
+    Step::Stream(Some([(2, 1), (0, 1)])),
+    Step::Turn(12),
+    Step::Stream(None),
+];
+
+fn told_of_path(watches: &mut Watches, path: usize) -> Option<(u64, u64)> {
+    let counts = watches.paths.get_mut(path)?.latest()?;
+    Some((counts.offered, counts.sent))
+}
+
+fn told_of_stream(watches: &mut Watches) -> Option<[(u64, u64); 2]> {
+    let numbers = watches.streams.first_mut()?.latest()?;
+    let [a, b, _, _] = numbers.paths;
+    Some([
+        (a.tally.first, a.tally.double),
+        (b.tally.first, b.tally.double),
+    ])
+}
+
+fn sends(ends: &mut Ends, path: usize, packet: &[u8; 30]) -> bool {
+    match ends.paths.get_mut(path) {
+        Some(end) => end.offer(packet) == Offer::Sent,
+        None => false,
+    }
+}
+
+fn turns(ends: &mut Ends, now: i64) -> bool {
+    match ends.streams.first_mut() {
+        Some(end) => end.turn(now).is_ok(),
+        None => false,
+    }
+}
+
+/// Whether what came of a step is what had to.
+fn is_as_told(ends: &mut Ends, watches: &mut Watches, step: Step) -> bool {
+    match step {
+        Step::Send(path, packet) => sends(ends, path, packet),
+        Step::Path(path, want) => told_of_path(watches, path) == want,
+        Step::Turn(now) => turns(ends, now),
+        Step::Stream(want) => told_of_stream(watches) == want,
+    }
+}
+
+/// The ends and watches of that stream.
+fn watched(rt: &impl Abort, alloc: Global) -> (Ends, Watches) {
+    let studio = studio_of(rt, alloc, MEDIA, 8);
+    match open_watched(alloc, &studio, 4) {
+        Ok(both) => both,
+        Err(_) => { panic!(rt; "there is memory") }
+    }
+}
+
+/// Two packets on the first path, of which the second path brings the later one too, and the first path once more.
+#[test]
+fn watches_tell_what_becomes_of_each_paths_packets(rt: HostRuntime) {
+    let (mut ends, mut watches) = watched(&rt, rt.alloc());
+    for (place, step) in STEPS.iter().enumerate() {
+        assert!(rt; is_as_told(&mut ends, &mut watches, *step), "step {place}");
+    }
+}
