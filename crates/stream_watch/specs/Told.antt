@@ -1,11 +1,12 @@
--- What goes through the ring of a stream's numbers.
-use Rattle.std.specs.Prelude.{◌≡◌, ◌⊎◌, List, [], ◌∷◌, ◌++◌, ℤ}
-use Rattle.rtrb.specs.Ring.{sent}
+-- What goes through the rings of a stream's numbers and of the mix's.
+use Rattle.std.specs.Prelude.{◌≡◌, ◌⊎◌, ℕ, ◌<◌, List, [], ◌∷◌, length, slice_index, ℤ, ◌<ℤ◌, ◌≤ℤ◌}
 use Rattle.rtrb.specs.declared.producer.Producer.{Producer}
 use Rattle.stream_rules.specs.declared.counts.Counts.{Counts}
 use Rattle.stream_rules.specs.declared.stream_spec.Stream.{Stream}
 use Rattle.stream_tally.specs.Offer.{Offer}
+use Rattle.stream_watch.specs.Newest.{Gives}
 use Rattle.stream_watch.specs.Numbers.{AreNumbers}
+use Rattle.stream_watch.specs.declared.numbers.MixNumbers.{MixNumbers}
 use Rattle.stream_watch.specs.declared.numbers.PathNumbers.{PathNumbers}
 use Rattle.stream_watch.specs.declared.numbers.StreamNumbers.{StreamNumbers}
 
@@ -22,7 +23,15 @@ pub record AreTold (stream : Stream) (offers : List Offer) (counts : Counts) (no
   pub of_c : AreNumbers stream offers 2 now c
   pub of_d : AreNumbers stream offers 3 now d
 
--- these numbers went through the ring, or nothing did
-abbrev pub Tells : {A P : Type 0} → Stream → List Offer → Counts → ℤ → Producer StreamNumbers A P → Producer StreamNumbers A P → Type 0
-Tells stream offers counts now old new =
-    (sent new ≡ sent old) ⊎ ((numbers : StreamNumbers) × (sent new ≡ sent old ++ numbers ∷ []) × AreTold stream offers counts now numbers)
+-- at its time these numbers went through the ring, if there was room; before it nothing did
+abbrev pub Tells : {A P : Type 0} → Stream → List Offer → Counts → ℤ → ℤ → Producer StreamNumbers A P → Producer StreamNumbers A P → Type 0
+Tells stream offers counts next now old new =
+    ((now <ℤ next) × (new ≡ old)) ⊎ ((numbers : StreamNumbers) × (next ≤ℤ now) × Gives numbers old new × AreTold stream offers counts now numbers)
+
+-- the counts of the first eight channels, and 0 for a channel that the output hasn't
+abbrev pub IsByChannel : List ℕ → MixNumbers → Type 0
+IsByChannel counts numbers = (length numbers.saturated ≡ 8) × ((channel : ℕ) → channel < 8 → slice_index numbers.saturated channel ≡ slice_index counts channel)
+
+-- these counts went through the ring, if there was room
+abbrev pub TellsMix : {A P : Type 0} → List ℕ → Producer MixNumbers A P → Producer MixNumbers A P → Type 0
+TellsMix counts old new = (numbers : MixNumbers) × Gives numbers old new × IsByChannel counts numbers

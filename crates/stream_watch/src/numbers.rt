@@ -1,4 +1,4 @@
-//! What is told of a stream.
+//! What is told of a stream, and of the mix.
 
 use stream_rules::Counts;
 use stream_tally::{PathTally, Spare};
@@ -17,4 +17,11 @@ pub struct StreamNumbers {
     pub counts: Counts,
     /// Path by path. Of a path that the stream hasn't all is 0.
     pub paths: [PathNumbers; 4],
+}
+
+/// How many samples of the mix were saturated, at one moment.
+#[derive(Clone, Copy, Debug, PartialEq, Eq)]
+pub struct MixNumbers {
+    /// Channel by channel. Of a channel that the output hasn't it is 0.
+    pub saturated: [u64; 8],
 }

@@ -1,7 +1,8 @@
 //! A ring of what becomes of a path's datagrams before the merge.
-ghost use Rattle.std.specs.Prelude.{◌≡◌, ◌⊎◌, ◌∷◌, [], ◌++◌};
-ghost use Rattle.rtrb.specs.Ring.{SameConsumer, SameProducer, sent};
+ghost use Rattle.rtrb.specs.Ring.{SameConsumer, SameProducer};
+ghost use Rattle.stream_watch.specs.Newest.{Gives, IsNewest};
 
+use crate::ring::{give, newest};
 use rtrb::{Consumer, Producer, RingBuffer};
 use std::alloc::{AllocError, Global};
 use stream_rules::PathCounts;
@@ -27,18 +28,19 @@ pub fn open_path_watch(alloc: Global) -> Result<(PathTeller, PathWatch), AllocEr
 impl PathTeller {
     /// Tells these counts, if the last ones were looked at.
     pub fn tell(&mut self, counts: PathCounts)
-        ensures told { (sent self.new.ring ≡ sent self.old.ring) ⊎ (sent self.new.ring ≡ sent self.old.ring ++ counts ∷ []) }
+        ensures told { Gives counts self.old.ring self.new.ring }
         ensures ring { SameProducer self.old.ring self.new.ring }
     {
-        let _ = self.ring.push(counts);
+        give(&mut self.ring, counts);
     }
 }
 
 impl PathWatch {
     /// The counts that came since the last look, if any did: those of the first datagram after it.
     pub fn latest(&mut self) -> Option<PathCounts>
-        ensures { SameConsumer self.old.ring self.new.ring }
+        ensures newest { IsNewest 1 result self.old.ring self.new.ring }
+        ensures ring { SameConsumer self.old.ring self.new.ring }
     {
-        self.ring.pop().ok()
+        newest(&mut self.ring, 1)
     }
 }

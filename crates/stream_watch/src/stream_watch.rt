@@ -1,14 +1,16 @@
 //! A ring of what becomes of a stream's packets.
-ghost use Rattle.std.specs.Prelude.{◌≡◌, ℕ, ◌<◌, ◌∷◌, [], List, Option, IfOk};
-ghost use Rattle.rtrb.specs.Ring.{SameProducer};
+ghost use Rattle.std.specs.Prelude.{◌≡◌, ℕ, ◌<◌, ◌^◌, ◌∷◌, [], List, Option, IfOk, ℤ, pos, neg_ℤ, ◌+ℤ◌, ◌<ℤ◌, ◌≤ℤ◌};
+ghost use Rattle.rtrb.specs.Ring.{SameConsumer, SameProducer};
 ghost use Rattle.stream_rules.specs.declared.stream_spec.Stream.{Stream};
 ghost use Rattle.stream_tally.specs.Offer.{Offer};
 ghost use Rattle.stream_tally.specs.Tally.{HasTally};
+ghost use Rattle.stream_watch.specs.Newest.{IsNewest};
 ghost use Rattle.stream_watch.specs.Numbers.{AreNumbers};
 ghost use Rattle.stream_watch.specs.Told.{Tells};
 
 use crate::copy_watch::CopyWatch;
 use crate::numbers::{PathNumbers, StreamNumbers};
+use crate::ring::{give, newest};
 use rtrb::{Consumer, Producer, RingBuffer};
 use std::alloc::{AllocError, Global};
 use stream_rules::{Counts, Fate, PacketRef, Path, StreamSpec};
@@ -39,7 +41,8 @@ pub fn open_watch(
     alloc: Global,
     spec: &StreamSpec,
 ) -> Result<(StreamTeller, StreamWatch), AllocError>
-    ensures { IfOk result (λ ends. HasTally spec.now [] ends.0.watch.tally) }
+    ensures empty { IfOk result (λ ends. HasTally spec.now [] ends.0.watch.tally) }
+    ensures next { IfOk result (λ ends. (now : ℤ) → neg_ℤ (pos (2 ^ 63)) ≤ℤ now → ends.0.next ≤ℤ now) }
 {
     let watch = CopyWatch::new(alloc, spec)?;
     let (producer, consumer) = RingBuffer::new(alloc, PLACES)?;
@@ -72,7 +75,9 @@ impl StreamTeller {
     /// Tells these counts and the paths' numbers at a reading of the clock, if a tenth of a second went by since the last
     /// time and there is room.
     pub fn tell(&mut self, counts: Counts, now: i64)
-        ensures told { (stream : Stream) (offers : List Offer) → HasTally stream offers self.old.watch.tally → Tells stream offers counts now self.old.ring self.new.ring }
+        ensures told { (stream : Stream) (offers : List Offer) → HasTally stream offers self.old.watch.tally → Tells stream offers counts self.old.next now self.old.ring self.new.ring }
+        ensures early { now <ℤ self.old.next → self.new.next ≡ self.old.next }
+        ensures next { self.old.next ≤ℤ now → self.new.next ≤ℤ (now +ℤ TENTH) }
         ensures ring { SameProducer self.old.ring self.new.ring }
         ensures watch { self.new.watch ≡ self.old.watch }
     {
@@ -89,10 +94,7 @@ impl StreamTeller {
                 numbers_at(&self.watch, 3, now),
             ],
         };
-        match self.ring.push(numbers) {
-            Ok(()) => {}
-            Err(_) => {}
-        }
+        give(&mut self.ring, numbers);
     }
 }
 
@@ -109,14 +111,10 @@ fn numbers_at(watch: &CopyWatch, number: u8, now: i64) -> PathNumbers
 
 impl StreamWatch {
     /// The latest numbers that came since the last look, if any did.
-    pub fn latest(&mut self) -> Option<StreamNumbers> {
-        let mut latest = None;
-        for _ in 0..PLACES {
-            match self.ring.pop() {
-                Ok(numbers) => latest = Some(numbers),
-                Err(_) => return latest,
-            }
-        }
-        latest
+    pub fn latest(&mut self) -> Option<StreamNumbers>
+        ensures newest { IsNewest PLACES result self.old.ring self.new.ring }
+        ensures ring { SameConsumer self.old.ring self.new.ring }
+    {
+        newest(&mut self.ring, PLACES)
     }
 }

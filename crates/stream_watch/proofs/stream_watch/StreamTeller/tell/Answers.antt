@@ -1,14 +1,15 @@
-use Rattle.std.proofs.Common.{◌≡◌, inr, refl, ◌∷◌, [], subst, to_z, of_z, w64}
+use Rattle.std.proofs.Common.{◌≡◌, inr, refl, ◌∷◌, [], subst, to_z, of_z, w64, rules}
 use Rattle.std.proofs.lemmas.Int.{to_z-of_z}
 use Rattle.stream_watch.specs.Numbers.{AreNumbers}
 use Rattle.stream_watch.proofs.stream_watch.StreamTeller.tell.Goals as goal
 
-pub returns-in-Ok-clause-told : goal.returns-in-Ok-clause-told
-returns-in-Ok-clause-told c = λ stream offers told.
+pub returns-clause-told : goal.returns-clause-told
+returns-clause-told c = λ stream offers told.
     let z : to_z w64 (of_z w64 c.args.now) ≡ c.args.now = to_z-of_z w64 c.args.now c.ranges.now in
     inr (
       record { counts = c.args.counts; paths = c.numbers_at.result ∷ c.numbers_at-2.result ∷ c.numbers_at-3.result ∷ c.numbers_at-4.result ∷ [] },
-      c.in-Ok.ensures.ok.0,
+      search rules,
+      c.give.ensures.given,
       record {
         counts_are = refl;
         a = c.numbers_at.result;

@@ -1,0 +1,22 @@
+-- What goes into a ring of numbers, and what a look takes out of it.
+use Rattle.std.specs.Prelude.{◌≡◌, ◌⊎◌, ℕ, List, [], ◌∷◌, ◌++◌, length, Option, None}
+use Rattle.std.specs.List.{last_or}
+use mathlib.Core.List.{IsPrefix}
+use Rattle.rtrb.specs.Ring.{known_free, known_items, received, sent}
+use Rattle.rtrb.specs.declared.consumer.Consumer.{Consumer}
+use Rattle.rtrb.specs.declared.producer.Producer.{Producer}
+
+module _ {T A P : Type 0} where
+  -- this went through the ring; or no place was known to be free, and none was found
+  abbrev pub Gives : T → Producer T A P → Producer T A P → Type 0
+  Gives value old new = (sent new ≡ sent old ++ value ∷ []) ⊎ ((sent new ≡ sent old) × (known_free old ≡ 0) × (known_free new ≡ 0))
+
+  -- these were taken out, first what was seen there before; then none was seen there, or so many were taken
+  pub record Takes (most : ℕ) (taken : List T) (old new : Consumer T A P) : Type 0 where
+    pub received_are : received new ≡ received old ++ taken
+    pub seen : IsPrefix (known_items old) (taken ++ known_items new)
+    pub all : (known_items new ≡ []) ⊎ (length taken ≡ most)
+
+  -- the newest of those that a look took out, so many at most; none where none was there
+  abbrev pub IsNewest : ℕ → Option T → Consumer T A P → Consumer T A P → Type 0
+  IsNewest most newest old new = (taken : List T) × Takes most taken old new × (newest ≡ last_or None taken)
