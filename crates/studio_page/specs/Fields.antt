@@ -108,17 +108,17 @@ stream_help Stream.Latency = codes "From a packet's media time to its deadline, 
 -- how a number of an output channel is called
 abbrev pub output_key : OutputField → List ℕ
 output_key Output.Peak = codes "peak"
-output_key Output.FullScale = codes "full_scale"
+output_key Output.Saturated = codes "saturated"
 
 -- whether it only rises
 abbrev pub output_kind : OutputField → Kind
 output_kind Output.Peak = Gauge
-output_kind Output.FullScale = Counter
+output_kind Output.Saturated = Counter
 
 -- what it counts
 abbrev pub output_help : OutputField → List ℕ
 output_help Output.Peak = codes "The greatest magnitude of a sample of the last tenth of a second, of 8388608 at full scale."
-output_help Output.FullScale = codes "Samples at full scale, as saturated ones are."
+output_help Output.Saturated = codes "Samples that were saturated: their rounded sum lay past what the output can hold."
 
 -- a number of a path, if it is known
 abbrev pub path_value : PathField → PathState → Option ℕ
@@ -154,4 +154,4 @@ stream_value Stream.Latency stream = stream.latency
 -- a number of an output channel
 abbrev pub output_value : OutputField → OutputState → ℕ
 output_value Output.Peak output = output.peak
-output_value Output.FullScale output = output.full_scale
+output_value Output.Saturated output = output.saturated

@@ -1,5 +1,6 @@
 pub mod Answer
 pub mod Answered
+pub mod Blank
 pub mod Fields
 pub mod Metrics
 pub mod Pulse

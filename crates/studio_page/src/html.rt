@@ -179,7 +179,7 @@ function buildOutput(parent, n) {
   const text = make("span", line);
   const meter = make("div", box, "meter");
   const clip = make("p", box);
-  return { clip, text, bar: make("i", meter), held: make("b", meter), hold: -Infinity, holdAt: 0, full: null, clipAt: -Infinity };
+  return { clip, text, bar: make("i", meter), held: make("b", meter), hold: -Infinity, holdAt: 0, saturated: null, clipAt: -Infinity };
 }
 
 function buildStream(parent, stream, n) {
@@ -392,12 +392,12 @@ function drawStrip(it, now, lately) {
 function drawOutput(it, output, now) {
   const db = decibels(output.peak);
   if (db >= it.hold || now - it.holdAt > HOLD) { it.hold = db; it.holdAt = now; }
-  if (it.full !== null && output.full_scale > it.full) it.clipAt = now;
-  it.full = output.full_scale;
+  const saturated = output.saturated;
+  if (it.saturated !== null && saturated > it.saturated) it.clipAt = now;
+  it.saturated = saturated;
   const clips = now - it.clipAt < HOLD;
-  const full = output.full_scale;
-  show(it.clip, (clips ? "\u25b2 CLIP, " : "") + (full > 0 ? exact(full) : "none") + " at full scale");
-  style(it.clip, clips ? "bad word" : full > 0 ? "warn" : "soft");
+  show(it.clip, (clips ? "\u25b2 CLIP, " : "") + (saturated > 0 ? exact(saturated) : "none") + " saturated");
+  style(it.clip, clips ? "bad word" : saturated > 0 ? "warn" : "soft");
   show(it.text, level(it.hold) + " dBFS");
   width(it.bar, 1 - db / FLOOR);
   set(it.held, "left", "calc(" + percent(1 - it.hold / FLOOR) + "% - 2px)");

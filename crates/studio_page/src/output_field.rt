@@ -9,11 +9,11 @@ use crate::snapshot::OutputState;
 #[derive(Clone, Copy, Debug, PartialEq, Eq)]
 pub enum OutputField {
     Peak,
-    FullScale,
+    Saturated,
 }
 
 /// The numbers of an output channel, in the order in which they are shown.
-pub const OUTPUT_FIELDS: [OutputField; 2] = [OutputField::Peak, OutputField::FullScale];
+pub const OUTPUT_FIELDS: [OutputField; 2] = [OutputField::Peak, OutputField::Saturated];
 
 impl OutputField {
     /// How it is called.
@@ -22,7 +22,7 @@ impl OutputField {
     {
         match self {
             OutputField::Peak => "peak",
-            OutputField::FullScale => "full_scale",
+            OutputField::Saturated => "saturated",
         }
     }
 
@@ -43,7 +43,8 @@ impl OutputField {
         match self {
             OutputField::Peak =>
                 "The greatest magnitude of a sample of the last tenth of a second, of 8388608 at full scale.",
-            OutputField::FullScale => "Samples at full scale, as saturated ones are.",
+            OutputField::Saturated =>
+                "Samples that were saturated: their rounded sum lay past what the output can hold.",
         }
     }
 
@@ -53,7 +54,7 @@ impl OutputField {
     {
         match self {
             OutputField::Peak => u64::from(output.peak),
-            OutputField::FullScale => output.full_scale,
+            OutputField::Saturated => output.saturated,
         }
     }
 }

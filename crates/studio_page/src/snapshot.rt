@@ -1,5 +1,6 @@
 //! What is seen of a run at one moment.
 ghost use Rattle.std.specs.Prelude.{◌≡◌, [], None};
+ghost use Rattle.studio_page.specs.Blank.{IsBlank, blank_path};
 
 use arrayvec::{ArrayString, ArrayVec};
 use stream_rules::{Counts, PathCounts};
@@ -54,7 +55,7 @@ pub struct PathState {
 }
 
 impl Default for PathState {
-    ghost is_default = { λ path. path.spare ≡ None };
+    ghost is_default = { λ path. path ≡ blank_path };
 
     /// Nothing came, and nothing more is known.
     fn default() -> PathState {
@@ -80,7 +81,7 @@ pub struct StreamState {
 }
 
 impl Default for StreamState {
-    ghost is_default = { λ stream. stream.paths.items ≡ [] };
+    ghost is_default = { IsBlank None 0 0 };
 
     /// Nothing came, and there is no path.
     fn default() -> StreamState {
@@ -99,8 +100,8 @@ impl Default for StreamState {
 pub struct OutputState {
     /// The greatest magnitude of its samples since the snapshot before, of 8,388,608 at full scale.
     pub peak: u32,
-    /// Its samples at full scale, as a saturated one is, since the start.
-    pub full_scale: u64,
+    /// Its samples that were saturated, since the start.
+    pub saturated: u64,
 }
 
 /// All that is seen: the streams and the output channels of a studio, in their order.

@@ -51,7 +51,7 @@ const SHORT: [(&str, &str); 9] = [
     (
         "HEAD /state HTTP/1.0\r\n\r\n",
         "HTTP/1.0 200 OK\r\ncontent-type: application/json\r\ncache-control: no-store\r\n\
-        content-length: 625\r\nconnection: close\r\n\r\n",
+        content-length: 623\r\nconnection: close\r\n\r\n",
     ),
     (
         "PUT /state HTTP/1.1\r\nHost: h\r\nContent-Length: 8193\r\n\r\n",
@@ -85,7 +85,7 @@ fn requests_are_answered_octet_by_octet(rt: HostRuntime) {
 /// What comes to a client that asks for the state and then for the page, up to the length of the latter.
 const KEPT: [&str; 3] = [
     "HTTP/1.1 200 OK\r\ncontent-type: application/json\r\ncache-control: no-store\r\n\
-    content-length: 625\r\n\r\n",
+    content-length: 623\r\n\r\n",
     STATE,
     "HTTP/1.1 200 OK\r\ncontent-type: text/html; charset=utf-8\r\ncache-control: no-store\r\ncontent-length: ",
 ];

@@ -52,10 +52,7 @@ pub(super) fn snapshot(rt: &impl Abort) -> Snapshot {
     let mut snapshot = Snapshot::new();
     assert!(rt; snapshot.streams.try_push(stream).is_ok());
     for peak in [8_388_608, 0] {
-        let output = OutputState {
-            peak,
-            full_scale: 2,
-        };
+        let output = OutputState { peak, saturated: 2 };
         assert!(rt; snapshot.outputs.try_push(output).is_ok());
     }
     snapshot

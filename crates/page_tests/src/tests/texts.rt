@@ -13,7 +13,7 @@ pub(super) const STATE: &str =
     \"spare_median\":30},{\"datagrams\":0,\"first\":0,\"packets\":null,\"lost\":null,\"double\":null,\"unlike\":null,\
     \"late\":null,\"bad\":null,\"wrong_type\":null,\"wrong_length\":null,\"full\":null,\"spare_least\":null,\
     \"spare_median\":null}]}],\
-    \"outputs\":[{\"peak\":8388608,\"full_scale\":2},{\"peak\":0,\"full_scale\":2}]}";
+    \"outputs\":[{\"peak\":8388608,\"saturated\":2},{\"peak\":0,\"saturated\":2}]}";
 
 /// Parts of its metrics.
 const METRICS: [&str; 8] = [
@@ -29,7 +29,7 @@ const METRICS: [&str; 8] = [
     "darbexum_path_full_total{stream=\"0\",name=\"L\\\"\\\\\\n<b>\",path=\"a\"} 2\n# HELP ",
     "darbexum_path_spare_least{stream=\"0\",name=\"L\\\"\\\\\\n<b>\",path=\"a\"} 12\n# HELP ",
     "# TYPE darbexum_output_peak gauge\ndarbexum_output_peak{output=\"0\"} 8388608\ndarbexum_output_peak{output=\"1\"} 0\n",
-    "# TYPE darbexum_output_full_scale_total counter\ndarbexum_output_full_scale_total{output=\"0\"} 2\n",
+    "# TYPE darbexum_output_saturated_total counter\ndarbexum_output_saturated_total{output=\"0\"} 2\n",
 ];
 
 /// Whether the state was told; else memory was refused.
