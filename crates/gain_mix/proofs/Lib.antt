@@ -3,3 +3,4 @@ pub mod RowLemmas
 pub mod FrameLemmas
 pub mod ChangeLemmas
 pub mod SilenceLemmas
+pub mod SaturatedLemmas

@@ -3,4 +3,5 @@ pub mod Four
 pub mod Gain
 pub mod Matrix
 pub mod Mix
+pub mod Saturated
 pub mod Schedule

@@ -4,15 +4,17 @@
 //! `Matrix::new` takes the gains row by row, one row for each output, and the memory for them;
 //! `Schedule::new` takes a first matrix and later ones with their times. No other call takes memory.
 //! `mix_frame` mixes the inputs of one frame by a matrix, `mix_block` those of a block, and `mix_span`
-//! those of a block by the gains in force at each of its times. Inputs are samples of 24 bits, frame by
-//! frame; the shift is 16 for outputs of 24 bits and 24 for outputs of 16. The caller keeps both slices.
+//! those of a block by the gains in force at each of its times; `mix_counted` also counts which samples were
+//! saturated. Inputs are samples of 24 bits, frame by frame; the shift is 16 for outputs of 24 bits and 24 for outputs of 16. The caller keeps both slices.
 #![tactic(auto)]
 
 mod four;
 mod matrix;
 mod mix;
+mod saturated;
 mod schedule;
 
 pub use matrix::{Matrix, MatrixFault};
 pub use mix::{mix_block, mix_frame};
+pub use saturated::mix_counted;
 pub use schedule::{Schedule, ScheduleFault, mix_span};

@@ -34,7 +34,7 @@ fn add_next(sum: i64, gains: &[i64], input: usize, values: &[i32]) -> i64
 }
 
 /// The sum over all inputs of gain times value.
-fn weigh(gains: &[i64], values: &[i32]) -> i64
+pub(crate) fn weigh(gains: &[i64], values: &[i32]) -> i64
     requires row { IsRow (length values.now) gains.now }
     requires few { length values.now ≤ 1024 }
     requires in_24_bits { All Is24Bits values.now }
@@ -97,17 +97,40 @@ fn add_to_four(sums: FourSums, rows: &FourRows<'_>, input: usize, values: &[i32]
     }
 }
 
+/// The sum in units of output samples, rounded half up.
+#[inline(always)]
+pub(crate) fn rounded(sum: i64, shift: u32) -> i64
+    requires bounded { unsigned_abs sum ≤ 2 ^ 53 }
+    requires shift { (shift ≡ 16) ⊎ (shift ≡ 24) }
+    ensures { result ≡ rounded_sum shift sum }
+{
+    if shift == 16 {
+        (sum + 32_768) >> 16
+    } else {
+        (sum + 8_388_608) >> 24
+    }
+}
+
+/// The nearest output sample.
+#[inline(always)]
+pub(crate) fn saturated(sum: i64, shift: u32) -> i32
+    requires shift { (shift ≡ 16) ⊎ (shift ≡ 24) }
+    ensures { result ≡ saturated_sum shift sum }
+{
+    if shift == 16 {
+        sum.clamp(-8_388_608, 8_388_607) as i32
+    } else {
+        sum.clamp(-32_768, 32_767) as i32
+    }
+}
+
 /// The sum in output samples: rounded half up, then saturated.
 fn round(sum: i64, shift: u32) -> i32
     requires bounded { unsigned_abs sum ≤ 2 ^ 53 }
     requires shift { (shift ≡ 16) ⊎ (shift ≡ 24) }
     ensures { result ≡ saturated_sum shift (rounded_sum shift sum) }
 {
-    if shift == 16 {
-        ((sum + 32_768) >> 16).clamp(-8_388_608, 8_388_607) as i32
-    } else {
-        ((sum + 8_388_608) >> 24).clamp(-32_768, 32_767) as i32
-    }
+    saturated(rounded(sum, shift), shift)
 }
 
 /// Whether all values are 0.
