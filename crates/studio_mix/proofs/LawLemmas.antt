@@ -56,7 +56,7 @@ cover_longer feed long t l h =
     ∙ ap (λ m. covers (cover_of (format_of feed.stream) m) t) l.marks
     ∙ cover_stays (format_of feed.stream) feed.marks l.more t (listed_on feed long l) h
 
-covered_longer : (feeds longer : List Feed) (t : ℤ) → AreLonger feeds longer → are_covered feeds t ≡ true → are_covered longer t ≡ true
+pub covered_longer : (feeds longer : List Feed) (t : ℤ) → AreLonger feeds longer → are_covered feeds t ≡ true → are_covered longer t ≡ true
 covered_longer [] [] t l h = refl
 covered_longer [] (long ∷ longer) t l h = absurd (let e = l.count in omega (arith, e))
 covered_longer (feed ∷ feeds) [] t l h = absurd (let e = l.count in omega (arith, e))
@@ -77,7 +77,7 @@ frame_longer feed long t l h =
     ∙ map_same (value_at (format_of feed.stream) (feed.marks ++ l.more) t) (value_at (format_of feed.stream) feed.marks t) (range_with_len 0 feed.stream.channels)
     (λ k. values_stay (format_of feed.stream) feed.marks l.more t k (listed_on feed long l) h)
 
-values_longer : (feeds longer : List Feed) (t : ℤ) → AreLonger feeds longer → are_covered feeds (t +ℤ pos 1) ≡ true → studio_values longer t ≡ studio_values feeds t
+pub values_longer : (feeds longer : List Feed) (t : ℤ) → AreLonger feeds longer → are_covered feeds (t +ℤ pos 1) ≡ true → studio_values longer t ≡ studio_values feeds t
 values_longer [] [] t l h = refl
 values_longer [] (long ∷ longer) t l h = absurd (let e = l.count in omega (arith, e))
 values_longer (feed ∷ feeds) [] t l h = absurd (let e = l.count in omega (arith, e))

@@ -7,5 +7,6 @@ pub mod NextLemmas
 pub mod NewLemmas
 pub mod RoomLemmas
 pub mod LawLemmas
+pub mod SaturatedLemmas
 pub mod FirstBlockLemmas
 mod WorkedCases

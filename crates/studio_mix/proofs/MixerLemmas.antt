@@ -13,6 +13,7 @@ use Rattle.studio_spec.specs.Studio.{Studio}
 use Rattle.studio_mix.specs.Feed.{Feed}
 use Rattle.studio_mix.specs.Lanes.{AreFed}
 use Rattle.studio_mix.specs.Mixer.{MixerState, HasFeeds, IsMixer}
+use Rattle.studio_mix.specs.Saturated.{AreSaturated}
 
 -- a block ends where the next one begins
 pub next_start : (out : Output) (n : ℕ) → block_start out n +ℤ pos out.frames ≡ block_start out (n + 1)
@@ -85,8 +86,9 @@ all_at from size lanes feeds t fed = record { count = fed.count; each = fed.each
 pub fed_more : (studio : Studio) (mixer : MixerState) (feeds : List Feed) (n i : ℕ) (lane : LaneState) (feed : Feed) (mark : MarkView)
     → HasFeeds studio mixer feeds n → slice_get feeds i ≡ Some feed
     → HasFeed feed.stream studio.output.start studio.output.frames lane (feed.marks ++ mark ∷ []) (block_start studio.output n)
+    → AreSaturated studio (set feeds i (record { stream = feed.stream; marks = feed.marks ++ mark ∷ [] })) n mixer.saturated
     → HasFeeds studio (record mixer { lanes = set mixer.lanes i lane }) (set feeds i (record { stream = feed.stream; marks = feed.marks ++ mark ∷ [] })) n
-fed_more studio mixer feeds n i lane feed mark fed at new =
+fed_more studio mixer feeds n i lane feed mark fed at new counted =
     let next : Feed = record { stream = feed.stream; marks = feed.marks ++ mark ∷ [] } in
     let t = block_start studio.output n in
     let lanes = fed_set studio.output.start studio.output.frames mixer.lanes feeds (λ i. t) (λ i. t) i lane feed next (all_at _ _ _ _ _ fed.lanes) at new (λ j ne. refl) in
@@ -96,4 +98,5 @@ fed_more studio mixer feeds n i lane feed mark fed at new =
       number = fed.number;
       streams = map-set_same (λ (f : Feed). f.stream) feeds i next feed (ap (λ (f : Feed). f.stream) (sym (get_or_from_slice_get feeds i feed feed at))) ∙ fed.streams;
       lanes = record { count = lanes.count; each = lanes.each };
+      saturated = counted;
     }

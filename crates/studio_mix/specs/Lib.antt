@@ -5,6 +5,7 @@ pub mod Output
 pub mod Blocks
 pub mod Lanes
 pub mod Room
+pub mod Saturated
 pub mod Mixer
 pub use Rattle.rtp_wire.specs.Sample
 pub use Rattle.stream_rules.specs.StreamSpecFacts
@@ -16,6 +17,7 @@ pub use Rattle.lane_align.specs.Lane
 pub use Rattle.gain_mix.specs.Changes
 pub use Rattle.gain_mix.specs.Gain
 pub use Rattle.gain_mix.specs.Mix
+pub use Rattle.gain_mix.specs.Saturated as SaturatedSamples
 pub use Rattle.mix_packets.specs.OutSpec
 pub use Rattle.mix_packets.specs.Block
 pub use Rattle.mix_packets.specs.Packer

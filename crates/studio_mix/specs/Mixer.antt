@@ -12,20 +12,23 @@ use Rattle.mix_packets.specs.Packer.{PackerState}
 use Rattle.studio_spec.specs.Studio.{Studio}
 use Rattle.studio_mix.specs.Feed.{Feed}
 use Rattle.studio_mix.specs.Lanes.{AreFed, IsLaneAt, lane_channels}
+use Rattle.studio_mix.specs.Saturated.{AreSaturated}
 
--- what contracts see of a mixer
+-- what contracts see of a mixer; `saturated` counts, channel by channel
 pub record MixerState : Type 0 where
   pub lanes : List LaneState
   pub schedule : Changes
   pub packer : PackerState
+  pub saturated : List ℕ
 
--- the mixer of this studio was fed these marks, and this block is next
+-- the mixer of this studio was fed these marks, gave the blocks before this one, and counted their saturated samples
 pub record HasFeeds (studio : Studio) (mixer : MixerState) (feeds : List Feed) (next : ℕ) : Type 0 where
   pub output : mixer.packer.spec ≡ studio.output
   pub schedule : mixer.schedule ≡ studio.schedule
   pub number : mixer.packer.number ≡ next
   pub streams : map (λ (feed : Feed). feed.stream) feeds ≡ studio.streams
   pub lanes : AreFed studio.output.start studio.output.frames mixer.lanes feeds (block_start studio.output next)
+  pub saturated : AreSaturated studio feeds next mixer.saturated
 
 -- what holds of a lane, if there is one
 abbrev pub holds_of : (LaneState → Bool) → Option LaneState → Bool
@@ -58,3 +61,4 @@ pub record IsMixer (mixer : MixerState) (out : Output) (time : ℤ) (one ins out
   pub ins_room : length ins ≡ out.frames * ins_of mixer.schedule.first
   pub outs_room : length outs ≡ sample_total out
   pub in_24_bits : All Is24Bits ins
+  pub counts : length mixer.saturated ≡ out.channels

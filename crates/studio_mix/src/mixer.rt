@@ -11,10 +11,11 @@ ghost use Rattle.studio_spec.specs.Studio.{Studio};
 ghost use Rattle.studio_mix.specs.Feed.{Feed, unfed};
 ghost use Rattle.studio_mix.specs.Ready.{is_ready};
 ghost use Rattle.studio_mix.specs.Output.{datagram_of};
+ghost use Rattle.studio_mix.specs.Saturated.{AreSaturated};
 
 use crate::lanes::{are_covered, new_lanes, reach_past, read_lanes};
 use crate::room::greatest_lag;
-use gain_mix::{Schedule, mix_span};
+use gain_mix::{Schedule, mix_counted};
 use lane_align::Lane;
 use mix_packets::{OutSpec, Packer};
 use std::alloc::{AllocError, Global};
@@ -26,7 +27,7 @@ use studio_spec::StudioSpec;
 ///
 /// Inputs: `feed`, with a mark that it `accepts`, while it `wants` one of that stream, or `feed_ref` and
 /// `accepts_ref` with one that is lent; `keep_ref` where it `has_room`, though it wants none. Outputs: `next_block`.
-/// Readers: `streams`, `output`. No call but `new` and `with_room` takes memory.
+/// Readers: `streams`, `output`, `saturated`. No call but `new` and `with_room` takes memory.
 #[derive(Drop)]
 pub struct Mixer {
     lanes: Vec<Lane>,
@@ -39,6 +40,8 @@ pub struct Mixer {
     one: Vec<i32>,
     ins: Vec<i32>,
     outs: Vec<i32>,
+    /// How many samples were saturated so far, channel by channel.
+    saturated: Vec<u64>,
 }
 
 impl Model for Mixer {
@@ -46,7 +49,7 @@ impl Model for Mixer {
 
     ghost Value = { MixerState };
 
-    ghost view = { λ m. record { lanes = m.lanes.items; schedule = m.schedule; packer = m.packer } };
+    ghost view = { λ m. record { lanes = m.lanes.items; schedule = m.schedule; packer = m.packer; saturated = m.saturated.items } };
 
     ghost invariant = { λ m. IsMixer (view m) m.output m.time m.one.items m.ins.items m.outs.items };
 }
@@ -86,6 +89,7 @@ impl Mixer {
         let one = silence(alloc, frames * 64)?;
         let ins = silence(alloc, frames * schedule.ins())?;
         let outs = silence(alloc, frames * usize::from(output.channels()))?;
+        let saturated = Vec::from_elem(alloc, 0u64, usize::from(output.channels()))?;
         Ok(Mixer {
             lanes,
             schedule,
@@ -95,6 +99,7 @@ impl Mixer {
             one,
             ins,
             outs,
+            saturated,
         })
     }
 
@@ -115,6 +120,16 @@ impl Mixer {
             → HasFeeds studio self.now feeds number → result.now ≡ studio.output }
     {
         &self.output
+    }
+
+    /// How many samples of each output channel were saturated in the datagrams so far: sums that, once rounded, lay past
+    /// what the output can hold.
+    pub fn saturated(&self) -> &[u64]
+        ensures value { result.now ≡ self.now.saturated }
+        ensures stands { (studio : Studio) (feeds : List Feed) (number : ℕ)
+            → HasFeeds studio self.now feeds number → AreSaturated studio feeds number result.now }
+    {
+        self.saturated.as_slice()
     }
 
     /// The media time at which the next block ends.
@@ -255,13 +270,14 @@ impl Mixer {
             width,
             self.ins.as_mut_slice(),
         );
-        mix_span(
+        mix_counted(
             &self.schedule,
             self.time,
             self.ins.as_slice(),
             self.outs.as_mut_slice(),
             frames,
             self.output.shift(),
+            self.saturated.as_mut_slice(),
         );
         let len = self.packer.next(self.outs.as_slice(), out);
         self.time += i64::from(self.output.frames());

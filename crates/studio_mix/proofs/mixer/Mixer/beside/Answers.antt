@@ -13,6 +13,7 @@ use Rattle.studio_mix.specs.Feed.{unfed}
 use Rattle.studio_mix.specs.Lanes.{AreFed, IsLaneAt}
 use Rattle.studio_mix.specs.Room.{room_beside}
 use Rattle.studio_mix.proofs.NewLemmas.{first_start, unfed_streams}
+use Rattle.studio_mix.proofs.SaturatedLemmas.{none_saturated}
 use Rattle.studio_mix.proofs.mixer.Mixer.beside.Goals as goal
 
 pub invariant_of-result : goal.invariant_of-result
@@ -40,6 +41,7 @@ invariant_of-result c =
       ins_room = ap length c.in_ok-ins.ensures ∙ length-replicate _ (pos 0) ∙ ap (λ n. n * c.ins.result) frames ∙ ap (λ w. out.frames * w) c.ins.ensures.first;
       outs_room = ap length c.in_ok-outs.ensures ∙ length-replicate _ (pos 0) ∙ ap (λ n. n * c.from.result) frames ∙ ap (λ w. out.frames * w) (c.from.ensures ∙ c.channels.ensures.value);
       in_24_bits = subst (All Is24Bits) (sym c.in_ok-ins.ensures) (All-replicate Is24Bits _ (pos 0) (lit< tt));
+      counts = ap length (c.in_ok-saturated.ensures.items_if_clones_equal (λ y e. e)) ∙ length-replicate _ 0 ∙ c.from-2.ensures ∙ c.channels-2.ensures.value;
     }
 
 pub returns-clause-stands : goal.returns-clause-stands
@@ -62,6 +64,7 @@ returns-clause-stands c =
           (subst (λ ss. AreFed out.start out.frames c.in_ok-lanes.lanes.items (unfed ss) out.start) c.streams.ensures.value
           (subst (λ n. AreFed out.start n c.in_ok-lanes.lanes.items (unfed c.streams.result.now) out.start) c.frames-2.ensures.value
           (subst (λ t. AreFed t c.frames-2.result c.in_ok-lanes.lanes.items (unfed c.streams.result.now) t) start fed))));
+      saturated = none_saturated c.args.spec.now _ _ _ (c.in_ok-saturated.ensures.items_if_clones_equal (λ y e. e)) (c.from-2.ensures ∙ c.channels-2.ensures.value ∙ ap (λ (o : Output). o.channels) c.output.ensures);
     }
 
 pub returns-clause-rooms : goal.returns-clause-rooms

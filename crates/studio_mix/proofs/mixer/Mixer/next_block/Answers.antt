@@ -1,10 +1,11 @@
-use Rattle.std.proofs.Common.{◌≡◌, ◌<◌, ◌+◌, ◌*◌, ◌++◌, ◌^◌, ℕ, ℤ, pos, ◌+ℤ◌, ◌≤ℤ◌, length, take, drop, All, sym, ap, subst, ◌∙◌, arith, to_z, of_z, w64, flat_map}
+use Rattle.std.proofs.Common.{◌≡◌, ◌<◌, true, ◌+◌, ◌*◌, ◌++◌, ◌^◌, ℕ, ℤ, pos, ◌+ℤ◌, ◌≤ℤ◌, length, take, drop, All, sym, ap, subst, ◌∙◌, arith, to_z, of_z, w64, flat_map}
 use Rattle.std.proofs.lemmas.Int.{ints}
 use Rattle.std.specs.List.{range_with_len}
 use Rattle.rtp_wire.specs.Sample.{FitsEncoding}
 use Rattle.gain_mix.specs.Mix.{Is24Bits, IsMixed, mixed_frame}
 use Rattle.gain_mix.specs.Changes.{matrix_at}
 use Rattle.gain_mix.specs.Gain.{ins_of}
+use Rattle.gain_mix.specs.Saturated.{AreAdded, saturated_count}
 use Rattle.mix_packets.specs.declared.out_spec.Output.{Output}
 use Rattle.mix_packets.specs.OutSpec.{datagram_length, shift_of}
 use Rattle.mix_packets.specs.Block.{block_start, block_datagram}
@@ -13,8 +14,11 @@ use Rattle.studio_mix.specs.Mixed.{mixed_samples}
 use Rattle.studio_mix.specs.Output.{block_samples, datagram_of}
 use Rattle.studio_mix.specs.Lanes.{AreFed, IsLaneAt, IsReadyLane, lane_channels}
 use Rattle.studio_mix.specs.Mixer.{MixerState, HasFeeds}
+use Rattle.studio_mix.specs.Ready.{are_covered}
 use Rattle.studio_mix.specs.Room.{rooms_of}
 use Rattle.studio_mix.proofs.MixerLemmas.{block_begin}
+use Rattle.studio_mix.proofs.LawLemmas.{ready_covered}
+use Rattle.studio_mix.proofs.SaturatedLemmas.{saturated_next}
 use Rattle.studio_mix.proofs.NextLemmas.{lent, mixed_fits, mixed_rows, next_fed, next_sound, next_datagram}
 use Rattle.studio_mix.proofs.mixer.Mixer.next_block.Goals as goal
 
@@ -27,8 +31,8 @@ read_lanes-requires-clause-ready c =
     subst (λ n. All (IsReadyLane n) c.as_mut_slice.result.now) frames
     (subst (All (IsReadyLane c.args.self.now.packer.spec.frames)) lanes (c.is_ready.ensures.lanes c.if-not-is_ready.false))
 
-pub mix_span-requires-clause-in_24_bits : goal.mix_span-requires-clause-in_24_bits
-mix_span-requires-clause-in_24_bits c =
+pub mix_counted-requires-clause-in_24_bits : goal.mix_counted-requires-clause-in_24_bits
+mix_counted-requires-clause-in_24_bits c =
     let i = c.self.inside in
     let back = lent i.ins.len (length c.read_lanes.new.ins) c.read_lanes.new.ins i.ins.items (c.read_lanes.auto.ins ∙ c.as_mut_slice-3.ensures.len) in
     subst (All Is24Bits) (sym (c.as_slice.ensures.value ∙ back)) c.read_lanes.ensures.in_24_bits
@@ -38,16 +42,16 @@ next-len-requires-clause-fit c =
     let i = c.self.inside in
     let sound = c.self.invariant in
     let t : ℤ = to_z w64 (of_z w64 i.time) in
-    let back = lent i.outs.len (length c.mix_span.new.outs) c.mix_span.new.outs i.outs.items (c.mix_span.auto.outs ∙ c.as_mut_slice-4.ensures.len) in
+    let back = lent i.outs.len (length c.mix_counted.new.outs) c.mix_counted.new.outs i.outs.items (c.mix_counted.auto.outs ∙ c.as_mut_slice-4.ensures.len) in
     let frames : c.from-frames.result ≡ i.output.frames = c.from-frames.ensures ∙ c.frames.ensures.value in
-    let mixed : IsMixed (λ f. matrix_at i.schedule (t +ℤ pos f)) c.as_slice.result.now c.mix_span.new.outs c.from-frames.result c.shift.result = c.mix_span.ensures.mixed in
-    let high : (u : ℤ) → length (matrix_at i.schedule u) ≡ length i.schedule.first = c.mix_span.ensures.outs in
-    let wide : (u : ℤ) → ins_of (matrix_at i.schedule u) ≡ ins_of i.schedule.first = c.mix_span.ensures.ins in
+    let mixed : IsMixed (λ f. matrix_at i.schedule (t +ℤ pos f)) c.as_slice.result.now c.mix_counted.new.outs c.from-frames.result c.shift.result = c.mix_counted.ensures.mixed in
+    let high : (u : ℤ) → length (matrix_at i.schedule u) ≡ length i.schedule.first = c.mix_counted.ensures.outs in
+    let wide : (u : ℤ) → ins_of (matrix_at i.schedule u) ≡ ins_of i.schedule.first = c.mix_counted.ensures.ins in
     let shift : c.shift.result ≡ shift_of i.packer.spec.enc = c.shift.ensures ∙ ap (λ (o : Output). shift_of o.enc) sound.out_is in
-    let len : length c.mix_span.new.outs ≡ c.from-frames.result * length i.schedule.first =
-    c.mix_span.auto.outs ∙ ap length c.as_mut_slice-4.ensures.value ∙ sound.outs_room ∙ ap (λ k. i.output.frames * k) (sym sound.height) ∙ ap (λ k. k * length i.schedule.first) (sym frames) in
+    let len : length c.mix_counted.new.outs ≡ c.from-frames.result * length i.schedule.first =
+    c.mix_counted.auto.outs ∙ ap length c.as_mut_slice-4.ensures.value ∙ sound.outs_room ∙ ap (λ k. i.output.frames * k) (sym sound.height) ∙ ap (λ k. k * length i.schedule.first) (sym frames) in
     subst (All (FitsEncoding i.packer.spec.enc)) (sym (c.as_slice-2.ensures.value ∙ back))
-    (mixed_fits i.packer.spec.enc i.schedule t c.as_slice.result.now c.mix_span.new.outs c.from-frames.result c.shift.result (ins_of i.schedule.first) (length i.schedule.first) shift mixed high wide len)
+    (mixed_fits i.packer.spec.enc i.schedule t c.as_slice.result.now c.mix_counted.new.outs c.from-frames.result c.shift.result (ins_of i.schedule.first) (length i.schedule.first) shift mixed high wide len)
 
 pub invariant_of-self : goal.invariant_of-self
 invariant_of-self c =
@@ -56,7 +60,8 @@ invariant_of-self c =
     let lanes = lent i.lanes.len (length c.read_lanes.new.lanes) c.read_lanes.new.lanes i.lanes.items (c.read_lanes.auto.lanes ∙ c.as_mut_slice.ensures.len) in
     let one = lent i.one.len (length c.read_lanes.new.one) c.read_lanes.new.one i.one.items (c.read_lanes.auto.one ∙ c.as_mut_slice-2.ensures.len) in
     let ins = lent i.ins.len (length c.read_lanes.new.ins) c.read_lanes.new.ins i.ins.items (c.read_lanes.auto.ins ∙ c.as_mut_slice-3.ensures.len) in
-    let outs = lent i.outs.len (length c.mix_span.new.outs) c.mix_span.new.outs i.outs.items (c.mix_span.auto.outs ∙ c.as_mut_slice-4.ensures.len) in
+    let outs = lent i.outs.len (length c.mix_counted.new.outs) c.mix_counted.new.outs i.outs.items (c.mix_counted.auto.outs ∙ c.as_mut_slice-4.ensures.len) in
+    let counts = lent i.saturated.len (length c.mix_counted.new.counts) c.mix_counted.new.counts i.saturated.items (c.mix_counted.auto.counts ∙ c.as_mut_slice-5.ensures.len) in
     let frames : c.from-frames.result ≡ i.output.frames = c.from-frames.ensures ∙ c.frames.ensures.value in
     let late = sound.not_late in
     let few = sound.out_ok.few_frames in
@@ -67,21 +72,22 @@ invariant_of-self c =
     let moved : All (IsLaneAt c.from-frames.result (i.time +ℤ pos c.from-frames.result)) c.read_lanes.new.lanes =
     c.read_lanes.ensures.moved i.time (subst (λ n. All (IsLaneAt n i.time) c.as_mut_slice.result.now) (sym frames) (subst (All (IsLaneAt i.output.frames i.time)) (sym c.as_mut_slice.ensures.value) sound.each_lane)) in
     let channels : lane_channels c.read_lanes.new.lanes ≡ lane_channels c.as_mut_slice.result.now = c.read_lanes.ensures.channels in
-    next_sound (record { lanes = i.lanes.items; schedule = i.schedule; packer = i.packer }) i.output i.time i.one.items i.ins.items i.outs.items _ c.next-len.new.self _ _ _ _
+    next_sound (record { lanes = i.lanes.items; schedule = i.schedule; packer = i.packer; saturated = i.saturated.items }) i.output i.time i.one.items i.ins.items i.outs.items _ c.next-len.new.self _ _ _ _ _
     sound early c.next-len.ensures.number later
     (subst (All (IsLaneAt i.output.frames (i.time +ℤ pos i.output.frames))) (sym lanes) (subst (λ n. All (IsLaneAt n (i.time +ℤ pos n)) c.read_lanes.new.lanes) frames moved))
     (ap length lanes ∙ c.read_lanes.auto.lanes ∙ ap length c.as_mut_slice.ensures.value)
     (ap lane_channels lanes ∙ channels ∙ ap lane_channels c.as_mut_slice.ensures.value)
     (ap length one ∙ c.read_lanes.auto.one ∙ ap length c.as_mut_slice-2.ensures.value)
     (ap length ins ∙ c.read_lanes.auto.ins ∙ ap length c.as_mut_slice-3.ensures.value)
-    (ap length outs ∙ c.mix_span.auto.outs ∙ ap length c.as_mut_slice-4.ensures.value)
+    (ap length outs ∙ c.mix_counted.auto.outs ∙ ap length c.as_mut_slice-4.ensures.value)
     (subst (All Is24Bits) (sym ins) c.read_lanes.ensures.in_24_bits)
+    (ap length counts ∙ c.mix_counted.auto.counts ∙ ap length c.as_mut_slice-5.ensures.value)
 
 pub returns-clause-some : goal.returns-clause-some
 returns-clause-some c = λ studio feeds number fed.
     let i = c.self.inside in
     let sound = c.self.invariant in
-    let mixer : MixerState = record { lanes = i.lanes.items; schedule = i.schedule; packer = i.packer } in
+    let mixer : MixerState = record { lanes = i.lanes.items; schedule = i.schedule; packer = i.packer; saturated = i.saturated.items } in
     let fed' : HasFeeds studio mixer feeds number = subst (λ m. HasFeeds studio m feeds number) (sym c.self.view_is) fed in
     let late = sound.not_late in
     let now : to_z w64 (of_z w64 i.time) ≡ i.time = omega (arith, ints) in
@@ -91,13 +97,13 @@ returns-clause-some c = λ studio feeds number fed.
     let frames : c.from-frames.result ≡ studio.output.frames = c.from-frames.ensures ∙ c.frames.ensures.value ∙ ap (λ (o : Output). o.frames) out in
     let lanes = lent i.lanes.len (length c.read_lanes.new.lanes) c.read_lanes.new.lanes i.lanes.items (c.read_lanes.auto.lanes ∙ c.as_mut_slice.ensures.len) in
     let ins = lent i.ins.len (length c.read_lanes.new.ins) c.read_lanes.new.ins i.ins.items (c.read_lanes.auto.ins ∙ c.as_mut_slice-3.ensures.len) in
-    let back = lent i.outs.len (length c.mix_span.new.outs) c.mix_span.new.outs i.outs.items (c.mix_span.auto.outs ∙ c.as_mut_slice-4.ensures.len) in
-    let mixed : IsMixed (λ f. matrix_at i.schedule (t +ℤ pos f)) c.as_slice.result.now c.mix_span.new.outs c.from-frames.result c.shift.result = c.mix_span.ensures.mixed in
-    let high : (u : ℤ) → length (matrix_at i.schedule u) ≡ length i.schedule.first = c.mix_span.ensures.outs in
-    let wide : (u : ℤ) → ins_of (matrix_at i.schedule u) ≡ ins_of i.schedule.first = c.mix_span.ensures.ins in
+    let back = lent i.outs.len (length c.mix_counted.new.outs) c.mix_counted.new.outs i.outs.items (c.mix_counted.auto.outs ∙ c.as_mut_slice-4.ensures.len) in
+    let mixed : IsMixed (λ f. matrix_at i.schedule (t +ℤ pos f)) c.as_slice.result.now c.mix_counted.new.outs c.from-frames.result c.shift.result = c.mix_counted.ensures.mixed in
+    let high : (u : ℤ) → length (matrix_at i.schedule u) ≡ length i.schedule.first = c.mix_counted.ensures.outs in
+    let wide : (u : ℤ) → ins_of (matrix_at i.schedule u) ≡ ins_of i.schedule.first = c.mix_counted.ensures.ins in
     let width : c.ins-width.result ≡ ins_of i.schedule.first = c.ins-width.ensures.first in
-    let len : length c.mix_span.new.outs ≡ c.from-frames.result * length i.schedule.first =
-    c.mix_span.auto.outs ∙ ap length c.as_mut_slice-4.ensures.value ∙ sound.outs_room ∙ ap (λ k. i.output.frames * k) (sym sound.height) ∙ ap (λ k. k * length i.schedule.first) (sym (c.from-frames.ensures ∙ c.frames.ensures.value)) in
+    let len : length c.mix_counted.new.outs ≡ c.from-frames.result * length i.schedule.first =
+    c.mix_counted.auto.outs ∙ ap length c.as_mut_slice-4.ensures.value ∙ sound.outs_room ∙ ap (λ k. i.output.frames * k) (sym sound.height) ∙ ap (λ k. k * length i.schedule.first) (sym (c.from-frames.ensures ∙ c.frames.ensures.value)) in
     let was_fed : AreFed studio.output.start c.from-frames.result c.as_mut_slice.result.now feeds (block_start studio.output number) =
     subst (λ n. AreFed studio.output.start n c.as_mut_slice.result.now feeds (block_start studio.output number)) (sym frames)
     (subst (λ ls. AreFed studio.output.start studio.output.frames ls feeds (block_start studio.output number)) (sym c.as_mut_slice.ensures.value) fed'.lanes) in
@@ -105,12 +111,19 @@ returns-clause-some c = λ studio feeds number fed.
     λ f h. ap (λ l. take (ins_of i.schedule.first) (drop (f * ins_of i.schedule.first) l)) (c.as_slice.ensures.value ∙ ins)
     ∙ ap (λ k. take k (drop (f * k) c.read_lanes.new.ins)) (sym width)
     ∙ c.read_lanes.ensures.values studio.output.start feeds (block_start studio.output number) was_fed f h in
-    let samples : c.mix_span.new.outs ≡ block_samples studio feeds number =
-    mixed_rows i.schedule t c.as_slice.result.now c.mix_span.new.outs c.from-frames.result c.shift.result (ins_of i.schedule.first) (length i.schedule.first) (λ f. studio_values feeds (block_start studio.output number +ℤ pos f)) mixed high wide len known
+    let samples : c.mix_counted.new.outs ≡ block_samples studio feeds number =
+    mixed_rows i.schedule t c.as_slice.result.now c.mix_counted.new.outs c.from-frames.result c.shift.result (ins_of i.schedule.first) (length i.schedule.first) (λ f. studio_values feeds (block_start studio.output number +ℤ pos f)) mixed high wide len known
     ∙ ap (λ u. flat_map (λ f. mixed_frame (matrix_at i.schedule (u +ℤ pos f)) (studio_values feeds (block_start studio.output number +ℤ pos f)) c.shift.result) (range_with_len 0 c.from-frames.result)) begin
     ∙ ap (λ h. flat_map (λ f. mixed_frame (matrix_at h (block_start studio.output number +ℤ pos f)) (studio_values feeds (block_start studio.output number +ℤ pos f)) c.shift.result) (range_with_len 0 c.from-frames.result)) fed'.schedule
     ∙ ap (λ k. flat_map (λ f. mixed_frame (matrix_at studio.schedule (block_start studio.output number +ℤ pos f)) (studio_values feeds (block_start studio.output number +ℤ pos f)) k) (range_with_len 0 c.from-frames.result)) (c.shift.ensures ∙ ap (λ (o : Output). shift_of o.enc) out)
     ∙ ap (λ n. flat_map (λ f. mixed_samples studio feeds (block_start studio.output number +ℤ pos f)) (range_with_len 0 n)) frames in
+    let covered : are_covered feeds (block_start studio.output (number + 1)) ≡ true = ready_covered studio.output feeds number (sym (c.is_ready.ensures.stands studio feeds number fed) ∙ c.if-not-is_ready.false) in
+    let values : (f : ℕ) → f < c.from-frames.result → take (ins_of (matrix_at i.schedule (t +ℤ pos f))) (drop (f * ins_of (matrix_at i.schedule (t +ℤ pos f))) c.as_slice.result.now) ≡ studio_values feeds (t +ℤ pos f) =
+    λ f h. ap (λ w. take w (drop (f * w) c.as_slice.result.now)) (wide (t +ℤ pos f)) ∙ known f h ∙ ap (λ u. studio_values feeds (u +ℤ pos f)) (sym begin) in
+    let more : ℕ → ℕ = λ channel. saturated_count (λ f. matrix_at i.schedule (t +ℤ pos f)) c.as_slice.result.now c.shift.result channel c.from-frames.result in
+    let counts = lent i.saturated.len (length c.mix_counted.new.counts) c.mix_counted.new.counts i.saturated.items (c.mix_counted.auto.counts ∙ c.as_mut_slice-5.ensures.len) in
+    let counted : AreAdded i.saturated.items (take i.saturated.len (c.mix_counted.new.counts ++ drop (length c.mix_counted.new.counts) i.saturated.items)) more =
+    subst (λ new. AreAdded i.saturated.items new more) (sym counts) (subst (λ old. AreAdded old c.mix_counted.new.counts more) c.as_mut_slice-5.ensures.value c.mix_counted.ensures.counted) in
     let moved : AreFed studio.output.start c.from-frames.result c.read_lanes.new.lanes feeds (block_start studio.output number +ℤ pos c.from-frames.result) =
     c.read_lanes.ensures.stands studio.output.start feeds (block_start studio.output number) was_fed in
     let length_is : c.next-len.result ≡ datagram_length studio.output = c.next-len.ensures.len ∙ ap datagram_length fed'.output in
@@ -118,11 +131,12 @@ returns-clause-some c = λ studio feeds number fed.
       length_is,
       written
           ∙ ap (λ l. block_datagram i.packer.spec i.packer.number l ++ drop (datagram_length i.packer.spec) c.args.out.now) (c.as_slice-2.ensures.value ∙ back)
-          ∙ ap (λ l. l ++ drop (datagram_length i.packer.spec) c.args.out.now) (next_datagram studio mixer feeds number c.mix_span.new.outs fed' samples)
+          ∙ ap (λ l. l ++ drop (datagram_length i.packer.spec) c.args.out.now) (next_datagram studio mixer feeds number c.mix_counted.new.outs fed' samples)
           ∙ ap (λ k. datagram_of studio feeds number ++ drop k c.args.out.now) (sym c.next-len.ensures.len),
-      next_fed studio mixer feeds number _ c.next-len.new.self fed' c.next-len.ensures.number
+      next_fed studio mixer feeds number _ c.next-len.new.self _ fed' c.next-len.ensures.number
           (subst (λ ls. AreFed studio.output.start studio.output.frames ls feeds (block_start studio.output number +ℤ pos studio.output.frames)) (sym lanes)
-          (subst (λ n. AreFed studio.output.start n c.read_lanes.new.lanes feeds (block_start studio.output number +ℤ pos n)) frames moved)),
+          (subst (λ n. AreFed studio.output.start n c.read_lanes.new.lanes feeds (block_start studio.output number +ℤ pos n)) frames moved))
+          (saturated_next studio feeds number i.saturated.items _ i.schedule t c.as_slice.result.now c.from-frames.result c.shift.result fed'.saturated covered fed'.schedule (c.shift.ensures ∙ ap (λ (o : Output). shift_of o.enc) out) frames begin values counted),
     )
 
 pub returns-clause-rooms : goal.returns-clause-rooms
