@@ -5,6 +5,8 @@ ghost use Rattle.mix_packets.specs.OutSpec.{datagram_length};
 ghost use Rattle.path_merge.specs.Clock.{clock_fault_of};
 ghost use Rattle.studio_spec.specs.Studio.{Studio};
 ghost use Rattle.studio_session.specs.Event.{TraceEvent, Arrival, Reading, Closing};
+ghost use Rattle.studio_mix.specs.Saturated.{AreSaturated};
+ghost use Rattle.studio_session.specs.Play.{feeds_of};
 ghost use Rattle.studio_session.specs.Receipt.{receipt_of};
 ghost use Rattle.studio_session.specs.Counts as received;
 ghost use Rattle.studio_session.specs.Report.{merge_tally_of};
@@ -35,7 +37,7 @@ const MOST_EVENTS: usize = 4_611_686_018_427_387_904;
 /// A studio as one object.
 ///
 /// Inputs: `arrive`, `turn` and `close`. Outputs: `turn`, and `drain` after a close. Readers: `time`,
-/// `next_deadline`, `stream_deadline`, `counts`, `path_counts`, `settled`. No call but `new` takes memory.
+/// `next_deadline`, `stream_deadline`, `counts`, `path_counts`, `saturated`, `settled`. No call but `new` takes memory.
 #[derive(Drop)]
 pub struct Engine {
     mixer: Mixer,
@@ -306,6 +308,15 @@ impl Engine {
         ensures { result ≡ length self.now.cursors }
     {
         self.cursors.len()
+    }
+
+    /// How many samples of each output channel were saturated in the datagrams so far.
+    pub fn saturated(&self) -> &[u64]
+        ensures value { result.now ≡ self.now.mixer.saturated }
+        ensures stands { (studio : Studio) (events : List TraceEvent) (datagrams : List (List ℕ))
+            → HasSession studio self.now events datagrams → AreSaturated studio (feeds_of studio events) (length datagrams) result.now }
+    {
+        self.mixer.saturated()
     }
 
     /// When the next slot of a stream is due: never before its first packet, nor after a close; none, too, where there is

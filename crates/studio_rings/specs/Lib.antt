@@ -16,6 +16,7 @@ pub mod MixEnds
 pub mod Datagrams
 pub mod Tokens
 pub mod FreshEnds
+pub mod Told
 pub mod Opening
 pub use Rattle.rtp_wire.specs.Datagram
 pub use Rattle.stream_rules.specs.StreamSpecFacts
@@ -34,5 +35,7 @@ pub use Rattle.studio_mix.specs.Feed
 pub use Rattle.studio_mix.specs.Ready
 pub use Rattle.studio_mix.specs.Output
 pub use Rattle.studio_mix.specs.Blocks
+pub use Rattle.studio_mix.specs.Saturated
+pub use Rattle.stream_watch.specs.Told as WatchTold
 pub use Rattle.stream_rules.specs.PathCounts
 pub use Rattle.stream_rules.specs.Reception

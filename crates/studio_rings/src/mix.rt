@@ -1,23 +1,26 @@
 //! The end of the mixer.
-ghost use Rattle.std.specs.Prelude.{◌≡◌, ◌↔◌, ◌<◌, ◌≤◌, ◌+◌, ℕ, List, length, IsTrue, None, slice_get, Some, true, vec_len};
+ghost use Rattle.std.specs.Prelude.{◌≡◌, ◌↔◌, ◌<◌, ◌≤◌, ◌+◌, ℕ, List, length, IfSome, IsTrue, None, slice_get, Some, true, vec_len};
 ghost use Rattle.mix_packets.specs.OutSpec.{datagram_length};
 ghost use Rattle.rtrb.specs.Ring.{all_sent, IsFinishedOf};
 ghost use Rattle.stream_rules.specs.MarkFacts.{MarkView};
 ghost use Rattle.studio_spec.specs.Studio.{Studio};
 ghost use Rattle.studio_mix.specs.Feed.{Feed};
 ghost use Rattle.studio_mix.specs.Blocks.{AreBlocks};
+ghost use Rattle.studio_mix.specs.Saturated.{AreSaturated};
 ghost use Rattle.studio_rings.specs.declared.side.Side.{Side};
 ghost use Rattle.studio_rings.specs.AcceptedFeeds.{accepted_feeds, received_total};
 ghost use Rattle.studio_rings.specs.Looks.{AllDrained, AllLookAt};
 ghost use Rattle.studio_rings.specs.Mixes.{AllTakeSome};
 ghost use Rattle.studio_rings.specs.MixEnds.{MixHasFeeds, MixesBlock};
 ghost use Rattle.studio_rings.specs.Datagrams.{AreAllGiven, AreAllTold, HasGiven, given_after};
+ghost use Rattle.studio_rings.specs.Told.{TellsCounts};
 ghost use Rattle.studio_rings.specs.Tokens.{HandsIn};
 
 use crate::look::look_at_streams;
 use crate::mix_end::MixEnd;
 use crate::stream::StreamDone;
 use crate::take_marks::take_streams;
+use stream_watch::MixTeller;
 
 /// What a turn of the mixer's end did.
 #[derive(Clone, Copy, Debug)]
@@ -30,7 +33,28 @@ pub struct MixNote {
     pub len: Option<usize>,
 }
 
+/// Tells how many samples were saturated once a datagram was given, if somebody is to be told.
+fn tell(teller: &mut Option<MixTeller>, given: Option<usize>, saturated: &[u64])
+    ensures { IfSome given (λ _. TellsCounts saturated.now teller.old teller.new) }
+{
+    if given.is_none() {
+        return;
+    }
+    if let Some(teller) = teller {
+        teller.tell(saturated);
+    }
+}
+
 impl MixEnd {
+    /// How many samples of each output channel were saturated in the datagrams so far.
+    pub fn saturated(&self) -> &[u64]
+        ensures value { result.now ≡ self.now.mixer.saturated }
+        ensures stands { (studio : Studio) (number : ℕ) → MixHasFeeds studio self.now number
+            → AreSaturated studio (accepted_feeds studio.streams self.now.sides.items) number result.now }
+    {
+        self.mixer.saturated()
+    }
+
     /// How many octets a datagram has, its header among them.
     pub fn datagram_len(&self) -> usize
         ensures value { result ≡ datagram_length self.now.mixer.packer.spec }
@@ -52,10 +76,12 @@ impl MixEnd {
         ensures all { result.len ≡ None → (studio : Studio) (datagrams : List (List ℕ)) → HasGiven studio self.old datagrams
             → AreAllGiven studio self.new datagrams }
         ensures none { result.len ≡ None → out.new ≡ out.old }
+        ensures told { IfSome result.len (λ _. TellsCounts self.new.mixer.saturated self.old.teller self.new.teller) }
         ensures spec { self.new.mixer.packer.spec ≡ self.old.mixer.packer.spec }
     {
         let (taken, strange) = take_streams(&mut self.sides, &mut self.mixer);
         let len = self.mixer.next_block(out);
+        tell(&mut self.teller, len, self.mixer.saturated());
         MixNote {
             taken,
             strange,

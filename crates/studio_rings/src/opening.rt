@@ -149,14 +149,24 @@ fn open_streams(
 }
 
 /// The mixer's end, over the rings of all streams' marks.
-fn open_mix(alloc: Global, studio: &StudioSpec, sides: Vec<MarkOut>) -> Result<MixEnd, AllocError>
+fn open_mix(
+    alloc: Global,
+    studio: &StudioSpec,
+    sides: Vec<MarkOut>,
+    tellers: &mut Tellers,
+) -> Result<MixEnd, AllocError>
     requires sound { IsStudio studio.now }
     requires unread { AllUnread studio.now.streams sides.items }
     ensures { IfOk result (λ mix. (mix.sides ≡ sides) × HasGiven studio.now mix []) }
 {
+    let teller = tellers.of_mix(alloc)?;
     let mixer = Mixer::new(alloc, studio)?;
     let _frames = studio.output().frames();
-    Ok(MixEnd { sides, mixer })
+    Ok(MixEnd {
+        sides,
+        mixer,
+        teller,
+    })
 }
 
 /// The ends of all paths, streams and monitors, and of the mixer.
@@ -174,7 +184,7 @@ fn open_ends(
         monitors,
         marks,
     } = open_streams(alloc, studio.streams(), studio.open_at(), ring_len, tellers)?;
-    let mix = open_mix(alloc, studio, marks)?;
+    let mix = open_mix(alloc, studio, marks, tellers)?;
     Ok(Ends {
         paths,
         streams,
@@ -194,7 +204,7 @@ pub fn open(alloc: Global, studio: &StudioSpec, ring_len: usize) -> Result<Ends,
     open_with(alloc, studio, ring_len, &mut Tellers::new(alloc, false))
 }
 
-/// The same, with watches, which are told what becomes of each path's packets.
+/// The same, with watches, which are told what becomes of each path's packets and of the mix.
 pub fn open_watched(
     alloc: Global,
     studio: &StudioSpec,

@@ -2,14 +2,19 @@
 
 use std::alloc::{AllocError, Global};
 use stream_rules::StreamSpec;
-use stream_watch::{PathTeller, PathWatch, StreamTeller, StreamWatch, open_path_watch, open_watch};
+use stream_watch::{
+    MixTeller, MixWatch, PathTeller, PathWatch, StreamTeller, StreamWatch, open_mix_watch,
+    open_path_watch, open_watch,
+};
 
 /// What a studio's ends tell of the packets of each path: before the merges stream by stream and path by path, and by the
-/// merges stream by stream.
+/// merges stream by stream; and of the mix.
 #[derive(Drop)]
 pub struct Watches {
     pub paths: Vec<PathWatch>,
     pub streams: Vec<StreamWatch>,
+    /// None until the mixer's end is opened, which is the last.
+    pub mix: Option<MixWatch>,
 }
 
 /// Watches as they are opened with their ends, or none where nobody is to be told anything.
@@ -26,6 +31,7 @@ impl Tellers {
             watches: Watches {
                 paths: Vec::new(alloc),
                 streams: Vec::new(alloc),
+                mix: None,
             },
             are_wanted,
         }
@@ -52,6 +58,16 @@ impl Tellers {
         }
         let (teller, watch) = open_watch(alloc, spec)?;
         self.watches.streams.push(watch)?;
+        Ok(Some(teller))
+    }
+
+    /// Whom the mixer tells.
+    pub(crate) fn of_mix(&mut self, alloc: Global) -> Result<Option<MixTeller>, AllocError> {
+        if !self.are_wanted {
+            return Ok(None);
+        }
+        let (teller, watch) = open_mix_watch(alloc)?;
+        self.watches.mix = Some(watch);
         Ok(Some(teller))
     }
 }
