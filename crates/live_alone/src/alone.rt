@@ -8,12 +8,11 @@ use crate::lone::{Lone, lone_of};
 use crate::pending::all_pending;
 use live_parts::Recorded;
 use live_run::{LiveFault, Setting, Showing, Signs, Unseen, Watcher, run_beside, run_watched};
-use live_sockets::{Flags, Sockets};
+use live_sockets::{Flags, Receiver, Sockets};
 use run_devices::WorkReport;
 use run_record::{Record, RecordTap, Recorder, write_record};
 use std::alloc::Global;
 use std::io::Write;
-use std::net::Net;
 use std::sync::Wait;
 use std::sync::atomic::AtomicBool;
 use std::thread::Threads;
@@ -31,7 +30,7 @@ pub struct Recording<'a, D> {
 /// all have ended.
 pub fn run_in_one_thread<
     'a,
-    R: Threads + Wait + Sync + Net + Clock,
+    R: Threads + Wait + Sync + Clock,
     E: Write + Send + Drop,
     D: Write + Send + Drop,
 >(
@@ -45,6 +44,10 @@ pub fn run_in_one_thread<
     ensures run { IfOk result (IsRunOf true studio.now) }
     ensures early { IfErr result IsEarly }
 {
+    let mut sockets = sockets;
+    if recording.record.is_some() {
+        tell_sources(sockets.receiving.as_mut_slice());
+    }
     let pending = all_pending(alloc, sockets.receiving.len())?;
     run_on_sockets(
         rt,
@@ -60,7 +63,7 @@ pub fn run_in_one_thread<
 /// The same with a flag for each socket that receives.
 fn run_on_sockets<
     'a,
-    R: Threads + Wait + Sync + Net + Clock,
+    R: Threads + Wait + Sync + Clock,
     E: Write + Send + Drop,
     D: Write + Send + Drop,
 >(
@@ -100,6 +103,13 @@ fn run_on_sockets<
     match recorder {
         Some(recorder) => run_recorded(rt, alloc, studio, watched, recorder),
         None => watched.run(rt, alloc, studio),
+    }
+}
+
+/// Has all sockets tell where datagrams come from, as a record says it.
+fn tell_sources(receivers: &mut [Receiver<'_>]) {
+    for receiver in receivers.iter_mut() {
+        receiver.tell_sources();
     }
 }
 

@@ -12,7 +12,6 @@ use live_view::Meter;
 use run_devices::WorkReport;
 use std::alloc::Global;
 use std::io::Write;
-use std::net::Net;
 use std::sync::Wait;
 use std::time::Clock;
 use studio_alone::run_alone;
@@ -28,7 +27,7 @@ pub(crate) struct Lone<'a, R: Wait + Clock> {
 }
 
 /// Feeds of these sockets, and the wait for them.
-pub(crate) fn lone_of<'a, R: Wait + Net + Clock>(
+pub(crate) fn lone_of<'a, R: Wait + Clock>(
     rt: &'a R,
     alloc: Global,
     studio: &StudioSpec,
@@ -42,7 +41,7 @@ pub(crate) fn lone_of<'a, R: Wait + Net + Clock>(
 {
     let Sockets { receiving, sink } = sockets;
     let clock = start.clock(rt);
-    let rest = SocketRest::new(rt, rt, alloc, receiving.as_slice(), flags.pending, clock)?;
+    let rest = SocketRest::new(rt, alloc, receiving.as_slice(), flags.pending, clock)?;
     let feeds = own_feeds(rt, alloc, studio, receiving, start, flags)?;
     Ok(Lone {
         feeds,

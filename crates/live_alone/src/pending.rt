@@ -3,8 +3,8 @@
 use std::alloc::{AllocError, Global};
 use std::sync::atomic::AtomicBool;
 
-/// A flag for each of so many sockets: it may have a datagram that wasn't received. The wait for the sockets sets it,
-/// and the socket's feed clears it once there was none.
+/// A flag for each of so many sockets: it has a datagram. The wait for the sockets sets it, and the socket's feed clears it
+/// and receives one.
 pub(crate) fn all_pending(alloc: Global, count: usize) -> Result<Vec<AtomicBool>, AllocError> {
     let mut pending = Vec::with_capacity(alloc, count)?;
     for _ in 0..count {

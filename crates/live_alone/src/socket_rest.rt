@@ -1,13 +1,12 @@
 //! How a run in one thread waits for its sockets.
 
+use libc::net::{POLLIN, poll};
+use libc::types::pollfd;
 use live_parts::SystemClock;
 use live_sockets::Receiver;
-use mio::unix::SourceFd;
-use mio::{Events, Interest, Poll, Token};
 use run_devices::Clock as ReadClock;
 use std::alloc::Global;
 use std::io;
-use std::net::Net;
 use std::sync::Wait;
 use std::sync::atomic::{AtomicBool, Ordering};
 use std::thread::Parker;
@@ -32,30 +31,38 @@ const THREE_INSTANTS: u64 = 62_500;
 const QUIET_WAITS: u32 = 100;
 
 /// How many milliseconds such a wait takes at least, if nothing comes.
-const QUIET_WAIT: u64 = 4;
+const QUIET_WAIT: i32 = 4;
 
-/// How many sockets are told of at once. The others stay known as ready.
-const MOST_EVENTS: usize = 64;
+/// What a look at the sockets came to.
+#[derive(Clone, Copy, PartialEq, Eq, Debug)]
+enum Look {
+    /// Some have something.
+    Ready,
+    /// None has.
+    Nothing,
+    /// The system didn't say: any may have something.
+    Failed,
+}
 
-/// A wait for one of several sockets to become ready.
+/// A wait for one of several sockets to have something.
 ///
-/// While datagrams come it doesn't end at each: it waits a millisecond, and tells which sockets became ready meanwhile.
-/// What came by then is judged by the reading before, unless that is older. Once nothing has come for
-/// a while it sleeps longer, past deadlines of silence; the first datagram ends that.
+/// While datagrams come it doesn't end at each: it waits a millisecond, and then tells which sockets have one. One that has more
+/// is told of again at once, so that a round asks each socket only as often as it has a datagram. What came by then is judged by
+/// the reading before, unless that is older. Once nothing has come for a while it sleeps longer, past deadlines of silence; the
+/// first datagram ends that.
 #[derive(Drop)]
 pub(crate) struct SocketRest<'a, R: Wait + Clock> {
     rt: &'a R,
-    poll: Poll,
-    events: Events,
-    /// Which sockets may have a datagram. What became ready is told once.
+    sockets: Vec<pollfd>,
+    /// Which sockets are to be asked, once each.
     pending: &'a [AtomicBool],
     /// Where it waits while datagrams come. Nobody ends that wait.
     parker: Parker,
     /// How old a reading is, by this.
     clock: SystemClock<'a, R>,
-    /// Whether a socket became ready during the last wait.
+    /// Whether a socket had something at the last look.
     is_busy: bool,
-    /// In how many waits since then none did.
+    /// At how many waits since then none did.
     quiet: u32,
 }
 
@@ -63,23 +70,22 @@ impl<'a, R: Wait + Clock> SocketRest<'a, R> {
     /// A wait for these sockets, whose receives don't wait from then on.
     pub(crate) fn new(
         rt: &'a R,
-        net: &impl Net,
         alloc: Global,
         receivers: &[Receiver<'_>],
         pending: &'a [AtomicBool],
         clock: SystemClock<'a, R>,
     ) -> io::Result<SocketRest<'a, R>> {
-        let poll = Poll::new(net)?;
-        for (number, receiver) in receivers.iter().enumerate() {
-            let descriptor = receiver.without_waits()?;
-            let mut source = SourceFd(&descriptor);
-            poll.registry()
-                .register(&mut source, Token(number), Interest::READABLE)?;
+        let mut sockets = Vec::with_capacity(alloc, receivers.len())?;
+        for receiver in receivers {
+            sockets.push(pollfd {
+                fd: receiver.without_waits()?,
+                events: POLLIN,
+                revents: 0,
+            })?;
         }
         Ok(SocketRest {
             rt,
-            poll,
-            events: Events::with_capacity(alloc, MOST_EVENTS)?,
+            sockets,
             pending,
             parker: Parker::new(),
             clock,
@@ -88,18 +94,18 @@ impl<'a, R: Wait + Clock> SocketRest<'a, R> {
         })
     }
 
-    /// Sleeps less than a millisecond while datagrams come, or where a socket may have one left, and answers for how many
-    /// milliseconds it may then wait for the next.
-    fn sleep(&mut self, instants: u64) -> u64 {
+    /// Sleeps less than a millisecond while datagrams come, and answers for how many milliseconds it may then wait for
+    /// the next.
+    fn sleep(&mut self, instants: u64) -> i32 {
         if instants == 0 {
             return 0;
         }
-        let is_busy = self.is_busy || self.has_pending();
-        if !is_busy && self.quiet >= QUIET_WAITS {
-            return QUIET_WAIT.max(instants / MILLISECOND);
+        let whole = i32::try_from(instants / MILLISECOND).unwrap_or(i32::MAX);
+        if !self.is_busy && self.quiet >= QUIET_WAITS {
+            return QUIET_WAIT.max(whole);
         }
-        if !is_busy && instants >= MILLISECOND {
-            return instants / MILLISECOND;
+        if !self.is_busy && whole > 0 {
+            return whole;
         }
         let part = instants.min(SHORT_SLEEP) * THREE_INSTANTS / 3;
         self.parker
@@ -107,14 +113,14 @@ impl<'a, R: Wait + Clock> SocketRest<'a, R> {
         0
     }
 
-    /// Waits so many sampling instants, but for whole milliseconds at most until a socket is ready.
+    /// Waits so many sampling instants, but for whole milliseconds at most until a socket has something; not at all where
+    /// one has more than was taken of it.
     fn wait(&mut self, instants: u64) {
-        let most = Duration::from_millis(self.sleep(instants));
-        let polled = self.poll.poll(&mut self.events, Some(most));
-        self.is_busy = match polled {
-            Ok(()) => self.note_ready(),
-            Err(_) => self.note_all(),
-        };
+        if self.is_busy && self.look(0) == Look::Ready {
+            return;
+        }
+        let most = self.sleep(instants);
+        self.is_busy = self.look(most) != Look::Nothing;
         self.quiet = if self.is_busy {
             0
         } else {
@@ -122,33 +128,22 @@ impl<'a, R: Wait + Clock> SocketRest<'a, R> {
         };
     }
 
-    /// Whether a socket may have a datagram that its feed left.
-    fn has_pending(&self) -> bool {
-        for pending in self.pending {
-            if pending.load(Ordering::SeqCst) {
-                return true;
-            }
+    /// Looks which sockets have something, for so many milliseconds at most until one has.
+    fn look(&mut self, most: i32) -> Look {
+        let count = poll(self.sockets.as_mut_slice(), most);
+        if count == 0 {
+            return Look::Nothing;
         }
-        false
-    }
-
-    /// Notes which sockets became ready, and answers whether any did.
-    fn note_ready(&self) -> bool {
-        for event in &self.events {
-            let Token(number) = event.token();
-            if let Some(pending) = self.pending.get(number) {
+        for (socket, pending) in self.sockets.iter().zip(self.pending) {
+            if count < 0 || socket.revents != 0 {
                 pending.store(true, Ordering::SeqCst);
             }
         }
-        !self.events.is_empty()
-    }
-
-    /// Notes that any socket may have become ready, which is so where nothing is told of them.
-    fn note_all(&self) -> bool {
-        for pending in self.pending {
-            pending.store(true, Ordering::SeqCst);
+        if count < 0 {
+            Look::Failed
+        } else {
+            Look::Ready
         }
-        true
     }
 }
 

@@ -18,7 +18,7 @@ const MOST_STRANGERS: u32 = 64;
 pub struct Flags<'a> {
     /// Each feed is to end.
     pub stop: &'a AtomicBool,
-    /// For each path, whether its socket may have a datagram; empty where receives wait.
+    /// For each path, whether its socket is to be asked once; empty where receives wait.
     pub pending: &'a [AtomicBool],
 }
 
@@ -31,7 +31,7 @@ pub struct UdpFeed<'a, R: Clock> {
     /// In sampling instants.
     until: Option<i64>,
     stop: &'a AtomicBool,
-    /// Whether it may have a datagram; none where receives wait.
+    /// Whether it is to be asked once; none where receives wait.
     pending: Option<&'a AtomicBool>,
     /// Its path's place among those of all streams.
     place: u32,
@@ -63,7 +63,7 @@ impl<'a, R: Clock> UdpFeed<'a, R> {
         self.place
     }
 
-    /// Where its last datagram came from.
+    /// Where its last datagram came from, where its receiver tells that; else 0.0.0.0:0.
     pub fn source(&self) -> SocketAddrV4
         ensures { result ≡ self.now.receiver.from }
     {
@@ -77,27 +77,11 @@ impl<'a, R: Clock> UdpFeed<'a, R> {
         self.receiver.at
     }
 
-    /// Whether a receive is worth its cost.
-    fn may_have(&self) -> bool {
+    /// Whether it is to be asked, from which on it isn't until it is told so again.
+    fn is_asked(&self) -> bool {
         match self.pending {
-            Some(pending) => pending.load(Ordering::SeqCst),
+            Some(pending) => pending.swap(false, Ordering::SeqCst),
             None => true,
-        }
-    }
-
-    /// What a receive that failed comes to.
-    fn answer_of(&self, kind: ErrorKind) -> FeedAnswer
-        ensures { (len : ℕ) → IsWithin result len }
-    {
-        match kind {
-            ErrorKind::WouldBlock => {
-                if let Some(pending) = self.pending {
-                    pending.store(false, Ordering::SeqCst);
-                }
-                FeedAnswer::Nothing
-            }
-            ErrorKind::Interrupted => FeedAnswer::Nothing,
-            _ => FeedAnswer::Fault,
         }
     }
 
@@ -113,6 +97,16 @@ impl<'a, R: Clock> UdpFeed<'a, R> {
     }
 }
 
+/// What a receive that failed comes to.
+fn answer_of(kind: ErrorKind) -> FeedAnswer
+    ensures { (len : ℕ) → IsWithin result len }
+{
+    match kind {
+        ErrorKind::WouldBlock | ErrorKind::Interrupted => FeedAnswer::Nothing,
+        _ => FeedAnswer::Fault,
+    }
+}
+
 impl<R: Clock> Feed for UdpFeed<'_, R> {
     ghost told = { λ feed. [] };
 
@@ -121,13 +115,13 @@ impl<R: Clock> Feed for UdpFeed<'_, R> {
             if self.has_ended() {
                 return FeedAnswer::Ended;
             }
-            if !self.may_have() {
+            if !self.is_asked() {
                 return FeedAnswer::Nothing;
             }
             match self.receiver.receive(buf) {
                 Ok(Some(count)) => return FeedAnswer::Datagram(count),
                 Ok(None) => {}
-                Err(fault) => return self.answer_of(fault.kind()),
+                Err(fault) => return answer_of(fault.kind()),
             }
         }
         FeedAnswer::Nothing

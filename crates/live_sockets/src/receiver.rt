@@ -22,8 +22,10 @@ pub struct Receiver<'a> {
     source: Option<Source<'a>>,
     /// Where datagrams are sent to for it to receive them.
     pub(crate) at: SocketAddrV4,
-    /// Where the last of them came from.
+    /// Where the last of them came from, if that is told.
     pub(crate) from: SocketAddrV4,
+    /// Whether it tells where they come from.
+    tells_sources: bool,
 }
 
 impl<'a> Receiver<'a> {
@@ -42,7 +44,13 @@ impl<'a> Receiver<'a> {
             source,
             at,
             from: SocketAddrV4::new(Ipv4Addr::UNSPECIFIED, 0),
+            tells_sources: false,
         }
+    }
+
+    /// Has it tell where datagrams come from, which costs a part of each receive.
+    pub fn tell_sources(&mut self) {
+        self.tells_sources = true;
     }
 
     /// Lets receives answer at once from now on, and answers the socket's descriptor, by which its readiness is watched.
@@ -55,11 +63,14 @@ impl<'a> Receiver<'a> {
     pub(crate) fn receive(&mut self, buf: &mut [u8]) -> io::Result<Option<usize>>
         ensures within { IfOk result (λ own. IfSome own (λ count. count ≤ length buf.old)) }
     {
+        let source = self.source;
+        if source.is_none() && !self.tells_sources {
+            return Ok(Some(self.socket.recv(buf)?));
+        }
         let (count, from) = self.socket.recv_from(buf)?;
         if let SocketAddr::V4(from) = from {
             self.from = from;
         }
-        let source = self.source;
         match source {
             Some(source) if !source.has_sent(from) => Ok(None),
             _ => Ok(Some(count)),
