@@ -1,7 +1,11 @@
 -- What is shown of a path's packets.
-use Rattle.std.specs.Prelude.{ℕ, ◌+◌, ◌-◌, ◌^◌, min}
+use Rattle.std.specs.Prelude.{◌≡◌, ℕ, ◌+◌, ◌-◌, ◌^◌, min, max, List, slice_index, slice_get, Some, option_map}
+use Rattle.stream_rules.specs.declared.counts.Counts.{Counts}
+use Rattle.stream_tally.specs.declared.spare.Spare.{Spare}
 use Rattle.stream_watch.specs.declared.numbers.PathNumbers.{PathNumbers}
 use Rattle.studio_page.specs.declared.snapshot.Copies.{Copies}
+use Rattle.studio_page.specs.declared.snapshot.PathState.{PathState}
+use Rattle.studio_page.specs.declared.snapshot.Spare as page
 
 -- what it missed, and what its stream lost; what became of the others
 abbrev pub copies_of : PathNumbers → ℕ → Copies
@@ -11,3 +15,16 @@ copies_of numbers lost = record {
   unlike = numbers.tally.unlike;
   late = numbers.tally.late;
 }
+
+-- its spare times; the least is no more than the median
+abbrev pub spare_of : Spare → page.Spare
+spare_of spare = record { least = spare.least; median = max spare.median spare.least }
+
+-- a path with these numbers, of a stream that lost so many
+abbrev pub with_numbers : PathNumbers → ℕ → PathState → PathState
+with_numbers numbers lost path = record path { copies = Some (copies_of numbers lost); spare = option_map spare_of numbers.spare }
+
+-- of a path at its place, among these counts and numbers: its first copies, and what became of the others
+abbrev pub IsTold : Counts → List PathNumbers → ℕ → PathState → PathState → Type 0
+IsTold counts numbers place old new =
+    (of_path : PathNumbers) → slice_get numbers place ≡ Some of_path → new ≡ record (with_numbers of_path counts.lost old) { first = slice_index counts.taken_by place }

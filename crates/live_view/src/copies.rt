@@ -1,15 +1,13 @@
 //! What is seen of a path's packets beside those of the others.
-ghost use Rattle.std.specs.Prelude.{◌≡◌, Some};
-ghost use Rattle.live_view.specs.Copies.{copies_of};
+ghost use Rattle.std.specs.Prelude.{◌≡◌};
+ghost use Rattle.live_view.specs.Copies.{spare_of, with_numbers};
 
 use stream_watch::PathNumbers;
 use studio_page::{Copies, PathState, Spare};
 
 /// Sees what became of a path's packets, of a stream that lost so many.
 pub(crate) fn see_numbers(numbers: &PathNumbers, lost: u64, state: &mut PathState)
-    ensures copies { state.new.copies ≡ Some (copies_of numbers.now lost) }
-    ensures first { state.new.first ≡ state.old.first }
-    ensures counts { (state.new.counts ≡ state.old.counts) × (state.new.datagrams ≡ state.old.datagrams) }
+    ensures { state.new ≡ with_numbers numbers.now lost state.old }
 {
     let tally = numbers.tally;
     state.copies = Some(Copies {
@@ -19,10 +17,17 @@ pub(crate) fn see_numbers(numbers: &PathNumbers, lost: u64, state: &mut PathStat
         late: tally.late,
     });
     state.spare = match numbers.spare {
-        Some(spare) => Some(Spare {
-            least: u64::from(spare.least),
-            median: u64::from(spare.median.max(spare.least)),
-        }),
+        Some(spare) => Some(shown_spare(spare)),
         None => None,
     };
+}
+
+/// The spare times of a path, as they are shown.
+fn shown_spare(spare: stream_tally::Spare) -> Spare
+    ensures { result ≡ spare_of spare }
+{
+    Spare {
+        least: u64::from(spare.least),
+        median: u64::from(spare.median.max(spare.least)),
+    }
 }

@@ -2,14 +2,15 @@
 //!
 //! A `Board` has all that a snapshot says beside counts: names, conditions, peaks. Once it `is_due`, its caller fills a `blank`
 //! snapshot with the counts that it knows, and `show` pushes that to the page's ring and writes the lines that are due from it.
-//! An `EngineView` does so for an engine, and tallies each path's copies; for workers `see_told` and `see_datagrams` say what their
-//! watches were told. A `Meter` measures the mix where it is sent.
+//! An `EngineView` does so for an engine, and tallies each path's copies; for workers `see_told`, `see_datagrams` and `see_saturated` say
+//! what their watches were told. A `Meter` measures the mix's peaks where it is sent.
 #![tactic(auto)]
 
 mod board;
 mod copies;
 mod engine_view;
 mod meter;
+mod names;
 mod ready;
 mod seen;
 mod stats;
@@ -20,4 +21,4 @@ pub use engine_view::EngineView;
 pub use meter::Meter;
 pub use ready::{FAULTS, INPUT, is_ready};
 pub use stats::Stats;
-pub use told::{see_datagrams, see_told};
+pub use told::{see_datagrams, see_saturated, see_told};

@@ -1,6 +1,6 @@
 //! What a snapshot says of a stream beside its counts.
+ghost use Rattle.std.specs.Prelude.{◌≡◌, ◌≤◌};
 
-use std::alloc::{AllocError, Global};
 use stream_rules::StreamSpec;
 use studio_page::{Name, PathState, Pulse, StreamState};
 
@@ -10,12 +10,31 @@ pub(crate) struct Seen {
     name: Option<Name>,
     latency: u32,
     paths: u8,
-    pub(crate) pulse: Pulse,
+    pulse: Pulse,
+    ghost few: { paths ≤ 4 },
 }
 
 impl Seen {
-    /// A stream of which nothing came, in which nothing is counted.
-    pub(crate) fn blank(&self) -> StreamState {
+    ghost use Rattle.studio_page.specs.Blank.{IsBlank};
+    ghost use Rattle.live_view.specs.Pulses.{looked, with_condition};
+    ghost use Rattle.live_view.specs.Seen.{IsFirstSeen};
+
+    /// What is seen of a stream with a name, before anything came.
+    pub(crate) fn new(name: Option<Name>, stream: &StreamSpec, now: i64) -> Seen
+        ensures { IsFirstSeen name now stream.now result }
+    {
+        Seen {
+            name,
+            latency: stream.latency(),
+            paths: stream.paths(),
+            pulse: Pulse::new(now),
+        }
+    }
+
+    /// The stream, in which nothing is counted.
+    pub(crate) fn blank(&self) -> StreamState
+        ensures { IsBlank self.now.name self.now.latency self.now.paths result }
+    {
         let mut stream = StreamState::default();
         stream.name = self.name;
         stream.latency = u64::from(self.latency);
@@ -24,27 +43,12 @@ impl Seen {
         }
         stream
     }
-}
 
-/// What is seen of streams with these names, before anything came.
-pub(crate) fn all_seen(
-    alloc: Global,
-    streams: &[StreamSpec],
-    names: &[Option<Name>],
-    now: i64,
-) -> Result<Vec<Seen>, AllocError> {
-    let mut seen = Vec::with_capacity(alloc, streams.len())?;
-    for (number, stream) in streams.iter().enumerate() {
-        let name = match names.get(number) {
-            Some(name) => *name,
-            None => None,
-        };
-        seen.push(Seen {
-            name,
-            latency: stream.latency(),
-            paths: stream.paths(),
-            pulse: Pulse::new(now),
-        })?;
+    /// Says where the stream stands at a time, by how many of its packets were taken.
+    pub(crate) fn tell_condition(&mut self, now: i64, stream: &mut StreamState, has_ended: bool)
+        ensures stream { stream.new ≡ with_condition self.old.pulse now has_ended stream.old }
+        ensures seen { self.new ≡ looked stream.old.counts.taken now self.old }
+    {
+        stream.condition = self.pulse.look(now, stream.counts.taken, has_ended);
     }
-    Ok(seen)
 }

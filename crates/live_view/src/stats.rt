@@ -1,4 +1,5 @@
 //! Each stream's counts, told while a run goes on.
+ghost use Rattle.std.specs.Prelude.{◌≡◌, int_le};
 
 use crate::ready::{FAULTS, is_ready};
 use std::alloc::{AllocError, Global};
@@ -30,7 +31,9 @@ impl Stats {
     }
 
     /// Whether it is time for lines.
-    pub(crate) fn is_due(&self, now: i64) -> bool {
+    pub(crate) fn is_due(&self, now: i64) -> bool
+        ensures { result ≡ int_le self.now.next now }
+    {
         now >= self.next
     }
 

@@ -1,22 +1,50 @@
-//! What is seen of a stream by what its workers tell.
-ghost use Rattle.std.specs.Prelude.{◌≡◌, Some};
+//! What is seen of a stream, and of the mix, by what workers tell.
+ghost use Rattle.std.specs.Prelude.{◌≡◌, Some, slice_index};
+ghost use Rattle.live_view.specs.Copies.{IsTold};
+ghost use Rattle.live_view.specs.Each.{AreEach};
+ghost use Rattle.live_view.specs.Outputs.{HasCount};
 
 use crate::copies::see_numbers;
-use stream_rules::PathCounts;
+use stream_rules::{Counts, PathCounts};
 use stream_watch::StreamNumbers;
-use studio_page::{PathState, StreamState};
+use studio_page::{OutputState, PathState, StreamState};
 
 /// Sees what was told of a stream.
-pub fn see_told(numbers: &StreamNumbers, stream: &mut StreamState) {
-    let counts = numbers.counts;
-    stream.counts = counts;
-    for (place, state) in stream.paths.as_mut_slice().iter_mut().enumerate() {
-        let (Some(path), Some(first)) = (numbers.paths.get(place), counts.taken_by.get(place))
-        else {
-            return;
-        };
-        state.first = *first;
-        see_numbers(path, counts.lost, state);
+pub fn see_told(numbers: &StreamNumbers, stream: &mut StreamState)
+    ensures counts { stream.new.counts ≡ numbers.now.counts }
+    ensures paths { AreEach (IsTold numbers.now.counts numbers.now.paths) stream.old.paths.items stream.new.paths.items }
+    ensures rest { (stream.new.name ≡ stream.old.name) × (stream.new.condition ≡ stream.old.condition) × (stream.new.latency ≡ stream.old.latency) }
+{
+    stream.counts = numbers.counts;
+    see_paths(numbers, stream.paths.as_mut_slice());
+}
+
+/// Sees what was told of each path.
+fn see_paths(numbers: &StreamNumbers, paths: &mut [PathState])
+    ensures { AreEach (IsTold numbers.now.counts numbers.now.paths) paths.old paths.new }
+{
+    for (place, path) in paths.iter_mut().enumerate() {
+        see_path(numbers, place, path);
+    }
+}
+
+/// Sees what was told of the path at a place.
+fn see_path(numbers: &StreamNumbers, place: usize, path: &mut PathState)
+    ensures { IsTold numbers.now.counts numbers.now.paths place path.old path.new }
+{
+    if let Some(of_path) = numbers.paths.get(place) {
+        path.first = first_at(&numbers.counts, place);
+        see_numbers(of_path, numbers.counts.lost, path);
+    }
+}
+
+/// How many first copies the path at a place brought.
+pub(crate) fn first_at(counts: &Counts, place: usize) -> u64
+    ensures { result ≡ slice_index counts.now.taken_by place }
+{
+    match counts.taken_by.get(place) {
+        Some(first) => *first,
+        None => 0,
     }
 }
 
@@ -28,4 +56,15 @@ pub fn see_datagrams(counts: PathCounts, state: &mut PathState)
 {
     state.datagrams = counts.offered;
     state.counts = Some(counts);
+}
+
+/// Sees how many samples of each output channel were saturated, as far as that is told.
+pub fn see_saturated(saturated: &[u64], outputs: &mut [OutputState])
+    ensures { AreEach (HasCount saturated.now) outputs.old outputs.new }
+{
+    for (channel, output) in outputs.iter_mut().enumerate() {
+        if let Some(count) = saturated.get(channel) {
+            output.saturated = *count;
+        }
+    }
 }

@@ -1,0 +1,31 @@
+-- What is shown of an engine's streams.
+use Rattle.std.specs.Prelude.{◌≡◌, ◌<◌, ℕ, List, Option, Some, slice_get, slice_index, IsSomeAnd}
+use Rattle.stream_rules.specs.Counts.{tally_of}
+use Rattle.stream_rules.specs.PathCounts.{path_tally_of}
+use Rattle.stream_rules.specs.declared.counts.Counts.{Counts}
+use Rattle.stream_rules.specs.declared.path_counts.PathCounts.{PathCounts}
+use Rattle.stream_rules.specs.declared.stream_spec.Stream.{Stream}
+use Rattle.studio_spec.specs.Studio.{Studio}
+use Rattle.studio_session.specs.Counts.{path_counts_of}
+use Rattle.studio_session.specs.Event.{TraceEvent}
+use Rattle.studio_session.specs.Report.{merge_tally_of}
+use Rattle.studio_engine.specs.Engine.{EngineState, HasAllMarks}
+use Rattle.studio_engine.specs.Session.{HasSession}
+use Rattle.studio_page.specs.declared.snapshot.PathState.{PathState}
+
+-- of the events that an engine was handed, the counts of this stream's merge, once its marks were taken
+abbrev pub HasEngineCounts : EngineState → ℕ → Counts → Type 0
+HasEngineCounts engine number counts =
+    (studio : Studio) (events : List TraceEvent) (datagrams : List (List ℕ)) (stream : Stream) → HasSession studio engine events datagrams → slice_get studio.streams number ≡ Some stream → HasAllMarks engine
+    → tally_of counts ≡ merge_tally_of stream number studio.open_at events
+
+-- and what became of a path's datagrams before it, of which so many are shown
+abbrev pub HasEngineBefore : EngineState → ℕ → ℕ → Option PathCounts → ℕ → Type 0
+HasEngineBefore engine number path shown offered = IsSomeAnd shown (λ counts. (offered ≡ counts.offered)
+    × ((studio : Studio) (events : List TraceEvent) (datagrams : List (List ℕ)) (stream : Stream) → HasSession studio engine events datagrams → slice_get studio.streams number ≡ Some stream
+    → path_tally_of counts ≡ path_counts_of stream number path events))
+
+-- of a path at its place: its first copies among these counts, and what became of its datagrams
+pub record IsEnginePath (engine : EngineState) (number : ℕ) (counts : Counts) (place : ℕ) (old new : PathState) : Type 0 where
+  pub first : place < 4 → new.first ≡ slice_index counts.taken_by place
+  pub before : place < 4 → HasEngineBefore engine number place new.counts new.datagrams

@@ -1,0 +1,15 @@
+-- What is shown of output channels.
+use Rattle.std.specs.Prelude.{◌≡◌, ℕ, List, slice_get, MatchOption}
+use Rattle.studio_page.specs.declared.snapshot.OutputState.{OutputState}
+
+-- a channel of which nothing is counted
+abbrev pub blank_output : OutputState
+blank_output = record { peak = 0; saturated = 0 }
+
+-- the channel at a place has the count that stands there, if any does, and its peak
+abbrev pub HasCount : List ℕ → ℕ → OutputState → OutputState → Type 0
+HasCount saturated place old new = MatchOption (slice_get saturated place) (new ≡ old) (λ count. new ≡ record old { saturated = count })
+
+-- it has the count that it had, and some peak
+abbrev pub KeepsCount : ℕ → OutputState → OutputState → Type 0
+KeepsCount place old new = new.saturated ≡ old.saturated
