@@ -1,10 +1,10 @@
 //! What the workers' watches told last.
 
-use live_view::{see_datagrams, see_told};
+use live_view::{see_datagrams, see_saturated, see_told};
 use std::alloc::{AllocError, Global};
 use stream_rules::PathCounts;
-use stream_watch::{PathWatch, StreamNumbers, StreamWatch};
-use studio_page::Snapshot;
+use stream_watch::{MixNumbers, MixWatch, PathWatch, StreamNumbers, StreamWatch};
+use studio_page::{OutputState, Snapshot};
 use studio_rings::Watches;
 
 /// What each watch told last; none, where it told nothing yet.
@@ -14,6 +14,7 @@ pub(crate) struct Told {
     paths: Vec<Option<PathCounts>>,
     /// Stream by stream.
     streams: Vec<Option<StreamNumbers>>,
+    mix: Option<MixNumbers>,
 }
 
 impl Told {
@@ -22,6 +23,7 @@ impl Told {
         Ok(Told {
             paths: Vec::from_elem(alloc, None, paths)?,
             streams: Vec::from_elem(alloc, None, streams)?,
+            mix: None,
         })
     }
 
@@ -29,10 +31,12 @@ impl Told {
     pub(crate) fn ask(&mut self, watches: &mut Watches) {
         ask_paths(watches.paths.as_mut_slice(), self.paths.as_mut_slice());
         ask_streams(watches.streams.as_mut_slice(), self.streams.as_mut_slice());
+        ask_mix(&mut watches.mix, &mut self.mix);
     }
 
     /// Sees what they told.
     pub(crate) fn see(&self, snapshot: &mut Snapshot) {
+        see_mix(&self.mix, snapshot.outputs.as_mut_slice());
         let mut counts = self.paths.iter();
         let streams = snapshot.streams.as_mut_slice().iter_mut();
         for (stream, told) in streams.zip(self.streams.iter()) {
@@ -63,5 +67,19 @@ fn ask_streams(watches: &mut [StreamWatch], told: &mut [Option<StreamNumbers>]) 
         if let Some(numbers) = watch.latest() {
             *last = Some(numbers);
         }
+    }
+}
+
+/// Asks the watch of the mix.
+fn ask_mix(watch: &mut MixWatch, told: &mut Option<MixNumbers>) {
+    if let Some(numbers) = watch.latest() {
+        *told = Some(numbers);
+    }
+}
+
+/// Sees what was told of the mix.
+fn see_mix(told: &Option<MixNumbers>, outputs: &mut [OutputState]) {
+    if let Some(numbers) = told {
+        see_saturated(&numbers.saturated, outputs);
     }
 }

@@ -9,7 +9,7 @@ use std::io::Write;
 use std::time;
 use studio_rings::Watches;
 
-/// The watches of all paths and streams, what they told last, and what is shown of it.
+/// The watches of all paths and streams and of the mix, what they told last, and what is shown of it.
 #[derive(Drop)]
 pub(crate) struct WatchView<'a, R: time::Clock, E> {
     pub(crate) watches: Watches,
