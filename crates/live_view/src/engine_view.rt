@@ -88,7 +88,7 @@ impl<'a, E: Write + Drop> EngineView<'a, E> {
         for (number, stream) in snapshot.streams.as_mut_slice().iter_mut().enumerate() {
             see_stream(engine, number, self.watched.get(number), stream);
         }
-        see_saturated(&[], snapshot.outputs.as_mut_slice());
+        see_saturated(engine.saturated(), snapshot.outputs.as_mut_slice());
         self.board.show(now, snapshot, has_ended);
     }
 }

@@ -70,10 +70,12 @@ fn ask_streams(watches: &mut [StreamWatch], told: &mut [Option<StreamNumbers>]) 
     }
 }
 
-/// Asks the watch of the mix.
-fn ask_mix(watch: &mut MixWatch, told: &mut Option<MixNumbers>) {
-    if let Some(numbers) = watch.latest() {
-        *told = Some(numbers);
+/// Asks the watch of the mix, if there is one.
+fn ask_mix(watch: &mut Option<MixWatch>, told: &mut Option<MixNumbers>) {
+    if let Some(watch) = watch {
+        if let Some(numbers) = watch.latest() {
+            *told = Some(numbers);
+        }
     }
 }
 
