@@ -40,19 +40,36 @@ fn write_stream<W: Write>(number: usize, stream: &StreamSpec, output: &mut W) ->
         output,
         "stream {number}: {enc}, channels {channels}, packets of {frames} ({ms}.{us:03} ms), type {pt}"
     )?;
-    match stream.ssrc() {
-        Some(ssrc) => write!(output, ", source {ssrc}")?,
-        None => write!(output, ", any source")?,
+    write_source(stream.ssrc(), output)?;
+    write_clock(stream.clock(), output)?;
+    write_wait(stream, output)
+}
+
+/// The one source of a stream's packets, if one is said.
+fn write_source<W: Write>(ssrc: Option<u32>, output: &mut W) -> io::Result<()> {
+    match ssrc {
+        Some(ssrc) => write!(output, ", source {ssrc}"),
+        None => write!(output, ", any source"),
     }
-    match stream.clock() {
-        StreamClock::Media { offset } => write!(output, ", media clock, offset {offset}")?,
-        StreamClock::Arrival => write!(output, ", arrival clock")?,
+}
+
+/// By which clock media times are counted.
+fn write_clock<W: Write>(clock: StreamClock, output: &mut W) -> io::Result<()> {
+    match clock {
+        StreamClock::Media { offset } => write!(output, ", media clock, offset {offset}"),
+        StreamClock::Arrival => write!(output, ", arrival clock"),
     }
+}
+
+/// How long packets are waited for, and how many may be held.
+fn write_wait<W: Write>(stream: &StreamSpec, output: &mut W) -> io::Result<()> {
     let (latency, window) = (stream.latency(), stream.window());
-    let (ms, us) = millis(u64::from(latency));
-    write!(output, ", latency {latency} ({ms}.{us:03} ms)")?;
-    let (ms, us) = millis(u64::from(window) * u64::from(frames));
-    writeln!(output, ", window of {window} packets ({ms}.{us:03} ms)")
+    let (wait, wait_us) = millis(u64::from(latency));
+    let (held, held_us) = millis(u64::from(window) * u64::from(stream.frames()));
+    writeln!(
+        output,
+        ", latency {latency} ({wait}.{wait_us:03} ms), window of {window} packets ({held}.{held_us:03} ms)"
+    )
 }
 
 /// The ports of a stream's paths, each in a line, with the address where one is said.
@@ -71,15 +88,30 @@ fn write_paths<W: Write>(
         let Some(path) = Path::new(place as u8) else {
             return Ok(());
         };
-        match ports.port(number, path) {
-            Some(port) => write!(output, "  path {name}: port {port}")?,
-            None => write!(output, "  path {name}: no port")?,
-        }
-        write_address(" at", networks.address(number, path), output)?;
-        write_address(", from", networks.source(number, path), output)?;
-        writeln!(output)?;
+        let (at, from) = (
+            networks.address(number, path),
+            networks.source(number, path),
+        );
+        write_path(name, ports.port(number, path), at, from, output)?;
     }
     Ok(())
+}
+
+/// A path's port, and the addresses at which and from which it takes packets, where they are said.
+fn write_path<W: Write>(
+    name: &str,
+    port: Option<u16>,
+    at: Option<Ipv4Addr>,
+    from: Option<Ipv4Addr>,
+    output: &mut W,
+) -> io::Result<()> {
+    match port {
+        Some(port) => write!(output, "  path {name}: port {port}")?,
+        None => write!(output, "  path {name}: no port")?,
+    }
+    write_address(" at", at, output)?;
+    write_address(", from", from, output)?;
+    writeln!(output)
 }
 
 fn write_output<W: Write>(spec: &OutSpec, output: &mut W) -> io::Result<()> {
