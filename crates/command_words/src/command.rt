@@ -5,11 +5,16 @@ use std::alloc::{AllocError, Global};
 
 /// The program's words.
 pub(crate) fn command<'a>(alloc: Global) -> Result<Command<'a>, AllocError> {
-    let mut words = Vec::with_capacity(alloc, WORDS.len())?;
-    for known in WORDS {
-        words.push(command_of(alloc, known)?)?;
+    program(alloc, commands_of(alloc, WORDS)?)
+}
+
+/// A parser of each of these words.
+fn commands_of<'a>(alloc: Global, words: &[Known]) -> Result<Vec<Command<'a>>, AllocError> {
+    let mut commands = Vec::with_capacity(alloc, words.len())?;
+    for known in words {
+        commands.push(command_of(alloc, known)?)?;
     }
-    program(alloc, words)
+    Ok(commands)
 }
 
 /// The program with these words.
