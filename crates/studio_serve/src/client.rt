@@ -43,8 +43,16 @@ impl Client {
         }
     }
 
+    /// Has its turn where it may go on; answers whether it is to be let go then.
+    pub(crate) fn is_done_after(&mut self, page: &mut Page, now: Duration) -> bool {
+        if self.progress == Progress::GoesOn {
+            self.turn(page, now);
+        }
+        self.progress == Progress::Over || self.is_idle(now)
+    }
+
     /// Answers what came and sends what fits.
-    pub(crate) fn turn(&mut self, page: &mut Page, now: Duration) {
+    fn turn(&mut self, page: &mut Page, now: Duration) {
         self.progress = Progress::GoesOn;
         for _ in 0..MOST_STEPS {
             page.answer(&mut self.connection);
@@ -75,7 +83,7 @@ impl Client {
     }
 
     /// Whether it did nothing for so long that it is to be let go.
-    pub(crate) fn is_idle(&self, now: Duration) -> bool {
+    fn is_idle(&self, now: Duration) -> bool {
         now.saturating_sub(self.moved_at) > Duration::from_secs(PATIENCE)
     }
 }

@@ -88,16 +88,19 @@ impl PageServer {
     pub fn turn(&mut self, page: &mut Page, now: Duration) {
         self.note_ready();
         for place in 0..MOST_CLIENTS {
-            if let Some(client) = self.clients.get_mut(place) {
-                if client.progress == Progress::GoesOn {
-                    client.turn(page, now);
-                }
-                if client.progress == Progress::Over || client.is_idle(now) {
-                    self.clients.try_remove(place);
-                }
-            }
+            self.turn_at(place, page, now);
         }
         self.take_clients(now);
+    }
+
+    /// Gives the client of a place its turn, and lets it go where it is done with.
+    fn turn_at(&mut self, place: usize, page: &mut Page, now: Duration) {
+        let Some(client) = self.clients.get_mut(place) else {
+            return;
+        };
+        if client.is_done_after(page, now) {
+            self.clients.try_remove(place);
+        }
     }
 
     /// Notes which clients may go on.
