@@ -24,24 +24,18 @@ struct Lines<'a, W: Write> {
 /// Plays the trace of standard input over the configuration that the next word names. At the first event that is at
 /// fault it breaks off.
 pub fn play_trace(rt: &HostRuntime, words: &mut Args) -> anyhow::Result<()> {
-    let alloc = rt.alloc();
     let Some(path) = words.next() else {
         bail!("engine: which configuration");
     };
-    let config = read_text(alloc, &mut fs::open(rt, path.as_str())?)?;
-    let spec = studio_of(alloc, config.as_slice())?;
-    let trace = read_text(alloc, &mut rt.stdin())?;
-    let events = read_trace(alloc, trace.as_slice())?;
-    let mut engine = Engine::new(alloc, &spec)?;
-    let mut lines = Lines {
-        text: TextBuffer::new(alloc)?,
-        output: &mut rt.stdout(),
-    };
-    for event in events.as_slice() {
-        take_event(&mut engine, event, &mut lines)?;
-    }
-    write_counts(&engine, &spec, &mut lines)?;
-    finish(&mut lines)
+    let spec = studio_at(rt, path.as_str())?;
+    let events = trace_of(rt)?;
+    play(rt, &spec, events.as_slice())
+}
+
+/// The studio that a file's configuration says.
+fn studio_at(rt: &HostRuntime, path: &str) -> anyhow::Result<StudioSpec> {
+    let config = read_text(rt.alloc(), &mut fs::open(rt, path)?)?;
+    studio_of(rt.alloc(), config.as_slice())
 }
 
 /// The studio that the octets of a configuration say.
@@ -51,6 +45,36 @@ fn studio_of(alloc: Global, octets: &[u8]) -> anyhow::Result<StudioSpec> {
         bail!("config: not TOML");
     };
     StudioSpec::from_table(alloc, &table).map_err(|error| anyhow!("config {error}"))
+}
+
+/// The events of the trace of standard input.
+fn trace_of(rt: &HostRuntime) -> anyhow::Result<Vec<StudioEvent>> {
+    let trace = read_text(rt.alloc(), &mut rt.stdin())?;
+    Ok(read_trace(rt.alloc(), trace.as_slice())?)
+}
+
+/// Hands events to an engine, and writes what it gives and its counts.
+fn play(rt: &HostRuntime, spec: &StudioSpec, events: &[StudioEvent]) -> anyhow::Result<()> {
+    let mut engine = Engine::new(rt.alloc(), spec)?;
+    let mut lines = Lines {
+        text: TextBuffer::new(rt.alloc())?,
+        output: &mut rt.stdout(),
+    };
+    take_events(&mut engine, events, &mut lines)?;
+    write_counts(&engine, spec, &mut lines)?;
+    finish(&mut lines)
+}
+
+/// Hands all events on, and writes the datagrams that they give.
+fn take_events<W: Write>(
+    engine: &mut Engine,
+    events: &[StudioEvent],
+    lines: &mut Lines<'_, W>,
+) -> anyhow::Result<()> {
+    for event in events {
+        take_event(engine, event, lines)?;
+    }
+    Ok(())
 }
 
 /// Hands an event on, and writes the datagrams that it gives.

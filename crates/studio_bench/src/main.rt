@@ -1,5 +1,5 @@
-//! Times the kernels that carry the load, each by its word, runs the workers for long beside a plain program, and
-//! plays a trace through an engine; without words it writes nothing.
+//! Times the kernels that carry the load, each by its word, and plays a trace through an engine; without words it
+//! writes nothing.
 //!
 //! The scripts in `bench/` build it for a processor, run it beside C and compare; `diff/run engine` compares with `play`.
 #![tactic(auto)]
@@ -8,9 +8,6 @@ mod datagrams;
 mod engine;
 mod merge;
 mod mix;
-mod rings;
-mod studio;
-mod workers;
 
 use anyhow::bail;
 use std::env;
@@ -25,8 +22,6 @@ fn main(rt: HostRuntime) -> anyhow::Result<()> {
         "engine" => engine::play_trace(&rt, &mut words),
         "merge" => merge::time_merge(&rt, rt.alloc(), &mut words),
         "mix" => mix::time_shapes(&rt, rt.alloc()),
-        "rings" => rings::time_rings(&rt, rt.alloc(), &mut words),
-        "workers" => workers::run_long(&rt, rt.alloc(), &mut words),
         _ => bail!("no kernel has this name"),
     }
 }
