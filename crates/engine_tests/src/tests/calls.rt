@@ -1,0 +1,178 @@
+//! The calls of an engine, one by one.
+use super::studios::{
+    Step, answers, block_of_48, block_of_six, gives, packet_of_48, packet_of_six, play, six,
+    six_and_forty_eight,
+};
+use crate::small_studios::six_and_forty_eight as studio;
+use path_merge::{ClockFault, Fate, Path};
+use std::process::Abort;
+use studio_engine::{ArriveFault, Engine, Unfinished};
+use studio_session::Receipt;
+
+/// What is told of a packet that is taken.
+pub const TAKEN: Result<Receipt, ArriveFault> = Ok(Receipt::Offered(Fate::Taken));
+
+const BLOCK_BY_BLOCK: [Step; 6] = [
+    Step::Hand(0, 1, TAKEN),
+    Step::Hand(0, 2, TAKEN),
+    Step::Turn(11, Ok(None)),
+    Step::Give(18, 0, 1),
+    Step::Give(18, 1, 2),
+    Step::Turn(18, Ok(None)),
+];
+
+/// Two packets of six, due at 12 and 18: a turn to 18 gives both blocks, one by one, and then none.
+#[test]
+fn each_turn_gives_one_block(rt: HostRuntime) {
+    play(&rt, rt.alloc(), &BLOCK_BY_BLOCK);
+}
+
+const BETWEEN_TURNS: [Step; 7] = [
+    Step::Hand(0, 1, TAKEN),
+    Step::Give(12, 0, 1),
+    Step::Turn(12, Ok(None)),
+    Step::Hand(1, 2, TAKEN),
+    Step::Give(18, 1, 2),
+    Step::Turn(18, Ok(None)),
+    Step::Hand(0, 2, Ok(Receipt::Offered(Fate::Late))),
+];
+
+/// A packet that comes between two turns is in the second one's datagram; one that comes after its deadline is late.
+#[test]
+fn a_packet_comes_between_two_turns(rt: HostRuntime) {
+    play(&rt, rt.alloc(), &BETWEEN_TURNS);
+}
+
+const WITHIN_A_TURN: [Step; 7] = [
+    Step::Hand(0, 1, TAKEN),
+    Step::Give(12, 0, 1),
+    Step::Hand(0, 1, Err(ArriveFault::Unfinished)),
+    Step::Close(Err(Unfinished)),
+    Step::Give(18, 1, 0),
+    Step::Turn(18, Ok(None)),
+    Step::Close(Ok(())),
+];
+
+/// Until a turn has answered none, neither a packet nor a close is taken, and a later reading finishes it first.
+#[test]
+fn nothing_is_taken_within_a_turn(rt: HostRuntime) {
+    play(&rt, rt.alloc(), &WITHIN_A_TURN);
+}
+
+fn path(rt: &impl Abort, number: u8) -> Path {
+    Path::new(number).expect(rt, "a path")
+}
+
+/// A stream that is none, and a path that the stream lacks: each by its name.
+#[test]
+fn a_wrong_place_has_a_name(rt: HostRuntime) {
+    let engine = &mut six(&rt, rt.alloc());
+    let first = path(&rt, 0);
+    assert!(rt; engine.arrive(1, first, &[]) == Err(ArriveFault::Stream));
+    assert!(rt; engine.arrive(0, path(&rt, 2), &[]) == Err(ArriveFault::Path));
+    assert!(rt; engine.path_counts(1, first).is_none() && engine.counts(1).is_none());
+}
+
+/// A packet of six, and an octet too many.
+fn long_packet() -> [u8; 31] {
+    let mut long = [0u8; 31];
+    long[..30].copy_from_slice(&packet_of_six(1, 0, 1));
+    long
+}
+
+/// What is no packet of the stream: nothing, another type, and an octet too many. Each is told by its name, and counted.
+#[test]
+fn what_is_no_packet_has_a_name(rt: HostRuntime) {
+    let engine = &mut six(&rt, rt.alloc());
+    let path = path(&rt, 1);
+    assert!(rt; engine.arrive(0, path, &[]) == Ok(Receipt::Bad));
+    assert!(rt; engine.arrive(0, path, &block_of_six(1, 1)) == Ok(Receipt::WrongType));
+    assert!(rt; engine.arrive(0, path, &long_packet()) == Ok(Receipt::WrongLength));
+    let counts = engine.path_counts(0, path).expect(&rt, "the stream");
+    assert!(rt; counts.offered == 3 && counts.bad == 1);
+    assert!(rt; counts.wrong_type == 1 && counts.wrong_length == 1);
+}
+
+const OUT_OF_ORDER: [Step; 7] = [
+    Step::Turn(17, Ok(None)),
+    Step::Turn(16, Err(ClockFault::WentBack)),
+    Step::Turn(1_152_921_504_606_846_977, Err(ClockFault::TooFar)),
+    Step::Give(18, 0, 0),
+    Step::Turn(18, Ok(None)),
+    Step::Close(Ok(())),
+    Step::Turn(18, Err(ClockFault::Closed)),
+];
+
+/// A reading that goes back, one past 2^60 and one after a close: each changes nothing.
+#[test]
+fn a_reading_out_of_order_is_refused(rt: HostRuntime) {
+    play(&rt, rt.alloc(), &OUT_OF_ORDER);
+}
+
+const LEFT: [Step; 10] = [
+    Step::Hand(0, 2, TAKEN),
+    Step::DrainNone,
+    Step::Settled(false),
+    Step::Close(Ok(())),
+    Step::Close(Ok(())),
+    Step::DrainOne(0, 0),
+    Step::Settled(false),
+    Step::DrainOne(1, 2),
+    Step::DrainNone,
+    Step::Settled(true),
+];
+
+/// After a close the packet that waits is given, and then all is settled: before, a drain gives nothing. A second close is none.
+#[test]
+fn what_is_left_comes_after_a_close(rt: HostRuntime) {
+    play(&rt, rt.alloc(), &LEFT);
+}
+
+const SETTLED: [Step; 7] = [
+    Step::Hand(0, 1, TAKEN),
+    Step::Close(Ok(())),
+    Step::DrainOne(0, 1),
+    Step::DrainNone,
+    Step::Counts(1, 1, 0),
+    Step::Hand(0, 1, Ok(Receipt::Offered(Fate::Closed))),
+    Step::Settled(true),
+];
+
+/// Once all is settled the counts are whole, and what arrives is told that it comes after the close.
+#[test]
+fn counts_are_whole_once_settled(rt: HostRuntime) {
+    play(&rt, rt.alloc(), &SETTLED);
+}
+
+/// The first block of both streams: the packet of six from 24 on, and silence beside it.
+fn first_of_both() -> [u8; 156] {
+    let mut octets = block_of_48(0, 0);
+    for instant in 24..30usize {
+        octets[12 + 3 * instant + 2] = 1;
+    }
+    octets
+}
+
+/// A block needs the stream of 48, which comes by 84 later: what the stream of six gives until then is kept for its block.
+#[test]
+fn marks_are_kept_until_the_slower_stream_has_come(rt: HostRuntime) {
+    let engine = &mut six_and_forty_eight(&rt, rt.alloc());
+    let path = path(&rt, 0);
+    assert!(rt; engine.arrive(1, path, &packet_of_48(1, 48, 4)) == TAKEN);
+    assert!(rt; engine.arrive(0, path, &packet_of_six(1, 24, 1)) == TAKEN);
+    assert!(rt; answers(engine, 143, Ok(None)));
+    assert!(rt; gives(engine, 144, &first_of_both()));
+    assert!(rt; gives(engine, 144, &block_of_48(1, 4)));
+    assert!(rt; answers(engine, 144, Ok(None)));
+}
+
+/// An engine, made twice with any one allocation refused: want of memory at most once.
+#[test]
+fn each_refused_allocation_of_an_engine_is_answered(rt: HostRuntime) {
+    let alloc = rt.alloc();
+    let spec = studio(alloc, 2).or_else(|| studio(alloc, 2));
+    let spec = spec.expect(&rt, "with memory again");
+    let first = Engine::new(alloc, &spec).is_ok();
+    let second = Engine::new(alloc, &spec).is_ok();
+    assert!(rt; first || second, "with memory again");
+}

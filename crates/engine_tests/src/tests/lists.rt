@@ -1,0 +1,34 @@
+//! A list of events, run whole.
+use crate::small_studios::six_and_forty_eight;
+use std::alloc::Global;
+use std::process::Abort;
+use studio_session::{StudioEvent, StudioFault, run_studio};
+use studio_spec::StudioSpec;
+
+/// A list, run twice with any one allocation refused: want of memory at most once.
+#[test]
+fn each_refused_allocation_of_a_list_is_answered(rt: HostRuntime) {
+    let alloc = rt.alloc();
+    let spec = six_and_forty_eight(alloc, 2).or_else(|| six_and_forty_eight(alloc, 2));
+    let spec = spec.expect(&rt, "with memory again");
+    let first = is_run(&rt, alloc, &spec);
+    let second = is_run(&rt, alloc, &spec);
+    assert!(rt; first || second, "with memory again");
+}
+
+/// Whether silence up to a reading was given; else memory was refused.
+fn is_run(rt: &impl Abort, alloc: Global, spec: &StudioSpec) -> bool {
+    match run_studio(alloc, spec, &[StudioEvent::Tick(96), StudioEvent::Close]) {
+        Ok(report) => {
+            assert!(rt; report.datagrams.len() == 2);
+            true
+        }
+        Err(fault) => {
+            assert!(rt;
+                matches!(fault, StudioFault::Memory(_)),
+                "only memory can lack"
+            );
+            false
+        }
+    }
+}

@@ -1,0 +1,476 @@
+//! One stream through its rings, by worked examples.
+ghost use Rattle.std.specs.Prelude.{◌≡◌, ◌++◌, ◌∷◌, []};
+ghost use Rattle.rtrb.specs.Ring.{SameProducer};
+ghost use Rattle.studio_rings.specs.FreshEnds.{AreOpened};
+ghost use Rattle.worker_tests.specs.OneStream.{AreOfOneStream};
+
+use super::packets::{FIRST, SECOND, datagram, ones_alone, sums, thousands};
+use engine_tests::small_studios::{six_and_forty_eight, sum_of};
+use path_merge::{ClockFault, SpecFault, StreamClock, StreamSpec};
+use rtp_wire::Enc;
+use std::alloc::Global;
+use std::process::Abort;
+use studio_rings::*;
+use studio_spec::StudioSpec;
+
+pub(super) const MEDIA: StreamClock = StreamClock::Media { offset: 0 };
+
+/// One stream of L24 on two paths, in packets of six sampling instants, twelve later, by a clock, over a window of so many
+/// numbers; its output is alike.
+pub(super) fn studio_of(
+    rt: &impl Abort,
+    alloc: Global,
+    clock: StreamClock,
+    width: u16,
+) -> StudioSpec {
+    studio_in(alloc, clock, width).expect(rt, "there is memory")
+}
+
+/// Its stream.
+fn stream_in(clock: StreamClock, width: u16) -> Result<StreamSpec, SpecFault> {
+    StreamSpec::new(Enc::L24, 1, 6, 96, None, clock, 12, width, 2)
+}
+
+/// The same studio; none where memory is refused.
+fn studio_in(alloc: Global, clock: StreamClock, width: u16) -> Option<StudioSpec> {
+    let spec = stream_in(clock, width).ok()?;
+    sum_of(alloc, &[spec], 6)
+}
+
+/// The ends of a studio, over rings of so many places.
+pub(super) fn open_ends(
+    rt: &impl Abort,
+    alloc: Global,
+    studio: &StudioSpec,
+    ring_len: usize,
+) -> Ends
+    ensures { AreOpened studio.now ring_len result }
+{
+    match open(alloc, studio, ring_len) {
+        Ok(ends) => ends,
+        Err(_) => { panic!(rt; "there is memory") }
+    }
+}
+
+/// The last of a list.
+pub(super) fn last_of<T: Drop>(rt: &impl Abort, list: &mut Vec<T>) -> T
+    ensures { list.old.items ≡ list.new.items ++ result ∷ [] }
+{
+    let Some(last) = list.pop() else {
+        panic!(rt; "the list has none")
+    };
+    last
+}
+
+/// The ends of a studio of one stream.
+#[derive(Drop)]
+struct OneStream {
+    first: PathEnd,
+    second: PathEnd,
+    stream: StreamEnd,
+    monitor: MonitorEnd,
+    mix: MixEnd,
+}
+
+fn one_stream(rt: &impl Abort, alloc: Global, clock: StreamClock, ring_len: usize) -> OneStream
+    ensures { AreOfOneStream result.first result.second result.stream result.mix }
+{
+    let studio = studio_of(rt, alloc, clock, 8);
+    let mut ends = open_ends(rt, alloc, &studio, ring_len);
+    assert!(rt; ends.paths.len() == 2);
+    assert!(rt; ends.streams.len() == 1);
+    let second = last_of(rt, &mut ends.paths);
+    let first = last_of(rt, &mut ends.paths);
+    let stream = last_of(rt, &mut ends.streams);
+    let monitor = last_of(rt, &mut ends.monitors);
+    OneStream {
+        first,
+        second,
+        stream,
+        monitor,
+        mix: ends.mix,
+    }
+}
+
+/// What a turn took of the first two paths, how many marks it handed on, where it stopped, and why.
+fn turn(rt: &impl Abort, stream: &mut StreamEnd, now: i64) -> (u32, u32, u32, i64, StopReason)
+    ensures { SameProducer stream.old.marks stream.new.marks }
+{
+    match stream.turn(now) {
+        Ok(note) => {
+            let [first, second, _, _] = note.from;
+            (first, second, note.marks, note.reached, note.why_stopped)
+        }
+        Err(_) => { panic!(rt; "the readings are in order") }
+    }
+}
+
+/// A turn of the mixer.
+fn mixed(mix: &mut MixEnd, out: &mut [u8; 1452]) -> MixNote {
+    let _short = mix.datagram_len();
+    mix.turn(out)
+}
+
+/// A turn of the mixer, which takes this many marks and gives a datagram with these samples.
+fn mixes(rt: &impl Abort, mix: &mut MixEnd, taken: u32, samples: &[u8]) {
+    let mut out = [0u8; 1452];
+    let note = mixed(mix, &mut out);
+    assert!(rt; (note.taken, note.strange) == (taken, 0));
+    assert!(rt; note.len == Some(30));
+    assert!(rt; &out[12..30] == samples, "the samples of the block");
+}
+
+/// What is done with the ends of one stream, and what has to come of it.
+#[derive(Clone, Copy)]
+enum Step {
+    /// A packet is offered on the first path.
+    Send(&'static [u8; 30], Offer),
+    /// A turn at a reading: what it took of both paths, handed on and reached, and why it stopped.
+    Turn(i64, (u32, u32, u32, i64, StopReason)),
+    /// A turn at a reading that went back.
+    Refuse(i64),
+    /// A turn of the mixer: how many marks it takes, and the packet whose samples its datagram has.
+    Mix(u32, &'static [u8; 30]),
+    /// A close, which finds paths open.
+    Close([bool; 4]),
+    /// A turn of the drain, which gives nothing.
+    DrainNone,
+    /// A reading of the clock, which changes nothing else.
+    Read(i64),
+    /// When the next slot is due.
+    Deadline(Option<i64>),
+    /// What the monitor has next, of packets on the first path: how many arrived and were taken, and how many were got.
+    Show(Option<(u64, u64)>),
+}
+
+fn play(rt: &impl Abort, ends: &mut OneStream, steps: &[Step]) {
+    for step in steps {
+        play_one(rt, ends, *step);
+    }
+}
+
+fn play_one(rt: &impl Abort, ends: &mut OneStream, step: Step) {
+    match step {
+        Step::Send(packet, answer) => assert!(rt; ends.first.offer(packet) == answer),
+        Step::Turn(now, end) => assert!(rt; turn(rt, &mut ends.stream, now) == end),
+        Step::Refuse(now) => {
+            assert!(rt; matches!(ends.stream.turn(now), Err(ClockFault::WentBack)));
+        }
+        Step::Mix(taken, packet) => mixes(rt, &mut ends.mix, taken, &packet[12..]),
+        Step::Close(want) => assert!(rt; still_open(&mut ends.stream) == Some(want)),
+        Step::DrainNone => assert!(rt; !ends.stream.drain_turn(), "there is a mark"),
+        Step::Read(now) => {
+            assert!(rt; ends.stream.read_clock(now).ok() == Some(StopReason::CaughtUp));
+        }
+        Step::Deadline(want) => assert!(rt; ends.stream.next_deadline() == want),
+        Step::Show(counts) => shows(rt, &mut ends.monitor, counts),
+    }
+}
+
+/// The paths that a close finds open, if it does.
+fn still_open(stream: &mut StreamEnd) -> Option<[bool; 4]> {
+    match stream.close() {
+        Ok(_) => None,
+        Err(open) => Some(open.still_open),
+    }
+}
+
+/// Whether the stream's end was there, and how many datagrams were offered, sent and refused for want of room.
+fn finished(path: PathEnd) -> (bool, [u64; 3]) {
+    let (done, counts) = path.finish();
+    let all = [counts.offered, counts.sent, counts.full];
+    (done.is_some(), all)
+}
+
+/// The monitor has these counts next, or none.
+fn shows(rt: &impl Abort, monitor: &mut MonitorEnd, expected: Option<(u64, u64)>) {
+    let Some(counts) = monitor.next() else {
+        assert!(rt; expected.is_none(), "there are counts");
+        return;
+    };
+    assert!(rt; expected == Some((counts.arrived, counts.got)));
+    assert!(rt; counts.taken == counts.arrived);
+    assert!(rt; counts.taken_by == [counts.taken, 0, 0, 0]);
+}
+
+const ONE_PLACE: [Step; 10] = [
+    Step::Send(&FIRST, Offer::Sent),
+    Step::Send(&SECOND, Offer::Full),
+    Step::Turn(0, (1, 0, 0, 0, StopReason::CaughtUp)),
+    Step::Send(&SECOND, Offer::Sent),
+    Step::Turn(18, (1, 0, 1, 12, StopReason::NoRoom)),
+    Step::Mix(1, &FIRST),
+    Step::Turn(18, (0, 0, 1, 18, StopReason::NoRoom)),
+    Step::Mix(1, &SECOND),
+    Step::Turn(18, (0, 0, 0, 18, StopReason::CaughtUp)),
+    Step::Refuse(17),
+];
+
+/// Rings of one place: full, stopped for want of room, caught up, and a reading that goes back.
+#[test]
+fn rings_of_one_place_lose_nothing(rt: HostRuntime) {
+    let mut ends = one_stream(&rt, rt.alloc(), MEDIA, 1);
+    play(&rt, &mut ends, &ONE_PLACE);
+    assert!(rt; !ends.mix.settled(), "no stream has finished");
+    assert!(rt; finished(ends.first) == (true, [3, 2, 1]));
+}
+
+const SHOWN: [Step; 9] = [
+    Step::Send(&FIRST, Offer::Sent),
+    Step::Turn(0, (1, 0, 0, 0, StopReason::CaughtUp)),
+    Step::Show(Some((1, 0))),
+    Step::Show(None),
+    Step::Send(&SECOND, Offer::Sent),
+    Step::Turn(18, (1, 0, 1, 12, StopReason::NoRoom)),
+    Step::Refuse(11),
+    Step::Show(Some((2, 1))),
+    Step::Show(None),
+];
+
+/// Each turn that was taken sends its counts, and a refused one none.
+#[test]
+fn counts_reach_the_monitor(rt: HostRuntime) {
+    let mut ends = one_stream(&rt, rt.alloc(), MEDIA, 1);
+    play(&rt, &mut ends, &SHOWN);
+}
+
+const OPEN: [Step; 2] = [Step::Close([true, true, false, false]), Step::DrainNone];
+
+/// A close before a path's end leaves it open, and drains nothing.
+#[test]
+fn an_open_path_holds_up_the_close(rt: HostRuntime) {
+    let mut ends = one_stream(&rt, rt.alloc(), MEDIA, 1);
+    play(&rt, &mut ends, &OPEN);
+    assert!(rt; finished(ends.second) == (true, [0, 0, 0]));
+}
+
+/// The first path has finished: the close names the second, whose packets still come.
+#[test]
+fn a_path_that_goes_on_holds_up_the_close(rt: HostRuntime) {
+    let mut ends = one_stream(&rt, rt.alloc(), MEDIA, 1);
+    assert!(rt; ends.first.offer(&FIRST) == Offer::Sent);
+    let (first_done, _) = ends.first.finish();
+    let Some(first_done) = first_done else {
+        panic!(rt; "the stream's end is there")
+    };
+    let stream = &mut ends.stream;
+    stream.path_done(0, first_done);
+    let took = turn(&rt, stream, 0);
+    assert!(rt; took == (1, 0, 0, 0, StopReason::CaughtUp));
+    let Err(open) = stream.close() else {
+        panic!(rt; "the second path goes on")
+    };
+    assert!(rt; open.still_open == [false, true, false, false]);
+    assert!(rt; ends.second.offer(&SECOND) == Offer::Sent);
+}
+
+/// A turn of the mixer that gives this datagram.
+fn gives(rt: &impl Abort, mix: &mut MixEnd, datagram: &[u8]) {
+    let mut out = [0u8; 1452];
+    let note = mixed(mix, &mut out);
+    assert!(rt; (note.strange, note.len) == (0, Some(156)));
+    assert!(rt; out.starts_with(datagram), "the datagram of the block");
+}
+
+/// A turn of the mixer that takes this many marks and gives none.
+fn gives_none(rt: &impl Abort, mix: &mut MixEnd, taken: u32) {
+    let mut out = [0u8; 1452];
+    let note = mixed(mix, &mut out);
+    assert!(rt; (note.taken, note.strange, note.len) == (taken, 0, None));
+}
+
+/// The ends of two streams of one path each.
+#[derive(Drop)]
+struct TwoStreams {
+    of_first: PathEnd,
+    of_second: PathEnd,
+    first: StreamEnd,
+    second: StreamEnd,
+    mix: MixEnd,
+}
+
+fn two_streams(rt: &impl Abort, alloc: Global) -> TwoStreams {
+    let studio = six_and_forty_eight(alloc, 1).expect(rt, "there is memory");
+    let mut ends = open_ends(rt, alloc, &studio, 64);
+    let of_second = last_of(rt, &mut ends.paths);
+    let of_first = last_of(rt, &mut ends.paths);
+    let second = last_of(rt, &mut ends.streams);
+    let first = last_of(rt, &mut ends.streams);
+    TwoStreams {
+        of_first,
+        of_second,
+        first,
+        second,
+        mix: ends.mix,
+    }
+}
+
+/// Offers eight packets of 1000 from 0 on.
+fn offer_thousands(rt: &impl Abort, alloc: Global, path: &mut PathEnd) {
+    for packet in thousands(alloc).expect(rt, "there is memory").iter() {
+        assert!(rt; path.offer(packet) == Offer::Sent);
+    }
+}
+
+/// Offers a packet of 1 from 20 on.
+fn offer_ones(rt: &impl Abort, alloc: Global, path: &mut PathEnd) {
+    let head = [0x80, 0x60, 0, 100, 0, 0, 0, 20, 0, 0, 0, 1];
+    let octets = datagram(alloc, head, &[(48, [0, 0, 1])]).expect(rt, "there is memory");
+    assert!(rt; path.offer(&octets) == Offer::Sent);
+}
+
+/// The mixer gives their sums, the rest of the ones, and silence.
+fn gives_the_sums(rt: &impl Abort, alloc: Global, mix: &mut MixEnd) {
+    gives(rt, mix, &sums(alloc).expect(rt, "there is memory"));
+    gives(rt, mix, &ones_alone(alloc).expect(rt, "there is memory"));
+    let head = [0x80, 0x61, 0, 1, 0, 0, 0, 96, 0, 0, 0, 2];
+    let silence = datagram(alloc, head, &[(48, [0, 0, 0])]).expect(rt, "there is memory");
+    gives(rt, mix, &silence);
+}
+
+/// One stream gives its marks, then the mixer takes so many, then the other gives.
+fn give_in_turn(
+    rt: &impl Abort,
+    early: &mut StreamEnd,
+    late: &mut StreamEnd,
+    mix: &mut MixEnd,
+    taken: u32,
+) {
+    assert!(rt; early.turn(0).is_ok() && early.turn(200).is_ok());
+    gives_none(rt, mix, taken);
+    assert!(rt; late.turn(0).is_ok() && late.turn(200).is_ok());
+}
+
+/// Both streams have packets, and give their marks in this order.
+fn mixes_in_order(rt: &impl Abort, alloc: Global, last_first: bool) {
+    let TwoStreams {
+        mut of_first,
+        mut of_second,
+        mut first,
+        mut second,
+        mut mix,
+    } = two_streams(rt, alloc);
+    offer_thousands(rt, alloc, &mut of_first);
+    offer_ones(rt, alloc, &mut of_second);
+    if last_first {
+        give_in_turn(rt, &mut second, &mut first, &mut mix, 1);
+    } else {
+        give_in_turn(rt, &mut first, &mut second, &mut mix, 8);
+    }
+    gives_the_sums(rt, alloc, &mut mix);
+    gives_none(rt, &mut mix, 8);
+}
+
+/// Two streams whose turns come in both orders give the same datagrams.
+#[test]
+fn the_order_of_the_streams_changes_no_datagram(rt: HostRuntime) {
+    mixes_in_order(&rt, rt.alloc(), false);
+    mixes_in_order(&rt, rt.alloc(), true);
+}
+
+/// Both packets are sent, and the ends finish one after the other.
+#[test]
+fn tokens_carry_the_end_to_the_mixer(rt: HostRuntime) {
+    let OneStream {
+        mut first,
+        mut second,
+        mut stream,
+        monitor: _,
+        mut mix,
+    } = one_stream(&rt, rt.alloc(), MEDIA, 64);
+    assert!(rt; first.offer(&FIRST) == Offer::Sent);
+    assert!(rt; second.offer(&SECOND) == Offer::Sent);
+    let (first_done, _) = first.finish();
+    let (second_done, _) = second.finish();
+    let (Some(first_done), Some(second_done)) = (first_done, second_done) else {
+        panic!(rt; "the stream's end is there")
+    };
+    stream.path_done(0, first_done);
+    stream.path_done(1, second_done);
+    let Err(open) = stream.close() else {
+        panic!(rt; "no packet was taken")
+    };
+    assert!(rt; open.still_open == [true, true, false, false]);
+    let took = turn(&rt, &mut stream, 0);
+    assert!(rt; took == (1, 1, 0, 0, StopReason::CaughtUp));
+    assert!(rt; stream.close().is_ok(), "both paths are drained");
+    assert!(rt; stream.drain_turn(), "two slots and the end");
+    let (done, counts) = stream.finish();
+    let Some(done) = done else {
+        panic!(rt; "the mixer's end is there")
+    };
+    assert!(rt; (counts.arrived, counts.taken, counts.got) == (2, 2, 2));
+    mix.stream_done(0, done);
+    assert!(rt; !mix.settled(), "three marks are to be taken");
+    mixes(&rt, &mut mix, 1, &FIRST[12..]);
+    mixes(&rt, &mut mix, 1, &SECOND[12..]);
+    gives_none(&rt, &mut mix, 1);
+    assert!(rt; mix.settled());
+}
+
+/// Rings of no place, or of 65,537, are refused.
+#[test]
+fn ring_lengths_are_bounded(rt: HostRuntime) {
+    let studio = studio_of(&rt, rt.alloc(), MEDIA, 8);
+    for len in [0usize, 65_537] {
+        match open(rt.alloc(), &studio, len) {
+            Ok(_) => { panic!(rt; "no ring has that many places") }
+            Err(fault) => assert!(rt; fault == OpenFault::RingLength),
+        }
+    }
+}
+
+const LATE: [Step; 4] = [
+    Step::Send(&FIRST, Offer::Sent),
+    Step::Turn(0, (1, 0, 0, 0, StopReason::CaughtUp)),
+    Step::Turn(600, (0, 0, 64, 390, StopReason::Batch)),
+    Step::Turn(600, (0, 0, 35, 600, StopReason::CaughtUp)),
+];
+
+/// A turn over 99 marks stops after 64, and the next one reaches its reading.
+#[test]
+fn a_turn_stops_after_64_marks(rt: HostRuntime) {
+    let mut ends = one_stream(&rt, rt.alloc(), MEDIA, 128);
+    play(&rt, &mut ends, &LATE);
+}
+
+const FROM_A_READING: [Step; 6] = [
+    Step::Send(&FIRST, Offer::Sent),
+    Step::Read(240),
+    Step::Deadline(None),
+    Step::Turn(240, (1, 0, 0, 240, StopReason::CaughtUp)),
+    Step::Deadline(Some(252)),
+    Step::Turn(252, (0, 0, 1, 252, StopReason::CaughtUp)),
+];
+
+/// By the arrival clock a first packet has the time of the reading before it: its slot is due twelve later.
+#[test]
+fn a_reading_sets_the_time_of_the_first_packet(rt: HostRuntime) {
+    let mut ends = one_stream(&rt, rt.alloc(), StreamClock::Arrival, 8);
+    play(&rt, &mut ends, &FROM_A_READING);
+}
+
+/// Whether ends were opened; else memory was refused.
+fn is_opened(rt: &impl Abort, alloc: Global, studio: &StudioSpec) -> bool {
+    match open(alloc, studio, 3) {
+        Ok(ends) => {
+            assert!(rt; ends.paths.len() == 2);
+            true
+        }
+        Err(fault) => {
+            assert!(rt; fault == OpenFault::Memory);
+            false
+        }
+    }
+}
+
+/// A studio's ends, opened twice with any one allocation refused: want of memory at most once.
+#[test]
+fn each_refused_allocation_is_answered(rt: HostRuntime) {
+    let alloc = rt.alloc();
+    let studio = studio_in(alloc, MEDIA, 8).or_else(|| studio_in(alloc, MEDIA, 8));
+    let studio = studio.expect(&rt, "with memory again");
+    let first = is_opened(&rt, alloc, &studio);
+    let second = is_opened(&rt, alloc, &studio);
+    assert!(rt; first || second, "with memory again");
+}
