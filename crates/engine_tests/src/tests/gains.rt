@@ -1,8 +1,10 @@
-//! Gains, rounding, saturation, faults and changes of gain, by worked examples.
+//! Gains, rounding, saturation and its count, faults and changes of gain, by worked examples.
 ghost use Rattle.std.specs.Prelude.{IsTrue, All};
 ghost use Rattle.gain_mix.specs.Mix.{Is24Bits};
 
-use gain_mix::{Matrix, MatrixFault, Schedule, ScheduleFault, mix_block, mix_frame, mix_span};
+use gain_mix::{
+    Matrix, MatrixFault, Schedule, ScheduleFault, mix_block, mix_counted, mix_frame, mix_span,
+};
 use std::alloc::Global;
 use std::process::Abort;
 
@@ -162,6 +164,26 @@ fn gains_change_within_a_span(rt: HostRuntime) {
     assert!(rt; schedule.first().ins() == 1 && schedule.first().outs() == 1);
     mix_span(&schedule, 98, &ins, &mut outs, 6, 16);
     assert!(rt; outs == [1, 2, 6, 8, 10, -6]);
+}
+
+/// Inputs of two outputs, which are twice them and their opposites.
+const LOUD: [i32; 4] = [4_194_303, 4_194_304, -4_194_304, -4_194_305];
+
+/// A sample is counted where its sum lies past full scale, and not where it is just there.
+#[test]
+fn saturated_samples_are_counted(rt: HostRuntime) {
+    let matrix = matrix_of(&rt, rt.alloc(), 2, 1, &[131_072, -131_072]);
+    let schedule = Schedule::new(matrix, Vec::new(rt.alloc())).expect(
+        &rt,
+        "a schedule of no change",
+    );
+    let mut outs = [0; 8];
+    let mut counts = [0, 5];
+    assert!(rt; are_24_bits(&LOUD));
+    assert!(rt; schedule.first().ins() == 1 && schedule.first().outs() == 2);
+    mix_counted(&schedule, 0, &LOUD, &mut outs, 4, 16, &mut counts);
+    assert!(rt; outs[2..6] == [8_388_607, -8_388_608, -8_388_608, 8_388_607]);
+    assert!(rt; counts == [2, 7]);
 }
 
 /// Whether a matrix was made, with its gains; else memory was refused.
