@@ -1,6 +1,7 @@
-// What the receives and sends of a live run in one thread cost by themselves: each millisecond every socket is asked
-// until it has no more, and a datagram is sent to each port of the mix. Nothing is merged or mixed. It notes which packets
-// came later after their stream's first one than the latency allows, by the clock as it was read before they were taken.
+// What the receives and sends of a live run in one thread cost by themselves: each millisecond every socket that has a
+// datagram is asked for one, until none has, and a datagram is sent to each port of the mix. Nothing is merged or mixed. It
+// notes which packets came later after their stream's first one than the latency allows, by the clock as it was read before
+// they were taken.
 //
 // Words: SIZE LATENCY FRAMES MIX_A MIX_B PORT.., on 127.0.0.1, two ports a stream; latency and a packet's frames are in
 // sampling instants. It ends by SIGTERM, and then prints how many datagrams it received, and how many were late.
@@ -59,12 +60,11 @@ static int is_late(struct stream *stream, const uint8_t *octets, uint64_t at, in
   return (int64_t)(at - stream->at) > due * 62500 / 3;
 }
 
-static void take_all(int s, struct stream *stream, uint64_t at, int frames, int latency, struct counts *counts) {
+static void take_one(int s, struct stream *stream, uint64_t at, int frames, int latency, struct counts *counts) {
   static uint8_t octets[2048];
-  while (recv(s, octets, sizeof octets, 0) >= 12) {
-    counts->received++;
-    counts->late += is_late(stream, octets, at, frames, latency);
-  }
+  if (recv(s, octets, sizeof octets, 0) < 12) return;
+  counts->received++;
+  counts->late += is_late(stream, octets, at, frames, latency);
 }
 
 int main(int count, char **words) {
@@ -83,9 +83,9 @@ int main(int count, char **words) {
     uint64_t before = now();
     nanosleep(&(struct timespec){0, MILLISECOND - before % MILLISECOND}, NULL);
     uint64_t after = now(), judged = after - before <= MILLISECOND ? before : after;
-    if (poll(sockets, paths, 0) > 0)
+    while (poll(sockets, paths, 0) > 0)
       for (int i = 0; i < paths; i++)
-        if (sockets[i].revents) take_all(sockets[i].fd, &streams[i / 2], judged, frames, latency, &counts);
+        if (sockets[i].revents) take_one(sockets[i].fd, &streams[i / 2], judged, frames, latency, &counts);
     for (uint64_t due = now() / MILLISECOND; sent < due; sent++)
       for (int i = 0; i < 2; i++) sendto(mixer, datagram, size, 0, (void *)&mix[i], sizeof mix[i]);
   }
