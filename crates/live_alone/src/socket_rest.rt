@@ -139,11 +139,7 @@ impl<'a, R: Wait + Clock> SocketRest<'a, R> {
                 pending.store(true, Ordering::SeqCst);
             }
         }
-        if count < 0 {
-            Look::Failed
-        } else {
-            Look::Ready
-        }
+        if count < 0 { Look::Failed } else { Look::Ready }
     }
 }
 
