@@ -95,11 +95,8 @@ impl PageServer {
 
     /// Gives the client of a place its turn, and lets it go where it is done with.
     fn turn_at(&mut self, place: usize, page: &mut Page, now: Duration) {
-        let Some(client) = self.clients.get_mut(place) else {
-            return;
-        };
-        if client.is_done_after(page, now) {
-            self.clients.try_remove(place);
+        if is_done_at(&mut self.clients, place, page, now) {
+            let_go(&mut self.clients, place);
         }
     }
 
@@ -127,8 +124,8 @@ impl PageServer {
     /// Takes a client, if memory and the system allow it; else it is let go.
     fn take(&mut self, mut stream: TcpStream, now: Duration) {
         if self.is_told_of(&mut stream) {
-            let connection = open(self.alloc, self.keys);
-            let _ = self.clients.insert(Client::new(stream, connection, now));
+            let client = Client::new(stream, open(self.alloc, self.keys), now);
+            keep(&mut self.clients, client);
         }
     }
 
@@ -138,4 +135,22 @@ impl PageServer {
         let both = Interest::READABLE | Interest::WRITABLE;
         self.poll.registry().register(stream, token, both).is_ok()
     }
+}
+
+/// Gives the client of a place its turn; answers whether there is one that is to be let go then.
+fn is_done_at(clients: &mut Slab<Client>, place: usize, page: &mut Page, now: Duration) -> bool {
+    match clients.get_mut(place) {
+        Some(client) => client.is_done_after(page, now),
+        None => false,
+    }
+}
+
+/// Lets the client of a place go.
+fn let_go(clients: &mut Slab<Client>, place: usize) {
+    let _ = clients.try_remove(place);
+}
+
+/// Keeps a client, if there is memory; else it is let go.
+fn keep(clients: &mut Slab<Client>, client: Client) {
+    let _ = clients.insert(client);
 }

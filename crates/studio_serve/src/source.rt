@@ -46,13 +46,23 @@ pub fn serve_page<R: Wait + Clock, S: SnapshotSource + Drop>(
     mut page: Page,
     mut source: S,
 ) {
+    serve(rt, &mut server, &mut page, &mut source);
+}
+
+/// The same on what is lent.
+fn serve<R: Wait + Clock, S: SnapshotSource + Drop>(
+    rt: &R,
+    server: &mut PageServer,
+    page: &mut Page,
+    source: &mut S,
+) {
     let mut now = Duration::ZERO;
     for _ in rt.forever() {
         server.wait(Duration::from_millis(LOOK));
-        if !source.renew(&mut page) {
+        if !source.renew(page) {
             return;
         }
         now = rt.monotonic().unwrap_or(now);
-        server.turn(&mut page, now);
+        server.turn(page, now);
     }
 }
