@@ -1,5 +1,5 @@
 -- What a live run writes, and why it may not.
-use Rattle.std.specs.Prelude.{◌≡◌, true, false, Bool, ℕ, List, [], Option}
+use Rattle.std.specs.Prelude.{◌≡◌, false, Bool, ℕ, List, [], Option}
 use Rattle.std.specs.Io.KnownBytes.{Appends}
 use Rattle.studio_spec.specs.Studio.{Studio}
 use Rattle.studio_run.specs.Buffer.{BreaksOff}

@@ -9,7 +9,7 @@ use Rattle.stream_rules.specs.declared.event.Event.TheVariants.{Tick}
 use Rattle.stream_rules.specs.Marks.{marks_of}
 use Rattle.path_merge.specs.Merge.{HasHistory}
 use Rattle.studio_rings.specs.Stop.{StopsFor}
-use Rattle.studio_rings.specs.Streams.{AllDelivered, ReadsClock, StreamHasHistory, packets_by}
+use Rattle.studio_rings.specs.Streams.{AllDelivered, ReadsClock, packets_by}
 use Rattle.studio_rings.specs.Turns.{PushesMarks}
 use Rattle.studio_rings.specs.declared.side.Side.{Side}
 use Rattle.studio_rings.specs.declared.stream_end.StreamEnd.{StreamEnd}

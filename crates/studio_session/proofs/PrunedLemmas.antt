@@ -13,7 +13,6 @@ use Rattle.stream_rules.specs.MarkList.{has_end}
 use Rattle.stream_rules.specs.PathCounts.{PathTally}
 use Rattle.stream_rules.specs.Reception.{is_any, is_bad, is_sent, is_wrong_length, is_wrong_type}
 use Rattle.stream_rules.specs.StreamSpecFacts.{format_of}
-use Rattle.stream_rules.specs.declared.event.Event.{Event}
 use Rattle.stream_rules.specs.declared.event.Event.TheVariants.{Tick}
 use Rattle.stream_rules.specs.declared.fate.Fate.{Fate}
 use Rattle.stream_rules.specs.declared.mark.Format.{Format}

@@ -1,12 +1,11 @@
 -- Moved changes: only their times can be at fault.
-use Rattle.std.proofs.Common.{◌≡◌, ◌^◌, ◌++◌, not, FitsSigned, w64, ℤ, pos, ◌+ℤ◌, IfNone, Bool, true, false, ◌&&◌, nat_le, List, [], ◌∷◌, map, length, Option, Some, None, refl, ap, sym, ◌∙◌, arith}
+use Rattle.std.proofs.Common.{◌≡◌, ◌^◌, ◌++◌, not, FitsSigned, w64, ℤ, pos, ◌+ℤ◌, IfNone, Bool, true, false, ◌&&◌, nat_le, List, [], ◌∷◌, length, Option, Some, None, refl, ap, sym, ◌∙◌, arith}
 use Rattle.std.specs.Bool.{if◌then◌else◌}
 use Rattle.std.specs.Int.RustNames.{int_le, int_lt}
 use Rattle.std.proofs.lemmas.Int.{ints}
 use Rattle.std.proofs.lemmas.List.{length-map}
 use Rattle.std.proofs.lemmas.List.Folds.{list_all-map}
 use Rattle.std.proofs.lemmas.Option.{none-some}
-use Rattle.gain_mix.specs.Gain.{ins_of}
 use Rattle.gain_mix.specs.Schedule.{has_few, has_one_shape, has_times, is_rising, rises_from, schedule_fault_of}
 use Rattle.gain_mix.specs.declared.schedule.ScheduleFault.{ScheduleFault}
 use Rattle.gain_mix.specs.declared.schedule.ScheduleFault.TheVariants.{TooMany, Shape, Time, Order}

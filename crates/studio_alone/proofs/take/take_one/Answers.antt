@@ -1,4 +1,4 @@
-use Rattle.std.proofs.Common.{rules, ◌≡◌, ◌+◌, true, [], ◌∷◌, take, refl, arith}
+use Rattle.std.proofs.Common.{◌+◌, true, [], ◌∷◌, take, refl, arith}
 use Rattle.studio_alone.proofs.AnswerLemmas.{goes-datagram, goes-end, goes-fault, goes-last, goes-nothing, goes-nowhere}
 use Rattle.studio_alone.proofs.TakeLemmas.{takes-none}
 use Rattle.studio_alone.proofs.TellLemmas.{hears_one}

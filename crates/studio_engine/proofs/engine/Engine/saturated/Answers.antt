@@ -1,11 +1,9 @@
-use Rattle.std.proofs.Common.{◌≡◌, List, length, sym, ap, subst, ◌∙◌}
-use Rattle.studio_mix.specs.Mixer.{MixerState}
+use Rattle.std.proofs.Common.{◌≡◌, length, sym, ap, subst, ◌∙◌}
 use Rattle.studio_mix.specs.Saturated.{AreSaturated}
 use Rattle.studio_mix.proofs.SaturatedLemmas.{saturated_longer}
-use Rattle.studio_session.specs.Play.{SessionState, feeds_of}
+use Rattle.studio_session.specs.Play.{feeds_of}
 use Rattle.studio_session.proofs.SessionLemmas.{are_longer}
 use Rattle.studio_engine.specs.Engine.{EngineState, session_of}
-use Rattle.studio_engine.specs.Session.{HasSession}
 use Rattle.studio_engine.proofs.engine.Engine.saturated.Goals as goal
 
 pub returns-clause-stands : goal.returns-clause-stands

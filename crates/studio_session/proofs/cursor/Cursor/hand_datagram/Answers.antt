@@ -1,4 +1,4 @@
-use Rattle.std.proofs.Common.{◌≤◌, length, take, [], ◌∷◌, ◌++◌, ap, ◌∙◌, arith}
+use Rattle.std.proofs.Common.{◌≤◌, length, [], ◌∷◌, ◌++◌, ap, ◌∙◌, arith}
 use Rattle.std.proofs.lemmas.List.{take_all}
 use Rattle.studio_session.specs.Event.{Arrival}
 use Rattle.studio_session.specs.Receipt.{receipt_of}

@@ -1,7 +1,7 @@
-use Rattle.std.proofs.Common.{◌≡◌, Err, None, ap, ◌∙◌, rules}
+use Rattle.std.proofs.Common.{◌≡◌, Err, ap, ◌∙◌, rules}
 use Rattle.toml.specs.View.{table_view}
 use Rattle.studio_spec.specs.Rows.{rows_fault, first_of}
-use Rattle.studio_spec.specs.NetworkTable.{bind_rows, sender_address_rows, path_rows}
+use Rattle.studio_spec.specs.NetworkTable.{bind_rows, sender_address_rows}
 use Rattle.studio_spec.proofs.FaultLemmas.{rows_fault-append, first_of-some, first_of-none}
 use Rattle.studio_spec.proofs.config.networks.read_path_addresses.Goals as goal
 
