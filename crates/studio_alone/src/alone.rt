@@ -39,7 +39,7 @@ pub fn run_alone<R: Wait, F: Feed, C: Clock, K: Sink, T: Tap<F>, P: Rest>(
 {
     let specs = studio.streams();
     let room = Room::new(alloc, specs)?;
-    let desk = Desk {
+    let mut desk = Desk {
         engine: Engine::new(alloc, studio)?,
         takers: all_takers(alloc, feeds)?,
         clock,
@@ -47,7 +47,8 @@ pub fn run_alone<R: Wait, F: Feed, C: Clock, K: Sink, T: Tap<F>, P: Rest>(
         tap,
         counts: SendCounts::new(),
     };
-    let (mut desk, ended) = run_rounds(rt, desk, rest);
+    let mut rest = rest;
+    let ended = run_rounds(rt, &mut desk, &mut rest);
     let settled = settle(&mut desk) && ended;
     report(alloc, desk, specs, room, settled)
 }
@@ -55,22 +56,20 @@ pub fn run_alone<R: Wait, F: Feed, C: Clock, K: Sink, T: Tap<F>, P: Rest>(
 /// Makes rounds until all feeds have ended; answers false where the engine took no more.
 fn run_rounds<R: Wait, F: Feed, C: Clock, K: Sink, T: Tap<F>, P: Rest>(
     rt: &R,
-    desk: Desk<F, C, K, T>,
-    rest: P,
-) -> (Desk<F, C, K, T>, bool)
-    ensures on { result.1 ≡ true → (studio : Studio) (all : List (List (List Answer))) (clock : List ℤ) (before : Option (List (List ℕ))) (earlier : Option (List Heard))
-        → IsUnderWay F.told C.told K.handed T.heard studio all clock before earlier desk → IsUnderWay F.told C.told K.handed T.heard studio all clock before earlier result.0 }
-    ensures ended { result.1 ≡ true → AllEnded result.0.takers.items }
+    desk: &mut Desk<F, C, K, T>,
+    rest: &mut P,
+) -> bool
+    ensures on { result ≡ true → (studio : Studio) (all : List (List (List Answer))) (clock : List ℤ) (before : Option (List (List ℕ))) (earlier : Option (List Heard))
+        → IsUnderWay F.told C.told K.handed T.heard studio all clock before earlier desk.old → IsUnderWay F.told C.told K.handed T.heard studio all clock before earlier desk.new }
+    ensures ended { result ≡ true → AllEnded desk.new.takers.items }
 {
-    let mut desk = desk;
-    let mut rest = rest;
     let mut most = 0;
     let mut buf = [0u8; 2048];
     for _ in rt.forever() {
-        match desk.round(&mut rest, most, &mut buf) {
+        match desk.round(rest, most, &mut buf) {
             Ok(Some(instants)) => most = instants,
-            Ok(None) => return (desk, true),
-            Err(_) => return (desk, false),
+            Ok(None) => return true,
+            Err(_) => return false,
         }
     }
     unreachable!()

@@ -19,12 +19,12 @@ returns-clause-settled g c =
     let earlier = heard c.args.tap in
     let ensures = c.report.ensures in
     if-five c.report.result _ _ _ _ _ _ ensures.settled ensures.blocks ensures.sink ensures.tap ensures.counts (λ r settled blocks sink tap counts yes.
-    let both : (c.settle.result ≡ true) × (c.run_rounds-desk.result.1 ≡ true) = elim c.if-settle.branch [
+    let both : (c.settle.result ≡ true) × (c.run_rounds-ended.result ≡ true) = elim c.if-settle.branch [
       | then-settle w ↦ (w.if-settle.true, sym w.settled-is ∙ (sym settled ∙ yes))
       | else-settle w ↦ absurd (false≢true (sym w.if-settle.false ∙ (sym w.settled-is ∙ (sym settled ∙ yes))))
     ] in
-    let last = c.run_rounds-desk.ensures.on both.1 studio all clock before earlier
+    let last = c.run_rounds-ended.ensures.on both.1 studio all clock before earlier
     (run-begins told times handed heard studio all clock before earlier feeds _ refl refl refl refl c.in_ok-new.ensures.stands c.in_ok-all_takers.ensures c.new-3.ensures) in
-    let done = c.settle.ensures both.0 studio all clock before earlier (c.run_rounds-desk.ensures.ended both.1) last in
+    let done = c.settle.ensures both.0 studio all clock before earlier (c.run_rounds-ended.ensures.ended both.1) last in
     run-settled told times handed heard studio all clock before earlier c.settle.new.desk r.0 (handed r.1) (heard r.2) done
     (counts studio (events_of studio done.rounds) done.datagrams done.stands done.whole c.streams-specs.ensures.value) blocks (ap handed sink) (ap heard tap))
