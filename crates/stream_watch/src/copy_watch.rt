@@ -7,7 +7,7 @@ ghost use Rattle.stream_watch.specs.Numbers.{AreNumbers};
 
 use crate::numbers::PathNumbers;
 use std::alloc::{AllocError, Global};
-use stream_rules::{Fate, PacketRef, Path, StreamSpec};
+use stream_rules::{Fate, Path, StreamSpec};
 use stream_tally::{Deadlines, StreamTally, spare_before};
 
 /// What came of a stream's packets, path by path.
@@ -30,22 +30,15 @@ impl CopyWatch {
 
     /// Notes what became of a packet that was offered on a path at a reading of the clock, where the stream's next slot is due
     /// then at `due`.
-    pub fn note(
-        &mut self,
-        path: Path,
-        packet: PacketRef<'_>,
-        fate: Fate,
-        due: Option<i64>,
-        now: i64,
-    )
+    pub fn note(&mut self, path: Path, seq: u16, ts: u32, fate: Fate, due: Option<i64>, now: i64)
         ensures { (stream : Stream) (offers : List Offer) → HasTally stream offers self.old.tally → (spare : Option ℕ)
-            × HasTally stream (record { path = path; fate = fate; seq = packet.entry.seq; spare = spare; now = now } ∷ offers) self.new.tally }
+            × HasTally stream (record { path = path; fate = fate; seq = seq; spare = spare; now = now } ∷ offers) self.new.tally }
     {
-        let spare = match self.deadlines.deadline(fate, packet.ts, due) {
+        let spare = match self.deadlines.deadline(fate, ts, due) {
             Some(deadline) => spare_before(deadline, now),
             None => None,
         };
-        self.tally.add(path, fate, packet.seq, spare, now);
+        self.tally.add(path, fate, seq, spare, now);
     }
 
     /// What became of a path's packets, at a reading of the clock.

@@ -69,7 +69,7 @@ impl StreamTeller {
             × HasTally stream (record { path = path; fate = fate; seq = packet.entry.seq; spare = spare; now = now } ∷ offers) self.new.watch.tally }
         ensures ring { self.new.ring ≡ self.old.ring }
     {
-        self.watch.note(path, packet, fate, due, now);
+        self.watch.note(path, packet.seq, packet.ts, fate, due, now);
     }
 
     /// Tells these counts and the paths' numbers at a reading of the clock, if a tenth of a second went by since the last
