@@ -7,9 +7,17 @@ use Rattle.rtrb.specs.declared.consumer.Consumer.{Consumer}
 use Rattle.rtrb.specs.declared.producer.Producer.{Producer}
 
 module _ {T A P : Type 0} where
-  -- this went through the ring; or no place was known to be free, and none was found
+  -- this went through the ring
+  abbrev pub GoesThrough : T → Producer T A P → Producer T A P → Type 0
+  GoesThrough value old new = sent new ≡ sent old ++ value ∷ []
+
+  -- nothing did: no place was known to be free, and none was found
+  abbrev pub HasNoPlace : Producer T A P → Producer T A P → Type 0
+  HasNoPlace old new = (sent new ≡ sent old) × (known_free old ≡ 0) × (known_free new ≡ 0)
+
+  -- one or the other
   abbrev pub Gives : T → Producer T A P → Producer T A P → Type 0
-  Gives value old new = (sent new ≡ sent old ++ value ∷ []) ⊎ ((sent new ≡ sent old) × (known_free old ≡ 0) × (known_free new ≡ 0))
+  Gives value old new = GoesThrough value old new ⊎ HasNoPlace old new
 
   -- these were taken out, first what was seen there before; then none was seen there, or so many were taken
   pub record Takes (most : ℕ) (taken : List T) (old new : Consumer T A P) : Type 0 where

@@ -1,11 +1,14 @@
 -- What goes through the rings of a stream's numbers and of the mix's.
-use Rattle.std.specs.Prelude.{◌≡◌, ◌⊎◌, ℕ, ◌<◌, List, [], ◌∷◌, length, slice_index, ℤ, ◌<ℤ◌, ◌≤ℤ◌}
+use Rattle.std.specs.Prelude.{◌≡◌, ◌⊎◌, ℕ, ◌<◌, ◌≤◌, max, List, [], ◌∷◌, length, drop, replicate, slice_index, ℤ, ◌<ℤ◌, ◌≤ℤ◌}
+use Rattle.rtp_wire.specs.declared.encoding.Enc.{Enc}
 use Rattle.rtrb.specs.declared.producer.Producer.{Producer}
 use Rattle.stream_rules.specs.declared.counts.Counts.{Counts}
 use Rattle.stream_rules.specs.declared.stream_spec.Stream.{Stream}
 use Rattle.stream_tally.specs.Offer.{Offer}
-use Rattle.stream_watch.specs.Newest.{Gives}
+use Rattle.stream_tally.specs.Peaks.{peak_of}
+use Rattle.stream_watch.specs.Newest.{Gives, GoesThrough, HasNoPlace}
 use Rattle.stream_watch.specs.Numbers.{AreNumbers}
+use Rattle.stream_watch.specs.declared.mix_teller.MixTeller.{MixTeller}
 use Rattle.stream_watch.specs.declared.numbers.MixNumbers.{MixNumbers}
 use Rattle.stream_watch.specs.declared.numbers.PathNumbers.{PathNumbers}
 use Rattle.stream_watch.specs.declared.numbers.StreamNumbers.{StreamNumbers}
@@ -32,6 +35,20 @@ Tells stream offers counts next now old new =
 abbrev pub IsByChannel : List ℕ → MixNumbers → Type 0
 IsByChannel counts numbers = (length numbers.saturated ≡ 8) × ((channel : ℕ) → channel < 8 → slice_index numbers.saturated channel ≡ slice_index counts channel)
 
--- these counts went through the ring, if there was room
-abbrev pub TellsMix : {A P : Type 0} → List ℕ → Producer MixNumbers A P → Producer MixNumbers A P → Type 0
-TellsMix counts old new = (numbers : MixNumbers) × Gives numbers old new × IsByChannel counts numbers
+-- peaks, raised by those of a datagram's samples, which stand behind its header of 12 octets; none past the channels is
+pub record AreRaised (enc : Enc) (channels : ℕ) (datagram old new : List ℕ) : Type 0 where
+  pub length_is : length new ≡ length old
+  pub raised : (channel : ℕ) → channel < channels → slice_index new channel ≡ max (slice_index old channel) (peak_of enc (drop 12 datagram) channels channel)
+  pub same : (channel : ℕ) → channels ≤ channel → slice_index new channel ≡ slice_index old channel
+
+-- of no sample
+abbrev pub no_peaks : List ℕ
+no_peaks = replicate 8 0
+
+-- numbers with these counts, and with the peaks raised by this datagram, went through the ring, and no peaks stay; or none went
+-- through, and those raised stay
+pub record TellsMix (counts datagram : List ℕ) (old new : MixTeller) : Type 0 where
+  pub numbers : MixNumbers
+  pub counted : IsByChannel counts numbers
+  pub raised : AreRaised old.enc old.channels datagram old.peaks numbers.peaks
+  pub told : (GoesThrough numbers old.ring new.ring × (new.peaks ≡ no_peaks)) ⊎ (HasNoPlace old.ring new.ring × (new.peaks ≡ numbers.peaks))

@@ -19,9 +19,12 @@ pub struct StreamNumbers {
     pub paths: [PathNumbers; 4],
 }
 
-/// How many samples of the mix were saturated, at one moment.
+/// How many samples of the mix were saturated, at one moment, and how loud it was since the numbers before these.
 #[derive(Clone, Copy, Debug, PartialEq, Eq)]
 pub struct MixNumbers {
     /// Channel by channel. Of a channel that the output hasn't it is 0.
     pub saturated: [u64; 8],
+    /// Channel by channel the greatest magnitude of the samples, of 8,388,608 at full scale, in the datagrams since the numbers
+    /// that went through the ring before these. Of a channel that the output hasn't it is 0.
+    pub peaks: [u32; 8],
 }

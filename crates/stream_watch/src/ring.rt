@@ -1,15 +1,18 @@
 //! Values through a ring, of which the newest counts.
+ghost use Rattle.std.specs.Prelude.{◌≡◌, true, false};
 ghost use Rattle.rtrb.specs.Ring.{SameConsumer, SameProducer};
-ghost use Rattle.stream_watch.specs.Newest.{Gives, IsNewest};
+ghost use Rattle.stream_watch.specs.Newest.{Gives, GoesThrough, HasNoPlace, IsNewest};
 
 use rtrb::{Consumer, Producer};
 
-/// Gives a value, if there is room.
-pub(crate) fn give<T: Drop>(ring: &mut Producer<T>, value: T)
+/// Gives a value, if there is room, and says whether it went through.
+pub(crate) fn give<T: Drop>(ring: &mut Producer<T>, value: T) -> bool
     ensures given { Gives value ring.old ring.new }
+    ensures through { result ≡ true → GoesThrough value ring.old ring.new }
+    ensures full { result ≡ false → HasNoPlace ring.old ring.new }
     ensures ring { SameProducer ring.old ring.new }
 {
-    let _ = ring.push(value);
+    ring.push(value).is_ok()
 }
 
 /// Takes out what waits, so many at most, and answers the newest.
