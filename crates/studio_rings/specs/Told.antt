@@ -1,10 +1,16 @@
 -- Whom the mixer's end tells.
 use Rattle.std.specs.Prelude.{◌≡◌, ℕ, List, Option, Some, None}
+use Rattle.mix_packets.specs.declared.out_spec.Output.{Output}
 use Rattle.stream_watch.specs.Told.{TellsMix}
-use Rattle.stream_watch.specs.declared.mix_watch.MixTeller.{MixTeller}
+use Rattle.stream_watch.specs.declared.mix_teller.MixTeller.{MixTeller}
 
--- these counts went through the ring of whoever is to be told, if there was room
-abbrev pub TellsCounts : List ℕ → Option MixTeller → Option MixTeller → Type 0
-TellsCounts counts None new = new ≡ None
-TellsCounts counts (Some old) None = ⊥
-TellsCounts counts (Some old) (Some new) = TellsMix counts old.ring new.ring
+-- whoever is to be told measures the datagrams of this output
+abbrev pub Measures : Option MixTeller → Output → Type 0
+Measures teller output = (one : MixTeller) → teller ≡ Some one → (one.enc ≡ output.enc) × (one.channels ≡ output.channels)
+
+-- these counts went through the ring of whoever is to be told, and with them the peaks with this datagram's among them, if
+-- there was room
+abbrev pub TellsCounts : List ℕ → List ℕ → Option MixTeller → Option MixTeller → Type 0
+TellsCounts counts datagram None new = new ≡ None
+TellsCounts counts datagram (Some old) None = ⊥
+TellsCounts counts datagram (Some old) (Some new) = TellsMix counts datagram old new

@@ -1,6 +1,7 @@
 //! The end of the mixer.
-ghost use Rattle.std.specs.Prelude.{◌≡◌, ◌↔◌, ◌<◌, ◌≤◌, ◌+◌, ℕ, List, length, IfSome, IsTrue, None, slice_get, Some, true, vec_len};
+ghost use Rattle.std.specs.Prelude.{◌≡◌, ◌↔◌, ◌<◌, ◌≤◌, ◌+◌, ℕ, List, length, IfSome, IsTrue, None, slice_get, Some, take, true, vec_len};
 ghost use Rattle.mix_packets.specs.OutSpec.{datagram_length};
+ghost use Rattle.mix_packets.specs.declared.out_spec.Output.{Output};
 ghost use Rattle.rtrb.specs.Ring.{all_sent, IsFinishedOf};
 ghost use Rattle.stream_rules.specs.MarkFacts.{MarkView};
 ghost use Rattle.studio_spec.specs.Studio.{Studio};
@@ -13,7 +14,7 @@ ghost use Rattle.studio_rings.specs.Looks.{AllDrained, AllLookAt};
 ghost use Rattle.studio_rings.specs.Mixes.{AllTakeSome};
 ghost use Rattle.studio_rings.specs.MixEnds.{MixHasFeeds, MixesBlock};
 ghost use Rattle.studio_rings.specs.Datagrams.{AreAllGiven, AreAllTold, HasGiven, given_after};
-ghost use Rattle.studio_rings.specs.Told.{TellsCounts};
+ghost use Rattle.studio_rings.specs.Told.{Measures, TellsCounts};
 ghost use Rattle.studio_rings.specs.Tokens.{HandsIn};
 
 use crate::look::look_at_streams;
@@ -33,15 +34,18 @@ pub struct MixNote {
     pub len: Option<usize>,
 }
 
-/// Tells how many samples were saturated once a datagram was given, if somebody is to be told.
-fn tell(teller: &mut Option<MixTeller>, given: Option<usize>, saturated: &[u64])
-    ensures { IfSome given (λ _. TellsCounts saturated.now teller.old teller.new) }
+/// Tells how many samples were saturated, and how loud it is, once a datagram was written to the front of `out`, if somebody
+/// is to be told.
+fn tell(teller: &mut Option<MixTeller>, given: Option<usize>, saturated: &[u64], out: &[u8])
+    requires room { IfSome given (λ len. len ≤ length out.now) }
+    ensures told { IfSome given (λ len. TellsCounts saturated.now (take len out.now) teller.old teller.new) }
+    ensures measures { (output : Output) → Measures teller.old output → Measures teller.new output }
 {
-    if given.is_none() {
+    let Some(len) = given else {
         return;
-    }
+    };
     if let Some(teller) = teller {
-        teller.tell(saturated);
+        teller.tell(saturated, &out[..len]);
     }
 }
 
@@ -76,12 +80,12 @@ impl MixEnd {
         ensures all { result.len ≡ None → (studio : Studio) (datagrams : List (List ℕ)) → HasGiven studio self.old datagrams
             → AreAllGiven studio self.new datagrams }
         ensures none { result.len ≡ None → out.new ≡ out.old }
-        ensures told { IfSome result.len (λ _. TellsCounts self.new.mixer.saturated self.old.teller self.new.teller) }
+        ensures told { IfSome result.len (λ len. TellsCounts self.new.mixer.saturated (take len out.new) self.old.teller self.new.teller) }
         ensures spec { self.new.mixer.packer.spec ≡ self.old.mixer.packer.spec }
     {
         let (taken, strange) = take_streams(&mut self.sides, &mut self.mixer);
         let len = self.mixer.next_block(out);
-        tell(&mut self.teller, len, self.mixer.saturated());
+        tell(&mut self.teller, len, self.mixer.saturated(), out);
         MixNote {
             taken,
             strange,

@@ -159,9 +159,10 @@ fn open_mix(
     requires unread { AllUnread studio.now.streams sides.items }
     ensures { IfOk result (λ mix. (mix.sides ≡ sides) × HasGiven studio.now mix []) }
 {
-    let teller = tellers.of_mix(alloc)?;
+    let output = studio.output();
+    let teller = tellers.of_mix(alloc, output)?;
     let mixer = Mixer::new(alloc, studio)?;
-    let _frames = studio.output().frames();
+    let _frames = output.frames();
     Ok(MixEnd {
         sides,
         mixer,

@@ -1,5 +1,8 @@
 //! Where what becomes of the packets can be looked at.
+ghost use Rattle.std.specs.Prelude.{IfOk};
+ghost use Rattle.studio_rings.specs.Told.{Measures};
 
+use mix_packets::OutSpec;
 use std::alloc::{AllocError, Global};
 use stream_rules::StreamSpec;
 use stream_watch::{
@@ -61,12 +64,18 @@ impl Tellers {
         Ok(Some(teller))
     }
 
-    /// Whom the mixer tells.
-    pub(crate) fn of_mix(&mut self, alloc: Global) -> Result<Option<MixTeller>, AllocError> {
+    /// Whom the mixer tells of this output.
+    pub(crate) fn of_mix(
+        &mut self,
+        alloc: Global,
+        output: &OutSpec,
+    ) -> Result<Option<MixTeller>, AllocError>
+        ensures { IfOk result (λ teller. Measures teller output.now) }
+    {
         if !self.are_wanted {
             return Ok(None);
         }
-        let (teller, watch) = open_mix_watch(alloc)?;
+        let (teller, watch) = open_mix_watch(alloc, output.enc(), output.channels())?;
         self.watches.mix = Some(watch);
         Ok(Some(teller))
     }

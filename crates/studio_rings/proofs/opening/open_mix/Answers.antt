@@ -1,5 +1,6 @@
-use Rattle.std.proofs.Common.{rules, ◌≡◌, ◌∙◌, ◌<◌, arith, length, vec_len, refl, subst}
+use Rattle.std.proofs.Common.{rules, ◌≡◌, ◌∙◌, ◌<◌, arith, length, vec_len, refl, subst, sym}
 use Rattle.mix_packets.specs.declared.out_spec.Output.{Output}
+use Rattle.studio_rings.specs.Told.{Measures}
 use Rattle.studio_rings.proofs.DatagramLemmas.{given-fresh}
 use Rattle.studio_rings.proofs.OpenLemmas.{feeds-unread, lanes_count, unread_count}
 use Rattle.studio_rings.proofs.opening.open_mix.Goals as goal
@@ -12,10 +13,11 @@ invariant_of-result c =
     record {
       count = length_is ∙ lanes_count c.args.studio.now c.args.sides.items c.in_ok-mixer.mixer c.requires.unread c.in_ok-mixer.ensures;
       few = omega (arith, length_is, few, count);
+      measures = subst (Measures c.in_ok-teller.teller) (c.output-output.ensures ∙ sym c.in_ok-mixer.ensures.output) c.in_ok-teller.ensures;
     }
 
 pub returns : goal.returns
 returns c =
     let studio = c.args.studio.now in
-    let e : c.output.result.now ≡ studio.output = c.output.ensures in
+    let e : c.output-output.result.now ≡ studio.output = c.output-output.ensures in
     (refl, given-fresh studio _ (subst (λ (o : Output). 0 < o.frames) e c.frames-frames.ensures.sound.some_frames) (feeds-unread studio c.args.sides.items c.in_ok-mixer.mixer c.requires.unread c.in_ok-mixer.ensures))

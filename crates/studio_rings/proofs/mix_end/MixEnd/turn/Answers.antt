@@ -1,7 +1,13 @@
-use Rattle.std.proofs.Common.{length}
+use Rattle.std.proofs.Common.{◌≡◌, length, rules, subst, sym}
+use Rattle.studio_rings.specs.Told.{Measures}
 use Rattle.studio_rings.proofs.DatagramLemmas.{given-all, given-turn}
 use Rattle.studio_rings.proofs.MixLemmas.{mixes}
 use Rattle.studio_rings.proofs.mix_end.MixEnd.turn.Goals as goal
+
+pub invariant_of-self-clause-measures : goal.invariant_of-self-clause-measures
+invariant_of-self-clause-measures c =
+    let spec : c.next_block-len.new.self.packer.spec ≡ c.args.self.now.mixer.packer.spec = search rules in
+    subst (Measures c.tell.new.teller) (sym spec) (c.tell.ensures.measures c.args.self.now.mixer.packer.spec c.args.self.now.measures)
 
 pub returns-clause-mixes : goal.returns-clause-mixes
 returns-clause-mixes c = λ studio number h.
