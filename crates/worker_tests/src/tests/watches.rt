@@ -1,9 +1,9 @@
-//! What the watches of one stream are told.
+//! What the watches of one stream and of its mix are told.
 use super::packets::{FIRST, SECOND};
 use super::rings::{MEDIA, studio_of};
 use std::alloc::Global;
 use std::process::Abort;
-use studio_rings::{Ends, Offer, Watches, open_watched};
+use studio_rings::{Ends, MixEnd, Offer, Watches, open_watched};
 
 /// What is done with the ends of one stream on two paths, and what its watches have to tell.
 #[derive(Clone, Copy)]
@@ -16,10 +16,16 @@ enum Step {
     Turn(i64),
     /// The stream's watch has the first copies and the doubles of both paths, or nothing.
     Stream(Option<[(u64, u64); 2]>),
+    /// The mixer gives a datagram.
+    Mix,
+    /// The mix's watch has the output channel's saturated samples and its peak, or nothing.
+    Output(Option<(u64, u32)>),
 }
 
 /// A path's watch is told the counts of the first datagram since it was asked; the stream's is told once in a tenth of a second.
-const STEPS: [Step; 14] = [
+/// The mix's is told of its first datagram since it was asked, with the peak of all since the one that it was told before: the
+/// samples are 1 to 6, then 7 to 12, of which it isn't told, then silence.
+const STEPS: [Step; 24] = [
     Step::Path(0, None),
     Step::Send(0, &FIRST),
     Step::Send(0, &SECOND),
@@ -32,8 +38,18 @@ const STEPS: [Step; 14] = [
     Step::Stream(None),
     Step::Turn(0),
     Step::Stream(Some([(2, 1), (0, 1)])),
+    Step::Output(None),
     Step::Turn(12),
     Step::Stream(None),
+    Step::Mix,
+    Step::Turn(18),
+    Step::Mix,
+    Step::Output(Some((0, 6))),
+    Step::Output(None),
+    Step::Turn(24),
+    Step::Mix,
+    Step::Output(Some((0, 12))),
+    Step::Output(None),
 ];
 
 fn told_of_path(watches: &mut Watches, path: usize) -> Option<(u64, u64)> {
@@ -50,6 +66,11 @@ fn told_of_stream(watches: &mut Watches) -> Option<[(u64, u64); 2]> {
     ])
 }
 
+fn told_of_output(watches: &mut Watches) -> Option<(u64, u32)> {
+    let numbers = watches.mix.as_mut()?.latest()?;
+    Some((*numbers.saturated.first()?, *numbers.peaks.first()?))
+}
+
 fn sends(ends: &mut Ends, path: usize, packet: &[u8; 30]) -> bool {
     match ends.paths.get_mut(path) {
         Some(end) => end.offer(packet) == Offer::Sent,
@@ -64,6 +85,12 @@ fn turns(ends: &mut Ends, now: i64) -> bool {
     }
 }
 
+fn gives(mix: &mut MixEnd) -> bool {
+    let mut out = [0u8; 1452];
+    let _short = mix.datagram_len();
+    mix.turn(&mut out).len == Some(30)
+}
+
 /// Whether what came of a step is what had to.
 fn is_as_told(ends: &mut Ends, watches: &mut Watches, step: Step) -> bool {
     match step {
@@ -71,6 +98,8 @@ fn is_as_told(ends: &mut Ends, watches: &mut Watches, step: Step) -> bool {
         Step::Path(path, want) => told_of_path(watches, path) == want,
         Step::Turn(now) => turns(ends, now),
         Step::Stream(want) => told_of_stream(watches) == want,
+        Step::Mix => gives(&mut ends.mix),
+        Step::Output(want) => told_of_output(watches) == want,
     }
 }
 
