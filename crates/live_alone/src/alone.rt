@@ -7,7 +7,7 @@ use crate::live_tap::LiveTap;
 use crate::lone::{Lone, lone_of};
 use crate::pending::all_pending;
 use live_parts::Recorded;
-use live_run::{LiveFault, Setting, Showing, Signs, Unseen, Watcher, run_beside, run_watched};
+use live_run::{LiveFault, Setting, Signs, Unseen, Watcher, run_beside, run_watched};
 use live_sockets::{Flags, Receiver, Sockets};
 use run_devices::WorkReport;
 use run_record::{Record, RecordTap, Recorder, write_record};
@@ -84,10 +84,10 @@ fn run_on_sockets<
         showing,
         signs,
     } = setting;
-    let Showing { board, meter } = showing;
+    let meter = showing.meter;
     let Recording { record, told } = recording;
     let (record, recorder) = ends_of(record);
-    let tap = LiveTap::new(alloc, studio, record, board)?;
+    let tap = LiveTap::new(alloc, studio, record, showing)?;
     let flags = Flags {
         stop: &signs.stop,
         pending,

@@ -2,8 +2,9 @@
 ghost use Rattle.std.specs.Prelude.{[], ◌∷◌, None};
 ghost use Rattle.studio_alone.specs.Taps.{Came, Closed, Hears};
 
+use live_run::Showing;
 use live_sockets::UdpFeed;
-use live_view::{Board, EngineView};
+use live_view::EngineView;
 use run_record::{RecordTap, Way};
 use std::alloc::{AllocError, Global};
 use std::io::Write;
@@ -27,10 +28,11 @@ impl<'v, E: Write + Drop> LiveTap<'v, E> {
         alloc: Global,
         studio: &StudioSpec,
         record: Option<RecordTap>,
-        board: Option<Board<'v, E>>,
+        showing: Showing<'v, E>,
     ) -> Result<LiveTap<'v, E>, AllocError> {
+        let Showing { board, meter } = showing;
         let view = match board {
-            Some(board) => Some(EngineView::new(alloc, studio.streams(), board)?),
+            Some(board) => Some(EngineView::new(alloc, studio.streams(), board, meter)?),
             None => None,
         };
         Ok(LiveTap { record, view })

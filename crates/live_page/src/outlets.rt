@@ -92,7 +92,7 @@ fn showing_of<'a, E: Write + Drop>(
     faults: E,
 ) -> Result<Showing<'a, E>, AllocError> {
     let has_page = ring.is_some();
-    let board = board_of(alloc, studio, stats, seen, ring, faults)?;
+    let board = board_of(alloc, studio, stats, seen.names, ring, faults)?;
     Ok(Showing {
         board,
         meter: has_page.then_some(seen.meter),
@@ -100,14 +100,14 @@ fn showing_of<'a, E: Write + Drop>(
 }
 
 /// The board of a run, if it is to show anything.
-fn board_of<'a, E: Write + Drop>(
+fn board_of<E: Write + Drop>(
     alloc: Global,
     studio: &StudioSpec,
     stats: Option<u32>,
-    seen: Seen<'a>,
+    names: &[Option<StreamName>],
     ring: Option<Producer<Snapshot>>,
     faults: E,
-) -> Result<Option<Board<'a, E>>, AllocError> {
+) -> Result<Option<Board<E>>, AllocError> {
     if ring.is_none() && stats.is_none() {
         return Ok(None);
     }
@@ -117,6 +117,6 @@ fn board_of<'a, E: Write + Drop>(
         None => None,
     };
     let streams = studio.streams();
-    let Seen { names, meter } = seen;
-    Ok(Some(Board::new(alloc, streams, names, now, stats, ring, meter, faults)?))
+    let channels = studio.output().channels();
+    Ok(Some(Board::new(alloc, streams, names, now, stats, ring, channels, faults)?))
 }

@@ -8,8 +8,8 @@ use live_view::{Board, Meter};
 #[derive(Drop)]
 pub struct Showing<'a, E> {
     /// None, where neither lines nor a page are asked for.
-    pub board: Option<Board<'a, E>>,
-    /// None, where no page is asked for.
+    pub board: Option<Board<E>>,
+    /// What measures the mix of a run in one thread; none, where no page is asked for.
     pub meter: Option<&'a Meter>,
 }
 

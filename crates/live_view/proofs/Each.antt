@@ -1,6 +1,7 @@
 -- Two lists, place by place, as a loop goes over them.
 use Rattle.std.proofs.Common.{◌≡◌, ◌⊎◌, inl, inr, ℕ, zero, suc, ◌+◌, ◌<◌, ◌≤◌, List, [], ◌∷◌, ◌++◌, length, slice_get, Some, refl, sym, ap, subst, ◌∙◌, arith, length-append}
 use Rattle.std.proofs.Common.{set, ◌≢◌, Result, Ok, Err, IsOk, OnOk}
+use Rattle.std.specs.List.{refill}
 use Rattle.std.proofs.lemmas.Grind.{common_steps}
 use Rattle.std.proofs.lemmas.Option.{gets, slice_get_within}
 use Rattle.live_view.specs.Each.{AreEach}
@@ -38,10 +39,10 @@ begun-push {X} P n xs ys x y begun at this = record {
 }
 
 -- what stands where it was written, and elsewhere
-get-set : {X : Type 0} (xs : List X) (n : ℕ) (y : X) → n < length xs → slice_get (set xs n y) n ≡ Some y
+pub get-set : {X : Type 0} (xs : List X) (n : ℕ) (y : X) → n < length xs → slice_get (set xs n y) n ≡ Some y
 get-set xs n y within = grind (arith, common_steps, gets)
 
-get-set_else : {X : Type 0} (xs : List X) (n place : ℕ) (y : X) → place ≢ n → slice_get (set xs n y) place ≡ slice_get xs place
+pub get-set_else : {X : Type 0} (xs : List X) (n place : ℕ) (y : X) → place ≢ n → slice_get (set xs n y) place ≡ slice_get xs place
 get-set_else xs n place y other = grind (arith, common_steps, gets)
 
 -- a place below the next is below this one, or it is this one
@@ -79,3 +80,10 @@ where_ok (Err e) is p = absurd (cc is)
 -- where there are as many
 pub begun-all : {X Y : Type 0} (P : ℕ → X → Y → Type 0) (n : ℕ) (xs : List X) (ys : List Y) → n ≡ length xs → IsBegun P n xs ys → AreEach P xs ys
 begun-all P n xs ys all begun = record { length_is = begun.length_is ∙ all; each = begun.each }
+
+-- a list that is filled again by as many
+pub refilled : {X : Type 0} (olds news : List X) → length news ≡ length olds → refill (length olds) olds news ≡ news
+refilled [] [] same = refl
+refilled [] (y ∷ ys) same = absurd (omega (arith, same))
+refilled (x ∷ xs) [] same = absurd (omega (arith, same))
+refilled (x ∷ xs) (y ∷ ys) same = ap (λ l. y ∷ l) (refilled xs ys (omega (arith, same)))

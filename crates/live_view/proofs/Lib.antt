@@ -1,2 +1,4 @@
 pub mod Each
+pub mod Outputs
 pub mod Pulses
+pub mod Viewed

@@ -1,7 +1,9 @@
 pub mod Copies
 pub mod Each
 pub mod Engine
+pub mod Noted
 pub mod Outputs
 pub mod Pulses
 pub mod Seen
 pub mod Shown
+pub mod Viewed

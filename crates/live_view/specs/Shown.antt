@@ -4,7 +4,7 @@ use Rattle.rtrb.specs.declared.producer.Producer.{Producer}
 use Rattle.stream_watch.specs.Newest.{Gives}
 use Rattle.studio_page.specs.declared.snapshot.Snapshot.{Snapshot}
 use Rattle.live_view.specs.Each.{AreEach}
-use Rattle.live_view.specs.Outputs.{KeepsCount, blank_output}
+use Rattle.live_view.specs.Outputs.{blank_output}
 use Rattle.live_view.specs.Pulses.{Stands}
 use Rattle.live_view.specs.Seen.{IsBlankOf}
 use Rattle.live_view.specs.declared.board.Board.{Board}
@@ -15,14 +15,10 @@ pub record IsBlankSnapshot (seen : List Seen) (channels : ℕ) (snapshot : Snaps
   pub streams : length seen ≤ 16 → AreEach IsBlankOf seen snapshot.streams.items
   pub outputs : snapshot.outputs.items ≡ replicate channels blank_output
 
--- the snapshot that was handed in, with each stream's condition at this time, and each channel's peak
+-- the snapshot that was handed in, with each stream's condition at this time
 pub record IsShown (seen : List Seen) (now : ℤ) (has_ended : Bool) (handed shown : Snapshot) : Type 0 where
   pub streams : AreEach (Stands seen now has_ended) handed.streams.items shown.streams.items
-  pub outputs : AreEach KeepsCount handed.outputs.items shown.outputs.items
-
--- this snapshot went through the ring, if there was room, with each channel's peak
-abbrev pub GivesMeasured : {A P : Type 0} → Snapshot → Producer Snapshot A P → Producer Snapshot A P → Type 0
-GivesMeasured handed old new = (shown : Snapshot) × (shown.streams ≡ handed.streams) × AreEach KeepsCount handed.outputs.items shown.outputs.items × Gives shown old new
+  pub outputs : shown.outputs ≡ handed.outputs
 
 -- that snapshot went through the ring, if there was room
 abbrev pub GivesShown : {A P : Type 0} → List Seen → ℤ → Bool → Snapshot → Producer Snapshot A P → Producer Snapshot A P → Type 0

@@ -1,12 +1,10 @@
 //! What is told of a run while it goes on.
-ghost use Rattle.std.specs.Prelude.{◌≡◌, ◌≤◌, [], replicate, length, IfOk, IsNone, IsSome, IsSomeAnd, MatchOption, is_some, ◌≤ℤ◌, ◌+ℤ◌};
+ghost use Rattle.std.specs.Prelude.{◌≡◌, ◌≤◌, [], min, replicate, length, IfOk, IsNone, IsSome, IsSomeAnd, MatchOption, is_some, ◌≤ℤ◌, ◌+ℤ◌};
 ghost use Rattle.live_view.specs.Each.{AreEach};
 ghost use Rattle.live_view.specs.Outputs.{blank_output};
 ghost use Rattle.live_view.specs.Pulses.{Looks, LooksAt, Stands};
 ghost use Rattle.live_view.specs.Seen.{IsBlankOf, IsFirstSeenOf};
-ghost use Rattle.live_view.specs.Shown.{GivesMeasured, IsBlankSnapshot, Shows, is_due_at};
 
-use crate::meter::Meter;
 use crate::names::all_seen;
 use crate::seen::Seen;
 use crate::stats::Stats;
@@ -16,24 +14,33 @@ use std::io::Write;
 use stream_rules::StreamSpec;
 use studio_page::{Name, OutputState, Snapshot, StreamState};
 
+/// The most output channels.
+const MOST: usize = 8;
+
 /// From one snapshot to the next, in sampling instants: a tenth of a second.
 const TENTH: i64 = 4_800;
 
 /// What a run tells of itself, to its page and by lines, and when.
 #[derive(Drop)]
-pub struct Board<'a, E> {
+pub struct Board<E> {
     streams: Vec<Seen>,
     stats: Option<Stats>,
     /// Where snapshots go, if a page is asked for. One that finds no room is dropped.
     page: Option<Producer<Snapshot>>,
     /// When the next snapshot is due, in sampling instants.
     next: i64,
-    meter: &'a Meter,
+    /// How many output channels there are.
+    channels: usize,
     writer: E,
+    ghost few: { channels ≤ 8 },
 }
 
-impl<'a, E: Write + Drop> Board<'a, E> {
-    /// A board of these streams, before anything came; `now` is in sampling instants. It takes all memory.
+impl<E: Write + Drop> Board<E> {
+    ghost use Rattle.stream_watch.specs.Newest.{Gives};
+    ghost use Rattle.live_view.specs.Shown.{IsBlankSnapshot, Shows, is_due_at};
+
+    /// A board of these streams and so many output channels, up to eight, before anything came; `now` is in sampling instants.
+    /// It takes all memory.
     pub fn new(
         alloc: Global,
         streams: &[StreamSpec],
@@ -41,12 +48,13 @@ impl<'a, E: Write + Drop> Board<'a, E> {
         now: i64,
         stats: Option<Stats>,
         page: Option<Producer<Snapshot>>,
-        meter: &'a Meter,
+        channels: u8,
         writer: E,
-    ) -> Result<Board<'a, E>, AllocError>
+    ) -> Result<Board<E>, AllocError>
         ensures streams { IfOk result (λ board. AreEach (IsFirstSeenOf names.now now) streams.now board.streams.items) }
         ensures next { IfOk result (λ board. board.next ≡ now) }
         ensures page { IfOk result (λ board. (board.page ≡ page) × (board.stats ≡ stats)) }
+        ensures channels { IfOk result (λ board. board.channels ≡ min channels 8) }
     {
         let streams = all_seen(alloc, streams, names, now)?;
         Ok(Board {
@@ -54,7 +62,7 @@ impl<'a, E: Write + Drop> Board<'a, E> {
             stats,
             page,
             next: now,
-            meter,
+            channels: usize::from(channels).min(MOST),
             writer,
         })
     }
@@ -81,11 +89,11 @@ impl<'a, E: Write + Drop> Board<'a, E> {
 
     /// A snapshot in which nothing is counted.
     pub fn blank(&self) -> Snapshot
-        ensures { IsBlankSnapshot self.now.streams.items self.now.meter.now.channels result }
+        ensures { IsBlankSnapshot self.now.streams.items self.now.channels result }
     {
         let mut snapshot = Snapshot::new();
         add_streams(&mut snapshot, self.streams.as_slice());
-        add_outputs(&mut snapshot, self.meter.channels());
+        add_outputs(&mut snapshot, self.channels);
         snapshot
     }
 
@@ -113,15 +121,14 @@ impl<'a, E: Write + Drop> Board<'a, E> {
         }
     }
 
-    /// Hands a snapshot with its peaks to the page, if there is one.
-    fn show_page(&mut self, now: i64, mut snapshot: Snapshot)
-        ensures shown { MatchOption self.old.page (IsNone self.new.page) (λ ring. IsSomeAnd self.new.page (GivesMeasured snapshot ring)) }
+    /// Hands a snapshot to the page, if there is one.
+    fn show_page(&mut self, now: i64, snapshot: Snapshot)
+        ensures shown { MatchOption self.old.page (IsNone self.new.page) (λ ring. IsSomeAnd self.new.page (Gives snapshot ring)) }
         ensures streams { self.new.streams ≡ self.old.streams }
         ensures next { IsSome self.old.page → self.new.next ≤ℤ (now +ℤ TENTH) }
     {
         if let Some(page) = &mut self.page {
             self.next = now.saturating_add(TENTH);
-            self.meter.tell(snapshot.outputs.as_mut_slice());
             let _ = page.push(snapshot);
         }
     }

@@ -1,33 +1,33 @@
 //! What is seen of an engine while its run goes on.
-ghost use Rattle.std.specs.Prelude.{◌≡◌, ◌<◌, ◌≤◌, length, IfSome, IsNone};
+ghost use Rattle.std.specs.Prelude.{◌≡◌, ◌<◌, ◌≤◌, [], length, true, false, is_some, IfOk, IfSome, IsNone, MatchBool, MatchOption};
 ghost use Rattle.live_view.specs.Each.{AreEach};
-ghost use Rattle.live_view.specs.Engine.{HasEngineBefore, HasEngineCounts, IsEnginePath};
+ghost use Rattle.live_view.specs.Engine.{HasEngineBefore, IsEnginePath};
+ghost use Rattle.live_view.specs.Noted.{IsUnheard, Notes};
+ghost use Rattle.live_view.specs.Shown.{is_due_at};
+ghost use Rattle.live_view.specs.Viewed.{IsEngineOutput, IsWatched, SeesStream, ShowsEngine};
 
 use crate::board::Board;
 use crate::copies::see_numbers;
+use crate::meter::Meter;
+use crate::noted::{all_watched, note_at, numbers_of};
 use crate::told::{first_at, see_datagrams, see_saturated};
 use path_merge::Path;
 use std::alloc::{AllocError, Global};
 use std::io::Write;
-use stream_rules::{Counts, ReceptionRef, StreamSpec, receive_ref};
+use stream_rules::{Counts, StreamSpec};
 use stream_watch::CopyWatch;
 use studio_engine::Engine;
-use studio_page::{PathState, StreamState};
+use studio_page::{OutputState, PathState, StreamState};
 use studio_session::Receipt;
-
-/// What is fixed of a stream, and what came of its packets.
-#[derive(Drop)]
-struct Watched {
-    spec: StreamSpec,
-    copies: CopyWatch,
-}
 
 /// A board, and what came of each stream's packets where it has a page.
 #[derive(Drop)]
 pub struct EngineView<'a, E> {
-    board: Board<'a, E>,
+    board: Board<E>,
     /// One for each stream, or none at all.
-    watched: Vec<Watched>,
+    watched: Vec<CopyWatch>,
+    /// What measures the mix, if anything does.
+    meter: Option<&'a Meter>,
 }
 
 impl<'a, E: Write + Drop> EngineView<'a, E> {
@@ -35,18 +35,22 @@ impl<'a, E: Write + Drop> EngineView<'a, E> {
     pub fn new(
         alloc: Global,
         streams: &[StreamSpec],
-        board: Board<'a, E>,
-    ) -> Result<EngineView<'a, E>, AllocError> {
-        let mut watched = Vec::new(alloc);
-        if board.has_page() {
-            for stream in streams {
-                watched.push(Watched {
-                    spec: *stream,
-                    copies: CopyWatch::new(alloc, stream)?,
-                })?;
-            }
-        }
-        Ok(EngineView { board, watched })
+        board: Board<E>,
+        meter: Option<&'a Meter>,
+    ) -> Result<EngineView<'a, E>, AllocError>
+        ensures board { IfOk result (λ view. view.board ≡ board) }
+        ensures watched { IfOk result (λ view. MatchBool (is_some board.page) (AreEach IsUnheard streams.now view.watched.items) (view.watched.items ≡ [])) }
+    {
+        let watched = if board.has_page() {
+            all_watched(alloc, streams)?
+        } else {
+            Vec::new(alloc)
+        };
+        Ok(EngineView {
+            board,
+            watched,
+            meter,
+        })
     }
 
     /// Notes a datagram that the engine took just now, and what it answered.
@@ -57,47 +61,73 @@ impl<'a, E: Write + Drop> EngineView<'a, E> {
         path: Path,
         octets: &[u8],
         receipt: Receipt,
-    ) {
+    )
+        ensures noted { Notes receipt stream path octets.now engine.now.time self.old.watched.items self.new.watched.items }
+        ensures board { self.new.board ≡ self.old.board }
+    {
         let Receipt::Offered(fate) = receipt else {
             return;
         };
-        if let Some(watched) = self.watched.get_mut(stream) {
-            if let ReceptionRef::Sent(packet) = receive_ref(&watched.spec, octets) {
-                let due = engine.stream_deadline(stream);
-                watched.copies.note(path, packet, fate, due, engine.time());
-            }
+        if let Some(numbers) = numbers_of(octets) {
+            let due = engine.stream_deadline(stream);
+            let watched = self.watched.as_mut_slice();
+            note_at(watched, stream, path, numbers, fate, due, engine.time());
         }
     }
 
     /// Shows what is to be seen of the engine, if it is time.
-    pub fn look(&mut self, engine: &Engine) {
+    pub fn look(&mut self, engine: &Engine)
+        ensures shown { MatchBool (is_due_at self.old.board engine.now.time) (ShowsEngine engine.now false self.old.board self.new.board) (self.new.board ≡ self.old.board) }
+        ensures watched { self.new.watched ≡ self.old.watched }
+    {
         if self.board.is_due(engine.time()) {
             self.show(engine, false);
         }
     }
 
     /// Shows what is to be seen of the engine once it is closed.
-    pub fn close(&mut self, engine: &Engine) {
+    pub fn close(&mut self, engine: &Engine)
+        ensures shown { ShowsEngine engine.now true self.old.board self.new.board }
+        ensures watched { self.new.watched ≡ self.old.watched }
+    {
         self.show(engine, true);
     }
 
     /// Shows what is to be seen of the engine.
-    fn show(&mut self, engine: &Engine, has_ended: bool) {
-        let now = engine.time();
+    fn show(&mut self, engine: &Engine, has_ended: bool)
+        ensures shown { ShowsEngine engine.now has_ended self.old.board self.new.board }
+        ensures watched { self.new.watched ≡ self.old.watched }
+    {
         let mut snapshot = self.board.blank();
-        for (number, stream) in snapshot.streams.as_mut_slice().iter_mut().enumerate() {
-            see_stream(engine, number, self.watched.get(number), stream);
-        }
-        see_saturated(engine.saturated(), snapshot.outputs.as_mut_slice());
-        self.board.show(now, snapshot, has_ended);
+        let streams = snapshot.streams.as_mut_slice();
+        see_streams(engine, self.watched.as_slice(), streams);
+        see_outputs(engine, self.meter, snapshot.outputs.as_mut_slice());
+        self.board.show(engine.time(), snapshot, has_ended);
+    }
+}
+
+/// Sees the streams of an engine.
+fn see_streams(engine: &Engine, watched: &[CopyWatch], streams: &mut [StreamState])
+    ensures { AreEach (SeesStream engine.now) streams.old streams.new }
+{
+    for (number, stream) in streams.iter_mut().enumerate() {
+        see_stream(engine, number, watched.get(number), stream);
+    }
+}
+
+/// Sees the output channels of an engine, and what measures them.
+fn see_outputs(engine: &Engine, meter: Option<&Meter>, outputs: &mut [OutputState])
+    ensures { AreEach (IsEngineOutput engine.now) outputs.old outputs.new }
+{
+    see_saturated(engine.saturated(), outputs);
+    if let Some(meter) = meter {
+        meter.tell(outputs);
     }
 }
 
 /// Sees a stream of an engine.
-fn see_stream(engine: &Engine, number: usize, watched: Option<&Watched>, stream: &mut StreamState)
-    ensures counts { number < length engine.now.cursors → HasEngineCounts engine.now number stream.new.counts }
-    ensures paths { number < length engine.now.cursors → AreEach (IsEnginePath engine.now number stream.new.counts) stream.old.paths.items stream.new.paths.items }
-    ensures rest { (stream.new.name ≡ stream.old.name) × (stream.new.condition ≡ stream.old.condition) × (stream.new.latency ≡ stream.old.latency) }
+fn see_stream(engine: &Engine, number: usize, watched: Option<&CopyWatch>, stream: &mut StreamState)
+    ensures { SeesStream engine.now number stream.old stream.new }
 {
     if let Some(counts) = engine.counts(number) {
         stream.counts = counts;
@@ -115,7 +145,7 @@ fn see_stream(engine: &Engine, number: usize, watched: Option<&Watched>, stream:
 fn see_paths(
     engine: &Engine,
     number: usize,
-    watched: Option<&Watched>,
+    watched: Option<&CopyWatch>,
     counts: &Counts,
     paths: &mut [PathState],
 )
@@ -130,7 +160,7 @@ fn see_paths(
 fn see_path(
     engine: &Engine,
     number: usize,
-    watched: Option<&Watched>,
+    watched: Option<&CopyWatch>,
     counts: &Counts,
     place: usize,
     state: &mut PathState,
@@ -156,11 +186,12 @@ fn see_before(engine: &Engine, number: usize, path: Path, state: &mut PathState)
 }
 
 /// Sees what became of a path's packets by this time, where that is tallied, of a stream that lost so many.
-fn see_copies(watched: Option<&Watched>, path: Path, now: i64, lost: u64, state: &mut PathState)
-    ensures { (state.new.first ≡ state.old.first) × (state.new.counts ≡ state.old.counts) × (state.new.datagrams ≡ state.old.datagrams) }
+fn see_copies(watched: Option<&CopyWatch>, path: Path, now: i64, lost: u64, state: &mut PathState)
+    ensures copies { MatchOption watched.entry (state.new ≡ state.old) (λ watch. IsWatched path now lost state.old state.new watch.now) }
+    ensures rest { (state.new.first ≡ state.old.first) × (state.new.counts ≡ state.old.counts) × (state.new.datagrams ≡ state.old.datagrams) }
 {
-    if let Some(watched) = watched {
-        let numbers = watched.copies.numbers(path, now);
+    if let Some(watch) = watched {
+        let numbers = watch.numbers(path, now);
         see_numbers(&numbers, lost, state);
     }
 }

@@ -45,14 +45,6 @@ impl Meter {
         }
     }
 
-    /// How many channels it measures.
-    pub fn channels(&self) -> usize
-        ensures value { result ≡ self.now.channels }
-        ensures few { result ≤ 8 }
-    {
-        self.channels
-    }
-
     /// Measures a datagram of the mix.
     pub fn measure(&self, datagram: &[u8]) {
         if datagram.len() < HEAD || self.channels == 0 {

@@ -1,5 +1,6 @@
 //! Each stream's counts, told while a run goes on.
-ghost use Rattle.std.specs.Prelude.{◌≡◌, int_le};
+ghost use Rattle.std.specs.Prelude.{◌≡◌, ◌⊎◌, ◌^◌, ◌-◌, ◌*◌, ◌+ℤ◌, IfOk, int_le, pos};
+ghost use Rattle.std.specs.Int.{saturate_to_bits};
 
 use crate::ready::{FAULTS, is_ready};
 use std::alloc::{AllocError, Global};
@@ -21,7 +22,10 @@ pub struct Stats {
 
 impl Stats {
     /// Every so many seconds from a time on, in sampling instants.
-    pub fn new(alloc: Global, from: i64, seconds: u32) -> Result<Stats, AllocError> {
+    pub fn new(alloc: Global, from: i64, seconds: u32) -> Result<Stats, AllocError>
+        ensures every { IfOk result (λ stats. stats.every ≡ pos (seconds * 48_000)) }
+        ensures next { IfOk result (λ stats. stats.next ≡ saturate_to_bits 63 (from +ℤ stats.every)) }
+    {
         let every = i64::from(seconds).saturating_mul(SECOND);
         Ok(Stats {
             every,
@@ -38,7 +42,10 @@ impl Stats {
     }
 
     /// Writes a line for each stream of a snapshot, at this time. After a write that failed nothing more is written.
-    pub(crate) fn tell<W: Write>(&mut self, now: i64, snapshot: &Snapshot, writer: &mut W) {
+    pub(crate) fn tell<W: Write>(&mut self, now: i64, snapshot: &Snapshot, writer: &mut W)
+        ensures next { (self.new.next ≡ saturate_to_bits 63 (now +ℤ self.old.every)) ⊎ (self.new.next ≡ pos (2 ^ 63 - 1)) }
+        ensures every { self.new.every ≡ self.old.every }
+    {
         self.next = match self.write_lines(now, snapshot, writer) {
             Ok(()) => now.saturating_add(self.every),
             Err(WriteFault) => i64::MAX,
@@ -51,7 +58,9 @@ impl Stats {
         now: i64,
         snapshot: &Snapshot,
         writer: &mut W,
-    ) -> Result<(), WriteFault> {
+    ) -> Result<(), WriteFault>
+        ensures { self.new.every ≡ self.old.every }
+    {
         for (number, stream) in (0u8..).zip(snapshot.streams.iter()) {
             if !is_ready(FAULTS, libc::net::POLLOUT) {
                 return Ok(());

@@ -2,11 +2,11 @@
 ghost use Rattle.std.specs.Prelude.{◌≡◌, Some, slice_index};
 ghost use Rattle.live_view.specs.Copies.{IsTold};
 ghost use Rattle.live_view.specs.Each.{AreEach};
-ghost use Rattle.live_view.specs.Outputs.{HasCount};
+ghost use Rattle.live_view.specs.Outputs.{HasCount, HasNumbers};
 
 use crate::copies::see_numbers;
 use stream_rules::{Counts, PathCounts};
-use stream_watch::StreamNumbers;
+use stream_watch::{MixNumbers, StreamNumbers};
 use studio_page::{OutputState, PathState, StreamState};
 
 /// Sees what was told of a stream.
@@ -58,8 +58,29 @@ pub fn see_datagrams(counts: PathCounts, state: &mut PathState)
     state.counts = Some(counts);
 }
 
+/// Sees what was told of the mix: each channel's peak, and how many of its samples were saturated.
+pub fn see_mix(numbers: &MixNumbers, outputs: &mut [OutputState])
+    ensures { AreEach (HasNumbers numbers.now) outputs.old outputs.new }
+{
+    for (channel, output) in outputs.iter_mut().enumerate() {
+        see_channel(numbers, channel, output);
+    }
+}
+
+/// Sees what was told of the channel at a place.
+fn see_channel(numbers: &MixNumbers, channel: usize, output: &mut OutputState)
+    ensures { HasNumbers numbers.now channel output.old output.new }
+{
+    if let Some(peak) = numbers.peaks.get(channel) {
+        output.peak = *peak;
+    }
+    if let Some(count) = numbers.saturated.get(channel) {
+        output.saturated = *count;
+    }
+}
+
 /// Sees how many samples of each output channel were saturated, as far as that is told.
-pub fn see_saturated(saturated: &[u64], outputs: &mut [OutputState])
+pub(crate) fn see_saturated(saturated: &[u64], outputs: &mut [OutputState])
     ensures { AreEach (HasCount saturated.now) outputs.old outputs.new }
 {
     for (channel, output) in outputs.iter_mut().enumerate() {

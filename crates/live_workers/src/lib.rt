@@ -3,7 +3,9 @@
 //! `run_in_workers` runs a studio's workers on the sockets of its paths, beside a watcher that shows what their watches tell.
 #![tactic(auto)]
 
+mod asked;
 mod rings;
+mod seen;
 mod told;
 mod watches;
 mod work;

@@ -1,10 +1,17 @@
 //! What the workers' watches told last.
+ghost use Rattle.std.specs.Prelude.{◌≡◌, None, replicate, IfOk, IsNone, IsSomeAnd, MatchOption};
+ghost use Rattle.live_view.specs.Each.{AreEach};
+ghost use Rattle.live_view.specs.Outputs.{HasNumbers};
+ghost use Rattle.live_workers.specs.Asked.{AreAsked, TellsMix, TellsPath, TellsStream};
+ghost use Rattle.live_workers.specs.Told.{SeesTold};
 
-use live_view::{see_datagrams, see_saturated, see_told};
+use crate::asked::{ask_mix, ask_paths, ask_streams};
+use crate::seen::see_streams;
+use live_view::see_mix;
 use std::alloc::{AllocError, Global};
 use stream_rules::PathCounts;
-use stream_watch::{MixNumbers, MixWatch, PathWatch, StreamNumbers, StreamWatch};
-use studio_page::{OutputState, Snapshot};
+use stream_watch::{MixNumbers, StreamNumbers};
+use studio_page::Snapshot;
 use studio_rings::Watches;
 
 /// What each watch told last; none, where it told nothing yet.
@@ -19,7 +26,11 @@ pub(crate) struct Told {
 
 impl Told {
     /// Nothing yet, of so many watches. It takes all memory.
-    pub(crate) fn nothing(alloc: Global, paths: usize, streams: usize) -> Result<Told, AllocError> {
+    pub(crate) fn nothing(alloc: Global, paths: usize, streams: usize) -> Result<Told, AllocError>
+        ensures paths { IfOk result (λ told. told.paths.items ≡ replicate paths None) }
+        ensures streams { IfOk result (λ told. told.streams.items ≡ replicate streams None) }
+        ensures mix { IfOk result (λ told. IsNone told.mix) }
+    {
         Ok(Told {
             paths: Vec::from_elem(alloc, None, paths)?,
             streams: Vec::from_elem(alloc, None, streams)?,
@@ -28,60 +39,25 @@ impl Told {
     }
 
     /// Asks all watches.
-    pub(crate) fn ask(&mut self, watches: &mut Watches) {
+    pub(crate) fn ask(&mut self, watches: &mut Watches)
+        ensures paths { AreAsked TellsPath watches.old.paths.items watches.new.paths.items self.old.paths.items self.new.paths.items }
+        ensures streams { AreAsked TellsStream watches.old.streams.items watches.new.streams.items self.old.streams.items self.new.streams.items }
+        ensures mix { MatchOption watches.old.mix (IsNone watches.new.mix × (self.new.mix ≡ self.old.mix)) (λ old. IsSomeAnd watches.new.mix (λ new. TellsMix old new self.old.mix self.new.mix)) }
+    {
         ask_paths(watches.paths.as_mut_slice(), self.paths.as_mut_slice());
         ask_streams(watches.streams.as_mut_slice(), self.streams.as_mut_slice());
         ask_mix(&mut watches.mix, &mut self.mix);
     }
 
     /// Sees what they told.
-    pub(crate) fn see(&self, snapshot: &mut Snapshot) {
-        see_mix(&self.mix, snapshot.outputs.as_mut_slice());
-        let mut counts = self.paths.iter();
-        let streams = snapshot.streams.as_mut_slice().iter_mut();
-        for (stream, told) in streams.zip(self.streams.iter()) {
-            if let Some(numbers) = told {
-                see_told(numbers, stream);
-            }
-            for path in stream.paths.as_mut_slice().iter_mut() {
-                if let Some(Some(counts)) = counts.next() {
-                    see_datagrams(*counts, path);
-                }
-            }
+    pub(crate) fn see(&self, snapshot: &mut Snapshot)
+        ensures streams { AreEach (SeesTold self.now.streams.items self.now.paths.items snapshot.old.streams.items) snapshot.old.streams.items snapshot.new.streams.items }
+        ensures outputs { MatchOption self.now.mix (snapshot.new.outputs ≡ snapshot.old.outputs) (λ numbers. AreEach (HasNumbers numbers) snapshot.old.outputs.items snapshot.new.outputs.items) }
+    {
+        if let Some(numbers) = &self.mix {
+            see_mix(numbers, snapshot.outputs.as_mut_slice());
         }
-    }
-}
-
-/// Asks the watches of all paths.
-fn ask_paths(watches: &mut [PathWatch], told: &mut [Option<PathCounts>]) {
-    for (watch, last) in watches.iter_mut().zip(told.iter_mut()) {
-        if let Some(counts) = watch.latest() {
-            *last = Some(counts);
-        }
-    }
-}
-
-/// Asks the watches of all streams.
-fn ask_streams(watches: &mut [StreamWatch], told: &mut [Option<StreamNumbers>]) {
-    for (watch, last) in watches.iter_mut().zip(told.iter_mut()) {
-        if let Some(numbers) = watch.latest() {
-            *last = Some(numbers);
-        }
-    }
-}
-
-/// Asks the watch of the mix, if there is one.
-fn ask_mix(watch: &mut Option<MixWatch>, told: &mut Option<MixNumbers>) {
-    if let Some(watch) = watch {
-        if let Some(numbers) = watch.latest() {
-            *told = Some(numbers);
-        }
-    }
-}
-
-/// Sees what was told of the mix.
-fn see_mix(told: &Option<MixNumbers>, outputs: &mut [OutputState]) {
-    if let Some(numbers) = told {
-        see_saturated(&numbers.saturated, outputs);
+        let streams = snapshot.streams.as_mut_slice();
+        see_streams(self.streams.as_slice(), self.paths.as_slice(), streams);
     }
 }

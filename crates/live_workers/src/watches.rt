@@ -15,7 +15,7 @@ pub(crate) struct WatchView<'a, R: time::Clock, E> {
     pub(crate) watches: Watches,
     pub(crate) told: Told,
     pub(crate) clock: SystemClock<'a, R>,
-    pub(crate) board: Board<'a, E>,
+    pub(crate) board: Board<E>,
 }
 
 impl<R: time::Clock, E: Write + Drop> View for WatchView<'_, R, E> {

@@ -4,9 +4,8 @@ ghost use Rattle.studio_workers.specs.StreamResults.{AreOpenedTogether};
 ghost use Rattle.live_run.specs.Run.{IsEarly, IsRunOf};
 
 use live_parts::{Start, SystemClock};
-use live_run::{LiveFault, MeteredSink};
+use live_run::LiveFault;
 use live_sockets::{Flags, Sockets, UdpFeed, UdpSink, feeds_of};
-use live_view::Meter;
 use std::alloc::{AllocError, Global};
 use std::sync::Wait;
 use std::thread::Threads;
@@ -21,7 +20,7 @@ pub(crate) struct Work<'a, R: Clock> {
     pub(crate) ends: Ends,
     pub(crate) feeds: Vec<UdpFeed<'a, R>>,
     pub(crate) clocks: Vec<SystemClock<'a, R>>,
-    sink: MeteredSink<'a, UdpSink>,
+    sink: UdpSink,
 }
 
 /// The workers of rings and sockets.
@@ -32,7 +31,6 @@ pub(crate) fn work_of<'a, R: Clock>(
     sockets: Sockets<'a>,
     start: Start,
     flags: Flags<'a>,
-    meter: Option<&'a Meter>,
 ) -> Result<Work<'a, R>, AllocError>
     ensures ends { IfOk result (λ work. work.ends ≡ ends) }
     ensures feeds { IfOk result (λ work. length work.feeds.items ≡ length sockets.entry.receiving.items) }
@@ -45,7 +43,7 @@ pub(crate) fn work_of<'a, R: Clock>(
         ends,
         feeds,
         clocks,
-        sink: MeteredSink { sink, meter },
+        sink,
     })
 }
 

@@ -9,7 +9,7 @@ use crate::told::Told;
 use crate::watches::WatchView;
 use crate::work::work_of;
 use live_parts::Start;
-use live_run::{LiveFault, Setting, Showing, Watcher, run_watched};
+use live_run::{LiveFault, Setting, Watcher, run_watched};
 use live_sockets::{Flags, Sockets};
 use live_view::Board;
 use run_devices::WorkReport;
@@ -58,14 +58,13 @@ fn run_on_rings<'a, R: Threads + Wait + Sync + Clock, E: Write + Send + Drop>(
         showing,
         signs,
     } = setting;
-    let Showing { board, meter } = showing;
     let Rings { ends, watches } = rings;
-    let view = view_of(rt, alloc, watches, start, board)?;
+    let view = view_of(rt, alloc, watches, start, showing.board)?;
     let flags = Flags {
         stop: &signs.stop,
         pending: &[],
     };
-    let work = work_of(rt, alloc, ends, sockets, start, flags, meter)?;
+    let work = work_of(rt, alloc, ends, sockets, start, flags)?;
     let watcher = Watcher { until_eof, view };
     run_watched(
         rt,
@@ -88,7 +87,7 @@ fn view_of<'a, R: Clock, E: Write + Drop>(
     alloc: Global,
     watches: Option<Watches>,
     start: Start,
-    board: Option<Board<'a, E>>,
+    board: Option<Board<E>>,
 ) -> Result<Option<WatchView<'a, R, E>>, AllocError> {
     match (watches, board) {
         (Some(watches), Some(board)) => {
