@@ -2,9 +2,8 @@
 ghost use Rattle.std.specs.Prelude.{[], ◌∷◌, None};
 ghost use Rattle.studio_alone.specs.Taps.{Came, Closed, Hears};
 
-use live_run::Showing;
 use live_sockets::UdpFeed;
-use live_view::EngineView;
+use live_view::{EngineView, Showing};
 use run_record::{RecordTap, Way};
 use std::alloc::{AllocError, Global};
 use std::io::Write;

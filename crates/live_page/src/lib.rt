@@ -5,9 +5,11 @@
 //! the run shows of itself.
 #![tactic(auto)]
 
+mod fault;
 mod outlets;
 mod places;
 mod serving;
 
+pub use fault::PageFault;
 pub use outlets::{Seen, Shown, show};
 pub use serving::Serving;

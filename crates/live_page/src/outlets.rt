@@ -1,13 +1,11 @@
 //! What a run is shown through.
-ghost use Rattle.std.specs.Prelude.{IfErr};
-ghost use Rattle.live_run.specs.Run.{IsEarly};
 
+use crate::fault::PageFault;
 use crate::places::tell_places;
 use crate::serving::Serving;
 use live_parts::{LiveOptions, StreamName};
-use live_run::{LiveFault, Showing};
 use live_sockets::Sockets;
-use live_view::{Board, Meter, Stats};
+use live_view::{Board, Meter, Showing, Stats};
 use rtrb::Producer;
 use std::alloc::{AllocError, Global};
 use std::io::Write;
@@ -42,9 +40,7 @@ pub fn show<'a, R: Net + RandomSource, E: Write + Drop>(
     options: &LiveOptions,
     seen: Seen<'a>,
     faults: E,
-) -> Result<Shown<'a, E>, LiveFault>
-    ensures early { IfErr result IsEarly }
-{
+) -> Result<Shown<'a, E>, PageFault> {
     let mut faults = faults;
     let Paged { serving, ring } = page_of(rt, alloc, options.page)?;
     if options.stats.is_some() || serving.is_some() {
@@ -66,9 +62,7 @@ fn page_of<R: Net + RandomSource>(
     rt: &R,
     alloc: Global,
     port: Option<u16>,
-) -> Result<Paged, LiveFault>
-    ensures early { IfErr result IsEarly }
-{
+) -> Result<Paged, PageFault> {
     let Some(port) = port else {
         return Ok(Paged {
             serving: None,

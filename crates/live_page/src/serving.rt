@@ -1,8 +1,6 @@
 //! What answers the clients of a run's page.
-ghost use Rattle.std.specs.Prelude.{IfErr};
-ghost use Rattle.live_run.specs.Run.{IsEarly};
 
-use live_run::LiveFault;
+use crate::fault::PageFault;
 use rtrb::{Producer, RingBuffer};
 use std::alloc::Global;
 use std::hash::RandomState;
@@ -32,9 +30,7 @@ impl Serving {
         rt: &R,
         alloc: Global,
         port: u16,
-    ) -> Result<(Serving, Producer<Snapshot>), LiveFault>
-        ensures early { IfErr result IsEarly }
-    {
+    ) -> Result<(Serving, Producer<Snapshot>), PageFault> {
         let (producer, consumer) = RingBuffer::new(alloc, PLACES)?;
         match bound(rt, alloc, port) {
             Ok(server) => Ok((
@@ -71,11 +67,9 @@ fn bound<R: Net + RandomSource>(rt: &R, alloc: Global, port: u16) -> io::Result<
 }
 
 /// Why there is no page.
-fn fault_of(kind: ErrorKind) -> LiveFault
-    ensures { IsEarly result }
-{
+fn fault_of(kind: ErrorKind) -> PageFault {
     match kind {
-        ErrorKind::OutOfMemory => LiveFault::Memory,
-        _ => LiveFault::Page,
+        ErrorKind::OutOfMemory => PageFault::Memory,
+        _ => PageFault::Page,
     }
 }

@@ -3,6 +3,7 @@ ghost use Rattle.std.specs.Prelude.{◌≡◌};
 ghost use Rattle.live_run.specs.Run.{IsEarly};
 ghost use Rattle.live_run.specs.declared.fault.LiveFault.TheVariants.{Write};
 
+use live_page::PageFault;
 use run_devices::WorkFault;
 use std::alloc::{AllocError, AllocFailed};
 use std::io;
@@ -57,6 +58,17 @@ impl From<io::Error> for LiveFault {
         match fault.kind() {
             ErrorKind::OutOfMemory => LiveFault::Memory,
             _ => LiveFault::Socket,
+        }
+    }
+}
+
+impl From<PageFault> for LiveFault {
+    ghost from_gives = { λ _ to. IsEarly to };
+
+    fn from(fault: PageFault) -> LiveFault {
+        match fault {
+            PageFault::Memory => LiveFault::Memory,
+            PageFault::Page => LiveFault::Page,
         }
     }
 }

@@ -17,7 +17,7 @@ mod watch;
 pub use beside::run_beside;
 pub use fault::LiveFault;
 pub use metered_sink::MeteredSink;
-pub use setting::{Setting, Showing};
+pub use setting::Setting;
 pub use signal::has_ending_signal;
 pub use signs::Signs;
 pub use watch::{Unseen, View, Watcher, run_watched};

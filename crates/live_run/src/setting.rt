@@ -2,16 +2,7 @@
 
 use crate::signs::Signs;
 use live_parts::Start;
-use live_view::{Board, Meter};
-
-/// What a run shows of itself, where it counts and measures for that.
-#[derive(Drop)]
-pub struct Showing<'a, E> {
-    /// None, where neither lines nor a page are asked for.
-    pub board: Option<Board<E>>,
-    /// What measures the mix of a run in one thread; none, where no page is asked for.
-    pub meter: Option<&'a Meter>,
-}
+use live_view::Showing;
 
 /// What a run is set in, beside its studio and its sockets.
 #[derive(Drop)]

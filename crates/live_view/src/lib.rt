@@ -14,6 +14,7 @@ mod names;
 mod noted;
 mod ready;
 mod seen;
+mod showing;
 mod stats;
 mod told;
 
@@ -21,5 +22,6 @@ pub use board::Board;
 pub use engine_view::EngineView;
 pub use meter::Meter;
 pub use ready::{FAULTS, INPUT, is_ready};
+pub use showing::Showing;
 pub use stats::Stats;
 pub use told::{see_datagrams, see_mix, see_told};

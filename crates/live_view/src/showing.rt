@@ -1,0 +1,13 @@
+//! What a run shows of itself.
+
+use crate::board::Board;
+use crate::meter::Meter;
+
+/// What a run shows of itself, where it counts and measures for that.
+#[derive(Drop)]
+pub struct Showing<'a, E> {
+    /// None, where neither lines nor a page are asked for.
+    pub board: Option<Board<E>>,
+    /// What measures the mix of a run in one thread; none, where no page is asked for.
+    pub meter: Option<&'a Meter>,
+}
