@@ -1,7 +1,7 @@
 //! The form of a flow's packets, as a stream's.
 use capture_streams::{Flow, fit_of};
+use rtp_stream::{StreamClock, StreamSpec};
 use rtp_wire::Enc;
-use stream_rules::{StreamClock, StreamSpec};
 
 /// Samples, channels and sampling instants of each packet, as a stream may have them.
 #[derive(Clone, Copy, PartialEq, Eq)]

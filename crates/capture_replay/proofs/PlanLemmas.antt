@@ -1,7 +1,7 @@
 -- The places of all paths, one stream after another.
 use Rattle.std.proofs.Common.{◌≡◌, ◌<◌, ◌≤◌, ◌+◌, ◌-◌, ℕ, zero, suc, true, false, nat_lt, List, [], ◌∷◌, length, drop, Some, slice_get, refl, ap, ◌∙◌, arith, if◌then◌else◌}
 use Rattle.std.proofs.lemmas.Bool.Decides.{nat_tests}
-use Rattle.stream_rules.specs.declared.stream_spec.Stream.{Stream}
+use Rattle.rtp_stream.specs.declared.stream_spec.Stream.{Stream}
 use Rattle.capture_replay.specs.Plan.{path_at}
 
 drop_here : (streams : List Stream) (n : ℕ) (stream : Stream) → slice_get streams n ≡ Some stream → drop n streams ≡ stream ∷ drop (suc n) streams

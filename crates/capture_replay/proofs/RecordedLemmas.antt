@@ -8,7 +8,7 @@ use Rattle.capture_read.specs.Packet.{PacketView}
 use Rattle.capture_import.specs.declared.clock.CaptureClock.{CaptureClock}
 use Rattle.capture_import.specs.Clock.{clock_begun, clock_with, instants_in}
 use Rattle.capture_import.specs.Trace.{octets_of}
-use Rattle.stream_rules.specs.declared.stream_spec.Stream.{Stream}
+use Rattle.rtp_stream.specs.declared.stream_spec.Stream.{Stream}
 use Rattle.lane_align.specs.Lane.{natural}
 use Rattle.studio_spec.specs.Studio.{Studio}
 use Rattle.studio_session.specs.Event.{TraceEvent, Arrival, Reading, Closing}

@@ -26,5 +26,5 @@ pub use Rattle.studio_engine.specs.Engine
 pub use Rattle.studio_engine.specs.Session
 pub use Rattle.studio_run.specs.Buffer
 pub use Rattle.studio_run.specs.Listing
-pub use Rattle.stream_rules.specs.StreamSpecFacts
+pub use Rattle.rtp_stream.specs.StreamSpecFacts
 pub use Rattle.lane_align.specs.Lane

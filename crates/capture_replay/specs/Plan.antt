@@ -5,7 +5,7 @@ use Rattle.capture_import.specs.declared.clock.CaptureClock.{CaptureClock}
 use Rattle.capture_import.specs.declared.route.Route.{Route}
 use Rattle.capture_import.specs.Clock.{clock_begun, clock_with}
 use Rattle.capture_import.specs.Trace.{route_of}
-use Rattle.stream_rules.specs.declared.stream_spec.Stream.{Stream}
+use Rattle.rtp_stream.specs.declared.stream_spec.Stream.{Stream}
 use Rattle.lane_align.specs.Lane.{natural}
 use Rattle.studio_spec.specs.Studio.{Studio}
 use Rattle.capture_replay.specs.declared.plan.Plan as declared

@@ -1,9 +1,9 @@
 //! Studios of streams of one channel, which are added.
 use gain_mix::{Matrix, Schedule};
 use mix_packets::OutSpec;
+use rtp_stream::{SpecFault, StreamClock, StreamSpec};
 use rtp_wire::Enc;
 use std::alloc::Global;
-use stream_rules::{SpecFault, StreamClock, StreamSpec};
 use studio_spec::{StudioSpec, channel_total};
 
 /// A stream of one channel of L24, by the media clock, over a window of eight numbers. `frames` and `latency` are

@@ -10,13 +10,13 @@ use Rattle.rtp_wire.specs.declared.encoding.Enc.{Enc}
 use Rattle.rtp_wire.specs.declared.encoding.Enc.TheVariants.{L16, L24}
 use Rattle.rtp_wire.specs.Sample.{octets_per_sample, sample_at, sample_count}
 use Rattle.std.specs.Option.{option_or}
-use Rattle.stream_rules.specs.MarkFacts.{MarkView, HasLength, payload_length}
-use Rattle.stream_rules.specs.MarkList.{can_follow, is_same_format, is_mark_list_after, is_end, has_end}
-use Rattle.stream_rules.specs.declared.mark.Format.{Format}
-use Rattle.stream_rules.specs.declared.mark.Body.{Body}
-use Rattle.stream_rules.specs.declared.mark.Body.TheVariants.{Got, Lost}
-use Rattle.stream_rules.specs.declared.mark.MarkKind.{MarkKind}
-use Rattle.stream_rules.specs.declared.mark.MarkKind.TheVariants.{Slot, Quiet, End}
+use Rattle.rtp_stream.specs.MarkFacts.{MarkView, HasLength, payload_length}
+use Rattle.rtp_stream.specs.MarkList.{can_follow, is_same_format, is_mark_list_after, is_end, has_end}
+use Rattle.rtp_stream.specs.declared.mark.Format.{Format}
+use Rattle.rtp_stream.specs.declared.mark.Body.{Body}
+use Rattle.rtp_stream.specs.declared.mark.Body.TheVariants.{Got, Lost}
+use Rattle.rtp_stream.specs.declared.mark.MarkKind.{MarkKind}
+use Rattle.rtp_stream.specs.declared.mark.MarkKind.TheVariants.{Slot, Quiet, End}
 use Rattle.lane_align.specs.declared.last_slot.LastSlot.{LastSlot}
 use Rattle.lane_align.specs.Cover.{slot_of, quiet_of, last_slot, last_quiet}
 use Rattle.lane_align.specs.Value.{is_within, sample_of, sample_in, sample_among}

@@ -6,11 +6,11 @@ use Rattle.std.proofs.lemmas.List.Elements.{All-drop}
 use Rattle.rtp_wire.specs.Sample.{Is24Bits}
 use Rattle.std.proofs.Math.Nat.{mul-sub, mul_comm}
 use Rattle.std.proofs.lemmas.List.{get_or-drop}
-use Rattle.stream_rules.specs.declared.stream_spec.Stream.{Stream}
-use Rattle.stream_rules.specs.StreamSpecFacts.{format_of}
-use Rattle.stream_rules.specs.MarkFacts.{MarkView}
-use Rattle.stream_rules.specs.MarkList.{can_follow, is_same_format, is_mark_list, has_end}
-use Rattle.stream_rules.specs.declared.mark.Format.{Format}
+use Rattle.rtp_stream.specs.declared.stream_spec.Stream.{Stream}
+use Rattle.rtp_stream.specs.StreamSpecFacts.{format_of}
+use Rattle.rtp_stream.specs.MarkFacts.{MarkView}
+use Rattle.rtp_stream.specs.MarkList.{can_follow, is_same_format, is_mark_list, has_end}
+use Rattle.rtp_stream.specs.declared.mark.Format.{Format}
 use Rattle.lane_align.specs.declared.last_slot.LastSlot.{LastSlot}
 use Rattle.lane_align.specs.Cover.{last_slot}
 use Rattle.lane_align.specs.HeldValues.{Held, first_values}

@@ -4,8 +4,8 @@ use Rattle.std.proofs.lemmas.Bool.{cases_lt}
 use Rattle.std.proofs.lemmas.List.{length-replicate, get_or-replicate, get_or-take, get_or_append_left, get_or-append_right, get_or_past}
 use Rattle.std.proofs.lemmas.List.FromFn.{fill_by_all}
 use Rattle.std.specs.List.{range_with_len, flat_map}
-use Rattle.stream_rules.specs.MarkFacts.{MarkView}
-use Rattle.stream_rules.specs.declared.mark.Format.{Format}
+use Rattle.rtp_stream.specs.MarkFacts.{MarkView}
+use Rattle.rtp_stream.specs.declared.mark.Format.{Format}
 use Rattle.lane_align.specs.HeldValues.{first_values}
 use Rattle.lane_align.specs.Value.{value_at, frames_from}
 

@@ -1,8 +1,8 @@
 -- The marks that are accepted, of those that come.
 use Rattle.std.specs.Prelude.{List, [], ◌∷◌, ◌++◌, if◌then◌else◌}
-use Rattle.stream_rules.specs.MarkFacts.{MarkView}
-use Rattle.stream_rules.specs.MarkList.{is_mark_list}
-use Rattle.stream_rules.specs.declared.mark.Format.{Format}
+use Rattle.rtp_stream.specs.MarkFacts.{MarkView}
+use Rattle.rtp_stream.specs.MarkList.{is_mark_list}
+use Rattle.rtp_stream.specs.declared.mark.Format.{Format}
 
 -- what was accepted, and this mark if with it that stays a mark list
 abbrev pub accepted_with : Format → List MarkView → MarkView → List MarkView

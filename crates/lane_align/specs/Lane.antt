@@ -1,14 +1,14 @@
 -- What a lane is, once it was fed marks and has come to a position.
 use Rattle.std.specs.Prelude.{◌≡◌, ℕ, ◌+◌, ◌*◌, ◌^◌, ◌<◌, ◌≤◌, Bool, true, false, not, ◌&&◌, nat_le, ◌-◌, List, ◌++◌, length, drop, slice_index_or, ℤ, pos, negsuc, ◌+ℤ◌, ◌-ℤ◌, ◌≤ℤ◌, ◌<ℤ◌, Option, Some, None, unwrap_or}
-use Rattle.stream_rules.specs.declared.stream_spec.Stream.{Stream}
-use Rattle.stream_rules.specs.StreamSpecFacts.{format_of}
-use Rattle.stream_rules.specs.MarkFacts.{MarkView, IsTime}
-use Rattle.stream_rules.specs.MarkList.{can_follow, is_same_format, is_mark_list, has_end}
-use Rattle.stream_rules.specs.declared.mark.Format.{Format}
-use Rattle.stream_rules.specs.declared.mark.Body.{Body}
-use Rattle.stream_rules.specs.declared.mark.Body.TheVariants.{Got, Lost}
-use Rattle.stream_rules.specs.declared.mark.MarkKind.{MarkKind}
-use Rattle.stream_rules.specs.declared.mark.MarkKind.TheVariants.{Slot, Quiet, End}
+use Rattle.rtp_stream.specs.declared.stream_spec.Stream.{Stream}
+use Rattle.rtp_stream.specs.StreamSpecFacts.{format_of}
+use Rattle.rtp_stream.specs.MarkFacts.{MarkView, IsTime}
+use Rattle.rtp_stream.specs.MarkList.{can_follow, is_same_format, is_mark_list, has_end}
+use Rattle.rtp_stream.specs.declared.mark.Format.{Format}
+use Rattle.rtp_stream.specs.declared.mark.Body.{Body}
+use Rattle.rtp_stream.specs.declared.mark.Body.TheVariants.{Got, Lost}
+use Rattle.rtp_stream.specs.declared.mark.MarkKind.{MarkKind}
+use Rattle.rtp_stream.specs.declared.mark.MarkKind.TheVariants.{Slot, Quiet, End}
 use Rattle.lane_align.specs.declared.cover.Cover.{Cover}
 use Rattle.lane_align.specs.declared.last_slot.LastSlot.{LastSlot}
 use Rattle.lane_align.specs.Value.{value_at}

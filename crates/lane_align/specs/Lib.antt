@@ -4,6 +4,6 @@ pub mod AcceptedMarks
 pub mod HeldValues
 pub mod Lane
 pub use Rattle.rtp_wire.specs.Sample
-pub use Rattle.stream_rules.specs.StreamSpecFacts
-pub use Rattle.stream_rules.specs.MarkFacts
-pub use Rattle.stream_rules.specs.MarkList
+pub use Rattle.rtp_stream.specs.StreamSpecFacts
+pub use Rattle.rtp_stream.specs.MarkFacts
+pub use Rattle.rtp_stream.specs.MarkList

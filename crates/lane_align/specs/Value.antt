@@ -3,12 +3,12 @@ use Rattle.std.specs.Prelude.{ℕ, ◌+◌, ◌*◌, Bool, ◌&&◌, List, [], �
 use Rattle.std.specs.Option.{option_or}
 use Rattle.std.specs.List.{range_with_len, flat_map}
 use Rattle.rtp_wire.specs.Sample.{sample_at}
-use Rattle.stream_rules.specs.MarkFacts.{MarkView}
-use Rattle.stream_rules.specs.declared.mark.Format.{Format}
-use Rattle.stream_rules.specs.declared.mark.Body.{Body}
-use Rattle.stream_rules.specs.declared.mark.Body.TheVariants.{Got, Lost}
-use Rattle.stream_rules.specs.declared.mark.MarkKind.{MarkKind}
-use Rattle.stream_rules.specs.declared.mark.MarkKind.TheVariants.{Slot, Quiet, End}
+use Rattle.rtp_stream.specs.MarkFacts.{MarkView}
+use Rattle.rtp_stream.specs.declared.mark.Format.{Format}
+use Rattle.rtp_stream.specs.declared.mark.Body.{Body}
+use Rattle.rtp_stream.specs.declared.mark.Body.TheVariants.{Got, Lost}
+use Rattle.rtp_stream.specs.declared.mark.MarkKind.{MarkKind}
+use Rattle.rtp_stream.specs.declared.mark.MarkKind.TheVariants.{Slot, Quiet, End}
 
 -- the time is that of one of the frames from `media` on
 abbrev pub is_within : ℕ → ℤ → ℤ → Bool

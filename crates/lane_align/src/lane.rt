@@ -1,13 +1,13 @@
 //! One stream's marks as frames at media times.
 ghost use Rattle.std.specs.Prelude.{◌≡◌, ◌+◌, ◌*◌, ◌^◌, ◌<◌, ◌≤◌, [], ◌∷◌, ◌++◌, List, ℤ, ℕ, pos, ◌+ℤ◌, ◌≤ℤ◌, ◌<ℤ◌, true, false, not, ◌||◌, Some, length, option_copied, IfOk};
-ghost use Rattle.stream_rules.specs.declared.stream_spec.Stream.{Stream};
-ghost use Rattle.stream_rules.specs.StreamSpecFacts.{format_of};
+ghost use Rattle.rtp_stream.specs.declared.stream_spec.Stream.{Stream};
+ghost use Rattle.rtp_stream.specs.StreamSpecFacts.{format_of};
 ghost use Rattle.rtp_wire.specs.PacketTime.{is_packet_time};
-ghost use Rattle.stream_rules.specs.MarkFacts.{MarkView, HasLength, payload_length};
-ghost use Rattle.stream_rules.specs.MarkList as list;
-ghost use Rattle.stream_rules.specs.MarkRef.{body_from, kind_of};
-ghost use Rattle.stream_rules.specs.declared.mark.Body.{Body};
-ghost use Rattle.stream_rules.specs.declared.mark.MarkKind.TheVariants.{Slot};
+ghost use Rattle.rtp_stream.specs.MarkFacts.{MarkView, HasLength, payload_length};
+ghost use Rattle.rtp_stream.specs.MarkList as list;
+ghost use Rattle.rtp_stream.specs.MarkRef.{body_from, kind_of};
+ghost use Rattle.rtp_stream.specs.declared.mark.Body.{Body};
+ghost use Rattle.rtp_stream.specs.declared.mark.MarkKind.TheVariants.{Slot};
 ghost use Rattle.lane_align.specs.Value.{frames_from};
 ghost use Rattle.lane_align.specs.Cover.{cover_of, end_of, covers, time_reached, IsSmallCover};
 ghost use Rattle.std.specs.List.{All};
@@ -21,10 +21,10 @@ use crate::last_slot::{
     LastSlot, frames_before, frames_between, frames_left, may_follow_slot, time_reached_by,
 };
 use crate::slot_samples::{EMPTY_ROOM, SlotRoom, add_slot, append_slot};
+use rtp_stream::{Format, Mark, MarkKindRef, MarkRef, StreamSpec};
 use rtp_wire::Enc;
 use std::alloc::{AllocError, Global};
 use std::marker::Model;
-use stream_rules::{Format, Mark, MarkKindRef, MarkRef, StreamSpec};
 
 /// The marks of one stream, taken one by one, and its values, given block by block.
 ///
@@ -70,7 +70,7 @@ fn is_same_format(a: Format, b: Format) -> bool
 
 impl Lane {
     ghost use Rattle.lane_align.specs.Lane.{LaneState, HasFeed, HasSameFacts, cover_at, end_at, is_wanting, is_next, has_room_for, last_kind};
-    ghost use Rattle.stream_rules.specs.MarkFacts.{IsMark};
+    ghost use Rattle.rtp_stream.specs.MarkFacts.{IsMark};
 
     /// A lane that begins at media time `start` and gives blocks of `block` frames.
     pub fn new(alloc: Global, spec: StreamSpec, start: i64, block: u16) -> Result<Lane, AllocError>

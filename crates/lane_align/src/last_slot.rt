@@ -1,8 +1,8 @@
 //! What a lane keeps of the last slot, and how times lie to it.
 ghost use Rattle.std.specs.Prelude.{◌≡◌, ◌≤◌, ℤ, Some, min};
-ghost use Rattle.stream_rules.specs.MarkList as list;
-ghost use Rattle.stream_rules.specs.declared.mark.Body.{Body};
-ghost use Rattle.stream_rules.specs.declared.mark.MarkKind.TheVariants.{Slot};
+ghost use Rattle.rtp_stream.specs.MarkList as list;
+ghost use Rattle.rtp_stream.specs.declared.mark.Body.{Body};
+ghost use Rattle.rtp_stream.specs.declared.mark.MarkKind.TheVariants.{Slot};
 ghost use Rattle.lane_align.specs.Cover.{time_reached};
 ghost use Rattle.lane_align.specs.Lane as state;
 ghost use Rattle.lane_align.specs.Lane.{IsSlot};

@@ -1,8 +1,8 @@
 //! Laws of values, covers and accepted marks.
 ghost use Rattle.std.specs.Prelude.{◌≡◌, ℕ, ℤ, pos, ◌+ℤ◌, List, [], ◌∷◌, ◌++◌, true};
-ghost use Rattle.stream_rules.specs.MarkFacts.{MarkView};
-ghost use Rattle.stream_rules.specs.MarkList.{is_mark_list, has_end};
-ghost use Rattle.stream_rules.specs.declared.mark.Format.{Format};
+ghost use Rattle.rtp_stream.specs.MarkFacts.{MarkView};
+ghost use Rattle.rtp_stream.specs.MarkList.{is_mark_list, has_end};
+ghost use Rattle.rtp_stream.specs.declared.mark.Format.{Format};
 ghost use Rattle.lane_align.specs.Value.{value_at};
 ghost use Rattle.lane_align.specs.Cover.{cover_of, covers};
 ghost use Rattle.lane_align.specs.AcceptedMarks.{accepted_marks, accepted_with};

@@ -2,14 +2,14 @@
 ghost use Rattle.std.specs.Prelude.{◌≡◌, ◌+◌, ◌-◌, ◌*◌, ◌^◌, ◌<◌, ◌≤◌, ◌++◌, length, take, drop, option_copied};
 ghost use Rattle.std.specs.List.{All};
 ghost use Rattle.rtp_wire.specs.Sample.{Is24Bits};
-ghost use Rattle.stream_rules.specs.MarkFacts.{HasLength, payload_length};
-ghost use Rattle.stream_rules.specs.MarkRef.{body_from};
+ghost use Rattle.rtp_stream.specs.MarkFacts.{HasLength, payload_length};
+ghost use Rattle.rtp_stream.specs.MarkRef.{body_from};
 ghost use Rattle.lane_align.specs.HeldValues.{silence};
 ghost use Rattle.lane_align.specs.Lane.{body_samples};
 
 use crate::frames::FrameQueue;
+use rtp_stream::Format;
 use rtp_wire::read_samples;
-use stream_rules::Format;
 
 /// The most samples that a payload holds: 1,440 octets of 16-bit samples.
 const MOST_SAMPLES: usize = 720;

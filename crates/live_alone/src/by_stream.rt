@@ -3,9 +3,9 @@ ghost use Rattle.std.specs.Prelude.{◌≡◌, IfOk, IfErr, length, map};
 ghost use Rattle.live_run.specs.Run.{IsEarly};
 
 use live_run::LiveFault;
+use rtp_stream::StreamSpec;
 use std::alloc::Global;
 use std::vec::IntoIter;
-use stream_rules::StreamSpec;
 
 /// The feeds of all paths, stream by stream, of which each has as many as it has paths.
 pub(crate) fn by_stream<F: Drop>(

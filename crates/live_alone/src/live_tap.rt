@@ -4,11 +4,11 @@ ghost use Rattle.studio_alone.specs.Taps.{Came, Closed, Hears};
 
 use live_sockets::UdpFeed;
 use live_view::{EngineView, Showing};
+use rtp_stream::Path;
 use run_record::{RecordTap, Way};
 use std::alloc::{AllocError, Global};
 use std::io::Write;
 use std::time::Clock;
-use stream_rules::Path;
 use studio_alone::Tap;
 use studio_engine::Engine;
 use studio_session::Receipt;

@@ -2,10 +2,10 @@
 use Rattle.std.proofs.Common.{◌≡◌, inl, inr, ◌<◌, ◌+◌, min, ℕ, suc, List, ◌++◌, length, take, drop, get_or, sym, ap, ◌∙◌, arith, drop-cons}
 use Rattle.std.proofs.lemmas.Bool.{cases_lt}
 use Rattle.std.proofs.lemmas.List.{drop_all, take_all}
-use Rattle.stream_rules.specs.Counts.{tally_of}
-use Rattle.stream_rules.specs.PathCounts.{path_tally_of}
-use Rattle.stream_rules.specs.declared.path_counts.PathCounts.{PathCounts}
-use Rattle.stream_rules.specs.declared.stream_counts.StreamCounts.{StreamCounts}
+use Rattle.rtp_stream.specs.Counts.{tally_of}
+use Rattle.rtp_stream.specs.PathCounts.{path_tally_of}
+use Rattle.rtp_stream.specs.declared.path_counts.PathCounts.{PathCounts}
+use Rattle.rtp_stream.specs.declared.stream_counts.StreamCounts.{StreamCounts}
 use Rattle.studio_run.specs.LiveReport.{feed_line}
 use Rattle.studio_run.specs.Report.{merge_line, path_line}
 use Rattle.run_devices.specs.declared.report.WorkReport.{WorkReport}

@@ -1,7 +1,7 @@
 -- The addresses at which a live run receives, and from which.
 use Rattle.std.specs.Prelude.{ℕ, zero, suc, List, [], ◌∷◌, ◌++◌, unwrap_or}
 use Rattle.std.specs.declared.net.ipv4_addr.Ipv4Addr.{Ipv4Addr}
-use Rattle.stream_rules.specs.declared.stream_spec.Stream.{Stream}
+use Rattle.rtp_stream.specs.declared.stream_spec.Stream.{Stream}
 use Rattle.studio_spec.specs.Networks.{path_address}
 use Rattle.studio_spec.specs.Studio.{Studio}
 use Rattle.studio_spec.specs.declared.networks.Networks.{Networks}

@@ -1,6 +1,6 @@
 -- The ports that a live run needs.
 use Rattle.std.specs.Prelude.{◌≡◌, ℕ, zero, suc, List, [], ◌∷◌, ◌++◌, map, Option, Some, None}
-use Rattle.stream_rules.specs.declared.stream_spec.Stream.{Stream}
+use Rattle.rtp_stream.specs.declared.stream_spec.Stream.{Stream}
 use Rattle.studio_spec.specs.Ports.{port_at}
 use Rattle.studio_spec.specs.Rows.{first_in}
 use Rattle.studio_spec.specs.Studio.{Studio}

@@ -1,9 +1,9 @@
 -- The report of a live run.
 use Rattle.std.specs.Prelude.{ℕ, suc, List, [], ◌∷◌, ◌++◌, length, take, drop}
-use Rattle.stream_rules.specs.Counts.{tally_of}
-use Rattle.stream_rules.specs.PathCounts.{path_tally_of}
-use Rattle.stream_rules.specs.declared.path_counts.PathCounts.{PathCounts}
-use Rattle.stream_rules.specs.declared.stream_counts.StreamCounts.{StreamCounts}
+use Rattle.rtp_stream.specs.Counts.{tally_of}
+use Rattle.rtp_stream.specs.PathCounts.{path_tally_of}
+use Rattle.rtp_stream.specs.declared.path_counts.PathCounts.{PathCounts}
+use Rattle.rtp_stream.specs.declared.stream_counts.StreamCounts.{StreamCounts}
 use Rattle.studio_run.specs.Report.{path_line, merge_line}
 use Rattle.studio_run.specs.LiveReport.{feed_line, sink_line}
 use Rattle.run_devices.specs.declared.report.WorkReport.{WorkReport}

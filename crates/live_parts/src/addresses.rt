@@ -2,9 +2,9 @@
 ghost use Rattle.std.specs.Prelude.{◌≡◌, ◌++◌, ◌<◌, OnOk, IfOk};
 ghost use Rattle.live_parts.specs.Addresses.{addresses_of, row_addresses};
 
+use rtp_stream::Path;
 use std::alloc::{AllocError, Global};
 use std::net::Ipv4Addr;
-use stream_rules::Path;
 use studio_spec::{Networks, StudioSpec};
 
 /// Where a path's datagrams come in, and where from.

@@ -1,13 +1,13 @@
 //! Sockets that whoever started the program opened for it, by the convention of sd_listen_fds(3).
 
 use os::FromRawFd;
+use rtp_stream::StreamSpec;
 use std::alloc::{AllocError, AllocFailed, Global};
 use std::env;
 use std::env::VarError;
 use std::net::{SocketAddr, UdpSocket};
 use std::os::fd::IntoRawFd;
 use std::rt::Env;
-use stream_rules::StreamSpec;
 use thiserror::Error;
 
 /// The first descriptor of those that are handed over.

@@ -1,10 +1,10 @@
 -- What is shown of an engine's streams.
 use Rattle.std.specs.Prelude.{◌≡◌, ◌<◌, ℕ, List, Option, Some, slice_get, slice_index, IsSomeAnd}
-use Rattle.stream_rules.specs.Counts.{tally_of}
-use Rattle.stream_rules.specs.PathCounts.{path_tally_of}
-use Rattle.stream_rules.specs.declared.counts.Counts.{Counts}
-use Rattle.stream_rules.specs.declared.path_counts.PathCounts.{PathCounts}
-use Rattle.stream_rules.specs.declared.stream_spec.Stream.{Stream}
+use Rattle.rtp_stream.specs.Counts.{tally_of}
+use Rattle.rtp_stream.specs.PathCounts.{path_tally_of}
+use Rattle.rtp_stream.specs.declared.counts.Counts.{Counts}
+use Rattle.rtp_stream.specs.declared.path_counts.PathCounts.{PathCounts}
+use Rattle.rtp_stream.specs.declared.stream_spec.Stream.{Stream}
 use Rattle.studio_spec.specs.Studio.{Studio}
 use Rattle.studio_session.specs.Counts.{path_counts_of}
 use Rattle.studio_session.specs.Event.{TraceEvent}

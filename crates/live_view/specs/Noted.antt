@@ -1,8 +1,8 @@
 -- What a view of an engine notes.
 use Rattle.std.specs.Prelude.{◌≡◌, ◌≢◌, ℕ, ◌∷◌, [], List, length, slice_get, Some, ℤ, Option, MatchBool, nat_lt}
 use Rattle.rtp_wire.specs.Datagram.{head_at}
-use Rattle.stream_rules.specs.declared.fate.Fate.{Fate}
-use Rattle.stream_rules.specs.declared.stream_spec.Stream.{Stream}
+use Rattle.rtp_stream.specs.declared.fate.Fate.{Fate}
+use Rattle.rtp_stream.specs.declared.stream_spec.Stream.{Stream}
 use Rattle.stream_tally.specs.Offer.{Offer}
 use Rattle.stream_tally.specs.Tally.{HasTally}
 use Rattle.stream_watch.specs.declared.copy_watch.CopyWatch.{CopyWatch}

@@ -1,7 +1,7 @@
 -- What is seen of a stream beside its counts.
 use Rattle.std.specs.Prelude.{◌≡◌, ℕ, ℤ, List, Option, None, slice_index_or}
 use Rattle.arrayvec.specs.ArrayString.{ArrayString}
-use Rattle.stream_rules.specs.declared.stream_spec.Stream.{Stream}
+use Rattle.rtp_stream.specs.declared.stream_spec.Stream.{Stream}
 use Rattle.studio_page.specs.Blank.{IsBlank}
 use Rattle.studio_page.specs.declared.snapshot.StreamState.{StreamState}
 use Rattle.live_view.specs.declared.seen.Seen.{Seen}

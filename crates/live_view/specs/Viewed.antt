@@ -1,6 +1,6 @@
 -- What a view shows of an engine.
 use Rattle.std.specs.Prelude.{◌≡◌, ◌≤◌, ◌<◌, ℕ, ℤ, Bool, List, length, replicate, slice_get, IfSome}
-use Rattle.stream_rules.specs.declared.stream_spec.Stream.{Stream}
+use Rattle.rtp_stream.specs.declared.stream_spec.Stream.{Stream}
 use Rattle.stream_tally.specs.Offer.{Offer}
 use Rattle.stream_tally.specs.Tally.{HasTally}
 use Rattle.stream_watch.specs.Numbers.{AreNumbers}

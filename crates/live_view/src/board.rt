@@ -8,10 +8,10 @@ ghost use Rattle.live_view.specs.Seen.{IsBlankOf, IsFirstSeenOf};
 use crate::names::all_seen;
 use crate::seen::Seen;
 use crate::stats::Stats;
+use rtp_stream::StreamSpec;
 use rtrb::Producer;
 use std::alloc::{AllocError, Global};
 use std::io::Write;
-use stream_rules::StreamSpec;
 use studio_page::{Name, OutputState, Snapshot, StreamState};
 
 /// The most output channels.

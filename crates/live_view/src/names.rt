@@ -4,8 +4,8 @@ ghost use Rattle.live_view.specs.Each.{AreEach};
 ghost use Rattle.live_view.specs.Seen.{IsFirstSeenOf};
 
 use crate::seen::Seen;
+use rtp_stream::StreamSpec;
 use std::alloc::{AllocError, Global};
-use stream_rules::StreamSpec;
 use studio_page::Name;
 
 /// What is seen of streams with these names, before anything came.

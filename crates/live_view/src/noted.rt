@@ -6,8 +6,8 @@ ghost use Rattle.live_view.specs.Noted.{AddsOfferAt, IsUnheard};
 
 use byteorder::{BigEndian, ByteOrder};
 use path_merge::{Fate, Path};
+use rtp_stream::StreamSpec;
 use std::alloc::{AllocError, Global};
-use stream_rules::StreamSpec;
 use stream_watch::CopyWatch;
 
 /// How many octets a packet's header has.

@@ -1,7 +1,7 @@
 //! What a snapshot says of a stream beside its counts.
 ghost use Rattle.std.specs.Prelude.{◌≡◌, ◌≤◌};
 
-use stream_rules::StreamSpec;
+use rtp_stream::StreamSpec;
 use studio_page::{Name, PathState, Pulse, StreamState};
 
 /// A stream's name, what is fixed of it, and when its packets came.

@@ -5,7 +5,7 @@ ghost use Rattle.live_view.specs.Each.{AreEach};
 ghost use Rattle.live_view.specs.Outputs.{HasCount, HasNumbers};
 
 use crate::copies::see_numbers;
-use stream_rules::{Counts, PathCounts};
+use rtp_stream::{Counts, PathCounts};
 use stream_watch::{MixNumbers, StreamNumbers};
 use studio_page::{OutputState, PathState, StreamState};
 

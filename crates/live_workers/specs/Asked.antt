@@ -1,6 +1,6 @@
 -- What workers' watches told last.
 use Rattle.std.specs.Prelude.{◌≡◌, ℕ, List, length, replicate, slice_get, Option, Some, None, option_map}
-use Rattle.stream_rules.specs.declared.path_counts.PathCounts.{PathCounts}
+use Rattle.rtp_stream.specs.declared.path_counts.PathCounts.{PathCounts}
 use Rattle.stream_watch.specs.Newest.{IsNewest}
 use Rattle.stream_watch.specs.declared.mix_watch.MixWatch.{MixWatch}
 use Rattle.stream_watch.specs.declared.numbers.MixNumbers.{MixNumbers}

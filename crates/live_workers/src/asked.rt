@@ -2,7 +2,7 @@
 ghost use Rattle.std.specs.Prelude.{◌≡◌, None, IsNone, IsSomeAnd, MatchOption};
 ghost use Rattle.live_workers.specs.Asked.{AreAsked, TellsMix, TellsPath, TellsStream, mix_last_of};
 
-use stream_rules::PathCounts;
+use rtp_stream::PathCounts;
 use stream_watch::{MixNumbers, MixWatch, PathWatch, StreamNumbers, StreamWatch};
 
 /// Asks the watches of all paths.

@@ -4,7 +4,7 @@ ghost use Rattle.live_view.specs.Each.{AreEach};
 ghost use Rattle.live_workers.specs.Told.{HasCounts, SeesAt, SeesStream, SeesTold};
 
 use live_view::{see_datagrams, see_told};
-use stream_rules::PathCounts;
+use rtp_stream::PathCounts;
 use stream_watch::StreamNumbers;
 use studio_page::{PathState, StreamState};
 

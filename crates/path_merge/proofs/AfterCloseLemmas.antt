@@ -3,15 +3,15 @@ use Rattle.std.proofs.Common.{◌≡◌, Bool, true, false, List, [], ◌∷◌,
 use Rattle.path_merge.proofs.CloseLemmas.{marks_of-close}
 use Rattle.path_merge.proofs.HistoryLemmas.{by_last_event, copies_of_all-tick, is_closed-append, marks_in, marks_in-push, marks_of-in}
 use Rattle.path_merge.proofs.LawLemmas.{marks_of-unheard}
-use Rattle.stream_rules.proofs.ProbationLemmas.{last_of-push}
-use Rattle.stream_rules.specs.Copies.{copies_of_all, copies_with}
-use Rattle.stream_rules.specs.Epochs.{anchor_of, last_of}
-use Rattle.stream_rules.specs.History.{is_closed, time_of}
-use Rattle.stream_rules.specs.MarkFacts.{MarkView}
-use Rattle.stream_rules.specs.Marks.{end_mark, marks_of, slots_at_close}
-use Rattle.stream_rules.specs.declared.stream_spec.Stream.{Stream}
-use Rattle.stream_rules.specs.declared.event.Event.{Event}
-use Rattle.stream_rules.specs.declared.event.Event.TheVariants.{Arrive, Close, Tick}
+use Rattle.rtp_stream.proofs.ProbationLemmas.{last_of-push}
+use Rattle.rtp_stream.specs.Copies.{copies_of_all, copies_with}
+use Rattle.rtp_stream.specs.Epochs.{anchor_of, last_of}
+use Rattle.rtp_stream.specs.History.{is_closed, time_of}
+use Rattle.rtp_stream.specs.MarkFacts.{MarkView}
+use Rattle.rtp_stream.specs.Marks.{end_mark, marks_of, slots_at_close}
+use Rattle.rtp_stream.specs.declared.stream_spec.Stream.{Stream}
+use Rattle.rtp_stream.specs.declared.event.Event.{Event}
+use Rattle.rtp_stream.specs.declared.event.Event.TheVariants.{Arrive, Close, Tick}
 
 -- a history that was closed stays so
 pub closed_stays : (events more : List Event) → is_closed events ≡ true → is_closed (events ++ more) ≡ true

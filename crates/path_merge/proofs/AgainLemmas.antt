@@ -8,21 +8,21 @@ use Rattle.path_merge.proofs.HistoryLemmas.{anchor_of-tick, copies_of-tick, even
 use Rattle.path_merge.proofs.JoinLemmas.{has_slot-append}
 use Rattle.path_merge.proofs.MarkGrowthLemmas.{by_open_event}
 use Rattle.path_merge.proofs.StepLemmas.{marks_of-tick}
-use Rattle.stream_rules.specs.Anchor.{next_number}
-use Rattle.stream_rules.specs.Copies.{copies_of, copies_of_all}
-use Rattle.stream_rules.specs.Epochs.{anchor_of}
-use Rattle.stream_rules.specs.Grid.{first_with}
-use Rattle.stream_rules.specs.History.{is_closed, is_well_timed, time_of}
-use Rattle.stream_rules.specs.Laws.{IsOpen}
-use Rattle.stream_rules.specs.MarkFacts.{MarkView}
-use Rattle.stream_rules.specs.Marks.{body_of, has_slot, is_past_quiet, is_past_quiets, is_quiet_new, marks_of, quiet_mark, slot_mark, slots_between, slots_from, slots_or_quiet}
+use Rattle.rtp_stream.specs.Anchor.{next_number}
+use Rattle.rtp_stream.specs.Copies.{copies_of, copies_of_all}
+use Rattle.rtp_stream.specs.Epochs.{anchor_of}
+use Rattle.rtp_stream.specs.Grid.{first_with}
+use Rattle.rtp_stream.specs.History.{is_closed, is_well_timed, time_of}
+use Rattle.rtp_stream.specs.Laws.{IsOpen}
+use Rattle.rtp_stream.specs.MarkFacts.{MarkView}
+use Rattle.rtp_stream.specs.Marks.{body_of, has_slot, is_past_quiet, is_past_quiets, is_quiet_new, marks_of, quiet_mark, slot_mark, slots_between, slots_from, slots_or_quiet}
 use Rattle.path_merge.specs.Steps.{IsAlike}
-use Rattle.stream_rules.specs.declared.stream_spec.Stream.{Stream}
-use Rattle.stream_rules.specs.declared.anchor.Anchor.{Anchor}
-use Rattle.stream_rules.specs.declared.event.Event.{Event}
-use Rattle.stream_rules.specs.declared.event.Event.TheVariants.{Arrive, Tick}
-use Rattle.stream_rules.specs.declared.mark.MarkKind.TheVariants.{Quiet}
-use Rattle.stream_rules.specs.declared.packet.Packet.{Packet}
+use Rattle.rtp_stream.specs.declared.stream_spec.Stream.{Stream}
+use Rattle.rtp_stream.specs.declared.anchor.Anchor.{Anchor}
+use Rattle.rtp_stream.specs.declared.event.Event.{Event}
+use Rattle.rtp_stream.specs.declared.event.Event.TheVariants.{Arrive, Tick}
+use Rattle.rtp_stream.specs.declared.mark.MarkKind.TheVariants.{Quiet}
+use Rattle.rtp_stream.specs.declared.packet.Packet.{Packet}
 
 past_no_self : (until : ℤ) (mark : MarkView) (given : List MarkView) → mark.kind ≡ Quiet until → is_past_quiets until (given ++ mark ∷ []) ≡ false
 past_no_self until mark [] e =

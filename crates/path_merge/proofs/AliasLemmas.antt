@@ -4,11 +4,11 @@ use Rattle.std.specs.Prelude.{nat_eq}
 use Rattle.std.specs.Int.{int_rem_euclid}
 use Rattle.std.proofs.lemmas.Bool.Decides.{nat_tests}
 use Rattle.std.proofs.lemmas.Int.{ints}
-use Rattle.stream_rules.proofs.NearestLemmas.{rem_apart, rem_bounds}
-use Rattle.stream_rules.specs.Grid.{is_on_grid}
-use Rattle.stream_rules.specs.Sent.{timestamp_in_step}
-use Rattle.stream_rules.specs.declared.stream_spec.Stream.{Stream}
-use Rattle.stream_rules.specs.declared.anchor.Anchor.{Anchor}
+use Rattle.rtp_stream.proofs.NearestLemmas.{rem_apart, rem_bounds}
+use Rattle.rtp_stream.specs.Grid.{is_on_grid}
+use Rattle.rtp_stream.specs.Sent.{timestamp_in_step}
+use Rattle.rtp_stream.specs.declared.stream_spec.Stream.{Stream}
+use Rattle.rtp_stream.specs.declared.anchor.Anchor.{Anchor}
 use Rattle.rtp_wire.specs.PacketTime.{is_packet_time}
 
 -- what holds of each packet time

@@ -8,22 +8,22 @@ use Rattle.path_merge.proofs.EpochLemmas.{WithinLength, heard_of-push, no_anchor
 use Rattle.path_merge.proofs.FirstLemmas.{is_first}
 use Rattle.path_merge.proofs.HistoryLemmas.{IsNextEpoch, anchors_of-push, by_last_event, or_else}
 use Rattle.path_merge.proofs.MarkGrowthLemmas.{limit_of}
-use Rattle.stream_rules.proofs.ProbationLemmas.{by_last, complete_is, last_of-push, probation_of-push}
+use Rattle.rtp_stream.proofs.ProbationLemmas.{by_last, complete_is, last_of-push, probation_of-push}
 use Rattle.path_merge.proofs.AnewLemmas.{GoesOn, in_reach, itself_eq, own_copy}
-use Rattle.stream_rules.specs.Anchor.{anchor_from, can_anchor, is_source_wanted, media_time_of, next_number, restart_from, restart_media_time}
-use Rattle.stream_rules.specs.EpochLaws.{anchor_with, epochs_in}
-use Rattle.stream_rules.specs.Epochs.{anchor_in, anchors_after, anchors_at, anchors_of, can_restart, copies_since, goes_on, is_all_given, last_of, placed}
-use Rattle.stream_rules.specs.Grid.{copies_under_at, end_of_copies}
-use Rattle.stream_rules.specs.History.{is_counting, time_of}
-use Rattle.stream_rules.specs.Laws.{numbers_from}
-use Rattle.stream_rules.specs.PathProbation.{is_complete, probation_after, probation_of}
-use Rattle.stream_rules.specs.Probation.{completes_probation, heard_since, is_off}
-use Rattle.stream_rules.specs.declared.stream_spec.Stream.{Stream}
-use Rattle.stream_rules.specs.declared.anchor.Anchor.{Anchor}
-use Rattle.stream_rules.specs.declared.event.Event.{Event}
-use Rattle.stream_rules.specs.declared.event.Event.TheVariants.{Arrive, Close, Tick}
-use Rattle.stream_rules.specs.declared.packet.Packet.{Packet}
-use Rattle.stream_rules.specs.declared.probation.Probation.{Probation}
+use Rattle.rtp_stream.specs.Anchor.{anchor_from, can_anchor, is_source_wanted, media_time_of, next_number, restart_from, restart_media_time}
+use Rattle.rtp_stream.specs.EpochLaws.{anchor_with, epochs_in}
+use Rattle.rtp_stream.specs.Epochs.{anchor_in, anchors_after, anchors_at, anchors_of, can_restart, copies_since, goes_on, is_all_given, last_of, placed}
+use Rattle.rtp_stream.specs.Grid.{copies_under_at, end_of_copies}
+use Rattle.rtp_stream.specs.History.{is_counting, time_of}
+use Rattle.rtp_stream.specs.Laws.{numbers_from}
+use Rattle.rtp_stream.specs.PathProbation.{is_complete, probation_after, probation_of}
+use Rattle.rtp_stream.specs.Probation.{completes_probation, heard_since, is_off}
+use Rattle.rtp_stream.specs.declared.stream_spec.Stream.{Stream}
+use Rattle.rtp_stream.specs.declared.anchor.Anchor.{Anchor}
+use Rattle.rtp_stream.specs.declared.event.Event.{Event}
+use Rattle.rtp_stream.specs.declared.event.Event.TheVariants.{Arrive, Close, Tick}
+use Rattle.rtp_stream.specs.declared.packet.Packet.{Packet}
+use Rattle.rtp_stream.specs.declared.probation.Probation.{Probation}
 
 -- all anchors have their places up to this one
 abbrev pub AllWithin : ℕ → List (ℕ × Anchor) → Type 0

@@ -9,24 +9,24 @@ use Rattle.std.proofs.lemmas.Bool.Decides.{nat_tests}
 use Rattle.std.proofs.lemmas.Int.{ints}
 use Rattle.std.proofs.lemmas.Nat.{mul-le}
 use Rattle.path_merge.proofs.HeldCountLemmas.{FateCounts, held_count-none, held_count-put, with_fate-counts}
-use Rattle.stream_rules.proofs.NearestLemmas.{nearest_number-only, rem_same, rem_small}
+use Rattle.rtp_stream.proofs.NearestLemmas.{nearest_number-only, rem_same, rem_small}
 use Rattle.path_merge.proofs.DueLemmas.{before_next_number, media_time_of-from}
 use Rattle.path_merge.proofs.SoundLemmas.{anchored_at, some_window}
-use Rattle.stream_rules.specs.Anchor.{is_restart_in_reach, media_time_of, next_number, restart_from}
-use Rattle.stream_rules.specs.CountsFacts.{Tally, with_fate}
-use Rattle.stream_rules.specs.Grid.{copies_under, expected_timestamp, extended_number, is_on_grid}
+use Rattle.rtp_stream.specs.Anchor.{is_restart_in_reach, media_time_of, next_number, restart_from}
+use Rattle.rtp_stream.specs.CountsFacts.{Tally, with_fate}
+use Rattle.rtp_stream.specs.Grid.{copies_under, expected_timestamp, extended_number, is_on_grid}
 use Rattle.path_merge.specs.MergeState.{IsAnchored, IsSound, MergeState, held_count}
-use Rattle.stream_rules.specs.Nearest.{IsNearest}
+use Rattle.rtp_stream.specs.Nearest.{IsNearest}
 use Rattle.path_merge.specs.Steps.{IsRestartStep}
-use Rattle.stream_rules.specs.PathProbation.{no_probation, probation_at}
-use Rattle.stream_rules.specs.declared.probation.Probation.{Probation}
-use Rattle.stream_rules.specs.StreamSpec.{Fits}
-use Rattle.stream_rules.specs.declared.stream_spec.Stream.{Stream}
+use Rattle.rtp_stream.specs.PathProbation.{no_probation, probation_at}
+use Rattle.rtp_stream.specs.declared.probation.Probation.{Probation}
+use Rattle.rtp_stream.specs.StreamSpec.{Fits}
+use Rattle.rtp_stream.specs.declared.stream_spec.Stream.{Stream}
 use Rattle.reorder_window.specs.Window.{IsEmpty}
-use Rattle.stream_rules.specs.declared.anchor.Anchor.{Anchor}
-use Rattle.stream_rules.specs.declared.fate.Fate.{Fate}
-use Rattle.stream_rules.specs.declared.fate.Fate.TheVariants.{Restarted}
-use Rattle.stream_rules.specs.declared.packet.Packet.{Packet}
+use Rattle.rtp_stream.specs.declared.anchor.Anchor.{Anchor}
+use Rattle.rtp_stream.specs.declared.fate.Fate.{Fate}
+use Rattle.rtp_stream.specs.declared.fate.Fate.TheVariants.{Restarted}
+use Rattle.rtp_stream.specs.declared.packet.Packet.{Packet}
 
 -- before the anchor's deadline it is itself next due
 pub next_number-fresh : (spec : Stream) (a : Anchor) (time : ℤ) → 0 < spec.frames → (time -ℤ pos spec.latency) <ℤ a.media → next_number spec a time ≡ a.number

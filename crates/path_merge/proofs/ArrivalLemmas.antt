@@ -4,23 +4,23 @@ use Rattle.std.specs.Prelude.{nat_eq, nat_lt}
 use Rattle.path_merge.proofs.StepLemmas.{take_all}
 use Rattle.path_merge.specs.Merge.{HasHistory, IsBaseOf, heard_of}
 use Rattle.path_merge.specs.MergeState.{MergeState}
-use Rattle.stream_rules.specs.PathProbation.{probation_at, probation_of}
+use Rattle.rtp_stream.specs.PathProbation.{probation_at, probation_of}
 use Rattle.std.specs.FinMap.{get}
 use Rattle.std.proofs.lemmas.Bool.Decides.{nat_tests}
 use Rattle.path_merge.proofs.HistoryLemmas.{IsNextEpoch, anchor_made, made_next, or_else, anchor_of-push, copies_of_all-push, events_until_close-open, is_closed-append, is_well_timed_from-append, marks_in, marks_in-push, marks_of-in, time_of-append}
 use Rattle.path_merge.proofs.MarkGrowthLemmas.{AllLater, AllLaterThan, marks_in-more}
-use Rattle.stream_rules.specs.Anchor.{next_number}
-use Rattle.stream_rules.specs.Epochs.{anchor_of, anchors_of, last_of}
-use Rattle.stream_rules.specs.Copies.{copies_at, copies_of_all, first_copy, copies_under_with, with_epoch}
-use Rattle.stream_rules.specs.Grid.{extended_number, is_on_grid}
-use Rattle.stream_rules.specs.Counts.{counts_of}
-use Rattle.stream_rules.specs.History.{arrival_count, is_closed, is_counting, is_well_timed, time_of}
-use Rattle.stream_rules.specs.Marks.{marks_of}
-use Rattle.stream_rules.specs.declared.stream_spec.Stream.{Stream}
-use Rattle.stream_rules.specs.declared.anchor.Anchor.{Anchor}
-use Rattle.stream_rules.specs.declared.event.Event.{Event}
-use Rattle.stream_rules.specs.declared.event.Event.TheVariants.{Arrive}
-use Rattle.stream_rules.specs.declared.packet.Packet.{Packet}
+use Rattle.rtp_stream.specs.Anchor.{next_number}
+use Rattle.rtp_stream.specs.Epochs.{anchor_of, anchors_of, last_of}
+use Rattle.rtp_stream.specs.Copies.{copies_at, copies_of_all, first_copy, copies_under_with, with_epoch}
+use Rattle.rtp_stream.specs.Grid.{extended_number, is_on_grid}
+use Rattle.rtp_stream.specs.Counts.{counts_of}
+use Rattle.rtp_stream.specs.History.{arrival_count, is_closed, is_counting, is_well_timed, time_of}
+use Rattle.rtp_stream.specs.Marks.{marks_of}
+use Rattle.rtp_stream.specs.declared.stream_spec.Stream.{Stream}
+use Rattle.rtp_stream.specs.declared.anchor.Anchor.{Anchor}
+use Rattle.rtp_stream.specs.declared.event.Event.{Event}
+use Rattle.rtp_stream.specs.declared.event.Event.TheVariants.{Arrive}
+use Rattle.rtp_stream.specs.declared.packet.Packet.{Packet}
 
 module _ (stream : Stream) (open_at : ℤ) (some : 0 < stream.frames) (events : List Event) (well_timed : is_well_timed open_at events ≡ true) (open_yet : is_closed events ≡ false) (path : ℕ) (packet : Packet) where
   -- a copy is of a number that has had no slot, or of a new epoch

@@ -1,28 +1,28 @@
 -- The start of a merge, its close, and what is left then.
 use Rattle.path_merge.proofs.EpochLemmas.{anchor_is, copies_of-since, heard_of-close, no_anchors}
 use Rattle.path_merge.proofs.HistoryLemmas.{copies_of_all-close, anchor_of-close, copies_of-close, events_until_close-close, events_until_close-closed, fates_of-close, is_closed-append, is_well_timed_from-append, marks_in, marks_in-none, marks_in-push, marks_of-in, time_of-append}
-use Rattle.stream_rules.specs.Copies.{copies_of_all, copies_of}
-use Rattle.stream_rules.specs.Epochs.{anchors_of, last_of, anchor_of}
+use Rattle.rtp_stream.specs.Copies.{copies_of_all, copies_of}
+use Rattle.rtp_stream.specs.Epochs.{anchors_of, last_of, anchor_of}
 use Rattle.path_merge.specs.Merge.{heard_of, HasHistory}
-use Rattle.stream_rules.specs.PathProbation.{no_probation, probation_at, probation_of}
-use Rattle.stream_rules.specs.declared.probation.Probation.{Probation}
+use Rattle.rtp_stream.specs.PathProbation.{no_probation, probation_at, probation_of}
+use Rattle.rtp_stream.specs.declared.probation.Probation.{Probation}
 use Rattle.std.specs.Prelude.{Option, nat_lt}
-use Rattle.stream_rules.specs.declared.packet.Packet.{Packet}
+use Rattle.rtp_stream.specs.declared.packet.Packet.{Packet}
 use Rattle.std.proofs.Common.{◌≡◌, ℕ, ◌^◌, ◌≤◌, Bool, true, false, List, [], ◌∷◌, ◌++◌, length, take, None, ℤ, pos, ◌-ℤ◌, ◌≤ℤ◌, refl, sym, ap, ◌∙◌, arith, length-append, if◌then◌else◌}
 use Rattle.std.specs.Ordering.{nat_cmp}
 use Rattle.std.specs.FinMap.{FinMap}
 use Rattle.std.proofs.lemmas.List.{take-append-le}
 use Rattle.std.proofs.lemmas.Int.{ints}
-use Rattle.stream_rules.specs.Counts.{fates_of, tally_of_fates}
-use Rattle.stream_rules.specs.CountsFacts.{Tally, empty_tally}
-use Rattle.stream_rules.specs.History.{at_places, events_until_close, is_closed}
-use Rattle.stream_rules.specs.Marks.{marks_at, marks_of}
+use Rattle.rtp_stream.specs.Counts.{fates_of, tally_of_fates}
+use Rattle.rtp_stream.specs.CountsFacts.{Tally, empty_tally}
+use Rattle.rtp_stream.specs.History.{at_places, events_until_close, is_closed}
+use Rattle.rtp_stream.specs.Marks.{marks_at, marks_of}
 use Rattle.path_merge.specs.MergeState.{IsSound, MergeState}
-use Rattle.stream_rules.specs.declared.stream_spec.Stream.{Stream}
-use Rattle.stream_rules.specs.StreamSpecFacts.{IsStream}
+use Rattle.rtp_stream.specs.declared.stream_spec.Stream.{Stream}
+use Rattle.rtp_stream.specs.StreamSpecFacts.{IsStream}
 use Rattle.reorder_window.specs.Window.{IsEmpty}
-use Rattle.stream_rules.specs.declared.event.Event.{Event}
-use Rattle.stream_rules.specs.declared.event.Event.TheVariants.{Close}
+use Rattle.rtp_stream.specs.declared.event.Event.{Event}
+use Rattle.rtp_stream.specs.declared.event.Event.TheVariants.{Close}
 
 module _ (stream : Stream) (open_at : ℤ) where
   -- nothing has happened

@@ -3,8 +3,8 @@ use Rattle.std.proofs.Common.{◌≡◌, ℕ, suc, ◌<◌, Bool, true, false, m
 use Rattle.std.specs.Prelude.{nat_eq}
 use Rattle.std.proofs.lemmas.Bool.Decides.{nat_tests}
 use Rattle.path_merge.proofs.HistoryLemmas.{or_else}
-use Rattle.stream_rules.specs.Grid.{end_of_copies, first_with}
-use Rattle.stream_rules.specs.declared.packet.Packet.{Packet}
+use Rattle.rtp_stream.specs.Grid.{end_of_copies, first_with}
+use Rattle.rtp_stream.specs.declared.packet.Packet.{Packet}
 
 -- first of one list and then another
 pub first_with-append : (n : ℕ) (xs ys : List (ℕ × Packet)) → first_with n (xs ++ ys) ≡ or_else (first_with n xs) (first_with n ys)

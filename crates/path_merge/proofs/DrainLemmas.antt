@@ -2,10 +2,10 @@
 use Rattle.path_merge.proofs.EpochLemmas.{deaf_anchor, deaf_copies, deaf_copies_all}
 use Rattle.path_merge.proofs.HistoryLemmas.{copies_of-with, anchor_of-close, by_last_event, copies_of-close, events_until_close-close, events_until_close-closed, is_closed-append, marks_in, marks_in-push, marks_of-in, time_of-append}
 use Rattle.path_merge.proofs.AnewLemmas.{itself_eq}
-use Rattle.stream_rules.specs.Copies.{copies_of_all, copies_of, first_copy}
+use Rattle.rtp_stream.specs.Copies.{copies_of_all, copies_of, first_copy}
 use Rattle.std.specs.Prelude.{nat_lt}
-use Rattle.stream_rules.specs.Epochs.{anchor_of}
-use Rattle.stream_rules.specs.Grid.{end_of_copies}
+use Rattle.rtp_stream.specs.Epochs.{anchor_of}
+use Rattle.rtp_stream.specs.Grid.{end_of_copies}
 use Rattle.std.proofs.Common.{◌≡◌, ℕ, zero, suc, ◌+◌, ◌-◌, ◌<◌, ◌≤◌, Bool, true, false, ◌||◌, List, [], ◌∷◌, ◌++◌, length, take, drop, Option, Some, None, IsSome, ℤ, pos, ◌-ℤ◌, refl, sym, ap, subst, ◌∙◌, arith, append-nil, length-append, ⊎_elim, if◌then◌else◌}
 use Rattle.std.specs.FinMap.{get}
 use Rattle.std.proofs.lemmas.Bool.Decides.{nat_tests}
@@ -16,22 +16,22 @@ use Rattle.path_merge.proofs.MarkGrowthLemmas.{well_timed_before, well_timed_tic
 use Rattle.path_merge.proofs.SlotCountLemmas.{no_end_yet, slots_counted}
 use Rattle.path_merge.proofs.StepLemmas.{base_more, has_end-append, last_quiet_or-append, or_none, slot_count-append, without}
 use Rattle.path_merge.proofs.TallyLemmas.{tally-other, tally-slot}
-use Rattle.stream_rules.specs.Anchor.{next_number}
-use Rattle.stream_rules.specs.Counts.{fates_of}
-use Rattle.stream_rules.specs.CountsFacts.{with_body}
-use Rattle.stream_rules.specs.History.{events_until_close, is_closed, is_counting, is_well_timed, time_of}
-use Rattle.stream_rules.specs.MarkFacts.{MarkView}
-use Rattle.stream_rules.specs.Marks.{body_of, end_mark, marks_of, slot_mark, slots_at_close, slots_from}
-use Rattle.stream_rules.specs.MarkList.{has_end}
+use Rattle.rtp_stream.specs.Anchor.{next_number}
+use Rattle.rtp_stream.specs.Counts.{fates_of}
+use Rattle.rtp_stream.specs.CountsFacts.{with_body}
+use Rattle.rtp_stream.specs.History.{events_until_close, is_closed, is_counting, is_well_timed, time_of}
+use Rattle.rtp_stream.specs.MarkFacts.{MarkView}
+use Rattle.rtp_stream.specs.Marks.{body_of, end_mark, marks_of, slot_mark, slots_at_close, slots_from}
+use Rattle.rtp_stream.specs.MarkList.{has_end}
 use Rattle.path_merge.specs.Merge.{HasHistory, slot_count}
 use Rattle.path_merge.specs.MergeState.{IsSound, MergeState}
 use Rattle.path_merge.specs.Steps.{Drains, HoldsMore, IsLeftStep}
-use Rattle.stream_rules.specs.declared.stream_spec.Stream.{Stream}
-use Rattle.stream_rules.specs.declared.anchor.Anchor.{Anchor}
-use Rattle.stream_rules.specs.declared.event.Event.{Event}
-use Rattle.stream_rules.specs.declared.event.Event.TheVariants.{Arrive, Close, Tick}
+use Rattle.rtp_stream.specs.declared.stream_spec.Stream.{Stream}
+use Rattle.rtp_stream.specs.declared.anchor.Anchor.{Anchor}
+use Rattle.rtp_stream.specs.declared.event.Event.{Event}
+use Rattle.rtp_stream.specs.declared.event.Event.TheVariants.{Arrive, Close, Tick}
 use Rattle.path_merge.proofs.CopiesLemmas.{first_with-below, first_with-last}
-use Rattle.stream_rules.specs.declared.packet.Packet.{Packet}
+use Rattle.rtp_stream.specs.declared.packet.Packet.{Packet}
 
 -- one mark more
 one_more_taken : (k : ℕ) (xs : List MarkView) (x : MarkView) (rest : List MarkView) → drop k xs ≡ x ∷ rest → (take (k + 1) xs ≡ take k xs ++ x ∷ []) × (k + 1 ≤ length xs)

@@ -1,6 +1,6 @@
 -- The first arrival that anchors a stream.
-use Rattle.stream_rules.specs.Epochs.{anchor_in, anchor_of, anchors_of, last_of, placed}
-use Rattle.stream_rules.specs.Grid.{first_with}
+use Rattle.rtp_stream.specs.Epochs.{anchor_in, anchor_of, anchors_of, last_of, placed}
+use Rattle.rtp_stream.specs.Grid.{first_with}
 use Rattle.std.proofs.Common.{◌≡◌, ℕ, ◌+◌, ◌*◌, ◌^◌, ◌<◌, Bool, true, false, not, ◌&&◌, List, [], ◌∷◌, ◌++◌, length, Option, Some, None, ℤ, pos, ◌+ℤ◌, ◌-ℤ◌, ◌<ℤ◌, refl, sym, ap, subst, ◌∙◌, arith, if◌then◌else◌}
 use Rattle.std.specs.Prelude.{int_lt, int_le, nat_lt, nat_eq}
 use Rattle.std.proofs.lemmas.Bool.Decides.{nat_tests}
@@ -16,29 +16,29 @@ use Rattle.path_merge.proofs.MarkGrowthLemmas.{AllSlotsBelow, limit_of, slots_be
 use Rattle.path_merge.proofs.AnewLemmas.{own_copy, sound_anew}
 use Rattle.path_merge.proofs.RestartOfferLemmas.{all, counts_heard, few, hears, none_above, one_held}
 use Rattle.path_merge.proofs.SoundLemmas.{some_window}
-use Rattle.stream_rules.specs.Anchor.{anchor_from, first_media_time, can_anchor, is_source_wanted}
-use Rattle.stream_rules.specs.Copies.{copies_of, copies_of_all, first_copy}
-use Rattle.stream_rules.specs.PathProbation.{no_probation, probation_at, probation_of}
-use Rattle.stream_rules.specs.declared.probation.Probation.{Probation}
-use Rattle.stream_rules.specs.Counts.{counts_of, is_counted_fate, is_restarted, is_taken_fate}
-use Rattle.stream_rules.specs.CountsFacts.{Tally, with_fate}
-use Rattle.stream_rules.specs.Fate.{fate_of, fault_or, first_fate}
-use Rattle.stream_rules.specs.History.{arrival_count, is_closed, is_counting}
-use Rattle.stream_rules.specs.Marks.{marks_of}
+use Rattle.rtp_stream.specs.Anchor.{anchor_from, first_media_time, can_anchor, is_source_wanted}
+use Rattle.rtp_stream.specs.Copies.{copies_of, copies_of_all, first_copy}
+use Rattle.rtp_stream.specs.PathProbation.{no_probation, probation_at, probation_of}
+use Rattle.rtp_stream.specs.declared.probation.Probation.{Probation}
+use Rattle.rtp_stream.specs.Counts.{counts_of, is_counted_fate, is_restarted, is_taken_fate}
+use Rattle.rtp_stream.specs.CountsFacts.{Tally, with_fate}
+use Rattle.rtp_stream.specs.Fate.{fate_of, fault_or, first_fate}
+use Rattle.rtp_stream.specs.History.{arrival_count, is_closed, is_counting}
+use Rattle.rtp_stream.specs.Marks.{marks_of}
 use Rattle.path_merge.specs.Merge.{HasHistory, IsBaseOf, heard_of, slot_count}
 use Rattle.path_merge.specs.MergeState.{IsAnchoredOrNot, IsSound, IsUnanchored, MergeState}
 use Rattle.path_merge.specs.Steps.{IsFirstStep, IsRefusal, Offers}
-use Rattle.stream_rules.specs.StreamSpec.{Fits}
-use Rattle.stream_rules.specs.declared.stream_spec.Stream.{Stream}
-use Rattle.stream_rules.specs.Put.{is_taken, put_answer}
+use Rattle.rtp_stream.specs.StreamSpec.{Fits}
+use Rattle.rtp_stream.specs.declared.stream_spec.Stream.{Stream}
+use Rattle.rtp_stream.specs.Put.{is_taken, put_answer}
 use Rattle.reorder_window.specs.Window.{IsEmpty}
-use Rattle.stream_rules.specs.declared.anchor.Anchor.{Anchor}
-use Rattle.stream_rules.specs.declared.event.Event.{Event}
-use Rattle.stream_rules.specs.declared.event.Event.TheVariants.{Arrive}
-use Rattle.stream_rules.specs.declared.fate.Fate.{Fate}
-use Rattle.stream_rules.specs.declared.fate.Fate.TheVariants.{Ahead, Closed, CountersFull, Double, Late, OffGrid, Restarted, Taken, Unlike, WrongSource}
-use Rattle.stream_rules.specs.declared.packet.Packet.{Packet}
-use Rattle.stream_rules.specs.declared.put.Put.{Put}
+use Rattle.rtp_stream.specs.declared.anchor.Anchor.{Anchor}
+use Rattle.rtp_stream.specs.declared.event.Event.{Event}
+use Rattle.rtp_stream.specs.declared.event.Event.TheVariants.{Arrive}
+use Rattle.rtp_stream.specs.declared.fate.Fate.{Fate}
+use Rattle.rtp_stream.specs.declared.fate.Fate.TheVariants.{Ahead, Closed, CountersFull, Double, Late, OffGrid, Restarted, Taken, Unlike, WrongSource}
+use Rattle.rtp_stream.specs.declared.packet.Packet.{Packet}
+use Rattle.rtp_stream.specs.declared.put.Put.{Put}
 
 -- an order test and its turn
 lt-not_le : (a b : ℤ) → int_lt a b ≡ not (int_le b a)

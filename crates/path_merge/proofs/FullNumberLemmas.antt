@@ -5,14 +5,14 @@ use Rattle.std.specs.Int.{int_rem_euclid}
 use Rattle.std.proofs.lemmas.Bool.Decides.{nat_tests}
 use Rattle.std.proofs.lemmas.Int.{ints}
 use Rattle.path_merge.proofs.AliasLemmas.{off_grid, size_is}
-use Rattle.stream_rules.proofs.NearestLemmas.{IsNearest-nearest_number, nearest_number-only, rem_bounds}
+use Rattle.rtp_stream.proofs.NearestLemmas.{IsNearest-nearest_number, nearest_number-only, rem_bounds}
 use Rattle.path_merge.proofs.AnewLemmas.{itself_eq}
-use Rattle.stream_rules.specs.Grid.{extended_number, is_in_time, is_on_grid}
-use Rattle.stream_rules.specs.Nearest.{IsNearest, nearest_number}
-use Rattle.stream_rules.specs.Sent.{IsNear, SentPacket, timestamp_in_step, wire_packet}
-use Rattle.stream_rules.specs.declared.stream_spec.Stream.{Stream}
-use Rattle.stream_rules.specs.declared.anchor.Anchor.{Anchor}
-use Rattle.stream_rules.specs.declared.packet.Packet.{Packet}
+use Rattle.rtp_stream.specs.Grid.{extended_number, is_in_time, is_on_grid}
+use Rattle.rtp_stream.specs.Nearest.{IsNearest, nearest_number}
+use Rattle.rtp_stream.specs.Sent.{IsNear, SentPacket, timestamp_in_step, wire_packet}
+use Rattle.rtp_stream.specs.declared.stream_spec.Stream.{Stream}
+use Rattle.rtp_stream.specs.declared.anchor.Anchor.{Anchor}
+use Rattle.rtp_stream.specs.declared.packet.Packet.{Packet}
 use Rattle.rtp_wire.specs.PacketTime.{is_packet_time}
 
 -- the low 16 bits of a number

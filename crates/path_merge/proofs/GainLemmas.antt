@@ -6,23 +6,23 @@ use Rattle.path_merge.proofs.HistoryLemmas.{copies_of-with}
 use Rattle.path_merge.proofs.SpanLemmas.{quiet_names, run_names, slot_names-append}
 use Rattle.path_merge.proofs.StepLemmas.{marks_of-tick}
 use Rattle.path_merge.proofs.TallyLemmas.{count_by-first}
-use Rattle.stream_rules.specs.Anchor.{next_number}
-use Rattle.stream_rules.specs.Copies.{copies_of}
-use Rattle.stream_rules.specs.Counts.{is_got, is_lost}
-use Rattle.stream_rules.specs.Epochs.{anchor_of}
-use Rattle.stream_rules.specs.Grid.{end_of_copies}
-use Rattle.stream_rules.specs.History.{is_closed, time_of}
-use Rattle.stream_rules.specs.Laws.{names_in, slot_names, slots_left, slots_reached}
-use Rattle.stream_rules.specs.MarkFacts.{MarkView}
-use Rattle.stream_rules.specs.Marks.{end_mark, marks_of, slots_at_close, slots_between}
-use Rattle.stream_rules.specs.declared.stream_spec.Stream.{Stream}
-use Rattle.stream_rules.specs.declared.anchor.Anchor.{Anchor}
-use Rattle.stream_rules.specs.declared.event.Event.{Event}
-use Rattle.stream_rules.specs.declared.event.Event.TheVariants.{Close, Tick}
-use Rattle.stream_rules.specs.declared.mark.Body.TheVariants.{Got, Lost}
-use Rattle.stream_rules.specs.declared.mark.MarkKind.{MarkKind}
-use Rattle.stream_rules.specs.declared.mark.MarkKind.TheVariants.{End, Quiet, Slot}
-use Rattle.stream_rules.specs.declared.packet.Packet.{Packet}
+use Rattle.rtp_stream.specs.Anchor.{next_number}
+use Rattle.rtp_stream.specs.Copies.{copies_of}
+use Rattle.rtp_stream.specs.Counts.{is_got, is_lost}
+use Rattle.rtp_stream.specs.Epochs.{anchor_of}
+use Rattle.rtp_stream.specs.Grid.{end_of_copies}
+use Rattle.rtp_stream.specs.History.{is_closed, time_of}
+use Rattle.rtp_stream.specs.Laws.{names_in, slot_names, slots_left, slots_reached}
+use Rattle.rtp_stream.specs.MarkFacts.{MarkView}
+use Rattle.rtp_stream.specs.Marks.{end_mark, marks_of, slots_at_close, slots_between}
+use Rattle.rtp_stream.specs.declared.stream_spec.Stream.{Stream}
+use Rattle.rtp_stream.specs.declared.anchor.Anchor.{Anchor}
+use Rattle.rtp_stream.specs.declared.event.Event.{Event}
+use Rattle.rtp_stream.specs.declared.event.Event.TheVariants.{Close, Tick}
+use Rattle.rtp_stream.specs.declared.mark.Body.TheVariants.{Got, Lost}
+use Rattle.rtp_stream.specs.declared.mark.MarkKind.{MarkKind}
+use Rattle.rtp_stream.specs.declared.mark.MarkKind.TheVariants.{End, Quiet, Slot}
+use Rattle.rtp_stream.specs.declared.packet.Packet.{Packet}
 
 -- the slots that an event gives, by their epoch and number
 between_names : (stream : Stream) (copies : List (ℕ × Packet)) (o : Option Anchor) (from to : ℤ) → slot_names (slots_between stream copies o from to) ≡ slots_reached stream o from to

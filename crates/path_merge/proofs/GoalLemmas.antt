@@ -1,17 +1,17 @@
 -- The marks on the way to a goal, to the last of them.
 use Rattle.std.proofs.Common.{◌≡◌, ◌≤◌, ◌-◌, ℕ, zero, suc, Bool, true, false, ◌||◌, if◌then◌else◌, List, [], ◌∷◌, ◌++◌, length, take, ℤ, Option, Some, None, refl, sym, ap, subst, ◌∙◌, arith, append_assoc}
 use Rattle.std.proofs.lemmas.Bool.{false≢true}
-use Rattle.stream_rules.specs.declared.stream_spec.Stream.{Stream}
-use Rattle.stream_rules.specs.MarkFacts.{MarkView}
-use Rattle.stream_rules.specs.declared.anchor.Anchor.{Anchor}
-use Rattle.stream_rules.specs.declared.packet.Packet.{Packet}
-use Rattle.stream_rules.specs.History.{events_until_close, time_of}
-use Rattle.stream_rules.specs.Anchor.{next_number}
-use Rattle.stream_rules.specs.Grid.{end_of_copies}
-use Rattle.stream_rules.specs.Epochs.{anchor_of}
-use Rattle.stream_rules.specs.Copies.{copies_of, copies_of_all}
-use Rattle.stream_rules.specs.Marks.{end_mark, marks_of, slots_at_close, slots_from}
-use Rattle.stream_rules.specs.MarkList.{has_end, is_end}
+use Rattle.rtp_stream.specs.declared.stream_spec.Stream.{Stream}
+use Rattle.rtp_stream.specs.MarkFacts.{MarkView}
+use Rattle.rtp_stream.specs.declared.anchor.Anchor.{Anchor}
+use Rattle.rtp_stream.specs.declared.packet.Packet.{Packet}
+use Rattle.rtp_stream.specs.History.{events_until_close, time_of}
+use Rattle.rtp_stream.specs.Anchor.{next_number}
+use Rattle.rtp_stream.specs.Grid.{end_of_copies}
+use Rattle.rtp_stream.specs.Epochs.{anchor_of}
+use Rattle.rtp_stream.specs.Copies.{copies_of, copies_of_all}
+use Rattle.rtp_stream.specs.Marks.{end_mark, marks_of, slots_at_close, slots_from}
+use Rattle.rtp_stream.specs.MarkList.{has_end, is_end}
 use Rattle.path_merge.specs.MergeState.{MergeState}
 use Rattle.path_merge.specs.Goal.{HasGivenAll}
 use Rattle.path_merge.specs.Next.{anchor_left, next_left, slot_or_end}

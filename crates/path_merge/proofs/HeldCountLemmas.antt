@@ -4,13 +4,13 @@ use Rattle.std.specs.Prelude.{nat_eq, is_some}
 use Rattle.std.specs.FinMap.{get, FinMap}
 use Rattle.std.specs.Ordering.{nat_cmp}
 use Rattle.std.proofs.lemmas.Bool.Decides.{nat_tests}
-use Rattle.stream_rules.specs.Counts.{is_restarted, is_taken_fate}
-use Rattle.stream_rules.specs.CountsFacts.{Tally, with_body, with_fate}
-use Rattle.stream_rules.specs.Marks.{body_of}
+use Rattle.rtp_stream.specs.Counts.{is_restarted, is_taken_fate}
+use Rattle.rtp_stream.specs.CountsFacts.{Tally, with_body, with_fate}
+use Rattle.rtp_stream.specs.Marks.{body_of}
 use Rattle.path_merge.specs.MergeState.{held_count}
-use Rattle.stream_rules.specs.declared.fate.Fate.{Fate}
-use Rattle.stream_rules.specs.declared.fate.Fate.TheVariants.{Ahead, Closed, CountersFull, Double, Late, OffGrid, Restarted, Taken, Unlike, WrongSource}
-use Rattle.stream_rules.specs.declared.packet.Packet.{Packet}
+use Rattle.rtp_stream.specs.declared.fate.Fate.{Fate}
+use Rattle.rtp_stream.specs.declared.fate.Fate.TheVariants.{Ahead, Closed, CountersFull, Double, Late, OffGrid, Restarted, Taken, Unlike, WrongSource}
+use Rattle.rtp_stream.specs.declared.packet.Packet.{Packet}
 
 pub no_packet : (o : Option Packet) → (IsSome o → ⊥) → o ≡ None
 no_packet None none = refl

@@ -1,26 +1,26 @@
 -- A reading to a deadline on the way to a later reading changes nothing.
 use Rattle.path_merge.proofs.EpochLemmas.{heard_of-tick}
-use Rattle.stream_rules.specs.PathProbation.{probation_of}
-use Rattle.stream_rules.specs.Epochs.{anchor_of}
-use Rattle.stream_rules.specs.Grid.{first_with}
+use Rattle.rtp_stream.specs.PathProbation.{probation_of}
+use Rattle.rtp_stream.specs.Epochs.{anchor_of}
+use Rattle.rtp_stream.specs.Grid.{first_with}
 use Rattle.std.proofs.Common.{◌≡◌, ℕ, suc, ◌-◌, ◌^◌, ◌<◌, true, false, List, [], ◌∷◌, ◌++◌, length, Some, ℤ, pos, ◌≤ℤ◌, refl, sym, ap, ◌∙◌, arith, append_assoc, ◌||◌, Bool}
 use Rattle.std.proofs.lemmas.Int.{ints}
 use Rattle.path_merge.proofs.HistoryLemmas.{anchor_of-tick, copies_of-tick, events_until_close-open, fates_of-tick, is_closed-append, time_of-append}
 use Rattle.path_merge.proofs.MarkGrowthLemmas.{IsTickAt, tick_well_timed}
 use Rattle.path_merge.proofs.DueLemmas.{next_number-rises}
 use Rattle.path_merge.proofs.StepLemmas.{marks_of-tick}
-use Rattle.stream_rules.specs.Anchor.{next_number}
-use Rattle.stream_rules.specs.Copies.{copies_of}
-use Rattle.stream_rules.specs.History.{is_closed, time_of}
-use Rattle.stream_rules.specs.MarkFacts.{MarkView}
-use Rattle.stream_rules.specs.Marks.{body_of, has_slot, is_slot, marks_of, slot_mark, slots_between, slots_from, slots_or_quiet}
+use Rattle.rtp_stream.specs.Anchor.{next_number}
+use Rattle.rtp_stream.specs.Copies.{copies_of}
+use Rattle.rtp_stream.specs.History.{is_closed, time_of}
+use Rattle.rtp_stream.specs.MarkFacts.{MarkView}
+use Rattle.rtp_stream.specs.Marks.{body_of, has_slot, is_slot, marks_of, slot_mark, slots_between, slots_from, slots_or_quiet}
 use Rattle.path_merge.specs.Merge.{HasHistory}
 use Rattle.path_merge.specs.MergeState.{MergeState}
 use Rattle.path_merge.specs.Steps.{IsAlike}
-use Rattle.stream_rules.specs.declared.stream_spec.Stream.{Stream}
-use Rattle.stream_rules.specs.declared.anchor.Anchor.{Anchor}
-use Rattle.stream_rules.specs.declared.event.Event.{Event}
-use Rattle.stream_rules.specs.declared.event.Event.TheVariants.{Tick}
+use Rattle.rtp_stream.specs.declared.stream_spec.Stream.{Stream}
+use Rattle.rtp_stream.specs.declared.anchor.Anchor.{Anchor}
+use Rattle.rtp_stream.specs.declared.event.Event.{Event}
+use Rattle.rtp_stream.specs.declared.event.Event.TheVariants.{Tick}
 
 pub alike-refl : (stream : Stream) (open_at : ℤ) (e : List Event) → IsAlike stream open_at e e
 alike-refl stream open_at e = record { well_timed = λ l. l; time = refl; closed = refl; fates = refl; anchor = refl; heard = λ path. refl; copies = refl; marks = refl; before_close = refl }

@@ -10,21 +10,21 @@ use Rattle.path_merge.proofs.LawLemmas.{least_due}
 use Rattle.path_merge.proofs.MarkGrowthLemmas.{by_open_event}
 use Rattle.path_merge.proofs.ShapeLemmas.{IsBeforeNext, IsEpochBefore, IsShaped, IsShapedAt, StandsLast, last_after, last_after-append, shaped_open}
 use Rattle.path_merge.specs.KeepUp.{Reaches, IsDue, KeepUp, LastReaches}
-use Rattle.stream_rules.specs.Anchor.{deadline_of, media_time_of, next_number}
-use Rattle.stream_rules.specs.Copies.{copies_of, copies_of_all, copies_with}
-use Rattle.stream_rules.specs.Epochs.{anchor_of, last_of}
-use Rattle.stream_rules.specs.Grid.{end_of_copies, first_with}
-use Rattle.stream_rules.specs.History.{is_closed, is_well_timed, time_of}
-use Rattle.stream_rules.specs.Laws.{IsOpen}
-use Rattle.stream_rules.specs.MarkFacts.{MarkView}
-use Rattle.stream_rules.specs.Marks.{body_of, has_slot, is_past_quiet, is_past_quiets, is_quiet_new, is_slot, marks_of, quiet_mark, slot_mark, slots_between, slots_from, slots_or_quiet}
-use Rattle.stream_rules.specs.declared.stream_spec.Stream.{Stream}
-use Rattle.stream_rules.specs.declared.anchor.Anchor.{Anchor}
-use Rattle.stream_rules.specs.declared.event.Event.{Event}
-use Rattle.stream_rules.specs.declared.event.Event.TheVariants.{Arrive, Tick}
-use Rattle.stream_rules.specs.declared.mark.MarkKind.{MarkKind}
-use Rattle.stream_rules.specs.declared.mark.MarkKind.TheVariants.{End, Quiet, Slot}
-use Rattle.stream_rules.specs.declared.packet.Packet.{Packet}
+use Rattle.rtp_stream.specs.Anchor.{deadline_of, media_time_of, next_number}
+use Rattle.rtp_stream.specs.Copies.{copies_of, copies_of_all, copies_with}
+use Rattle.rtp_stream.specs.Epochs.{anchor_of, last_of}
+use Rattle.rtp_stream.specs.Grid.{end_of_copies, first_with}
+use Rattle.rtp_stream.specs.History.{is_closed, is_well_timed, time_of}
+use Rattle.rtp_stream.specs.Laws.{IsOpen}
+use Rattle.rtp_stream.specs.MarkFacts.{MarkView}
+use Rattle.rtp_stream.specs.Marks.{body_of, has_slot, is_past_quiet, is_past_quiets, is_quiet_new, is_slot, marks_of, quiet_mark, slot_mark, slots_between, slots_from, slots_or_quiet}
+use Rattle.rtp_stream.specs.declared.stream_spec.Stream.{Stream}
+use Rattle.rtp_stream.specs.declared.anchor.Anchor.{Anchor}
+use Rattle.rtp_stream.specs.declared.event.Event.{Event}
+use Rattle.rtp_stream.specs.declared.event.Event.TheVariants.{Arrive, Tick}
+use Rattle.rtp_stream.specs.declared.mark.MarkKind.{MarkKind}
+use Rattle.rtp_stream.specs.declared.mark.MarkKind.TheVariants.{End, Quiet, Slot}
+use Rattle.rtp_stream.specs.declared.packet.Packet.{Packet}
 
 both : (a b : Bool) → (a && b) ≡ true → (a ≡ true) × (b ≡ true)
 both true b e = (refl, e)

@@ -1,5 +1,5 @@
 -- The laws of the definitions.
-use Rattle.stream_rules.specs.Grid.{first_with}
+use Rattle.rtp_stream.specs.Grid.{first_with}
 use Rattle.std.proofs.Common.{◌≡◌, ℕ, zero, suc, ◌+◌, ◌-◌, ◌<◌, ◌≤◌, Bool, true, false, List, [], ◌∷◌, ◌++◌, length, take, ℤ, refl, sym, ap, ◌∙◌, arith, append-nil, append_assoc, ⊎_elim}
 use Rattle.std.proofs.lemmas.Int.{ints, by_lt_z}
 use Rattle.std.proofs.lemmas.Bool.{cases_lt}
@@ -12,18 +12,18 @@ use Rattle.path_merge.proofs.EpochLemmas.{deaf_copies_all, heard_of-tick}
 use Rattle.path_merge.proofs.MarkGrowthLemmas.{IsTickAt, tick_well_timed, well_timed_before, well_timed_tick}
 use Rattle.path_merge.proofs.DueLemmas.{before_next_number, due_before_next, next_number-at_deadline, next_number-rises}
 use Rattle.path_merge.proofs.StepLemmas.{marks_of-tick, take_all}
-use Rattle.stream_rules.specs.Anchor.{deadline_of, next_number}
-use Rattle.stream_rules.specs.Copies.{copies_of, copies_of_all}
-use Rattle.stream_rules.specs.History.{is_closed, is_counting, is_well_timed, time_of}
-use Rattle.stream_rules.specs.Laws.{IsDeadlineOnTheWay, IsLeastDue, IsOpen}
-use Rattle.stream_rules.specs.MarkFacts.{MarkView}
-use Rattle.stream_rules.specs.Marks.{body_of, has_slot, marks_of, slot_mark, slots_from}
+use Rattle.rtp_stream.specs.Anchor.{deadline_of, next_number}
+use Rattle.rtp_stream.specs.Copies.{copies_of, copies_of_all}
+use Rattle.rtp_stream.specs.History.{is_closed, is_counting, is_well_timed, time_of}
+use Rattle.rtp_stream.specs.Laws.{IsDeadlineOnTheWay, IsLeastDue, IsOpen}
+use Rattle.rtp_stream.specs.MarkFacts.{MarkView}
+use Rattle.rtp_stream.specs.Marks.{body_of, has_slot, marks_of, slot_mark, slots_from}
 use Rattle.path_merge.specs.Steps.{IsAlike}
-use Rattle.stream_rules.specs.declared.stream_spec.Stream.{Stream}
-use Rattle.stream_rules.specs.declared.anchor.Anchor.{Anchor}
-use Rattle.stream_rules.specs.declared.event.Event.{Event}
-use Rattle.stream_rules.specs.declared.event.Event.TheVariants.{Arrive, Close, Tick}
-use Rattle.stream_rules.specs.declared.packet.Packet.{Packet}
+use Rattle.rtp_stream.specs.declared.stream_spec.Stream.{Stream}
+use Rattle.rtp_stream.specs.declared.anchor.Anchor.{Anchor}
+use Rattle.rtp_stream.specs.declared.event.Event.{Event}
+use Rattle.rtp_stream.specs.declared.event.Event.TheVariants.{Arrive, Close, Tick}
+use Rattle.rtp_stream.specs.declared.packet.Packet.{Packet}
 
 pub least_due : (stream : Stream) (anchor : Anchor) (time : ℤ) → 0 < stream.frames → IsLeastDue stream anchor time
 least_due stream anchor time some = record {

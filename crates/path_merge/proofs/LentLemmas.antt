@@ -14,18 +14,18 @@ use Rattle.path_merge.specs.KeepUp.{IsDue}
 use Rattle.path_merge.specs.Merge.{HasHistory, IsBaseOf, last_quiet_or, quiet_or, slot_count}
 use Rattle.path_merge.specs.MergeState.{MergeState}
 use Rattle.path_merge.specs.Next.{anchor_due, next_mark, quiet_next, slot_next}
-use Rattle.stream_rules.specs.Anchor.{media_time_of, next_number}
-use Rattle.stream_rules.specs.Copies.{copies_of_all}
-use Rattle.stream_rules.specs.Epochs.{anchor_of}
-use Rattle.stream_rules.specs.History.{is_closed, time_of}
-use Rattle.stream_rules.specs.Laws.{IsOpen}
-use Rattle.stream_rules.specs.MarkFacts.{MarkView}
-use Rattle.stream_rules.specs.Marks.{marks_of, quiet_mark}
-use Rattle.stream_rules.specs.declared.stream_spec.Stream.{Stream}
-use Rattle.stream_rules.specs.declared.anchor.Anchor.{Anchor}
-use Rattle.stream_rules.specs.declared.event.Event.{Event}
-use Rattle.stream_rules.specs.declared.mark.MarkKind.{MarkKind}
-use Rattle.stream_rules.specs.declared.mark.MarkKind.TheVariants.{End, Quiet, Slot}
+use Rattle.rtp_stream.specs.Anchor.{media_time_of, next_number}
+use Rattle.rtp_stream.specs.Copies.{copies_of_all}
+use Rattle.rtp_stream.specs.Epochs.{anchor_of}
+use Rattle.rtp_stream.specs.History.{is_closed, time_of}
+use Rattle.rtp_stream.specs.Laws.{IsOpen}
+use Rattle.rtp_stream.specs.MarkFacts.{MarkView}
+use Rattle.rtp_stream.specs.Marks.{marks_of, quiet_mark}
+use Rattle.rtp_stream.specs.declared.stream_spec.Stream.{Stream}
+use Rattle.rtp_stream.specs.declared.anchor.Anchor.{Anchor}
+use Rattle.rtp_stream.specs.declared.event.Event.{Event}
+use Rattle.rtp_stream.specs.declared.mark.MarkKind.{MarkKind}
+use Rattle.rtp_stream.specs.declared.mark.MarkKind.TheVariants.{End, Quiet, Slot}
 
 -- the last silence is not before the opening's
 quiet_from : (stream : Stream) (open_at time before : ℤ) (marks : List MarkView) → (open_at -ℤ pos stream.latency) ≤ℤ before → All (λ mark. IsDue stream open_at time mark.kind) marks → (open_at -ℤ pos stream.latency) ≤ℤ last_quiet_or before marks

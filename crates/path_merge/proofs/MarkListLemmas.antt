@@ -6,23 +6,23 @@ use Rattle.std.proofs.lemmas.Int.{ints}
 use Rattle.path_merge.proofs.HistoryLemmas.{marks_of-in}
 use Rattle.path_merge.proofs.DrainLemmas.{closed_at}
 use Rattle.path_merge.proofs.ShapeLemmas.{AllKinds, IsShaped, IsShapedAt, StandsLast, and_left, and_true, end_follows, is_mark_list_after-append, last_after, of_last, run_listed, run_no_end, same_format, shaped_open, slot_follows, stands_no_end}
-use Rattle.stream_rules.specs.Anchor.{next_number}
-use Rattle.stream_rules.specs.Copies.{copies_of, copies_of_all}
-use Rattle.stream_rules.specs.Epochs.{anchor_of}
-use Rattle.stream_rules.specs.Grid.{end_of_copies, first_with}
-use Rattle.stream_rules.specs.History.{events_until_close, is_closed, is_well_timed, time_of}
-use Rattle.stream_rules.specs.Laws.{AllTimesFrom, AreInOrder, slot_times, times_in}
-use Rattle.stream_rules.specs.MarkFacts.{MarkView}
-use Rattle.stream_rules.specs.MarkList.{can_follow, is_mark_list, is_mark_list_after, is_same_format, is_same_time, is_end}
-use Rattle.stream_rules.specs.Marks.{body_of, end_mark, marks_of, slots_at_close}
-use Rattle.stream_rules.specs.declared.stream_spec.Stream.{Stream}
-use Rattle.stream_rules.specs.StreamSpecFacts.{format_of}
-use Rattle.stream_rules.specs.declared.anchor.Anchor.{Anchor}
-use Rattle.stream_rules.specs.declared.event.Event.{Event}
-use Rattle.stream_rules.specs.declared.mark.Format.{Format}
-use Rattle.stream_rules.specs.declared.mark.MarkKind.{MarkKind}
-use Rattle.stream_rules.specs.declared.mark.MarkKind.TheVariants.{End, Quiet, Slot}
-use Rattle.stream_rules.specs.declared.packet.Packet.{Packet}
+use Rattle.rtp_stream.specs.Anchor.{next_number}
+use Rattle.rtp_stream.specs.Copies.{copies_of, copies_of_all}
+use Rattle.rtp_stream.specs.Epochs.{anchor_of}
+use Rattle.rtp_stream.specs.Grid.{end_of_copies, first_with}
+use Rattle.rtp_stream.specs.History.{events_until_close, is_closed, is_well_timed, time_of}
+use Rattle.rtp_stream.specs.Laws.{AllTimesFrom, AreInOrder, slot_times, times_in}
+use Rattle.rtp_stream.specs.MarkFacts.{MarkView}
+use Rattle.rtp_stream.specs.MarkList.{can_follow, is_mark_list, is_mark_list_after, is_same_format, is_same_time, is_end}
+use Rattle.rtp_stream.specs.Marks.{body_of, end_mark, marks_of, slots_at_close}
+use Rattle.rtp_stream.specs.declared.stream_spec.Stream.{Stream}
+use Rattle.rtp_stream.specs.StreamSpecFacts.{format_of}
+use Rattle.rtp_stream.specs.declared.anchor.Anchor.{Anchor}
+use Rattle.rtp_stream.specs.declared.event.Event.{Event}
+use Rattle.rtp_stream.specs.declared.mark.Format.{Format}
+use Rattle.rtp_stream.specs.declared.mark.MarkKind.{MarkKind}
+use Rattle.rtp_stream.specs.declared.mark.MarkKind.TheVariants.{End, Quiet, Slot}
+use Rattle.rtp_stream.specs.declared.packet.Packet.{Packet}
 
 -- what a close adds
 closed_listed : (stream : Stream) (o : Option Anchor) (time : ℤ) (held : ℕ) (copies : List (ℕ × Packet)) (marks : List MarkView) → 0 < stream.frames → IsShaped stream o time held marks → is_mark_list (format_of stream) (marks ++ (slots_at_close stream copies o time ++ end_mark stream ∷ [])) ≡ true

@@ -2,22 +2,22 @@
 use Rattle.std.proofs.Common.{◌≡◌, ℕ, ◌<◌, ◌≤◌, Bool, true, false, ◌&&◌, List, [], ◌∷◌, ◌++◌, length, Some, ℤ, refl, sym, ap, subst, ◌∙◌, arith, append-nil, append_assoc, if◌then◌else◌}
 use Rattle.path_merge.proofs.EpochLemmas.{WithinLength, heard_of-push, no_anchors, place_within}
 use Rattle.path_merge.proofs.HistoryLemmas.{anchors_of-push, arrival_count-append, time_of-append}
-use Rattle.stream_rules.proofs.ProbationLemmas.{complete_is, probation_of-push}
+use Rattle.rtp_stream.proofs.ProbationLemmas.{complete_is, probation_of-push}
 use Rattle.path_merge.proofs.AnewLemmas.{itself_eq}
 use Rattle.path_merge.proofs.SentHistoryLemmas.{anchors_closed, base_first, base_high, close_shuts, marks_near, open_next}
 use Rattle.path_merge.proofs.FullNumberLemmas.{near_on_grid}
-use Rattle.stream_rules.specs.Anchor.{is_source_wanted, next_number}
-use Rattle.stream_rules.specs.Epochs.{anchors_after, anchors_at, anchors_of, can_restart, goes_on, is_all_given, last_of, placed}
-use Rattle.stream_rules.specs.History.{arrival_count, is_closed, is_counting, time_of}
-use Rattle.stream_rules.specs.Marks.{marks_of}
-use Rattle.stream_rules.specs.PathProbation.{is_complete}
-use Rattle.stream_rules.specs.Probation.{completes_probation, heard_since, is_off}
-use Rattle.stream_rules.specs.Sent.{Arrives, BeginsWith, Closes, IsNear, IsOneEpoch, IsWithinReach, SentEvent, SentPacket, Ticks, marks_by_number, wire_history, wire_packet}
-use Rattle.stream_rules.specs.declared.stream_spec.Stream.{Stream}
-use Rattle.stream_rules.specs.declared.anchor.Anchor.{Anchor}
-use Rattle.stream_rules.specs.declared.event.Event.{Event}
-use Rattle.stream_rules.specs.declared.event.Event.TheVariants.{Arrive, Close, Tick}
-use Rattle.stream_rules.specs.declared.packet.Packet.{Packet}
+use Rattle.rtp_stream.specs.Anchor.{is_source_wanted, next_number}
+use Rattle.rtp_stream.specs.Epochs.{anchors_after, anchors_at, anchors_of, can_restart, goes_on, is_all_given, last_of, placed}
+use Rattle.rtp_stream.specs.History.{arrival_count, is_closed, is_counting, time_of}
+use Rattle.rtp_stream.specs.Marks.{marks_of}
+use Rattle.rtp_stream.specs.PathProbation.{is_complete}
+use Rattle.rtp_stream.specs.Probation.{completes_probation, heard_since, is_off}
+use Rattle.rtp_stream.specs.Sent.{Arrives, BeginsWith, Closes, IsNear, IsOneEpoch, IsWithinReach, SentEvent, SentPacket, Ticks, marks_by_number, wire_history, wire_packet}
+use Rattle.rtp_stream.specs.declared.stream_spec.Stream.{Stream}
+use Rattle.rtp_stream.specs.declared.anchor.Anchor.{Anchor}
+use Rattle.rtp_stream.specs.declared.event.Event.{Event}
+use Rattle.rtp_stream.specs.declared.event.Event.TheVariants.{Arrive, Close, Tick}
+use Rattle.rtp_stream.specs.declared.packet.Packet.{Packet}
 
 -- a packet that isn't off completes no probation
 on_grid_completes_none : (stream : Stream) (heard : List (Bool × Packet)) (packet : Packet) → completes_probation stream (heard ++ (false, packet) ∷ []) ≡ false

@@ -6,32 +6,32 @@ use Rattle.std.proofs.lemmas.Bool.Decides.{nat_tests}
 use Rattle.path_merge.proofs.ArrivalLemmas.{marks_of-arrive, stands_after_arrival}
 use Rattle.path_merge.proofs.EpochLemmas.{WithinLength, all_tags, heard_by, anchor_is, heard_of-push, last-push, place_within}
 use Rattle.path_merge.proofs.HistoryLemmas.{copies_of-push, or_else}
-use Rattle.stream_rules.proofs.ProbationLemmas.{probation_of-push}
+use Rattle.rtp_stream.proofs.ProbationLemmas.{probation_of-push}
 use Rattle.path_merge.proofs.RestartOfferLemmas.{all, counts_heard, few, hears, next_is, shut, some_frames, offers_restart, opens_is}
 use Rattle.path_merge.proofs.PlaceLemmas.{counts_at, has_no_place, has_place, is_none, taken_answer}
 use Rattle.path_merge.proofs.AnewLemmas.{itself_eq}
-use Rattle.stream_rules.specs.Anchor.{is_source_wanted, next_number}
-use Rattle.stream_rules.specs.Copies.{copies_of, first_copy}
-use Rattle.stream_rules.specs.Counts.{counts_of, is_counted_fate, is_taken_fate}
-use Rattle.stream_rules.specs.CountsFacts.{with_fate}
-use Rattle.stream_rules.specs.Epochs.{anchor_in, anchor_of, anchors_at, anchors_of, can_restart, last_of}
-use Rattle.stream_rules.specs.Fate.{fate_at, fate_of, fate_of_put, next_fate, place_of}
-use Rattle.stream_rules.specs.Grid.{extended_number, first_with, is_in_time}
-use Rattle.stream_rules.specs.History.{arrival_count, is_counting, time_of}
+use Rattle.rtp_stream.specs.Anchor.{is_source_wanted, next_number}
+use Rattle.rtp_stream.specs.Copies.{copies_of, first_copy}
+use Rattle.rtp_stream.specs.Counts.{counts_of, is_counted_fate, is_taken_fate}
+use Rattle.rtp_stream.specs.CountsFacts.{with_fate}
+use Rattle.rtp_stream.specs.Epochs.{anchor_in, anchor_of, anchors_at, anchors_of, can_restart, last_of}
+use Rattle.rtp_stream.specs.Fate.{fate_at, fate_of, fate_of_put, next_fate, place_of}
+use Rattle.rtp_stream.specs.Grid.{extended_number, first_with, is_in_time}
+use Rattle.rtp_stream.specs.History.{arrival_count, is_counting, time_of}
 use Rattle.path_merge.specs.Merge.{HasHistory, heard_of}
 use Rattle.path_merge.specs.MergeState.{IsSound, MergeState}
-use Rattle.stream_rules.specs.PathProbation.{probation_after, probation_at, probation_heard, probation_of}
-use Rattle.stream_rules.specs.Probation.{heard_since, is_off}
+use Rattle.rtp_stream.specs.PathProbation.{probation_after, probation_at, probation_heard, probation_of}
+use Rattle.rtp_stream.specs.Probation.{heard_since, is_off}
 use Rattle.path_merge.specs.Steps.{IsNextStep, Offers, IsRefusal, IsRestartStep, opens_epoch}
-use Rattle.stream_rules.specs.Put.{put_answer}
-use Rattle.stream_rules.specs.declared.stream_spec.Stream.{Stream}
-use Rattle.stream_rules.specs.declared.anchor.Anchor.{Anchor}
-use Rattle.stream_rules.specs.declared.event.Event.{Event}
-use Rattle.stream_rules.specs.declared.event.Event.TheVariants.{Arrive}
-use Rattle.stream_rules.specs.declared.fate.Fate.{Fate}
-use Rattle.stream_rules.specs.declared.fate.Fate.TheVariants.{CountersFull}
+use Rattle.rtp_stream.specs.Put.{put_answer}
+use Rattle.rtp_stream.specs.declared.stream_spec.Stream.{Stream}
+use Rattle.rtp_stream.specs.declared.anchor.Anchor.{Anchor}
+use Rattle.rtp_stream.specs.declared.event.Event.{Event}
+use Rattle.rtp_stream.specs.declared.event.Event.TheVariants.{Arrive}
+use Rattle.rtp_stream.specs.declared.fate.Fate.{Fate}
+use Rattle.rtp_stream.specs.declared.fate.Fate.TheVariants.{CountersFull}
 use Rattle.path_merge.proofs.CopiesLemmas.{first_with-append}
-use Rattle.stream_rules.specs.declared.packet.Packet.{Packet}
+use Rattle.rtp_stream.specs.declared.packet.Packet.{Packet}
 
 -- what is held after a put is the first copy after it
 put_held : (n number base : ℕ) (packet : Packet) (f g : Option Packet) → base ≤ number → g ≡ (if nat_lt n base then None else f) → (there : Option Packet) → (n ≡ number → there ≡ f) → (if is_none there && nat_eq n number then Some packet else g) ≡ (if nat_lt n base then None else or_else f (if nat_eq number n then Some packet else None))

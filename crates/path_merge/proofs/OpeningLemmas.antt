@@ -6,14 +6,14 @@ use Rattle.std.proofs.lemmas.Bool.{cases_lt}
 use Rattle.std.proofs.lemmas.Bool.Decides.{nat_tests}
 use Rattle.path_merge.proofs.HeldCountLemmas.{held_count-none, held_count-some, no_packet}
 use Rattle.path_merge.proofs.SoundLemmas.{anchored_at}
-use Rattle.stream_rules.specs.Anchor.{is_restart_in_reach, is_source_wanted, media_time_of, restart_media_time}
+use Rattle.rtp_stream.specs.Anchor.{is_restart_in_reach, is_source_wanted, media_time_of, restart_media_time}
 use Rattle.path_merge.specs.MergeState.{IsAnchored, IsSound, MergeState, held_count, holds_nothing}
-use Rattle.stream_rules.specs.PathProbation.{is_complete, probation_at, probation_heard}
-use Rattle.stream_rules.specs.Probation.{is_off}
+use Rattle.rtp_stream.specs.PathProbation.{is_complete, probation_at, probation_heard}
+use Rattle.rtp_stream.specs.Probation.{is_off}
 use Rattle.path_merge.specs.Steps.{epoch_media, opening_of}
 use Rattle.reorder_window.specs.Window.{IsEmpty}
-use Rattle.stream_rules.specs.declared.anchor.Anchor.{Anchor}
-use Rattle.stream_rules.specs.declared.packet.Packet.{Packet}
+use Rattle.rtp_stream.specs.declared.anchor.Anchor.{Anchor}
+use Rattle.rtp_stream.specs.declared.packet.Packet.{Packet}
 
 module _ (m : MergeState) (media : ℤ) (a : Anchor) (s : IsSound m media) (is_a : m.anchor ≡ Some a) (open_yet : m.closed ≡ false) where
   an : IsAnchored m media a

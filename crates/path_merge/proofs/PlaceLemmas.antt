@@ -2,18 +2,18 @@
 use Rattle.std.proofs.Common.{◌≡◌, ℕ, ◌+◌, ◌*◌, ◌<◌, ◌≤◌, Bool, true, false, not, Option, Some, None, Result, Ok, Err, ℤ, pos, ◌+ℤ◌, ◌-ℤ◌, refl, sym, ap, subst, arith, if◌then◌else◌}
 use Rattle.std.specs.Prelude.{nat_eq, nat_lt, nat_le, int_le, bytes_eq}
 use Rattle.std.proofs.lemmas.Bool.Decides.{nat_tests}
-use Rattle.stream_rules.specs.Anchor.{first_media_time, is_source_wanted}
-use Rattle.stream_rules.specs.Counts.{is_counted_fate, is_taken_fate}
-use Rattle.stream_rules.specs.Fate.{fate_at, fate_of_put, fault_or, first_fate, place_of}
-use Rattle.stream_rules.specs.Grid.{extended_number, is_in_time, is_on_grid}
-use Rattle.stream_rules.specs.Put.{is_taken, put_answer}
-use Rattle.stream_rules.specs.declared.stream_spec.Stream.{Stream}
-use Rattle.stream_rules.specs.declared.anchor.Anchor.{Anchor}
-use Rattle.stream_rules.specs.declared.fate.Fate.{Fate}
-use Rattle.stream_rules.specs.declared.fate.Fate.TheVariants.{Ahead, Late, OffGrid, Taken, WrongSource}
-use Rattle.stream_rules.specs.declared.packet.Packet.{Packet}
-use Rattle.stream_rules.specs.declared.put.Put.{Put}
-use Rattle.stream_rules.specs.declared.put.Put.TheVariants.{Double as PutDouble, Taken as PutTaken, Unlike as PutUnlike}
+use Rattle.rtp_stream.specs.Anchor.{first_media_time, is_source_wanted}
+use Rattle.rtp_stream.specs.Counts.{is_counted_fate, is_taken_fate}
+use Rattle.rtp_stream.specs.Fate.{fate_at, fate_of_put, fault_or, first_fate, place_of}
+use Rattle.rtp_stream.specs.Grid.{extended_number, is_in_time, is_on_grid}
+use Rattle.rtp_stream.specs.Put.{is_taken, put_answer}
+use Rattle.rtp_stream.specs.declared.stream_spec.Stream.{Stream}
+use Rattle.rtp_stream.specs.declared.anchor.Anchor.{Anchor}
+use Rattle.rtp_stream.specs.declared.fate.Fate.{Fate}
+use Rattle.rtp_stream.specs.declared.fate.Fate.TheVariants.{Ahead, Late, OffGrid, Taken, WrongSource}
+use Rattle.rtp_stream.specs.declared.packet.Packet.{Packet}
+use Rattle.rtp_stream.specs.declared.put.Put.{Put}
+use Rattle.rtp_stream.specs.declared.put.Put.TheVariants.{Double as PutDouble, Taken as PutTaken, Unlike as PutUnlike}
 
 abbrev pub is_none : Option Packet → Bool
 is_none None = true

@@ -7,21 +7,21 @@ use Rattle.std.proofs.lemmas.Bool.Decides.{nat_tests}
 use Rattle.path_merge.proofs.PlaceLemmas.{has_no_place, has_place, taken_put}
 use Rattle.path_merge.proofs.HeldCountLemmas.{FateCounts, held_count-from, held_count-put, with_fate-counts}
 use Rattle.path_merge.proofs.SoundLemmas.{anchored_at, anchored_back}
-use Rattle.stream_rules.specs.Anchor.{next_number}
-use Rattle.stream_rules.specs.Counts.{is_restarted, is_taken_fate}
-use Rattle.stream_rules.specs.CountsFacts.{Tally, with_fate}
-use Rattle.stream_rules.specs.Fate.{fate_at, fate_of_put, place_of}
+use Rattle.rtp_stream.specs.Anchor.{next_number}
+use Rattle.rtp_stream.specs.Counts.{is_restarted, is_taken_fate}
+use Rattle.rtp_stream.specs.CountsFacts.{Tally, with_fate}
+use Rattle.rtp_stream.specs.Fate.{fate_at, fate_of_put, place_of}
 use Rattle.path_merge.specs.MergeState.{IsSound, MergeState, held_count}
 use Rattle.path_merge.specs.Steps.{IsPutStep}
-use Rattle.stream_rules.specs.declared.probation.Probation.{Probation}
+use Rattle.rtp_stream.specs.declared.probation.Probation.{Probation}
 use Rattle.std.proofs.lemmas.Int.{ints}
-use Rattle.stream_rules.specs.StreamSpec.{Fits}
-use Rattle.stream_rules.specs.Put.{is_taken, put_answer}
-use Rattle.stream_rules.specs.declared.anchor.Anchor.{Anchor}
-use Rattle.stream_rules.specs.declared.fate.Fate.{Fate}
-use Rattle.stream_rules.specs.declared.packet.Packet.{Packet}
-use Rattle.stream_rules.specs.declared.put.Put.{Put}
-use Rattle.stream_rules.specs.declared.put.Put.TheVariants.{Double as PutDouble, Taken as PutTaken, Unlike as PutUnlike}
+use Rattle.rtp_stream.specs.StreamSpec.{Fits}
+use Rattle.rtp_stream.specs.Put.{is_taken, put_answer}
+use Rattle.rtp_stream.specs.declared.anchor.Anchor.{Anchor}
+use Rattle.rtp_stream.specs.declared.fate.Fate.{Fate}
+use Rattle.rtp_stream.specs.declared.packet.Packet.{Packet}
+use Rattle.rtp_stream.specs.declared.put.Put.{Put}
+use Rattle.rtp_stream.specs.declared.put.Put.TheVariants.{Double as PutDouble, Taken as PutTaken, Unlike as PutUnlike}
 
 -- the steps that the code makes
 pub put_step_fault : (m : MergeState) (a : Anchor) (path : ℕ) (packet : Packet) (fate : Fate) (counts' : Tally) → place_of m.spec a m.base packet ≡ Err fate → counts' ≡ with_fate m.counts path fate → IsPutStep m.spec m (record m { counts = counts' }) a path packet fate

@@ -7,37 +7,37 @@ use Rattle.path_merge.proofs.ArrivalLemmas.{marks_of-arrive, stands_after_arriva
 use Rattle.path_merge.proofs.EpochLemmas.{WithinLength, anchor_is, copies_of-since, copies_since-made, heard_of-made, heard_of-push, last-push, place_within, since_of}
 use Rattle.path_merge.proofs.HistoryLemmas.{arrival_count-append, by_last_event, fates_of-push, fates_of-tick, is_closed-append, marks_of-in, or_else}
 use Rattle.path_merge.proofs.MarkGrowthLemmas.{AllSlotsBelow, IsSlotBelow, limit_of, slots_below}
-use Rattle.stream_rules.proofs.ProbationLemmas.{complete_is, probation_of-push}
+use Rattle.rtp_stream.proofs.ProbationLemmas.{complete_is, probation_of-push}
 use Rattle.path_merge.proofs.AnewLemmas.{GoesOn, in_reach, itself_eq, own_copy}
 use Rattle.path_merge.proofs.SoundLemmas.{anchored_at, some_window}
 use Rattle.path_merge.proofs.StepLemmas.{take_all}
 use Rattle.path_merge.proofs.TallyLemmas.{tally-fate}
-use Rattle.stream_rules.specs.Anchor.{is_restart_in_reach, is_source_wanted, media_time_of, next_number, restart_from, restart_media_time}
-use Rattle.stream_rules.specs.Copies.{copies_of, copies_of_all}
-use Rattle.stream_rules.specs.Counts.{counts_of, fates_of, is_counted_fate, tally_of_fates}
-use Rattle.stream_rules.specs.CountsFacts.{Tally, with_fate}
-use Rattle.stream_rules.specs.Epochs.{anchor_in, anchor_of, anchors_at, anchors_of, can_restart, copies_since, goes_on, is_all_given, last_of}
-use Rattle.stream_rules.specs.Fate.{fate_of}
-use Rattle.stream_rules.specs.Grid.{end_of_copies, first_with}
-use Rattle.stream_rules.specs.History.{arrival_count, at_places, is_closed, is_counting, time_of}
-use Rattle.stream_rules.specs.MarkFacts.{MarkView}
-use Rattle.stream_rules.specs.Marks.{marks_of}
+use Rattle.rtp_stream.specs.Anchor.{is_restart_in_reach, is_source_wanted, media_time_of, next_number, restart_from, restart_media_time}
+use Rattle.rtp_stream.specs.Copies.{copies_of, copies_of_all}
+use Rattle.rtp_stream.specs.Counts.{counts_of, fates_of, is_counted_fate, tally_of_fates}
+use Rattle.rtp_stream.specs.CountsFacts.{Tally, with_fate}
+use Rattle.rtp_stream.specs.Epochs.{anchor_in, anchor_of, anchors_at, anchors_of, can_restart, copies_since, goes_on, is_all_given, last_of}
+use Rattle.rtp_stream.specs.Fate.{fate_of}
+use Rattle.rtp_stream.specs.Grid.{end_of_copies, first_with}
+use Rattle.rtp_stream.specs.History.{arrival_count, at_places, is_closed, is_counting, time_of}
+use Rattle.rtp_stream.specs.MarkFacts.{MarkView}
+use Rattle.rtp_stream.specs.Marks.{marks_of}
 use Rattle.path_merge.specs.Merge.{HasHistory, heard_of, is_slot_in, slot_count}
 use Rattle.path_merge.specs.MergeState.{IsSound, MergeState, holds_nothing}
-use Rattle.stream_rules.specs.PathProbation.{is_complete, probation_after, probation_at, probation_heard, probation_of}
-use Rattle.stream_rules.specs.Probation.{completes_probation, heard_since, is_off}
+use Rattle.rtp_stream.specs.PathProbation.{is_complete, probation_after, probation_at, probation_heard, probation_of}
+use Rattle.rtp_stream.specs.Probation.{completes_probation, heard_since, is_off}
 use Rattle.path_merge.specs.Steps.{IsRestartStep, Offers, opens_epoch}
-use Rattle.stream_rules.specs.declared.stream_spec.Stream.{Stream}
-use Rattle.stream_rules.specs.declared.anchor.Anchor.{Anchor}
-use Rattle.stream_rules.specs.declared.event.Event.{Event}
-use Rattle.stream_rules.specs.declared.event.Event.TheVariants.{Arrive, Close, Tick}
-use Rattle.stream_rules.specs.declared.fate.Fate.{Fate}
-use Rattle.stream_rules.specs.declared.fate.Fate.TheVariants.{CountersFull, Restarted}
-use Rattle.stream_rules.specs.declared.mark.MarkKind.{MarkKind}
-use Rattle.stream_rules.specs.declared.mark.MarkKind.TheVariants.{End, Quiet, Slot}
+use Rattle.rtp_stream.specs.declared.stream_spec.Stream.{Stream}
+use Rattle.rtp_stream.specs.declared.anchor.Anchor.{Anchor}
+use Rattle.rtp_stream.specs.declared.event.Event.{Event}
+use Rattle.rtp_stream.specs.declared.event.Event.TheVariants.{Arrive, Close, Tick}
+use Rattle.rtp_stream.specs.declared.fate.Fate.{Fate}
+use Rattle.rtp_stream.specs.declared.fate.Fate.TheVariants.{CountersFull, Restarted}
+use Rattle.rtp_stream.specs.declared.mark.MarkKind.{MarkKind}
+use Rattle.rtp_stream.specs.declared.mark.MarkKind.TheVariants.{End, Quiet, Slot}
 use Rattle.path_merge.proofs.OpeningLemmas.{nothing_is}
 use Rattle.path_merge.proofs.CopiesLemmas.{first_with-below, first_with-last}
-use Rattle.stream_rules.specs.declared.packet.Packet.{Packet}
+use Rattle.rtp_stream.specs.declared.packet.Packet.{Packet}
 
 -- no slot of an epoch that is still to come
 not_of : (epoch : ℕ) (kind : MarkKind) → IsSlotBelow epoch kind → is_slot_in epoch kind ≡ false

@@ -10,21 +10,21 @@ use Rattle.path_merge.proofs.CloseLemmas.{marks_of-close, marks_of-none}
 use Rattle.path_merge.proofs.HistoryLemmas.{is_well_timed_from-append}
 use Rattle.path_merge.proofs.JoinLemmas.{alike-trans, stands_alike}
 use Rattle.path_merge.proofs.MarkGrowthLemmas.{well_timed_tick}
-use Rattle.stream_rules.specs.Copies.{copies_of_all}
-use Rattle.stream_rules.specs.History.{clock_after, first_clock_fault_from, is_closed, is_tick_in_order, is_well_timed, is_well_timed_from, time_of}
-use Rattle.stream_rules.specs.MarkFacts.{MarkView}
-use Rattle.stream_rules.specs.Marks.{is_slot, marks_at, marks_of}
+use Rattle.rtp_stream.specs.Copies.{copies_of_all}
+use Rattle.rtp_stream.specs.History.{clock_after, first_clock_fault_from, is_closed, is_tick_in_order, is_well_timed, is_well_timed_from, time_of}
+use Rattle.rtp_stream.specs.MarkFacts.{MarkView}
+use Rattle.rtp_stream.specs.Marks.{is_slot, marks_at, marks_of}
 use Rattle.path_merge.specs.Merge.{HasHistory}
 use Rattle.path_merge.specs.MergeState.{MergeState}
 use Rattle.path_merge.specs.Run.{HasGiven, IsEventOf, IsInOrder}
 use Rattle.path_merge.specs.Clock.{clock_fault_of}
 use Rattle.path_merge.specs.Steps.{Advances, Drains, IsAlike, Moves, MovesBy, Offers, is_slot_mark, stop_at}
-use Rattle.stream_rules.specs.declared.stream_spec.Stream.{Stream}
-use Rattle.stream_rules.specs.declared.event.Event.{Event}
-use Rattle.stream_rules.specs.declared.event.Event.TheVariants.{Arrive, Close, Tick}
-use Rattle.stream_rules.specs.declared.fate.Fate.{Fate}
+use Rattle.rtp_stream.specs.declared.stream_spec.Stream.{Stream}
+use Rattle.rtp_stream.specs.declared.event.Event.{Event}
+use Rattle.rtp_stream.specs.declared.event.Event.TheVariants.{Arrive, Close, Tick}
+use Rattle.rtp_stream.specs.declared.fate.Fate.{Fate}
 use Rattle.path_merge.specs.declared.clock.ClockFault.TheVariants.{TooFar, WentBack, Closed as ClockClosed}
-use Rattle.stream_rules.specs.declared.packet.Packet.{Packet}
+use Rattle.rtp_stream.specs.declared.packet.Packet.{Packet}
 
 -- the place of a fault in the rest of a list
 abbrev pub shifted_by : ℕ → Option ℕ → Option ℕ

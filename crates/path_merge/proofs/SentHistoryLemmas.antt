@@ -9,21 +9,21 @@ use Rattle.path_merge.proofs.EpochLemmas.{anchor_is, deaf_anchors, last-push, no
 use Rattle.path_merge.proofs.HistoryLemmas.{anchors_of-push, arrival_count-append, at_places-append, by_last_event, is_closed-append, or_else, time_of-append}
 use Rattle.path_merge.proofs.CopiesLemmas.{first_with-append}
 use Rattle.path_merge.proofs.FullNumberLemmas.{CountsAsSent, far_counts, near_counts, one_copy}
-use Rattle.stream_rules.specs.Anchor.{anchor_from, can_anchor, next_number, restart_from}
-use Rattle.stream_rules.specs.Copies.{copies_at, copies_in, copies_of, copies_of_all, copies_with, first_copy, with_epoch}
-use Rattle.stream_rules.specs.Epochs.{anchor_in, anchor_of, anchors_after, anchors_at, anchors_of, can_restart, last_of, placed}
-use Rattle.stream_rules.specs.Grid.{copies_under, extended_number, first_with, is_in_time}
-use Rattle.stream_rules.specs.History.{arrival_count, at_places, is_closed, is_counting, time_of}
-use Rattle.stream_rules.specs.Marks.{marks_at, marks_from, marks_of, marks_under}
-use Rattle.stream_rules.specs.MarkFacts.{MarkView}
+use Rattle.rtp_stream.specs.Anchor.{anchor_from, can_anchor, next_number, restart_from}
+use Rattle.rtp_stream.specs.Copies.{copies_at, copies_in, copies_of, copies_of_all, copies_with, first_copy, with_epoch}
+use Rattle.rtp_stream.specs.Epochs.{anchor_in, anchor_of, anchors_after, anchors_at, anchors_of, can_restart, last_of, placed}
+use Rattle.rtp_stream.specs.Grid.{copies_under, extended_number, first_with, is_in_time}
+use Rattle.rtp_stream.specs.History.{arrival_count, at_places, is_closed, is_counting, time_of}
+use Rattle.rtp_stream.specs.Marks.{marks_at, marks_from, marks_of, marks_under}
+use Rattle.rtp_stream.specs.MarkFacts.{MarkView}
 use Rattle.path_merge.proofs.AnewLemmas.{itself_eq}
-use Rattle.stream_rules.specs.Sent.{Arrives, BeginsWith, Closes, HasEqualCopies, IsNear, IsOneEpoch, IsWithinReach, OpensNoEpoch, SentEvent, SentPacket, Ticks, anchor_after, marks_by_number, sent_copies, sent_copies_after, sent_copies_at, sent_marks_after, wire_event, wire_history, wire_packet}
-use Rattle.stream_rules.specs.declared.stream_spec.Stream.{Stream}
-use Rattle.stream_rules.specs.StreamSpecFacts.{IsStream}
-use Rattle.stream_rules.specs.declared.anchor.Anchor.{Anchor}
-use Rattle.stream_rules.specs.declared.event.Event.{Event}
-use Rattle.stream_rules.specs.declared.event.Event.TheVariants.{Arrive, Close, Tick}
-use Rattle.stream_rules.specs.declared.packet.Packet.{Packet}
+use Rattle.rtp_stream.specs.Sent.{Arrives, BeginsWith, Closes, HasEqualCopies, IsNear, IsOneEpoch, IsWithinReach, OpensNoEpoch, SentEvent, SentPacket, Ticks, anchor_after, marks_by_number, sent_copies, sent_copies_after, sent_copies_at, sent_marks_after, wire_event, wire_history, wire_packet}
+use Rattle.rtp_stream.specs.declared.stream_spec.Stream.{Stream}
+use Rattle.rtp_stream.specs.StreamSpecFacts.{IsStream}
+use Rattle.rtp_stream.specs.declared.anchor.Anchor.{Anchor}
+use Rattle.rtp_stream.specs.declared.event.Event.{Event}
+use Rattle.rtp_stream.specs.declared.event.Event.TheVariants.{Arrive, Close, Tick}
+use Rattle.rtp_stream.specs.declared.packet.Packet.{Packet}
 
 -- copies with their epoch
 with_epoch-append : (a : Anchor) (xs ys : List (ℕ × Packet)) → with_epoch (Some a) (xs ++ ys) ≡ with_epoch (Some a) xs ++ with_epoch (Some a) ys

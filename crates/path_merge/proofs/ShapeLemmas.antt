@@ -9,26 +9,26 @@ use Rattle.path_merge.proofs.HistoryLemmas.{anchor_of-tick, anchors_of-push, cop
 use Rattle.path_merge.proofs.LawLemmas.{least_due}
 use Rattle.path_merge.proofs.MarkGrowthLemmas.{by_open_event}
 use Rattle.path_merge.proofs.DueLemmas.{media_time_of-from, media_time_of-suc, next_number-rises}
-use Rattle.stream_rules.proofs.ProbationLemmas.{last_of-push}
+use Rattle.rtp_stream.proofs.ProbationLemmas.{last_of-push}
 use Rattle.path_merge.proofs.AnewLemmas.{itself_eq, next_number-fresh}
-use Rattle.stream_rules.specs.Anchor.{media_time_of, next_number}
-use Rattle.stream_rules.specs.Copies.{copies_at, copies_of, copies_with}
-use Rattle.stream_rules.specs.Epochs.{anchor_in, anchor_of, anchors_at, anchors_of, copies_since, last_of}
-use Rattle.stream_rules.specs.Grid.{end_of_copies, first_with}
-use Rattle.stream_rules.specs.History.{is_closed, is_well_timed, time_of}
-use Rattle.stream_rules.specs.MarkFacts.{MarkView}
-use Rattle.stream_rules.specs.MarkList.{can_follow, is_mark_list, is_mark_list_after, is_same_encoding, is_same_format, is_same_time, is_end}
-use Rattle.stream_rules.specs.Marks.{body_of, has_slot, is_past_quiet, is_past_quiets, is_quiet_new, is_slot, quiet_mark, slots_between, slots_from, slots_or_quiet}
-use Rattle.stream_rules.specs.declared.stream_spec.Stream.{Stream}
-use Rattle.stream_rules.specs.StreamSpecFacts.{format_of}
-use Rattle.stream_rules.specs.declared.anchor.Anchor.{Anchor}
-use Rattle.stream_rules.specs.declared.event.Event.{Event}
-use Rattle.stream_rules.specs.declared.event.Event.TheVariants.{Arrive, Tick}
-use Rattle.stream_rules.specs.declared.mark.Body.{Body}
-use Rattle.stream_rules.specs.declared.mark.Format.{Format}
-use Rattle.stream_rules.specs.declared.mark.MarkKind.{MarkKind}
-use Rattle.stream_rules.specs.declared.mark.MarkKind.TheVariants.{End, Quiet, Slot}
-use Rattle.stream_rules.specs.declared.packet.Packet.{Packet}
+use Rattle.rtp_stream.specs.Anchor.{media_time_of, next_number}
+use Rattle.rtp_stream.specs.Copies.{copies_at, copies_of, copies_with}
+use Rattle.rtp_stream.specs.Epochs.{anchor_in, anchor_of, anchors_at, anchors_of, copies_since, last_of}
+use Rattle.rtp_stream.specs.Grid.{end_of_copies, first_with}
+use Rattle.rtp_stream.specs.History.{is_closed, is_well_timed, time_of}
+use Rattle.rtp_stream.specs.MarkFacts.{MarkView}
+use Rattle.rtp_stream.specs.MarkList.{can_follow, is_mark_list, is_mark_list_after, is_same_encoding, is_same_format, is_same_time, is_end}
+use Rattle.rtp_stream.specs.Marks.{body_of, has_slot, is_past_quiet, is_past_quiets, is_quiet_new, is_slot, quiet_mark, slots_between, slots_from, slots_or_quiet}
+use Rattle.rtp_stream.specs.declared.stream_spec.Stream.{Stream}
+use Rattle.rtp_stream.specs.StreamSpecFacts.{format_of}
+use Rattle.rtp_stream.specs.declared.anchor.Anchor.{Anchor}
+use Rattle.rtp_stream.specs.declared.event.Event.{Event}
+use Rattle.rtp_stream.specs.declared.event.Event.TheVariants.{Arrive, Tick}
+use Rattle.rtp_stream.specs.declared.mark.Body.{Body}
+use Rattle.rtp_stream.specs.declared.mark.Format.{Format}
+use Rattle.rtp_stream.specs.declared.mark.MarkKind.{MarkKind}
+use Rattle.rtp_stream.specs.declared.mark.MarkKind.TheVariants.{End, Quiet, Slot}
+use Rattle.rtp_stream.specs.declared.packet.Packet.{Packet}
 use Rattle.rtp_wire.specs.declared.encoding.Enc.{Enc}
 use Rattle.rtp_wire.specs.declared.encoding.Enc.TheVariants.{L16, L24}
 

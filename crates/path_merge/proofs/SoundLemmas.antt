@@ -10,17 +10,17 @@ use Rattle.std.proofs.lemmas.Nat.{mul-le}
 use Rattle.std.proofs.Math.Nat.{mul-le-mul_left, add-mul}
 use Rattle.path_merge.proofs.HeldCountLemmas.{held_count-taken, no_packet, with_body-counts}
 use Rattle.path_merge.proofs.DueLemmas.{before_next_number, due_before_next, media_time_of-from, media_time_of-suc, next_number-at_deadline, next_number-stays}
-use Rattle.stream_rules.specs.Anchor.{deadline_of, media_time_of, next_number}
-use Rattle.stream_rules.specs.Counts.{is_got_body}
-use Rattle.stream_rules.specs.CountsFacts.{Tally, with_body}
-use Rattle.stream_rules.specs.MarkFacts.{HasLength, payload_length}
-use Rattle.stream_rules.specs.Marks.{body_of, quiet_mark}
+use Rattle.rtp_stream.specs.Anchor.{deadline_of, media_time_of, next_number}
+use Rattle.rtp_stream.specs.Counts.{is_got_body}
+use Rattle.rtp_stream.specs.CountsFacts.{Tally, with_body}
+use Rattle.rtp_stream.specs.MarkFacts.{HasLength, payload_length}
+use Rattle.rtp_stream.specs.Marks.{body_of, quiet_mark}
 use Rattle.path_merge.specs.MergeState.{IsAnchored, IsAnchoredOrNot, IsSound, MergeState, held_count}
 use Rattle.path_merge.specs.Steps.{HoldsMore, IsBeforeDeadline, IsTimeStep, is_quiet_due, next_deadline_of}
-use Rattle.stream_rules.specs.declared.stream_spec.Stream.{Stream}
-use Rattle.stream_rules.specs.StreamSpecFacts.{IsStream, format_of}
-use Rattle.stream_rules.specs.declared.anchor.Anchor.{Anchor}
-use Rattle.stream_rules.specs.declared.packet.Packet.{Packet}
+use Rattle.rtp_stream.specs.declared.stream_spec.Stream.{Stream}
+use Rattle.rtp_stream.specs.StreamSpecFacts.{IsStream, format_of}
+use Rattle.rtp_stream.specs.declared.anchor.Anchor.{Anchor}
+use Rattle.rtp_stream.specs.declared.packet.Packet.{Packet}
 
 pub anchored_at : (m : MergeState) (media : ℤ) (o : Option Anchor) (a : Anchor) → o ≡ Some a → IsAnchoredOrNot m media o → IsAnchored m media a
 anchored_at m media o a e h = subst (λ o. IsAnchoredOrNot m media o) e h

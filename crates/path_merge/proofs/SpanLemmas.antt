@@ -10,23 +10,23 @@ use Rattle.path_merge.proofs.HistoryLemmas.{anchors_of-push, by_last_event, copi
 use Rattle.path_merge.proofs.MarkGrowthLemmas.{by_open_event, well_timed_before, well_timed_tick}
 use Rattle.path_merge.proofs.DueLemmas.{next_number-rises}
 use Rattle.path_merge.proofs.AnewLemmas.{next_number-fresh}
-use Rattle.stream_rules.specs.Anchor.{next_number}
-use Rattle.stream_rules.specs.Copies.{copies_in, copies_of, copies_of_all, copies_with}
-use Rattle.stream_rules.specs.EpochLaws.{AllSlotsAmong, HasSpans, IsSlotAmong, IsSlotUnder, anchor_with, spans_of}
-use Rattle.stream_rules.specs.Epochs.{anchor_in, anchor_of, anchors_at, anchors_of, last_of}
-use Rattle.stream_rules.specs.Grid.{end_of_copies}
-use Rattle.stream_rules.specs.History.{is_closed, is_counting, is_well_timed, time_of}
-use Rattle.stream_rules.specs.Laws.{names_from, names_in, slot_names}
-use Rattle.stream_rules.specs.MarkFacts.{MarkView}
-use Rattle.stream_rules.specs.Marks.{end_mark, is_quiet_new, marks_of, quiet_mark, slots_at_close, slots_between, slots_from, slots_or_quiet, span_end}
-use Rattle.stream_rules.specs.declared.stream_spec.Stream.{Stream}
-use Rattle.stream_rules.specs.declared.anchor.Anchor.{Anchor}
-use Rattle.stream_rules.specs.declared.event.Event.{Event}
-use Rattle.stream_rules.specs.declared.event.Event.TheVariants.{Arrive, Close, Tick}
-use Rattle.stream_rules.specs.declared.mark.Body.{Body}
-use Rattle.stream_rules.specs.declared.mark.MarkKind.{MarkKind}
-use Rattle.stream_rules.specs.declared.mark.MarkKind.TheVariants.{End, Quiet, Slot}
-use Rattle.stream_rules.specs.declared.packet.Packet.{Packet}
+use Rattle.rtp_stream.specs.Anchor.{next_number}
+use Rattle.rtp_stream.specs.Copies.{copies_in, copies_of, copies_of_all, copies_with}
+use Rattle.rtp_stream.specs.EpochLaws.{AllSlotsAmong, HasSpans, IsSlotAmong, IsSlotUnder, anchor_with, spans_of}
+use Rattle.rtp_stream.specs.Epochs.{anchor_in, anchor_of, anchors_at, anchors_of, last_of}
+use Rattle.rtp_stream.specs.Grid.{end_of_copies}
+use Rattle.rtp_stream.specs.History.{is_closed, is_counting, is_well_timed, time_of}
+use Rattle.rtp_stream.specs.Laws.{names_from, names_in, slot_names}
+use Rattle.rtp_stream.specs.MarkFacts.{MarkView}
+use Rattle.rtp_stream.specs.Marks.{end_mark, is_quiet_new, marks_of, quiet_mark, slots_at_close, slots_between, slots_from, slots_or_quiet, span_end}
+use Rattle.rtp_stream.specs.declared.stream_spec.Stream.{Stream}
+use Rattle.rtp_stream.specs.declared.anchor.Anchor.{Anchor}
+use Rattle.rtp_stream.specs.declared.event.Event.{Event}
+use Rattle.rtp_stream.specs.declared.event.Event.TheVariants.{Arrive, Close, Tick}
+use Rattle.rtp_stream.specs.declared.mark.Body.{Body}
+use Rattle.rtp_stream.specs.declared.mark.MarkKind.{MarkKind}
+use Rattle.rtp_stream.specs.declared.mark.MarkKind.TheVariants.{End, Quiet, Slot}
+use Rattle.rtp_stream.specs.declared.packet.Packet.{Packet}
 
 pub slot_names-append : (xs ys : List MarkView) → slot_names (xs ++ ys) ≡ slot_names xs ++ slot_names ys
 slot_names-append [] ys = refl

@@ -2,15 +2,15 @@
 use Rattle.std.proofs.Common.{◌≡◌, ℕ, zero, suc, ◌+◌, ◌<◌, Bool, true, false, List, [], ◌∷◌, ◌++◌, Some, None, ℤ, refl, ap, ◌∙◌, arith, append-nil, length-append, if◌then◌else◌}
 use Rattle.std.specs.Prelude.{count_by, cond, ◌&&◌, option_to_list, nat_eq}
 use Rattle.std.proofs.lemmas.List.Sums.{sum_by-append}
-use Rattle.stream_rules.specs.Counts.{is_ahead, is_counted_fate, is_double, is_got, is_got_body, is_late, is_lost, is_lost_body, is_off_grid, is_restarted, is_taken_fate, is_unlike, is_wrong_source, taken_on, tally_of_fates}
-use Rattle.stream_rules.specs.CountsFacts.{Tally, increased_at, with_body, with_fate}
-use Rattle.stream_rules.specs.MarkFacts.{MarkView}
-use Rattle.stream_rules.specs.Marks.{quiet_mark}
-use Rattle.stream_rules.specs.declared.stream_spec.Stream.{Stream}
-use Rattle.stream_rules.specs.declared.fate.Fate.{Fate}
-use Rattle.stream_rules.specs.declared.fate.Fate.TheVariants.{Ahead, Closed, CountersFull, Double, Late, OffGrid, Restarted, Taken, Unlike, WrongSource}
-use Rattle.stream_rules.specs.declared.mark.Body.{Body}
-use Rattle.stream_rules.specs.declared.mark.Body.TheVariants.{Got, Lost}
+use Rattle.rtp_stream.specs.Counts.{is_ahead, is_counted_fate, is_double, is_got, is_got_body, is_late, is_lost, is_lost_body, is_off_grid, is_restarted, is_taken_fate, is_unlike, is_wrong_source, taken_on, tally_of_fates}
+use Rattle.rtp_stream.specs.CountsFacts.{Tally, increased_at, with_body, with_fate}
+use Rattle.rtp_stream.specs.MarkFacts.{MarkView}
+use Rattle.rtp_stream.specs.Marks.{quiet_mark}
+use Rattle.rtp_stream.specs.declared.stream_spec.Stream.{Stream}
+use Rattle.rtp_stream.specs.declared.fate.Fate.{Fate}
+use Rattle.rtp_stream.specs.declared.fate.Fate.TheVariants.{Ahead, Closed, CountersFull, Double, Late, OffGrid, Restarted, Taken, Unlike, WrongSource}
+use Rattle.rtp_stream.specs.declared.mark.Body.{Body}
+use Rattle.rtp_stream.specs.declared.mark.Body.TheVariants.{Got, Lost}
 
 pub count_by-first : {X : Type 0} (p : X → Bool) (x : X) (xs : List X) → count_by p (x ∷ xs) ≡ cond (p x) 1 0 + count_by p xs
 count_by-first p x xs = sum_by-append (λ y. cond (p y) 1 0) (x ∷ []) xs ∙ ap (λ n. n + count_by p xs) (single (cond (p x) 1 0))

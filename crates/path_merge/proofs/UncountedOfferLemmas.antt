@@ -5,21 +5,21 @@ use Rattle.std.proofs.lemmas.Bool.Decides.{nat_tests}
 use Rattle.path_merge.proofs.EpochLemmas.{deaf_anchor, deaf_copies, deaf_copies_all, deaf_heard}
 use Rattle.path_merge.proofs.HistoryLemmas.{events_until_close-closed, events_until_close-open, fates_of-push, is_closed-append, is_well_timed_from-append, marks_in, marks_in-push, marks_of-in, time_of-append}
 use Rattle.path_merge.proofs.RestartOfferLemmas.{counted_arrivals}
-use Rattle.stream_rules.specs.Copies.{copies_of_all}
-use Rattle.stream_rules.specs.Counts.{fates_of}
-use Rattle.stream_rules.specs.CountsFacts.{Tally}
-use Rattle.stream_rules.specs.Grid.{first_with}
-use Rattle.stream_rules.specs.History.{arrival_count, events_until_close, is_closed, is_counting}
-use Rattle.stream_rules.specs.Marks.{marks_of}
+use Rattle.rtp_stream.specs.Copies.{copies_of_all}
+use Rattle.rtp_stream.specs.Counts.{fates_of}
+use Rattle.rtp_stream.specs.CountsFacts.{Tally}
+use Rattle.rtp_stream.specs.Grid.{first_with}
+use Rattle.rtp_stream.specs.History.{arrival_count, events_until_close, is_closed, is_counting}
+use Rattle.rtp_stream.specs.Marks.{marks_of}
 use Rattle.path_merge.specs.Merge.{HasHistory}
 use Rattle.path_merge.specs.MergeState.{MergeState}
-use Rattle.stream_rules.specs.PathProbation.{probation_of}
+use Rattle.rtp_stream.specs.PathProbation.{probation_of}
 use Rattle.path_merge.specs.Steps.{Offers}
-use Rattle.stream_rules.specs.declared.stream_spec.Stream.{Stream}
-use Rattle.stream_rules.specs.declared.event.Event.{Event}
-use Rattle.stream_rules.specs.declared.event.Event.TheVariants.{Arrive}
-use Rattle.stream_rules.specs.declared.fate.Fate.TheVariants.{Closed, CountersFull}
-use Rattle.stream_rules.specs.declared.packet.Packet.{Packet}
+use Rattle.rtp_stream.specs.declared.stream_spec.Stream.{Stream}
+use Rattle.rtp_stream.specs.declared.event.Event.{Event}
+use Rattle.rtp_stream.specs.declared.event.Event.TheVariants.{Arrive}
+use Rattle.rtp_stream.specs.declared.fate.Fate.TheVariants.{Closed, CountersFull}
+use Rattle.rtp_stream.specs.declared.packet.Packet.{Packet}
 
 module _ (stream : Stream) (open_at : ℤ) (m : MergeState) (events : List Event) (k : ℕ) (at : HasHistory stream open_at m events k) (deaf : is_counting events ≡ false) (path : ℕ) (packet : Packet) where
   deaf_marks : marks_of stream open_at (events ++ Arrive path packet ∷ []) ≡ marks_of stream open_at events

@@ -7,19 +7,19 @@ use Rattle.path_merge.proofs.AgainLemmas.{tick_again}
 use Rattle.path_merge.proofs.HistoryLemmas.{is_closed-append, is_well_timed_from-append, time_of-append}
 use Rattle.path_merge.proofs.JoinLemmas.{alike-refl, alike-trans, stands_alike}
 use Rattle.path_merge.proofs.LawLemmas.{tick_split}
-use Rattle.stream_rules.specs.Anchor.{deadline_of}
-use Rattle.stream_rules.specs.History.{is_closed, is_well_timed, time_of}
-use Rattle.stream_rules.specs.Laws.{IsOpen}
-use Rattle.stream_rules.specs.MarkFacts.{MarkView}
-use Rattle.stream_rules.specs.Marks.{marks_of}
+use Rattle.rtp_stream.specs.Anchor.{deadline_of}
+use Rattle.rtp_stream.specs.History.{is_closed, is_well_timed, time_of}
+use Rattle.rtp_stream.specs.Laws.{IsOpen}
+use Rattle.rtp_stream.specs.MarkFacts.{MarkView}
+use Rattle.rtp_stream.specs.Marks.{marks_of}
 use Rattle.path_merge.specs.Merge.{HasHistory, IsBaseOf}
 use Rattle.path_merge.specs.MergeState.{MergeState}
 use Rattle.path_merge.specs.Steps.{Advances, IsAlike, Moves, MovesBy, is_slot_mark, stop_at}
-use Rattle.stream_rules.specs.declared.stream_spec.Stream.{Stream}
+use Rattle.rtp_stream.specs.declared.stream_spec.Stream.{Stream}
 use Rattle.path_merge.specs.Way.{IsOnWay}
-use Rattle.stream_rules.specs.declared.anchor.Anchor.{Anchor}
-use Rattle.stream_rules.specs.declared.event.Event.{Event}
-use Rattle.stream_rules.specs.declared.event.Event.TheVariants.{Tick}
+use Rattle.rtp_stream.specs.declared.anchor.Anchor.{Anchor}
+use Rattle.rtp_stream.specs.declared.event.Event.{Event}
+use Rattle.rtp_stream.specs.declared.event.Event.TheVariants.{Tick}
 
 -- alike the other way round
 pub alike-sym : (stream : Stream) (open_at : ℤ) (e f : List Event) → IsAlike stream open_at e f → is_well_timed open_at e ≡ true → IsAlike stream open_at f e

@@ -1,9 +1,9 @@
 -- The marks of a merge on the way to a goal.
 use Rattle.std.specs.Prelude.{◌≡◌, ℕ, ◌<◌, List, length, ℤ, Option, None, IfSome}
-use Rattle.stream_rules.specs.declared.stream_spec.Stream.{Stream}
-use Rattle.stream_rules.specs.declared.event.Event.{Event}
-use Rattle.stream_rules.specs.MarkFacts.{MarkView}
-use Rattle.stream_rules.specs.Marks.{marks_of}
+use Rattle.rtp_stream.specs.declared.stream_spec.Stream.{Stream}
+use Rattle.rtp_stream.specs.declared.event.Event.{Event}
+use Rattle.rtp_stream.specs.MarkFacts.{MarkView}
+use Rattle.rtp_stream.specs.Marks.{marks_of}
 use Rattle.path_merge.specs.declared.goal.Goal.{Goal}
 use Rattle.path_merge.specs.declared.goal.Goal.TheVariants.{End, Reading}
 use Rattle.path_merge.specs.MergeState.{MergeState}

@@ -1,21 +1,21 @@
 -- What a merge has to be after a history, with some of its marks handed on.
 use Rattle.std.specs.Prelude.{◌≡◌, ℕ, ◌+◌, ◌≤◌, ◌<◌, nat_lt, Bool, true, false, nat_eq, List, [], ◌∷◌, take, length, ℤ, pos, ◌-ℤ◌, Option, Some, None, if◌then◌else◌}
 use Rattle.std.specs.FinMap.{get}
-use Rattle.stream_rules.specs.declared.stream_spec.Stream.{Stream}
-use Rattle.stream_rules.specs.MarkFacts.{MarkView}
-use Rattle.stream_rules.specs.declared.anchor.Anchor.{Anchor}
-use Rattle.stream_rules.specs.declared.packet.Packet.{Packet}
-use Rattle.stream_rules.specs.declared.mark.MarkKind.{MarkKind}
-use Rattle.stream_rules.specs.declared.mark.MarkKind.TheVariants.{Slot, Quiet, End}
-use Rattle.stream_rules.specs.declared.event.Event.{Event}
-use Rattle.stream_rules.specs.History.{time_of, is_closed, is_well_timed, events_until_close}
-use Rattle.stream_rules.specs.Epochs.{anchor_of, anchors_of, last_of}
-use Rattle.stream_rules.specs.Probation.{heard_since}
-use Rattle.stream_rules.specs.PathProbation.{probation_at, probation_of}
-use Rattle.stream_rules.specs.Copies.{first_copy}
-use Rattle.stream_rules.specs.Marks.{marks_of}
-use Rattle.stream_rules.specs.MarkList.{has_end}
-use Rattle.stream_rules.specs.Counts.{counts_of}
+use Rattle.rtp_stream.specs.declared.stream_spec.Stream.{Stream}
+use Rattle.rtp_stream.specs.MarkFacts.{MarkView}
+use Rattle.rtp_stream.specs.declared.anchor.Anchor.{Anchor}
+use Rattle.rtp_stream.specs.declared.packet.Packet.{Packet}
+use Rattle.rtp_stream.specs.declared.mark.MarkKind.{MarkKind}
+use Rattle.rtp_stream.specs.declared.mark.MarkKind.TheVariants.{Slot, Quiet, End}
+use Rattle.rtp_stream.specs.declared.event.Event.{Event}
+use Rattle.rtp_stream.specs.History.{time_of, is_closed, is_well_timed, events_until_close}
+use Rattle.rtp_stream.specs.Epochs.{anchor_of, anchors_of, last_of}
+use Rattle.rtp_stream.specs.Probation.{heard_since}
+use Rattle.rtp_stream.specs.PathProbation.{probation_at, probation_of}
+use Rattle.rtp_stream.specs.Copies.{first_copy}
+use Rattle.rtp_stream.specs.Marks.{marks_of}
+use Rattle.rtp_stream.specs.MarkList.{has_end}
+use Rattle.rtp_stream.specs.Counts.{counts_of}
 use Rattle.path_merge.specs.MergeState.{MergeState}
 
 abbrev pub is_slot_in : ℕ → MarkKind → Bool

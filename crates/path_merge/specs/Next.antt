@@ -1,10 +1,10 @@
 -- The mark that a merge gives next.
 use Rattle.std.specs.Prelude.{◌+◌, nat_eq, ℤ, pos, ◌-ℤ◌, int_le, Option, Some, None, if◌then◌else◌}
 use Rattle.std.specs.FinMap.{get}
-use Rattle.stream_rules.specs.MarkFacts.{MarkView}
-use Rattle.stream_rules.specs.declared.anchor.Anchor.{Anchor}
-use Rattle.stream_rules.specs.Anchor.{deadline_of}
-use Rattle.stream_rules.specs.Marks.{body_of, end_mark, quiet_mark, slot_mark}
+use Rattle.rtp_stream.specs.MarkFacts.{MarkView}
+use Rattle.rtp_stream.specs.declared.anchor.Anchor.{Anchor}
+use Rattle.rtp_stream.specs.Anchor.{deadline_of}
+use Rattle.rtp_stream.specs.Marks.{body_of, end_mark, quiet_mark, slot_mark}
 use Rattle.path_merge.specs.MergeState.{MergeState, held_count}
 use Rattle.path_merge.specs.Steps.{is_quiet_due}
 

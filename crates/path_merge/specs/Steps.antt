@@ -2,26 +2,26 @@
 use Rattle.std.specs.Prelude.{◌≡◌, ℕ, ◌+◌, ◌-◌, Bool, true, false, ◌&&◌, nat_eq, List, [], ◌∷◌, ◌++◌, length, ℤ, pos, ◌-ℤ◌, ◌≤ℤ◌, ◌<ℤ◌, int_lt, int_le, Option, Some, None, IsSome, is_some, take, drop, ◌≤◌, if◌then◌else◌, option_to_list}
 use Rattle.std.specs.FinMap.{get}
 use Rattle.std.specs.Option.{option_map}
-use Rattle.stream_rules.specs.declared.stream_spec.Stream.{Stream}
-use Rattle.stream_rules.specs.MarkFacts.{MarkView}
-use Rattle.stream_rules.specs.declared.anchor.Anchor.{Anchor}
-use Rattle.stream_rules.specs.declared.packet.Packet.{Packet}
-use Rattle.stream_rules.specs.declared.fate.Fate.{Fate}
-use Rattle.stream_rules.specs.declared.fate.Fate.TheVariants.{Restarted}
-use Rattle.stream_rules.specs.declared.probation.Probation.{Probation}
-use Rattle.stream_rules.specs.declared.event.Event.{Event}
-use Rattle.stream_rules.specs.declared.event.Event.TheVariants.{Arrive, Tick}
-use Rattle.stream_rules.specs.History.{time_of, is_closed, is_well_timed, events_until_close}
-use Rattle.stream_rules.specs.Anchor.{anchor_from, deadline_of, is_source_wanted, is_restart_in_reach, media_time_of, next_number, restart_from, restart_media_time}
-use Rattle.stream_rules.specs.Grid.{extended_number}
-use Rattle.stream_rules.specs.Epochs.{anchor_of, anchors_of, last_of}
-use Rattle.stream_rules.specs.Probation.{is_off}
-use Rattle.stream_rules.specs.PathProbation.{is_complete, no_probation, probation_at, probation_heard}
-use Rattle.stream_rules.specs.Copies.{copies_of}
-use Rattle.stream_rules.specs.Marks.{marks_of, body_of, quiet_mark, is_slot}
-use Rattle.stream_rules.specs.Fate.{fate_at, fate_of, first_fate, place_of}
-use Rattle.stream_rules.specs.CountsFacts.{with_fate, with_body}
-use Rattle.stream_rules.specs.Counts.{fates_of, is_taken_fate}
+use Rattle.rtp_stream.specs.declared.stream_spec.Stream.{Stream}
+use Rattle.rtp_stream.specs.MarkFacts.{MarkView}
+use Rattle.rtp_stream.specs.declared.anchor.Anchor.{Anchor}
+use Rattle.rtp_stream.specs.declared.packet.Packet.{Packet}
+use Rattle.rtp_stream.specs.declared.fate.Fate.{Fate}
+use Rattle.rtp_stream.specs.declared.fate.Fate.TheVariants.{Restarted}
+use Rattle.rtp_stream.specs.declared.probation.Probation.{Probation}
+use Rattle.rtp_stream.specs.declared.event.Event.{Event}
+use Rattle.rtp_stream.specs.declared.event.Event.TheVariants.{Arrive, Tick}
+use Rattle.rtp_stream.specs.History.{time_of, is_closed, is_well_timed, events_until_close}
+use Rattle.rtp_stream.specs.Anchor.{anchor_from, deadline_of, is_source_wanted, is_restart_in_reach, media_time_of, next_number, restart_from, restart_media_time}
+use Rattle.rtp_stream.specs.Grid.{extended_number}
+use Rattle.rtp_stream.specs.Epochs.{anchor_of, anchors_of, last_of}
+use Rattle.rtp_stream.specs.Probation.{is_off}
+use Rattle.rtp_stream.specs.PathProbation.{is_complete, no_probation, probation_at, probation_heard}
+use Rattle.rtp_stream.specs.Copies.{copies_of}
+use Rattle.rtp_stream.specs.Marks.{marks_of, body_of, quiet_mark, is_slot}
+use Rattle.rtp_stream.specs.Fate.{fate_at, fate_of, first_fate, place_of}
+use Rattle.rtp_stream.specs.CountsFacts.{with_fate, with_body}
+use Rattle.rtp_stream.specs.Counts.{fates_of, is_taken_fate}
 use Rattle.path_merge.specs.MergeState.{MergeState, holds_nothing}
 use Rattle.path_merge.specs.Merge.{HasHistory, heard_of}
 

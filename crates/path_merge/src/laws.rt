@@ -1,30 +1,30 @@
 //! What the definitions promise together. Nothing is computed here: the clauses are the laws.
 ghost use Rattle.std.specs.Prelude.{◌≡◌, ℕ, ◌+◌, ◌^◌, ◌<◌, ◌≤◌, ℤ, pos, ◌+ℤ◌, ◌≤ℤ◌, ◌<ℤ◌, List, [], ◌∷◌, ◌++◌, length, take, true, false, None, Some, IfSome};
 ghost use Rattle.std.specs.Int.{int_rem_euclid};
-ghost use Rattle.stream_rules.specs.declared.stream_spec.Stream.{Stream};
-ghost use Rattle.stream_rules.specs.StreamSpecFacts.{IsStream, format_of};
-ghost use Rattle.stream_rules.specs.MarkFacts.{MarkView};
-ghost use Rattle.stream_rules.specs.MarkList.{is_mark_list};
+ghost use Rattle.rtp_stream.specs.declared.stream_spec.Stream.{Stream};
+ghost use Rattle.rtp_stream.specs.StreamSpecFacts.{IsStream, format_of};
+ghost use Rattle.rtp_stream.specs.MarkFacts.{MarkView};
+ghost use Rattle.rtp_stream.specs.MarkList.{is_mark_list};
 ghost use Rattle.path_merge.specs.MergeState.{MergeState};
-ghost use Rattle.stream_rules.specs.declared.anchor.Anchor.{Anchor};
-ghost use Rattle.stream_rules.specs.declared.packet.Packet.{Packet};
-ghost use Rattle.stream_rules.specs.declared.event.Event.{Event};
-ghost use Rattle.stream_rules.specs.declared.event.Event.TheVariants.{Arrive, Tick, Close};
-ghost use Rattle.stream_rules.specs.History.{time_of, is_closed, is_well_timed};
-ghost use Rattle.stream_rules.specs.Anchor.{deadline_of, next_number};
-ghost use Rattle.stream_rules.specs.Grid.{is_on_grid};
-ghost use Rattle.stream_rules.specs.Epochs.{anchor_of, last_of};
-ghost use Rattle.stream_rules.specs.Copies.{copies_of, copies_of_all, first_copy, with_epoch};
-ghost use Rattle.stream_rules.specs.Marks.{end_mark, marks_of};
-ghost use Rattle.stream_rules.specs.EpochLaws.{HasSpans};
-ghost use Rattle.stream_rules.specs.Sent.{BeginsWith, HasEqualCopies, IsOneEpoch, IsWithinReach, OpensNoEpoch, SentEvent, marks_by_number, sent_copies_after, timestamp_in_step, wire_history};
-ghost use Rattle.stream_rules.specs.Counts.{counts_of};
+ghost use Rattle.rtp_stream.specs.declared.anchor.Anchor.{Anchor};
+ghost use Rattle.rtp_stream.specs.declared.packet.Packet.{Packet};
+ghost use Rattle.rtp_stream.specs.declared.event.Event.{Event};
+ghost use Rattle.rtp_stream.specs.declared.event.Event.TheVariants.{Arrive, Tick, Close};
+ghost use Rattle.rtp_stream.specs.History.{time_of, is_closed, is_well_timed};
+ghost use Rattle.rtp_stream.specs.Anchor.{deadline_of, next_number};
+ghost use Rattle.rtp_stream.specs.Grid.{is_on_grid};
+ghost use Rattle.rtp_stream.specs.Epochs.{anchor_of, last_of};
+ghost use Rattle.rtp_stream.specs.Copies.{copies_of, copies_of_all, first_copy, with_epoch};
+ghost use Rattle.rtp_stream.specs.Marks.{end_mark, marks_of};
+ghost use Rattle.rtp_stream.specs.EpochLaws.{HasSpans};
+ghost use Rattle.rtp_stream.specs.Sent.{BeginsWith, HasEqualCopies, IsOneEpoch, IsWithinReach, OpensNoEpoch, SentEvent, marks_by_number, sent_copies_after, timestamp_in_step, wire_history};
+ghost use Rattle.rtp_stream.specs.Counts.{counts_of};
 ghost use Rattle.path_merge.specs.Merge.{HasHistory};
 ghost use Rattle.path_merge.specs.KeepUp.{IsDue, KeepUp};
 ghost use Rattle.path_merge.specs.Clock.{clock_fault_of};
 ghost use Rattle.path_merge.specs.Next.{next_mark};
 ghost use Rattle.path_merge.specs.Steps.{IsAlike};
-ghost use Rattle.stream_rules.specs.Laws.{AreInOrder, IsDeadlineOnTheWay, IsLeastDue, IsOpen, slot_names, slot_times, slots_left, slots_reached};
+ghost use Rattle.rtp_stream.specs.Laws.{AreInOrder, IsDeadlineOnTheWay, IsLeastDue, IsOpen, slot_names, slot_times, slots_left, slots_reached};
 
 /// The slots, by epoch and number, are exactly the spans of the epochs one after the other, rising, each
 /// once: each with the media time of its number under its epoch's anchor, and with the payload of the

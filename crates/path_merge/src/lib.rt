@@ -32,8 +32,8 @@ pub use laws::{
 };
 pub use merge::Merge;
 pub use reorder_window::{SlotWindow, SortedWindow, Window};
-pub use run::{RunFault, run_merge};
-pub use stream_rules::{
+pub use rtp_stream::{
     AdmitFault, Body, Counts, Event, Fate, Format, Mark, MarkKind, MarkKindRef, MarkRef, Packet,
     PacketRef, Path, Probation, Put, SpecFault, Stream, StreamClock, StreamSpec, near16, near32,
 };
+pub use run::{RunFault, run_merge};

@@ -1,15 +1,15 @@
 //! The merge of a stream's paths.
 ghost use Rattle.std.specs.Prelude.{◌≡◌, ℕ, ◌+◌, ◌^◌, ◌≤◌, ◌∷◌, ◌++◌, [], List, ℤ, pos, ◌≤ℤ◌, IfOk, true, false};
 ghost use Rattle.std.specs.FinMap as map;
-ghost use Rattle.stream_rules.specs.declared.event.Event.{Event};
-ghost use Rattle.stream_rules.specs.declared.event.Event.TheVariants.{Close};
-ghost use Rattle.stream_rules.specs.Counts.{tally_of};
-ghost use Rattle.stream_rules.specs.declared.stream_spec.Stream.{Stream};
+ghost use Rattle.rtp_stream.specs.declared.event.Event.{Event};
+ghost use Rattle.rtp_stream.specs.declared.event.Event.TheVariants.{Close};
+ghost use Rattle.rtp_stream.specs.Counts.{tally_of};
+ghost use Rattle.rtp_stream.specs.declared.stream_spec.Stream.{Stream};
 
 use reorder_window::{SlotWindow, Window};
+use rtp_stream::{Anchor, Counts, Probation, StreamSpec};
 use std::alloc::{AllocError, Global};
 use std::marker::Model;
-use stream_rules::{Anchor, Counts, Probation, StreamSpec};
 
 mod arriving;
 mod giving;
@@ -37,11 +37,11 @@ pub struct Merge<V: Window> {
 
 impl<V: Window> Model for Merge<V> {
     ghost use Rattle.path_merge.specs.MergeState.{MergeState, IsSound};
-    ghost use Rattle.stream_rules.specs.Counts.{tally_of};
+    ghost use Rattle.rtp_stream.specs.Counts.{tally_of};
     ghost use Rattle.std.specs.FinMap as map;
     ghost use Rattle.std.specs.Coded.{codes, coded_ℕ};
     ghost use Rattle.std.specs.Ordering.{nat_cmp};
-    ghost use Rattle.stream_rules.specs.contracts.packet.Packet as packet;
+    ghost use Rattle.rtp_stream.specs.contracts.packet.Packet as packet;
 
     ghost Value = { MergeState };
 

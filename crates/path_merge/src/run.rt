@@ -1,21 +1,21 @@
 //! A merge over a whole list of events.
 ghost use Rattle.std.specs.Prelude.{◌≡◌, ℕ, ◌+◌, ◌^◌, ◌∷◌, ◌++◌, [], List, ℤ, pos, ◌≤ℤ◌, None, true, OnOk, IfOk, IfErr, All, take};
-ghost use Rattle.stream_rules.specs.declared.event.Event.{Event};
-ghost use Rattle.stream_rules.specs.declared.event.Event.TheVariants.{Tick};
-ghost use Rattle.stream_rules.specs.History as spec;
-ghost use Rattle.stream_rules.specs.History.{first_clock_fault, is_well_timed};
-ghost use Rattle.stream_rules.specs.Marks.{marks_of};
-ghost use Rattle.stream_rules.specs.Marks as slots;
+ghost use Rattle.rtp_stream.specs.declared.event.Event.{Event};
+ghost use Rattle.rtp_stream.specs.declared.event.Event.TheVariants.{Tick};
+ghost use Rattle.rtp_stream.specs.History as spec;
+ghost use Rattle.rtp_stream.specs.History.{first_clock_fault, is_well_timed};
+ghost use Rattle.rtp_stream.specs.Marks.{marks_of};
+ghost use Rattle.rtp_stream.specs.Marks as slots;
 ghost use Rattle.path_merge.specs.Merge.{HasHistory};
 ghost use Rattle.path_merge.specs.Run.{HasGiven, IsEventOf, IsInOrder, IsRunFault};
 ghost use Rattle.path_merge.specs.Clock.{clock_fault_of};
-ghost use Rattle.stream_rules.specs.declared.stream_spec.Stream.{Stream};
+ghost use Rattle.rtp_stream.specs.declared.stream_spec.Stream.{Stream};
 
 use crate::clock::clock_fault;
 use crate::merge::Merge;
 use reorder_window::Window;
+use rtp_stream::{Event, Mark, MarkKind, StreamSpec};
 use std::alloc::{AllocError, Global};
-use stream_rules::{Event, Mark, MarkKind, StreamSpec};
 use thiserror::Error;
 
 /// Why a list of events gives no marks.

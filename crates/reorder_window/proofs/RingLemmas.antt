@@ -3,7 +3,7 @@ use Rattle.std.proofs.Common.{◌≡◌, ℕ, zero, suc, ◌+◌, ◌-◌, ◌<�
 use Rattle.std.specs.Prelude.{nat_eq, nat_lt, nat_le, slice_index_or, slice_set}
 use Rattle.std.proofs.lemmas.Bool.Decides.{nat_tests}
 use Rattle.reorder_window.specs.SlotWindow.{place_at, slot_at}
-use Rattle.stream_rules.specs.declared.packet.Packet.{Packet}
+use Rattle.rtp_stream.specs.declared.packet.Packet.{Packet}
 
 -- places lie in the ring, no two distances have one, and each is some distance away
 pub place_inside : (front size d : ℕ) → front < size → d < size → place_at front size d < size

@@ -1,5 +1,5 @@
 -- What a ring of slots holds, and what a put, a take and a move leave of it.
-use Rattle.stream_rules.specs.Grid.{first_with}
+use Rattle.rtp_stream.specs.Grid.{first_with}
 use Rattle.std.proofs.Common.{◌≡◌, ℕ, zero, suc, ◌+◌, ◌-◌, ◌*◌, ◌^◌, ◌<◌, ◌≤◌, max, Bool, true, false, ◌&&◌, List, ◌++◌, length, replicate, if◌then◌else◌, Option, Some, None, IsSome, refl, sym, ap, subst, ◌∙◌, arith}
 use Rattle.std.specs.Prelude.{nat_eq, nat_lt, nat_le, slice_index_or, slice_set}
 use Rattle.std.proofs.lemmas.Bool.Decides.{nat_tests}
@@ -9,7 +9,7 @@ use Rattle.std.specs.FinMap.{get, from_entries}
 use Rattle.reorder_window.proofs.RingLemmas.{place_apart, place_back, place_first, place_inside, place_next, slot_none, slot_outside, slot_read, slot_set}
 use Rattle.reorder_window.proofs.SortedLemmas.{get_entries}
 use Rattle.reorder_window.specs.SlotWindow.{IsRing, SlotRing, numbered, packets_from, packets_in, place_at, slot_at}
-use Rattle.stream_rules.specs.declared.packet.Packet.{Packet}
+use Rattle.rtp_stream.specs.declared.packet.Packet.{Packet}
 
 -- a number's packet, if it stands in the ring
 abbrev pub slot_of : SlotRing → ℕ → Option Packet

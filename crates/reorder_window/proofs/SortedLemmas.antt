@@ -1,5 +1,5 @@
 -- What is found in a list of numbered packets, and what an edit of it leaves.
-use Rattle.stream_rules.specs.Grid.{first_with}
+use Rattle.rtp_stream.specs.Grid.{first_with}
 use Rattle.std.proofs.Common.{◌≡◌, ℕ, zero, suc, ◌+◌, ◌<◌, ◌≤◌, List, [], ◌∷◌, ◌++◌, length, take, drop, get_or, if◌then◌else◌, Some, None, IsSome, refl, ap, subst, ◌∙◌, arith}
 use Rattle.std.specs.Prelude.{nat_eq, true, false, insert}
 use Rattle.std.proofs.lemmas.List.Edits.{length-insert}
@@ -8,7 +8,7 @@ use Rattle.std.proofs.lemmas.Bool.Decides.{nat_tests}
 use Rattle.std.specs.Ordering.{nat_cmp}
 use Rattle.std.specs.Cmp.{nat_cmp_total}
 use Rattle.std.specs.FinMap.{get, find, from_entries, get-from_entries}
-use Rattle.stream_rules.specs.declared.packet.Packet.{Packet}
+use Rattle.rtp_stream.specs.declared.packet.Packet.{Packet}
 use Rattle.reorder_window.specs.SortedWindow.{IsWithin, AllBelow, IsFrom, IsGapAt, starts_with_number}
 
 -- there are no more packets than numbers

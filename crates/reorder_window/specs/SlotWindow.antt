@@ -1,6 +1,6 @@
 -- Packets in a ring of slots: a slot holds a packet and no number.
 use Rattle.std.specs.Prelude.{◌≡◌, ◌<◌, ◌≤◌, ◌^◌, IsSome, ℕ, zero, suc, ◌+◌, ◌-◌, ◌*◌, List, [], ◌∷◌, ◌++◌, length, Option, Some, None, nat_lt, if◌then◌else◌}
-use Rattle.stream_rules.specs.declared.packet.Packet.{Packet}
+use Rattle.rtp_stream.specs.declared.packet.Packet.{Packet}
 
 -- what a window holds: the slot of the base, and how far past it the end is
 pub record SlotRing : Type 0 where

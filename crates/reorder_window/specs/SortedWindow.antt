@@ -1,6 +1,6 @@
 -- Packets in the order of their numbers.
 use Rattle.std.specs.Prelude.{Bool, false, nat_eq, ◌≡◌, ℕ, suc, ◌<◌, ◌≤◌, List, [], ◌∷◌, length, take, drop, slice_index_or}
-use Rattle.stream_rules.specs.declared.packet.Packet.{Packet}
+use Rattle.rtp_stream.specs.declared.packet.Packet.{Packet}
 
 -- what a window holds
 pub record SortedPackets : Type 0 where

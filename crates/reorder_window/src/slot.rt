@@ -1,13 +1,13 @@
 //! One slot of a window, which keeps its packet in place.
 ghost use Rattle.std.specs.Prelude.{◌≡◌, ◌≤◌, Some, None, length, option_copied};
-ghost use Rattle.stream_rules.specs.declared.packet.Packet.{Packet};
-ghost use Rattle.stream_rules.specs.PacketRef.{packet_of};
-ghost use Rattle.stream_rules.specs.Put.{put_answer};
+ghost use Rattle.rtp_stream.specs.declared.packet.Packet.{Packet};
+ghost use Rattle.rtp_stream.specs.PacketRef.{packet_of};
+ghost use Rattle.rtp_stream.specs.Put.{put_answer};
 
 use crate::octets::are_same;
+use rtp_stream::{Packet, PacketRef, Put};
 use rtp_wire::Payload;
 use std::marker::Model;
-use stream_rules::{Packet, PacketRef, Put};
 
 /// Room for one packet. While it isn't held, what was written last stays there unseen.
 #[derive(Drop)]
@@ -18,7 +18,7 @@ pub(crate) struct Slot {
 
 impl Model for Slot {
     ghost use Rattle.std.specs.Prelude.{Option, Some, None, if◌then◌else◌};
-    ghost use Rattle.stream_rules.specs.declared.packet.Packet.{Packet};
+    ghost use Rattle.rtp_stream.specs.declared.packet.Packet.{Packet};
 
     ghost Value = { Option Packet };
 

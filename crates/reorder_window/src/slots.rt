@@ -6,9 +6,9 @@ ghost use Rattle.reorder_window.specs.Window.{IsEmpty};
 
 use crate::slot::Slot;
 use crate::window::Window;
+use rtp_stream::{Packet, PacketRef, Put, StreamSpec};
 use std::alloc::{AllocError, Global};
 use std::marker::Model;
-use stream_rules::{Packet, PacketRef, Put, StreamSpec};
 
 /// Packets in as many slots as the window is wide: a number's slot is its remainder by that width.
 /// A slot holds a packet and no number. No call takes longer the more is held, and none but `new`

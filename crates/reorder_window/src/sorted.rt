@@ -5,9 +5,9 @@ ghost use Rattle.reorder_window.specs.Window.{IsEmpty};
 ghost use Rattle.reorder_window.specs.SortedWindow.{IsFoundAt, IsGapAt, starts_with_number};
 
 use crate::window::Window;
+use rtp_stream::{Packet, PacketRef, Put, StreamSpec};
 use std::alloc::{AllocError, Global};
 use std::marker::Model;
-use stream_rules::{Packet, PacketRef, Put, StreamSpec};
 
 /// The packets that are held, the least number first. All calls but `new` take no memory.
 #[derive(Drop)]

@@ -2,12 +2,12 @@
 ghost use Rattle.std.specs.Prelude.{◌≡◌, ℕ, ◌+◌, ◌-◌, ◌^◌, ◌<◌, ◌≤◌, ◌==◌, ◌&&◌, Some, None, IsSome, length, option_copied, if◌then◌else◌};
 ghost use Rattle.std.specs.Ordering.{nat_cmp};
 ghost use Rattle.std.specs.FinMap as map;
-ghost use Rattle.stream_rules.specs.declared.packet.Packet.{Packet};
-ghost use Rattle.stream_rules.specs.PacketRef.{packet_of};
-ghost use Rattle.stream_rules.specs.Put.{put_answer, is_taken};
+ghost use Rattle.rtp_stream.specs.declared.packet.Packet.{Packet};
+ghost use Rattle.rtp_stream.specs.PacketRef.{packet_of};
+ghost use Rattle.rtp_stream.specs.Put.{put_answer, is_taken};
 ghost use Rattle.reorder_window.specs.Window.{IsEmpty};
 
-use stream_rules::{Packet, PacketRef, Put};
+use rtp_stream::{Packet, PacketRef, Put};
 
 /// Packets by number, of which there is room for `size` numbers from `base` on. No call takes memory.
 pub trait Window: Drop {

@@ -1,11 +1,11 @@
 -- The answers of a feed, and the packets of its datagrams.
 use Rattle.std.specs.Prelude.{◌≡◌, ℕ, ◌+◌, ◌≤◌, Bool, true, false, nat_eq, List, [], ◌∷◌, take, count_by, flat_map, ◌⊎◌, if◌then◌else◌}
-use Rattle.stream_rules.specs.declared.stream_spec.Stream.{Stream}
-use Rattle.stream_rules.specs.declared.packet.Packet.{Packet}
-use Rattle.stream_rules.specs.Reception.{reception_of, is_bad, is_wrong_length, is_wrong_type}
-use Rattle.stream_rules.specs.PathCounts.{PathTally}
-use Rattle.stream_rules.specs.declared.reception.Reception.{Reception}
-use Rattle.stream_rules.specs.declared.reception.Reception.TheVariants.{Sent, Bad, WrongType, WrongLength}
+use Rattle.rtp_stream.specs.declared.stream_spec.Stream.{Stream}
+use Rattle.rtp_stream.specs.declared.packet.Packet.{Packet}
+use Rattle.rtp_stream.specs.Reception.{reception_of, is_bad, is_wrong_length, is_wrong_type}
+use Rattle.rtp_stream.specs.PathCounts.{PathTally}
+use Rattle.rtp_stream.specs.declared.reception.Reception.{Reception}
+use Rattle.rtp_stream.specs.declared.reception.Reception.TheVariants.{Sent, Bad, WrongType, WrongLength}
 use Rattle.run_devices.specs.declared.feed.FeedAnswer.{FeedAnswer}
 use Rattle.run_devices.specs.declared.feed.FeedAnswer.TheVariants.{Datagram, Nothing, Fault, Ended}
 

@@ -2,6 +2,6 @@ pub mod Answers
 pub mod Clocks
 pub mod Sinks
 pub mod Balances
-pub use Rattle.stream_rules.specs.Reception
-pub use Rattle.stream_rules.specs.PathCounts
-pub use Rattle.stream_rules.specs.Marks
+pub use Rattle.rtp_stream.specs.Reception
+pub use Rattle.rtp_stream.specs.PathCounts
+pub use Rattle.rtp_stream.specs.Marks

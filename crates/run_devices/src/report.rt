@@ -2,8 +2,8 @@
 ghost use Rattle.std.specs.Prelude.{◌≡◌};
 ghost use Rattle.run_devices.specs.declared.report.WorkFault.TheVariants as fault;
 
+use rtp_stream::StreamCounts;
 use std::alloc::AllocError;
-use stream_rules::StreamCounts;
 use thiserror::Error;
 
 /// What came of a run: the counts of each stream, the faults of each feed, and the datagrams by what

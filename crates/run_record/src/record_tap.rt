@@ -7,8 +7,8 @@ ghost use Rattle.run_record.specs.Puts.{IsPacket, IsSince, Opens, PutsClose, Put
 use crate::block_end::BlockEnd;
 use crate::way::Way;
 use capture_write::{Arrival, MOST_OCTETS, nanoseconds_after};
+use rtp_stream::StreamSpec;
 use rtrb::Producer;
-use stream_rules::StreamSpec;
 use studio_spec::StudioSpec;
 
 /// The letter of a stream's first path.

@@ -4,17 +4,17 @@ use Rattle.studio_rings.proofs.TurnLemmas.{producers}
 use Rattle.std.proofs.lemmas.Bool.Decides.{nat_tests}
 use Rattle.std.proofs.lemmas.List.Sums.{sum_by-append}
 use Rattle.rtrb.specs.Ring.{sent, SameProducer}
-use Rattle.stream_rules.specs.declared.packet.Packet.{Packet}
-use Rattle.stream_rules.specs.Reception.{reception_of, is_bad, is_sent, is_wrong_length, is_wrong_type}
-use Rattle.stream_rules.specs.PathCounts.{PathTally, path_tally_of, with_reception}
-use Rattle.stream_rules.specs.declared.reception.Reception.{Reception}
-use Rattle.stream_rules.specs.declared.reception.Reception.TheVariants.{Sent, Bad, WrongType, WrongLength}
-use Rattle.stream_rules.specs.declared.stream_spec.Stream.{Stream}
+use Rattle.rtp_stream.specs.declared.packet.Packet.{Packet}
+use Rattle.rtp_stream.specs.Reception.{reception_of, is_bad, is_sent, is_wrong_length, is_wrong_type}
+use Rattle.rtp_stream.specs.PathCounts.{PathTally, path_tally_of, with_reception}
+use Rattle.rtp_stream.specs.declared.reception.Reception.{Reception}
+use Rattle.rtp_stream.specs.declared.reception.Reception.TheVariants.{Sent, Bad, WrongType, WrongLength}
+use Rattle.rtp_stream.specs.declared.stream_spec.Stream.{Stream}
 use Rattle.studio_rings.specs.Paths.{Offers, Receives}
 use Rattle.studio_rings.specs.declared.path.Offer.{Offer}
 use Rattle.studio_rings.specs.declared.path.Offer.TheVariants.{CountersFull, Bad as BadOffer, WrongType as OtherType, WrongLength as OtherLength, Full, Sent as SentOffer}
 use Rattle.studio_rings.specs.declared.path_end.PathEnd.{PathEnd}
-use Rattle.stream_rules.specs.declared.path_counts.PathCounts.{PathCounts}
+use Rattle.rtp_stream.specs.declared.path_counts.PathCounts.{PathCounts}
 use Rattle.run_devices.proofs.AnswerLemmas.{told-next}
 use Rattle.run_devices.specs.Answers.{Answer, CountsOthers, Tells, reaches_end, received_as, told_datagrams, told_packets, IsPartOf, packet_in, packets_in, packets_of}
 use Rattle.run_devices.specs.declared.feed.FeedAnswer.{FeedAnswer}

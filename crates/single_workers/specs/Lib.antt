@@ -6,11 +6,11 @@ pub mod Runs
 pub use Rattle.run_devices.specs.Answers
 pub use Rattle.run_devices.specs.Clocks
 pub use Rattle.run_devices.specs.Sinks
-pub use Rattle.stream_rules.specs.StreamSpecFacts
-pub use Rattle.stream_rules.specs.History
-pub use Rattle.stream_rules.specs.Marks
-pub use Rattle.stream_rules.specs.Counts
-pub use Rattle.stream_rules.specs.PathCounts
+pub use Rattle.rtp_stream.specs.StreamSpecFacts
+pub use Rattle.rtp_stream.specs.History
+pub use Rattle.rtp_stream.specs.Marks
+pub use Rattle.rtp_stream.specs.Counts
+pub use Rattle.rtp_stream.specs.PathCounts
 pub use Rattle.studio_spec.specs.Studio
 pub use Rattle.studio_mix.specs.Feed
 pub use Rattle.studio_mix.specs.Blocks

@@ -1,7 +1,7 @@
 -- What the mixer's worker gives, and what its sink is handed.
 use Rattle.std.specs.Prelude.{◌≡◌, ℕ, ◌+◌, ◌<◌, ◌^◌, Bool, true, List, [], ◌∷◌, ◌++◌, length, Option}
 use Rattle.rtrb.specs.Ring.{SameConsumer}
-use Rattle.stream_rules.specs.MarkFacts.{MarkView}
+use Rattle.rtp_stream.specs.MarkFacts.{MarkView}
 use Rattle.studio_spec.specs.Studio.{Studio}
 use Rattle.studio_rings.specs.Datagrams.{AreAllGiven, HasGiven}
 use Rattle.studio_rings.specs.declared.side.Side.{Side}

@@ -1,17 +1,17 @@
 -- What a run's report says of the streams' histories and of the datagrams.
 use Rattle.std.specs.Prelude.{◌≡◌, ℕ, suc, ◌-◌, ◌*◌, ◌<◌, ◌≤◌, ◌^◌, true, List, [], ◌∷◌, ◌++◌, length, sum_by, ℤ, Option}
-use Rattle.stream_rules.specs.declared.stream_spec.Stream.{Stream}
-use Rattle.stream_rules.specs.History.{is_closed, is_well_timed}
-use Rattle.stream_rules.specs.Marks.{marks_of}
-use Rattle.stream_rules.specs.Counts.{counts_of, tally_of}
-use Rattle.stream_rules.specs.declared.event.Event.{Event}
-use Rattle.stream_rules.specs.declared.event.Event.TheVariants.{Close}
+use Rattle.rtp_stream.specs.declared.stream_spec.Stream.{Stream}
+use Rattle.rtp_stream.specs.History.{is_closed, is_well_timed}
+use Rattle.rtp_stream.specs.Marks.{marks_of}
+use Rattle.rtp_stream.specs.Counts.{counts_of, tally_of}
+use Rattle.rtp_stream.specs.declared.event.Event.{Event}
+use Rattle.rtp_stream.specs.declared.event.Event.TheVariants.{Close}
 use Rattle.studio_spec.specs.Studio.{Studio}
 use Rattle.studio_mix.specs.Feed.{Feed}
 use Rattle.studio_mix.specs.Blocks.{AreBlocks}
-use Rattle.stream_rules.specs.PathCounts.{empty_path_tally, path_tally_of}
-use Rattle.stream_rules.specs.declared.path_counts.PathCounts.{PathCounts}
-use Rattle.stream_rules.specs.declared.stream_counts.StreamCounts.{StreamCounts}
+use Rattle.rtp_stream.specs.PathCounts.{empty_path_tally, path_tally_of}
+use Rattle.rtp_stream.specs.declared.path_counts.PathCounts.{PathCounts}
+use Rattle.rtp_stream.specs.declared.stream_counts.StreamCounts.{StreamCounts}
 use Rattle.studio_rings.specs.Streams.{packets_by}
 use Rattle.run_devices.specs.Answers.{Answer, CountsOthers, IsPartOf, reaches_end, told_datagrams, told_packets}
 use Rattle.run_devices.specs.Clocks.{GoByClock, events_in}

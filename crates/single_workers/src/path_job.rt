@@ -1,6 +1,6 @@
 //! What a path's worker starts from, and what it comes to.
 
-use stream_rules::PathCounts;
+use rtp_stream::PathCounts;
 use studio_rings::{PathDone, PathEnd};
 
 /// A path's end, and what feeds it.

@@ -4,9 +4,9 @@ use Rattle.std.specs.Prelude.{cond, ◌&&◌, nat_eq, slice_index}
 use Rattle.std.proofs.lemmas.Bool.{eq-eqb, eqb-false, eqb-true, ne_eqb}
 use Rattle.std.proofs.lemmas.List.{get_or-set_other, get_or-set_same, length-set}
 use Rattle.std.proofs.lemmas.List.Sums.{sum_by-cons}
-use Rattle.stream_rules.specs.Counts.{is_double, is_late, is_taken_fate, is_unlike}
-use Rattle.stream_rules.specs.declared.fate.Fate.{Fate}
-use Rattle.stream_rules.specs.declared.fate.Fate.TheVariants.{Ahead, Closed, CountersFull, Double, Late, OffGrid, Restarted, Taken, Unlike, WrongSource}
+use Rattle.rtp_stream.specs.Counts.{is_double, is_late, is_taken_fate, is_unlike}
+use Rattle.rtp_stream.specs.declared.fate.Fate.{Fate}
+use Rattle.rtp_stream.specs.declared.fate.Fate.TheVariants.{Ahead, Closed, CountersFull, Double, Late, OffGrid, Restarted, Taken, Unlike, WrongSource}
 use Rattle.stream_tally.specs.Counts.{AreCounts, HasFates, one_more, with_fate}
 use Rattle.stream_tally.specs.Offers.{count_in_64_bits, offers_of}
 use Rattle.stream_tally.specs.declared.counts.FateCounts.{FateCounts}

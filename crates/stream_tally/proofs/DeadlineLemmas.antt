@@ -4,13 +4,13 @@ use Rattle.std.specs.Prelude.{unsigned_abs}
 use Rattle.std.specs.Int.{int_rem_euclid, saturate_signed}
 use Rattle.std.proofs.lemmas.Bool.{eqb-true}
 use Rattle.std.proofs.lemmas.Int.{ints}
-use Rattle.stream_rules.proofs.FateLemmas.{shifted}
-use Rattle.stream_rules.proofs.NearestLemmas.{rem_apart, rem_bounds, rem_same}
-use Rattle.stream_rules.specs.Anchor.{deadline_of}
-use Rattle.stream_rules.specs.Grid.{expected_timestamp, is_on_grid}
-use Rattle.stream_rules.specs.Nearest.{IsNearest}
-use Rattle.stream_rules.specs.declared.anchor.Anchor.{Anchor}
-use Rattle.stream_rules.specs.declared.stream_spec.Stream.{Stream}
+use Rattle.rtp_stream.proofs.FateLemmas.{shifted}
+use Rattle.rtp_stream.proofs.NearestLemmas.{rem_apart, rem_bounds, rem_same}
+use Rattle.rtp_stream.specs.Anchor.{deadline_of}
+use Rattle.rtp_stream.specs.Grid.{expected_timestamp, is_on_grid}
+use Rattle.rtp_stream.specs.Nearest.{IsNearest}
+use Rattle.rtp_stream.specs.declared.anchor.Anchor.{Anchor}
+use Rattle.rtp_stream.specs.declared.stream_spec.Stream.{Stream}
 use Rattle.stream_tally.specs.Deadlines.{IsDeadlineOf, IsNearby, IsShortTime, KnownDeadline}
 
 pub saturate_short : (z : ℤ) → neg_ℤ (pos (2 ^ 62)) ≤ℤ z → z ≤ℤ pos (2 ^ 62) → saturate_signed w64 z ≡ z

@@ -3,7 +3,7 @@ use Rattle.std.proofs.Common.{◌≡◌, ◌≢◌, ℕ, zero, suc, ◌%◌, ◌
 use Rattle.std.specs.Prelude.{◌&&◌, ◌||◌, nat_eq, slice_index_or, slice_set}
 use Rattle.std.proofs.lemmas.Bool.{and_from, and_parts, eq-eqb, eqb-false, eqb-true, ne_eqb}
 use Rattle.std.proofs.lemmas.List.{get_or-set_other, get_or-set_same, length-set}
-use Rattle.stream_rules.specs.Counts.{is_double, is_late, is_taken_fate, is_unlike}
+use Rattle.rtp_stream.specs.Counts.{is_double, is_late, is_taken_fate, is_unlike}
 use Rattle.stream_tally.proofs.CountLemmas.{and_false}
 use Rattle.stream_tally.specs.Entry.{HasEntry, empty_entry, entry_after, entry_of, misses, no_path, with_copy}
 use Rattle.stream_tally.specs.Missed.{has_brought, is_copy_fate, is_copy_on, is_without, taken_last, takes}

@@ -3,7 +3,7 @@ use Rattle.std.proofs.Common.{◌≡◌, ◌≢◌, ℕ, ◌+◌, ◌%◌, Bool,
 use Rattle.std.specs.Prelude.{◌&&◌, ◌||◌, nat_eq}
 use Rattle.std.proofs.lemmas.Bool.{and_parts, eq-eqb, eqb-false, eqb-true, ne_eqb}
 use Rattle.std.proofs.lemmas.List.{reverse-append, reverse-reverse}
-use Rattle.stream_rules.specs.Counts.{is_double, is_late, is_taken_fate, is_unlike}
+use Rattle.rtp_stream.specs.Counts.{is_double, is_late, is_taken_fate, is_unlike}
 use Rattle.stream_tally.proofs.CountLemmas.{and_false}
 use Rattle.stream_tally.specs.Laws.{BringsEach, is_given_up, is_left, left_of}
 use Rattle.stream_tally.specs.Missed.{ends_missed, has_brought, is_copy_fate, is_copy_on, is_without, missed_of, taken_last, takes}

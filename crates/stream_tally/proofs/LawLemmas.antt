@@ -4,7 +4,7 @@ use Rattle.std.specs.Prelude.{cond, ◌&&◌, nat_eq}
 use Rattle.std.specs.List.{All}
 use Rattle.std.proofs.lemmas.List.Elements.{All-head, All-tail}
 use Rattle.std.proofs.lemmas.List.Sums.{sum_by-cons}
-use Rattle.stream_rules.specs.Counts.{is_taken_fate}
+use Rattle.rtp_stream.specs.Counts.{is_taken_fate}
 use Rattle.stream_tally.proofs.CountLemmas.{offers_of-first}
 use Rattle.stream_tally.specs.Offers.{first_of, taken_of}
 use Rattle.stream_tally.specs.Offer.{Offer}

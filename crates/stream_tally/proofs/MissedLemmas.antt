@@ -1,7 +1,7 @@
 -- The numbers that each path missed, after one more offer.
 use Rattle.std.proofs.Common.{◌≡◌, ℕ, ◌+◌, ◌%◌, ◌<◌, Bool, true, false, List, ◌∷◌, length, sym, ap, ◌∙◌, arith, if◌then◌else◌}
 use Rattle.std.specs.Prelude.{◌&&◌, slice_index}
-use Rattle.stream_rules.specs.Counts.{is_taken_fate}
+use Rattle.rtp_stream.specs.Counts.{is_taken_fate}
 use Rattle.stream_tally.proofs.CountLemmas.{counted_more}
 use Rattle.stream_tally.proofs.EntryLemmas.{without_is}
 use Rattle.stream_tally.specs.Counts.{AreCounts}

@@ -7,7 +7,7 @@ use Rattle.std.proofs.lemmas.List.{get_or-replicate, get_or-set_other, get_or-se
 use Rattle.stream_tally.proofs.EntryLemmas.{entry_elsewhere, entry_empty, entry_here}
 use Rattle.stream_tally.proofs.MissedLemmas.{missed_after}
 use Rattle.stream_tally.proofs.SecondLemmas.{second_elsewhere, second_here, second_none, second_without}
-use Rattle.stream_rules.specs.Counts.{is_taken_fate}
+use Rattle.rtp_stream.specs.Counts.{is_taken_fate}
 use Rattle.stream_tally.specs.Counts.{AreCounts}
 use Rattle.stream_tally.specs.Entry.{HasEntry, empty_entry, entry_after, misses}
 use Rattle.stream_tally.specs.Missed.{missed_of}

@@ -1,7 +1,7 @@
 -- Worked cases of the definitions, computed.
 use Rattle.std.specs.Prelude.{◌≡◌, ℕ, List, [], ◌∷◌, ℤ, pos, negsuc, Some, None, refl}
-use Rattle.stream_rules.specs.declared.fate.Fate.{Fate}
-use Rattle.stream_rules.specs.declared.fate.Fate.TheVariants.{Double, Late, Restarted, Taken, Unlike}
+use Rattle.rtp_stream.specs.declared.fate.Fate.{Fate}
+use Rattle.rtp_stream.specs.declared.fate.Fate.TheVariants.{Double, Late, Restarted, Taken, Unlike}
 use Rattle.stream_tally.specs.Missed.{missed_of}
 use Rattle.stream_tally.specs.Offers.{double_of, first_of}
 use Rattle.stream_tally.specs.Spare.{last_spares}

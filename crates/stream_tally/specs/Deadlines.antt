@@ -1,11 +1,11 @@
 -- The deadlines of packets that are in step, from that of one.
 use Rattle.std.specs.Prelude.{◌≡◌, ℕ, ◌^◌, ◌<◌, Bool, true, false, ℤ, pos, ◌+ℤ◌, ◌-ℤ◌, ◌*ℤ◌, ◌≤ℤ◌, ◌<ℤ◌, neg_ℤ, Option, Some, None}
-use Rattle.stream_rules.specs.Anchor.{deadline_of}
-use Rattle.stream_rules.specs.Grid.{expected_timestamp}
-use Rattle.stream_rules.specs.declared.anchor.Anchor.{Anchor}
-use Rattle.stream_rules.specs.declared.fate.Fate.{Fate}
-use Rattle.stream_rules.specs.declared.fate.Fate.TheVariants.{Closed, CountersFull, WrongSource, OffGrid, Late, Ahead, Taken, Double, Unlike, Restarted}
-use Rattle.stream_rules.specs.declared.stream_spec.Stream.{Stream}
+use Rattle.rtp_stream.specs.Anchor.{deadline_of}
+use Rattle.rtp_stream.specs.Grid.{expected_timestamp}
+use Rattle.rtp_stream.specs.declared.anchor.Anchor.{Anchor}
+use Rattle.rtp_stream.specs.declared.fate.Fate.{Fate}
+use Rattle.rtp_stream.specs.declared.fate.Fate.TheVariants.{Closed, CountersFull, WrongSource, OffGrid, Late, Ahead, Taken, Double, Unlike, Restarted}
+use Rattle.rtp_stream.specs.declared.stream_spec.Stream.{Stream}
 
 -- a packet's timestamp, and its deadline
 pub record KnownDeadline : Type 0 where

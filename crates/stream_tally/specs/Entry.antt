@@ -1,7 +1,7 @@
 -- What is kept of the number that was taken last at a place.
 use Rattle.std.specs.Prelude.{◌≡◌, ℕ, ◌<◌, Bool, true, false, not, ◌&&◌, nat_eq, List, [], ◌∷◌, length, slice_index_or, slice_set, Option, Some, None, if◌then◌else◌}
-use Rattle.stream_rules.specs.declared.fate.Fate.{Fate}
-use Rattle.stream_rules.specs.Counts.{is_taken_fate}
+use Rattle.rtp_stream.specs.declared.fate.Fate.{Fate}
+use Rattle.rtp_stream.specs.Counts.{is_taken_fate}
 use Rattle.stream_tally.specs.declared.entry.Entry.{Entry}
 use Rattle.stream_tally.specs.Offer.{Offer}
 use Rattle.stream_tally.specs.Missed.{has_brought, is_copy_fate, taken_last}

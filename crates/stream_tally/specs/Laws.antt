@@ -1,6 +1,6 @@
 -- What a path misses, told from each number on: of a list of offers with the earliest first.
 use Rattle.std.specs.Prelude.{◌≡◌, ℕ, ◌+◌, ◌%◌, Bool, true, false, not, ◌&&◌, nat_eq, List, [], ◌∷◌, if◌then◌else◌}
-use Rattle.stream_rules.specs.Counts.{is_taken_fate}
+use Rattle.rtp_stream.specs.Counts.{is_taken_fate}
 use Rattle.stream_tally.specs.Missed.{is_copy_on, takes}
 use Rattle.stream_tally.specs.Offer.{Offer}
 

@@ -1,7 +1,7 @@
 -- The numbers of which a path brought no copy while one could still be used, out of a list of offers with the latest first.
 use Rattle.std.specs.Prelude.{ℕ, ◌+◌, ◌%◌, Bool, true, false, not, ◌&&◌, ◌||◌, nat_eq, List, [], ◌∷◌, Option, Some, None, if◌then◌else◌}
-use Rattle.stream_rules.specs.declared.fate.Fate.{Fate}
-use Rattle.stream_rules.specs.Counts.{is_double, is_late, is_taken_fate, is_unlike}
+use Rattle.rtp_stream.specs.declared.fate.Fate.{Fate}
+use Rattle.rtp_stream.specs.Counts.{is_double, is_late, is_taken_fate, is_unlike}
 use Rattle.stream_tally.specs.Offer.{Offer}
 
 -- the packet is one of the stream's numbers: the first copy or a further one, or one that comes too late

@@ -1,6 +1,6 @@
 -- A packet that was offered to a stream's merge.
 use Rattle.std.specs.Prelude.{ℕ, ℤ, Option}
-use Rattle.stream_rules.specs.declared.fate.Fate.{Fate}
+use Rattle.rtp_stream.specs.declared.fate.Fate.{Fate}
 
 -- the path that brought it, what became of it, its sequence number, how long before its deadline it came, and the reading of the clock then
 pub record Offer : Type 0 where

@@ -1,7 +1,7 @@
 -- What became of a path's offers, out of a list with the latest first.
 use Rattle.std.specs.Prelude.{ℕ, ◌-◌, ◌^◌, min, Bool, ◌&&◌, nat_eq, List, count_by}
-use Rattle.stream_rules.specs.declared.fate.Fate.{Fate}
-use Rattle.stream_rules.specs.Counts.{is_double, is_late, is_taken_fate, is_unlike}
+use Rattle.rtp_stream.specs.declared.fate.Fate.{Fate}
+use Rattle.rtp_stream.specs.Counts.{is_double, is_late, is_taken_fate, is_unlike}
 use Rattle.stream_tally.specs.Offer.{Offer}
 
 -- what a counter of 64 bits shows of a number: it stands still at the greatest

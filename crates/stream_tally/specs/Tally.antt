@@ -1,6 +1,6 @@
 -- What a tally is after a list of offers, the latest first.
 use Rattle.std.specs.Prelude.{◌≡◌, ℕ, ◌/◌, ◌%◌, ◌<◌, List, length, slice_index_or}
-use Rattle.stream_rules.specs.declared.stream_spec.Stream.{Stream}
+use Rattle.rtp_stream.specs.declared.stream_spec.Stream.{Stream}
 use Rattle.stream_tally.specs.declared.counts.FateCounts.{FateCounts}
 use Rattle.stream_tally.specs.declared.entry.Entry.{Entry}
 use Rattle.stream_tally.specs.declared.second.Second.{Second}

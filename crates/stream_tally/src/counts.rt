@@ -2,7 +2,7 @@
 ghost use Rattle.std.specs.Prelude.{◌≡◌, ◌<◌, [], ◌∷◌};
 ghost use Rattle.stream_tally.specs.Counts.{one_more};
 
-use stream_rules::{Fate, Path};
+use rtp_stream::{Fate, Path};
 
 /// Adds one to a path's number, which stands still at the greatest.
 #[inline(always)]

@@ -1,14 +1,14 @@
 //! The deadlines of a stream's packets, by their timestamps.
 ghost use Rattle.std.specs.Prelude.{◌≡◌, ◌⊎◌, ℕ, ◌^◌, true, false, None, Some, pos, ◌+ℤ◌, ◌≤ℤ◌, IfSome, MatchOption};
-ghost use Rattle.stream_rules.specs.Anchor.{deadline_of};
-ghost use Rattle.stream_rules.specs.Grid.{is_on_grid};
-ghost use Rattle.stream_rules.specs.declared.anchor.Anchor.{Anchor};
-ghost use Rattle.stream_rules.specs.declared.fate.Fate.TheVariants.{Taken};
-ghost use Rattle.stream_rules.specs.declared.stream_spec.Stream.{Stream};
+ghost use Rattle.rtp_stream.specs.Anchor.{deadline_of};
+ghost use Rattle.rtp_stream.specs.Grid.{is_on_grid};
+ghost use Rattle.rtp_stream.specs.declared.anchor.Anchor.{Anchor};
+ghost use Rattle.rtp_stream.specs.declared.fate.Fate.TheVariants.{Taken};
+ghost use Rattle.rtp_stream.specs.declared.stream_spec.Stream.{Stream};
 ghost use Rattle.stream_tally.specs.Deadlines.{IsDeadlineOf, IsNearby, IsShortTime, IsSpareBefore, KnownDeadline, is_opening, is_placed, known_from};
 
+use rtp_stream::{Fate, near32};
 use std::marker::Model;
-use stream_rules::{Fate, near32};
 
 /// How long before a deadline it is at a reading of the clock, in sampling instants; none from the deadline on.
 pub fn spare_before(deadline: i64, now: i64) -> Option<u32>

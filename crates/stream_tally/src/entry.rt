@@ -2,9 +2,9 @@
 ghost use Rattle.std.specs.Prelude.{◌≡◌, ℕ, ◌+◌, ◌%◌, ◌<◌, ◌&&◌, length, slice_index, slice_index_or, slice_set, if◌then◌else◌};
 ghost use Rattle.stream_tally.specs.Offers.{count_in_64_bits};
 ghost use Rattle.stream_tally.specs.Entry.{empty_entry, entry_after, entry_of, misses, with_copy};
-ghost use Rattle.stream_rules.specs.Counts.{is_taken_fate};
+ghost use Rattle.rtp_stream.specs.Counts.{is_taken_fate};
 
-use stream_rules::{Fate, Path, is_taken};
+use rtp_stream::{Fate, Path, is_taken};
 
 /// The number that was taken last at a place, and which paths brought copies of it since.
 #[derive(Clone, Copy, Debug)]

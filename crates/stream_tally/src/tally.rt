@@ -1,6 +1,6 @@
 //! The tally of a stream's offers.
 ghost use Rattle.std.specs.Prelude.{◌≡◌, ◌^◌, ◌<◌, List, [], ◌∷◌, length, replicate, slice_index_or, slice_set, IfOk, IfSome, IsNone};
-ghost use Rattle.stream_rules.specs.declared.stream_spec.Stream.{Stream};
+ghost use Rattle.rtp_stream.specs.declared.stream_spec.Stream.{Stream};
 ghost use Rattle.stream_tally.specs.Offer.{Offer};
 ghost use Rattle.stream_tally.specs.declared.second.Second.{Second};
 ghost use Rattle.stream_tally.specs.Entry.{empty_entry};
@@ -14,9 +14,9 @@ use crate::entry::{Entry, note};
 use crate::path_tally::PathTally;
 use crate::second::{Second, second_of};
 use crate::spare::Spare;
+use rtp_stream::{Fate, Path, StreamSpec};
 use std::alloc::{AllocError, Global};
 use std::marker::Model;
-use stream_rules::{Fate, Path, StreamSpec};
 
 /// What became of the offers of one stream, path by path.
 ///

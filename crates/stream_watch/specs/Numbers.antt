@@ -1,6 +1,6 @@
 -- What is told of a path, by the packets that were offered, the latest first.
 use Rattle.std.specs.Prelude.{◌≡◌, ℕ, ◌^◌, ◌<◌, List, [], length, ℤ, IfSome, IsNone}
-use Rattle.stream_rules.specs.declared.stream_spec.Stream.{Stream}
+use Rattle.rtp_stream.specs.declared.stream_spec.Stream.{Stream}
 use Rattle.stream_tally.specs.Offer.{Offer}
 use Rattle.stream_tally.specs.Missed.{missed_of}
 use Rattle.stream_tally.specs.Offers.{count_in_64_bits, double_of, first_of, late_of, unlike_of}

@@ -2,8 +2,8 @@
 use Rattle.std.specs.Prelude.{◌≡◌, ◌⊎◌, ℕ, ◌<◌, ◌≤◌, max, List, [], ◌∷◌, length, drop, replicate, slice_index, ℤ, ◌<ℤ◌, ◌≤ℤ◌}
 use Rattle.rtp_wire.specs.declared.encoding.Enc.{Enc}
 use Rattle.rtrb.specs.declared.producer.Producer.{Producer}
-use Rattle.stream_rules.specs.declared.counts.Counts.{Counts}
-use Rattle.stream_rules.specs.declared.stream_spec.Stream.{Stream}
+use Rattle.rtp_stream.specs.declared.counts.Counts.{Counts}
+use Rattle.rtp_stream.specs.declared.stream_spec.Stream.{Stream}
 use Rattle.stream_tally.specs.Offer.{Offer}
 use Rattle.stream_tally.specs.Peaks.{peak_of}
 use Rattle.stream_watch.specs.Newest.{Gives, GoesThrough, HasNoPlace}

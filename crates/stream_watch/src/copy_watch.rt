@@ -1,13 +1,13 @@
 //! What becomes of each path's packets beside those of the others.
 ghost use Rattle.std.specs.Prelude.{◌≡◌, ℕ, ◌∷◌, [], List, Option, IfOk};
-ghost use Rattle.stream_rules.specs.declared.stream_spec.Stream.{Stream};
+ghost use Rattle.rtp_stream.specs.declared.stream_spec.Stream.{Stream};
 ghost use Rattle.stream_tally.specs.Offer.{Offer};
 ghost use Rattle.stream_tally.specs.Tally.{HasTally};
 ghost use Rattle.stream_watch.specs.Numbers.{AreNumbers};
 
 use crate::numbers::PathNumbers;
+use rtp_stream::{Fate, Path, StreamSpec};
 use std::alloc::{AllocError, Global};
-use stream_rules::{Fate, Path, StreamSpec};
 use stream_tally::{Deadlines, StreamTally, spare_before};
 
 /// What came of a stream's packets, path by path.

@@ -1,6 +1,6 @@
 //! What is told of a stream, and of the mix.
 
-use stream_rules::Counts;
+use rtp_stream::Counts;
 use stream_tally::{PathTally, Spare};
 
 /// What became of the packets of one path.

@@ -3,9 +3,9 @@ ghost use Rattle.rtrb.specs.Ring.{SameConsumer, SameProducer};
 ghost use Rattle.stream_watch.specs.Newest.{Gives, IsNewest};
 
 use crate::ring::{give, newest};
+use rtp_stream::PathCounts;
 use rtrb::{Consumer, Producer, RingBuffer};
 use std::alloc::{AllocError, Global};
-use stream_rules::PathCounts;
 
 /// Tells what becomes of a path's datagrams.
 #[derive(Drop)]

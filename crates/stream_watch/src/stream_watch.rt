@@ -1,7 +1,7 @@
 //! A ring of what becomes of a stream's packets.
 ghost use Rattle.std.specs.Prelude.{◌≡◌, ℕ, ◌<◌, ◌^◌, ◌∷◌, [], List, Option, IfOk, ℤ, pos, neg_ℤ, ◌+ℤ◌, ◌<ℤ◌, ◌≤ℤ◌};
 ghost use Rattle.rtrb.specs.Ring.{SameConsumer, SameProducer};
-ghost use Rattle.stream_rules.specs.declared.stream_spec.Stream.{Stream};
+ghost use Rattle.rtp_stream.specs.declared.stream_spec.Stream.{Stream};
 ghost use Rattle.stream_tally.specs.Offer.{Offer};
 ghost use Rattle.stream_tally.specs.Tally.{HasTally};
 ghost use Rattle.stream_watch.specs.Newest.{IsNewest};
@@ -11,9 +11,9 @@ ghost use Rattle.stream_watch.specs.Told.{Tells};
 use crate::copy_watch::CopyWatch;
 use crate::numbers::{PathNumbers, StreamNumbers};
 use crate::ring::{give, newest};
+use rtp_stream::{Counts, Fate, PacketRef, Path, StreamSpec};
 use rtrb::{Consumer, Producer, RingBuffer};
 use std::alloc::{AllocError, Global};
-use stream_rules::{Counts, Fate, PacketRef, Path, StreamSpec};
 
 /// From one telling to the next, in sampling instants: a tenth of a second.
 const TENTH: i64 = 4_800;

@@ -1,7 +1,7 @@
 //! The report of a run.
 ghost use Rattle.std.specs.Prelude.{◌≡◌, ◌<◌, ℕ, List, Some, slice_get, IfOk};
-ghost use Rattle.stream_rules.specs.declared.stream_spec.Stream.{Stream};
-ghost use Rattle.stream_rules.specs.PathCounts.{tallies_of};
+ghost use Rattle.rtp_stream.specs.declared.stream_spec.Stream.{Stream};
+ghost use Rattle.rtp_stream.specs.PathCounts.{tallies_of};
 ghost use Rattle.studio_spec.specs.Studio.{Studio};
 ghost use Rattle.studio_session.specs.Counts.{path_tallies};
 ghost use Rattle.studio_session.specs.Event.{TraceEvent};
@@ -13,9 +13,9 @@ ghost use Rattle.run_devices.specs.Balances.{Balances};
 use crate::desk::Desk;
 use crate::taker::Taker;
 use path_merge::{Path, StreamSpec};
+use rtp_stream::{Counts, PathCounts, StreamCounts};
 use run_devices::WorkReport;
 use std::alloc::{AllocError, Global};
-use stream_rules::{Counts, PathCounts, StreamCounts};
 use studio_engine::Engine;
 
 /// The memory that a report needs, taken before the run.

@@ -5,10 +5,10 @@ use crate::spare_rows::{millis, push_spares, spare_height};
 use crate::strip::{push_strip, strip_height};
 use crate::svg::line;
 use crate::ticks::{TICKS_HEIGHT, push_ticks};
+use rtp_stream::StreamSpec;
 use rtp_wire::Enc;
 use std::alloc::{AllocError, Global};
 use std::io::Write;
-use stream_rules::StreamSpec;
 use studio_session::Cursor;
 
 /// The height of a panel's name.

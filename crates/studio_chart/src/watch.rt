@@ -5,8 +5,8 @@ ghost use Rattle.studio_session.specs.Cursor.{IsSameCursor};
 use crate::observer::Observer;
 use crate::sighting::{Copied, Kind, Sighting};
 use path_merge::{Fate, MarkKindRef, PacketRef, Path};
+use rtp_stream::{StreamSpec, is_taken};
 use std::alloc::{AllocError, Global};
-use stream_rules::{StreamSpec, is_taken};
 use studio_session::{
     Cursor, EventSource, MOST_ARRIVAL_OCTETS, Outline, Receipt, ReceptionRef, receive_ref,
 };

@@ -6,6 +6,7 @@ use live_parts::{
     Handed, LiveOptions, LivePorts, Opening, Recorded, Setup, Strangers, StreamName, TaiOffset,
     tai_opening,
 };
+use rtp_stream::Path;
 use std::alloc::Global;
 use std::io::Write;
 use std::net::Net;
@@ -14,7 +15,6 @@ use std::rt::Env;
 use std::sync::Wait;
 use std::thread::Threads;
 use std::time::{Clock, Duration};
-use stream_rules::Path;
 use studio_live::{LiveFault, run_studio_live};
 use studio_spec::StudioSpec;
 

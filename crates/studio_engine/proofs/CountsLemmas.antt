@@ -3,13 +3,13 @@ use Rattle.std.proofs.Common.{◌≡◌, inl, inr, ◌<◌, ℕ, zero, suc, ◌+
 use Rattle.std.proofs.lemmas.Bool.{cases_Bool}
 use Rattle.std.proofs.lemmas.List.{take_all, take-append-drop, append-nil}
 use Rattle.std.proofs.lemmas.Option.{slice_get_within, get_or_from_slice_get}
-use Rattle.stream_rules.specs.declared.stream_spec.Stream.{Stream}
-use Rattle.stream_rules.specs.StreamSpecFacts.{format_of}
-use Rattle.stream_rules.specs.MarkFacts.{MarkView}
-use Rattle.stream_rules.specs.MarkList.{has_end, is_mark_list}
-use Rattle.stream_rules.specs.History.{is_closed}
-use Rattle.stream_rules.specs.Counts.{counts_of}
-use Rattle.stream_rules.specs.PathCounts.{PathTally}
+use Rattle.rtp_stream.specs.declared.stream_spec.Stream.{Stream}
+use Rattle.rtp_stream.specs.StreamSpecFacts.{format_of}
+use Rattle.rtp_stream.specs.MarkFacts.{MarkView}
+use Rattle.rtp_stream.specs.MarkList.{has_end, is_mark_list}
+use Rattle.rtp_stream.specs.History.{is_closed}
+use Rattle.rtp_stream.specs.Counts.{counts_of}
+use Rattle.rtp_stream.specs.PathCounts.{PathTally}
 use Rattle.path_merge.specs.Merge.{HasHistory}
 use Rattle.path_merge.proofs.MarkListLemmas.{listed}
 use Rattle.lane_align.proofs.LawLemmas.{end_stays}

@@ -11,25 +11,25 @@ use Rattle.std.proofs.lemmas.Int.{by_lt_z, clamps, ints}
 use Rattle.std.proofs.lemmas.List.{take_all}
 use Rattle.std.proofs.lemmas.Nat.{div-add-mod'}
 use Rattle.std.proofs.lemmas.Option.{slice_get-get_or}
-use Rattle.stream_rules.specs.declared.stream_spec.Stream.{Stream}
-use Rattle.stream_rules.specs.declared.anchor.Anchor.{Anchor}
-use Rattle.stream_rules.specs.declared.event.Event.{Event}
-use Rattle.stream_rules.specs.declared.event.Event.TheVariants.{Tick}
-use Rattle.stream_rules.specs.declared.mark.MarkKind.{MarkKind}
-use Rattle.stream_rules.specs.declared.mark.MarkKind.TheVariants.{End, Quiet, Slot}
-use Rattle.stream_rules.specs.declared.packet.Packet.{Packet}
-use Rattle.stream_rules.specs.Anchor.{deadline_of, media_time_of, next_number}
-use Rattle.stream_rules.specs.Copies.{copies_of, copies_of_all}
-use Rattle.stream_rules.specs.Counts.{counts_of, is_got, is_lost}
-use Rattle.stream_rules.specs.CountsFacts.{Tally}
-use Rattle.stream_rules.specs.Epochs.{anchor_of}
-use Rattle.stream_rules.specs.Grid.{first_with}
-use Rattle.stream_rules.specs.History.{is_closed, time_of}
-use Rattle.stream_rules.specs.Laws.{names_in, slot_names}
-use Rattle.stream_rules.specs.MarkFacts.{MarkView}
-use Rattle.stream_rules.specs.MarkList.{has_end, is_end}
-use Rattle.stream_rules.specs.Marks.{body_of, has_slot, is_past_quiets, is_quiet_new, is_slot, marks_of, quiet_mark, slot_mark, slots_between, slots_from, slots_or_quiet}
-use Rattle.stream_rules.specs.StreamSpecFacts.{format_of}
+use Rattle.rtp_stream.specs.declared.stream_spec.Stream.{Stream}
+use Rattle.rtp_stream.specs.declared.anchor.Anchor.{Anchor}
+use Rattle.rtp_stream.specs.declared.event.Event.{Event}
+use Rattle.rtp_stream.specs.declared.event.Event.TheVariants.{Tick}
+use Rattle.rtp_stream.specs.declared.mark.MarkKind.{MarkKind}
+use Rattle.rtp_stream.specs.declared.mark.MarkKind.TheVariants.{End, Quiet, Slot}
+use Rattle.rtp_stream.specs.declared.packet.Packet.{Packet}
+use Rattle.rtp_stream.specs.Anchor.{deadline_of, media_time_of, next_number}
+use Rattle.rtp_stream.specs.Copies.{copies_of, copies_of_all}
+use Rattle.rtp_stream.specs.Counts.{counts_of, is_got, is_lost}
+use Rattle.rtp_stream.specs.CountsFacts.{Tally}
+use Rattle.rtp_stream.specs.Epochs.{anchor_of}
+use Rattle.rtp_stream.specs.Grid.{first_with}
+use Rattle.rtp_stream.specs.History.{is_closed, time_of}
+use Rattle.rtp_stream.specs.Laws.{names_in, slot_names}
+use Rattle.rtp_stream.specs.MarkFacts.{MarkView}
+use Rattle.rtp_stream.specs.MarkList.{has_end, is_end}
+use Rattle.rtp_stream.specs.Marks.{body_of, has_slot, is_past_quiets, is_quiet_new, is_slot, marks_of, quiet_mark, slot_mark, slots_between, slots_from, slots_or_quiet}
+use Rattle.rtp_stream.specs.StreamSpecFacts.{format_of}
 use Rattle.path_merge.specs.Clock.{clock_fault_of}
 use Rattle.path_merge.specs.declared.clock.ClockFault.{ClockFault}
 use Rattle.path_merge.specs.declared.clock.ClockFault.TheVariants.{Closed, TooFar, WentBack}

@@ -6,7 +6,7 @@ use Rattle.std.proofs.lemmas.Bool.Decides.{nat_tests}
 use Rattle.std.proofs.lemmas.Int.{ints}
 use Rattle.std.proofs.lemmas.List.{length_push, length-map}
 use Rattle.std.proofs.lemmas.Option.{slice_get_within, slice_get-get_or}
-use Rattle.stream_rules.specs.declared.stream_spec.Stream.{Stream}
+use Rattle.rtp_stream.specs.declared.stream_spec.Stream.{Stream}
 use Rattle.studio_spec.specs.Studio.{IsStudio, Studio}
 use Rattle.studio_mix.specs.Feed.{unfed}
 use Rattle.studio_mix.specs.Mixer.{MixerState, HasFeeds}

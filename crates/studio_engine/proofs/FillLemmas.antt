@@ -3,17 +3,17 @@ use Rattle.std.proofs.Common.{◌≡◌, inl, inr, ◌<◌, ◌≤◌, ◌+◌, 
 use Rattle.std.specs.List.{list_all}
 use Rattle.std.proofs.lemmas.Bool.{false≢true}
 use Rattle.std.proofs.lemmas.Option.{slice_get_within}
-use Rattle.stream_rules.specs.declared.stream_spec.Stream.{Stream}
-use Rattle.stream_rules.specs.StreamSpecFacts.{format_of}
-use Rattle.stream_rules.specs.declared.event.Event.{Event}
-use Rattle.stream_rules.specs.History.{is_closed}
-use Rattle.stream_rules.specs.MarkFacts.{MarkView}
-use Rattle.stream_rules.specs.MarkList.{has_end, is_end}
-use Rattle.stream_rules.specs.Marks.{end_mark, marks_of}
-use Rattle.stream_rules.specs.Epochs.{last_of}
-use Rattle.stream_rules.specs.Reception.{reception_of}
-use Rattle.stream_rules.specs.declared.reception.Reception.{Reception}
-use Rattle.stream_rules.specs.declared.reception.Reception.TheVariants.{Sent, Bad, WrongType, WrongLength}
+use Rattle.rtp_stream.specs.declared.stream_spec.Stream.{Stream}
+use Rattle.rtp_stream.specs.StreamSpecFacts.{format_of}
+use Rattle.rtp_stream.specs.declared.event.Event.{Event}
+use Rattle.rtp_stream.specs.History.{is_closed}
+use Rattle.rtp_stream.specs.MarkFacts.{MarkView}
+use Rattle.rtp_stream.specs.MarkList.{has_end, is_end}
+use Rattle.rtp_stream.specs.Marks.{end_mark, marks_of}
+use Rattle.rtp_stream.specs.Epochs.{last_of}
+use Rattle.rtp_stream.specs.Reception.{reception_of}
+use Rattle.rtp_stream.specs.declared.reception.Reception.{Reception}
+use Rattle.rtp_stream.specs.declared.reception.Reception.TheVariants.{Sent, Bad, WrongType, WrongLength}
 use Rattle.lane_align.specs.Cover.{covers, cover_of, cover_to, last_quiet, last_slot, time_reached}
 use Rattle.mix_packets.specs.OutSpec.{datagram_length}
 use Rattle.mix_packets.specs.Block.{block_start}

@@ -6,7 +6,7 @@ use Rattle.std.proofs.lemmas.Bool.Decides.{nat_tests}
 use Rattle.std.proofs.lemmas.List.{length-set}
 use Rattle.std.proofs.lemmas.Option.{slice_get-get_or, get_or_from_slice_get}
 use Rattle.studio_mix.proofs.MixerLemmas.{set_same_at, set_other_at}
-use Rattle.stream_rules.specs.declared.stream_spec.Stream.{Stream}
+use Rattle.rtp_stream.specs.declared.stream_spec.Stream.{Stream}
 use Rattle.studio_session.specs.Event.{TraceEvent, Arrival}
 use Rattle.studio_session.specs.Session.{Other, step_of}
 use Rattle.studio_session.specs.Cursor.{CursorState, HasPulled}

@@ -6,7 +6,7 @@ use Rattle.std.proofs.lemmas.Option.{slice_get-get_or}
 use Rattle.lane_align.proofs.MarkListLemmas.{both_left, both_right}
 use Rattle.studio_spec.specs.Studio.{Studio}
 use Rattle.studio_mix.specs.Feed.{Feed}
-use Rattle.stream_rules.specs.MarkFacts.{MarkView}
+use Rattle.rtp_stream.specs.MarkFacts.{MarkView}
 use Rattle.studio_mix.specs.Mixer.{MixerState, has_room_of}
 use Rattle.studio_mix.proofs.MixerLemmas.{set_same_at, set_other_at}
 use Rattle.studio_session.specs.Event.{TraceEvent}

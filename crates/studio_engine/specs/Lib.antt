@@ -3,9 +3,9 @@ pub mod Engine
 pub mod Give
 pub mod Session
 pub mod Deadline
-pub use Rattle.stream_rules.specs.MarkFacts
-pub use Rattle.stream_rules.specs.PathCounts
-pub use Rattle.stream_rules.specs.Counts as MergeCounts
+pub use Rattle.rtp_stream.specs.MarkFacts
+pub use Rattle.rtp_stream.specs.PathCounts
+pub use Rattle.rtp_stream.specs.Counts as MergeCounts
 pub use Rattle.path_merge.specs.Clock
 pub use Rattle.mix_packets.specs.OutSpec
 pub use Rattle.studio_spec.specs.Studio

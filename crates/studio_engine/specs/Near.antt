@@ -1,6 +1,6 @@
 -- How near the marks of a studio's streams lie to one another: why the room of its lanes is enough.
 use Rattle.std.specs.Prelude.{◌≡◌, ℕ, true, false, List, map, slice_get, Some, All}
-use Rattle.stream_rules.specs.declared.stream_spec.Stream.{Stream}
+use Rattle.rtp_stream.specs.declared.stream_spec.Stream.{Stream}
 use Rattle.studio_spec.specs.Studio.{Studio}
 use Rattle.studio_mix.specs.Mixer.{MixerState, has_room_of}
 use Rattle.studio_mix.specs.Ready.{is_ready}

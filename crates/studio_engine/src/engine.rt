@@ -1,6 +1,6 @@
 //! A studio's merges and its mixer, moved by calls.
 ghost use Rattle.std.specs.Prelude.{◌≡◌, ◌⊎◌, ℕ, ◌+◌, ◌^◌, ◌<◌, ◌≤◌, ◌∷◌, ◌++◌, [], List, pos, ◌≤ℤ◌, ◌<ℤ◌, length, slice_get, true, false, None, Some, IfOk, IfErr, IfSome, OnOk, OnErr};
-ghost use Rattle.stream_rules.specs.declared.stream_spec.Stream.{Stream};
+ghost use Rattle.rtp_stream.specs.declared.stream_spec.Stream.{Stream};
 ghost use Rattle.mix_packets.specs.OutSpec.{datagram_length};
 ghost use Rattle.path_merge.specs.Clock.{clock_fault_of};
 ghost use Rattle.studio_spec.specs.Studio.{Studio};
@@ -11,8 +11,8 @@ ghost use Rattle.studio_session.specs.Receipt.{receipt_of};
 ghost use Rattle.studio_session.specs.Counts as received;
 ghost use Rattle.studio_session.specs.Report.{merge_tally_of};
 ghost use Rattle.studio_session.specs.Run.{blocks_left};
-ghost use Rattle.stream_rules.specs.Counts.{tally_of};
-ghost use Rattle.stream_rules.specs.PathCounts.{path_tally_of};
+ghost use Rattle.rtp_stream.specs.Counts.{tally_of};
+ghost use Rattle.rtp_stream.specs.PathCounts.{path_tally_of};
 ghost use Rattle.studio_engine.specs.Deadline.{IsUnreadyBefore};
 ghost use Rattle.studio_engine.specs.Engine.{HasAllMarks, arrive_fault_of, path_fault_of, stream_deadline_of};
 ghost use Rattle.studio_engine.specs.Session.{Gives, HasGivenReady, HasSession, shut, turned};
@@ -24,9 +24,9 @@ use crate::hand::{hand_close, hand_datagram, hand_reading};
 use crate::keep::keep;
 use mix_packets::OutSpec;
 use path_merge::{ClockFault, Counts, Path, clock_fault};
+use rtp_stream::PathCounts;
 use std::alloc::{AllocError, Global};
 use std::marker::Model;
-use stream_rules::PathCounts;
 use studio_mix::Mixer;
 use studio_session::{Cursor, Receipt, is_runnable, studio_cursors};
 use studio_spec::StudioSpec;
@@ -57,7 +57,7 @@ impl Model for Engine {
     ghost use Rattle.std.specs.FinMap as map;
     ghost use Rattle.std.specs.Coded.{codes, coded_ℕ};
     ghost use Rattle.std.specs.Ordering.{nat_cmp};
-    ghost use Rattle.stream_rules.specs.contracts.packet.Packet as packet;
+    ghost use Rattle.rtp_stream.specs.contracts.packet.Packet as packet;
 
     ghost Value = { EngineState };
 

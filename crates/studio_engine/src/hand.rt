@@ -1,6 +1,6 @@
 //! An event, handed to every stream of an engine.
 ghost use Rattle.std.specs.Prelude.{◌≡◌, ◌≢◌, ℕ, ◌<◌, ◌≤◌, ◌+◌, List, ℤ, length, slice_get, Some, None, IfSome};
-ghost use Rattle.stream_rules.specs.declared.stream_spec.Stream.{Stream};
+ghost use Rattle.rtp_stream.specs.declared.stream_spec.Stream.{Stream};
 ghost use Rattle.studio_session.specs.Event.{TraceEvent, Arrival, Reading, Closing};
 ghost use Rattle.studio_session.specs.Cursor.{CursorState, HasPulled};
 ghost use Rattle.studio_session.specs.Handed.{AreHanded, IsHanded};

@@ -8,10 +8,10 @@ use Rattle.std.proofs.lemmas.List.{take_all, take_more, append-nil, get_or-set_s
 use Rattle.std.proofs.lemmas.List.FromFn.{length-map-range_with_len}
 use Rattle.std.proofs.lemmas.List.Sums.{sum_by_more, sum_by-set}
 use Rattle.std.proofs.Math.Seq.{map-set_same}
-use Rattle.stream_rules.specs.declared.stream_spec.Stream.{Stream}
-use Rattle.stream_rules.specs.StreamSpecFacts.{format_of}
-use Rattle.stream_rules.specs.MarkFacts.{MarkView}
-use Rattle.stream_rules.specs.declared.mark.Format.{Format}
+use Rattle.rtp_stream.specs.declared.stream_spec.Stream.{Stream}
+use Rattle.rtp_stream.specs.StreamSpecFacts.{format_of}
+use Rattle.rtp_stream.specs.MarkFacts.{MarkView}
+use Rattle.rtp_stream.specs.declared.mark.Format.{Format}
 use Rattle.lane_align.specs.Value.{frame_at, frames_from, value_at}
 use Rattle.lane_align.specs.Lane.{LaneState, HasFeed, HasSameFacts}
 use Rattle.gain_mix.specs.Mix.{Is24Bits}

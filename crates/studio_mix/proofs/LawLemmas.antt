@@ -7,13 +7,13 @@ use Rattle.std.specs.List.{range_with_len}
 use Rattle.std.specs.Option.{option_or}
 use Rattle.gain_mix.specs.Changes.{matrix_at}
 use Rattle.gain_mix.specs.Mix.{mixed_frame}
-use Rattle.stream_rules.specs.declared.stream_spec.Stream.{Stream}
-use Rattle.stream_rules.specs.StreamSpecFacts.{format_of}
-use Rattle.stream_rules.specs.MarkFacts.{MarkView}
-use Rattle.stream_rules.specs.MarkList.{is_mark_list, is_end, has_end}
-use Rattle.stream_rules.specs.declared.mark.Format.{Format}
-use Rattle.stream_rules.specs.declared.mark.MarkKind.{MarkKind}
-use Rattle.stream_rules.specs.declared.mark.MarkKind.TheVariants.{Slot, Quiet, End}
+use Rattle.rtp_stream.specs.declared.stream_spec.Stream.{Stream}
+use Rattle.rtp_stream.specs.StreamSpecFacts.{format_of}
+use Rattle.rtp_stream.specs.MarkFacts.{MarkView}
+use Rattle.rtp_stream.specs.MarkList.{is_mark_list, is_end, has_end}
+use Rattle.rtp_stream.specs.declared.mark.Format.{Format}
+use Rattle.rtp_stream.specs.declared.mark.MarkKind.{MarkKind}
+use Rattle.rtp_stream.specs.declared.mark.MarkKind.TheVariants.{Slot, Quiet, End}
 use Rattle.lane_align.specs.declared.cover.Cover.{Cover}
 use Rattle.lane_align.specs.declared.cover.Cover.TheVariants.{Nothing, Until, All}
 use Rattle.lane_align.specs.Cover.{slot_of, quiet_of, last_slot, last_quiet, time_reached, cover_to, cover_of, covers, end_of}

@@ -8,12 +8,12 @@ use Rattle.lane_align.proofs.LaneLemmas.{distance, past, none}
 use Rattle.std.specs.List.{list_all, list_any, All as AllOf}
 use Rattle.std.proofs.lemmas.Bool.{cases_lt, cases_Bool, false≢true}
 use Rattle.std.proofs.lemmas.Bool.Decides.{nat_tests}
-use Rattle.stream_rules.specs.declared.stream_spec.Stream.{Stream}
-use Rattle.stream_rules.specs.StreamSpecFacts.{format_of}
-use Rattle.stream_rules.specs.MarkFacts.{MarkView}
-use Rattle.stream_rules.specs.declared.mark.Format.{Format}
+use Rattle.rtp_stream.specs.declared.stream_spec.Stream.{Stream}
+use Rattle.rtp_stream.specs.StreamSpecFacts.{format_of}
+use Rattle.rtp_stream.specs.MarkFacts.{MarkView}
+use Rattle.rtp_stream.specs.declared.mark.Format.{Format}
 use Rattle.lane_align.specs.declared.cover.Cover.TheVariants.{Nothing, Until, All}
-use Rattle.stream_rules.specs.MarkList.{has_end}
+use Rattle.rtp_stream.specs.MarkList.{has_end}
 use Rattle.lane_align.specs.Cover.{covers, cover_of, cover_to, end_of, last_slot, last_quiet, time_reached}
 use Rattle.lane_align.specs.Lane.{LaneState, HasFeed, cover_at, end_at, natural}
 use Rattle.mix_packets.specs.declared.out_spec.Output.{Output}

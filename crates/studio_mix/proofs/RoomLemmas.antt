@@ -3,7 +3,7 @@ use Rattle.std.proofs.Common.{◌≡◌, ℕ, ◌+◌, ◌<◌, ◌≤◌, max, 
 use Rattle.std.proofs.lemmas.List.{take_all, take_more}
 use Rattle.std.proofs.lemmas.List.Recursion.{max_push}
 use Rattle.std.proofs.Math.Nat.{max_comm}
-use Rattle.stream_rules.specs.declared.stream_spec.Stream.{Stream}
+use Rattle.rtp_stream.specs.declared.stream_spec.Stream.{Stream}
 use Rattle.studio_mix.specs.Room.{lag_of, greatest_lag}
 
 pub greatest_more : (streams : List Stream) (i : ℕ) (stream : Stream) (so_far lag next : ℕ) → i < length streams → stream ≡ get_or streams i stream

@@ -4,7 +4,7 @@ use Rattle.std.proofs.lemmas.Int.{ints}
 use Rattle.std.proofs.lemmas.Bool.{cases_eq}
 use Rattle.std.proofs.lemmas.List.{append-nil, length-replicate, length-set}
 use Rattle.std.proofs.lemmas.Option.{slice_get_within, slice_get-get_or, get_or_from_slice_get}
-use Rattle.stream_rules.specs.MarkFacts.{MarkView}
+use Rattle.rtp_stream.specs.MarkFacts.{MarkView}
 use Rattle.lane_align.specs.Lane.{LaneState, HasFeed}
 use Rattle.gain_mix.specs.Changes.{Changes, matrix_at}
 use Rattle.gain_mix.specs.Gain.{ins_of}

@@ -1,12 +1,12 @@
 -- Worked cases of the definitions, computed.
 use Rattle.std.specs.Prelude.{◌≡◌, ℕ, List, [], ◌∷◌, ◌++◌, replicate, ℤ, pos, None, true, false, refl, flat_map}
 use Rattle.rtp_wire.specs.declared.encoding.Enc.TheVariants.{L24}
-use Rattle.stream_rules.specs.declared.stream_spec.Stream.{Stream}
-use Rattle.stream_rules.specs.StreamSpecFacts.{format_of}
-use Rattle.stream_rules.specs.MarkFacts.{MarkView}
-use Rattle.stream_rules.specs.declared.stream_spec.StreamClock.TheVariants.{Media}
-use Rattle.stream_rules.specs.declared.mark.Body.TheVariants.{Got, Lost}
-use Rattle.stream_rules.specs.declared.mark.MarkKind.TheVariants.{Slot, Quiet, End}
+use Rattle.rtp_stream.specs.declared.stream_spec.Stream.{Stream}
+use Rattle.rtp_stream.specs.StreamSpecFacts.{format_of}
+use Rattle.rtp_stream.specs.MarkFacts.{MarkView}
+use Rattle.rtp_stream.specs.declared.stream_spec.StreamClock.TheVariants.{Media}
+use Rattle.rtp_stream.specs.declared.mark.Body.TheVariants.{Got, Lost}
+use Rattle.rtp_stream.specs.declared.mark.MarkKind.TheVariants.{Slot, Quiet, End}
 use Rattle.mix_packets.specs.declared.out_spec.Output.{Output}
 use Rattle.studio_spec.specs.Networks.{absent_networks}
 use Rattle.studio_spec.specs.Ports.{absent_rows}

@@ -1,9 +1,9 @@
 -- The marks of each stream, and its values.
 use Rattle.std.specs.Prelude.{◌≡◌, ℕ, true, ℤ, List, [], ◌++◌, length, map, flat_map, slice_get, Some}
-use Rattle.stream_rules.specs.declared.stream_spec.Stream.{Stream}
-use Rattle.stream_rules.specs.StreamSpecFacts.{format_of}
-use Rattle.stream_rules.specs.MarkFacts.{MarkView}
-use Rattle.stream_rules.specs.MarkList.{is_mark_list}
+use Rattle.rtp_stream.specs.declared.stream_spec.Stream.{Stream}
+use Rattle.rtp_stream.specs.StreamSpecFacts.{format_of}
+use Rattle.rtp_stream.specs.MarkFacts.{MarkView}
+use Rattle.rtp_stream.specs.MarkList.{is_mark_list}
 use Rattle.lane_align.specs.Value.{frame_at}
 
 -- a stream, and the marks that it gave

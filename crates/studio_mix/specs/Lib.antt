@@ -8,9 +8,9 @@ pub mod Room
 pub mod Saturated
 pub mod Mixer
 pub use Rattle.rtp_wire.specs.Sample
-pub use Rattle.stream_rules.specs.StreamSpecFacts
-pub use Rattle.stream_rules.specs.MarkFacts
-pub use Rattle.stream_rules.specs.MarkList
+pub use Rattle.rtp_stream.specs.StreamSpecFacts
+pub use Rattle.rtp_stream.specs.MarkFacts
+pub use Rattle.rtp_stream.specs.MarkList
 pub use Rattle.lane_align.specs.Value
 pub use Rattle.lane_align.specs.Cover
 pub use Rattle.lane_align.specs.Lane

@@ -1,6 +1,6 @@
 -- How much room a lane needs for marks that come before they are wanted.
 use Rattle.std.specs.Prelude.{ℕ, ◌+◌, ◌*◌, ◌-◌, max, List, [], ◌∷◌, map}
-use Rattle.stream_rules.specs.declared.stream_spec.Stream.{Stream}
+use Rattle.rtp_stream.specs.declared.stream_spec.Stream.{Stream}
 use Rattle.lane_align.specs.Lane.{LaneState}
 use Rattle.studio_spec.specs.Studio.{Studio}
 

@@ -13,8 +13,8 @@ ghost use Rattle.studio_mix.specs.Lanes.{AreFed, AreRead, IsLaneAt, IsReadyLane,
 use crate::lay::lay_stream;
 use crate::room::room_beside;
 use lane_align::{Cover, Lane};
+use rtp_stream::StreamSpec;
 use std::alloc::{AllocError, Global};
-use stream_rules::StreamSpec;
 
 /// A lane for each stream, that was fed nothing, with room beside a stream of this lag, in frames.
 pub(crate) fn new_lanes(

@@ -1,7 +1,7 @@
 //! The lanes of a studio's streams, mixed block by block.
 ghost use Rattle.std.specs.Prelude.{◌≡◌, ℕ, ℤ, pos, ◌+◌, ◌*◌, ◌^◌, ◌<◌, ◌≤◌, ◌≤ℤ◌, true, not, List, ◌∷◌, [], ◌++◌, length, map, drop, replicate, slice_get, slice_set, All, Some, None, is_some, IfOk, IfSome};
-ghost use Rattle.stream_rules.specs.StreamSpecFacts.{format_of};
-ghost use Rattle.stream_rules.specs.MarkList.{is_mark_list};
+ghost use Rattle.rtp_stream.specs.StreamSpecFacts.{format_of};
+ghost use Rattle.rtp_stream.specs.MarkList.{is_mark_list};
 ghost use Rattle.lane_align.specs.Cover.{covers, cover_of};
 ghost use Rattle.mix_packets.specs.OutSpec.{datagram_length};
 ghost use Rattle.mix_packets.specs.Block.{block_start};
@@ -18,9 +18,9 @@ use crate::room::greatest_lag;
 use gain_mix::{Schedule, mix_counted};
 use lane_align::Lane;
 use mix_packets::{OutSpec, Packer};
+use rtp_stream::{Mark, MarkRef};
 use std::alloc::{AllocError, Global};
 use std::marker::Model;
-use stream_rules::{Mark, MarkRef};
 use studio_spec::StudioSpec;
 
 /// The lanes of a studio's streams, and its output, block by block.

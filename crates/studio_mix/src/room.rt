@@ -2,7 +2,7 @@
 ghost use Rattle.std.specs.Prelude.{◌≡◌, ◌+◌, ◌^◌, ◌≤◌};
 ghost use Rattle.studio_mix.specs.Room as room;
 
-use stream_rules::StreamSpec;
+use rtp_stream::StreamSpec;
 
 /// How far the marks of a stream may lie behind the time: by its latency and a window of packets, in frames.
 fn lag_of(stream: &StreamSpec) -> u32

@@ -1,8 +1,8 @@
 -- What is seen where nothing came.
 use Rattle.std.specs.Prelude.{◌≡◌, ℕ, Option, None, replicate}
 use Rattle.arrayvec.specs.ArrayString.{ArrayString}
-use Rattle.stream_rules.specs.Counts.{tally_of}
-use Rattle.stream_rules.specs.CountsFacts.{empty_tally}
+use Rattle.rtp_stream.specs.Counts.{tally_of}
+use Rattle.rtp_stream.specs.CountsFacts.{empty_tally}
 use Rattle.studio_page.specs.declared.snapshot.Condition.TheVariants.{NoPacket}
 use Rattle.studio_page.specs.declared.snapshot.PathState.{PathState}
 use Rattle.studio_page.specs.declared.snapshot.StreamState.{StreamState}

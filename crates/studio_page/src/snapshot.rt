@@ -3,7 +3,7 @@ ghost use Rattle.std.specs.Prelude.{◌≡◌, [], None};
 ghost use Rattle.studio_page.specs.Blank.{IsBlank, blank_path};
 
 use arrayvec::{ArrayString, ArrayVec};
-use stream_rules::{Counts, PathCounts};
+use rtp_stream::{Counts, PathCounts};
 
 /// The name of a stream: a text of at most 64 octets.
 pub type Name = ArrayString<64>;

@@ -1,11 +1,11 @@
 -- Packets that have a stream's length, one more.
 use Rattle.std.proofs.Common.{◌≡◌, Bool, true, false, nat_eq, List, [], ◌∷◌, ◌++◌, length, if◌then◌else◌, refl, sym, ap, ◌∙◌, arith}
 use Rattle.std.proofs.lemmas.Bool.Decides.{nat_tests}
-use Rattle.stream_rules.specs.declared.stream_spec.Stream.{Stream}
-use Rattle.stream_rules.specs.StreamSpecFacts.{format_of}
-use Rattle.stream_rules.specs.StreamSpec.{Fits}
-use Rattle.stream_rules.specs.MarkFacts.{payload_length}
-use Rattle.stream_rules.specs.declared.packet.Packet.{Packet}
+use Rattle.rtp_stream.specs.declared.stream_spec.Stream.{Stream}
+use Rattle.rtp_stream.specs.StreamSpecFacts.{format_of}
+use Rattle.rtp_stream.specs.StreamSpec.{Fits}
+use Rattle.rtp_stream.specs.MarkFacts.{payload_length}
+use Rattle.rtp_stream.specs.declared.packet.Packet.{Packet}
 use Rattle.studio_rings.specs.Fitting.{fitting}
 
 by_fit : (b : Bool) (x : Packet) (l fs gs : List Packet) → l ≡ fs ++ gs → (if b then x ∷ l else l) ≡ (if b then x ∷ fs else fs) ++ gs

@@ -1,10 +1,10 @@
 -- The format of the mark that a merge gives next.
 use Rattle.std.proofs.Common.{◌≡◌, ◌∙◌, Bool, true, false, ℤ, Option, Some, None, if◌then◌else◌, refl, sym, ap}
-use Rattle.stream_rules.specs.MarkFacts.{MarkView}
-use Rattle.stream_rules.specs.Marks.{quiet_mark}
-use Rattle.stream_rules.specs.StreamSpecFacts.{format_of}
-use Rattle.stream_rules.specs.declared.anchor.Anchor.{Anchor}
-use Rattle.stream_rules.specs.declared.mark.Format.{Format}
+use Rattle.rtp_stream.specs.MarkFacts.{MarkView}
+use Rattle.rtp_stream.specs.Marks.{quiet_mark}
+use Rattle.rtp_stream.specs.StreamSpecFacts.{format_of}
+use Rattle.rtp_stream.specs.declared.anchor.Anchor.{Anchor}
+use Rattle.rtp_stream.specs.declared.mark.Format.{Format}
 use Rattle.path_merge.specs.Goal.{next_to}
 use Rattle.path_merge.specs.MergeState.{MergeState}
 use Rattle.path_merge.specs.Next.{anchor_due, anchor_left, slot_or_end, slot_or_quiet}

@@ -4,9 +4,9 @@ use Rattle.std.specs.Option.{option_to_list}
 use Rattle.std.proofs.lemmas.Int.{ints}
 use Rattle.rtrb.specs.Ring.{sent, SameProducer}
 use Rattle.rtrb.specs.declared.producer.Producer.{Producer}
-use Rattle.stream_rules.specs.declared.stream_spec.Stream.{Stream}
-use Rattle.stream_rules.specs.MarkFacts.{MarkView}
-use Rattle.stream_rules.specs.declared.event.Event.{Event}
+use Rattle.rtp_stream.specs.declared.stream_spec.Stream.{Stream}
+use Rattle.rtp_stream.specs.MarkFacts.{MarkView}
+use Rattle.rtp_stream.specs.declared.event.Event.{Event}
 use Rattle.path_merge.specs.MergeState.{MergeState}
 use Rattle.path_merge.specs.Merge.{HasHistory}
 use Rattle.path_merge.specs.Steps.{Advances, Moves, MovesBy, is_slot_mark}

@@ -5,9 +5,9 @@ use Rattle.std.proofs.lemmas.List.{drop-drop, drop-set-lt, get_or-drop, length-s
 use Rattle.std.proofs.lemmas.List.Sums.{sum_by-set}
 use Rattle.std.proofs.lemmas.Option.{get_or_from_slice_get, slice_get_within}
 use Rattle.rtrb.specs.Ring.{received}
-use Rattle.stream_rules.specs.declared.stream_spec.Stream.{Stream}
-use Rattle.stream_rules.specs.StreamSpecFacts.{format_of}
-use Rattle.stream_rules.specs.MarkFacts.{MarkView}
+use Rattle.rtp_stream.specs.declared.stream_spec.Stream.{Stream}
+use Rattle.rtp_stream.specs.StreamSpecFacts.{format_of}
+use Rattle.rtp_stream.specs.MarkFacts.{MarkView}
 use Rattle.lane_align.specs.AcceptedMarks.{accepted_marks}
 use Rattle.mix_packets.specs.Block.{block_start}
 use Rattle.studio_spec.specs.Studio.{Studio}

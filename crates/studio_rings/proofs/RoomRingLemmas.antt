@@ -6,8 +6,8 @@ use Rattle.rtrb.specs.Shared.{Names}
 use Rattle.rtrb.specs.declared.AnyItems.{AnyItems}
 use Rattle.rtrb.specs.declared.producer.Producer.{Producer}
 use Rattle.path_merge.specs.MergeState.{MergeState}
-use Rattle.stream_rules.specs.MarkFacts.{MarkView, payload_length}
-use Rattle.stream_rules.specs.StreamSpecFacts.{format_of}
+use Rattle.rtp_stream.specs.MarkFacts.{MarkView, payload_length}
+use Rattle.rtp_stream.specs.StreamSpecFacts.{format_of}
 use Rattle.studio_mix.specs.Mixer.{MixerState}
 use Rattle.studio_rings.specs.Mixes.{TakesWanted}
 use Rattle.studio_rings.specs.RoomRings.{AreRoomy, HasRoomFor, done_with, named, side_with}

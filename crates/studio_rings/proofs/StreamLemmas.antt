@@ -3,14 +3,14 @@ use Rattle.std.proofs.Common.{◌≡◌, ◌≢◌, ℕ, suc, ◌+◌, ◌≤◌
 use Rattle.std.proofs.lemmas.Bool.Decides.{nat_tests}
 use Rattle.std.proofs.Math.Seq.{take-length}
 use Rattle.rtrb.specs.Ring.{sent, received, known_free, SameProducer}
-use Rattle.stream_rules.specs.declared.stream_spec.Stream.{Stream}
-use Rattle.stream_rules.specs.History.{is_closed}
-use Rattle.stream_rules.specs.Marks.{marks_of}
+use Rattle.rtp_stream.specs.declared.stream_spec.Stream.{Stream}
+use Rattle.rtp_stream.specs.History.{is_closed}
+use Rattle.rtp_stream.specs.Marks.{marks_of}
 use Rattle.path_merge.specs.MergeState.{MergeState}
 use Rattle.path_merge.specs.Merge.{HasHistory}
-use Rattle.stream_rules.specs.declared.packet.Packet.{Packet}
-use Rattle.stream_rules.specs.declared.event.Event.{Event}
-use Rattle.stream_rules.specs.declared.event.Event.TheVariants.{Arrive, Tick, Close}
+use Rattle.rtp_stream.specs.declared.packet.Packet.{Packet}
+use Rattle.rtp_stream.specs.declared.event.Event.{Event}
+use Rattle.rtp_stream.specs.declared.event.Event.TheVariants.{Arrive, Tick, Close}
 use Rattle.studio_rings.specs.Stop.{StopsFor}
 use Rattle.studio_rings.specs.Fitting.{fitting}
 use Rattle.studio_rings.specs.Turns.{AllTakePackets, Joins, PushesMarks, arrivals_by, arrivals_from}
@@ -135,7 +135,7 @@ turned s t now note w taken marks took from joined pushed count few reached stop
 }
 
 -- a word that was written and read
-pub at_now : {A P : Type 0} (c d : Rattle.rtrb.specs.declared.producer.Producer.Producer Rattle.stream_rules.specs.MarkFacts.MarkView A P) (m w : MergeState) (now at : ℤ) (count : ℕ) → now ≡ at → PushesMarks c m now d w count → PushesMarks c m at d w count
+pub at_now : {A P : Type 0} (c d : Rattle.rtrb.specs.declared.producer.Producer.Producer Rattle.rtp_stream.specs.MarkFacts.MarkView A P) (m w : MergeState) (now at : ℤ) (count : ℕ) → now ≡ at → PushesMarks c m now d w count → PushesMarks c m at d w count
 at_now c d m w now at count e h = subst (λ t. PushesMarks c m t d w count) e h
 
 pub stop_now : (why : Rattle.studio_rings.specs.declared.turn.StopReason.StopReason) (reached now at : ℤ) (marks free : ℕ) → now ≡ at → StopsFor why reached now marks free → StopsFor why reached at marks free

@@ -1,8 +1,8 @@
 -- What each stream's ring delivered of marks that are accepted.
 use Rattle.std.specs.Prelude.{ℕ, List, [], ◌∷◌, length, sum_by}
-use Rattle.stream_rules.specs.declared.stream_spec.Stream.{Stream}
-use Rattle.stream_rules.specs.StreamSpecFacts.{format_of}
-use Rattle.stream_rules.specs.MarkFacts.{MarkView}
+use Rattle.rtp_stream.specs.declared.stream_spec.Stream.{Stream}
+use Rattle.rtp_stream.specs.StreamSpecFacts.{format_of}
+use Rattle.rtp_stream.specs.MarkFacts.{MarkView}
 use Rattle.rtrb.specs.Ring.{received}
 use Rattle.lane_align.specs.AcceptedMarks.{accepted_marks}
 use Rattle.studio_mix.specs.Feed.{Feed}

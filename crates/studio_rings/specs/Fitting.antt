@@ -1,9 +1,9 @@
 -- Which packets have a stream's length.
 use Rattle.std.specs.Prelude.{nat_eq, List, [], ◌∷◌, length, if◌then◌else◌}
-use Rattle.stream_rules.specs.declared.stream_spec.Stream.{Stream}
-use Rattle.stream_rules.specs.StreamSpecFacts.{format_of}
-use Rattle.stream_rules.specs.MarkFacts.{payload_length}
-use Rattle.stream_rules.specs.declared.packet.Packet.{Packet}
+use Rattle.rtp_stream.specs.declared.stream_spec.Stream.{Stream}
+use Rattle.rtp_stream.specs.StreamSpecFacts.{format_of}
+use Rattle.rtp_stream.specs.MarkFacts.{payload_length}
+use Rattle.rtp_stream.specs.declared.packet.Packet.{Packet}
 
 -- those packets that have the stream's length
 abbrev pub fitting : Stream → List Packet → List Packet

@@ -1,9 +1,9 @@
 -- The ends of a studio, as they are opened together.
 use Rattle.std.specs.Prelude.{◌≡◌, ℕ, nat_lt, ◌||◌, List, [], ◌∷◌, ◌++◌, length, ℤ, None, false, if◌then◌else◌}
 use Rattle.rtrb.specs.Ring.{IsPair, sent, received, known_free}
-use Rattle.stream_rules.specs.declared.stream_spec.Stream.{Stream}
-use Rattle.stream_rules.specs.MarkFacts.{MarkView}
-use Rattle.stream_rules.specs.declared.packet.Packet.{Packet}
+use Rattle.rtp_stream.specs.declared.stream_spec.Stream.{Stream}
+use Rattle.rtp_stream.specs.MarkFacts.{MarkView}
+use Rattle.rtp_stream.specs.declared.packet.Packet.{Packet}
 use Rattle.studio_spec.specs.Studio.{Studio}
 use Rattle.studio_rings.specs.Streams.{StreamHasHistory}
 use Rattle.studio_rings.specs.Datagrams.{HasGiven}

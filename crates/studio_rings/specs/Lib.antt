@@ -19,11 +19,11 @@ pub mod FreshEnds
 pub mod Told
 pub mod Opening
 pub use Rattle.rtp_wire.specs.Datagram
-pub use Rattle.stream_rules.specs.StreamSpecFacts
-pub use Rattle.stream_rules.specs.StreamSpec
-pub use Rattle.stream_rules.specs.MarkFacts
+pub use Rattle.rtp_stream.specs.StreamSpecFacts
+pub use Rattle.rtp_stream.specs.StreamSpec
+pub use Rattle.rtp_stream.specs.MarkFacts
 pub use Rattle.path_merge.specs.Merge
-pub use Rattle.stream_rules.specs.Marks
+pub use Rattle.rtp_stream.specs.Marks
 pub use Rattle.path_merge.specs.Steps
 pub use Rattle.lane_align.specs.AcceptedMarks
 pub use Rattle.lane_align.specs.Cover
@@ -37,5 +37,5 @@ pub use Rattle.studio_mix.specs.Output
 pub use Rattle.studio_mix.specs.Blocks
 pub use Rattle.studio_mix.specs.Saturated
 pub use Rattle.stream_watch.specs.Told as WatchTold
-pub use Rattle.stream_rules.specs.PathCounts
-pub use Rattle.stream_rules.specs.Reception
+pub use Rattle.rtp_stream.specs.PathCounts
+pub use Rattle.rtp_stream.specs.Reception

@@ -3,7 +3,7 @@ use Rattle.std.specs.declared.alloc.Global.{Global}
 use Rattle.rtrb.specs.declared.AnyItems.{AnyItems}
 use Rattle.rtrb.specs.declared.finished.Finished.{Finished}
 use Rattle.rtrb.specs.declared.producer.Producer.{Producer}
-use Rattle.stream_rules.specs.MarkFacts.{MarkView}
+use Rattle.rtp_stream.specs.MarkFacts.{MarkView}
 use Rattle.studio_rings.specs.RoomRings.{finished_with, producer_with, side_with}
 use Rattle.studio_rings.specs.declared.mark_ring.Senders.{Senders}
 use Rattle.studio_rings.specs.declared.mark_ring.Senders.TheVariants as sender

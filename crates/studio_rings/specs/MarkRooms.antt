@@ -1,11 +1,11 @@
 -- A mark whose octets lie in a room.
 use Rattle.std.proofs.Common.{◌≡◌, ℕ, ◌≤◌, List, [], length, refl}
-use Rattle.stream_rules.specs.declared.mark.Format.{Format}
-use Rattle.stream_rules.specs.declared.mark.Body.TheVariants.{Got as GotBody, Lost as LostBody}
-use Rattle.stream_rules.specs.declared.mark.MarkKind.{MarkKind}
-use Rattle.stream_rules.specs.declared.mark.MarkKind.TheVariants.{Slot, Quiet, End}
-use Rattle.stream_rules.specs.MarkFacts.{IsMark}
-use Rattle.stream_rules.specs.MarkRef.{HasShortBody}
+use Rattle.rtp_stream.specs.declared.mark.Format.{Format}
+use Rattle.rtp_stream.specs.declared.mark.Body.TheVariants.{Got as GotBody, Lost as LostBody}
+use Rattle.rtp_stream.specs.declared.mark.MarkKind.{MarkKind}
+use Rattle.rtp_stream.specs.declared.mark.MarkKind.TheVariants.{Slot, Quiet, End}
+use Rattle.rtp_stream.specs.MarkFacts.{IsMark}
+use Rattle.rtp_stream.specs.MarkRef.{HasShortBody}
 use Rattle.studio_rings.specs.declared.mark_room.Said.{Said}
 use Rattle.studio_rings.specs.declared.mark_room.Said.TheVariants.{Got, Lost, Quiet as SaidQuiet, End as SaidEnd}
 

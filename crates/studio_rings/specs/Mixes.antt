@@ -1,9 +1,9 @@
 -- What the parts of the mixer's turn do.
 use Rattle.std.specs.Prelude.{◌≡◌, ℕ, ◌+◌, ◌≤◌, ◌⊎◌, true, List, [], ◌∷◌, ◌++◌, length, ℤ, slice_get, slice_set, Some}
 use Rattle.rtrb.specs.Ring.{received, known_items, SameConsumer}
-use Rattle.stream_rules.specs.declared.stream_spec.Stream.{Stream}
-use Rattle.stream_rules.specs.StreamSpecFacts.{format_of}
-use Rattle.stream_rules.specs.MarkFacts.{MarkView}
+use Rattle.rtp_stream.specs.declared.stream_spec.Stream.{Stream}
+use Rattle.rtp_stream.specs.StreamSpecFacts.{format_of}
+use Rattle.rtp_stream.specs.MarkFacts.{MarkView}
 use Rattle.lane_align.specs.AcceptedMarks.{accepted_after, accepted_marks}
 use Rattle.lane_align.specs.Cover.{covers, cover_of}
 use Rattle.mix_packets.specs.Block.{block_start}

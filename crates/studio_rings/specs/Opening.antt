@@ -1,8 +1,8 @@
 -- The ends of a studio's streams, while they are opened one after another.
 use Rattle.std.specs.Prelude.{◌≡◌, ℕ, List, [], ◌∷◌, ◌++◌, ℤ}
 use Rattle.rtrb.specs.Ring.{received}
-use Rattle.stream_rules.specs.declared.stream_spec.Stream.{Stream}
-use Rattle.stream_rules.specs.MarkFacts.{MarkView}
+use Rattle.rtp_stream.specs.declared.stream_spec.Stream.{Stream}
+use Rattle.rtp_stream.specs.MarkFacts.{MarkView}
 use Rattle.studio_rings.specs.FreshEnds.{AllFreshRings, AllFreshStreams, AreFreshRings, IsFreshStream}
 use Rattle.studio_rings.specs.declared.side.Side.{Side}
 use Rattle.studio_rings.specs.declared.path_end.PathEnd.{PathEnd}

@@ -3,7 +3,7 @@ use Rattle.std.specs.declared.alloc.Global.{Global}
 use Rattle.rtrb.specs.declared.AnyItems.{AnyItems}
 use Rattle.rtrb.specs.declared.finished.Finished.{Finished}
 use Rattle.rtrb.specs.declared.producer.Producer.{Producer}
-use Rattle.stream_rules.specs.declared.packet.Packet.{Packet}
+use Rattle.rtp_stream.specs.declared.packet.Packet.{Packet}
 use Rattle.studio_rings.specs.RoomRings.{finished_with, producer_with, side_with}
 use Rattle.studio_rings.specs.declared.packet_ring.Senders.{Senders}
 use Rattle.studio_rings.specs.declared.packet_ring.Senders.TheVariants as sender

@@ -1,11 +1,11 @@
 -- What a path's end does with a datagram.
 use Rattle.std.specs.Prelude.{◌≡◌, ℕ, ◌<◌, ◌^◌, List, [], ◌∷◌, ◌++◌}
 use Rattle.rtrb.specs.Ring.{sent, known_free}
-use Rattle.stream_rules.specs.declared.packet.Packet.{Packet}
-use Rattle.stream_rules.specs.PathCounts.{path_tally_of, with_full, with_reception}
-use Rattle.stream_rules.specs.Reception.{reception_of}
-use Rattle.stream_rules.specs.declared.reception.Reception.{Reception}
-use Rattle.stream_rules.specs.declared.reception.Reception.TheVariants.{Sent as Received, Bad as BadWire, WrongType as OtherType, WrongLength as OtherLength}
+use Rattle.rtp_stream.specs.declared.packet.Packet.{Packet}
+use Rattle.rtp_stream.specs.PathCounts.{path_tally_of, with_full, with_reception}
+use Rattle.rtp_stream.specs.Reception.{reception_of}
+use Rattle.rtp_stream.specs.declared.reception.Reception.{Reception}
+use Rattle.rtp_stream.specs.declared.reception.Reception.TheVariants.{Sent as Received, Bad as BadWire, WrongType as OtherType, WrongLength as OtherLength}
 use Rattle.studio_rings.specs.declared.path_end.PathEnd.{PathEnd}
 use Rattle.studio_rings.specs.declared.path.Offer.{Offer}
 use Rattle.studio_rings.specs.declared.path.Offer.TheVariants.{CountersFull, Bad, WrongType, WrongLength, Full, Sent}

@@ -2,8 +2,8 @@
 ghost use Rattle.std.specs.Prelude.{◌≡◌, ◌+◌, ◌⊎◌, length, true, false};
 ghost use Rattle.rtrb.specs.Ring.{sent, known_free};
 ghost use Rattle.path_merge.specs.Goal.{HasGivenAll};
-ghost use Rattle.stream_rules.specs.MarkFacts.{payload_length};
-ghost use Rattle.stream_rules.specs.StreamSpecFacts.{format_of};
+ghost use Rattle.rtp_stream.specs.MarkFacts.{payload_length};
+ghost use Rattle.rtp_stream.specs.StreamSpecFacts.{format_of};
 ghost use Rattle.studio_rings.specs.RoomRings.{HasRoomFor};
 ghost use Rattle.studio_rings.specs.Turns.{DrainsMarks};
 

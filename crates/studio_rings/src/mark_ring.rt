@@ -1,7 +1,7 @@
 //! A stream's ring of marks, whose places have the room that its payloads need.
 ghost use Rattle.std.specs.Prelude.{◌≡◌, ◌<◌, ◌≤◌, ◌++◌, ◌∷◌, [], ◌↔◌, IfOk, IfSome, IsSomeAnd, IsTrue, MatchOption, None, Some, length};
 ghost use Rattle.rtrb.specs.Ring.{Finishes, IsFinishedOf, IsPair, ProducerLooked, SameConsumer, SameProducer, all_sent, known_free, received, sent};
-ghost use Rattle.stream_rules.specs.MarkFacts.{payload_length};
+ghost use Rattle.rtp_stream.specs.MarkFacts.{payload_length};
 ghost use Rattle.studio_rings.specs.Mixes.{TakesWanted};
 ghost use Rattle.studio_rings.specs.RoomRings.{HasRoomFor};
 ghost use Rattle.studio_rings.specs.Side.{IsDrained};
@@ -63,7 +63,7 @@ impl Model for MarkIn {
     ghost use Rattle.std.specs.declared.alloc.Global.{Global};
     ghost use Rattle.rtrb.specs.declared.AnyItems.{AnyItems};
     ghost use Rattle.rtrb.specs.declared.producer.Producer.{Producer};
-    ghost use Rattle.stream_rules.specs.MarkFacts.{MarkView};
+    ghost use Rattle.rtp_stream.specs.MarkFacts.{MarkView};
     ghost use Rattle.studio_rings.specs.MarkRings.{sender_in};
 
     ghost Value = { Producer MarkView Global AnyItems };
@@ -72,9 +72,9 @@ impl Model for MarkIn {
 }
 
 impl Model for MarkOut {
-    ghost use Rattle.stream_rules.specs.contracts.mark.Mark as mark_row;
+    ghost use Rattle.rtp_stream.specs.contracts.mark.Mark as mark_row;
     ghost use Rattle.studio_rings.specs.contracts.side.Side as side_row;
-    ghost use Rattle.stream_rules.specs.MarkFacts.{MarkView};
+    ghost use Rattle.rtp_stream.specs.MarkFacts.{MarkView};
     ghost use Rattle.studio_rings.specs.declared.side.Side.{Side};
     ghost use Rattle.studio_rings.specs.MarkRings.{side_in};
 
@@ -89,7 +89,7 @@ impl Model for MarkToken {
     ghost use Rattle.std.specs.declared.alloc.Global.{Global};
     ghost use Rattle.rtrb.specs.declared.AnyItems.{AnyItems};
     ghost use Rattle.rtrb.specs.declared.finished.Finished.{Finished};
-    ghost use Rattle.stream_rules.specs.MarkFacts.{MarkView};
+    ghost use Rattle.rtp_stream.specs.MarkFacts.{MarkView};
     ghost use Rattle.studio_rings.specs.MarkRings.{token_in};
 
     ghost Value = { Finished MarkView Global AnyItems };

@@ -1,6 +1,6 @@
 //! Room for a mark in a ring.
 ghost use Rattle.std.specs.Prelude.{◌≡◌};
-ghost use Rattle.stream_rules.specs.MarkRef.{kind_of};
+ghost use Rattle.rtp_stream.specs.MarkRef.{kind_of};
 ghost use Rattle.studio_rings.specs.MarkRooms.{octets_in, said_of};
 
 use crate::room::Room;
@@ -27,7 +27,7 @@ pub(crate) struct MarkRoom<const N: usize> {
 }
 
 impl<const N: usize> Model for MarkRoom<N> {
-    ghost use Rattle.stream_rules.specs.MarkFacts.{MarkView};
+    ghost use Rattle.rtp_stream.specs.MarkFacts.{MarkView};
     ghost use Rattle.studio_rings.specs.MarkRooms.{IsMarkRoom, kind_in, octets_in, said_back, said_of};
 
     ghost Value = { MarkView };

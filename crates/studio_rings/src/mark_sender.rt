@@ -1,7 +1,7 @@
 //! The pushing end of a ring of marks with one size of rooms.
 ghost use Rattle.std.specs.Prelude.{◌≡◌, ◌+◌, ◌<◌, ◌≤◌, ◌++◌, ◌∷◌, [], ◌↔◌, IfSome, IsTrue};
 ghost use Rattle.rtrb.specs.Ring.{Finishes, ProducerLooked, SameProducer, known_free, sent};
-ghost use Rattle.stream_rules.specs.MarkFacts.{payload_length};
+ghost use Rattle.rtp_stream.specs.MarkFacts.{payload_length};
 
 use crate::mark_room::MarkRoom;
 use path_merge::{Format, MarkRef};
@@ -20,7 +20,7 @@ impl<const N: usize> Model for MarkSender<N> {
     ghost use Rattle.std.specs.declared.alloc.Global.{Global};
     ghost use Rattle.rtrb.specs.declared.AnyItems.{AnyItems};
     ghost use Rattle.rtrb.specs.declared.producer.Producer.{Producer};
-    ghost use Rattle.stream_rules.specs.MarkFacts.{MarkView};
+    ghost use Rattle.rtp_stream.specs.MarkFacts.{MarkView};
 
     ghost Value = { Producer MarkView Global AnyItems };
 

@@ -15,9 +15,9 @@ use crate::path_end::PathEnd;
 use crate::stream_end::StreamEnd;
 use crate::watches::{Tellers, Watches};
 use path_merge::{Merge, StreamSpec};
+use rtp_stream::PathCounts;
 use rtrb::RingBuffer;
 use std::alloc::{AllocError, Global};
-use stream_rules::PathCounts;
 use studio_mix::Mixer;
 use studio_spec::StudioSpec;
 

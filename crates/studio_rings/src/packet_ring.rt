@@ -1,8 +1,8 @@
 //! A path's ring, whose places have the room that the stream's payloads need.
 ghost use Rattle.std.specs.Prelude.{◌≡◌, ℕ, ◌<◌, ◌≤◌, ◌++◌, ◌∷◌, [], ◌↔◌, List, IfOk, IfSome, IsSomeAnd, IsTrue, MatchOption, None, Some, length};
 ghost use Rattle.rtrb.specs.Ring.{Finishes, IsFinishedOf, IsPair, ProducerLooked, SameConsumer, SameProducer, all_sent, known_free, received, sent};
-ghost use Rattle.stream_rules.specs.PacketRef.{packet_of};
-ghost use Rattle.stream_rules.specs.declared.packet.Packet.{Packet};
+ghost use Rattle.rtp_stream.specs.PacketRef.{packet_of};
+ghost use Rattle.rtp_stream.specs.declared.packet.Packet.{Packet};
 ghost use Rattle.studio_rings.specs.Fitting.{fitting};
 ghost use Rattle.studio_rings.specs.RoomRings.{HasRoomFor};
 ghost use Rattle.studio_rings.specs.Side.{IsDrained};
@@ -65,7 +65,7 @@ impl Model for PacketIn {
     ghost use Rattle.std.specs.declared.alloc.Global.{Global};
     ghost use Rattle.rtrb.specs.declared.AnyItems.{AnyItems};
     ghost use Rattle.rtrb.specs.declared.producer.Producer.{Producer};
-    ghost use Rattle.stream_rules.specs.declared.packet.Packet.{Packet};
+    ghost use Rattle.rtp_stream.specs.declared.packet.Packet.{Packet};
     ghost use Rattle.studio_rings.specs.PacketRings.{sender_in};
 
     ghost Value = { Producer Packet Global AnyItems };
@@ -74,9 +74,9 @@ impl Model for PacketIn {
 }
 
 impl Model for PacketOut {
-    ghost use Rattle.stream_rules.specs.contracts.packet.Packet as packet_row;
+    ghost use Rattle.rtp_stream.specs.contracts.packet.Packet as packet_row;
     ghost use Rattle.studio_rings.specs.contracts.side.Side as side_row;
-    ghost use Rattle.stream_rules.specs.declared.packet.Packet.{Packet};
+    ghost use Rattle.rtp_stream.specs.declared.packet.Packet.{Packet};
     ghost use Rattle.studio_rings.specs.declared.side.Side.{Side};
     ghost use Rattle.studio_rings.specs.PacketRings.{side_in};
 
@@ -91,7 +91,7 @@ impl Model for PacketToken {
     ghost use Rattle.std.specs.declared.alloc.Global.{Global};
     ghost use Rattle.rtrb.specs.declared.AnyItems.{AnyItems};
     ghost use Rattle.rtrb.specs.declared.finished.Finished.{Finished};
-    ghost use Rattle.stream_rules.specs.declared.packet.Packet.{Packet};
+    ghost use Rattle.rtp_stream.specs.declared.packet.Packet.{Packet};
     ghost use Rattle.studio_rings.specs.PacketRings.{token_in};
 
     ghost Value = { Finished Packet Global AnyItems };

@@ -1,6 +1,6 @@
 //! Room for a packet in a ring.
 ghost use Rattle.std.specs.Prelude.{◌≡◌, ◌≤◌, length};
-ghost use Rattle.stream_rules.specs.PacketRef.{packet_of};
+ghost use Rattle.rtp_stream.specs.PacketRef.{packet_of};
 
 use crate::room::Room;
 use path_merge::PacketRef;
@@ -16,7 +16,7 @@ pub(crate) struct PacketRoom<const N: usize> {
 }
 
 impl<const N: usize> Model for PacketRoom<N> {
-    ghost use Rattle.stream_rules.specs.declared.packet.Packet.{Packet};
+    ghost use Rattle.rtp_stream.specs.declared.packet.Packet.{Packet};
 
     ghost Value = { Packet };
 

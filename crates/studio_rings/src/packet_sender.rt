@@ -1,7 +1,7 @@
 //! The pushing end of a ring of packets with one size of rooms.
 ghost use Rattle.std.specs.Prelude.{◌≡◌, ◌+◌, ◌<◌, ◌≤◌, ◌++◌, ◌∷◌, [], ◌↔◌, IfSome, IsTrue, length};
 ghost use Rattle.rtrb.specs.Ring.{Finishes, ProducerLooked, SameProducer, known_free, sent};
-ghost use Rattle.stream_rules.specs.PacketRef.{packet_of};
+ghost use Rattle.rtp_stream.specs.PacketRef.{packet_of};
 
 use crate::packet_room::PacketRoom;
 use path_merge::PacketRef;
@@ -20,7 +20,7 @@ impl<const N: usize> Model for PacketSender<N> {
     ghost use Rattle.std.specs.declared.alloc.Global.{Global};
     ghost use Rattle.rtrb.specs.declared.AnyItems.{AnyItems};
     ghost use Rattle.rtrb.specs.declared.producer.Producer.{Producer};
-    ghost use Rattle.stream_rules.specs.declared.packet.Packet.{Packet};
+    ghost use Rattle.rtp_stream.specs.declared.packet.Packet.{Packet};
 
     ghost Value = { Producer Packet Global AnyItems };
 

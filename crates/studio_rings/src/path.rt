@@ -1,16 +1,16 @@
 //! The end of a path.
 ghost use Rattle.std.specs.Prelude.{◌≡◌, ◌<◌, ◌^◌, IfSome, false, length, true};
 ghost use Rattle.rtrb.specs.Ring.{all_sent, known_free, Finishes, ProducerLooked, SameProducer};
-ghost use Rattle.stream_rules.specs.declared.packet.Packet.{Packet};
-ghost use Rattle.stream_rules.specs.Reception.{reception_from, reception_of};
-ghost use Rattle.stream_rules.specs.declared.reception.Reception.TheVariants.{Sent as Received};
+ghost use Rattle.rtp_stream.specs.declared.packet.Packet.{Packet};
+ghost use Rattle.rtp_stream.specs.Reception.{reception_from, reception_of};
+ghost use Rattle.rtp_stream.specs.declared.reception.Reception.TheVariants.{Sent as Received};
 ghost use Rattle.studio_rings.specs.Fitting.{fitting};
 ghost use Rattle.studio_rings.specs.Paths.{Offers};
 ghost use Rattle.studio_rings.specs.declared.path.Offer.TheVariants as offer;
 
 use crate::packet_ring::{PacketIn, PacketToken};
 use crate::path_end::PathEnd;
-use stream_rules::{PathCounts, ReceptionRef, receive_ref};
+use rtp_stream::{PathCounts, ReceptionRef, receive_ref};
 use stream_watch::PathTeller;
 
 /// What became of a datagram: the first of these that holds.

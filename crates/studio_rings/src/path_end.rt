@@ -1,14 +1,14 @@
 //! What the end of a path consists of.
 ghost use Rattle.std.specs.Prelude.{◌≡◌, ◌≤◌, ◌^◌, length};
 ghost use Rattle.rtrb.specs.Ring.{sent};
-ghost use Rattle.stream_rules.specs.MarkFacts.{payload_length};
-ghost use Rattle.stream_rules.specs.StreamSpecFacts.{format_of};
+ghost use Rattle.rtp_stream.specs.MarkFacts.{payload_length};
+ghost use Rattle.rtp_stream.specs.StreamSpecFacts.{format_of};
 ghost use Rattle.studio_rings.specs.Fitting.{fitting};
 ghost use Rattle.studio_rings.specs.RoomRings.{HasRoomFor};
 
 use crate::packet_ring::PacketIn;
 use path_merge::StreamSpec;
-use stream_rules::PathCounts;
+use rtp_stream::PathCounts;
 use stream_watch::PathTeller;
 
 /// The end of a path: its datagrams go in.

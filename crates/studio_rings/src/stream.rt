@@ -1,14 +1,14 @@
 //! The end of a stream.
 ghost use Rattle.std.specs.Prelude.{◌≡◌, ◌+◌, ◌<◌, ◌⊎◌, slice_get, vec_len, List, [], ◌∷◌, ◌++◌, ℤ, length, true, false, IsOk, IfOk, IfErr, IfSome, OnOk, OnErr, Some, None};
 ghost use Rattle.rtrb.specs.Ring.{all_sent, sent, known_free, Finishes, IsFinishedOf, SameProducer};
-ghost use Rattle.stream_rules.specs.declared.stream_spec.Stream.{Stream};
-ghost use Rattle.stream_rules.specs.Marks.{marks_of};
-ghost use Rattle.stream_rules.specs.declared.packet.Packet.{Packet};
+ghost use Rattle.rtp_stream.specs.declared.stream_spec.Stream.{Stream};
+ghost use Rattle.rtp_stream.specs.Marks.{marks_of};
+ghost use Rattle.rtp_stream.specs.declared.packet.Packet.{Packet};
 ghost use Rattle.studio_rings.specs.declared.side.Side.{Side};
-ghost use Rattle.stream_rules.specs.declared.event.Event.{Event};
-ghost use Rattle.stream_rules.specs.declared.event.Event.TheVariants.{Close};
+ghost use Rattle.rtp_stream.specs.declared.event.Event.{Event};
+ghost use Rattle.rtp_stream.specs.declared.event.Event.TheVariants.{Close};
 ghost use Rattle.studio_rings.specs.Looks.{AllDrained, AllLookAt, AreOpen};
-ghost use Rattle.stream_rules.specs.Counts.{tally_of};
+ghost use Rattle.rtp_stream.specs.Counts.{tally_of};
 ghost use Rattle.path_merge.specs.Clock.{clock_fault_of};
 ghost use Rattle.path_merge.specs.Steps.{next_deadline_of};
 ghost use Rattle.studio_rings.specs.Streams.{ReadsClock, ShowsCounts, StreamHasHistory, TakesTurn};

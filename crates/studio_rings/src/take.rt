@@ -1,6 +1,6 @@
 //! Packets from the rings of a stream's paths to its merge.
 ghost use Rattle.std.specs.Prelude.{◌≡◌, ℕ, ◌+◌, ◌<◌, List, [], ◌∷◌, length, vec_len, get_or};
-ghost use Rattle.stream_rules.specs.declared.packet.Packet.{Packet};
+ghost use Rattle.rtp_stream.specs.declared.packet.Packet.{Packet};
 ghost use Rattle.studio_rings.specs.Fitting.{fitting};
 ghost use Rattle.studio_rings.specs.Turns.{AllTakePackets, Joins, TakesPackets, arrivals_by, arrivals_from};
 

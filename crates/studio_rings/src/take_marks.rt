@@ -1,7 +1,7 @@
 //! Marks from the rings of the streams to the mixer.
 ghost use Rattle.std.specs.Prelude.{◌≡◌, ℕ, ◌<◌, ◌≤◌, ◌∷◌, [], ◌++◌, List, true, length, slice_get, slice_set, Some, vec_len};
-ghost use Rattle.stream_rules.specs.StreamSpecFacts.{format_of};
-ghost use Rattle.stream_rules.specs.MarkList.{is_mark_list};
+ghost use Rattle.rtp_stream.specs.StreamSpecFacts.{format_of};
+ghost use Rattle.rtp_stream.specs.MarkList.{is_mark_list};
 ghost use Rattle.studio_spec.specs.Studio.{Studio};
 ghost use Rattle.studio_mix.specs.Feed.{Feed};
 ghost use Rattle.studio_mix.specs.Mixer.{HasFeeds, is_wanted_by};

@@ -2,12 +2,12 @@
 ghost use Rattle.std.specs.Prelude.{◌≡◌, ℕ, ◌<◌, ◌≤◌, ◌^◌, ℤ, ◌≤ℤ◌, pos, List, ◌++◌, length, false, None, if◌then◌else◌};
 ghost use Rattle.std.specs.Option.{option_to_list};
 ghost use Rattle.rtrb.specs.Ring.{known_free, sent, SameProducer};
-ghost use Rattle.stream_rules.specs.declared.event.Event.{Event};
-ghost use Rattle.stream_rules.specs.declared.stream_spec.Stream.{Stream};
+ghost use Rattle.rtp_stream.specs.declared.event.Event.{Event};
+ghost use Rattle.rtp_stream.specs.declared.stream_spec.Stream.{Stream};
 ghost use Rattle.path_merge.specs.Merge.{HasHistory};
 ghost use Rattle.path_merge.specs.Goal.{CanReach, Gives, HasGivenAll, MovesTo, next_to};
-ghost use Rattle.stream_rules.specs.MarkFacts.{payload_length};
-ghost use Rattle.stream_rules.specs.StreamSpecFacts.{format_of};
+ghost use Rattle.rtp_stream.specs.MarkFacts.{payload_length};
+ghost use Rattle.rtp_stream.specs.StreamSpecFacts.{format_of};
 ghost use Rattle.studio_rings.specs.RoomRings.{HasRoomFor};
 ghost use Rattle.studio_rings.specs.Turns.{PushesMarks};
 ghost use Rattle.studio_rings.specs.Stop.{StopsFor};

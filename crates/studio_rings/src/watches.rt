@@ -3,8 +3,8 @@ ghost use Rattle.std.specs.Prelude.{IfOk};
 ghost use Rattle.studio_rings.specs.Told.{Measures};
 
 use mix_packets::OutSpec;
+use rtp_stream::StreamSpec;
 use std::alloc::{AllocError, Global};
-use stream_rules::StreamSpec;
 use stream_watch::{
     MixTeller, MixWatch, PathTeller, PathWatch, StreamTeller, StreamWatch, open_mix_watch,
     open_path_watch, open_watch,

@@ -3,11 +3,11 @@ use Rattle.std.proofs.Common.{◌≡◌, inl, inr, ◌<◌, ◌≤◌, ◌+◌, 
 use Rattle.std.proofs.lemmas.Bool.{cases_lt}
 use Rattle.std.proofs.lemmas.List.{append-nil}
 use Rattle.std.proofs.lemmas.Option.{slice_get-get_or, slice_get_within}
-use Rattle.stream_rules.specs.declared.stream_spec.Stream.{Stream}
-use Rattle.stream_rules.specs.CountsFacts.{Tally}
+use Rattle.rtp_stream.specs.declared.stream_spec.Stream.{Stream}
+use Rattle.rtp_stream.specs.CountsFacts.{Tally}
 use Rattle.studio_spec.specs.Studio.{Studio}
 use Rattle.studio_session.specs.Event.{TraceEvent}
-use Rattle.stream_rules.specs.PathCounts.{PathTally}
+use Rattle.rtp_stream.specs.PathCounts.{PathTally}
 use Rattle.studio_session.specs.Counts.{AreTallies, path_counts_of}
 use Rattle.studio_session.specs.Cursor.{CursorState}
 use Rattle.studio_session.specs.Report.{ArePulled, HasCounts, HasPulledSome, merge_tally_of}

@@ -1,7 +1,7 @@
 -- The lines of a live run's report that a played one doesn't have, and the line of a stream while it runs.
 use Rattle.std.specs.Prelude.{ℕ, ℤ, ◌++◌, ◌∷◌, [], List, codes}
 use Rattle.std.specs.Fmt.{decimal, signed_decimal}
-use Rattle.stream_rules.specs.CountsFacts.{Tally}
+use Rattle.rtp_stream.specs.CountsFacts.{Tally}
 use Rattle.studio_run.specs.Report.{count_text, path_letter, tally_text}
 use Rattle.studio_run.specs.declared.live_report.SinkCounts.{SinkCounts}
 

@@ -2,8 +2,8 @@
 use Rattle.std.specs.Prelude.{ℕ, suc, ◌+◌, ◌++◌, ◌∷◌, [], List, codes, take}
 use Rattle.std.specs.Fmt.{decimal}
 use Rattle.hex.specs.Hex.{encode_lower}
-use Rattle.stream_rules.specs.CountsFacts.{Tally}
-use Rattle.stream_rules.specs.PathCounts.{PathTally}
+use Rattle.rtp_stream.specs.CountsFacts.{Tally}
+use Rattle.rtp_stream.specs.PathCounts.{PathTally}
 
 -- the line of a datagram
 abbrev pub datagram_line : List ℕ → List ℕ

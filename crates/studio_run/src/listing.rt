@@ -1,6 +1,6 @@
 //! The lines of a listing.
 ghost use Rattle.std.specs.Prelude.{◌≡◌, ◌+◌, ◌≤◌, [], ◌++◌, length, option_copied, OnOk, OnErr};
-ghost use Rattle.stream_rules.specs.MarkRef.{body_from, kind_of, HasShortBody, IsShort};
+ghost use Rattle.rtp_stream.specs.MarkRef.{body_from, kind_of, HasShortBody, IsShort};
 ghost use Rattle.studio_run.specs.Buffer.{PassesOn, BreaksOff};
 ghost use Rattle.studio_run.specs.Text.{number_text, body_text, mark_text, mark_line, next_line};
 

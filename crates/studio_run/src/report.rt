@@ -1,15 +1,15 @@
 //! The lines of a run's report.
 ghost use Rattle.std.specs.Prelude.{◌≡◌, ◌+◌, ◌≤◌, ◌<◌, ◌++◌, length, take, OnOk, OnErr};
-ghost use Rattle.stream_rules.specs.Counts.{tally_of};
+ghost use Rattle.rtp_stream.specs.Counts.{tally_of};
 ghost use Rattle.studio_run.specs.Buffer.{PassesOn, BreaksOff};
-ghost use Rattle.stream_rules.specs.PathCounts.{path_tally_of};
+ghost use Rattle.rtp_stream.specs.PathCounts.{path_tally_of};
 ghost use Rattle.studio_run.specs.Report.{datagram_line, path_letter, pair_text, count_text, path_line, taken_text, refused_text, slots_text, tally_text, merge_line};
 
 use crate::buffer::TextBuffer;
 use crate::device::WriteFault;
 use path_merge::{Counts, Path};
+use rtp_stream::PathCounts;
 use std::io::Write;
-use stream_rules::PathCounts;
 
 /// Writes the line of a datagram: the 12 octets of its header, and a payload of at most 1,440.
 pub fn write_datagram<W: Write>(

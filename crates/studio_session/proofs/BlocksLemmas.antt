@@ -7,8 +7,8 @@ use Rattle.std.proofs.lemmas.Bool.Decides.{nat_tests}
 use Rattle.std.proofs.lemmas.Int.{ints}
 use Rattle.std.proofs.lemmas.List.{length_push}
 use Rattle.std.proofs.lemmas.Option.{slice_get_within}
-use Rattle.stream_rules.specs.StreamSpecFacts.{format_of}
-use Rattle.stream_rules.specs.MarkList.{has_end}
+use Rattle.rtp_stream.specs.StreamSpecFacts.{format_of}
+use Rattle.rtp_stream.specs.MarkList.{has_end}
 use Rattle.lane_align.specs.Cover.{cover_of, cover_to, covers, last_quiet, last_slot, time_reached}
 use Rattle.lane_align.specs.Lane.{natural}
 use Rattle.mix_packets.specs.declared.out_spec.Output.{Output}

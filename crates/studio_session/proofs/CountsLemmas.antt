@@ -5,14 +5,14 @@ use Rattle.std.proofs.lemmas.Bool.{cases_Bool}
 use Rattle.std.proofs.lemmas.Bool.Decides.{nat_tests}
 use Rattle.std.proofs.lemmas.List.Sums.{count_by_more_no, count_by_more_yes}
 use Rattle.std.proofs.lemmas.Option.{slice_get_within, get_or_from_slice_get}
-use Rattle.stream_rules.specs.declared.stream_spec.Stream.{Stream}
+use Rattle.rtp_stream.specs.declared.stream_spec.Stream.{Stream}
 use Rattle.studio_mix.proofs.MixerLemmas.{set_same_at, set_other_at}
-use Rattle.stream_rules.specs.declared.reception.Reception.{Reception}
-use Rattle.stream_rules.specs.declared.reception.Reception.TheVariants.{Sent, Bad, WrongType, WrongLength}
+use Rattle.rtp_stream.specs.declared.reception.Reception.{Reception}
+use Rattle.rtp_stream.specs.declared.reception.Reception.TheVariants.{Sent, Bad, WrongType, WrongLength}
 use Rattle.studio_session.specs.Event.{TraceEvent}
 use Rattle.studio_session.specs.Session.{Step, Other, Datagram, Clock, End, is_on, received_on, step_of}
-use Rattle.stream_rules.specs.PathCounts.{PathTally, empty_path_tally, with_reception}
-use Rattle.stream_rules.specs.Reception.{is_any, is_bad, is_sent, is_wrong_length, is_wrong_type}
+use Rattle.rtp_stream.specs.PathCounts.{PathTally, empty_path_tally, with_reception}
+use Rattle.rtp_stream.specs.Reception.{is_any, is_bad, is_sent, is_wrong_length, is_wrong_type}
 use Rattle.studio_session.specs.Counts.{AreTallies, HasCounted, path_counts_of, with_step}
 use Rattle.studio_session.specs.Cursor.{HaveFew}
 

@@ -4,10 +4,10 @@ use Rattle.std.specs.Option.{option_to_list}
 use Rattle.std.proofs.lemmas.Grind.{flat_map-append}
 use Rattle.std.proofs.lemmas.List.{drop_all, take_more, append-nil, take-append-drop}
 use Rattle.std.proofs.lemmas.Option.{slice_get_within, get_or_from_slice_get}
-use Rattle.stream_rules.specs.declared.stream_spec.Stream.{Stream}
-use Rattle.stream_rules.specs.declared.event.Event.{Event}
-use Rattle.stream_rules.specs.Marks.{marks_of}
-use Rattle.stream_rules.specs.MarkFacts.{MarkView}
+use Rattle.rtp_stream.specs.declared.stream_spec.Stream.{Stream}
+use Rattle.rtp_stream.specs.declared.event.Event.{Event}
+use Rattle.rtp_stream.specs.Marks.{marks_of}
+use Rattle.rtp_stream.specs.MarkFacts.{MarkView}
 use Rattle.path_merge.proofs.LawLemmas.{marks_stay}
 use Rattle.path_merge.proofs.JoinLemmas.{alike-refl}
 use Rattle.lane_align.proofs.MarkListLemmas.{both_left}
@@ -15,17 +15,17 @@ use Rattle.path_merge.specs.Steps.{Drains, is_slot_mark}
 use Rattle.path_merge.specs.Goal.{CanReach, Gives, HasGivenAll, MovesTo}
 use Rattle.studio_session.proofs.WayLemmas.{in_time, next_in_whole, went_on}
 use Rattle.path_merge.proofs.HistoryLemmas.{is_well_timed_from-append}
-use Rattle.stream_rules.specs.declared.event.Event.TheVariants.{Tick}
+use Rattle.rtp_stream.specs.declared.event.Event.TheVariants.{Tick}
 use Rattle.path_merge.specs.MergeState.{MergeState}
 use Rattle.path_merge.specs.Merge.{HasHistory}
 use Rattle.studio_session.specs.Way.{IsOnWay, WentOn, on_way_after}
 use Rattle.studio_session.specs.Cursor.{IsRunnable, CursorState, HasPulled, IsOnTheWay, goal_of, next_of}
 use Rattle.std.proofs.lemmas.Bool.Decides.{nat_tests}
-use Rattle.stream_rules.specs.History.{is_well_timed}
+use Rattle.rtp_stream.specs.History.{is_well_timed}
 use Rattle.studio_session.specs.Event.{TraceEvent, Arrival, Reading, Closing, outline_of}
 use Rattle.studio_session.specs.declared.event.Outline.{Outline}
 use Rattle.studio_session.specs.declared.event.Outline.TheVariants.{Arrive as ArriveOf, Tick as TickOf, Close as CloseOf}
-use Rattle.stream_rules.specs.Reception.{reception_of}
+use Rattle.rtp_stream.specs.Reception.{reception_of}
 use Rattle.studio_session.specs.Session.{Other, Datagram, step_of, event_in, stream_history}
 use Rattle.studio_session.specs.Counts.{AreTallies, HasCounted}
 use Rattle.studio_session.proofs.CountsLemmas.{counted_more}

@@ -3,10 +3,10 @@ use Rattle.std.proofs.Common.{◌≡◌, inl, inr, get_or, ◌<◌, ◌+◌, ◌
 use Rattle.std.proofs.lemmas.Bool.{cases_lt}
 use Rattle.std.proofs.lemmas.Bool.Decides.{nat_tests}
 use Rattle.std.proofs.lemmas.Option.{get_or_from_slice_get}
-use Rattle.stream_rules.specs.declared.stream_spec.Stream.{Stream}
-use Rattle.stream_rules.specs.StreamSpecFacts.{IsStream}
-use Rattle.stream_rules.specs.declared.event.Event.{Event}
-use Rattle.stream_rules.specs.History.{is_tick_in_order, is_well_timed_from}
+use Rattle.rtp_stream.specs.declared.stream_spec.Stream.{Stream}
+use Rattle.rtp_stream.specs.StreamSpecFacts.{IsStream}
+use Rattle.rtp_stream.specs.declared.event.Event.{Event}
+use Rattle.rtp_stream.specs.History.{is_tick_in_order, is_well_timed_from}
 use Rattle.mix_packets.specs.OutSpec.{IsOutput}
 use Rattle.studio_spec.specs.Studio.{Studio}
 use Rattle.studio_session.specs.Play.{HasPathsBy, IsRunnableBy}
@@ -14,13 +14,13 @@ use Rattle.studio_session.specs.Event.{TraceEvent, Arrival, Reading, Closing, ou
 use Rattle.studio_session.specs.declared.event.Outline.{Outline}
 use Rattle.studio_session.specs.declared.fault.StudioFault.{StudioFault}
 use Rattle.studio_session.specs.declared.fault.StudioFault.TheVariants.{Clock, Memory, Path as NoPath, Stream as NoStream}
-use Rattle.stream_rules.specs.declared.reception.Reception.{Reception}
-use Rattle.stream_rules.specs.declared.reception.Reception.TheVariants.{Sent, Bad, WrongType, WrongLength}
+use Rattle.rtp_stream.specs.declared.reception.Reception.{Reception}
+use Rattle.rtp_stream.specs.declared.reception.Reception.TheVariants.{Sent, Bad, WrongType, WrongLength}
 use Rattle.studio_session.specs.Fault.{IsRunFault, clock_fault, closed_past, event_fault, or_later, outline_fault, path_fault, closed_at, time_at, session_fault_from, session_fault_of, time_after, time_past, closed_after}
 use Rattle.path_merge.specs.Clock.{clock_fault_of}
 use Rattle.path_merge.specs.declared.clock.ClockFault.TheVariants.{WentBack, TooFar, Closed}
 use Rattle.std.proofs.lemmas.Int.{ints}
-use Rattle.stream_rules.specs.Reception.{reception_of}
+use Rattle.rtp_stream.specs.Reception.{reception_of}
 use Rattle.studio_session.specs.Session.{Datagram, Other, event_in, stream_history}
 
 pub first_none : (here later : Option StudioFault) → or_later here later ≡ None → here ≡ None

@@ -4,9 +4,9 @@ use Rattle.std.proofs.lemmas.Bool.Decides.{nat_tests}
 use Rattle.std.proofs.lemmas.Grind.{flat_map-append}
 use Rattle.std.proofs.lemmas.List.{length_push, take-take, take-append-le, take-append-drop}
 use Rattle.std.proofs.lemmas.Option.{slice_get_within, slice_get-get_or}
-use Rattle.stream_rules.specs.MarkFacts.{MarkView}
-use Rattle.stream_rules.specs.Marks.{marks_of}
-use Rattle.stream_rules.specs.History.{is_well_timed}
+use Rattle.rtp_stream.specs.MarkFacts.{MarkView}
+use Rattle.rtp_stream.specs.Marks.{marks_of}
+use Rattle.rtp_stream.specs.History.{is_well_timed}
 use Rattle.path_merge.proofs.LawLemmas.{marks_stay}
 use Rattle.path_merge.proofs.MarkListLemmas.{listed}
 use Rattle.studio_spec.specs.Studio.{Studio}
@@ -18,7 +18,7 @@ use Rattle.studio_session.specs.Handed.{AreHanded, HaveTaken}
 use Rattle.studio_session.specs.Play.{HasPlayed, IsGiven, IsRunnableBy, feeds_of, stream_marks}
 use Rattle.studio_session.proofs.PlayLemmas.{stream_at}
 use Rattle.studio_session.proofs.SessionLemmas.{length_whole, whole_at}
-use Rattle.stream_rules.specs.declared.stream_spec.Stream.{Stream}
+use Rattle.rtp_stream.specs.declared.stream_spec.Stream.{Stream}
 use Rattle.studio_session.specs.Event.{TraceEvent}
 use Rattle.studio_session.specs.Session.{event_in, step_of, stream_history}
 use Rattle.studio_session.specs.Counts.{AreTallies}

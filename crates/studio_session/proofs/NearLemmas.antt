@@ -3,22 +3,22 @@ use Rattle.std.proofs.Common.{◌≡◌, ℕ, zero, suc, ◌+◌, ◌-◌, ◌^�
 use Rattle.std.specs.Prelude.{nat_eq, nat_le, nat_lt}
 use Rattle.std.proofs.lemmas.Bool.{false≢true}
 use Rattle.std.proofs.lemmas.Int.{ints}
-use Rattle.stream_rules.specs.Anchor.{anchor_from, can_anchor, is_source_wanted, next_number, restart_from}
-use Rattle.stream_rules.specs.Copies.{copies_at, copies_of, copies_of_all, copies_under_with, copies_with}
-use Rattle.stream_rules.specs.Counts.{fates_at, fates_of}
-use Rattle.stream_rules.specs.Epochs.{anchor_in, anchor_of, anchors_after, anchors_of, can_restart, goes_on, last_of, placed}
-use Rattle.stream_rules.specs.Fate.{counted_fate, fate_of, is_restart}
-use Rattle.stream_rules.specs.Grid.{end_of_copies, first_with}
-use Rattle.stream_rules.specs.History.{arrival_count, is_closed, is_counting, is_well_timed, time_of}
-use Rattle.stream_rules.specs.Marks.{body_of, end_mark, marks_at, marks_of, slot_mark, slots_at_close, slots_between, slots_from, slots_or_quiet}
-use Rattle.stream_rules.specs.Probation.{completes_probation, heard_since, is_off}
-use Rattle.stream_rules.specs.declared.anchor.Anchor.{Anchor}
-use Rattle.stream_rules.specs.declared.event.Event.{Event}
-use Rattle.stream_rules.specs.declared.event.Event.TheVariants.{Arrive, Close, Tick}
-use Rattle.stream_rules.specs.declared.fate.Fate.{Fate}
-use Rattle.stream_rules.specs.declared.fate.Fate.TheVariants.{Closed, CountersFull, Restarted}
-use Rattle.stream_rules.specs.declared.packet.Packet.{Packet}
-use Rattle.stream_rules.specs.declared.stream_spec.Stream.{Stream}
+use Rattle.rtp_stream.specs.Anchor.{anchor_from, can_anchor, is_source_wanted, next_number, restart_from}
+use Rattle.rtp_stream.specs.Copies.{copies_at, copies_of, copies_of_all, copies_under_with, copies_with}
+use Rattle.rtp_stream.specs.Counts.{fates_at, fates_of}
+use Rattle.rtp_stream.specs.Epochs.{anchor_in, anchor_of, anchors_after, anchors_of, can_restart, goes_on, last_of, placed}
+use Rattle.rtp_stream.specs.Fate.{counted_fate, fate_of, is_restart}
+use Rattle.rtp_stream.specs.Grid.{end_of_copies, first_with}
+use Rattle.rtp_stream.specs.History.{arrival_count, is_closed, is_counting, is_well_timed, time_of}
+use Rattle.rtp_stream.specs.Marks.{body_of, end_mark, marks_at, marks_of, slot_mark, slots_at_close, slots_between, slots_from, slots_or_quiet}
+use Rattle.rtp_stream.specs.Probation.{completes_probation, heard_since, is_off}
+use Rattle.rtp_stream.specs.declared.anchor.Anchor.{Anchor}
+use Rattle.rtp_stream.specs.declared.event.Event.{Event}
+use Rattle.rtp_stream.specs.declared.event.Event.TheVariants.{Arrive, Close, Tick}
+use Rattle.rtp_stream.specs.declared.fate.Fate.{Fate}
+use Rattle.rtp_stream.specs.declared.fate.Fate.TheVariants.{Closed, CountersFull, Restarted}
+use Rattle.rtp_stream.specs.declared.packet.Packet.{Packet}
+use Rattle.rtp_stream.specs.declared.stream_spec.Stream.{Stream}
 use Rattle.path_merge.specs.Merge.{heard_of}
 use Rattle.path_merge.proofs.CloseLemmas.{marks_of-close}
 use Rattle.path_merge.proofs.DueLemmas.{next_number-rises}

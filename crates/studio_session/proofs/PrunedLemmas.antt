@@ -6,18 +6,18 @@ use Rattle.std.specs.List.{range_with_len}
 use Rattle.std.proofs.lemmas.Grind.{flat_map-append}
 use Rattle.std.proofs.lemmas.Bool.Decides.{nat_tests}
 use Rattle.std.proofs.lemmas.Int.{ints}
-use Rattle.stream_rules.specs.Counts.{fates_of, is_got, is_lost, tally_of_fates}
-use Rattle.stream_rules.specs.History.{is_tick_in_order, is_well_timed}
-use Rattle.stream_rules.specs.MarkFacts.{MarkView}
-use Rattle.stream_rules.specs.MarkList.{has_end}
-use Rattle.stream_rules.specs.PathCounts.{PathTally}
-use Rattle.stream_rules.specs.Reception.{is_any, is_bad, is_sent, is_wrong_length, is_wrong_type}
-use Rattle.stream_rules.specs.StreamSpecFacts.{format_of}
-use Rattle.stream_rules.specs.declared.event.Event.TheVariants.{Tick}
-use Rattle.stream_rules.specs.declared.fate.Fate.{Fate}
-use Rattle.stream_rules.specs.declared.mark.Format.{Format}
-use Rattle.stream_rules.specs.declared.reception.Reception.{Reception}
-use Rattle.stream_rules.specs.declared.stream_spec.Stream.{Stream}
+use Rattle.rtp_stream.specs.Counts.{fates_of, is_got, is_lost, tally_of_fates}
+use Rattle.rtp_stream.specs.History.{is_tick_in_order, is_well_timed}
+use Rattle.rtp_stream.specs.MarkFacts.{MarkView}
+use Rattle.rtp_stream.specs.MarkList.{has_end}
+use Rattle.rtp_stream.specs.PathCounts.{PathTally}
+use Rattle.rtp_stream.specs.Reception.{is_any, is_bad, is_sent, is_wrong_length, is_wrong_type}
+use Rattle.rtp_stream.specs.StreamSpecFacts.{format_of}
+use Rattle.rtp_stream.specs.declared.event.Event.TheVariants.{Tick}
+use Rattle.rtp_stream.specs.declared.fate.Fate.{Fate}
+use Rattle.rtp_stream.specs.declared.mark.Format.{Format}
+use Rattle.rtp_stream.specs.declared.reception.Reception.{Reception}
+use Rattle.rtp_stream.specs.declared.stream_spec.Stream.{Stream}
 use Rattle.path_merge.proofs.HistoryLemmas.{time_of-append}
 use Rattle.path_merge.proofs.MarkGrowthLemmas.{IsTickAt, well_timed_tick}
 use Rattle.path_merge.proofs.MarkListLemmas.{listed}

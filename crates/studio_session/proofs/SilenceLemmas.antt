@@ -6,15 +6,15 @@ use Rattle.std.specs.Option.{option_or}
 use Rattle.std.proofs.lemmas.Bool.{false≢true}
 use Rattle.std.proofs.lemmas.Bool.Decides.{nat_tests}
 use Rattle.std.proofs.lemmas.Int.{ints}
-use Rattle.stream_rules.specs.Counts.{is_got, is_lost}
-use Rattle.stream_rules.specs.MarkFacts.{MarkView}
-use Rattle.stream_rules.specs.MarkList.{can_follow, has_end, is_end, is_mark_list, is_mark_list_after, is_same_format}
-use Rattle.stream_rules.specs.Marks.{has_slot, is_past_quiet, is_past_quiets, is_quiet_new, is_slot, quiet_mark, slots_or_quiet}
-use Rattle.stream_rules.specs.declared.mark.Body.{Body}
-use Rattle.stream_rules.specs.declared.mark.Format.{Format}
-use Rattle.stream_rules.specs.declared.mark.MarkKind.{MarkKind}
-use Rattle.stream_rules.specs.declared.mark.MarkKind.TheVariants.{End, Quiet, Slot}
-use Rattle.stream_rules.specs.declared.stream_spec.Stream.{Stream}
+use Rattle.rtp_stream.specs.Counts.{is_got, is_lost}
+use Rattle.rtp_stream.specs.MarkFacts.{MarkView}
+use Rattle.rtp_stream.specs.MarkList.{can_follow, has_end, is_end, is_mark_list, is_mark_list_after, is_same_format}
+use Rattle.rtp_stream.specs.Marks.{has_slot, is_past_quiet, is_past_quiets, is_quiet_new, is_slot, quiet_mark, slots_or_quiet}
+use Rattle.rtp_stream.specs.declared.mark.Body.{Body}
+use Rattle.rtp_stream.specs.declared.mark.Format.{Format}
+use Rattle.rtp_stream.specs.declared.mark.MarkKind.{MarkKind}
+use Rattle.rtp_stream.specs.declared.mark.MarkKind.TheVariants.{End, Quiet, Slot}
+use Rattle.rtp_stream.specs.declared.stream_spec.Stream.{Stream}
 use Rattle.path_merge.proofs.JoinLemmas.{has_slot-append, slots_or_quiet-slotted}
 use Rattle.path_merge.proofs.TallyLemmas.{count_by-first}
 use Rattle.lane_align.specs.declared.last_slot.LastSlot.{LastSlot}

@@ -1,8 +1,8 @@
 -- What a stream received on its paths of a list of events.
 use Rattle.std.specs.Prelude.{◌≡◌, ℕ, zero, suc, nat_eq, List, [], ◌∷◌, ◌++◌, Some, slice_get, if◌then◌else◌}
-use Rattle.stream_rules.specs.declared.stream_spec.Stream.{Stream}
-use Rattle.stream_rules.specs.PathCounts.{PathTally, with_reception}
-use Rattle.stream_rules.specs.Reception.{is_any, is_bad, is_sent, is_wrong_length, is_wrong_type}
+use Rattle.rtp_stream.specs.declared.stream_spec.Stream.{Stream}
+use Rattle.rtp_stream.specs.PathCounts.{PathTally, with_reception}
+use Rattle.rtp_stream.specs.Reception.{is_any, is_bad, is_sent, is_wrong_length, is_wrong_type}
 use Rattle.studio_session.specs.Event.{TraceEvent}
 use Rattle.studio_session.specs.Session.{Step, Other, Datagram, Clock, End, received_on}
 

@@ -1,19 +1,19 @@
 -- How far one stream of a run has come.
 use Rattle.std.specs.Prelude.{◌≡◌, ℕ, ◌+◌, ◌-◌, ◌-ℤ◌, ◌<◌, ◌≤◌, true, List, [], ◌∷◌, length, take, drop, ℤ, Option, Some, None, slice_get}
 use Rattle.std.specs.Option.{option_to_list}
-use Rattle.stream_rules.specs.declared.stream_spec.Stream.{Stream}
-use Rattle.stream_rules.specs.MarkFacts.{MarkView}
+use Rattle.rtp_stream.specs.declared.stream_spec.Stream.{Stream}
+use Rattle.rtp_stream.specs.MarkFacts.{MarkView}
 use Rattle.path_merge.specs.MergeState.{MergeState}
 use Rattle.path_merge.specs.declared.goal.Goal.{Goal}
 use Rattle.path_merge.specs.declared.goal.Goal.TheVariants.{End, Reading as ToReading}
 use Rattle.path_merge.specs.Goal.{CanReach, next_to}
 use Rattle.path_merge.specs.Steps.{marks_left}
-use Rattle.stream_rules.specs.Marks.{marks_of}
-use Rattle.stream_rules.specs.History.{is_well_timed}
+use Rattle.rtp_stream.specs.Marks.{marks_of}
+use Rattle.rtp_stream.specs.History.{is_well_timed}
 use Rattle.studio_session.specs.Event.{TraceEvent, Arrival}
 use Rattle.lane_align.specs.Lane.{natural}
 use Rattle.studio_session.specs.Session.{stream_history}
-use Rattle.stream_rules.specs.PathCounts.{PathTally}
+use Rattle.rtp_stream.specs.PathCounts.{PathTally}
 use Rattle.studio_session.specs.Counts.{AreTallies}
 use Rattle.studio_session.specs.Way.{IsOnWay}
 

@@ -1,7 +1,7 @@
 -- The first event of a studio that is at fault.
 use Rattle.std.specs.Prelude.{◌≡◌, ℕ, suc, Bool, true, false, nat_lt, List, [], ◌∷◌, slice_get, ℤ, Option, Some, None, if◌then◌else◌}
-use Rattle.stream_rules.specs.declared.stream_spec.Stream.{Stream}
-use Rattle.stream_rules.specs.History.{is_tick_in_order}
+use Rattle.rtp_stream.specs.declared.stream_spec.Stream.{Stream}
+use Rattle.rtp_stream.specs.History.{is_tick_in_order}
 use Rattle.studio_spec.specs.Studio.{Studio}
 use Rattle.studio_session.specs.Event.{TraceEvent, outline_of}
 use Rattle.studio_session.specs.declared.event.Outline.{Outline}

@@ -11,13 +11,13 @@ pub mod Run
 pub mod Report
 pub mod Pruned
 pub use Rattle.rtp_wire.specs.Datagram
-pub use Rattle.stream_rules.specs.StreamSpecFacts
-pub use Rattle.stream_rules.specs.StreamSpec
-pub use Rattle.stream_rules.specs.Counts as MergeCounts
-pub use Rattle.stream_rules.specs.CountsFacts
-pub use Rattle.stream_rules.specs.MarkFacts
-pub use Rattle.stream_rules.specs.History
-pub use Rattle.stream_rules.specs.Marks
+pub use Rattle.rtp_stream.specs.StreamSpecFacts
+pub use Rattle.rtp_stream.specs.StreamSpec
+pub use Rattle.rtp_stream.specs.Counts as MergeCounts
+pub use Rattle.rtp_stream.specs.CountsFacts
+pub use Rattle.rtp_stream.specs.MarkFacts
+pub use Rattle.rtp_stream.specs.History
+pub use Rattle.rtp_stream.specs.Marks
 pub use Rattle.path_merge.specs.Merge
 pub use Rattle.path_merge.specs.MergeState
 pub use Rattle.path_merge.specs.Steps
@@ -32,7 +32,7 @@ pub use Rattle.studio_mix.specs.Room
 pub use Rattle.studio_mix.specs.Ready
 pub use Rattle.studio_mix.specs.Output
 pub use Rattle.mix_packets.specs.Packer
-pub use Rattle.stream_rules.specs.Reception
-pub use Rattle.stream_rules.specs.PathCounts
-pub use Rattle.stream_rules.specs.Fate
+pub use Rattle.rtp_stream.specs.Reception
+pub use Rattle.rtp_stream.specs.PathCounts
+pub use Rattle.rtp_stream.specs.Fate
 pub use Rattle.studio_mix.specs.Blocks

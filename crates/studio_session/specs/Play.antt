@@ -1,10 +1,10 @@
 -- A session: its streams' merges, and the mixer that takes their marks.
 use Rattle.std.specs.Prelude.{◌≡◌, ◌⊎◌, ℕ, suc, ◌+◌, ◌<◌, true, List, [], ◌∷◌, ◌++◌, length, take, drop, slice_get, slice_set, ℤ, Some, None, All}
-use Rattle.stream_rules.specs.declared.stream_spec.Stream.{Stream}
-use Rattle.stream_rules.specs.StreamSpecFacts.{format_of}
-use Rattle.stream_rules.specs.MarkFacts.{MarkView}
-use Rattle.stream_rules.specs.MarkList.{is_mark_list}
-use Rattle.stream_rules.specs.Marks.{marks_of}
+use Rattle.rtp_stream.specs.declared.stream_spec.Stream.{Stream}
+use Rattle.rtp_stream.specs.StreamSpecFacts.{format_of}
+use Rattle.rtp_stream.specs.MarkFacts.{MarkView}
+use Rattle.rtp_stream.specs.MarkList.{is_mark_list}
+use Rattle.rtp_stream.specs.Marks.{marks_of}
 use Rattle.lane_align.specs.Cover.{covers, cover_of}
 use Rattle.mix_packets.specs.Block.{block_start}
 use Rattle.studio_spec.specs.Studio.{Studio}

@@ -1,11 +1,11 @@
 -- What became of a datagram that a stream was handed.
 use Rattle.std.specs.Prelude.{ℕ, ℤ, List}
-use Rattle.stream_rules.specs.declared.stream_spec.Stream.{Stream}
-use Rattle.stream_rules.specs.declared.event.Event.{Event}
-use Rattle.stream_rules.specs.declared.reception.Reception.{Reception}
-use Rattle.stream_rules.specs.declared.reception.Reception.TheVariants.{Sent, Bad, WrongType, WrongLength}
-use Rattle.stream_rules.specs.Reception.{reception_of}
-use Rattle.stream_rules.specs.Fate.{fate_of}
+use Rattle.rtp_stream.specs.declared.stream_spec.Stream.{Stream}
+use Rattle.rtp_stream.specs.declared.event.Event.{Event}
+use Rattle.rtp_stream.specs.declared.reception.Reception.{Reception}
+use Rattle.rtp_stream.specs.declared.reception.Reception.TheVariants.{Sent, Bad, WrongType, WrongLength}
+use Rattle.rtp_stream.specs.Reception.{reception_of}
+use Rattle.rtp_stream.specs.Fate.{fate_of}
 use Rattle.studio_session.specs.Event.{TraceEvent}
 use Rattle.studio_session.specs.Session.{stream_history}
 use Rattle.studio_session.specs.declared.receipt.Receipt.{Receipt}

@@ -1,13 +1,13 @@
 -- What a run comes to.
 use Rattle.std.specs.Prelude.{◌≡◌, ℕ, List, [], length, take, drop, map, slice_get, ℤ, Some}
-use Rattle.stream_rules.specs.declared.stream_spec.Stream.{Stream}
-use Rattle.stream_rules.specs.CountsFacts.{Tally}
-use Rattle.stream_rules.specs.Counts.{counts_of, tally_of}
+use Rattle.rtp_stream.specs.declared.stream_spec.Stream.{Stream}
+use Rattle.rtp_stream.specs.CountsFacts.{Tally}
+use Rattle.rtp_stream.specs.Counts.{counts_of, tally_of}
 use Rattle.studio_spec.specs.Studio.{Studio}
-use Rattle.stream_rules.specs.declared.stream_counts.StreamCounts.{StreamCounts}
+use Rattle.rtp_stream.specs.declared.stream_counts.StreamCounts.{StreamCounts}
 use Rattle.studio_session.specs.Event.{TraceEvent}
 use Rattle.studio_session.specs.Session.{stream_history}
-use Rattle.stream_rules.specs.PathCounts.{path_tally_of}
+use Rattle.rtp_stream.specs.PathCounts.{path_tally_of}
 use Rattle.studio_session.specs.Counts.{AreTallies, path_tallies}
 use Rattle.studio_session.specs.Cursor.{CursorState, HasPulled}
 use Rattle.studio_session.specs.Play.{stream_marks}

@@ -1,12 +1,12 @@
 -- What the events of a studio are to one of its streams.
 use Rattle.std.specs.Prelude.{ℕ, Bool, false, ◌&&◌, nat_eq, ℤ, List, [], ◌∷◌, flat_map, count_by, if◌then◌else◌}
-use Rattle.stream_rules.specs.declared.stream_spec.Stream.{Stream}
-use Rattle.stream_rules.specs.declared.event.Event.{Event}
-use Rattle.stream_rules.specs.declared.event.Event.TheVariants.{Arrive, Tick, Close}
-use Rattle.stream_rules.specs.Reception.{reception_of}
+use Rattle.rtp_stream.specs.declared.stream_spec.Stream.{Stream}
+use Rattle.rtp_stream.specs.declared.event.Event.{Event}
+use Rattle.rtp_stream.specs.declared.event.Event.TheVariants.{Arrive, Tick, Close}
+use Rattle.rtp_stream.specs.Reception.{reception_of}
 use Rattle.studio_session.specs.Event.{TraceEvent, Arrival, Reading, Closing}
-use Rattle.stream_rules.specs.declared.reception.Reception.{Reception}
-use Rattle.stream_rules.specs.declared.reception.Reception.TheVariants.{Sent, Bad, WrongType, WrongLength}
+use Rattle.rtp_stream.specs.declared.reception.Reception.{Reception}
+use Rattle.rtp_stream.specs.declared.reception.Reception.TheVariants.{Sent, Bad, WrongType, WrongLength}
 
 -- what an event is to one stream: another's datagram, or its own on a path, or a reading of the clock, or the close
 pub data Step : Type 0 where

@@ -1,13 +1,13 @@
 -- A merge on its way to a reading of the clock.
 use Rattle.std.specs.Prelude.{◌≡◌, ℕ, ◌+◌, List, [], ◌∷◌, ◌++◌, length, take, drop, ℤ, Option, Some, None, if◌then◌else◌}
 use Rattle.std.specs.Option.{option_to_list}
-use Rattle.stream_rules.specs.declared.stream_spec.Stream.{Stream}
-use Rattle.stream_rules.specs.MarkFacts.{MarkView}
-use Rattle.stream_rules.specs.declared.event.Event.{Event}
-use Rattle.stream_rules.specs.declared.event.Event.TheVariants.{Tick}
+use Rattle.rtp_stream.specs.declared.stream_spec.Stream.{Stream}
+use Rattle.rtp_stream.specs.MarkFacts.{MarkView}
+use Rattle.rtp_stream.specs.declared.event.Event.{Event}
+use Rattle.rtp_stream.specs.declared.event.Event.TheVariants.{Tick}
 use Rattle.path_merge.specs.MergeState.{MergeState}
 use Rattle.path_merge.specs.Merge.{HasHistory}
-use Rattle.stream_rules.specs.Marks.{marks_of, is_slot}
+use Rattle.rtp_stream.specs.Marks.{marks_of, is_slot}
 use Rattle.path_merge.specs.Clock.{clock_fault_of}
 use Rattle.path_merge.specs.Steps.{IsAlike}
 

@@ -1,16 +1,16 @@
 //! One stream of a run: its merge, and how far it has come in the events.
 ghost use Rattle.std.specs.Prelude.{◌≡◌, ℕ, ◌+◌, ◌<◌, ◌≤◌, ◌^◌, ◌++◌, List, ℤ, pos, ◌≤ℤ◌, length, slice_get, take, true, false, None, Some, IfOk};
-ghost use Rattle.stream_rules.specs.declared.stream_spec.Stream.{Stream};
-ghost use Rattle.stream_rules.specs.declared.event.Event.{Event};
-ghost use Rattle.stream_rules.specs.Counts.{tally_of};
+ghost use Rattle.rtp_stream.specs.declared.stream_spec.Stream.{Stream};
+ghost use Rattle.rtp_stream.specs.declared.event.Event.{Event};
+ghost use Rattle.rtp_stream.specs.Counts.{tally_of};
 ghost use Rattle.path_merge.specs.Merge.{HasHistory};
 ghost use Rattle.path_merge.specs.Clock.{clock_fault_of};
 ghost use Rattle.path_merge.specs.Goal.{CanReach, HasGivenAll};
 ghost use Rattle.path_merge.specs.Steps.{next_deadline_of};
 ghost use Rattle.studio_session.specs.Event.{TraceEvent, Arrival, Reading, Closing, outline_of};
-ghost use Rattle.stream_rules.specs.Reception.{reception_from, FitsReception};
+ghost use Rattle.rtp_stream.specs.Reception.{reception_from, FitsReception};
 ghost use Rattle.studio_session.specs.Session.{Datagram, Other, step_of, event_in};
-ghost use Rattle.stream_rules.specs.PathCounts.{path_tally_of, tallies_of};
+ghost use Rattle.rtp_stream.specs.PathCounts.{path_tally_of, tallies_of};
 ghost use Rattle.studio_session.specs.Counts.{HasCounted};
 ghost use Rattle.studio_session.specs.Cursor.{HasPulled, HaveFew, IsReadyFor, IsSameCursor, IsRunnable, IsOnTheWay, next_of, way_left, events_left};
 ghost use Rattle.studio_session.specs.Cursor as goal;
@@ -21,9 +21,9 @@ use crate::event::Outline;
 use crate::receipt::Receipt;
 use crate::source::{DatagramRoom, EventSource};
 use path_merge::{Counts, Goal, MarkRef, Merge, Path, SlotWindow, StreamSpec};
+use rtp_stream::{PathCounts, ReceptionRef, receive_ref};
 use std::alloc::{AllocError, Global};
 use std::marker::Model;
-use stream_rules::{PathCounts, ReceptionRef, receive_ref};
 
 /// A stream of a run.
 ///
@@ -44,11 +44,11 @@ pub struct Cursor {
 
 impl Model for Cursor {
     ghost use Rattle.studio_session.specs.Cursor.{CursorState, IsCursor};
-    ghost use Rattle.stream_rules.specs.PathCounts.{tallies_of};
+    ghost use Rattle.rtp_stream.specs.PathCounts.{tallies_of};
     ghost use Rattle.std.specs.FinMap as map;
     ghost use Rattle.std.specs.Coded.{codes, coded_ℕ};
     ghost use Rattle.std.specs.Ordering.{nat_cmp};
-    ghost use Rattle.stream_rules.specs.contracts.packet.Packet as packet;
+    ghost use Rattle.rtp_stream.specs.contracts.packet.Packet as packet;
 
     ghost Value = { CursorState };
 

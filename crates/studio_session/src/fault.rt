@@ -1,8 +1,8 @@
 //! Why a list of events can't be run.
 ghost use Rattle.std.specs.Prelude.{◌≡◌, ℕ, [], false, Some, None, slice_get};
-ghost use Rattle.stream_rules.specs.declared.stream_spec.Stream.{Stream};
-ghost use Rattle.stream_rules.specs.StreamSpecFacts.{IsStream};
-ghost use Rattle.stream_rules.specs.History.{is_tick_in_order};
+ghost use Rattle.rtp_stream.specs.declared.stream_spec.Stream.{Stream};
+ghost use Rattle.rtp_stream.specs.StreamSpecFacts.{IsStream};
+ghost use Rattle.rtp_stream.specs.History.{is_tick_in_order};
 ghost use Rattle.mix_packets.specs.OutSpec.{IsOutput};
 ghost use Rattle.studio_session.specs.Fault as spec;
 ghost use Rattle.studio_session.specs.Fault.{closed_past, outline_fault, session_fault_from, session_fault_of, time_past};

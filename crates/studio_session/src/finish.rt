@@ -1,6 +1,6 @@
 //! One stream's marks to the last of them, for its counts.
 ghost use Rattle.std.specs.Prelude.{◌≡◌, ℕ, List, ℤ, None};
-ghost use Rattle.stream_rules.specs.declared.stream_spec.Stream.{Stream};
+ghost use Rattle.rtp_stream.specs.declared.stream_spec.Stream.{Stream};
 ghost use Rattle.studio_session.specs.Event.{TraceEvent};
 ghost use Rattle.studio_session.specs.Cursor.{IsReadyFor, IsRunnable, IsSameCursor};
 ghost use Rattle.studio_session.specs.Report.{HasCounts, HasPulledAll, HasPulledSome};

@@ -1,5 +1,5 @@
 //! What a run comes to.
-use stream_rules::StreamCounts;
+use rtp_stream::StreamCounts;
 
 /// The datagrams of all blocks that are ready, and the counts of each stream.
 #[derive(Debug, Drop)]

@@ -15,9 +15,9 @@ use crate::pull::pull;
 use crate::source::{DatagramRoom, EventSource, MOST_ARRIVAL_OCTETS};
 use crate::tally::all_counts;
 use path_merge::StreamSpec;
+use rtp_stream::StreamCounts;
 use std::alloc::{AllocError, Global};
 use std::marker::Model;
-use stream_rules::StreamCounts;
 use studio_mix::Mixer;
 use studio_spec::StudioSpec;
 
@@ -37,7 +37,7 @@ impl Model for Session {
     ghost use Rattle.std.specs.FinMap as map;
     ghost use Rattle.std.specs.Coded.{codes, coded_ℕ};
     ghost use Rattle.std.specs.Ordering.{nat_cmp};
-    ghost use Rattle.stream_rules.specs.contracts.packet.Packet as packet;
+    ghost use Rattle.rtp_stream.specs.contracts.packet.Packet as packet;
 
     ghost Value = { SessionState };
 

@@ -1,9 +1,9 @@
 //! The counts of a run: of each path, and of each merge.
 ghost use Rattle.std.specs.Prelude.{◌≡◌, ℕ, ℤ, List, All, IfOk};
-ghost use Rattle.stream_rules.specs.declared.stream_spec.Stream.{Stream};
+ghost use Rattle.rtp_stream.specs.declared.stream_spec.Stream.{Stream};
 ghost use Rattle.studio_spec.specs.Studio.{Studio};
 ghost use Rattle.studio_session.specs.Event.{TraceEvent};
-ghost use Rattle.stream_rules.specs.PathCounts.{tallies_of};
+ghost use Rattle.rtp_stream.specs.PathCounts.{tallies_of};
 ghost use Rattle.studio_session.specs.Counts.{AreTallies, path_tallies};
 ghost use Rattle.studio_session.specs.Cursor.{IsReadyFor, IsRunnable};
 ghost use Rattle.studio_session.specs.Play.{IsRunnableBy};
@@ -13,8 +13,8 @@ use crate::cursor::Cursor;
 use crate::finish::finish_stream;
 use crate::source::EventSource;
 use path_merge::Path;
+use rtp_stream::{PathCounts, StreamCounts};
 use std::alloc::{AllocError, Global};
-use stream_rules::{PathCounts, StreamCounts};
 
 /// The counts of each path of a stream.
 fn all_path_counts(alloc: Global, cursor: &Cursor) -> Result<Vec<PathCounts>, AllocError>

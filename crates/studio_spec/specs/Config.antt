@@ -2,7 +2,7 @@
 use Rattle.std.specs.Prelude.{ℕ, ◌-◌, pos, List, [], ◌∷◌, ◌++◌, map, length, Option, None}
 use Rattle.std.specs.declared.net.ipv4_addr.Ipv4Addr.{Ipv4Addr}
 use Rattle.toml.specs.Data.{Members}
-use Rattle.stream_rules.specs.declared.stream_spec.Stream.{Stream}
+use Rattle.rtp_stream.specs.declared.stream_spec.Stream.{Stream}
 use Rattle.studio_spec.specs.Ports.{absent_rows}
 use Rattle.studio_spec.specs.Studio.{Studio, channel_total}
 use Rattle.studio_spec.specs.Values.{number_at, number_or, tables_at, table_at}

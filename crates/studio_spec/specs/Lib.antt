@@ -10,7 +10,7 @@ pub mod NetworkTable
 pub mod StreamTable
 pub mod OutputTable
 pub mod Config
-pub use Rattle.stream_rules.specs.StreamSpecFacts
+pub use Rattle.rtp_stream.specs.StreamSpecFacts
 pub use Rattle.gain_mix.specs.Gain
 pub use Rattle.gain_mix.specs.Changes
 pub use Rattle.mix_packets.specs.OutSpec

@@ -1,9 +1,9 @@
 -- The table of a stream: its rows, what they say, and the first fault.
 use Rattle.std.specs.Prelude.{ℕ, List, [], ◌∷◌, ◌++◌, Option, option_map, if◌then◌else◌}
-use Rattle.stream_rules.specs.declared.stream_spec.Stream.{Stream}
-use Rattle.stream_rules.specs.StreamSpecFacts.{spec_fault_of}
-use Rattle.stream_rules.specs.declared.stream_spec.StreamClock.{StreamClock}
-use Rattle.stream_rules.specs.declared.stream_spec.StreamClock.TheVariants.{Media, Arrival}
+use Rattle.rtp_stream.specs.declared.stream_spec.Stream.{Stream}
+use Rattle.rtp_stream.specs.StreamSpecFacts.{spec_fault_of}
+use Rattle.rtp_stream.specs.declared.stream_spec.StreamClock.{StreamClock}
+use Rattle.rtp_stream.specs.declared.stream_spec.StreamClock.TheVariants.{Media, Arrival}
 use Rattle.toml.specs.Data.{Members}
 use Rattle.studio_spec.specs.Values.{number_at, number_or, text_at, encoding_at, is_media}
 use Rattle.studio_spec.specs.NetworkTable.{path_rows}

@@ -2,8 +2,8 @@
 ghost use Rattle.std.specs.Prelude.{◌≡◌, ◌<◌, length, slice_set};
 ghost use Rattle.studio_spec.specs.Networks.{absent_networks, path_address};
 
+use rtp_stream::Path;
 use std::net::Ipv4Addr;
-use stream_rules::Path;
 
 /// Addresses that are known: each stream's, path by path, and the output's.
 #[derive(Clone, Copy, Debug, PartialEq, Eq)]

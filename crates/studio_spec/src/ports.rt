@@ -2,7 +2,7 @@
 ghost use Rattle.std.specs.Prelude.{◌≡◌, ◌<◌, None, length, slice_set};
 ghost use Rattle.studio_spec.specs.Ports.{absent_rows, port_at};
 
-use stream_rules::Path;
+use rtp_stream::Path;
 
 /// Ports that are known: each stream's, path by path, and the output's.
 #[derive(Clone, Copy, Debug, PartialEq, Eq)]

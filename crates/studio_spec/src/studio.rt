@@ -11,8 +11,8 @@ use crate::networks::Networks;
 use crate::ports::Ports;
 use gain_mix::Schedule;
 use mix_packets::OutSpec;
+use rtp_stream::StreamSpec;
 use std::marker::Model;
-use stream_rules::StreamSpec;
 
 /// The streams of a studio, its output, the gains between them, and the ports and addresses that are known.
 #[derive(Drop)]

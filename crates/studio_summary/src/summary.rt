@@ -1,11 +1,11 @@
 //! The lines of streams and paths, of the output and its copies, and of the gains.
 use gain_mix::Matrix;
 use mix_packets::OutSpec;
+use rtp_stream::{Path, StreamClock, StreamSpec};
 use rtp_wire::Enc;
 use std::io;
 use std::io::Write;
 use std::net::Ipv4Addr;
-use stream_rules::{Path, StreamClock, StreamSpec};
 use studio_spec::{Networks, Ports, Senders, StudioSpec};
 
 /// Writes a line for each stream and its paths, one for the output and its copies, and the gains by time.

@@ -4,9 +4,9 @@ use Rattle.std.specs.Prelude.{Option, None, IfSome}
 use Rattle.std.proofs.lemmas.Bool.{false≢true}
 use Rattle.std.proofs.lemmas.List.{take_more}
 use Rattle.std.proofs.lemmas.Option.{slice_get_within}
-use Rattle.stream_rules.specs.StreamSpecFacts.{format_of}
-use Rattle.stream_rules.specs.MarkFacts.{MarkView}
-use Rattle.stream_rules.specs.MarkList.{is_mark_list}
+use Rattle.rtp_stream.specs.StreamSpecFacts.{format_of}
+use Rattle.rtp_stream.specs.MarkFacts.{MarkView}
+use Rattle.rtp_stream.specs.MarkList.{is_mark_list}
 use Rattle.studio_spec.specs.Studio.{Studio}
 use Rattle.studio_mix.specs.Feed.{Feed}
 use Rattle.studio_mix.specs.Mixer.{MixerState, HasFeeds}

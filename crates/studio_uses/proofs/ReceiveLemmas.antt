@@ -7,20 +7,20 @@ use Rattle.std.proofs.lemmas.List.{take-append-drop, take_more}
 use Rattle.std.proofs.lemmas.List.Folds.{list_all-append, list_all_more}
 use Rattle.std.specs.Prelude.{int_lt, Result, Ok, Err, IsErrAnd, IfErr}
 use Rattle.std.proofs.lemmas.Int.{ints}
-use Rattle.stream_rules.specs.Anchor.{next_number}
-use Rattle.stream_rules.specs.Copies.{copies_of}
-use Rattle.stream_rules.specs.Epochs.{anchor_of}
-use Rattle.stream_rules.specs.Grid.{first_with}
-use Rattle.stream_rules.specs.History.{is_closed, is_well_timed, time_of}
-use Rattle.stream_rules.specs.Marks.{body_of, has_slot, is_past_quiet, is_past_quiets, is_quiet_new, is_slot, marks_of, quiet_mark, slot_mark, slots_between, slots_from, slots_or_quiet}
-use Rattle.stream_rules.specs.declared.anchor.Anchor.{Anchor}
+use Rattle.rtp_stream.specs.Anchor.{next_number}
+use Rattle.rtp_stream.specs.Copies.{copies_of}
+use Rattle.rtp_stream.specs.Epochs.{anchor_of}
+use Rattle.rtp_stream.specs.Grid.{first_with}
+use Rattle.rtp_stream.specs.History.{is_closed, is_well_timed, time_of}
+use Rattle.rtp_stream.specs.Marks.{body_of, has_slot, is_past_quiet, is_past_quiets, is_quiet_new, is_slot, marks_of, quiet_mark, slot_mark, slots_between, slots_from, slots_or_quiet}
+use Rattle.rtp_stream.specs.declared.anchor.Anchor.{Anchor}
 use Rattle.path_merge.proofs.EpochLemmas.{heard_of-tick}
 use Rattle.path_merge.proofs.JoinLemmas.{alike-trans, has_slot-append}
 use Rattle.path_merge.proofs.StepLemmas.{marks_of-tick}
-use Rattle.stream_rules.specs.declared.stream_spec.Stream.{Stream}
-use Rattle.stream_rules.specs.declared.event.Event.{Event}
-use Rattle.stream_rules.specs.declared.event.Event.TheVariants.{Arrive, Close, Tick}
-use Rattle.stream_rules.specs.MarkFacts.{MarkView}
+use Rattle.rtp_stream.specs.declared.stream_spec.Stream.{Stream}
+use Rattle.rtp_stream.specs.declared.event.Event.{Event}
+use Rattle.rtp_stream.specs.declared.event.Event.TheVariants.{Arrive, Close, Tick}
+use Rattle.rtp_stream.specs.MarkFacts.{MarkView}
 use Rattle.path_merge.proofs.HistoryLemmas.{anchor_of-tick, copies_of-tick, events_until_close-open, fates_of-tick, is_closed-append, is_well_timed_from-append, time_of-append}
 use Rattle.path_merge.proofs.RunLemmas as run
 use Rattle.path_merge.specs.Steps.{Advances, IsAlike, Moves, MovesBy, is_slot_mark, stop_at}
@@ -28,16 +28,16 @@ use Rattle.studio_uses.specs.Receive.{IsFaultOf, are_on_paths, events_of, events
 use Rattle.studio_uses.specs.declared.receive.ReceiveFault.{ReceiveFault}
 use Rattle.rtp_wire.specs.Datagram.{wire_fault_of, head_at, payload_at}
 use Rattle.rtp_wire.specs.declared.fault.WireFault.{WireFault}
-use Rattle.stream_rules.specs.StreamSpec.{admit_fault_of}
-use Rattle.stream_rules.specs.declared.packet.Packet.{Packet}
-use Rattle.stream_rules.specs.declared.stream_spec.AdmitFault.{AdmitFault}
-use Rattle.stream_rules.specs.declared.stream_spec.AdmitFault.TheVariants.{WrongType, WrongLength}
+use Rattle.rtp_stream.specs.StreamSpec.{admit_fault_of}
+use Rattle.rtp_stream.specs.declared.packet.Packet.{Packet}
+use Rattle.rtp_stream.specs.declared.stream_spec.AdmitFault.{AdmitFault}
+use Rattle.rtp_stream.specs.declared.stream_spec.AdmitFault.TheVariants.{WrongType, WrongLength}
 use Rattle.path_merge.specs.Clock.{clock_fault_of}
 use Rattle.path_merge.specs.MergeState.{MergeState}
 use Rattle.path_merge.specs.Run.{HasGiven}
 use Rattle.path_merge.specs.declared.clock.ClockFault.{ClockFault}
 use Rattle.studio_session.proofs.WayLemmas.{in_time}
-use Rattle.stream_rules.specs.Reception.{packet_at, reception_by, reception_of}
+use Rattle.rtp_stream.specs.Reception.{packet_at, reception_by, reception_of}
 use Rattle.studio_session.specs.Session.{Datagram, event_in}
 use Rattle.studio_uses.specs.declared.arrival.Arrival.{Arrival}
 

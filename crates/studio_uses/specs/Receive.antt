@@ -1,11 +1,11 @@
 -- The history of a stream whose datagrams came in.
 use Rattle.std.specs.Prelude.{◌≡◌, Bool, false, nat_lt, List, [], ◌∷◌, ◌++◌, flat_map, ℤ}
 use Rattle.std.specs.List.{list_all}
-use Rattle.stream_rules.specs.declared.stream_spec.Stream.{Stream}
-use Rattle.stream_rules.specs.History.{is_well_timed}
-use Rattle.stream_rules.specs.declared.event.Event.{Event}
-use Rattle.stream_rules.specs.declared.event.Event.TheVariants.{Tick, Close}
-use Rattle.stream_rules.specs.Reception.{reception_of}
+use Rattle.rtp_stream.specs.declared.stream_spec.Stream.{Stream}
+use Rattle.rtp_stream.specs.History.{is_well_timed}
+use Rattle.rtp_stream.specs.declared.event.Event.{Event}
+use Rattle.rtp_stream.specs.declared.event.Event.TheVariants.{Tick, Close}
+use Rattle.rtp_stream.specs.Reception.{reception_of}
 use Rattle.studio_session.specs.Session.{Datagram, event_in}
 use Rattle.studio_uses.specs.declared.arrival.Arrival.{Arrival}
 use Rattle.studio_uses.specs.declared.receive.ReceiveFault.{ReceiveFault}

@@ -1,7 +1,7 @@
 //! One stream, from datagrams to marks.
 ghost use Rattle.std.specs.Prelude.{◌≡◌, ◌<◌, ◌≤◌, ◌^◌, pos, ◌≤ℤ◌, true, OnOk, IfOk, IfErr};
-ghost use Rattle.stream_rules.specs.History.{is_well_timed};
-ghost use Rattle.stream_rules.specs.Marks.{marks_of};
+ghost use Rattle.rtp_stream.specs.History.{is_well_timed};
+ghost use Rattle.rtp_stream.specs.Marks.{marks_of};
 ghost use Rattle.studio_uses.specs.declared.receive.ReceiveFault.TheVariants.{Clock, Memory, Path as NoPath};
 ghost use Rattle.studio_uses.specs.Receive.{IsFaultOf, are_on_paths, history_of};
 

@@ -1,7 +1,7 @@
 -- What is written of a trace with a stream's WAV file beside its listing, and why it may not be.
 use Rattle.std.specs.Prelude.{◌≡◌, ◌<◌, ℕ, List, [], Option, Some, None, Ok, slice_get}
 use Rattle.std.specs.Io.KnownBytes.{Appends, Consumes, IsAtEnd}
-use Rattle.stream_rules.specs.declared.stream_spec.Stream.{Stream as AStream}
+use Rattle.rtp_stream.specs.declared.stream_spec.Stream.{Stream as AStream}
 use Rattle.studio_spec.specs.Studio.{Studio}
 use Rattle.studio_session.specs.Event.{TraceEvent}
 use Rattle.studio_session.specs.Fault.{session_fault_of}

@@ -1,11 +1,11 @@
 -- The samples of a stream's marks, as a WAV file has them: from the first slot on, each at its media time.
 use Rattle.std.specs.Prelude.{ℕ, List, [], ◌∷◌, ◌++◌, ℤ, pos, ◌+ℤ◌, Option, Some, None}
-use Rattle.stream_rules.specs.declared.stream_spec.Stream.{Stream}
-use Rattle.stream_rules.specs.MarkFacts.{MarkView}
-use Rattle.stream_rules.specs.declared.mark.Body.{Body}
-use Rattle.stream_rules.specs.declared.mark.Body.TheVariants.{Got, Lost}
-use Rattle.stream_rules.specs.declared.mark.MarkKind.{MarkKind}
-use Rattle.stream_rules.specs.declared.mark.MarkKind.TheVariants.{Slot, Quiet, End}
+use Rattle.rtp_stream.specs.declared.stream_spec.Stream.{Stream}
+use Rattle.rtp_stream.specs.MarkFacts.{MarkView}
+use Rattle.rtp_stream.specs.declared.mark.Body.{Body}
+use Rattle.rtp_stream.specs.declared.mark.Body.TheVariants.{Got, Lost}
+use Rattle.rtp_stream.specs.declared.mark.MarkKind.{MarkKind}
+use Rattle.rtp_stream.specs.declared.mark.MarkKind.TheVariants.{Slot, Quiet, End}
 use Rattle.lane_align.specs.Lane.{frames_between}
 use Rattle.wav_file.specs.declared.format.WavFormat.{WavFormat}
 use Rattle.wav_file.specs.File.{silent_octets}

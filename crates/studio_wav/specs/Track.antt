@@ -1,7 +1,7 @@
 -- A stream's file while its samples are written.
 use Rattle.std.specs.Prelude.{◌≡◌, ℕ, ℤ, List, [], take, drop, Option}
-use Rattle.stream_rules.specs.declared.stream_spec.Stream.{Stream}
-use Rattle.stream_rules.specs.MarkFacts.{MarkView}
+use Rattle.rtp_stream.specs.declared.stream_spec.Stream.{Stream}
+use Rattle.rtp_stream.specs.MarkFacts.{MarkView}
 use Rattle.studio_session.specs.Event.{TraceEvent}
 use Rattle.studio_session.specs.Cursor.{CursorState, HasPulled}
 use Rattle.studio_session.specs.Play.{stream_marks}

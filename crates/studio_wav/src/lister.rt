@@ -1,6 +1,6 @@
 //! From a trace to its listing, with a WAV file of one stream beside it.
 ghost use Rattle.std.specs.Prelude.{◌≡◌, ◌<◌, ◌≤◌, Some, None, slice_get, IfErr, IfOk};
-ghost use Rattle.stream_rules.specs.declared.stream_spec.Stream.{Stream};
+ghost use Rattle.rtp_stream.specs.declared.stream_spec.Stream.{Stream};
 ghost use Rattle.studio_session.specs.Play.{HasPathsBy, IsRunnableBy};
 ghost use Rattle.studio_wav.specs.StreamListing.{FailsBoth, FailsListing, IsUnfit, ListsAndRecords, ListsAndRecordsTextOf};
 

@@ -1,6 +1,6 @@
 //! The file of one stream's samples.
 ghost use Rattle.std.specs.Prelude.{◌≡◌, ℕ, ℤ, List, [], Option, None, OnOk};
-ghost use Rattle.stream_rules.specs.declared.stream_spec.Stream.{Stream};
+ghost use Rattle.rtp_stream.specs.declared.stream_spec.Stream.{Stream};
 ghost use Rattle.studio_session.specs.Event.{TraceEvent};
 ghost use Rattle.studio_session.specs.Cursor.{HasPulled, IsReadyFor, IsRunnable, IsSameCursor};
 ghost use Rattle.studio_session.specs.Play.{stream_marks};

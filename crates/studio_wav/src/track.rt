@@ -1,8 +1,8 @@
 //! One stream's samples, mark by mark.
 ghost use Rattle.std.specs.Prelude.{◌≡◌, ◌+◌, ◌≤◌, length, option_copied, Some, OnOk};
 ghost use Rattle.std.specs.Option.{option_to_list};
-ghost use Rattle.stream_rules.specs.MarkFacts.{IsTime};
-ghost use Rattle.stream_rules.specs.MarkRef.{body_from, IsShort};
+ghost use Rattle.rtp_stream.specs.MarkFacts.{IsTime};
+ghost use Rattle.rtp_stream.specs.MarkRef.{body_from, IsShort};
 ghost use Rattle.lane_align.specs.Lane.{frames_between};
 ghost use Rattle.studio_wav.specs.Recording.{HasAdded};
 ghost use Rattle.studio_wav.specs.StreamSamples.{body_samples, gap_samples};

@@ -1,8 +1,8 @@
 -- A stream that goes on until it can be closed.
 use Rattle.std.proofs.Common.{ℕ, List, [], ◌∷◌, ◌++◌, ℤ, refl, sym, subst, ◌∙◌, append-nil}
 use Rattle.rtrb.specs.Ring.{producer_capacity}
-use Rattle.stream_rules.specs.declared.stream_spec.Stream.{Stream}
-use Rattle.stream_rules.specs.declared.event.Event.{Event}
+use Rattle.rtp_stream.specs.declared.stream_spec.Stream.{Stream}
+use Rattle.rtp_stream.specs.declared.event.Event.{Event}
 use Rattle.studio_rings.specs.declared.stream_end.StreamEnd.{StreamEnd}
 use Rattle.studio_rings.proofs.TurnLemmas.{producers}
 use Rattle.run_devices.specs.Clocks.{GoByClock, events_in}

@@ -1,12 +1,12 @@
 -- How a stream's worker closes its end, and hands on what is left.
 use Rattle.std.specs.Prelude.{◌≡◌, false, List, ◌∷◌, [], ◌++◌, ℤ}
 use Rattle.rtrb.specs.Ring.{sent, producer_capacity, SameProducer}
-use Rattle.stream_rules.specs.declared.stream_spec.Stream.{Stream}
-use Rattle.stream_rules.specs.History.{is_closed}
-use Rattle.stream_rules.specs.Marks.{marks_of}
-use Rattle.stream_rules.specs.declared.packet.Packet.{Packet}
-use Rattle.stream_rules.specs.declared.event.Event.{Event}
-use Rattle.stream_rules.specs.declared.event.Event.TheVariants.{Close}
+use Rattle.rtp_stream.specs.declared.stream_spec.Stream.{Stream}
+use Rattle.rtp_stream.specs.History.{is_closed}
+use Rattle.rtp_stream.specs.Marks.{marks_of}
+use Rattle.rtp_stream.specs.declared.packet.Packet.{Packet}
+use Rattle.rtp_stream.specs.declared.event.Event.{Event}
+use Rattle.rtp_stream.specs.declared.event.Event.TheVariants.{Close}
 use Rattle.studio_rings.specs.Streams.{StreamHasHistory}
 use Rattle.studio_rings.specs.declared.stream_end.StreamEnd.{StreamEnd}
 use Rattle.run_devices.specs.Clocks.{GoByClock, events_in}

@@ -6,7 +6,7 @@ use Rattle.studio_rings.specs.FreshEnds.{AllFreshRings, AllFreshStreams}
 use Rattle.studio_rings.specs.declared.ends.Ends.{Ends}
 use Rattle.studio_rings.specs.declared.monitor_end.MonitorEnd.{MonitorEnd}
 use Rattle.studio_rings.specs.declared.stream.StreamDone.{StreamDone}
-use Rattle.stream_rules.specs.declared.stream_counts.StreamCounts.{StreamCounts}
+use Rattle.rtp_stream.specs.declared.stream_counts.StreamCounts.{StreamCounts}
 use Rattle.studio_workers.specs.declared.stream_job.StreamResult.{StreamResult}
 
 -- the ends were opened together, and nothing was done with them; the monitors' may be elsewhere

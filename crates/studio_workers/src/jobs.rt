@@ -1,17 +1,17 @@
 //! What the workers start from, with all the memory that they need.
 ghost use Rattle.std.specs.Prelude.{◌≡◌, ◌+◌, ◌≤◌, ◌++◌, List, ℕ, ℤ, length, vec_len, vec_capacity, IfOk};
 ghost use Rattle.std.specs.Vec.Iter.{into_iter_items, into_iter_len};
-ghost use Rattle.stream_rules.specs.declared.stream_spec.Stream.{Stream};
+ghost use Rattle.rtp_stream.specs.declared.stream_spec.Stream.{Stream};
 ghost use Rattle.studio_rings.specs.FreshEnds.{AllFreshStreams};
 ghost use Rattle.studio_workers.specs.Jobs.{AreJobsOf, HasRoom, HaveRoom, feeds_in};
 ghost use Rattle.studio_workers.specs.Streams.{ends_of};
 
 use crate::stream_job::StreamJob;
+use rtp_stream::PathCounts;
 use single_workers::{PathJob, PathResult};
 use std::alloc::{AllocError, Global};
 use std::sync::atomic::AtomicBool;
 use std::vec::IntoIter;
-use stream_rules::PathCounts;
 use studio_rings::{PathEnd, StreamEnd};
 
 /// So many flags, none of them set.

@@ -3,8 +3,8 @@ ghost use Rattle.std.specs.Prelude.{◌≡◌, ◌≤◌, vec_len, vec_capacity,
 ghost use Rattle.studio_workers.specs.StreamResults.{counts_in, dones_in, fault_numbers};
 
 use crate::stream_job::StreamResult;
+use rtp_stream::StreamCounts;
 use std::alloc::{AllocError, Global};
-use stream_rules::StreamCounts;
 use studio_rings::StreamDone;
 
 /// The tokens of the streams, their counts, and the number of each feed's faults.

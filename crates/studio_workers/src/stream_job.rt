@@ -1,8 +1,8 @@
 //! What a stream's worker starts from, and what it comes to.
 
+use rtp_stream::{PathCounts, StreamCounts};
 use single_workers::{PathJob, PathResult};
 use std::sync::atomic::AtomicBool;
-use stream_rules::{PathCounts, StreamCounts};
 use studio_rings::{StreamDone, StreamEnd};
 
 /// A stream's end with its clock, its paths, and all the memory that their workers need.

@@ -4,9 +4,9 @@ use Rattle.rtrb.specs.Ring.{IsFinishedOf, IsPair, Finishes, SameConsumer, SamePr
 use Rattle.rtrb.specs.declared.consumer.Consumer.{Consumer}
 use Rattle.rtrb.specs.declared.finished.Finished.{Finished}
 use Rattle.rtrb.specs.declared.producer.Producer.{Producer}
-use Rattle.stream_rules.specs.declared.stream_spec.Stream.{Stream}
-use Rattle.stream_rules.specs.MarkFacts.{MarkView}
-use Rattle.stream_rules.specs.declared.packet.Packet.{Packet}
+use Rattle.rtp_stream.specs.declared.stream_spec.Stream.{Stream}
+use Rattle.rtp_stream.specs.MarkFacts.{MarkView}
+use Rattle.rtp_stream.specs.declared.packet.Packet.{Packet}
 use Rattle.studio_rings.specs.FreshEnds.{AllFreshPaths, AllFreshRings, AllFreshStreams}
 use Rattle.worker_tests.specs.OneStream.{AreOfOneStream}
 use Rattle.studio_rings.specs.Tokens.{HandsIn}

@@ -1,8 +1,8 @@
 //! Lanes of a mixer that have room, and a mixer without memory.
 use crate::small_studios::{six_and_forty_eight, stream};
+use rtp_stream::{Body, Mark, StreamSpec};
 use std::alloc::Global;
 use std::process::Abort;
-use stream_rules::{Body, Mark, StreamSpec};
 use studio_mix::Mixer;
 use studio_spec::StudioSpec;
 

@@ -1,6 +1,6 @@
 //! A snapshot, in which each number is another.
+use rtp_stream::{Counts, PathCounts};
 use std::process::Abort;
-use stream_rules::{Counts, PathCounts};
 use studio_page::{Condition, Copies, Name, OutputState, PathState, Snapshot, Spare, StreamState};
 
 /// A name with all that has to be escaped.

@@ -1,18 +1,18 @@
 //! Arrivals at a merge.
 ghost use Rattle.std.specs.Prelude.{◌≡◌, ℕ, ◌^◌, ◌<◌, List, ℤ, Some, None, true, false};
-ghost use Rattle.stream_rules.specs.declared.anchor.Anchor.{Anchor};
-ghost use Rattle.stream_rules.specs.declared.event.Event.{Event};
-ghost use Rattle.stream_rules.specs.declared.fate.Fate.TheVariants.{Restarted};
-ghost use Rattle.stream_rules.specs.Anchor.{is_restart_in_reach, media_time_of, restart_media_time};
-ghost use Rattle.stream_rules.specs.PacketRef.{packet_of};
-ghost use Rattle.stream_rules.specs.Counts.{is_counted_fate, is_taken_fate};
-ghost use Rattle.stream_rules.specs.Fate as fate;
-ghost use Rattle.stream_rules.specs.Probation.{is_off};
-ghost use Rattle.stream_rules.specs.declared.stream_spec.Stream.{Stream};
+ghost use Rattle.rtp_stream.specs.declared.anchor.Anchor.{Anchor};
+ghost use Rattle.rtp_stream.specs.declared.event.Event.{Event};
+ghost use Rattle.rtp_stream.specs.declared.fate.Fate.TheVariants.{Restarted};
+ghost use Rattle.rtp_stream.specs.Anchor.{is_restart_in_reach, media_time_of, restart_media_time};
+ghost use Rattle.rtp_stream.specs.PacketRef.{packet_of};
+ghost use Rattle.rtp_stream.specs.Counts.{is_counted_fate, is_taken_fate};
+ghost use Rattle.rtp_stream.specs.Fate as fate;
+ghost use Rattle.rtp_stream.specs.Probation.{is_off};
+ghost use Rattle.rtp_stream.specs.declared.stream_spec.Stream.{Stream};
 
 use super::Merge;
 use reorder_window::Window;
-use stream_rules::{
+use rtp_stream::{
     Anchor, Fate, Packet, PacketRef, Path, Probation, fate_of_first, fate_of_put, goes_on, hear_on,
     is_off_place, is_taken, media_of_first, media_of_restart, place_of,
 };
@@ -21,7 +21,7 @@ use stream_rules::{
 const MOST_ARRIVALS: u64 = 4_611_686_018_427_387_904;
 
 impl<V: Window> Merge<V> {
-    ghost use Rattle.stream_rules.specs.StreamSpec.{Fits};
+    ghost use Rattle.rtp_stream.specs.StreamSpec.{Fits};
     ghost use Rattle.path_merge.specs.Merge.{HasHistory};
     ghost use Rattle.reorder_window.specs.Window.{IsEmpty};
     ghost use Rattle.path_merge.specs.Steps.{IsFirstStep, IsHeardStep, IsNextStep, IsPutStep, IsRefusal, IsRestartStep, Offers, epoch_media, opening_of, opens_epoch};

@@ -1,20 +1,20 @@
 //! The marks that a merge gives.
 ghost use Rattle.std.specs.Prelude.{◌≡◌, ◌==◌, if◌then◌else◌, nat_eq, ℕ, ◌+◌, ◌^◌, ◌<◌, List, ℤ, pos, ◌≤ℤ◌, Some, None, IfSome, IfOk, IfErr, OnErr, true, false, option_copied};
 ghost use Rattle.std.specs.FinMap as map;
-ghost use Rattle.stream_rules.specs.declared.event.Event.{Event};
-ghost use Rattle.stream_rules.specs.Counts.{is_got_body, tally_of};
-ghost use Rattle.stream_rules.specs.CountsFacts.{with_body};
-ghost use Rattle.stream_rules.specs.MarkRef.{body_from};
-ghost use Rattle.stream_rules.specs.Anchor.{deadline_of};
-ghost use Rattle.stream_rules.specs.Marks.{body_of, slot_mark};
+ghost use Rattle.rtp_stream.specs.declared.event.Event.{Event};
+ghost use Rattle.rtp_stream.specs.Counts.{is_got_body, tally_of};
+ghost use Rattle.rtp_stream.specs.CountsFacts.{with_body};
+ghost use Rattle.rtp_stream.specs.MarkRef.{body_from};
+ghost use Rattle.rtp_stream.specs.Anchor.{deadline_of};
+ghost use Rattle.rtp_stream.specs.Marks.{body_of, slot_mark};
 ghost use Rattle.path_merge.specs.Steps.{is_quiet_due};
-ghost use Rattle.stream_rules.specs.declared.stream_spec.Stream.{Stream};
+ghost use Rattle.rtp_stream.specs.declared.stream_spec.Stream.{Stream};
 
 use super::Merge;
 use crate::clock::{ClockFault, clock_fault};
 use crate::goal::Goal;
 use reorder_window::Window;
-use stream_rules::{Anchor, Counts, Mark, MarkRef, Packet};
+use rtp_stream::{Anchor, Counts, Mark, MarkRef, Packet};
 
 /// Whether a Quiet is given, where the last one was at `last`.
 fn is_silence_new(no_slot: bool, last: i64, until: i64) -> bool

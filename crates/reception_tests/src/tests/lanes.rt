@@ -1,13 +1,13 @@
 //! What a trace can't say of lanes: marks that may not follow, a room that is full, and refused memory.
 ghost use Rattle.std.specs.Prelude.{◌≡◌};
-ghost use Rattle.stream_rules.specs.MarkFacts.{HasLength, payload_length};
+ghost use Rattle.rtp_stream.specs.MarkFacts.{HasLength, payload_length};
 
 use super::cases::{STREAM, spec_of};
 use lane_align::{Cover, Lane};
+use rtp_stream::{Body, Format, Mark, Stream, StreamSpec};
 use rtp_wire::Payload;
 use std::alloc::Global;
 use std::process::Abort;
-use stream_rules::{Body, Format, Mark, Stream, StreamSpec};
 
 /// A stream of one channel, in packets of six.
 fn mono(rt: &impl Abort) -> StreamSpec

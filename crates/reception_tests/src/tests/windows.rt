@@ -5,8 +5,8 @@ ghost use Rattle.reorder_window.specs.Window.{IsEmpty};
 use super::cases::{STREAM, spec_of};
 use super::steps::Sent;
 use reorder_window::{SlotWindow, SortedWindow, Window};
+use rtp_stream::{Put, StreamSpec};
 use std::process::Abort;
-use stream_rules::{Put, StreamSpec};
 
 /// 131070 and 131078, one remainder by the width of 8: taken in turn, a copy double or unlike, by both windows.
 #[test]

@@ -5,10 +5,10 @@ ghost use Rattle.studio_spec.specs.Config.{no_memory};
 use crate::config::keys::Key;
 use gain_mix::{MatrixFault, ScheduleFault};
 use mix_packets::OutFault;
+use rtp_stream::SpecFault;
 use std::alloc::{AllocError, AllocFailed};
 use std::error::Error;
 use std::fmt;
-use stream_rules::SpecFault;
 
 /// A table of the configuration.
 #[derive(Clone, Copy, Debug, PartialEq, Eq)]

@@ -16,7 +16,7 @@ use crate::config::numbers::{optional_whole, port, whole, whole_or};
 use crate::config::packets::read_packets;
 use crate::config::words::is_media;
 use crate::networks::PathAddresses;
-use stream_rules::{Stream, StreamClock, StreamSpec};
+use rtp_stream::{Stream, StreamClock, StreamSpec};
 use toml::Table;
 
 /// The keys of a stream's table.

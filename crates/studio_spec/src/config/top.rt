@@ -20,8 +20,8 @@ use crate::config::tables::{few_tables, table_in, table_of};
 use crate::networks::Networks;
 use crate::ports::Ports;
 use crate::studio::StudioSpec;
+use rtp_stream::StreamSpec;
 use std::alloc::Global;
-use stream_rules::StreamSpec;
 use toml::{Table, Value};
 
 /// The keys of the whole document.

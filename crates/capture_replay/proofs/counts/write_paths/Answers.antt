@@ -1,5 +1,5 @@
 use Rattle.std.proofs.Common.{◌≡◌, ◌<◌, ◌∙◌, Err, slice_get, ap, subst, arith, rules}
-use Rattle.stream_rules.specs.PathCounts.{path_tally_of}
+use Rattle.rtp_stream.specs.PathCounts.{path_tally_of}
 use Rattle.studio_session.specs.Counts.{path_counts_of}
 use Rattle.studio_run.specs.Buffer.{PassesOn}
 use Rattle.studio_run.specs.Listing.{paths_text}

@@ -1,6 +1,6 @@
 use Rattle.std.specs.Prelude.{option_copied}
 use Rattle.std.proofs.Common.{◌+◌}
-use Rattle.stream_rules.specs.MarkRef.{body_from}
+use Rattle.rtp_stream.specs.MarkRef.{body_from}
 use Rattle.lane_align.proofs.SlotLemmas.{part_added}
 use Rattle.lane_align.proofs.slot_samples.add_slot.Goals as goal
 

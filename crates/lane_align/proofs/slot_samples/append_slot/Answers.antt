@@ -1,5 +1,5 @@
 use Rattle.std.specs.Prelude.{option_copied}
-use Rattle.stream_rules.specs.MarkRef.{body_from}
+use Rattle.rtp_stream.specs.MarkRef.{body_from}
 use Rattle.lane_align.proofs.SlotLemmas.{part_added}
 use Rattle.lane_align.proofs.slot_samples.append_slot.Goals as goal
 

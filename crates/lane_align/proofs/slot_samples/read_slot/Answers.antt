@@ -1,6 +1,6 @@
 use Rattle.std.specs.Prelude.{option_copied}
 use Rattle.std.proofs.Common.{◌≡◌, ap, sym, ◌∙◌, ◌*◌, length, take, arith, length-take}
-use Rattle.stream_rules.specs.MarkRef.{body_from}
+use Rattle.rtp_stream.specs.MarkRef.{body_from}
 use Rattle.lane_align.specs.Lane.{body_samples}
 use Rattle.lane_align.proofs.SlotLemmas.{silence_at_front}
 use Rattle.lane_align.proofs.slot_samples.read_slot.Goals as goal

@@ -1,5 +1,5 @@
 use Rattle.std.proofs.Common.{◌≡◌, length, subst, Err, rules}
-use Rattle.stream_rules.specs.Counts.{tally_of}
+use Rattle.rtp_stream.specs.Counts.{tally_of}
 use Rattle.studio_run.specs.Buffer.{BreaksOff, PassesOn}
 use Rattle.studio_run.specs.Report.{merge_line}
 use Rattle.studio_run.proofs.BufferLemmas.{BreaksOff-later, BreaksOff-longer, PassesOn-trans}

@@ -1,5 +1,5 @@
 use Rattle.std.proofs.Common.{ℕ, Option, sym, subst, ◌∙◌}
-use Rattle.stream_rules.specs.declared.path_counts.PathCounts.{PathCounts}
+use Rattle.rtp_stream.specs.declared.path_counts.PathCounts.{PathCounts}
 use Rattle.live_view.specs.Engine.{HasEngineBefore}
 use Rattle.live_view.proofs.engine_view.see_path.Goals as goal
 

@@ -1,7 +1,7 @@
 use Rattle.std.proofs.Common.{◌≡◌, [], ◌∷◌, ◌++◌, None, Some, arith, append-nil, sym, subst, ◌∙◌, w64, true, false}
 use Rattle.std.proofs.lemmas.Int.{ints, to_z-of_z}
-use Rattle.stream_rules.specs.declared.event.Event.TheVariants.{Tick}
-use Rattle.stream_rules.specs.Marks.{is_slot}
+use Rattle.rtp_stream.specs.declared.event.Event.TheVariants.{Tick}
+use Rattle.rtp_stream.specs.Marks.{is_slot}
 use Rattle.path_merge.specs.Run.{HasGiven}
 use Rattle.path_merge.proofs.JoinLemmas.{alike-refl}
 use Rattle.path_merge.proofs.RunLemmas.{no_fault, still_no_fault, moves_by_slot, moves_by_other, one_more, last_step}

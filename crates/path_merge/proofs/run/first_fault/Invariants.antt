@@ -1,5 +1,5 @@
 use Rattle.std.proofs.Common.{◌≡◌, false, drop}
-use Rattle.stream_rules.specs.History.{first_clock_fault_from}
+use Rattle.rtp_stream.specs.History.{first_clock_fault_from}
 use Rattle.path_merge.proofs.RunLemmas.{shifted_by}
 use Rattle.path_merge.proofs.run.first_fault.Given as goal
 

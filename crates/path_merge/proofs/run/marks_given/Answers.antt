@@ -1,6 +1,6 @@
 use Rattle.std.proofs.Common.{◌≡◌, length, arith, ap, ◌∙◌, w64}
 use Rattle.std.proofs.lemmas.Int.{to_z-of_z}
-use Rattle.stream_rules.specs.Marks.{marks_of}
+use Rattle.rtp_stream.specs.Marks.{marks_of}
 use Rattle.path_merge.proofs.StepLemmas.{take_all}
 use Rattle.path_merge.proofs.RunLemmas.{next_in_order, given_more, given_at_start, of_stream_at}
 use Rattle.path_merge.proofs.run.marks_given.Goals as goal

@@ -1,7 +1,7 @@
 use Rattle.std.proofs.Common.{rules, [], ◌∷◌, ◌++◌, length, sym, subst}
-use Rattle.stream_rules.specs.declared.event.Event.{Event}
-use Rattle.stream_rules.specs.declared.event.Event.TheVariants.{Close}
-use Rattle.stream_rules.specs.declared.packet.Packet.{Packet}
+use Rattle.rtp_stream.specs.declared.event.Event.{Event}
+use Rattle.rtp_stream.specs.declared.event.Event.TheVariants.{Close}
+use Rattle.rtp_stream.specs.declared.packet.Packet.{Packet}
 use Rattle.path_merge.specs.Run.{HasGiven}
 use Rattle.path_merge.specs.Steps.{Offers}
 use Rattle.path_merge.proofs.RunLemmas.{given_offered, given_closed}

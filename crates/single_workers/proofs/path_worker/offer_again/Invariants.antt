@@ -1,6 +1,6 @@
 use Rattle.std.proofs.Common.{◌≡◌, ◌+◌, ◌<◌, ◌≤◌, true}
 use Rattle.rtrb.specs.Ring.{sent, SameProducer}
-use Rattle.stream_rules.specs.Reception.{is_sent, reception_of}
+use Rattle.rtp_stream.specs.Reception.{is_sent, reception_of}
 use Rattle.single_workers.proofs.path_worker.offer_again.Given as goal
 
 -- each try so far was answered by `Full`

@@ -1,8 +1,8 @@
 use Rattle.std.proofs.Common.{◌≡◌, pos, ◌+ℤ◌, ◌-ℤ◌, ◌^◌, to_z, of_z, w64, arith, sym, ap, subst, ◌∙◌}
 use Rattle.std.specs.Int.{saturate_signed}
 use Rattle.std.proofs.lemmas.Int.{ints, to_z-of_z}
-use Rattle.stream_rules.specs.Anchor.{deadline_of}
-use Rattle.stream_rules.specs.Nearest.{IsNearest}
+use Rattle.rtp_stream.specs.Anchor.{deadline_of}
+use Rattle.rtp_stream.specs.Nearest.{IsNearest}
 use Rattle.stream_tally.proofs.DeadlineLemmas.{deadline_told}
 use Rattle.stream_tally.proofs.deadlines.deadline_from.Goals as goal
 

@@ -1,8 +1,8 @@
 use Rattle.std.proofs.Common.{◌≡◌, ◌<◌, ◌+◌, ◌∙◌, length, Some, slice_get, refl, sym, ap, subst, arith}
 use Rattle.std.proofs.lemmas.List.{length_push}
 use Rattle.std.proofs.lemmas.Option.{slice_get_read}
-use Rattle.stream_rules.specs.declared.stream_counts.StreamCounts.{StreamCounts}
-use Rattle.stream_rules.specs.declared.stream_spec.Stream.{Stream}
+use Rattle.rtp_stream.specs.declared.stream_counts.StreamCounts.{StreamCounts}
+use Rattle.rtp_stream.specs.declared.stream_spec.Stream.{Stream}
 use Rattle.studio_session.specs.Report.{AreCountsOf}
 use Rattle.studio_session.proofs.ReportLemmas.{places_more}
 use Rattle.studio_alone.proofs.CountLemmas.{one}

@@ -1,5 +1,5 @@
 use Rattle.std.proofs.Common.{ap, ◌∙◌}
-use Rattle.stream_rules.specs.Counts.{tally_of}
+use Rattle.rtp_stream.specs.Counts.{tally_of}
 use Rattle.studio_session.specs.Counts.{path_tallies}
 use Rattle.studio_alone.proofs.CountLemmas.{has-stream}
 use Rattle.studio_alone.proofs.report.stream_counts.Goals as goal

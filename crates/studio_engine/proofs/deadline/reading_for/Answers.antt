@@ -1,8 +1,8 @@
 use Rattle.std.specs.Prelude.{FitsSigned, unsigned_abs}
 use Rattle.std.proofs.Common.{◌≡◌, ◌≤ℤ◌, ◌<ℤ◌, ◌+ℤ◌, ◌-ℤ◌, ◌%◌, pos, sym, ap, ◌∙◌, arith, rules, to_z, of_z, w64}
 use Rattle.std.proofs.lemmas.Int.{ints, to_z-of_z}
-use Rattle.stream_rules.specs.declared.stream_spec.Stream.{Stream}
-use Rattle.stream_rules.specs.CountsFacts.{Tally}
+use Rattle.rtp_stream.specs.declared.stream_spec.Stream.{Stream}
+use Rattle.rtp_stream.specs.CountsFacts.{Tally}
 use Rattle.path_merge.specs.Steps.{next_deadline_of}
 use Rattle.studio_engine.proofs.DeadlineLemmas.{next_reading, saturated, slot_given, slot_reading}
 use Rattle.studio_engine.proofs.deadline.reading_for.Goals as goal

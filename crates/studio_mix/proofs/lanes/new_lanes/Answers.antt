@@ -1,6 +1,6 @@
 use Rattle.std.proofs.Common.{◌≡◌, ◌<◌, ◌≤◌, ◌+◌, ◌∙◌, [], length, sym, subst, arith, to_z, of_z, w64}
 use Rattle.std.proofs.lemmas.Int.{to_z-of_z}
-use Rattle.stream_rules.specs.declared.mark.Format.{Format}
+use Rattle.rtp_stream.specs.declared.mark.Format.{Format}
 use Rattle.lane_align.specs.Lane.{HasFeed}
 use Rattle.studio_mix.specs.Feed.{unfed}
 use Rattle.studio_mix.specs.Lanes.{AreFed}

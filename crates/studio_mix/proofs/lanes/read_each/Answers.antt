@@ -1,6 +1,6 @@
 use Rattle.std.proofs.Common.{◌≡◌, ◌<◌, length, get_or, ap, ◌∙◌, arith}
 use Rattle.std.proofs.lemmas.List.Sums.{sum_by_more_le}
-use Rattle.stream_rules.specs.declared.mark.Format.{Format}
+use Rattle.rtp_stream.specs.declared.mark.Format.{Format}
 use Rattle.lane_align.specs.Lane.{LaneState}
 use Rattle.studio_mix.proofs.BlockLemmas.{read_start, read_more, were_read}
 use Rattle.studio_mix.proofs.lanes.read_each.Goals as goal

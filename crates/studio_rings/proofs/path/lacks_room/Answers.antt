@@ -1,6 +1,6 @@
 use Rattle.std.proofs.Common.{ap}
-use Rattle.stream_rules.specs.PacketRef.{packet_of}
-use Rattle.stream_rules.specs.Reception.{reception_from}
+use Rattle.rtp_stream.specs.PacketRef.{packet_of}
+use Rattle.rtp_stream.specs.Reception.{reception_from}
 use Rattle.studio_rings.proofs.path.lacks_room.Goals as goal
 
 pub returns-in-Sent-clause-full : goal.returns-in-Sent-clause-full

@@ -1,6 +1,6 @@
 use Rattle.std.proofs.Common.{◌∙◌, sym, subst}
-use Rattle.stream_rules.specs.MarkFacts.{payload_length}
-use Rattle.stream_rules.specs.declared.mark.Format.{Format}
+use Rattle.rtp_stream.specs.MarkFacts.{payload_length}
+use Rattle.rtp_stream.specs.declared.mark.Format.{Format}
 use Rattle.studio_rings.specs.RoomRings.{HasRoomFor}
 use Rattle.studio_rings.proofs.FormatLemmas.{next_format}
 use Rattle.studio_rings.proofs.turn.push_next.Goals as goal

@@ -1,5 +1,5 @@
 use Rattle.std.proofs.Common.{◌≡◌, ◌++◌, [], Err, rules}
-use Rattle.stream_rules.specs.Counts.{tally_of}
+use Rattle.rtp_stream.specs.Counts.{tally_of}
 use Rattle.studio_run.specs.LiveReport.{running_line}
 use Rattle.studio_run.proofs.BufferLemmas.{PassesOn-grown, BreaksOff-longer}
 use Rattle.studio_run.proofs.running_counts.write_running_counts.Goals as goal

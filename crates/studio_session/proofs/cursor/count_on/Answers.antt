@@ -2,9 +2,9 @@ use Rattle.std.proofs.Common.{◌≡◌, get_or, set, Some, slice_get, sym, ap, 
 use Rattle.std.specs.Option.{option_map}
 use Rattle.std.proofs.lemmas.List.{length-map, length-set, map-set}
 use Rattle.std.proofs.lemmas.Option.{slice_get-get_or, slice_get-map}
-use Rattle.stream_rules.specs.Reception.{reception_from}
+use Rattle.rtp_stream.specs.Reception.{reception_from}
 use Rattle.studio_session.specs.Session.{Datagram}
-use Rattle.stream_rules.specs.PathCounts.{path_tally_of, tallies_of}
+use Rattle.rtp_stream.specs.PathCounts.{path_tally_of, tallies_of}
 use Rattle.studio_session.specs.Counts.{HasCounted}
 use Rattle.studio_session.proofs.CountsLemmas.{counted_on}
 use Rattle.studio_session.proofs.cursor.count_on.Goals as goal

@@ -1,6 +1,6 @@
 use Rattle.std.proofs.Common.{◌<◌, length, arith}
 use Rattle.std.proofs.lemmas.Option.{slice_get_within}
-use Rattle.stream_rules.specs.StreamSpecFacts.{IsStream}
+use Rattle.rtp_stream.specs.StreamSpecFacts.{IsStream}
 use Rattle.studio_session.proofs.FaultLemmas.{holds_more}
 use Rattle.studio_session.proofs.fault.are_streams.Goals as goal
 

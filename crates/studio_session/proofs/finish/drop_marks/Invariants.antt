@@ -1,5 +1,5 @@
 use Rattle.std.proofs.Common.{ℕ, ℤ, List}
-use Rattle.stream_rules.specs.declared.stream_spec.Stream.{Stream}
+use Rattle.rtp_stream.specs.declared.stream_spec.Stream.{Stream}
 use Rattle.studio_session.specs.Event.{TraceEvent}
 use Rattle.studio_session.specs.Cursor.{IsRunnable, IsSameCursor, way_left}
 use Rattle.studio_session.specs.Report.{HasPulledSome}

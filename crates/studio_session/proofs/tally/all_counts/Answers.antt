@@ -2,11 +2,11 @@ use Rattle.std.proofs.Common.{◌≡◌, ◌<◌, ◌+◌, ◌∙◌, length, ge
 use Rattle.std.proofs.lemmas.List.{length_push}
 use Rattle.std.proofs.lemmas.List.Elements.{All-set}
 use Rattle.std.proofs.lemmas.Option.{slice_get-get_or, slice_get_within}
-use Rattle.stream_rules.specs.declared.stream_spec.Stream.{Stream}
+use Rattle.rtp_stream.specs.declared.stream_spec.Stream.{Stream}
 use Rattle.studio_mix.proofs.MixerLemmas.{set_other_at}
 use Rattle.studio_session.specs.Cursor.{IsReadyFor}
 use Rattle.studio_session.specs.Report.{AreCountsOf}
-use Rattle.stream_rules.specs.declared.stream_counts.StreamCounts.{StreamCounts}
+use Rattle.rtp_stream.specs.declared.stream_counts.StreamCounts.{StreamCounts}
 use Rattle.studio_session.proofs.ReportLemmas.{places_more}
 use Rattle.studio_session.proofs.tally.all_counts.Goals as goal
 

@@ -1,7 +1,7 @@
 use Rattle.std.proofs.Common.{◌≡◌, ◌+◌, suc, ◌++◌, ◌∷◌, [], ap, ◌∙◌, arith}
 use Rattle.std.proofs.lemmas.List.{map-append}
-use Rattle.stream_rules.specs.declared.stream_spec.Stream.{Stream}
-use Rattle.stream_rules.specs.PathCounts.{PathTally, path_tally_of, tallies_of}
+use Rattle.rtp_stream.specs.declared.stream_spec.Stream.{Stream}
+use Rattle.rtp_stream.specs.PathCounts.{PathTally, path_tally_of, tallies_of}
 use Rattle.studio_session.specs.Counts.{path_counts_of, path_tallies}
 use Rattle.studio_session.proofs.tally.all_path_counts.Goals as goal
 

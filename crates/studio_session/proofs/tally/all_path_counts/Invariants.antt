@@ -1,7 +1,7 @@
 use Rattle.std.proofs.Common.{◌≡◌, ℕ, List}
-use Rattle.stream_rules.specs.declared.stream_spec.Stream.{Stream}
+use Rattle.rtp_stream.specs.declared.stream_spec.Stream.{Stream}
 use Rattle.studio_session.specs.Event.{TraceEvent}
-use Rattle.stream_rules.specs.PathCounts.{tallies_of}
+use Rattle.rtp_stream.specs.PathCounts.{tallies_of}
 use Rattle.studio_session.specs.Counts.{AreTallies, path_tallies}
 use Rattle.studio_session.proofs.tally.all_path_counts.Given as goal
 

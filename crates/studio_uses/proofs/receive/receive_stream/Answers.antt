@@ -3,8 +3,8 @@ use Rattle.std.specs.Prelude.{IsErrAnd}
 use Rattle.std.proofs.lemmas.Int.{ints, to_z-of_z}
 use Rattle.path_merge.specs.Run.{HasGiven}
 use Rattle.path_merge.proofs.StepLemmas.{take_all}
-use Rattle.stream_rules.specs.declared.event.Event.TheVariants.{Tick}
-use Rattle.stream_rules.specs.Marks.{marks_of}
+use Rattle.rtp_stream.specs.declared.event.Event.TheVariants.{Tick}
+use Rattle.rtp_stream.specs.Marks.{marks_of}
 use Rattle.path_merge.proofs.JoinLemmas.{alike-refl}
 use Rattle.path_merge.proofs.RunLemmas.{given_at_start, given_offered, drained_more, drained_all, given_closed}
 use Rattle.studio_uses.proofs.ReceiveLemmas.{events_more, paths_more, off_paths, out_of_order, told_fault, mark_more, still_free, fewer_left, reached, no_event, refused_read, refused_admit, admitted}

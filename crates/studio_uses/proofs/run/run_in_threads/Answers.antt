@@ -1,6 +1,6 @@
 use Rattle.std.proofs.Common.{◌≡◌, ℕ, List, [], ◌∷◌, ◌++◌, length, map, drop, ℤ, refl, sym, ap, subst, ◌∙◌, arith, length-append}
 use Rattle.std.proofs.lemmas.List.{take_all}
-use Rattle.stream_rules.specs.declared.stream_spec.Stream.{Stream}
+use Rattle.rtp_stream.specs.declared.stream_spec.Stream.{Stream}
 use Rattle.studio_rings.specs.FreshEnds.{AllFreshStreams}
 use Rattle.studio_rings.specs.declared.path_end.PathEnd.{PathEnd}
 use Rattle.studio_rings.specs.declared.stream_end.StreamEnd.{StreamEnd}

@@ -1,5 +1,5 @@
 use Rattle.std.proofs.Common.{◌≡◌, ◌∙◌, ap, refl}
-use Rattle.stream_rules.specs.declared.stream_spec.Stream.{Stream}
+use Rattle.rtp_stream.specs.declared.stream_spec.Stream.{Stream}
 use Rattle.wav_file.specs.declared.format.WavFormat.{WavFormat}
 use Rattle.wav_file.proofs.FileLemmas.{at_ok}
 use Rattle.studio_wav.specs.StreamSamples.{stream_format}

@@ -1,7 +1,7 @@
 use Rattle.std.proofs.Common.{List, ℤ}
 use Rattle.rtrb.specs.Ring.{SameProducer}
-use Rattle.stream_rules.specs.declared.stream_spec.Stream.{Stream}
-use Rattle.stream_rules.specs.declared.event.Event.{Event}
+use Rattle.rtp_stream.specs.declared.stream_spec.Stream.{Stream}
+use Rattle.rtp_stream.specs.declared.event.Event.{Event}
 use Rattle.studio_rings.specs.Streams.{StreamHasHistory}
 use Rattle.studio_workers.proofs.stream_worker.drain.Given as goal
 

@@ -1,8 +1,8 @@
 use Rattle.std.proofs.Common.{◌≡◌, ◌∙◌, Some, false, ap, sym, arith, to_z, of_z, w64}
 use Rattle.std.proofs.lemmas.Int.{ints}
-use Rattle.stream_rules.specs.MarkList.{can_follow}
-use Rattle.stream_rules.specs.declared.mark.Body.TheVariants.{Lost}
-use Rattle.stream_rules.specs.declared.mark.MarkKind.TheVariants.{Slot}
+use Rattle.rtp_stream.specs.MarkList.{can_follow}
+use Rattle.rtp_stream.specs.declared.mark.Body.TheVariants.{Lost}
+use Rattle.rtp_stream.specs.declared.mark.MarkKind.TheVariants.{Slot}
 use Rattle.lane_align.specs.Lane.{LaneState, last_kind}
 use Rattle.lane_align.proofs.lane.Lane.may_begin.Goals as goal
 

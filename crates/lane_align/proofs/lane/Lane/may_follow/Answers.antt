@@ -1,9 +1,9 @@
 use Rattle.std.specs.Prelude.{option_copied}
 use Rattle.std.proofs.Common.{◌≡◌, ◌∙◌, ap, sym, arith, to_z, of_z, w64}
 use Rattle.std.proofs.lemmas.Int.{ints}
-use Rattle.stream_rules.specs.MarkRef.{body_from, kind_of}
-use Rattle.stream_rules.specs.MarkList.{can_follow}
-use Rattle.stream_rules.specs.declared.mark.MarkKind.TheVariants.{Slot}
+use Rattle.rtp_stream.specs.MarkRef.{body_from, kind_of}
+use Rattle.rtp_stream.specs.MarkList.{can_follow}
+use Rattle.rtp_stream.specs.declared.mark.MarkKind.TheVariants.{Slot}
 use Rattle.lane_align.specs.Lane.{last_kind}
 use Rattle.lane_align.proofs.lane.Lane.may_follow.Goals as goal
 

@@ -1,8 +1,8 @@
 use Rattle.std.specs.Prelude.{option_copied}
 use Rattle.std.proofs.Common.{◌≡◌, ◌∙◌, ◌++◌, ◌∷◌, [], Some, sym, ap, subst, arith, rules, to_z, of_z, w64}
 use Rattle.std.proofs.lemmas.Int.{ints}
-use Rattle.stream_rules.specs.MarkFacts.{HasLength, payload_length}
-use Rattle.stream_rules.specs.MarkRef.{body_from, kind_of}
+use Rattle.rtp_stream.specs.MarkFacts.{HasLength, payload_length}
+use Rattle.rtp_stream.specs.MarkRef.{body_from, kind_of}
 use Rattle.lane_align.specs.Lane.{HasFeed, IsAfter, with_slot}
 use Rattle.lane_align.proofs.LaneLemmas.{fed_next, lane_of}
 use Rattle.lane_align.proofs.SlotLemmas.{fed_slot, fed_quiet, fed_end, next_after}

@@ -1,8 +1,8 @@
 use Rattle.std.specs.Prelude.{option_copied}
 use Rattle.std.proofs.Common.{◌≡◌, ◌≤◌, ◌<◌, ◌+◌, ◌-◌, ◌*◌, ◌^◌, min, pos, ◌+ℤ◌, Some, true, length, ap, sym, subst, ◌∙◌, refl, arith, to_z, of_z, w64}
 use Rattle.std.proofs.lemmas.Int.{ints}
-use Rattle.stream_rules.specs.MarkFacts.{HasLength, payload_length}
-use Rattle.stream_rules.specs.MarkRef.{body_from}
+use Rattle.rtp_stream.specs.MarkFacts.{HasLength, payload_length}
+use Rattle.rtp_stream.specs.MarkRef.{body_from}
 use Rattle.lane_align.specs.HeldValues.{Held}
 use Rattle.lane_align.specs.Lane.{LaneState, IsAfter, is_wanting, frames_between, frames_left, with_slot}
 use Rattle.lane_align.proofs.LaneLemmas.{lane_of}

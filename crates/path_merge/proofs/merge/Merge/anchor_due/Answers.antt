@@ -1,6 +1,6 @@
 use Rattle.std.proofs.Common.{◌≡◌, ◌≤ℤ◌, ◌<ℤ◌, Some, arith, ap, sym, ◌∙◌}
 use Rattle.std.proofs.lemmas.Int.{ints}
-use Rattle.stream_rules.specs.Anchor.{deadline_of}
+use Rattle.rtp_stream.specs.Anchor.{deadline_of}
 use Rattle.path_merge.specs.MergeState.{MergeState}
 use Rattle.path_merge.proofs.SoundLemmas.{due_times}
 use Rattle.path_merge.proofs.AdvanceLemmas.{IsAtReading}

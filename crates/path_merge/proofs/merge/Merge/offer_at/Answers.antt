@@ -1,11 +1,11 @@
 use Rattle.std.proofs.Common.{◌≡◌, FitsSigned, to_z, of_z, w64, rules, ap, sym, subst, true, ◌∙◌}
 use Rattle.std.proofs.lemmas.Int.{to_z-of_z}
-use Rattle.stream_rules.specs.PacketRef.{packet_of}
-use Rattle.stream_rules.specs.Anchor.{is_restart_in_reach, media_time_of, restart_media_time}
+use Rattle.rtp_stream.specs.PacketRef.{packet_of}
+use Rattle.rtp_stream.specs.Anchor.{is_restart_in_reach, media_time_of, restart_media_time}
 use Rattle.path_merge.specs.MergeState.{IsSound, MergeState}
 use Rattle.path_merge.specs.Steps.{IsRestartStep}
 use Rattle.reorder_window.specs.Window.{IsEmpty}
-use Rattle.stream_rules.specs.declared.fate.Fate.TheVariants.{Restarted}
+use Rattle.rtp_stream.specs.declared.fate.Fate.TheVariants.{Restarted}
 use Rattle.path_merge.proofs.OpeningLemmas.{Opens, nothing_held, opening_is}
 use Rattle.path_merge.proofs.AnewLemmas.{restart_heard}
 use Rattle.path_merge.proofs.merge.Merge.offer_at.Goals as goal

@@ -1,8 +1,8 @@
 use Rattle.std.proofs.Common.{◌≡◌, Some, None, false, true, arith, ap, sym, subst, ◌∙◌, rules}
 use Rattle.std.proofs.lemmas.Int.{ints}
-use Rattle.stream_rules.specs.declared.anchor.Anchor.{Anchor}
-use Rattle.stream_rules.specs.PacketRef.{packet_of}
-use Rattle.stream_rules.specs.Fate.{place_of}
+use Rattle.rtp_stream.specs.declared.anchor.Anchor.{Anchor}
+use Rattle.rtp_stream.specs.PacketRef.{packet_of}
+use Rattle.rtp_stream.specs.Fate.{place_of}
 use Rattle.path_merge.specs.MergeState.{MergeState}
 use Rattle.path_merge.specs.Steps.{IsNextStep, IsRestartStep, opens_epoch}
 use Rattle.path_merge.proofs.SoundLemmas.{anchored_at, base_small, due_times, media_small}

@@ -1,13 +1,13 @@
 use Rattle.std.proofs.Common.{◌≡◌, ℤ, ◌^◌, ◌+◌, ◌<◌, true, false, to_z, of_z, w64, FitsSigned, rules, arith, ap, sym, subst, refl, ◌∙◌}
 use Rattle.std.proofs.lemmas.Int.{ints}
-use Rattle.stream_rules.specs.PacketRef.{packet_of}
-use Rattle.stream_rules.specs.declared.anchor.Anchor.{Anchor}
-use Rattle.stream_rules.specs.declared.packet.Packet.{Packet}
-use Rattle.stream_rules.specs.StreamSpec.{Fits}
+use Rattle.rtp_stream.specs.PacketRef.{packet_of}
+use Rattle.rtp_stream.specs.declared.anchor.Anchor.{Anchor}
+use Rattle.rtp_stream.specs.declared.packet.Packet.{Packet}
+use Rattle.rtp_stream.specs.StreamSpec.{Fits}
 use Rattle.path_merge.specs.MergeState.{MergeState}
-use Rattle.stream_rules.specs.Anchor.{anchor_from, first_media_time, can_anchor}
-use Rattle.stream_rules.specs.Counts.{is_taken_fate}
-use Rattle.stream_rules.specs.Fate.{first_fate}
+use Rattle.rtp_stream.specs.Anchor.{anchor_from, first_media_time, can_anchor}
+use Rattle.rtp_stream.specs.Counts.{is_taken_fate}
+use Rattle.rtp_stream.specs.Fate.{first_fate}
 use Rattle.path_merge.proofs.FirstLemmas.{taken-can_anchor, first_put, first_step_refused, first_step_taken, sound_first, sound_refused}
 use Rattle.path_merge.proofs.merge.Merge.offer_first.Goals as goal
 

@@ -1,7 +1,7 @@
 use Rattle.std.proofs.Common.{arith, ap, sym, ◌∙◌, rules}
 use Rattle.std.proofs.lemmas.Int.{ints}
-use Rattle.stream_rules.specs.PacketRef.{packet_of}
-use Rattle.stream_rules.specs.Fate.{place_of}
+use Rattle.rtp_stream.specs.PacketRef.{packet_of}
+use Rattle.rtp_stream.specs.Fate.{place_of}
 use Rattle.path_merge.specs.MergeState.{MergeState}
 use Rattle.path_merge.proofs.SoundLemmas.{anchored_at, base_small, due_times, media_small}
 use Rattle.path_merge.proofs.merge.Merge.offer_next.Goals as goal

@@ -1,5 +1,5 @@
 use Rattle.std.proofs.Common.{◌≡◌, ◌^◌, ◌<◌, rules, true, false, Some, None, arith, ap, sym, subst, ◌∙◌}
-use Rattle.stream_rules.specs.PacketRef.{packet_of}
+use Rattle.rtp_stream.specs.PacketRef.{packet_of}
 use Rattle.path_merge.specs.MergeState.{MergeState, IsSound}
 use Rattle.path_merge.proofs.OfferLemmas.{counted_anchored, kept_anchored, offers_anchored, refused_anchored}
 use Rattle.path_merge.proofs.FirstLemmas.{offers_first, refused_first}

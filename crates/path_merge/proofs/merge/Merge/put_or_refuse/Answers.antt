@@ -1,10 +1,10 @@
 use Rattle.std.proofs.Common.{◌≡◌, ◌^◌, ◌<◌, Ok, Err, ap, sym, subst, ◌∙◌}
-use Rattle.stream_rules.specs.PacketRef.{packet_of}
+use Rattle.rtp_stream.specs.PacketRef.{packet_of}
 use Rattle.path_merge.specs.MergeState.{MergeState}
-use Rattle.stream_rules.specs.StreamSpec.{Fits}
-use Rattle.stream_rules.specs.Fate.{place_of}
-use Rattle.stream_rules.specs.CountsFacts.{with_fate}
-use Rattle.stream_rules.specs.Counts.{tally_of}
+use Rattle.rtp_stream.specs.StreamSpec.{Fits}
+use Rattle.rtp_stream.specs.Fate.{place_of}
+use Rattle.rtp_stream.specs.CountsFacts.{with_fate}
+use Rattle.rtp_stream.specs.Counts.{tally_of}
 use Rattle.path_merge.proofs.PlaceLemmas.{has_no_place, has_place}
 use Rattle.path_merge.proofs.PutLemmas.{put_step_fault, put_step_put, sound_put}
 use Rattle.path_merge.proofs.FirstLemmas.{sound_refused}

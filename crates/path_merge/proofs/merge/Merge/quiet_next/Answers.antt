@@ -1,7 +1,7 @@
 use Rattle.std.proofs.Common.{◌≡◌, true, false, to_z, of_z, ◌-ℤ◌, pos, FitsSigned, w64, rules, arith, sym, ap, subst, ◌∙◌}
 use Rattle.std.proofs.lemmas.Int.{ints}
 use Rattle.path_merge.specs.MergeState.{MergeState}
-use Rattle.stream_rules.specs.Marks.{quiet_mark}
+use Rattle.rtp_stream.specs.Marks.{quiet_mark}
 use Rattle.path_merge.specs.Steps.{is_quiet_due}
 use Rattle.path_merge.proofs.AdvanceLemmas.{IsAtReading, no_slot_of}
 use Rattle.path_merge.proofs.SoundLemmas.{quiet_due_is}

@@ -1,10 +1,10 @@
 use Rattle.std.proofs.Common.{◌≡◌, ◌^◌, ◌+◌, ◌<◌, true, to_z, of_z, w64, ap, sym, subst, ◌∙◌}
-use Rattle.stream_rules.specs.PacketRef.{packet_of}
-use Rattle.stream_rules.specs.declared.anchor.Anchor.{Anchor}
+use Rattle.rtp_stream.specs.PacketRef.{packet_of}
+use Rattle.rtp_stream.specs.declared.anchor.Anchor.{Anchor}
 use Rattle.path_merge.specs.MergeState.{MergeState}
-use Rattle.stream_rules.specs.StreamSpec.{Fits}
+use Rattle.rtp_stream.specs.StreamSpec.{Fits}
 use Rattle.reorder_window.specs.Window.{IsEmpty}
-use Rattle.stream_rules.specs.Anchor.{is_restart_in_reach, media_time_of, restart_media_time}
+use Rattle.rtp_stream.specs.Anchor.{is_restart_in_reach, media_time_of, restart_media_time}
 use Rattle.std.proofs.lemmas.Int.{to_z-of_z}
 use Rattle.path_merge.proofs.SoundLemmas.{anchored_at}
 use Rattle.path_merge.proofs.FirstLemmas.{first_put}

@@ -2,9 +2,9 @@ use Rattle.std.proofs.Common.{◌≡◌, ◌+◌, ◌-◌, max, Some, length, if
 use Rattle.std.specs.Prelude.{nat_eq, slice_set}
 use Rattle.std.specs.Ordering.{nat_cmp}
 use Rattle.std.specs.FinMap.{get, from_entries}
-use Rattle.stream_rules.specs.PacketRef.{packet_of}
+use Rattle.rtp_stream.specs.PacketRef.{packet_of}
 use Rattle.reorder_window.specs.SlotWindow.{SlotRing, packets_in, place_at}
-use Rattle.stream_rules.specs.Put.{put_answer}
+use Rattle.rtp_stream.specs.Put.{put_answer}
 use Rattle.reorder_window.proofs.SlotWindowLemmas.{held_is, put_place, put_ring, put_slot, read_here, slot_of}
 use Rattle.reorder_window.proofs.slots.SlotWindowWindow.put_ref.Goals as goal
 

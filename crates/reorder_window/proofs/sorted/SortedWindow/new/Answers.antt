@@ -1,5 +1,5 @@
 use Rattle.std.proofs.Common.{ap, ◌∙◌}
-use Rattle.stream_rules.specs.Grid.{first_with}
+use Rattle.rtp_stream.specs.Grid.{first_with}
 use Rattle.reorder_window.proofs.SortedLemmas.{get_entries}
 use Rattle.reorder_window.proofs.sorted.SortedWindow.new.Goals as goal
 

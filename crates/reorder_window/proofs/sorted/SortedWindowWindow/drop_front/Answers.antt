@@ -1,5 +1,5 @@
 use Rattle.std.proofs.Common.{◌≡◌, ◌+◌, ◌<◌, ℕ, suc, arith, length, Some, None, drop, if◌then◌else◌, ap, sym, ◌∙◌, add-one}
-use Rattle.stream_rules.specs.Grid.{first_with}
+use Rattle.rtp_stream.specs.Grid.{first_with}
 use Rattle.reorder_window.specs.SortedWindow.{SortedPackets, IsWithin}
 use Rattle.std.specs.Prelude.{nat_eq}
 use Rattle.reorder_window.proofs.SortedLemmas.{get_entries, front_taken, front_absent, higher}

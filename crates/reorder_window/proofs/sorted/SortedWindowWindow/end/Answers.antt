@@ -1,5 +1,5 @@
 use Rattle.std.proofs.Common.{◌≡◌, ◌+◌, ◌-◌, ◌<◌, ◌≤◌, ℕ, arith, length, Some, IsSome}
-use Rattle.stream_rules.specs.Grid.{first_with}
+use Rattle.rtp_stream.specs.Grid.{first_with}
 use Rattle.reorder_window.proofs.SortedLemmas.{get_entries, none_in_empty, last_is_greatest}
 use Rattle.reorder_window.proofs.sorted.SortedWindowWindow.end.Goals as goal
 use Rattle.reorder_window.proofs.sorted.SortedWindowWindow.end.Goals.{In-Some}

@@ -1,12 +1,12 @@
 use Rattle.std.proofs.Common.{◌≡◌, ℕ, ◌+◌, Bool, Option, if◌then◌else◌, IsOk, Some, List, arith, ap, sym, refl, ◌∙◌}
 use Rattle.std.specs.Prelude.{insert, bytes_eq}
-use Rattle.stream_rules.specs.declared.packet.Packet.{Packet}
-use Rattle.stream_rules.specs.declared.put.Put.TheVariants.{Double, Unlike}
+use Rattle.rtp_stream.specs.declared.packet.Packet.{Packet}
+use Rattle.rtp_stream.specs.declared.put.Put.TheVariants.{Double, Unlike}
 use Rattle.std.specs.Ordering.{nat_cmp}
 use Rattle.std.specs.FinMap.{get, from_entries}
-use Rattle.stream_rules.specs.Grid.{first_with}
-use Rattle.stream_rules.specs.PacketRef.{packet_of}
-use Rattle.stream_rules.specs.Put.{put_answer}
+use Rattle.rtp_stream.specs.Grid.{first_with}
+use Rattle.rtp_stream.specs.PacketRef.{packet_of}
+use Rattle.rtp_stream.specs.Put.{put_answer}
 use Rattle.reorder_window.specs.SortedWindow.{SortedPackets, IsFoundAt}
 use Rattle.reorder_window.proofs.SortedLemmas.{get_entries, IsPut, put_in_gap, found_by_place}
 use Rattle.reorder_window.proofs.sorted.SortedWindowWindow.put_ref.Goals as goal

@@ -1,6 +1,6 @@
 use Rattle.std.proofs.Common.{◌≡◌, Some, to_z, of_z, w64, arith, ap}
 use Rattle.std.proofs.lemmas.Int.{ints}
-use Rattle.stream_rules.specs.Anchor.{deadline_of}
+use Rattle.rtp_stream.specs.Anchor.{deadline_of}
 use Rattle.stream_tally.proofs.DeadlineLemmas.{held_is, known_now, lent_is}
 use Rattle.stream_tally.proofs.deadlines.Deadlines.take.Goals as goal
 

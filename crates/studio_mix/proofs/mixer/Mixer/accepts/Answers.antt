@@ -1,6 +1,6 @@
 use Rattle.std.proofs.Common.{◌≡◌, ◌++◌, ◌∷◌, [], subst}
-use Rattle.stream_rules.specs.StreamSpecFacts.{format_of}
-use Rattle.stream_rules.specs.MarkList.{is_mark_list}
+use Rattle.rtp_stream.specs.StreamSpecFacts.{format_of}
+use Rattle.rtp_stream.specs.MarkList.{is_mark_list}
 use Rattle.studio_mix.proofs.mixer.Mixer.accepts.Goals as goal
 
 pub returns-clause-stands : goal.returns-clause-stands

@@ -1,6 +1,6 @@
 use Rattle.std.proofs.Common.{arith, ◌≡◌, ◌∙◌, ◌<◌, sym, ap, subst}
 use Rattle.rtrb.specs.Ring.{known_free}
-use Rattle.stream_rules.specs.MarkFacts.{payload_length}
+use Rattle.rtp_stream.specs.MarkFacts.{payload_length}
 use Rattle.studio_rings.specs.MarkRings.{sender_in}
 use Rattle.studio_rings.specs.RoomRings.{HasRoomFor, producer_with}
 use Rattle.studio_rings.proofs.RoomRingLemmas.{fits_long, fits_middle, fits_short}

@@ -1,9 +1,9 @@
 use Rattle.std.proofs.Common.{◌≡◌, ◌∙◌, ap, arith, length, ◌∷◌, [], ◌++◌, length-append, subst}
 use Rattle.rtrb.specs.Ring.{sent}
-use Rattle.stream_rules.specs.PacketRef.{packet_of}
-use Rattle.stream_rules.specs.PathCounts.{PathTally, path_tally_of, with_reception}
-use Rattle.stream_rules.specs.Reception.{FitsReception, reception_from}
-use Rattle.stream_rules.specs.declared.reception.Reception.TheVariants.{Sent as Received}
+use Rattle.rtp_stream.specs.PacketRef.{packet_of}
+use Rattle.rtp_stream.specs.PathCounts.{PathTally, path_tally_of, with_reception}
+use Rattle.rtp_stream.specs.Reception.{FitsReception, reception_from}
+use Rattle.rtp_stream.specs.declared.reception.Reception.TheVariants.{Sent as Received}
 use Rattle.studio_rings.proofs.FittingLemmas.{fitting-more}
 use Rattle.studio_rings.proofs.path_end.PathEnd.offer.Goals as goal
 

@@ -2,7 +2,7 @@ use Rattle.std.proofs.Common.{◌≡◌, ◌+◌, Some, refl, sym, subst, ap, �
 use Rattle.path_merge.specs.MergeState.{MergeState}
 use Rattle.studio_session.specs.Event.{Closing}
 use Rattle.studio_session.specs.Session.{End, stream_history}
-use Rattle.stream_rules.specs.PathCounts.{tallies_of}
+use Rattle.rtp_stream.specs.PathCounts.{tallies_of}
 use Rattle.studio_session.specs.Cursor.{CursorState, HasPulled}
 use Rattle.studio_session.proofs.CountsLemmas.{few_later, uncounted}
 use Rattle.studio_session.proofs.CursorLemmas.{can_settled, pulled_more, settled, way_settled}

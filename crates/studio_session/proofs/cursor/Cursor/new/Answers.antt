@@ -1,7 +1,7 @@
 use Rattle.std.proofs.Common.{[], refl, subst, arith, w64}
 use Rattle.std.proofs.lemmas.Int.{to_z-of_z}
 use Rattle.path_merge.specs.Merge.{HasHistory}
-use Rattle.stream_rules.specs.PathCounts.{path_tally_of}
+use Rattle.rtp_stream.specs.PathCounts.{path_tally_of}
 use Rattle.studio_session.proofs.CountsLemmas.{counted_none, few_none}
 use Rattle.studio_session.proofs.cursor.Cursor.new.Goals as goal
 

@@ -1,9 +1,9 @@
 use Rattle.std.proofs.Common.{◌≡◌, ℕ, List, None, if◌then◌else◌, sym, subst, ap}
-use Rattle.stream_rules.specs.declared.event.Event.{Event}
+use Rattle.rtp_stream.specs.declared.event.Event.{Event}
 use Rattle.path_merge.specs.Merge.{HasHistory}
 use Rattle.path_merge.specs.Goal.{Gives, MovesTo, next_to}
 use Rattle.path_merge.specs.Steps.{is_slot_mark}
-use Rattle.stream_rules.specs.PathCounts.{tallies_of}
+use Rattle.rtp_stream.specs.PathCounts.{tallies_of}
 use Rattle.studio_session.specs.Cursor.{CursorState, HasPulled, IsOnTheWay, next_of}
 use Rattle.studio_session.proofs.CursorLemmas.{passed}
 use Rattle.studio_session.proofs.cursor.Cursor.pass.Goals as goal

@@ -1,6 +1,6 @@
 use Rattle.std.proofs.Common.{◌≡◌, ◌+◌, ◌++◌, Some, refl, sym, subst, append-nil, take, slice_get}
 use Rattle.studio_session.specs.Session.{Other, event_in, stream_history}
-use Rattle.stream_rules.specs.PathCounts.{tallies_of}
+use Rattle.rtp_stream.specs.PathCounts.{tallies_of}
 use Rattle.studio_session.specs.Counts.{HasCounted}
 use Rattle.studio_session.specs.Way.{IsOnWay}
 use Rattle.studio_session.specs.Cursor.{CursorState, HasPulled}

@@ -1,5 +1,5 @@
 use Rattle.std.proofs.Common.{◌≡◌, ◌<◌, length, Some, true, slice_get, ap, subst, ◌∙◌, arith, rules}
-use Rattle.stream_rules.specs.declared.stream_spec.Stream.{Stream}
+use Rattle.rtp_stream.specs.declared.stream_spec.Stream.{Stream}
 use Rattle.studio_session.specs.Session.{Other, step_of}
 use Rattle.studio_session.specs.Cursor.{CursorState}
 use Rattle.studio_session.proofs.CursorLemmas.{event_here}

@@ -1,5 +1,5 @@
 use Rattle.std.proofs.Common.{◌≡◌, ◌≤◌, ℕ, ℤ}
-use Rattle.stream_rules.specs.declared.stream_spec.Stream.{Stream}
+use Rattle.rtp_stream.specs.declared.stream_spec.Stream.{Stream}
 use Rattle.studio_session.specs.Cursor.{HasPulled, IsReadyFor, events_left}
 use Rattle.studio_session.proofs.cursor.Cursor.pass_over_others.Given as goal
 

@@ -2,7 +2,7 @@ use Rattle.std.proofs.Common.{◌≡◌, length, get_or, Some, slice_get, sym, a
 use Rattle.std.specs.Option.{option_map}
 use Rattle.std.proofs.lemmas.List.{length-map}
 use Rattle.std.proofs.lemmas.Option.{slice_get-get_or, slice_get-map}
-use Rattle.stream_rules.specs.PathCounts.{path_tally_of, tallies_of}
+use Rattle.rtp_stream.specs.PathCounts.{path_tally_of, tallies_of}
 use Rattle.studio_session.specs.Cursor.{CursorState}
 use Rattle.studio_session.proofs.cursor.Cursor.path_counts.Goals as goal
 

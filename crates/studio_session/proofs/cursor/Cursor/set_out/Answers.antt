@@ -1,10 +1,10 @@
 use Rattle.std.proofs.Common.{◌≡◌, ◌+◌, ◌++◌, ◌∷◌, [], None, Some, refl, sym, subst, ap, ◌∙◌, take, slice_get, w64}
 use Rattle.std.proofs.lemmas.Int.{to_z-of_z}
 use Rattle.path_merge.specs.Clock.{clock_fault_of}
-use Rattle.stream_rules.specs.declared.event.Event.TheVariants.{Tick}
+use Rattle.rtp_stream.specs.declared.event.Event.TheVariants.{Tick}
 use Rattle.studio_session.specs.Event.{Reading}
 use Rattle.studio_session.specs.Session.{Clock, stream_history}
-use Rattle.stream_rules.specs.PathCounts.{tallies_of}
+use Rattle.rtp_stream.specs.PathCounts.{tallies_of}
 use Rattle.studio_session.specs.Way.{IsOnWay}
 use Rattle.studio_session.specs.Cursor.{CursorState, HasPulled}
 use Rattle.studio_session.proofs.CountsLemmas.{few_later, uncounted}

@@ -1,9 +1,9 @@
 use Rattle.std.proofs.Common.{◌≡◌, ◌<◌, ◌+◌, ◌++◌, Some, refl, sym, subst, ap, ◌∙◌, take, slice_get}
-use Rattle.stream_rules.specs.declared.stream_spec.Stream.{Stream}
+use Rattle.rtp_stream.specs.declared.stream_spec.Stream.{Stream}
 use Rattle.studio_session.specs.Event.{Arrival}
-use Rattle.stream_rules.specs.Reception.{FitsReception, reception_from, reception_of}
+use Rattle.rtp_stream.specs.Reception.{FitsReception, reception_from, reception_of}
 use Rattle.studio_session.specs.Session.{Datagram, event_in, step_of, stream_history}
-use Rattle.stream_rules.specs.PathCounts.{tallies_of}
+use Rattle.rtp_stream.specs.PathCounts.{tallies_of}
 use Rattle.studio_session.specs.Counts.{HasCounted}
 use Rattle.studio_session.specs.Receipt.{receipt_in}
 use Rattle.studio_session.specs.Way.{IsOnWay}

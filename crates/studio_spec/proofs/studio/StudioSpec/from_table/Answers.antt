@@ -3,7 +3,7 @@ use Rattle.std.proofs.Math.Facts.{to_z_pos}
 use Rattle.std.proofs.lemmas.List.{length-map}
 use Rattle.toml.specs.View.{view, table_view}
 use Rattle.toml.specs.declared.value.Value.{Value}
-use Rattle.stream_rules.specs.declared.stream_spec.Stream.{Stream}
+use Rattle.rtp_stream.specs.declared.stream_spec.Stream.{Stream}
 use Rattle.studio_spec.specs.Studio.{channel_total}
 use Rattle.studio_spec.specs.Values.{members_in, number_at, number_or, tables_at, table_at}
 use Rattle.studio_spec.specs.NetworkTable.{senders_of}

@@ -1,0 +1,77 @@
+-- What a stream makes of a datagram.
+use Rattle.std.specs.Prelude.{ℕ, ◌≤◌, Bool, true, false, List, length, Option, Some, None}
+use Rattle.rtp_wire.specs.Datagram.{wire_fault_of, head_at, payload_at}
+use Rattle.rtp_wire.specs.declared.fault.WireFault.{WireFault}
+use Rattle.rtp_stream.specs.declared.packet.Packet.{Packet}
+use Rattle.rtp_stream.specs.declared.reception.Reception.{Reception}
+use Rattle.rtp_stream.specs.declared.reception.Reception.TheVariants.{Sent, Bad, WrongType, WrongLength}
+use Rattle.rtp_stream.specs.declared.reception.ReceptionRef.{ReceptionRef}
+use Rattle.rtp_stream.specs.declared.reception.ReceptionRef.TheVariants.{Sent as LentSent, Bad as LentBad, WrongType as LentType, WrongLength as LentLength}
+use Rattle.rtp_stream.specs.declared.stream_spec.AdmitFault.{AdmitFault}
+use Rattle.rtp_stream.specs.declared.stream_spec.AdmitFault.TheVariants.{WrongType as TypeFault, WrongLength as LengthFault}
+use Rattle.rtp_stream.specs.declared.stream_spec.Stream.{Stream}
+use Rattle.rtp_stream.specs.PacketRef.{packet_of}
+use Rattle.rtp_stream.specs.StreamSpec.{Fits, admit_fault_of}
+
+-- the packet that octets are, by their places
+abbrev pub packet_at : List ℕ → Packet
+packet_at octets = record { seq = (head_at octets).seq; ts = (head_at octets).ts; ssrc = (head_at octets).ssrc; payload = record { items = payload_at octets } }
+
+abbrev pub reception_by : List ℕ → Option WireFault → Option AdmitFault → Reception
+reception_by octets (Some fault) admitted = Bad
+reception_by octets None (Some TypeFault) = WrongType
+reception_by octets None (Some LengthFault) = WrongLength
+reception_by octets None None = Sent (packet_at octets)
+
+-- what a stream makes of a datagram: the first thing that is wrong with it, else its packet
+abbrev pub reception_of : Stream → List ℕ → Reception
+reception_of stream octets = reception_by octets (wire_fault_of octets) (admit_fault_of stream (head_at octets).pt (length (payload_at octets)))
+
+-- what was received, with the packet where it is lent
+abbrev pub reception_from : ReceptionRef → Reception
+reception_from (LentSent packet) = Sent (packet_of packet)
+reception_from LentBad = Bad
+reception_from LentType = WrongType
+reception_from LentLength = WrongLength
+
+-- a payload has room for what is lent
+abbrev pub IsShortReception : ReceptionRef → Type 0
+IsShortReception (LentSent packet) = length packet.payload.now ≤ 1440
+IsShortReception LentBad = Unit {0}
+IsShortReception LentType = Unit {0}
+IsShortReception LentLength = Unit {0}
+
+-- a packet that was received has the stream's length
+abbrev pub FitsReception : Stream → Reception → Type 0
+FitsReception stream (Sent packet) = Fits stream packet
+FitsReception stream Bad = Unit {0}
+FitsReception stream WrongType = Unit {0}
+FitsReception stream WrongLength = Unit {0}
+
+-- the ways in which a datagram may be received
+abbrev pub is_any : Reception → Bool
+is_any reception = true
+
+abbrev pub is_sent : Reception → Bool
+is_sent (Sent packet) = true
+is_sent Bad = false
+is_sent WrongType = false
+is_sent WrongLength = false
+
+abbrev pub is_bad : Reception → Bool
+is_bad (Sent packet) = false
+is_bad Bad = true
+is_bad WrongType = false
+is_bad WrongLength = false
+
+abbrev pub is_wrong_type : Reception → Bool
+is_wrong_type (Sent packet) = false
+is_wrong_type Bad = false
+is_wrong_type WrongType = true
+is_wrong_type WrongLength = false
+
+abbrev pub is_wrong_length : Reception → Bool
+is_wrong_length (Sent packet) = false
+is_wrong_length Bad = false
+is_wrong_length WrongType = false
+is_wrong_length WrongLength = true

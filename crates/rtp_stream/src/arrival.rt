@@ -1,0 +1,119 @@
+//! What becomes of an arrival, test by test.
+ghost use Rattle.std.specs.Prelude.{◌≡◌, ◌^◌, ◌≤◌, ℕ, ℤ, pos, ◌≤ℤ◌, neg_ℤ};
+ghost use Rattle.rtp_stream.specs.PacketRef.{packet_of};
+ghost use Rattle.rtp_stream.specs.Anchor.{first_media_time, is_restart_in_reach, media_time_of};
+ghost use Rattle.rtp_stream.specs.Counts.{is_taken_fate};
+ghost use Rattle.rtp_stream.specs.Fate as fate;
+ghost use Rattle.rtp_stream.specs.Fate.{first_fate, reach_fault_of};
+ghost use Rattle.rtp_stream.specs.Probation.{is_off};
+ghost use Rattle.rtp_stream.specs.declared.stream_spec.Stream.{Stream};
+ghost use Rattle.rtp_stream.specs.declared.anchor.Anchor.{Anchor};
+ghost use Rattle.rtp_stream.specs.declared.packet.Packet.{Packet};
+
+use crate::anchor::{Anchor, is_in_step, is_wanted, number_of};
+use crate::fate::Fate;
+use crate::packet::PacketRef;
+use crate::put::Put;
+use crate::stream_spec::StreamSpec;
+
+/// The fate of a packet that was put.
+pub fn fate_of_put(put: Put) -> Fate
+    ensures { result ≡ fate.fate_of_put put }
+{
+    match put {
+        Put::Taken => Fate::Taken,
+        Put::Double => Fate::Double,
+        Put::Unlike => Fate::Unlike,
+    }
+}
+
+/// Whether a packet was taken.
+pub fn is_taken(fate: Fate) -> bool
+    ensures { result ≡ is_taken_fate fate }
+{
+    matches!(fate, Fate::Taken | Fate::Restarted)
+}
+
+/// The number of which a packet is a copy in time, where `next` is due next, at `media`, or why it is none.
+pub fn place_of(
+    spec: &StreamSpec,
+    anchor: &Anchor,
+    next: u64,
+    media: i64,
+    packet: &PacketRef<'_>,
+) -> Result<u64, Fate>
+    requires low { 65536 ≤ next }
+    requires high { next ≤ 2 ^ 61 }
+    requires media_low { neg_ℤ (pos (2 ^ 61)) ≤ℤ media }
+    requires media_high { media ≤ℤ pos (2 ^ 61) }
+    requires anchor_low { neg_ℤ (pos (2 ^ 61)) ≤ℤ anchor.now.media }
+    requires anchor_high { anchor.now.media ≤ℤ pos (2 ^ 61) }
+    requires media_is { media ≡ media_time_of spec.now anchor.now next }
+    ensures { result ≡ fate.place_of spec.now anchor.now next (packet_of packet.now) }
+{
+    if packet.ssrc != anchor.source {
+        return Err(Fate::WrongSource);
+    }
+    let number = number_of(packet, next);
+    let there = media + (number as i64 - next as i64) * i64::from(spec.frames());
+    if !is_in_step(anchor, there, packet.ts) {
+        return Err(Fate::OffGrid);
+    }
+    if number < next {
+        return Err(Fate::Late);
+    }
+    if number >= next + u64::from(spec.window()) {
+        return Err(Fate::Ahead);
+    }
+    Ok(number)
+}
+
+/// Whether a packet with this place is off: it is of another source, or off the grid.
+pub fn is_off_place(place: &Result<u64, Fate>) -> bool
+    ensures { (stream : Stream) (anchor : Anchor) (next : ℕ) (packet : Packet) → place.now ≡ fate.place_of stream anchor next packet → result ≡ is_off stream anchor next packet }
+{
+    matches!(place, Err(Fate::WrongSource | Fate::OffGrid))
+}
+
+/// Why a packet at `media` may be no first one of an epoch: its deadline has come, or it is beyond the window.
+fn reach_fault(spec: &StreamSpec, time: i64, media: i64) -> Option<Fate>
+    requires low { pos 0 ≤ℤ time }
+    requires high { time ≤ℤ pos (2 ^ 60) }
+    ensures { result ≡ reach_fault_of spec.now time media }
+{
+    let earliest = time - i64::from(spec.latency());
+    if media <= earliest {
+        return Some(Fate::Late);
+    }
+    if media >= earliest + i64::from(spec.window()) * i64::from(spec.frames()) {
+        return Some(Fate::Ahead);
+    }
+    None
+}
+
+/// Whether media time goes on with a packet at `media`, where `due` is that of the number due next.
+pub fn goes_on(spec: &StreamSpec, time: i64, due: i64, media: i64) -> bool
+    requires low { pos 0 ≤ℤ time }
+    requires high { time ≤ℤ pos (2 ^ 60) }
+    ensures { result ≡ is_restart_in_reach spec.now time due media }
+{
+    match reach_fault(spec, time, media) {
+        Some(_) => false,
+        None => due <= media,
+    }
+}
+
+/// The fate of a packet that would be the first of epoch 0, at `media`.
+pub fn fate_of_first(spec: &StreamSpec, time: i64, media: i64, source: u32) -> Fate
+    requires low { pos 0 ≤ℤ time }
+    requires high { time ≤ℤ pos (2 ^ 60) }
+    ensures { (packet : Packet) → packet.ssrc ≡ source → media ≡ first_media_time spec.now.clock packet.ts time → result ≡ first_fate spec.now time packet }
+{
+    if !is_wanted(spec.ssrc(), source) {
+        return Fate::WrongSource;
+    }
+    match reach_fault(spec, time, media) {
+        Some(fault) => fault,
+        None => Fate::Taken,
+    }
+}

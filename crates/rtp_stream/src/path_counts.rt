@@ -1,0 +1,76 @@
+//! What became of a path's datagrams before the merge.
+ghost use Rattle.std.specs.Prelude.{◌≡◌, ◌+◌, ◌<◌};
+ghost use Rattle.rtp_stream.specs.Reception.{reception_from};
+
+use crate::reception::{Reception, ReceptionRef};
+
+/// The datagrams of a path by what became of them. They balance in every value.
+#[derive(Clone, Copy, Debug, PartialEq, Eq)]
+pub struct PathCounts {
+    /// All of them.
+    pub offered: u64,
+    /// Packets of the stream.
+    pub sent: u64,
+    /// No RTP packets.
+    pub bad: u64,
+    pub wrong_type: u64,
+    pub wrong_length: u64,
+    /// Packets that found no room on their way to the merge.
+    pub full: u64,
+    pub ghost balanced: { offered ≡ sent + bad + wrong_type + wrong_length + full },
+}
+
+impl PathCounts {
+    ghost use Rattle.rtp_stream.specs.PathCounts.{empty_path_tally, path_tally_of, with_full, with_reception};
+
+    /// Nothing was offered.
+    pub fn new() -> PathCounts
+        ensures { path_tally_of result ≡ empty_path_tally }
+    {
+        PathCounts {
+            offered: 0,
+            sent: 0,
+            bad: 0,
+            wrong_type: 0,
+            wrong_length: 0,
+            full: 0,
+        }
+    }
+
+    /// Counts a datagram.
+    pub fn add(&mut self, reception: &Reception)
+        requires { self.old.offered < u64.MAX }
+        ensures { path_tally_of self.new ≡ with_reception (path_tally_of self.old) reception.now }
+    {
+        match reception {
+            Reception::Sent(_) => self.sent += 1,
+            Reception::Bad => self.bad += 1,
+            Reception::WrongType => self.wrong_type += 1,
+            Reception::WrongLength => self.wrong_length += 1,
+        }
+        self.offered += 1;
+    }
+
+    /// Counts a datagram whose packet is lent.
+    pub fn add_ref(&mut self, reception: ReceptionRef<'_>)
+        requires { self.old.offered < u64.MAX }
+        ensures { path_tally_of self.new ≡ with_reception (path_tally_of self.old) (reception_from reception.entry) }
+    {
+        match reception {
+            ReceptionRef::Sent(_) => self.sent += 1,
+            ReceptionRef::Bad => self.bad += 1,
+            ReceptionRef::WrongType => self.wrong_type += 1,
+            ReceptionRef::WrongLength => self.wrong_length += 1,
+        }
+        self.offered += 1;
+    }
+
+    /// Counts a packet that found no room.
+    pub fn add_full(&mut self)
+        requires { self.old.offered < u64.MAX }
+        ensures { path_tally_of self.new ≡ with_full (path_tally_of self.old) }
+    {
+        self.full += 1;
+        self.offered += 1;
+    }
+}

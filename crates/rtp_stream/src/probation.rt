@@ -1,0 +1,99 @@
+//! Probation of a source that may have restarted (RFC 3550, A.1).
+ghost use Rattle.std.specs.Prelude.{◌≡◌, ◌≤◌, ◌&&◌, ℕ, nat_eq, false};
+ghost use Rattle.rtp_stream.specs.PacketRef.{packet_of};
+ghost use Rattle.rtp_stream.specs.Anchor.{is_source_wanted};
+ghost use Rattle.rtp_stream.specs.PathProbation.{is_complete, probation_at, probation_heard};
+ghost use Rattle.rtp_stream.specs.declared.stream_spec.Stream.{Stream};
+
+use crate::anchor::is_wanted;
+use crate::packet::PacketRef;
+use crate::path::Path;
+use crate::stream_spec::StreamSpec;
+
+/// So many packets in sequence complete a probation.
+const MIN_SEQUENTIAL: u8 = 8;
+
+/// How many packets in sequence, up to eight, a path brought last that are off the anchor's grid, and
+/// what comes next.
+#[derive(Clone, Copy, Debug)]
+pub struct Probation {
+    pub count: u8,
+    pub source: u32,
+    pub seq: u16,
+    pub ts: u32,
+}
+
+impl Probation {
+    ghost use Rattle.rtp_stream.specs.PathProbation.{no_probation, probation_after, is_complete};
+
+    /// Nothing was heard since the anchor's arrival.
+    pub fn new() -> Probation
+        ensures { result ≡ no_probation }
+    {
+        Probation {
+            count: 0,
+            source: 0,
+            seq: 0,
+            ts: 0,
+        }
+    }
+
+    /// Hears a packet, and whether it is off.
+    #[inline(always)]
+    pub fn hear(&mut self, frames: u32, off: bool, packet: &PacketRef<'_>)
+        requires { frames ≤ 192 }
+        ensures { (stream : Stream) → stream.frames ≡ frames → self.new ≡ probation_after stream self.old (off, packet_of packet.now) }
+    {
+        if !off {
+            *self = Probation::new();
+            return;
+        }
+        let follows = self.count > 0
+            && packet.ssrc == self.source
+            && packet.seq == self.seq
+            && packet.ts == self.ts;
+        let count = if !follows {
+            1
+        } else if self.count < MIN_SEQUENTIAL {
+            self.count + 1
+        } else {
+            MIN_SEQUENTIAL
+        };
+        *self = Probation {
+            count,
+            source: packet.ssrc,
+            seq: packet.seq.wrapping_add(1),
+            ts: packet.ts.wrapping_add(frames),
+        };
+    }
+
+    /// Whether the last eight are in sequence.
+    pub fn is_complete(&self) -> bool
+        ensures { result ≡ is_complete self.now }
+    {
+        self.count >= MIN_SEQUENTIAL
+    }
+}
+
+/// Hears a packet on its path, unless the stream asks for another source, and answers whether it completes that path's probation.
+#[inline(always)]
+pub fn hear_on(
+    probations: &mut [Probation; 4],
+    path: Path,
+    spec: &StreamSpec,
+    off: bool,
+    packet: &PacketRef<'_>,
+) -> bool
+    ensures heard { probation_at probations.new path ≡ probation_heard spec.now (probation_at probations.old path) off (packet_of packet.now) }
+    ensures others { (other : ℕ) → nat_eq other path ≡ false → probation_at probations.new other ≡ probation_at probations.old other }
+    ensures complete { result ≡ is_source_wanted spec.now.ssrc packet.now.ssrc && is_complete (probation_at probations.new path) }
+{
+    if !is_wanted(spec.ssrc(), packet.ssrc) {
+        return false;
+    }
+    let place = usize::from(path.number());
+    let mut probation = probations[place];
+    probation.hear(u32::from(spec.frames()), off, packet);
+    probations[place] = probation;
+    probation.is_complete()
+}

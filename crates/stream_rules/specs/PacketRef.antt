@@ -1,7 +1,0 @@
--- A packet that is lent.
-use Rattle.stream_rules.specs.declared.packet.Packet.{Packet}
-use Rattle.stream_rules.specs.declared.packet.PacketRef.{PacketRef}
-
--- the packet, with the octets where they are lent
-abbrev pub packet_of : PacketRef → Packet
-packet_of p = record { seq = p.seq; ts = p.ts; ssrc = p.ssrc; payload = record { items = p.payload.now } }
