@@ -8,7 +8,7 @@ use Rattle.capture_read.specs.Entries.{entries_of}
 use Rattle.capture_reader.specs.declared.fault.ReaderFault.{ReaderFault}
 use Rattle.capture_reader.specs.declared.fault.ReaderFault.TheVariants as reader
 use Rattle.capture_reader.specs.Reader.{IsOpenFault}
-use Rattle.studio_spec.specs.Studio.{Studio}
+use Rattle.studio_config.specs.Studio.{Studio}
 use Rattle.studio_session.specs.Event.{TraceEvent, Closing}
 use Rattle.studio_session.specs.Run.{AreDatagrams}
 use Rattle.studio_engine.specs.Session.{HasSession, shut}

@@ -18,7 +18,7 @@ use Rattle.capture_import.specs.declared.route.Route.{Route}
 use Rattle.capture_import.specs.Clock.{clock_begun, clock_with, instants_in}
 use Rattle.capture_import.specs.Lines.{arrival_line}
 use Rattle.capture_import.specs.Trace.{event_count, events_from, item_clock, item_events, item_text, octets_of as octets_in, packet_clock, packet_events, packet_text, route_of, text_from, trace_of}
-use Rattle.studio_spec.specs.Studio.{Studio}
+use Rattle.studio_config.specs.Studio.{Studio}
 use Rattle.studio_session.specs.Fault.{time_at}
 use Rattle.studio_session.proofs.FaultLemmas.{time_more}
 use Rattle.studio_engine.specs.Session.{turned}

@@ -10,7 +10,7 @@ use Rattle.capture_import.specs.Clock.{clock_begun, clock_with, instants_in}
 use Rattle.capture_import.specs.Trace.{octets_of}
 use Rattle.rtp_stream.specs.declared.stream_spec.Stream.{Stream}
 use Rattle.lane_align.specs.Lane.{natural}
-use Rattle.studio_spec.specs.Studio.{Studio}
+use Rattle.studio_config.specs.Studio.{Studio}
 use Rattle.studio_session.specs.Event.{TraceEvent, Arrival, Reading, Closing}
 use Rattle.studio_session.specs.Fault.{event_fault, path_fault, session_fault_from, session_fault_of, time_at}
 use Rattle.studio_session.specs.Pruned.{begin_with_reading, pruned_events}

@@ -6,7 +6,7 @@ use Rattle.capture_reader.specs.Reader.{packets_among}
 use Rattle.capture_import.specs.declared.clock.CaptureClock.{CaptureClock}
 use Rattle.capture_import.specs.Clock.{clock_with}
 use Rattle.capture_import.specs.Trace.{octets_of}
-use Rattle.studio_spec.specs.Studio.{Studio}
+use Rattle.studio_config.specs.Studio.{Studio}
 use Rattle.studio_session.specs.Event.{TraceEvent, Arrival, Closing}
 use Rattle.studio_session.specs.Fault.{time_at}
 use Rattle.studio_engine.specs.Session.{turned}

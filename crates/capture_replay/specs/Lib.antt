@@ -18,7 +18,7 @@ pub use Rattle.capture_import.specs.Trace
 pub use Rattle.capture_import.specs.Clock
 pub use Rattle.mix_packets.specs.OutSpec
 pub use Rattle.path_merge.specs.Clock as MergeClock
-pub use Rattle.studio_spec.specs.Studio
+pub use Rattle.studio_config.specs.Studio
 pub use Rattle.studio_session.specs.Event
 pub use Rattle.studio_session.specs.Fault
 pub use Rattle.studio_session.specs.Pruned

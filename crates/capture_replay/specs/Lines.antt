@@ -1,6 +1,6 @@
 -- Lines of the datagrams that an engine gives.
 use Rattle.std.specs.Prelude.{ℕ, List, ◌++◌, Option}
-use Rattle.studio_spec.specs.Studio.{Studio}
+use Rattle.studio_config.specs.Studio.{Studio}
 use Rattle.studio_session.specs.Event.{TraceEvent}
 use Rattle.studio_engine.specs.Engine.{EngineState}
 use Rattle.studio_engine.specs.Session.{HasSession}

@@ -7,7 +7,7 @@ use Rattle.capture_import.specs.Clock.{clock_begun, clock_with}
 use Rattle.capture_import.specs.Trace.{route_of}
 use Rattle.rtp_stream.specs.declared.stream_spec.Stream.{Stream}
 use Rattle.lane_align.specs.Lane.{natural}
-use Rattle.studio_spec.specs.Studio.{Studio}
+use Rattle.studio_config.specs.Studio.{Studio}
 use Rattle.capture_replay.specs.declared.plan.Plan as declared
 use Rattle.capture_replay.specs.declared.plan.Plan.TheVariants as plan
 use Rattle.capture_replay.specs.declared.plan.Target.{Target}

@@ -4,7 +4,7 @@ use Rattle.capture_read.specs.Packet.{PacketView}
 use Rattle.capture_import.specs.Clock.{instants_in}
 use Rattle.capture_import.specs.Trace.{octets_of}
 use Rattle.rtp_stream.specs.declared.stream_spec.Stream.{Stream}
-use Rattle.studio_spec.specs.Studio.{Studio}
+use Rattle.studio_config.specs.Studio.{Studio}
 use Rattle.studio_session.specs.Event.{TraceEvent, Arrival, Reading, Closing}
 
 -- the place of a path among those of all streams, one stream after another

@@ -8,7 +8,7 @@ use Rattle.capture_read.specs.Capture.{Item, packets_of}
 use Rattle.capture_reader.specs.declared.fault.ReaderFault.{ReaderFault}
 use Rattle.capture_reader.specs.declared.fault.ReaderFault.TheVariants as reader
 use Rattle.capture_reader.specs.Reader.{HasEntries, HasTold, packets_among}
-use Rattle.studio_spec.specs.Studio.{Studio}
+use Rattle.studio_config.specs.Studio.{Studio}
 use Rattle.studio_mix.specs.Blocks.{AreFirstBlocks}
 use Rattle.studio_session.specs.Event.{TraceEvent}
 use Rattle.studio_session.specs.Fault.{closed_at}

@@ -1,6 +1,6 @@
 //! The lines of an engine's counts, once it is settled.
 ghost use Rattle.std.specs.Prelude.{◌≡◌, ◌≤◌, ◌<◌, ℕ, List, length, slice_get, Some, OnOk, OnErr};
-ghost use Rattle.studio_spec.specs.Studio.{Studio};
+ghost use Rattle.studio_config.specs.Studio.{Studio};
 ghost use Rattle.studio_session.specs.Event.{TraceEvent};
 ghost use Rattle.studio_engine.specs.Engine.{HasAllMarks};
 ghost use Rattle.studio_engine.specs.Session.{HasSession};

@@ -5,7 +5,7 @@ ghost use Rattle.capture_reader.specs.Window.{octets_of};
 ghost use Rattle.capture_reader.specs.Reader.{IsNext, packets_in};
 ghost use Rattle.capture_import.specs.Clock.{clock_with};
 ghost use Rattle.path_merge.specs.Clock.{clock_fault_of};
-ghost use Rattle.studio_spec.specs.Studio.{Studio};
+ghost use Rattle.studio_config.specs.Studio.{Studio};
 ghost use Rattle.studio_session.specs.Event.{TraceEvent, Arrival};
 ghost use Rattle.capture_replay.specs.Events.{events_of, events_with, read_at};
 ghost use Rattle.capture_replay.specs.Plan.{clock_past, opening_of, plan_view, target_of};

@@ -3,7 +3,7 @@ ghost use Rattle.std.specs.Prelude.{◌≡◌, ◌≤◌, ℕ, pos, ◌≤ℤ◌
 ghost use Rattle.capture_read.specs.Packet.{PacketView};
 ghost use Rattle.capture_import.specs.declared.route.Route.{Route};
 ghost use Rattle.capture_import.specs.Trace.{event_count, trace_of};
-ghost use Rattle.studio_spec.specs.Studio.{Studio};
+ghost use Rattle.studio_config.specs.Studio.{Studio};
 ghost use Rattle.studio_session.specs.Event.{TraceEvent};
 ghost use Rattle.studio_session.specs.Fault.{session_fault_of};
 ghost use Rattle.studio_session.specs.Pruned.{pruned_events};

@@ -7,7 +7,7 @@ ghost use Rattle.lane_align.specs.Lane.{natural};
 ghost use Rattle.capture_reader.specs.Window.{octets_of};
 ghost use Rattle.capture_replay.specs.Plan.{Flows, clock_before, places_of, plan_view};
 ghost use Rattle.capture_replay.specs.Replay.{BreaksOffReplay, BreaksReport, CanClose, EndsBehind, HasBegun, HasComeToClose, HasHeardAll, HasReplayed, IsReplaying, StopsFile, WritesReplay};
-ghost use Rattle.studio_spec.specs.Studio.{Studio};
+ghost use Rattle.studio_config.specs.Studio.{Studio};
 
 use crate::counts::write_all_counts;
 use crate::fault::ReplayFault;
@@ -20,9 +20,9 @@ use capture_read::Parts;
 use capture_reader::{Window, open};
 use std::alloc::{AllocError, Global};
 use std::io::{Read, Write};
+use studio_config::StudioSpec;
 use studio_engine::Engine;
 use studio_run::{TextBuffer, WriteFault};
-use studio_spec::StudioSpec;
 
 /// Goes over the capture that a reader gives, and writes the report of what it says by these routes: the datagrams of all
 /// blocks that are ready, and the counts of each stream. A listener is told of these datagrams, and of all events. A fault

@@ -4,7 +4,7 @@ use mix_packets::OutSpec;
 use rtp_stream::{SpecFault, StreamClock, StreamSpec};
 use rtp_wire::Enc;
 use std::alloc::Global;
-use studio_spec::{StudioSpec, channel_total};
+use studio_config::{StudioSpec, channel_total};
 
 /// A stream of one channel of L24, by the media clock, over a window of eight numbers. `frames` and `latency` are
 /// sampling instants.

@@ -8,8 +8,8 @@ use live_run::LiveFault;
 use std::alloc::{AllocError, AllocFailed};
 use std::io;
 use std::io::Write;
+use studio_config::Kind;
 use studio_run::{PlayFault, SpecError, StudioFault, WriteFault};
-use studio_spec::Kind;
 use studio_wav::{FileFault, StreamFault};
 use thiserror::Error;
 

@@ -13,8 +13,8 @@ use std::alloc::Global;
 use std::io;
 use std::io::Write;
 use studio_chart::{Extent, Streams};
+use studio_config::StudioSpec;
 use studio_run::ReadFault;
-use studio_spec::StudioSpec;
 
 /// What is known of a capture before it is replayed.
 #[derive(Drop)]

@@ -17,7 +17,7 @@ use std::sync::Wait;
 use std::sync::atomic::AtomicBool;
 use std::thread::Threads;
 use std::time::Clock;
-use studio_spec::StudioSpec;
+use studio_config::StudioSpec;
 
 /// The record of a run, if there is one, and where it is told what came of it.
 #[derive(Drop)]

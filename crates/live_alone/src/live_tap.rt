@@ -10,9 +10,9 @@ use std::alloc::{AllocError, Global};
 use std::io::Write;
 use std::time::Clock;
 use studio_alone::Tap;
+use studio_config::StudioSpec;
 use studio_engine::Engine;
 use studio_session::Receipt;
-use studio_spec::StudioSpec;
 
 /// What is told of what a run takes: a record and a view, each if it is asked for.
 #[derive(Drop)]

@@ -15,7 +15,7 @@ use std::io::Write;
 use std::sync::Wait;
 use std::time::Clock;
 use studio_alone::run_alone;
-use studio_spec::StudioSpec;
+use studio_config::StudioSpec;
 
 /// What a run in one thread is started from, beside its tap.
 #[derive(Drop)]

@@ -11,8 +11,8 @@ use std::alloc::{AllocError, Global};
 use std::io::Write;
 use std::net::Net;
 use std::random::RandomSource;
+use studio_config::StudioSpec;
 use studio_page::Snapshot;
-use studio_spec::StudioSpec;
 
 /// What is seen of a run.
 #[derive(Clone, Copy)]

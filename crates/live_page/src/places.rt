@@ -5,7 +5,7 @@ use live_sockets::{Sockets, write_places};
 use live_view::{FAULTS, is_ready};
 use std::io;
 use std::io::Write;
-use studio_spec::StudioSpec;
+use studio_config::StudioSpec;
 
 /// Writes where each path is received, where the mix goes, and where the page is, in one line. It is left out where standard
 /// error doesn't take it at once.

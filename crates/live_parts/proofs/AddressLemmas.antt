@@ -2,7 +2,7 @@
 use Rattle.std.proofs.Common.{◌≡◌, ◌<◌, ◌≤◌, ◌+◌, ℕ, suc, List, ◌++◌, length, drop, get_or, sym, ap, ◌∙◌, append_assoc, add-one, drop-cons}
 use Rattle.std.proofs.lemmas.List.{append-nil, drop_all}
 use Rattle.rtp_stream.specs.declared.stream_spec.Stream.{Stream}
-use Rattle.studio_spec.specs.declared.networks.Networks.{Networks}
+use Rattle.studio_config.specs.declared.networks.Networks.{Networks}
 use Rattle.live_parts.specs.declared.addresses.PathAddress.{PathAddress}
 use Rattle.live_parts.specs.Addresses.{path_addresses, row_addresses}
 

@@ -3,14 +3,14 @@ use Rattle.std.proofs.Common.{◌≡◌, inl, inr, ◌<◌, ◌≤◌, ◌+◌, 
 use Rattle.std.proofs.lemmas.Bool.{cases_lt}
 use Rattle.std.proofs.lemmas.List.{append-nil, drop_all}
 use Rattle.rtp_stream.specs.declared.stream_spec.Stream.{Stream}
-use Rattle.studio_spec.specs.Ports.{port_at}
-use Rattle.studio_spec.specs.Rows.{first_of}
-use Rattle.studio_spec.specs.Studio.{Studio}
-use Rattle.studio_spec.specs.declared.ports.Ports.{Ports}
-use Rattle.studio_spec.specs.declared.config.keys.Key.{Key}
-use Rattle.studio_spec.specs.declared.config.keys.Key.TheVariants as key
-use Rattle.studio_spec.specs.declared.config.fault.Place.TheVariants as place
-use Rattle.studio_spec.specs.declared.config.fault.SpecError.{SpecError}
+use Rattle.studio_config.specs.Ports.{port_at}
+use Rattle.studio_config.specs.Rows.{first_of}
+use Rattle.studio_config.specs.Studio.{Studio}
+use Rattle.studio_config.specs.declared.ports.Ports.{Ports}
+use Rattle.studio_config.specs.declared.config.keys.Key.{Key}
+use Rattle.studio_config.specs.declared.config.keys.Key.TheVariants as key
+use Rattle.studio_config.specs.declared.config.fault.Place.TheVariants as place
+use Rattle.studio_config.specs.declared.config.fault.SpecError.{SpecError}
 use Rattle.live_parts.specs.Ports.{AreSaid, Need, first_missing, missing_at, missing_in, needs_of, output_needs, path_need, path_needs, port_key, row_needs}
 
 -- some were said, and then others

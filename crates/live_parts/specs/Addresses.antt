@@ -2,9 +2,9 @@
 use Rattle.std.specs.Prelude.{ℕ, zero, suc, List, [], ◌∷◌, ◌++◌, unwrap_or}
 use Rattle.std.specs.declared.net.ipv4_addr.Ipv4Addr.{Ipv4Addr}
 use Rattle.rtp_stream.specs.declared.stream_spec.Stream.{Stream}
-use Rattle.studio_spec.specs.Networks.{path_address}
-use Rattle.studio_spec.specs.Studio.{Studio}
-use Rattle.studio_spec.specs.declared.networks.Networks.{Networks}
+use Rattle.studio_config.specs.Networks.{path_address}
+use Rattle.studio_config.specs.Studio.{Studio}
+use Rattle.studio_config.specs.declared.networks.Networks.{Networks}
 use Rattle.live_parts.specs.declared.addresses.PathAddress.{PathAddress}
 
 -- 127.0.0.1

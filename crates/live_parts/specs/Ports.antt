@@ -1,15 +1,15 @@
 -- The ports that a live run needs.
 use Rattle.std.specs.Prelude.{◌≡◌, ℕ, zero, suc, List, [], ◌∷◌, ◌++◌, map, Option, Some, None}
 use Rattle.rtp_stream.specs.declared.stream_spec.Stream.{Stream}
-use Rattle.studio_spec.specs.Ports.{port_at}
-use Rattle.studio_spec.specs.Rows.{first_in}
-use Rattle.studio_spec.specs.Studio.{Studio}
-use Rattle.studio_spec.specs.declared.config.keys.Key.{Key}
-use Rattle.studio_spec.specs.declared.config.keys.Key.TheVariants as key
-use Rattle.studio_spec.specs.declared.config.fault.Place.{Place}
-use Rattle.studio_spec.specs.declared.config.fault.Place.TheVariants as place
-use Rattle.studio_spec.specs.declared.config.fault.Kind.TheVariants as kind
-use Rattle.studio_spec.specs.declared.config.fault.SpecError.{SpecError}
+use Rattle.studio_config.specs.Ports.{port_at}
+use Rattle.studio_config.specs.Rows.{first_in}
+use Rattle.studio_config.specs.Studio.{Studio}
+use Rattle.studio_config.specs.declared.config.keys.Key.{Key}
+use Rattle.studio_config.specs.declared.config.keys.Key.TheVariants as key
+use Rattle.studio_config.specs.declared.config.fault.Place.{Place}
+use Rattle.studio_config.specs.declared.config.fault.Place.TheVariants as place
+use Rattle.studio_config.specs.declared.config.fault.Kind.TheVariants as kind
+use Rattle.studio_config.specs.declared.config.fault.SpecError.{SpecError}
 use Rattle.live_parts.specs.declared.ports.LivePorts.{LivePorts}
 
 -- a port that is needed: where the configuration says it, and which it is, if it does

@@ -5,7 +5,7 @@ ghost use Rattle.live_parts.specs.Addresses.{addresses_of, row_addresses};
 use rtp_stream::Path;
 use std::alloc::{AllocError, Global};
 use std::net::Ipv4Addr;
-use studio_spec::{Networks, StudioSpec};
+use studio_config::{Networks, StudioSpec};
 
 /// Where a path's datagrams come in, and where from.
 #[derive(Clone, Copy, Debug, PartialEq, Eq)]

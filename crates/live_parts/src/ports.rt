@@ -1,12 +1,12 @@
 //! The ports that a live run needs.
 ghost use Rattle.std.specs.Prelude.{◌≡◌, ◌++◌, ◌<◌, ℕ, List, Some, None, OnOk, IfOk, IfErr, ◌⊎◌};
-ghost use Rattle.studio_spec.specs.Config.{no_memory};
-ghost use Rattle.studio_spec.specs.declared.config.fault.Place.TheVariants as place;
+ghost use Rattle.studio_config.specs.Config.{no_memory};
+ghost use Rattle.studio_config.specs.declared.config.fault.Place.TheVariants as place;
 ghost use Rattle.live_parts.specs.Ports.{AreSaid, HasPorts, first_missing, missing_at, needs_of, path_needs, port_key, row_needs};
 
 use rtp_stream::{Path, StreamSpec};
 use std::alloc::Global;
-use studio_spec::{Key, Kind, Place, Ports, SpecError, StudioSpec};
+use studio_config::{Key, Kind, Place, Ports, SpecError, StudioSpec};
 
 /// Where each path of each stream comes in, stream by stream and path by path, and where the output's
 /// two copies go.

@@ -4,7 +4,7 @@ ghost use Rattle.std.specs.Prelude.{pos, ◌≤ℤ◌};
 use crate::clock::SystemClock;
 use crate::options::LiveOptions;
 use std::time::{Clock, Duration};
-use studio_spec::StudioSpec;
+use studio_config::StudioSpec;
 
 /// When a run began, and when it is to end.
 #[derive(Clone, Copy)]

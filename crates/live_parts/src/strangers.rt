@@ -3,7 +3,7 @@
 use std::alloc::{AllocError, Global};
 use std::net::{IpAddr, Ipv4Addr, SocketAddr};
 use std::sync::atomic::{AtomicU64, Ordering};
-use studio_spec::StudioSpec;
+use studio_config::StudioSpec;
 
 /// How many datagrams each path got from elsewhere than its source, stream by stream and path by path.
 #[derive(Drop)]

@@ -1,6 +1,6 @@
 -- What a live run comes to, and why it may not begin.
 use Rattle.std.specs.Prelude.{◌≡◌, true, false, Bool, ℕ, ℤ, List, None, length, map}
-use Rattle.studio_spec.specs.Studio.{Studio}
+use Rattle.studio_config.specs.Studio.{Studio}
 use Rattle.run_devices.specs.Answers.{Answer}
 use Rattle.run_devices.specs.Balances.{Balances}
 use Rattle.single_workers.specs.Runs.{IsSettledRun}

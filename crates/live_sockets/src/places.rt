@@ -4,7 +4,7 @@ use crate::sockets::Sockets;
 use std::io;
 use std::io::Write;
 use std::ops::Range;
-use studio_spec::StudioSpec;
+use studio_config::StudioSpec;
 
 /// Writes where each path is received and where the mix's two copies go, as ` 0a=ADDRESS:PORT .. to_a=.. to_b=..`.
 pub fn write_places<W: Write>(

@@ -8,7 +8,7 @@ use run_devices::{SendAnswer, Sink};
 use std::io::ErrorKind;
 use std::net::{Ipv4Addr, Net, SocketAddr};
 use std::{io, net};
-use studio_spec::Senders;
+use studio_config::Senders;
 
 /// A socket that sends to one address and port.
 #[derive(Drop)]

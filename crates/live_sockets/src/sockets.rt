@@ -7,7 +7,7 @@ use std::alloc::Global;
 use std::io;
 use std::io::ErrorKind;
 use std::net::{Ipv4Addr, Net, SocketAddrV4, UdpSocket};
-use studio_spec::StudioSpec;
+use studio_config::StudioSpec;
 
 /// The sockets of a run.
 #[derive(Drop)]

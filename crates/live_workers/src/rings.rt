@@ -5,8 +5,8 @@ ghost use Rattle.live_run.specs.Run.{IsEarly};
 
 use live_run::LiveFault;
 use std::alloc::Global;
+use studio_config::StudioSpec;
 use studio_rings::{Ends, OpenFault, Watches, open, open_watched};
-use studio_spec::StudioSpec;
 
 /// How many places each ring has.
 const PLACES: usize = 256;

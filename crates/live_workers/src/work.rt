@@ -10,8 +10,8 @@ use std::alloc::{AllocError, Global};
 use std::sync::Wait;
 use std::thread::Threads;
 use std::time::Clock;
+use studio_config::StudioSpec;
 use studio_rings::Ends;
-use studio_spec::StudioSpec;
 use studio_workers::{WorkReport, run_workers};
 
 /// What the workers are started from.

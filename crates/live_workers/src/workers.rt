@@ -18,8 +18,8 @@ use std::io::Write;
 use std::sync::Wait;
 use std::thread::Threads;
 use std::time::Clock;
+use studio_config::StudioSpec;
 use studio_rings::Watches;
-use studio_spec::StudioSpec;
 
 /// Runs a studio's workers, and the watcher beside them. It returns once all have ended; all memory but the workers' is taken
 /// before the first thread starts.

@@ -6,7 +6,7 @@ use Rattle.capture_write.specs.Arrival.{ArrivalView}
 use Rattle.capture_write.specs.Blocks.{closing_block, datagram_block, interface_block, section_block}
 use Rattle.capture_write.specs.Times.{nanoseconds_in_64}
 use Rattle.rtp_stream.specs.declared.stream_spec.Stream.{Stream}
-use Rattle.studio_spec.specs.Studio.{Studio}
+use Rattle.studio_config.specs.Studio.{Studio}
 use Rattle.run_record.specs.declared.block_end.BlockEnd.{BlockEnd}
 use Rattle.run_record.specs.declared.way.Way.{Way}
 

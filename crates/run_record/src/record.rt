@@ -5,7 +5,7 @@ use crate::recorder::Recorder;
 use rtrb::RingBuffer;
 use std::alloc::{AllocError, Global};
 use std::io::Write;
-use studio_spec::StudioSpec;
+use studio_config::StudioSpec;
 
 /// How many octets the ring of a record holds.
 const RING_OCTETS: usize = 8 << 20;

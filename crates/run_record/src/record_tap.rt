@@ -9,7 +9,7 @@ use crate::way::Way;
 use capture_write::{Arrival, MOST_OCTETS, nanoseconds_after};
 use rtp_stream::StreamSpec;
 use rtrb::Producer;
-use studio_spec::StudioSpec;
+use studio_config::StudioSpec;
 
 /// The letter of a stream's first path.
 const FIRST: u8 = b'a';

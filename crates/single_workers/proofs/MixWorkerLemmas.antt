@@ -4,7 +4,7 @@ use Rattle.rtrb.specs.Ring.{SameConsumer}
 use Rattle.rtrb.specs.declared.consumer.Consumer.{Consumer}
 use Rattle.rtp_stream.specs.MarkFacts.{MarkView}
 use Rattle.mix_packets.specs.OutSpec.{datagram_length}
-use Rattle.studio_spec.specs.Studio.{Studio}
+use Rattle.studio_config.specs.Studio.{Studio}
 use Rattle.studio_rings.specs.Mixes.{AllTakeSome}
 use Rattle.studio_rings.specs.MixEnds.{MixHasFeeds, MixesBlock}
 use Rattle.studio_rings.specs.Datagrams.{AreAllGiven, HasGiven, given_after}

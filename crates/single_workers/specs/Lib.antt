@@ -11,7 +11,7 @@ pub use Rattle.rtp_stream.specs.History
 pub use Rattle.rtp_stream.specs.Marks
 pub use Rattle.rtp_stream.specs.Counts
 pub use Rattle.rtp_stream.specs.PathCounts
-pub use Rattle.studio_spec.specs.Studio
+pub use Rattle.studio_config.specs.Studio
 pub use Rattle.studio_mix.specs.Feed
 pub use Rattle.studio_mix.specs.Blocks
 pub use Rattle.studio_rings.specs.Streams

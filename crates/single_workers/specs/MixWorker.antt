@@ -2,7 +2,7 @@
 use Rattle.std.specs.Prelude.{◌≡◌, ℕ, ◌+◌, ◌<◌, ◌^◌, Bool, true, List, [], ◌∷◌, ◌++◌, length, Option}
 use Rattle.rtrb.specs.Ring.{SameConsumer}
 use Rattle.rtp_stream.specs.MarkFacts.{MarkView}
-use Rattle.studio_spec.specs.Studio.{Studio}
+use Rattle.studio_config.specs.Studio.{Studio}
 use Rattle.studio_rings.specs.Datagrams.{AreAllGiven, HasGiven}
 use Rattle.studio_rings.specs.declared.side.Side.{Side}
 use Rattle.studio_rings.specs.declared.mix_end.MixEnd.{MixEnd}

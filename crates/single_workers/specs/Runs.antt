@@ -6,7 +6,7 @@ use Rattle.rtp_stream.specs.Marks.{marks_of}
 use Rattle.rtp_stream.specs.Counts.{counts_of, tally_of}
 use Rattle.rtp_stream.specs.declared.event.Event.{Event}
 use Rattle.rtp_stream.specs.declared.event.Event.TheVariants.{Close}
-use Rattle.studio_spec.specs.Studio.{Studio}
+use Rattle.studio_config.specs.Studio.{Studio}
 use Rattle.studio_mix.specs.Feed.{Feed}
 use Rattle.studio_mix.specs.Blocks.{AreBlocks}
 use Rattle.rtp_stream.specs.PathCounts.{empty_path_tally, path_tally_of}

@@ -2,7 +2,7 @@
 use Rattle.std.proofs.Common.{◌≡◌, ℕ, ◌≤◌, ◌<◌, List, length, Some, slice_get, arith}
 use Rattle.std.proofs.lemmas.Option.{slice_get_within}
 use Rattle.rtp_stream.specs.declared.stream_spec.Stream.{Stream}
-use Rattle.studio_spec.specs.Studio.{Studio}
+use Rattle.studio_config.specs.Studio.{Studio}
 use Rattle.studio_session.specs.Event.{TraceEvent}
 use Rattle.studio_engine.specs.Engine.{EngineState}
 use Rattle.studio_engine.specs.Session.{HasSession}

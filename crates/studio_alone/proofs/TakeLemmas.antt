@@ -6,7 +6,7 @@ use Rattle.std.proofs.Math.ListN.{set}
 use Rattle.std.proofs.lemmas.Bool.{cases_eq}
 use Rattle.std.proofs.lemmas.List.{get_or-set_other, length-set}
 use Rattle.std.proofs.lemmas.Option.{get_or_from_slice_get, slice_get_read, slice_get_within}
-use Rattle.studio_spec.specs.Studio.{Studio}
+use Rattle.studio_config.specs.Studio.{Studio}
 use Rattle.studio_session.specs.Event.{TraceEvent, Arrival}
 use Rattle.studio_session.specs.Fault.{time_at}
 use Rattle.studio_session.proofs.PlayLemmas.{set_here}

@@ -5,7 +5,7 @@ pub mod Sends
 pub mod Runs
 pub use Rattle.mix_packets.specs.OutSpec
 pub use Rattle.path_merge.specs.Clock
-pub use Rattle.studio_spec.specs.Studio
+pub use Rattle.studio_config.specs.Studio
 pub use Rattle.studio_session.specs.Event
 pub use Rattle.studio_session.specs.Report
 pub use Rattle.studio_engine.specs.Engine

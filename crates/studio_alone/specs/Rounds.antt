@@ -1,6 +1,6 @@
 -- The rounds of a run: what the clock told, and what arrived by then.
 use Rattle.std.specs.Prelude.{◌≡◌, ℕ, ◌≤◌, Bool, true, false, ◌&&◌, nat_eq, List, [], ◌∷◌, ◌++◌, length, map, flat_map, ℤ, if◌then◌else◌}
-use Rattle.studio_spec.specs.Studio.{Studio}
+use Rattle.studio_config.specs.Studio.{Studio}
 use Rattle.studio_session.specs.Event.{TraceEvent, Arrival, Reading, Closing}
 use Rattle.studio_engine.specs.Session.{turned}
 use Rattle.run_devices.specs.Clocks.{time_with}

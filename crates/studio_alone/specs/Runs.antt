@@ -1,6 +1,6 @@
 -- What a run in one thread comes to.
 use Rattle.std.specs.Prelude.{◌≡◌, ℕ, ◌<◌, ◌^◌, true, None, List, [], ◌∷◌, ◌++◌, length, slice_get, ℤ, Option, Some}
-use Rattle.studio_spec.specs.Studio.{Studio}
+use Rattle.studio_config.specs.Studio.{Studio}
 use Rattle.studio_session.specs.Fault.{session_fault_of}
 use Rattle.studio_session.specs.Report.{AreCounts}
 use Rattle.studio_session.specs.Run.{AreDatagrams}

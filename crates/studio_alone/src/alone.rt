@@ -1,6 +1,6 @@
 //! A studio in one thread.
 ghost use Rattle.std.specs.Prelude.{◌≡◌, ℕ, ℤ, List, Option, true, map, IfOk};
-ghost use Rattle.studio_spec.specs.Studio.{Studio};
+ghost use Rattle.studio_config.specs.Studio.{Studio};
 ghost use Rattle.run_devices.specs.Answers.{Answer};
 ghost use Rattle.run_devices.specs.Balances.{Balances};
 ghost use Rattle.studio_alone.specs.Runs.{IsDone, IsSettledRun, IsUnderWay};
@@ -16,8 +16,8 @@ use crate::tap::Tap;
 use run_devices::{Clock, Feed, SendCounts, Sink, WorkReport};
 use std::alloc::{AllocError, Global};
 use std::sync::Wait;
+use studio_config::StudioSpec;
 use studio_engine::Engine;
-use studio_spec::StudioSpec;
 
 /// Runs a studio in this thread until all feeds have ended and all datagrams were sent.
 ///

@@ -1,6 +1,6 @@
 //! All that a run in one thread moves, round by round.
 ghost use Rattle.std.specs.Prelude.{◌≡◌, ◌≤ℤ◌, pos, ◌^◌, ℕ, ℤ, List, Option, None, length, IfOk, OnOk};
-ghost use Rattle.studio_spec.specs.Studio.{Studio};
+ghost use Rattle.studio_config.specs.Studio.{Studio};
 ghost use Rattle.run_devices.specs.Answers.{Answer};
 ghost use Rattle.run_devices.specs.Clocks.{time_with};
 ghost use Rattle.studio_alone.specs.Runs.{IsTurned, IsUnderWay};

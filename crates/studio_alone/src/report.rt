@@ -2,7 +2,7 @@
 ghost use Rattle.std.specs.Prelude.{◌≡◌, ◌<◌, ℕ, List, Some, slice_get, IfOk};
 ghost use Rattle.rtp_stream.specs.declared.stream_spec.Stream.{Stream};
 ghost use Rattle.rtp_stream.specs.PathCounts.{tallies_of};
-ghost use Rattle.studio_spec.specs.Studio.{Studio};
+ghost use Rattle.studio_config.specs.Studio.{Studio};
 ghost use Rattle.studio_session.specs.Counts.{path_tallies};
 ghost use Rattle.studio_session.specs.Event.{TraceEvent};
 ghost use Rattle.studio_session.specs.Report.{AreCounts, AreCountsOf};

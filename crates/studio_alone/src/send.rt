@@ -1,7 +1,7 @@
 //! The engine's datagrams, handed to the sink.
 ghost use Rattle.std.specs.Prelude.{◌≡◌, ℕ, List, None, OnOk};
 ghost use Rattle.path_merge.specs.Clock.{clock_fault_of};
-ghost use Rattle.studio_spec.specs.Studio.{Studio};
+ghost use Rattle.studio_config.specs.Studio.{Studio};
 ghost use Rattle.studio_session.specs.Event.{TraceEvent};
 ghost use Rattle.studio_engine.specs.Session.{HasSession, turned};
 ghost use Rattle.studio_alone.specs.Sends.{HasSent};

@@ -1,6 +1,6 @@
 //! The end of a run.
 ghost use Rattle.std.specs.Prelude.{◌≡◌, ℕ, ℤ, List, Option, IsTrue};
-ghost use Rattle.studio_spec.specs.Studio.{Studio};
+ghost use Rattle.studio_config.specs.Studio.{Studio};
 ghost use Rattle.run_devices.specs.Answers.{Answer};
 ghost use Rattle.studio_alone.specs.Runs.{IsDone, IsUnderWay};
 ghost use Rattle.studio_alone.specs.Takes.{AllEnded};

@@ -1,6 +1,6 @@
 //! What the feeds have, handed to the engine.
 ghost use Rattle.std.specs.Prelude.{◌≡◌, ℕ, List, length, IfOk, OnOk};
-ghost use Rattle.studio_spec.specs.Studio.{Studio};
+ghost use Rattle.studio_config.specs.Studio.{Studio};
 ghost use Rattle.studio_session.specs.Event.{TraceEvent};
 ghost use Rattle.studio_engine.specs.Session.{HasSession};
 ghost use Rattle.studio_alone.specs.Takes.{Takes, TakesAll, TakesStream};

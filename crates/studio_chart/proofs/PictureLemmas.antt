@@ -1,6 +1,6 @@
 -- Why a trace was not drawn.
 use Rattle.std.proofs.Common.{ℕ, List, Option}
-use Rattle.studio_spec.specs.Studio.{Studio}
+use Rattle.studio_config.specs.Studio.{Studio}
 use Rattle.studio_run.specs.Play.{FailsOf}
 use Rattle.studio_run.specs.StudioReport.{IsReport}
 use Rattle.studio_run.specs.declared.player.PlayFault.{PlayFault}

@@ -9,8 +9,8 @@ use crate::streams::Streams;
 use crate::svg::{FOOT_HEIGHT, HEAD_HEIGHT, push_foot, push_head};
 use std::alloc::{AllocError, Global};
 use std::io::{Read, Write};
+use studio_config::StudioSpec;
 use studio_run::{PlayFault, TracedEvents, read_all, runnable_events, write_text};
-use studio_spec::StudioSpec;
 
 /// Reads a trace to its end, and writes the picture of it, as an SVG. All memory is taken before the first write.
 pub fn chart<R: Read, W: Write>(

@@ -6,8 +6,8 @@ use crate::observer::Observer;
 use crate::watch::{Watch, watch_stream};
 use path_merge::Path;
 use std::alloc::{AllocError, Global};
+use studio_config::StudioSpec;
 use studio_session::EventSource;
-use studio_spec::StudioSpec;
 
 /// The most streams of a studio.
 const MOST_STREAMS: u8 = 16;

@@ -7,10 +7,10 @@ use crate::sighting::{Copied, Kind, Sighting};
 use path_merge::{Fate, MarkKindRef, PacketRef, Path};
 use rtp_stream::{StreamSpec, is_taken};
 use std::alloc::{AllocError, Global};
+use studio_config::StudioSpec;
 use studio_session::{
     Cursor, EventSource, MOST_ARRIVAL_OCTETS, Outline, Receipt, ReceptionRef, receive_ref,
 };
-use studio_spec::StudioSpec;
 
 /// The media time of one packet of an epoch, by which those of its others are known.
 #[derive(Clone, Copy)]

@@ -15,8 +15,8 @@ use std::rt::Env;
 use std::sync::Wait;
 use std::thread::Threads;
 use std::time::{Clock, Duration};
+use studio_config::StudioSpec;
 use studio_live::{LiveFault, run_studio_live};
-use studio_spec::StudioSpec;
 
 /// A studio, and what the system's monotonic clock reads at its opening time.
 #[derive(Drop)]

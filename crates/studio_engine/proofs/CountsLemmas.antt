@@ -14,7 +14,7 @@ use Rattle.path_merge.specs.Merge.{HasHistory}
 use Rattle.path_merge.proofs.MarkListLemmas.{listed}
 use Rattle.lane_align.proofs.LawLemmas.{end_stays}
 use Rattle.lane_align.proofs.MarkListLemmas.{both_left, both_right}
-use Rattle.studio_spec.specs.Studio.{Studio}
+use Rattle.studio_config.specs.Studio.{Studio}
 use Rattle.studio_mix.specs.Feed.{Feed}
 use Rattle.studio_mix.specs.Ready.{are_covered, have_ended, is_ready}
 use Rattle.studio_mix.proofs.BlockLemmas.{feed_at}

@@ -45,7 +45,7 @@ use Rattle.lane_align.specs.Cover.{cover_of, cover_to, covers, last_quiet, last_
 use Rattle.lane_align.specs.declared.last_slot.LastSlot.{LastSlot}
 use Rattle.lane_align.proofs.FeedLemmas.{has_end_more, last_quiet_more, last_slot_more}
 use Rattle.mix_packets.specs.Block.{block_start}
-use Rattle.studio_spec.specs.Studio.{Studio}
+use Rattle.studio_config.specs.Studio.{Studio}
 use Rattle.studio_mix.specs.Feed.{Feed}
 use Rattle.studio_mix.specs.Mixer.{HasFeeds, MixerState}
 use Rattle.studio_mix.specs.Ready.{are_covered, block_count, have_ended}

@@ -33,7 +33,7 @@ use Rattle.lane_align.specs.Cover.{cover_of, cover_to, covers, last_quiet, last_
 use Rattle.lane_align.specs.Lane.{LaneState, frames_to, has_room_for, natural}
 use Rattle.lane_align.specs.declared.last_slot.LastSlot.{LastSlot}
 use Rattle.mix_packets.specs.Block.{block_start}
-use Rattle.studio_spec.specs.Studio.{Studio}
+use Rattle.studio_config.specs.Studio.{Studio}
 use Rattle.studio_mix.specs.Feed.{Feed}
 use Rattle.studio_mix.specs.Mixer.{HasFeeds, MixerState, has_room_of, holds_of}
 use Rattle.studio_mix.specs.Ready.{are_covered, have_ended}

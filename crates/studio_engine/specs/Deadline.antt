@@ -1,6 +1,6 @@
 -- Until when no datagram comes, if nothing arrives.
 use Rattle.std.specs.Prelude.{◌≡◌, ℕ, ◌*◌, Bool, true, false, List, [], ◌∷◌, ◌++◌, map, ℤ, pos, ◌+ℤ◌, ◌≤ℤ◌, ◌<ℤ◌, Option, Some, None}
-use Rattle.studio_spec.specs.Studio.{Studio}
+use Rattle.studio_config.specs.Studio.{Studio}
 use Rattle.studio_mix.specs.Mixer.{MixerState}
 use Rattle.studio_mix.specs.Ready.{is_ready}
 use Rattle.studio_session.specs.Event.{TraceEvent, Reading}

@@ -1,7 +1,7 @@
 -- The next datagram of the events so far.
 use Rattle.std.specs.Prelude.{◌≡◌, ℕ, true, false, List, [], ◌∷◌, ◌++◌, length, drop}
 use Rattle.mix_packets.specs.OutSpec.{datagram_length}
-use Rattle.studio_spec.specs.Studio.{Studio}
+use Rattle.studio_config.specs.Studio.{Studio}
 use Rattle.studio_mix.specs.Feed.{Feed}
 use Rattle.studio_mix.specs.Ready.{have_ended, is_ready}
 use Rattle.studio_session.specs.Event.{TraceEvent}

@@ -8,7 +8,7 @@ pub use Rattle.rtp_stream.specs.PathCounts
 pub use Rattle.rtp_stream.specs.Counts as MergeCounts
 pub use Rattle.path_merge.specs.Clock
 pub use Rattle.mix_packets.specs.OutSpec
-pub use Rattle.studio_spec.specs.Studio
+pub use Rattle.studio_config.specs.Studio
 pub use Rattle.studio_mix.specs.Mixer
 pub use Rattle.studio_mix.specs.Feed
 pub use Rattle.studio_mix.specs.Ready

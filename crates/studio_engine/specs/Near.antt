@@ -1,7 +1,7 @@
 -- How near the marks of a studio's streams lie to one another: why the room of its lanes is enough.
 use Rattle.std.specs.Prelude.{◌≡◌, ℕ, true, false, List, map, slice_get, Some, All}
 use Rattle.rtp_stream.specs.declared.stream_spec.Stream.{Stream}
-use Rattle.studio_spec.specs.Studio.{Studio}
+use Rattle.studio_config.specs.Studio.{Studio}
 use Rattle.studio_mix.specs.Mixer.{MixerState, has_room_of}
 use Rattle.studio_mix.specs.Ready.{is_ready}
 use Rattle.studio_mix.specs.Room.{room_of, rooms_of}

@@ -2,7 +2,7 @@
 use Rattle.std.specs.Prelude.{◌≡◌, ℕ, Bool, true, false, List, [], ◌∷◌, ◌++◌, length, drop, ℤ, None, if◌then◌else◌}
 use Rattle.std.specs.Ordering.{int_eq}
 use Rattle.mix_packets.specs.OutSpec.{datagram_length}
-use Rattle.studio_spec.specs.Studio.{Studio}
+use Rattle.studio_config.specs.Studio.{Studio}
 use Rattle.studio_mix.specs.Ready.{is_ready}
 use Rattle.studio_session.specs.Event.{TraceEvent, Reading, Closing}
 use Rattle.studio_session.specs.Fault.{closed_at, session_fault_of, time_at}

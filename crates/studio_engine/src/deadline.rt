@@ -1,7 +1,7 @@
 //! The reading before which no datagram comes.
 ghost use Rattle.std.specs.Prelude.{◌≡◌, ℕ, ◌%◌, ◌<◌, ◌^◌, ◌+◌, ◌-ℤ◌, ◌+ℤ◌, ◌<ℤ◌, ◌≤ℤ◌, pos, nat_eq, unsigned_abs, List, length, None, IfSome};
 ghost use Rattle.path_merge.specs.Steps.{next_deadline_of};
-ghost use Rattle.studio_spec.specs.Studio.{Studio};
+ghost use Rattle.studio_config.specs.Studio.{Studio};
 ghost use Rattle.studio_session.specs.Event.{TraceEvent};
 ghost use Rattle.studio_engine.specs.Deadline.{IsAtRest, IsNotPast, IsUnreadyBefore};
 

@@ -3,7 +3,7 @@ ghost use Rattle.std.specs.Prelude.{◌≡◌, ◌⊎◌, ℕ, ◌+◌, ◌^◌,
 ghost use Rattle.rtp_stream.specs.declared.stream_spec.Stream.{Stream};
 ghost use Rattle.mix_packets.specs.OutSpec.{datagram_length};
 ghost use Rattle.path_merge.specs.Clock.{clock_fault_of};
-ghost use Rattle.studio_spec.specs.Studio.{Studio};
+ghost use Rattle.studio_config.specs.Studio.{Studio};
 ghost use Rattle.studio_session.specs.Event.{TraceEvent, Arrival, Reading, Closing};
 ghost use Rattle.studio_mix.specs.Saturated.{AreSaturated};
 ghost use Rattle.studio_session.specs.Play.{feeds_of};
@@ -27,9 +27,9 @@ use path_merge::{ClockFault, Counts, Path, clock_fault};
 use rtp_stream::PathCounts;
 use std::alloc::{AllocError, Global};
 use std::marker::Model;
+use studio_config::StudioSpec;
 use studio_mix::Mixer;
 use studio_session::{Cursor, Receipt, is_runnable, studio_cursors};
-use studio_spec::StudioSpec;
 
 /// No more arrivals are taken once so many events were.
 const MOST_EVENTS: usize = 4_611_686_018_427_387_904;

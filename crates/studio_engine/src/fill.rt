@@ -1,7 +1,7 @@
 //! The next datagram, and the marks that its block needs, handed on stream by stream.
 ghost use Rattle.std.specs.Prelude.{◌≡◌, ℕ, ◌<◌, ◌≤◌, List, length, None, IfSome};
 ghost use Rattle.mix_packets.specs.OutSpec.{datagram_length};
-ghost use Rattle.studio_spec.specs.Studio.{Studio};
+ghost use Rattle.studio_config.specs.Studio.{Studio};
 ghost use Rattle.studio_mix.specs.Room.{rooms_of};
 ghost use Rattle.studio_session.specs.Event.{TraceEvent};
 ghost use Rattle.studio_session.specs.Handed.{HaveTaken};

@@ -1,6 +1,6 @@
 //! Laws of what an engine gave. Nothing is computed here: the clauses are the laws.
 ghost use Rattle.std.specs.Prelude.{◌≡◌, ℕ, List, true};
-ghost use Rattle.studio_spec.specs.Studio.{Studio};
+ghost use Rattle.studio_config.specs.Studio.{Studio};
 ghost use Rattle.studio_mix.specs.Blocks.{AreFirstBlocks};
 ghost use Rattle.studio_session.specs.Event.{TraceEvent};
 ghost use Rattle.studio_session.specs.Play.{feeds_of};

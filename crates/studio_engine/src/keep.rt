@@ -1,6 +1,6 @@
 //! The marks that no block needs yet, kept stream by stream, so that every merge comes to the reading.
 ghost use Rattle.std.specs.Prelude.{◌≡◌, ℕ, ◌<◌, ◌≤◌, List, length, true, false, None, IfSome};
-ghost use Rattle.studio_spec.specs.Studio.{Studio};
+ghost use Rattle.studio_config.specs.Studio.{Studio};
 ghost use Rattle.studio_mix.specs.Feed.{Feed};
 ghost use Rattle.studio_mix.specs.Mixer.{has_room_of};
 ghost use Rattle.studio_mix.specs.Room.{rooms_of};

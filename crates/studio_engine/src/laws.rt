@@ -1,7 +1,7 @@
 //! A law of marks and room.
 ghost use Rattle.std.specs.Prelude.{◌≡◌, ℕ, ◌<◌, ◌≤◌, List, length, true, Some};
 ghost use Rattle.rtp_stream.specs.MarkFacts.{MarkView};
-ghost use Rattle.studio_spec.specs.Studio.{Studio};
+ghost use Rattle.studio_config.specs.Studio.{Studio};
 ghost use Rattle.studio_mix.specs.Feed.{Feed};
 ghost use Rattle.studio_mix.specs.Mixer.{HasFeeds, MixerState, has_room_of};
 ghost use Rattle.studio_session.specs.Event.{TraceEvent};

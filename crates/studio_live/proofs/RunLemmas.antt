@@ -1,7 +1,7 @@
 -- What a live run wrote.
 use Rattle.std.proofs.Common.{◌≡◌, refl, sym, subst, Bool, ℕ, List, Option, Result, Ok, Err}
 use Rattle.std.specs.Prelude.{IfErr, IsErrAnd}
-use Rattle.studio_spec.specs.Studio.{Studio}
+use Rattle.studio_config.specs.Studio.{Studio}
 use Rattle.studio_live.specs.Run.{BreaksOffRun, FailsRun}
 use Rattle.live_run.specs.Run.{IsEarly}
 use Rattle.live_run.specs.declared.fault.LiveFault.{LiveFault}

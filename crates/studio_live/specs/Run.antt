@@ -1,7 +1,7 @@
 -- What a live run writes, and why it may not.
 use Rattle.std.specs.Prelude.{◌≡◌, false, Bool, ℕ, List, [], Option}
 use Rattle.std.specs.Io.KnownBytes.{Appends}
-use Rattle.studio_spec.specs.Studio.{Studio}
+use Rattle.studio_config.specs.Studio.{Studio}
 use Rattle.studio_run.specs.Buffer.{BreaksOff}
 use Rattle.run_devices.specs.declared.report.WorkReport.{WorkReport}
 use Rattle.live_parts.specs.Report.{report_text}

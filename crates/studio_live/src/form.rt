@@ -20,7 +20,7 @@ use std::random::RandomSource;
 use std::sync::Wait;
 use std::thread::Threads;
 use std::time::Clock;
-use studio_spec::StudioSpec;
+use studio_config::StudioSpec;
 
 /// What a run is started from, beside its studio.
 #[derive(Drop)]

@@ -12,8 +12,8 @@ use std::random::RandomSource;
 use std::sync::Wait;
 use std::thread::Threads;
 use std::time::Clock;
+use studio_config::StudioSpec;
 use studio_run::TextBuffer;
-use studio_spec::StudioSpec;
 
 /// Runs a studio on the sockets that were handed over, and others at its addresses, until its feeds have ended, and
 /// then writes the report. Beside the workers, or the one thread, a watcher ends the feeds as the options say, or

@@ -24,7 +24,7 @@ use Rattle.lane_align.proofs.LawLemmas.{values_stay, cover_stays, end_stays}
 use Rattle.mix_packets.specs.declared.out_spec.Output.{Output}
 use Rattle.mix_packets.specs.OutSpec.{shift_of}
 use Rattle.mix_packets.specs.Block.{block_start, block_datagram}
-use Rattle.studio_spec.specs.Studio.{Studio}
+use Rattle.studio_config.specs.Studio.{Studio}
 use Rattle.studio_mix.specs.Feed.{Feed, IsLonger, AreLonger, studio_values}
 use Rattle.studio_mix.specs.Mixed.{mixed_samples}
 use Rattle.studio_mix.specs.Output.{block_samples, datagram_of}

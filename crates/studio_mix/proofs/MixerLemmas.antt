@@ -9,7 +9,7 @@ use Rattle.rtp_stream.specs.MarkFacts.{MarkView}
 use Rattle.lane_align.specs.Lane.{LaneState, HasFeed}
 use Rattle.mix_packets.specs.declared.out_spec.Output.{Output}
 use Rattle.mix_packets.specs.Block.{block_start}
-use Rattle.studio_spec.specs.Studio.{Studio}
+use Rattle.studio_config.specs.Studio.{Studio}
 use Rattle.studio_mix.specs.Feed.{Feed}
 use Rattle.studio_mix.specs.Lanes.{AreFed}
 use Rattle.studio_mix.specs.Mixer.{MixerState, HasFeeds, IsMixer}

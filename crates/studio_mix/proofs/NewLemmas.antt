@@ -11,7 +11,7 @@ use Rattle.std.proofs.lemmas.List.Sums.{sum_by_more, sum_by_push}
 use Rattle.rtp_stream.specs.declared.stream_spec.Stream.{Stream}
 use Rattle.rtp_stream.specs.declared.mark.Format.{Format}
 use Rattle.lane_align.specs.Lane.{LaneState, HasFeed}
-use Rattle.studio_spec.specs.Studio.{channel_total}
+use Rattle.studio_config.specs.Studio.{channel_total}
 use Rattle.studio_mix.specs.Feed.{Feed, unfed}
 use Rattle.studio_mix.specs.Lanes.{AreFed, IsLaneAt, lane_channels}
 use Rattle.studio_mix.specs.Room.{room_beside, rooms_of}

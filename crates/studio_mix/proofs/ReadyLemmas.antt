@@ -21,7 +21,7 @@ use Rattle.mix_packets.specs.Block.{block_start}
 use Rattle.studio_mix.specs.Feed.{Feed}
 use Rattle.studio_mix.specs.Ready.{are_covered, have_ended, greatest_end, block_count, is_ready}
 use Rattle.std.proofs.lemmas.List.Folds.{list_all_at}
-use Rattle.studio_spec.specs.Studio.{Studio}
+use Rattle.studio_config.specs.Studio.{Studio}
 use Rattle.studio_mix.specs.Lanes.{AreFed, IsLaneAt, IsReadyLane, reaches_past}
 use Rattle.studio_mix.specs.Mixer.{MixerState, HasFeeds, IsMixer}
 use Rattle.studio_mix.proofs.MixerLemmas.{block_begin, block_end}

@@ -11,7 +11,7 @@ use Rattle.gain_mix.specs.Gain.{ins_of}
 use Rattle.gain_mix.specs.Saturated.{AreAdded, saturated_at, saturated_count}
 use Rattle.mix_packets.specs.OutSpec.{shift_of}
 use Rattle.mix_packets.specs.Block.{block_start}
-use Rattle.studio_spec.specs.Studio.{Studio}
+use Rattle.studio_config.specs.Studio.{Studio}
 use Rattle.studio_mix.specs.Feed.{Feed, IsLonger, AreLonger, studio_values}
 use Rattle.studio_mix.specs.Lanes.{AreFed}
 use Rattle.studio_mix.specs.Ready.{are_covered}

@@ -8,9 +8,9 @@ use Rattle.rtp_stream.specs.declared.stream_spec.StreamClock.TheVariants.{Media}
 use Rattle.rtp_stream.specs.declared.mark.Body.TheVariants.{Got, Lost}
 use Rattle.rtp_stream.specs.declared.mark.MarkKind.TheVariants.{Slot, Quiet, End}
 use Rattle.mix_packets.specs.declared.out_spec.Output.{Output}
-use Rattle.studio_spec.specs.Networks.{absent_networks}
-use Rattle.studio_spec.specs.Ports.{absent_rows}
-use Rattle.studio_spec.specs.Studio.{Studio}
+use Rattle.studio_config.specs.Networks.{absent_networks}
+use Rattle.studio_config.specs.Ports.{absent_rows}
+use Rattle.studio_config.specs.Studio.{Studio}
 use Rattle.studio_mix.specs.Feed.{Feed}
 use Rattle.studio_mix.specs.Mixed.{mixed_sample}
 use Rattle.studio_mix.specs.Ready.{is_ready, block_count}

@@ -1,6 +1,6 @@
 -- The datagrams of blocks.
 use Rattle.std.specs.Prelude.{◌≡◌, ℕ, nat_lt, true, List, length, slice_get, Some}
-use Rattle.studio_spec.specs.Studio.{Studio}
+use Rattle.studio_config.specs.Studio.{Studio}
 use Rattle.studio_mix.specs.Feed.{Feed}
 use Rattle.studio_mix.specs.Output.{datagram_of}
 use Rattle.studio_mix.specs.Ready.{is_ready}

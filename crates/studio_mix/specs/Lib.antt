@@ -21,5 +21,5 @@ pub use Rattle.gain_mix.specs.Saturated as SaturatedSamples
 pub use Rattle.mix_packets.specs.OutSpec
 pub use Rattle.mix_packets.specs.Block
 pub use Rattle.mix_packets.specs.Packer
-pub use Rattle.studio_spec.specs.Ports
-pub use Rattle.studio_spec.specs.Studio
+pub use Rattle.studio_config.specs.Ports
+pub use Rattle.studio_config.specs.Studio

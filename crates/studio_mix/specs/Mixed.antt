@@ -3,7 +3,7 @@ use Rattle.std.specs.Prelude.{ℕ, ℤ, pos, List, slice_index_or}
 use Rattle.gain_mix.specs.Changes.{matrix_at}
 use Rattle.gain_mix.specs.Mix.{mixed_frame}
 use Rattle.mix_packets.specs.OutSpec.{shift_of}
-use Rattle.studio_spec.specs.Studio.{Studio}
+use Rattle.studio_config.specs.Studio.{Studio}
 use Rattle.studio_mix.specs.Feed.{Feed, studio_values}
 
 -- all channels: each the sum, over all streams and channels, of gain times value, rounded once and saturated once

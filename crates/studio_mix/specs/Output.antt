@@ -2,7 +2,7 @@
 use Rattle.std.specs.Prelude.{ℕ, ℤ, pos, ◌+ℤ◌, List, flat_map}
 use Rattle.std.specs.List.{range_with_len}
 use Rattle.mix_packets.specs.Block.{block_start, block_datagram}
-use Rattle.studio_spec.specs.Studio.{Studio}
+use Rattle.studio_config.specs.Studio.{Studio}
 use Rattle.studio_mix.specs.Feed.{Feed}
 use Rattle.studio_mix.specs.Mixed.{mixed_samples}
 

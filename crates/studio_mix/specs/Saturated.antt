@@ -4,7 +4,7 @@ use Rattle.gain_mix.specs.Changes.{matrix_at}
 use Rattle.gain_mix.specs.Saturated.{saturated_at}
 use Rattle.mix_packets.specs.OutSpec.{shift_of}
 use Rattle.mix_packets.specs.Block.{block_start}
-use Rattle.studio_spec.specs.Studio.{Studio}
+use Rattle.studio_config.specs.Studio.{Studio}
 use Rattle.studio_mix.specs.Feed.{Feed, studio_values}
 use Rattle.studio_mix.specs.Ready.{are_covered}
 

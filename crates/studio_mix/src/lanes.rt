@@ -5,7 +5,7 @@ ghost use Rattle.rtp_wire.specs.PacketTime.{is_packet_time};
 ghost use Rattle.lane_align.specs.Cover.{covers};
 ghost use Rattle.lane_align.specs.Lane.{LaneState, cover_at};
 ghost use Rattle.gain_mix.specs.Mix.{Is24Bits};
-ghost use Rattle.studio_spec.specs.Studio.{channel_total};
+ghost use Rattle.studio_config.specs.Studio.{channel_total};
 ghost use Rattle.studio_mix.specs.Feed.{unfed};
 ghost use Rattle.studio_mix.specs.Room.{room_beside, rooms_of};
 ghost use Rattle.studio_mix.specs.Lanes.{AreFed, AreRead, IsLaneAt, IsReadyLane, lane_channels, reaches_past};

@@ -7,7 +7,7 @@ ghost use Rattle.mix_packets.specs.OutSpec.{datagram_length};
 ghost use Rattle.mix_packets.specs.Block.{block_start};
 ghost use Rattle.studio_mix.specs.Lanes.{IsReadyLane};
 ghost use Rattle.studio_mix.specs.Room.{room_beside, room_of, rooms_of};
-ghost use Rattle.studio_spec.specs.Studio.{Studio};
+ghost use Rattle.studio_config.specs.Studio.{Studio};
 ghost use Rattle.studio_mix.specs.Feed.{Feed, unfed};
 ghost use Rattle.studio_mix.specs.Ready.{is_ready};
 ghost use Rattle.studio_mix.specs.Output.{datagram_of};
@@ -21,7 +21,7 @@ use mix_packets::{OutSpec, Packer};
 use rtp_stream::{Mark, MarkRef};
 use std::alloc::{AllocError, Global};
 use std::marker::Model;
-use studio_spec::StudioSpec;
+use studio_config::StudioSpec;
 
 /// The lanes of a studio's streams, and its output, block by block.
 ///

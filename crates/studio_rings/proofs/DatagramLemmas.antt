@@ -14,7 +14,7 @@ use Rattle.rtp_stream.specs.declared.mark.Format.{Format}
 use Rattle.lane_align.specs.AcceptedMarks.{accepted_after, accepted_marks}
 use Rattle.lane_align.proofs.LawLemmas.{accepted_all, accepted_listed}
 use Rattle.mix_packets.specs.OutSpec.{datagram_length}
-use Rattle.studio_spec.specs.Studio.{Studio}
+use Rattle.studio_config.specs.Studio.{Studio}
 use Rattle.studio_mix.specs.Feed.{AreLonger, Feed, IsLonger}
 use Rattle.studio_mix.specs.Output.{datagram_of}
 use Rattle.studio_mix.specs.Ready.{is_ready}

@@ -1,7 +1,7 @@
 -- What a turn of the mixer's end comes to.
 use Rattle.std.proofs.Common.{◌≡◌, ℕ, ◌+◌, List, ◌++◌, drop, Option, Some, None, is_some, IfSome, refl, sym, subst, arith}
 use Rattle.mix_packets.specs.OutSpec.{datagram_length}
-use Rattle.studio_spec.specs.Studio.{Studio}
+use Rattle.studio_config.specs.Studio.{Studio}
 use Rattle.studio_mix.specs.Feed.{Feed}
 use Rattle.studio_mix.specs.Mixer.{HasFeeds, MixerState}
 use Rattle.studio_mix.specs.Ready.{is_ready}

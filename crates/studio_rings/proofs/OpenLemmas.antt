@@ -10,7 +10,7 @@ use Rattle.path_merge.specs.Merge.{HasHistory}
 use Rattle.rtp_stream.specs.MarkFacts.{MarkView}
 use Rattle.rtp_stream.specs.declared.packet.Packet.{Packet}
 use Rattle.lane_align.specs.AcceptedMarks.{accepted_marks}
-use Rattle.studio_spec.specs.Studio.{Studio}
+use Rattle.studio_config.specs.Studio.{Studio}
 use Rattle.studio_mix.specs.Feed.{Feed, unfed}
 use Rattle.studio_mix.specs.Mixer.{HasFeeds, MixerState}
 use Rattle.studio_rings.specs.Fitting.{fitting}

@@ -4,7 +4,7 @@ use Rattle.rtrb.specs.Ring.{all_sent}
 use Rattle.rtp_stream.specs.StreamSpecFacts.{format_of}
 use Rattle.rtp_stream.specs.MarkFacts.{MarkView}
 use Rattle.rtp_stream.specs.MarkList.{is_mark_list}
-use Rattle.studio_spec.specs.Studio.{Studio}
+use Rattle.studio_config.specs.Studio.{Studio}
 use Rattle.studio_mix.specs.Feed.{Feed}
 use Rattle.studio_mix.specs.Blocks.{AreBlocks, AreFirstBlocks}
 use Rattle.studio_rings.specs.AcceptedFeeds.{accepted_feeds}

@@ -4,7 +4,7 @@ use Rattle.rtrb.specs.Ring.{IsPair, sent, received, known_free}
 use Rattle.rtp_stream.specs.declared.stream_spec.Stream.{Stream}
 use Rattle.rtp_stream.specs.MarkFacts.{MarkView}
 use Rattle.rtp_stream.specs.declared.packet.Packet.{Packet}
-use Rattle.studio_spec.specs.Studio.{Studio}
+use Rattle.studio_config.specs.Studio.{Studio}
 use Rattle.studio_rings.specs.Streams.{StreamHasHistory}
 use Rattle.studio_rings.specs.Datagrams.{HasGiven}
 use Rattle.studio_rings.specs.declared.side.Side.{Side}

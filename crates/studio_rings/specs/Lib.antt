@@ -29,7 +29,7 @@ pub use Rattle.lane_align.specs.AcceptedMarks
 pub use Rattle.lane_align.specs.Cover
 pub use Rattle.mix_packets.specs.OutSpec
 pub use Rattle.mix_packets.specs.Block
-pub use Rattle.studio_spec.specs.Studio
+pub use Rattle.studio_config.specs.Studio
 pub use Rattle.studio_mix.specs.Mixer
 pub use Rattle.studio_mix.specs.Feed
 pub use Rattle.studio_mix.specs.Ready

@@ -2,7 +2,7 @@
 use Rattle.std.specs.Prelude.{◌≡◌, ℕ, ◌+◌, List, ◌++◌, drop, Option, Some, None, is_some, IfSome}
 use Rattle.mix_packets.specs.OutSpec.{datagram_length}
 use Rattle.mix_packets.specs.Block.{block_start}
-use Rattle.studio_spec.specs.Studio.{Studio}
+use Rattle.studio_config.specs.Studio.{Studio}
 use Rattle.studio_mix.specs.Mixer.{HasFeeds}
 use Rattle.studio_mix.specs.Ready.{is_ready}
 use Rattle.studio_mix.specs.Output.{datagram_of}

@@ -1,6 +1,6 @@
 //! Opens the rings of a studio.
 ghost use Rattle.std.specs.Prelude.{◌≡◌, ◌<◌, ◌≤◌, [], List, ◌++◌, IfOk, IfErr, OnOk, length, vec_len, ℤ, pos, ◌≤ℤ◌, ◌^◌};
-ghost use Rattle.studio_spec.specs.Studio.{IsStudio};
+ghost use Rattle.studio_config.specs.Studio.{IsStudio};
 ghost use Rattle.studio_rings.specs.declared.path_end.PathEnd.{PathEnd};
 ghost use Rattle.studio_rings.specs.Datagrams.{HasGiven};
 ghost use Rattle.studio_rings.specs.FreshEnds.{AllFreshPaths, AreFreshRings, AreOpened, IsFreshPath, IsFreshStream, open_fault_of};
@@ -18,8 +18,8 @@ use path_merge::{Merge, StreamSpec};
 use rtp_stream::PathCounts;
 use rtrb::RingBuffer;
 use std::alloc::{AllocError, Global};
+use studio_config::StudioSpec;
 use studio_mix::Mixer;
-use studio_spec::StudioSpec;
 
 /// The ends of some streams, and of their marks' rings.
 #[derive(Drop)]

@@ -1,6 +1,6 @@
 -- Why the listing of a trace and the counts beside it are not both written.
 use Rattle.std.proofs.Common.{inl, inr, ℕ, List, Option}
-use Rattle.studio_spec.specs.Studio.{Studio}
+use Rattle.studio_config.specs.Studio.{Studio}
 use Rattle.studio_session.specs.Event.{TraceEvent}
 use Rattle.studio_run.specs.Play.{IsListing}
 use Rattle.studio_run.specs.CountedListing.{FailsWithCounts, FailsWithCountsOf, ReadsEvents}

@@ -9,7 +9,7 @@ use Rattle.rtp_stream.specs.MarkFacts.{MarkView}
 use Rattle.studio_session.specs.Event.{TraceEvent}
 use Rattle.studio_session.specs.Cursor.{CursorState, HasPulled, IsOnTheWay, IsRunnable}
 use Rattle.studio_session.proofs.CursorLemmas.{mark_of_whole}
-use Rattle.studio_spec.specs.Studio.{Studio}
+use Rattle.studio_config.specs.Studio.{Studio}
 use Rattle.studio_session.specs.Play.{AreNew, stream_marks}
 use Rattle.studio_session.specs.Report.{ArePulled, HasPulledSome}
 use Rattle.studio_mix.proofs.MixerLemmas.{set_other_at, set_same_at}

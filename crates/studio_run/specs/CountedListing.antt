@@ -1,7 +1,7 @@
 -- A listing, and the lines of the counts beside it.
 use Rattle.std.specs.Prelude.{◌≡◌, List, ℕ, [], Option, None, Ok, ◌⊎◌}
 use Rattle.std.specs.Io.KnownBytes.{Appends, Consumes, IsAtEnd}
-use Rattle.studio_spec.specs.Studio.{Studio}
+use Rattle.studio_config.specs.Studio.{Studio}
 use Rattle.studio_session.specs.Event.{TraceEvent}
 use Rattle.studio_session.specs.Fault.{session_fault_of}
 use Rattle.studio_run.specs.Buffer.{BreaksOff}

@@ -1,7 +1,7 @@
 -- The texts of a studio over its events: the listing of its marks, and the lines of its counts.
 use Rattle.std.specs.Prelude.{ℕ, zero, suc, ℤ, List, [], ◌∷◌, ◌++◌, flat_map}
 use Rattle.rtp_stream.specs.declared.stream_spec.Stream.{Stream}
-use Rattle.studio_spec.specs.Studio.{Studio}
+use Rattle.studio_config.specs.Studio.{Studio}
 use Rattle.studio_session.specs.Event.{TraceEvent}
 use Rattle.studio_session.specs.Play.{stream_marks}
 use Rattle.studio_session.specs.Counts.{path_counts_of}

@@ -1,6 +1,6 @@
 -- The report of a studio's events, and how far it was written.
 use Rattle.std.specs.Prelude.{◌≡◌, ℕ, List, ◌++◌, length, Option}
-use Rattle.studio_spec.specs.Studio.{Studio}
+use Rattle.studio_config.specs.Studio.{Studio}
 use Rattle.studio_session.specs.Event.{TraceEvent}
 use Rattle.studio_session.specs.Play.{HasPlayed, SessionState}
 use Rattle.studio_session.specs.Run.{AreDatagrams, HasGivenBlocks}

@@ -10,8 +10,8 @@ use crate::studio_listing::write_whole_listing;
 use crate::traced_events::TracedEvents;
 use std::alloc::Global;
 use std::io::{Read, Write};
+use studio_config::StudioSpec;
 use studio_session::studio_cursors;
-use studio_spec::StudioSpec;
 
 /// Reads a trace to its end, writes the listing of all marks as `list_marks` does, and then the
 /// lines of what became of each path's datagrams and each stream's packets to another writer.

@@ -16,8 +16,8 @@ use crate::trace::{TraceFault, TraceKind};
 use crate::traced_events::TracedEvents;
 use std::alloc::{AllocError, Global};
 use std::io::{Read, Write};
+use studio_config::StudioSpec;
 use studio_session::{Cursor, Session, StudioFault, first_fault, studio_cursors};
-use studio_spec::StudioSpec;
 use thiserror::Error;
 
 /// Why the text of a trace was not written, or only a part of it. They are found in the order Read,

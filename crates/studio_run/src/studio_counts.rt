@@ -1,7 +1,7 @@
 //! The lines of a studio's counts, stream after stream.
 ghost use Rattle.std.specs.Prelude.{ℕ, ℤ, List, All, OnOk, OnErr};
 ghost use Rattle.rtp_stream.specs.declared.stream_spec.Stream.{Stream};
-ghost use Rattle.studio_spec.specs.Studio.{Studio};
+ghost use Rattle.studio_config.specs.Studio.{Studio};
 ghost use Rattle.studio_session.specs.Event.{TraceEvent};
 ghost use Rattle.studio_session.specs.Counts.{AreTallies};
 ghost use Rattle.studio_session.specs.Cursor.{IsReadyFor, IsRunnable};

@@ -2,7 +2,7 @@
 ghost use Rattle.std.specs.Io.KnownBytes.{Appends};
 ghost use Rattle.std.specs.Prelude.{◌≡◌, ℕ, ◌<◌, ◌≤◌, List, [], All, OnOk, OnErr};
 ghost use Rattle.mix_packets.specs.OutSpec.{datagram_length};
-ghost use Rattle.studio_spec.specs.Studio.{Studio};
+ghost use Rattle.studio_config.specs.Studio.{Studio};
 ghost use Rattle.studio_session.specs.Cursor.{IsReadyFor};
 ghost use Rattle.studio_session.specs.Play.{HasPlayed, IsRunnableBy};
 ghost use Rattle.studio_session.specs.Run.{AreDatagrams};

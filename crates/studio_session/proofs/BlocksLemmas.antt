@@ -13,7 +13,7 @@ use Rattle.lane_align.specs.Cover.{cover_of, cover_to, covers, last_quiet, last_
 use Rattle.lane_align.specs.Lane.{natural}
 use Rattle.mix_packets.specs.declared.out_spec.Output.{Output}
 use Rattle.mix_packets.specs.Block.{block_start}
-use Rattle.studio_spec.specs.Studio.{Studio}
+use Rattle.studio_config.specs.Studio.{Studio}
 use Rattle.studio_mix.specs.Blocks.{AreBlocks, AreFirstBlocks}
 use Rattle.studio_mix.specs.Feed.{Feed}
 use Rattle.studio_mix.specs.Output.{datagram_of}

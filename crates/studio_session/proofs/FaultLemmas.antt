@@ -8,7 +8,7 @@ use Rattle.rtp_stream.specs.StreamSpecFacts.{IsStream}
 use Rattle.rtp_stream.specs.declared.event.Event.{Event}
 use Rattle.rtp_stream.specs.History.{is_tick_in_order, is_well_timed_from}
 use Rattle.mix_packets.specs.OutSpec.{IsOutput}
-use Rattle.studio_spec.specs.Studio.{Studio}
+use Rattle.studio_config.specs.Studio.{Studio}
 use Rattle.studio_session.specs.Play.{HasPathsBy, IsRunnableBy}
 use Rattle.studio_session.specs.Event.{TraceEvent, Arrival, Reading, Closing, outline_of}
 use Rattle.studio_session.specs.declared.event.Outline.{Outline}

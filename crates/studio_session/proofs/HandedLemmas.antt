@@ -9,7 +9,7 @@ use Rattle.rtp_stream.specs.Marks.{marks_of}
 use Rattle.rtp_stream.specs.History.{is_well_timed}
 use Rattle.path_merge.proofs.LawLemmas.{marks_stay}
 use Rattle.path_merge.proofs.MarkListLemmas.{listed}
-use Rattle.studio_spec.specs.Studio.{Studio}
+use Rattle.studio_config.specs.Studio.{Studio}
 use Rattle.studio_mix.specs.Blocks.{AreFirstBlocks}
 use Rattle.studio_mix.specs.Feed.{Feed, AreLonger, IsLonger}
 use Rattle.studio_mix.specs.Mixer.{MixerState}

@@ -11,7 +11,7 @@ use Rattle.path_merge.proofs.MarkListLemmas.{parts_listed}
 use Rattle.std.proofs.lemmas.Bool.{false≢true}
 use Rattle.lane_align.specs.Cover.{covers, cover_of}
 use Rattle.mix_packets.specs.Block.{block_start}
-use Rattle.studio_spec.specs.Studio.{Studio}
+use Rattle.studio_config.specs.Studio.{Studio}
 use Rattle.studio_mix.specs.Feed.{Feed}
 use Rattle.studio_mix.specs.Mixer.{MixerState, HasFeeds}
 use Rattle.studio_session.specs.Event.{TraceEvent}

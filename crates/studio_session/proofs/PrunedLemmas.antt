@@ -29,7 +29,7 @@ use Rattle.gain_mix.specs.Changes.{matrix_at}
 use Rattle.gain_mix.specs.Mix.{mixed_frame}
 use Rattle.mix_packets.specs.Block.{block_datagram, block_start}
 use Rattle.mix_packets.specs.OutSpec.{shift_of}
-use Rattle.studio_spec.specs.Studio.{Studio}
+use Rattle.studio_config.specs.Studio.{Studio}
 use Rattle.studio_mix.specs.Feed.{studio_values}
 use Rattle.studio_mix.specs.Mixed.{mixed_samples}
 use Rattle.studio_mix.specs.Output.{datagram_of}

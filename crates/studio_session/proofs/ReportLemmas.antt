@@ -13,7 +13,7 @@ use Rattle.studio_session.specs.Event.{TraceEvent}
 use Rattle.studio_session.specs.Session.{stream_history}
 use Rattle.studio_session.specs.Counts.{AreTallies}
 use Rattle.studio_session.specs.Cursor.{CursorState, HasPulled}
-use Rattle.studio_spec.specs.Studio.{Studio}
+use Rattle.studio_config.specs.Studio.{Studio}
 use Rattle.studio_mix.specs.Feed.{Feed}
 use Rattle.studio_mix.proofs.BlockLemmas.{feed_at}
 use Rattle.studio_session.proofs.PlayLemmas.{stream_at}

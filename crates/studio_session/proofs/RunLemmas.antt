@@ -6,7 +6,7 @@ use Rattle.lane_align.specs.Lane.{natural}
 use Rattle.mix_packets.specs.declared.out_spec.Output.{Output}
 use Rattle.mix_packets.specs.Block.{block_start}
 use Rattle.mix_packets.specs.Packer.{PackerState}
-use Rattle.studio_spec.specs.Studio.{Studio}
+use Rattle.studio_config.specs.Studio.{Studio}
 use Rattle.studio_mix.specs.Output.{datagram_of}
 use Rattle.studio_mix.specs.Ready.{is_ready}
 use Rattle.studio_mix.proofs.FirstBlockLemmas.{first_more}

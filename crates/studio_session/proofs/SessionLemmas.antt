@@ -12,7 +12,7 @@ use Rattle.lane_align.specs.Cover.{covers, cover_of}
 use Rattle.lane_align.proofs.MarkListLemmas.{both_left, both_right}
 use Rattle.mix_packets.specs.OutSpec.{datagram_length}
 use Rattle.mix_packets.specs.Block.{block_start}
-use Rattle.studio_spec.specs.Studio.{Studio}
+use Rattle.studio_config.specs.Studio.{Studio}
 use Rattle.studio_mix.specs.Feed.{Feed, IsLonger, AreLonger}
 use Rattle.studio_mix.specs.Mixer.{MixerState, HasFeeds}
 use Rattle.studio_mix.specs.Ready.{are_covered, have_ended, block_count, is_ready}

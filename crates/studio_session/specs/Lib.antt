@@ -21,7 +21,7 @@ pub use Rattle.rtp_stream.specs.Marks
 pub use Rattle.path_merge.specs.Merge
 pub use Rattle.path_merge.specs.MergeState
 pub use Rattle.path_merge.specs.Steps
-pub use Rattle.studio_spec.specs.Studio
+pub use Rattle.studio_config.specs.Studio
 pub use Rattle.lane_align.specs.Cover
 pub use Rattle.lane_align.specs.Lane
 pub use Rattle.mix_packets.specs.Block

@@ -7,7 +7,7 @@ use Rattle.rtp_stream.specs.MarkList.{is_mark_list}
 use Rattle.rtp_stream.specs.Marks.{marks_of}
 use Rattle.lane_align.specs.Cover.{covers, cover_of}
 use Rattle.mix_packets.specs.Block.{block_start}
-use Rattle.studio_spec.specs.Studio.{Studio}
+use Rattle.studio_config.specs.Studio.{Studio}
 use Rattle.studio_mix.specs.Feed.{Feed}
 use Rattle.studio_mix.specs.Mixer.{MixerState, HasFeeds}
 use Rattle.studio_session.specs.Event.{TraceEvent}

@@ -3,7 +3,7 @@ use Rattle.std.specs.Prelude.{ℕ, ◌+◌, ◌^◌, List, length, pos, ◌-ℤ�
 use Rattle.lane_align.specs.Lane.{natural}
 use Rattle.mix_packets.specs.Block.{block_start}
 use Rattle.mix_packets.specs.Packer.{PackerState}
-use Rattle.studio_spec.specs.Studio.{Studio}
+use Rattle.studio_config.specs.Studio.{Studio}
 use Rattle.studio_mix.specs.Blocks.{AreBlocks, AreFirstBlocks}
 use Rattle.studio_session.specs.Event.{TraceEvent}
 use Rattle.studio_session.specs.Play.{HasPlayed, SessionState, feeds_of}

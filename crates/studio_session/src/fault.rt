@@ -13,7 +13,7 @@ use crate::source::EventSource;
 use mix_packets::OutSpec;
 use path_merge::{Path, StreamSpec};
 use std::alloc::AllocError;
-use studio_spec::StudioSpec;
+use studio_config::StudioSpec;
 use thiserror::Error;
 
 /// Why a list of events gives no report: its first event at fault, by its place from 0, or want of memory.

@@ -1,6 +1,6 @@
 //! One stream's marks, handed to the mixer while it wants them.
 ghost use Rattle.std.specs.Prelude.{◌≡◌, ℕ, ◌<◌, List, length, true, false, None, IfSome};
-ghost use Rattle.studio_spec.specs.Studio.{Studio};
+ghost use Rattle.studio_config.specs.Studio.{Studio};
 ghost use Rattle.studio_mix.specs.Feed.{Feed};
 ghost use Rattle.studio_mix.specs.Mixer.{is_wanted_by};
 ghost use Rattle.studio_mix.specs.Room.{rooms_of};

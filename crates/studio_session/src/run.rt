@@ -1,7 +1,7 @@
 //! A whole session: the datagrams of a list of events.
 ghost use Rattle.std.specs.Prelude.{◌<◌, ◌≤◌, length, map, All, IfOk, OnOk};
 ghost use Rattle.mix_packets.specs.OutSpec.{datagram_length};
-ghost use Rattle.studio_spec.specs.Studio.{Studio};
+ghost use Rattle.studio_config.specs.Studio.{Studio};
 ghost use Rattle.studio_session.specs.Cursor.{IsReadyFor};
 ghost use Rattle.studio_session.specs.Play.{HasPlayed, IsRunnableBy};
 ghost use Rattle.studio_session.specs.Run.{AreDatagrams};

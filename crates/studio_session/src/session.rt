@@ -2,7 +2,7 @@
 ghost use Rattle.std.specs.Prelude.{◌≡◌, ℕ, ◌+◌, ◌^◌, ◌≤◌, ◌++◌, ℤ, pos, ◌≤ℤ◌, List, length, drop, All, None, is_some, IfOk, IfSome};
 ghost use Rattle.mix_packets.specs.Block.{block_start};
 ghost use Rattle.mix_packets.specs.OutSpec.{datagram_length};
-ghost use Rattle.studio_spec.specs.Studio.{Studio};
+ghost use Rattle.studio_config.specs.Studio.{Studio};
 ghost use Rattle.studio_mix.specs.Output.{datagram_of};
 ghost use Rattle.studio_mix.specs.Ready.{is_ready};
 ghost use Rattle.studio_session.specs.Event.{TraceEvent};
@@ -18,8 +18,8 @@ use path_merge::StreamSpec;
 use rtp_stream::StreamCounts;
 use std::alloc::{AllocError, Global};
 use std::marker::Model;
+use studio_config::StudioSpec;
 use studio_mix::Mixer;
-use studio_spec::StudioSpec;
 
 /// The merges of a studio's streams, each with its own place in the events, and the mixer.
 ///

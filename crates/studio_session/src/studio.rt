@@ -13,7 +13,7 @@ use crate::run::all_datagrams;
 use crate::session::Session;
 use crate::source::EventList;
 use std::alloc::{AllocError, Global};
-use studio_spec::StudioSpec;
+use studio_config::StudioSpec;
 
 /// The datagrams of all blocks that are ready, and the counts of all streams after all their marks.
 ///

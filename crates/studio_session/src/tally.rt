@@ -1,7 +1,7 @@
 //! The counts of a run: of each path, and of each merge.
 ghost use Rattle.std.specs.Prelude.{◌≡◌, ℕ, ℤ, List, All, IfOk};
 ghost use Rattle.rtp_stream.specs.declared.stream_spec.Stream.{Stream};
-ghost use Rattle.studio_spec.specs.Studio.{Studio};
+ghost use Rattle.studio_config.specs.Studio.{Studio};
 ghost use Rattle.studio_session.specs.Event.{TraceEvent};
 ghost use Rattle.rtp_stream.specs.PathCounts.{tallies_of};
 ghost use Rattle.studio_session.specs.Counts.{AreTallies, path_tallies};

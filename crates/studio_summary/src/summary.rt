@@ -6,7 +6,7 @@ use rtp_wire::Enc;
 use std::io;
 use std::io::Write;
 use std::net::Ipv4Addr;
-use studio_spec::{Networks, Ports, Senders, StudioSpec};
+use studio_config::{Networks, Ports, Senders, StudioSpec};
 
 /// Writes a line for each stream and its paths, one for the output and its copies, and the gains by time.
 pub fn write_summary<W: Write>(studio: &StudioSpec, output: &mut W) -> io::Result<()> {

@@ -5,7 +5,7 @@ use Rattle.rtp_stream.specs.MarkFacts.{MarkView}
 use Rattle.rtp_stream.specs.MarkList.{is_mark_list}
 use Rattle.lane_align.specs.Cover.{covers, cover_of}
 use Rattle.mix_packets.specs.Block.{block_start}
-use Rattle.studio_spec.specs.Studio.{Studio}
+use Rattle.studio_config.specs.Studio.{Studio}
 use Rattle.studio_mix.specs.Feed.{Feed}
 
 -- a stream, and these marks after those that it gave

@@ -1,7 +1,7 @@
 //! The marks of two streams, to the output's datagrams.
 ghost use Rattle.std.specs.Prelude.{◌≡◌, ℕ, ◌+◌, ◌<◌, ◌≤◌, List, [], ◌∷◌, ◌++◌, length, take, drop, slice_get, slice_set, Some, None, is_some, IfSome};
 ghost use Rattle.mix_packets.specs.OutSpec.{datagram_length};
-ghost use Rattle.studio_spec.specs.Studio.{Studio};
+ghost use Rattle.studio_config.specs.Studio.{Studio};
 ghost use Rattle.studio_mix.specs.Feed.{Feed};
 ghost use Rattle.studio_mix.specs.Mixer.{HasFeeds};
 ghost use Rattle.studio_mix.specs.Output.{datagram_of};

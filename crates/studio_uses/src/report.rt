@@ -3,8 +3,8 @@ ghost use Rattle.std.specs.Prelude.{IfOk, IfErr};
 ghost use Rattle.studio_uses.specs.Report.{IsFaultOf, IsReportOf};
 
 use std::alloc::Global;
+use studio_config::StudioSpec;
 use studio_run::{PlayFault, play};
-use studio_spec::StudioSpec;
 
 /// The report of a trace: a line for each datagram of the output, and the counts of each stream.
 ///

@@ -9,8 +9,8 @@ use crate::memory_feed::MemoryFeed;
 use std::alloc::{AllocError, AllocFailed, Global};
 use std::sync::Wait;
 use std::thread::Threads;
+use studio_config::StudioSpec;
 use studio_rings::{OpenFault, open};
-use studio_spec::StudioSpec;
 use studio_workers::{Sink, WorkFault, WorkReport, run_workers};
 use thiserror::Error;
 

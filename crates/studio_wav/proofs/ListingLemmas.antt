@@ -4,7 +4,7 @@ use Rattle.std.specs.Io.KnownBytes.{Appends, Consumes, IsAtEnd}
 use Rattle.rtp_wire.specs.declared.encoding.Enc.{Enc}
 use Rattle.rtp_stream.specs.declared.stream_spec.Stream.{Stream as AStream}
 use Rattle.rtp_stream.specs.MarkFacts.{MarkView}
-use Rattle.studio_spec.specs.Studio.{Studio}
+use Rattle.studio_config.specs.Studio.{Studio}
 use Rattle.studio_session.specs.Event.{TraceEvent}
 use Rattle.studio_session.specs.Fault.{session_fault_of}
 use Rattle.studio_session.specs.Cursor.{CursorState, HasPaths, HasPulled, IsReadyFor}

@@ -1,7 +1,7 @@
 -- Why a report and its file were not written.
 use Rattle.std.proofs.Common.{ℕ, List, Option}
 use Rattle.std.specs.Io.KnownBytes.{Consumes, IsAtEnd}
-use Rattle.studio_spec.specs.Studio.{Studio}
+use Rattle.studio_config.specs.Studio.{Studio}
 use Rattle.studio_run.specs.Play.{StopsAt, StopsReading}
 use Rattle.studio_run.specs.StudioReport.{IsReport}
 use Rattle.studio_run.specs.declared.player.PlayFault.{PlayFault}

@@ -5,7 +5,7 @@ use Rattle.std.proofs.KnownBytes.{Appends-nil, Appends-trans}
 use Rattle.std.proofs.lemmas.Bool.Decides.{nat_tests}
 use Rattle.std.proofs.lemmas.Grind.{flat_map-append}
 use Rattle.rtp_wire.specs.declared.encoding.Enc.{Enc}
-use Rattle.studio_spec.specs.Studio.{Studio}
+use Rattle.studio_config.specs.Studio.{Studio}
 use Rattle.studio_mix.specs.Ready.{is_ready}
 use Rattle.studio_mix.proofs.FirstBlockLemmas.{first_all}
 use Rattle.studio_session.specs.Event.{TraceEvent}

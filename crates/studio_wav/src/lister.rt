@@ -10,9 +10,9 @@ use crate::stream_recorder::write_stream;
 use path_merge::StreamSpec;
 use std::alloc::Global;
 use std::io::{Read, Write};
+use studio_config::StudioSpec;
 use studio_run::{TextBuffer, TracedEvents, read_all, runnable_events, write_whole_listing};
 use studio_session::{Cursor, studio_cursors};
-use studio_spec::StudioSpec;
 
 /// The most channels of a stream that a file is written of.
 const MOST_CHANNELS: u8 = 8;

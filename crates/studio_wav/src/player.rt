@@ -8,9 +8,9 @@ use crate::files::WavFiles;
 use crate::recorder::write_recorded;
 use std::alloc::Global;
 use std::io::{Read, Write};
+use studio_config::StudioSpec;
 use studio_run::{TextBuffer, read_all, runnable_events};
 use studio_session::Session;
-use studio_spec::StudioSpec;
 use wav_file::WavFormat;
 
 /// Reads a trace to its end, writes its report as `play` does, and the samples of its datagrams to a file, which is made

@@ -1,7 +1,7 @@
 //! A report and its samples, written side by side.
 ghost use Rattle.std.specs.Prelude.{◌≡◌, ◌<◌, ◌≤◌, ℕ, List, [], All, OnOk, OnErr, IfErr};
 ghost use Rattle.mix_packets.specs.OutSpec.{datagram_length};
-ghost use Rattle.studio_spec.specs.Studio.{Studio};
+ghost use Rattle.studio_config.specs.Studio.{Studio};
 ghost use Rattle.studio_session.specs.Cursor.{IsReadyFor};
 ghost use Rattle.studio_session.specs.Play.{HasPlayed, IsRunnableBy};
 ghost use Rattle.studio_wav.specs.Recording.{HasBoth, HasRecorded, Records};

@@ -11,7 +11,7 @@ use Rattle.rtp_stream.specs.declared.packet.Packet.{Packet}
 use Rattle.rtp_stream.specs.declared.event.Event.{Event}
 use Rattle.path_merge.proofs.CloseLemmas.{marks_of-none}
 use Rattle.path_merge.proofs.MarkListLemmas.{listed}
-use Rattle.studio_spec.specs.Studio.{Studio}
+use Rattle.studio_config.specs.Studio.{Studio}
 use Rattle.studio_mix.specs.Feed.{Feed}
 use Rattle.rtp_stream.specs.declared.stream_counts.StreamCounts.{StreamCounts}
 use Rattle.studio_mix.specs.Blocks.{AreBlocks}

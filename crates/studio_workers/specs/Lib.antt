@@ -15,7 +15,7 @@ pub use Rattle.rtp_stream.specs.StreamSpecFacts
 pub use Rattle.rtp_stream.specs.History
 pub use Rattle.rtp_stream.specs.Marks
 pub use Rattle.rtp_stream.specs.Counts
-pub use Rattle.studio_spec.specs.Studio
+pub use Rattle.studio_config.specs.Studio
 pub use Rattle.studio_mix.specs.Feed
 pub use Rattle.rtp_stream.specs.Reception
 pub use Rattle.rtp_stream.specs.PathCounts

@@ -1,6 +1,6 @@
 -- What the results of all streams come to.
 use Rattle.std.specs.Prelude.{ℕ, List, [], map, vec_len, sum_by, Option}
-use Rattle.studio_spec.specs.Studio.{Studio}
+use Rattle.studio_config.specs.Studio.{Studio}
 use Rattle.studio_rings.specs.Datagrams.{HasGiven}
 use Rattle.studio_rings.specs.FreshEnds.{AllFreshRings, AllFreshStreams}
 use Rattle.studio_rings.specs.declared.ends.Ends.{Ends}

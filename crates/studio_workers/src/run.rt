@@ -1,7 +1,7 @@
 //! The workers of a studio.
 ghost use Rattle.std.specs.Prelude.{◌≡◌, ◌≤◌, ◌↔◌, ℕ, ℤ, List, IsTrue, true, map, length, vec_len, vec_capacity, IfOk};
 ghost use Rattle.rtp_stream.specs.declared.stream_spec.Stream.{Stream};
-ghost use Rattle.studio_spec.specs.Studio.{IsStudio, Studio};
+ghost use Rattle.studio_config.specs.Studio.{IsStudio, Studio};
 ghost use Rattle.studio_mix.specs.Feed.{Feed as FeedMarks};
 ghost use Rattle.studio_mix.specs.Blocks.{AreBlocks};
 ghost use Rattle.studio_rings.specs.Datagrams.{AreAllGiven};

@@ -2,8 +2,8 @@
 use crate::small_studios::six_and_forty_eight;
 use std::alloc::Global;
 use std::process::Abort;
+use studio_config::StudioSpec;
 use studio_session::{StudioEvent, StudioFault, run_studio};
-use studio_spec::StudioSpec;
 
 /// A list, run twice with any one allocation refused: want of memory at most once.
 #[test]

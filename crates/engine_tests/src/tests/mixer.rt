@@ -3,8 +3,8 @@ use crate::small_studios::{six_and_forty_eight, stream};
 use rtp_stream::{Body, Mark, StreamSpec};
 use std::alloc::Global;
 use std::process::Abort;
+use studio_config::StudioSpec;
 use studio_mix::Mixer;
-use studio_spec::StudioSpec;
 
 /// A lost slot of a stream at a time.
 fn lost(spec: &StreamSpec, media: i16) -> Mark {

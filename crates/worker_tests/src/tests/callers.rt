@@ -6,8 +6,8 @@ use engine_tests::small_studios::stream;
 use path_merge::{Body, ClockFault, Mark, MarkKind, Path};
 use std::alloc::Global;
 use std::process::Abort;
+use studio_config::StudioSpec;
 use studio_run::{PlayFault, TraceKind};
-use studio_spec::StudioSpec;
 use studio_uses::{
     Arrival, MemorySink, ReceiveFault, receive_stream, report_trace, run_in_threads,
 };

@@ -13,9 +13,9 @@ use std::process::Abort;
 use std::sync::Wait;
 use std::thread::Threads;
 use studio_alone::{Quiet, run_alone};
+use studio_config::StudioSpec;
 use studio_rings::OpenFault;
 use studio_run::PlayFault;
-use studio_spec::StudioSpec;
 use studio_uses::{
     Arrival, MemoryClock, MemoryFeed, MemorySink, ReceiveFault, RunFault, receive_stream,
     report_trace, run_in_threads,

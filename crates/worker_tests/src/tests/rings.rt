@@ -10,8 +10,8 @@ use path_merge::{ClockFault, SpecFault, StreamClock, StreamSpec};
 use rtp_wire::Enc;
 use std::alloc::Global;
 use std::process::Abort;
+use studio_config::StudioSpec;
 use studio_rings::*;
-use studio_spec::StudioSpec;
 
 pub(super) const MEDIA: StreamClock = StreamClock::Media { offset: 0 };
 

@@ -8,8 +8,8 @@ use std::alloc::Global;
 use std::process::Abort;
 use std::sync::Wait;
 use std::thread::Threads;
+use studio_config::StudioSpec;
 use studio_rings::open;
-use studio_spec::StudioSpec;
 use studio_uses::{MemoryClock, MemoryFeed, MemorySink};
 use studio_workers::{Clock, Feed, Sink, WorkReport, run_workers};
 

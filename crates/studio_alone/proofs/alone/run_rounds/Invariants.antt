@@ -1,5 +1,5 @@
 use Rattle.std.proofs.Common.{◌≡◌, ℕ, ℤ, List, Option, length}
-use Rattle.studio_spec.specs.Studio.{Studio}
+use Rattle.studio_config.specs.Studio.{Studio}
 use Rattle.run_devices.specs.Answers.{Answer}
 use Rattle.studio_alone.specs.Runs.{IsUnderWay}
 use Rattle.studio_alone.specs.Taps.{Heard}

@@ -1,7 +1,7 @@
 use Rattle.std.proofs.Common.{◌≡◌, ℕ, List, Some, slice_get}
 use Rattle.rtp_stream.specs.declared.stream_spec.Stream.{Stream}
 use Rattle.rtp_stream.specs.PathCounts.{tallies_of}
-use Rattle.studio_spec.specs.Studio.{Studio}
+use Rattle.studio_config.specs.Studio.{Studio}
 use Rattle.studio_session.specs.Counts.{path_tallies}
 use Rattle.studio_session.specs.Event.{TraceEvent}
 use Rattle.studio_engine.specs.Session.{HasSession}

@@ -1,5 +1,5 @@
 use Rattle.std.proofs.Common.{ℕ, List, ◌<ℤ◌}
-use Rattle.studio_spec.specs.Studio.{Studio}
+use Rattle.studio_config.specs.Studio.{Studio}
 use Rattle.studio_session.specs.Event.{TraceEvent}
 use Rattle.studio_engine.specs.Deadline.{IsAtRest, IsUnreadyBefore}
 use Rattle.studio_engine.proofs.deadline.latest_past.Given as goal

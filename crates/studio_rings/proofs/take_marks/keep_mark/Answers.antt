@@ -4,7 +4,7 @@ use Rattle.rtp_stream.specs.MarkList.{is_mark_list}
 use Rattle.rtp_stream.specs.StreamSpecFacts.{format_of}
 use Rattle.studio_mix.specs.Feed.{Feed}
 use Rattle.studio_mix.specs.Mixer.{HasFeeds}
-use Rattle.studio_spec.specs.Studio.{Studio}
+use Rattle.studio_config.specs.Studio.{Studio}
 use Rattle.studio_rings.proofs.AcceptedLemmas.{keeps, drops}
 use Rattle.studio_rings.proofs.take_marks.keep_mark.Goals as goal
 use Rattle.studio_rings.proofs.take_marks.keep_mark.Goals.{After-accepts_ref}

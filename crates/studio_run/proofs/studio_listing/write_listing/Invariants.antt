@@ -1,6 +1,6 @@
 use Rattle.std.proofs.Common.{◌≡◌, ◌≤◌, ℕ, length, take, All, Some, slice_get}
 use Rattle.studio_run.proofs.StudioListingLemmas.{AreFirstPulled}
-use Rattle.studio_spec.specs.Studio.{Studio}
+use Rattle.studio_config.specs.Studio.{Studio}
 use Rattle.studio_session.specs.Cursor.{CursorState, IsReadyFor}
 use Rattle.studio_session.specs.Play.{IsRunnableBy, AreNew}
 use Rattle.studio_run.specs.Buffer.{PassesOn}

@@ -2,7 +2,7 @@ use Rattle.std.proofs.Common.{◌≡◌, ◌∙◌, ℤ, List, Option, None, fal
 use Rattle.std.proofs.lemmas.Int.{ints}
 use Rattle.rtp_stream.specs.declared.stream_spec.Stream.{Stream}
 use Rattle.mix_packets.specs.OutSpec.{IsOutput}
-use Rattle.studio_spec.specs.Studio.{Studio}
+use Rattle.studio_config.specs.Studio.{Studio}
 use Rattle.studio_session.specs.Event.{TraceEvent}
 use Rattle.studio_session.specs.Fault.{session_fault_from, session_fault_of}
 use Rattle.studio_session.specs.declared.fault.StudioFault.{StudioFault}

@@ -1,5 +1,5 @@
 use Rattle.std.proofs.Common.{◌≡◌, ℕ, length, All}
-use Rattle.studio_spec.specs.Studio.{Studio}
+use Rattle.studio_config.specs.Studio.{Studio}
 use Rattle.studio_session.specs.Cursor.{IsReadyFor}
 use Rattle.studio_session.specs.Play.{HasFilled, HasPlayed, IsRunnableBy}
 use Rattle.studio_session.proofs.session.fill.Given as goal

@@ -1,6 +1,6 @@
 use Rattle.std.proofs.Common.{◌≡◌, ◌⊎◌, ℕ, List, None, length}
 use Rattle.path_merge.specs.Clock.{clock_fault_of}
-use Rattle.studio_spec.specs.Studio.{Studio}
+use Rattle.studio_config.specs.Studio.{Studio}
 use Rattle.studio_session.specs.Event.{TraceEvent}
 use Rattle.studio_session.specs.Run.{blocks_left}
 use Rattle.studio_engine.specs.Session.{HasSession, turned}

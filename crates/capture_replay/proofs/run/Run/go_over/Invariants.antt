@@ -1,5 +1,5 @@
 use Rattle.std.proofs.Common.{ℕ, List, Option, None}
-use Rattle.studio_spec.specs.Studio.{Studio}
+use Rattle.studio_config.specs.Studio.{Studio}
 use Rattle.capture_reader.specs.Window.{octets_of}
 use Rattle.capture_replay.specs.Plan.{plan_view}
 use Rattle.capture_replay.specs.Replay.{IsReplaying}

@@ -8,7 +8,7 @@ use Rattle.gain_mix.specs.Mix.{Is24Bits}
 use Rattle.mix_packets.specs.declared.out_spec.Output.{Output}
 use Rattle.mix_packets.specs.Block.{block_start}
 use Rattle.mix_packets.specs.Packer.{PackerState}
-use Rattle.studio_spec.specs.Studio.{channel_total}
+use Rattle.studio_config.specs.Studio.{channel_total}
 use Rattle.studio_mix.specs.Feed.{unfed}
 use Rattle.studio_mix.specs.Lanes.{AreFed, IsLaneAt}
 use Rattle.studio_mix.specs.Room.{room_beside}

@@ -1,0 +1,127 @@
+-- The table of the output and those of its changes: their rows, what they say, and the first fault.
+use Rattle.std.specs.Prelude.{ℕ, ◌+◌, ℤ, pos, ◌&&◌, ◌==◌, nat_le, Bool, List, [], ◌∷◌, ◌++◌, map, length, Option, Some, None, option_map, if◌then◌else◌}
+use Rattle.std.specs.List.{list_all}
+use Rattle.std.specs.Int.RustNames.{unsigned_abs}
+use Rattle.gain_mix.specs.Changes.{Changes}
+use Rattle.gain_mix.specs.Matrix.{has_range}
+use Rattle.gain_mix.specs.Schedule.{schedule_fault_of}
+use Rattle.gain_mix.specs.declared.matrix.MatrixFault.{MatrixFault}
+use Rattle.gain_mix.specs.declared.matrix.MatrixFault.TheVariants.{Shape, Range}
+use Rattle.mix_packets.specs.declared.out_spec.Output.{Output}
+use Rattle.mix_packets.specs.OutSpec.{out_fault_of}
+use Rattle.toml.specs.Data.{Members}
+use Rattle.studio_config.specs.Values.{number_or, encoding_at, tables_at, gains_at}
+use Rattle.studio_config.specs.Rows.{Row, required, optional, whole, tables, gains, key_of, first_of, first_in, at_key, at_table, row_fault, rows_fault, unknown_fault, table_fault}
+use Rattle.studio_config.specs.NetworkTable.{sender_rows}
+use Rattle.studio_config.specs.StreamTable.{packet_rows}
+use Rattle.studio_config.specs.declared.config.keys.Key.TheVariants as key
+use Rattle.studio_config.specs.declared.config.fault.Place.{Place}
+use Rattle.studio_config.specs.declared.config.fault.Place.TheVariants as place
+use Rattle.studio_config.specs.declared.config.fault.Kind.TheVariants as kind
+use Rattle.studio_config.specs.declared.config.fault.SpecError.{SpecError}
+
+-- the source of the packets, and the numbers of the first one
+abbrev pub number_rows : List Row
+number_rows =
+    required key.Ssrc (whole 0 4294967295)
+    ∷ required key.Seq (whole 0 65535)
+    ∷ required key.Start (whole 0 1152921504606846976)
+    ∷ optional key.Offset (whole 0 4294967295)
+    ∷ []
+
+-- the gains before any change
+abbrev pub gains_row : Row
+gains_row = required key.Gains gains
+
+-- the changes of gains
+abbrev pub change_row : Row
+change_row = optional key.Change tables
+
+-- where the two copies of each packet go
+abbrev pub address_rows : List Row
+address_rows =
+    optional key.ToA (whole 1 65535)
+    ∷ optional key.ToB (whole 1 65535)
+    ∷ []
+
+abbrev pub output_rows : List Row
+output_rows = packet_rows ++ number_rows ++ gains_row ∷ change_row ∷ address_rows ++ sender_rows
+
+-- a change: its time, and the gains from then on
+abbrev pub change_rows : List Row
+change_rows =
+    required key.At (whole 0 1152921504606846976)
+    ∷ required key.Gains gains
+    ∷ []
+
+-- the output that a table says
+abbrev pub output_of : Members → Output
+output_of members = record {
+  enc = encoding_at members key.Encoding;
+  channels = number_or members key.Channels 0;
+  frames = number_or members key.Frames 0;
+  pt = number_or members key.Pt 0;
+  ssrc = number_or members key.Ssrc 0;
+  seq0 = number_or members key.Seq 0;
+  start = pos (number_or members key.Start 0);
+  offset = number_or members key.Offset 0;
+}
+
+-- a change that a table says
+abbrev pub change_of : Members → ℤ × List (List ℤ)
+change_of members = (pos (number_or members key.At 0), gains_at members key.Gains)
+
+-- the gains that the output's table says, and their changes
+abbrev pub schedule_of : Members → Changes
+schedule_of members = record { first = gains_at members key.Gains; later = map change_of (tables_at members key.Change) }
+
+-- a gain is at most 16, of either sign, in units of 1/65,536
+abbrev pub is_gain : ℤ → Bool
+is_gain gain = nat_le (unsigned_abs gain) 1048576
+
+-- so many rows, each of so many gains
+abbrev pub has_rows : ℕ → ℕ → List (List ℤ) → Bool
+has_rows outs ins rows = (length rows == outs) && list_all (λ row. length row == ins) rows
+
+-- the first fault of gains for so many outputs and inputs: their shape, then their range
+abbrev pub gains_fault : ℕ → ℕ → List (List ℤ) → Option MatrixFault
+gains_fault outs ins rows = if has_rows outs ins rows then if list_all has_range rows then None else Some Range else Some Shape
+
+-- the first fault of tables one after the other, the first of which has this number
+abbrev pub each_fault : (ℕ → Members → Option SpecError) → ℕ → List Members → Option SpecError
+each_fault fault n [] = None
+each_fault fault n (members ∷ more) = first_of (fault n members) (each_fault fault (n + 1) more)
+
+-- the first fault of a change's table
+abbrev pub change_fault : ℕ → Members → Option SpecError
+change_fault n members = table_fault (place.Change n) change_rows members
+
+-- the fault of the gains of a table, for so many outputs and inputs
+abbrev pub matrix_fault : ℕ → ℕ → Place → Members → Option SpecError
+matrix_fault outs ins place members = at_key place key.Gains (option_map kind.Gains (gains_fault outs ins (gains_at members key.Gains)))
+
+-- the first fault of the gains and their changes, once all of them are arrays of arrays of numbers
+abbrev pub schedule_fault : ℕ → ℕ → Members → Option SpecError
+schedule_fault outs ins members =
+    first_in (
+    matrix_fault outs ins place.Output members
+    ∷ each_fault (λ n. matrix_fault outs ins (place.Change n)) 0 (tables_at members key.Change)
+    ∷ at_key place.Output key.Change (option_map kind.Schedule (schedule_fault_of (gains_at members key.Gains) (map change_of (tables_at members key.Change))))
+    ∷ [])
+
+-- the first fault of the output's table, where the streams have so many channels: of its keys, with
+-- the tables of changes at the place of theirs, then of the output that it says, then of the gains
+abbrev pub output_fault : ℕ → Members → Option SpecError
+output_fault ins members =
+    first_in (
+    rows_fault place.Output members packet_rows
+    ∷ rows_fault place.Output members number_rows
+    ∷ row_fault place.Output members gains_row
+    ∷ row_fault place.Output members change_row
+    ∷ each_fault change_fault 0 (tables_at members key.Change)
+    ∷ rows_fault place.Output members address_rows
+    ∷ rows_fault place.Output members sender_rows
+    ∷ unknown_fault place.Output (map key_of output_rows) members
+    ∷ at_table place.Output (option_map kind.Output (out_fault_of (output_of members)))
+    ∷ schedule_fault (number_or members key.Channels 0) ins members
+    ∷ [])

@@ -1,0 +1,30 @@
+-- What is fixed of a studio before anything happens.
+use Rattle.std.specs.Prelude.{◌≡◌, ℕ, ◌^◌, ◌≤◌, ℤ, pos, ◌≤ℤ◌, List, length, sum_by}
+use Rattle.rtp_stream.specs.declared.stream_spec.Stream.{Stream}
+use Rattle.gain_mix.specs.Gain.{ins_of}
+use Rattle.gain_mix.specs.Changes.{Changes}
+use Rattle.mix_packets.specs.declared.out_spec.Output.{Output}
+use Rattle.studio_config.specs.declared.ports.Ports.{Ports}
+use Rattle.studio_config.specs.declared.networks.Networks.{Networks}
+
+-- what contracts see of a specification
+pub record Studio : Type 0 where
+  pub open_at : ℤ
+  pub streams : List Stream
+  pub output : Output
+  pub schedule : Changes
+  pub ports : Ports
+  pub networks : Networks
+
+-- the channels of all streams
+abbrev pub channel_total : List Stream → ℕ
+channel_total streams = sum_by (λ (stream : Stream). stream.channels) streams
+
+-- the matrices have a row for each channel of the output, and in it a gain for each channel of a stream
+pub record IsStudio (studio : Studio) : Type 0 where
+  pub open_low : pos 0 ≤ℤ studio.open_at
+  pub open_high : studio.open_at ≤ℤ pos (2 ^ 60)
+  pub some_streams : 1 ≤ length studio.streams
+  pub few_streams : length studio.streams ≤ 16
+  pub outs : length studio.schedule.first ≡ studio.output.channels
+  pub ins : ins_of studio.schedule.first ≡ channel_total studio.streams

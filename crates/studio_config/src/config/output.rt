@@ -1,0 +1,169 @@
+//! The table of the output.
+ghost use Rattle.std.specs.Prelude.{◌≡◌, ◌≤◌, ◌⊎◌, None, Some, OnOk, IfOk, IfErr, length, option_map, pos};
+ghost use Rattle.toml.specs.View.{table_view};
+ghost use Rattle.gain_mix.specs.Gain.{ins_of};
+ghost use Rattle.mix_packets.specs.OutSpec.{out_fault_of};
+ghost use Rattle.studio_config.specs.Values.{number_at, number_or};
+ghost use Rattle.studio_config.specs.Rows.{at_table, rows_fault};
+ghost use Rattle.studio_config.specs.NetworkTable.{senders_of};
+ghost use Rattle.studio_config.specs.OutputTable.{number_rows, address_rows, output_of, schedule_of, output_fault};
+ghost use Rattle.studio_config.specs.Config.{no_memory};
+ghost use Rattle.studio_config.specs.declared.config.keys.Key.TheVariants as key;
+ghost use Rattle.studio_config.specs.declared.config.fault.Place.TheVariants as at;
+ghost use Rattle.studio_config.specs.declared.config.fault.Kind.TheVariants as kind;
+
+use crate::config::change::{check_changes, read_schedule};
+use crate::config::fault::{Kind, Place, SpecError};
+use crate::config::gain_rows::check_gains;
+use crate::config::keys::Key;
+use crate::config::known::check_known;
+use crate::config::networks::read_senders;
+use crate::config::numbers::{port, whole, whole_or};
+use crate::config::packets::read_packets;
+use crate::config::tables::optional_tables;
+use crate::networks::Senders;
+use gain_mix::Schedule;
+use mix_packets::{OutSpec, Output};
+use std::alloc::Global;
+use toml::Table;
+
+/// The source of the output's packets, and the numbers of the first one.
+#[derive(Clone, Copy)]
+struct Numbers {
+    ssrc: u32,
+    seq: u16,
+    start: i64,
+    offset: u32,
+}
+
+/// Where the two copies of each packet go.
+#[derive(Clone, Copy)]
+pub(crate) struct Addresses {
+    pub to_a: Option<u16>,
+    pub to_b: Option<u16>,
+}
+
+/// An output, the gains and their changes, and to which ports and how its packets are sent.
+#[derive(Drop)]
+pub(crate) struct OutputEntry {
+    pub spec: OutSpec,
+    pub schedule: Schedule,
+    pub addresses: Addresses,
+    pub senders: Senders,
+}
+
+/// The keys of the output's table.
+const KEYS: [Key; 17] = [
+    Key::Encoding,
+    Key::Channels,
+    Key::Frames,
+    Key::Pt,
+    Key::Ssrc,
+    Key::Seq,
+    Key::Start,
+    Key::Offset,
+    Key::Gains,
+    Key::Change,
+    Key::ToA,
+    Key::ToB,
+    Key::FromA,
+    Key::FromB,
+    Key::ToAddressA,
+    Key::ToAddressB,
+    Key::Ttl,
+];
+
+/// Reads the output's table, where the streams have so many channels.
+pub(crate) fn read_output(
+    alloc: Global,
+    table: &Table,
+    ins: usize,
+) -> Result<OutputEntry, SpecError>
+    requires some_ins { 1 ≤ ins }
+    requires few_ins { ins ≤ 1024 }
+    ensures ok { OnOk result (output_fault ins (table_view table.now) ≡ None) }
+    ensures output { IfOk result (λ o. o.spec ≡ output_of (table_view table.now)) }
+    ensures schedule { IfOk result (λ o. o.schedule ≡ schedule_of (table_view table.now)) }
+    ensures to_a { IfOk result (λ o. number_at (table_view table.now) key.ToA ≡ o.addresses.to_a) }
+    ensures to_b { IfOk result (λ o. number_at (table_view table.now) key.ToB ≡ o.addresses.to_b) }
+    ensures senders { IfOk result (λ o. o.senders ≡ senders_of (table_view table.now)) }
+    ensures outs { IfOk result (λ o. length o.schedule.first ≡ o.spec.channels) }
+    ensures ins { IfOk result (λ o. ins_of o.schedule.first ≡ ins) }
+    ensures fault { IfErr result (λ e. (e ≡ no_memory) ⊎ (output_fault ins (table_view table.now) ≡ Some e)) }
+{
+    let place = Place::Output;
+    let packets = read_packets(table, place)?;
+    let numbers = read_numbers(table, place)?;
+    check_gains(table, place, Key::Gains)?;
+    let changes = optional_tables(table, place, Key::Change)?;
+    check_changes(changes)?;
+    let addresses = read_addresses(table, place)?;
+    let senders = read_senders(table, place)?;
+    check_known(table, place, &KEYS)?;
+    let spec = check_output(Output {
+        enc: packets.enc,
+        channels: packets.channels,
+        frames: packets.frames,
+        pt: packets.pt,
+        ssrc: numbers.ssrc,
+        seq0: numbers.seq,
+        start: numbers.start,
+        offset: numbers.offset,
+    })?;
+    let schedule = read_schedule(alloc, table, changes, usize::from(spec.channels()), ins)?;
+    Ok(OutputEntry {
+        spec,
+        schedule,
+        addresses,
+        senders,
+    })
+}
+
+/// The output, or its fault at the output's table.
+fn check_output(output: Output) -> Result<OutSpec, SpecError>
+    ensures ok { OnOk result (out_fault_of output ≡ None) }
+    ensures output { IfOk result (λ o. o ≡ output) }
+    ensures fault { IfErr result (λ e. at_table at.Output (option_map kind.Output (out_fault_of output)) ≡ Some e) }
+{
+    match OutSpec::of(output) {
+        Ok(spec) => Ok(spec),
+        Err(fault) => Err(SpecError {
+            place: Place::Output,
+            key: None,
+            kind: Kind::Output(fault),
+        }),
+    }
+}
+
+/// Reads the source of the output's packets, and the numbers of the first one.
+fn read_numbers(table: &Table, place: Place) -> Result<Numbers, SpecError>
+    ensures ok { OnOk result (rows_fault place (table_view table.now) number_rows ≡ None) }
+    ensures ssrc { IfOk result (λ n. number_or (table_view table.now) key.Ssrc 0 ≡ n.ssrc) }
+    ensures seq { IfOk result (λ n. number_or (table_view table.now) key.Seq 0 ≡ n.seq) }
+    ensures start { IfOk result (λ n. pos (number_or (table_view table.now) key.Start 0) ≡ n.start) }
+    ensures offset { IfOk result (λ n. number_or (table_view table.now) key.Offset 0 ≡ n.offset) }
+    ensures fault { IfErr result (λ e. rows_fault place (table_view table.now) number_rows ≡ Some e) }
+{
+    let ssrc = whole(table, place, Key::Ssrc, 0, 4_294_967_295)? as u32;
+    let seq = whole(table, place, Key::Seq, 0, 65535)? as u16;
+    let start = whole(table, place, Key::Start, 0, 1_152_921_504_606_846_976)? as i64;
+    let offset = whole_or(table, place, Key::Offset, 0, 4_294_967_295, 0)? as u32;
+    Ok(Numbers {
+        ssrc,
+        seq,
+        start,
+        offset,
+    })
+}
+
+/// Reads where the two copies of each packet go.
+fn read_addresses(table: &Table, place: Place) -> Result<Addresses, SpecError>
+    ensures ok { OnOk result (rows_fault place (table_view table.now) address_rows ≡ None) }
+    ensures to_a { IfOk result (λ a. number_at (table_view table.now) key.ToA ≡ a.to_a) }
+    ensures to_b { IfOk result (λ a. number_at (table_view table.now) key.ToB ≡ a.to_b) }
+    ensures fault { IfErr result (λ e. rows_fault place (table_view table.now) address_rows ≡ Some e) }
+{
+    let to_a = port(table, place, Key::ToA)?;
+    let to_b = port(table, place, Key::ToB)?;
+    Ok(Addresses { to_a, to_b })
+}

@@ -1,0 +1,127 @@
+//! Tables in a table.
+ghost use Rattle.std.specs.Prelude.{◌≡◌, ◌≤◌, true, None, Some, OnOk, IfOk, IfErr, map, length};
+ghost use Rattle.std.specs.List.{list_all};
+ghost use Rattle.toml.specs.View.{view, table_view};
+ghost use Rattle.studio_config.specs.Values.{table_at, tables_at, items_in, members_in, tables_in, is_table};
+ghost use Rattle.studio_config.specs.Rows.{required, optional, a_table, tables, few_tables, value_fault, row_fault};
+
+use crate::config::fault::{Kind, Place, SpecError};
+use crate::config::keys::Key;
+use crate::config::lookup::{found, get};
+use toml::value::Array;
+use toml::{Table, Value};
+
+/// A table that has to be there.
+pub(crate) fn table_in(table: &Table, place: Place, key: Key) -> Result<&Table, SpecError>
+    ensures ok { OnOk result (row_fault place (table_view table.now) (required key a_table) ≡ None) }
+    ensures table { IfOk result (λ t. table_at (table_view table.now) key ≡ table_view t.now) }
+    ensures fault { IfErr result (λ e. row_fault place (table_view table.now) (required key a_table) ≡ Some e) }
+{
+    let value = found(table, place, key)?;
+    match value.as_table() {
+        Some(inner) => Ok(inner),
+        None => Err(SpecError {
+            place,
+            key: Some(key),
+            kind: Kind::WrongKind,
+        }),
+    }
+}
+
+/// Tables that may be there, none if they are absent.
+pub(crate) fn optional_tables(table: &Table, place: Place, key: Key) -> Result<&[Value], SpecError>
+    ensures ok { OnOk result (row_fault place (table_view table.now) (optional key tables) ≡ None) }
+    ensures each { IfOk result (λ a. list_all (λ t. is_table (view t)) a.now ≡ true) }
+    ensures tables { IfOk result (λ a. map (λ t. members_in (view t)) a.now ≡ tables_at (table_view table.now) key) }
+    ensures fault { IfErr result (λ e. row_fault place (table_view table.now) (optional key tables) ≡ Some e) }
+{
+    let Some(value) = get(table, key) else {
+        return Ok(&[]);
+    };
+    match tables_in(value) {
+        Ok(items) => Ok(items.as_slice()),
+        Err(kind) => Err(SpecError {
+            place,
+            key: Some(key),
+            kind,
+        }),
+    }
+}
+
+/// Tables that have to be there, from the least number of them to the greatest.
+pub(crate) fn few_tables(
+    table: &Table,
+    place: Place,
+    key: Key,
+    least: usize,
+    greatest: usize,
+) -> Result<&[Value], SpecError>
+    ensures ok { OnOk result (row_fault place (table_view table.now) (required key (few_tables least greatest)) ≡ None) }
+    ensures each { IfOk result (λ a. list_all (λ t. is_table (view t)) a.now ≡ true) }
+    ensures tables { IfOk result (λ a. map (λ t. members_in (view t)) a.now ≡ tables_at (table_view table.now) key) }
+    ensures low { IfOk result (λ a. least ≤ length a.now) }
+    ensures high { IfOk result (λ a. length a.now ≤ greatest) }
+    ensures fault { IfErr result (λ e. row_fault place (table_view table.now) (required key (few_tables least greatest)) ≡ Some e) }
+{
+    let value = found(table, place, key)?;
+    match few_tables_in(value, least, greatest) {
+        Ok(items) => Ok(items),
+        Err(kind) => Err(SpecError {
+            place,
+            key: Some(key),
+            kind,
+        }),
+    }
+}
+
+/// The tables of a value, from the least number of them to the greatest.
+fn few_tables_in(value: &Value, least: usize, greatest: usize) -> Result<&[Value], Kind>
+    ensures ok { OnOk result (value_fault (few_tables least greatest) (view value.now) ≡ None) }
+    ensures each { IfOk result (λ a. list_all (λ t. is_table (view t)) a.now ≡ true) }
+    ensures tables { IfOk result (λ a. map (λ t. members_in (view t)) a.now ≡ tables_in (view value.now)) }
+    ensures low { IfOk result (λ a. least ≤ length a.now) }
+    ensures high { IfOk result (λ a. length a.now ≤ greatest) }
+    ensures fault { IfErr result (λ e. value_fault (few_tables least greatest) (view value.now) ≡ Some e) }
+{
+    let items = tables_in(value)?;
+    if items.len() < least || greatest < items.len() {
+        return Err(Kind::OutOfRange);
+    }
+    Ok(items.as_slice())
+}
+
+/// The array of tables of a value.
+fn tables_in(value: &Value) -> Result<&Array, Kind>
+    ensures ok { OnOk result (value_fault tables (view value.now) ≡ None) }
+    ensures each { IfOk result (λ a. list_all (λ t. is_table (view t)) a.now.items ≡ true) }
+    ensures count { IfOk result (λ a. length a.now.items ≡ length (items_in (view value.now))) }
+    ensures items { IfOk result (λ a. map (λ t. members_in (view t)) a.now.items ≡ tables_in (view value.now)) }
+    ensures fault { IfErr result (λ e. value_fault tables (view value.now) ≡ Some e) }
+{
+    let Some(items) = value.as_array() else {
+        return Err(Kind::WrongKind);
+    };
+    if all_tables(items) {
+        Ok(items)
+    } else {
+        Err(Kind::WrongKind)
+    }
+}
+
+/// Whether all items are tables.
+fn all_tables(items: &[Value]) -> bool
+    ensures { result ≡ list_all (λ item. is_table (view item)) items.now }
+{
+    items.iter().all(|item| item.is_table())
+}
+
+/// The table that a value is.
+pub(crate) fn table_of(value: &Value) -> &Table
+    requires { is_table (view value.now) ≡ true }
+    ensures { table_view result.now ≡ members_in (view value.now) }
+{
+    match value.as_table() {
+        Some(table) => table,
+        None => unreachable!(),
+    }
+}

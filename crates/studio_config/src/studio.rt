@@ -1,0 +1,123 @@
+//! What is fixed of a studio before anything happens.
+ghost use Rattle.std.specs.Prelude.{◌≡◌, ◌^◌, ◌≤◌, pos, ◌≤ℤ◌, None, length};
+ghost use Rattle.gain_mix.specs.Gain.{ins_of};
+ghost use Rattle.studio_config.specs.Ports.{absent_rows};
+ghost use Rattle.studio_config.specs.Networks.{absent_networks};
+ghost use Rattle.studio_config.specs.Studio.{Studio, IsStudio, channel_total};
+
+mod shift;
+
+use crate::networks::Networks;
+use crate::ports::Ports;
+use gain_mix::Schedule;
+use mix_packets::OutSpec;
+use rtp_stream::StreamSpec;
+use std::marker::Model;
+
+/// The streams of a studio, its output, the gains between them, and the ports and addresses that are known.
+#[derive(Drop)]
+pub struct StudioSpec {
+    open_at: i64,
+    streams: Vec<StreamSpec>,
+    output: OutSpec,
+    schedule: Schedule,
+    ports: Ports,
+    networks: Networks,
+}
+
+impl Model for StudioSpec {
+    ghost use Rattle.studio_config.specs.Studio.{Studio, IsStudio};
+
+    ghost Value = { Studio };
+
+    ghost view = { λ s. record { open_at = s.open_at; streams = s.streams.items; output = s.output; schedule = s.schedule; ports = s.ports; networks = s.networks } };
+
+    ghost invariant = { λ s. IsStudio (view s) };
+}
+
+impl StudioSpec {
+    /// A studio whose merges open at a time, in sampling instants; it knows no ports and no addresses.
+    pub fn new(
+        open_at: i64,
+        streams: Vec<StreamSpec>,
+        output: OutSpec,
+        schedule: Schedule,
+    ) -> StudioSpec
+        requires not_low { pos 0 ≤ℤ open_at }
+        requires not_high { open_at ≤ℤ pos (2 ^ 60) }
+        requires some { 1 ≤ length streams.items }
+        requires few { length streams.items ≤ 16 }
+        requires outs { length schedule.first ≡ output.channels }
+        requires ins { ins_of schedule.first ≡ channel_total streams.items }
+        ensures { result ≡ record { open_at = open_at; streams = streams.items; output = output; schedule = schedule; ports = record { paths = absent_rows 16; to_a = None; to_b = None }; networks = absent_networks } }
+    {
+        StudioSpec {
+            open_at,
+            streams,
+            output,
+            schedule,
+            ports: Ports::absent(),
+            networks: Networks::absent(),
+        }
+    }
+
+    /// The same studio with these ports.
+    pub(crate) fn with_ports(mut self, ports: Ports) -> StudioSpec
+        ensures { result ≡ record self { ports = ports } }
+    {
+        self.ports = ports;
+        self
+    }
+
+    /// The same studio with these addresses.
+    pub fn with_networks(mut self, networks: Networks) -> StudioSpec
+        ensures { result ≡ record self { networks = networks } }
+    {
+        self.networks = networks;
+        self
+    }
+
+    /// When the merges open, in sampling instants.
+    pub fn open_at(&self) -> i64
+        ensures value { result ≡ self.now.open_at }
+        ensures sound { IsStudio self.now }
+    {
+        self.open_at
+    }
+
+    /// The streams.
+    pub fn streams(&self) -> &[StreamSpec]
+        ensures value { result.now ≡ self.now.streams }
+        ensures sound { IsStudio self.now }
+    {
+        self.streams.as_slice()
+    }
+
+    /// The output.
+    pub fn output(&self) -> &OutSpec
+        ensures { result.now ≡ self.now.output }
+    {
+        &self.output
+    }
+
+    /// The gains, and when they change.
+    pub fn schedule(&self) -> &Schedule
+        ensures { result.now ≡ self.now.schedule }
+    {
+        &self.schedule
+    }
+
+    /// The ports that are known.
+    pub fn ports(&self) -> &Ports
+        ensures { result.now ≡ self.now.ports }
+    {
+        &self.ports
+    }
+
+    /// The addresses that are known.
+    pub fn networks(&self) -> &Networks
+        ensures { result.now ≡ self.now.networks }
+    {
+        &self.networks
+    }
+}

@@ -1,0 +1,98 @@
+//! A studio by a clock that reads otherwise: each of its times is moved by the same.
+ghost use Rattle.std.specs.Prelude.{◌≡◌, ◌⊎◌, ◌^◌, ◌≤ℤ◌, ◌+ℤ◌, pos, negsuc, true, false, Some, None, IfOk, IfErr, OnOk, OnErr};
+ghost use Rattle.gain_mix.specs.Schedule.{has_times};
+ghost use Rattle.mix_packets.specs.OutSpec.{is_start};
+ghost use Rattle.studio_config.specs.Config.{no_memory};
+ghost use Rattle.studio_config.specs.Shift.{changes_fault, shift_fault_of, shifted, shifted_changes, start_fault};
+ghost use Rattle.studio_config.specs.declared.config.fault.Kind.TheVariants as kind;
+
+use crate::config::{Key, Kind, Place, SpecError};
+use crate::studio::StudioSpec;
+use gain_mix::{Matrix, Schedule};
+use mix_packets::OutSpec;
+use std::alloc::Global;
+
+/// The latest time of a studio: 2^60 sampling instants.
+const LATEST: i64 = 1 << 60;
+
+impl StudioSpec {
+    /// The same studio, opened at a time in sampling instants: the output's start and the times of the changes of gains
+    /// move by as much as its opening time does. Or the first of these times that would not lie from 0 to 2^60.
+    pub fn shifted(self, alloc: Global, open_at: i64) -> Result<StudioSpec, SpecError>
+        ensures ok { IfOk result (λ s. s ≡ shifted open_at self) }
+        ensures fine { OnOk result (shift_fault_of (shifted open_at self) ≡ None) }
+        ensures fault { IfErr result (λ e. (e ≡ no_memory) ⊎ (shift_fault_of (shifted open_at self) ≡ Some e)) }
+    {
+        if open_at < 0 || open_at > LATEST {
+            return Err(out_of_range(Place::Top, Key::OpenAt));
+        }
+        let by = open_at - self.open_at;
+        let output = shifted_output(self.output, by)?;
+        let schedule = shifted_schedule(alloc, self.schedule, by)?;
+        Ok(StudioSpec {
+            open_at,
+            output,
+            schedule,
+            ..self
+        })
+    }
+}
+
+/// A key's time is out of range.
+fn out_of_range(place: Place, key: Key) -> SpecError
+    ensures { result ≡ record { place = place; key = Some key; kind = kind.OutOfRange } }
+{
+    SpecError {
+        place,
+        key: Some(key),
+        kind: Kind::OutOfRange,
+    }
+}
+
+/// The same output, which starts so many sampling instants later.
+fn shifted_output(output: OutSpec, by: i64) -> Result<OutSpec, SpecError>
+    requires low { negsuc (2 ^ 60) ≤ℤ by }
+    requires high { by ≤ℤ pos (2 ^ 60) }
+    ensures ok { IfOk result (λ o. o ≡ record output { start = output.start +ℤ by }) }
+    ensures fine { OnOk result (start_fault (output.start +ℤ by) ≡ None) }
+    ensures fault { IfErr result (λ e. start_fault (output.start +ℤ by) ≡ Some e) }
+{
+    match output.starting_at(output.start() + by) {
+        Ok(output) => Ok(output),
+        Err(_) => Err(out_of_range(Place::Output, Key::Start)),
+    }
+}
+
+/// The same gains, each of whose changes comes so many sampling instants later.
+fn shifted_schedule(alloc: Global, schedule: Schedule, by: i64) -> Result<Schedule, SpecError>
+    ensures ok { IfOk result (λ s. s ≡ record schedule { later = shifted_changes by schedule.later }) }
+    ensures fine { OnOk result (changes_fault (shifted_changes by schedule.later) ≡ None) }
+    ensures fault { IfErr result (λ e. (e ≡ no_memory) ⊎ (changes_fault (shifted_changes by schedule.later) ≡ Some e)) }
+{
+    let (first, changes) = schedule.into_parts();
+    let later = shifted_changes(alloc, changes, by)?;
+    match Schedule::new(first, later) {
+        Ok(schedule) => Ok(schedule),
+        Err(_) => Err(out_of_range(Place::Output, Key::Change)),
+    }
+}
+
+/// The same changes, so many sampling instants later.
+fn shifted_changes(
+    alloc: Global,
+    changes: Vec<(i64, Matrix)>,
+    by: i64,
+) -> Result<Vec<(i64, Matrix)>, SpecError>
+    ensures ok { IfOk result (λ later. later.items ≡ shifted_changes by changes.items) }
+    ensures fault { IfErr result (λ e. (e ≡ no_memory) ⊎ (changes_fault (shifted_changes by changes.items) ≡ Some e)) }
+{
+    let mut later = Vec::with_capacity(alloc, changes.len())?;
+    let mut rest = changes.into_iter();
+    while let Some((at, matrix)) = rest.next() {
+        let Some(at) = at.checked_add(by) else {
+            return Err(out_of_range(Place::Output, Key::Change));
+        };
+        later.push((at, matrix))?;
+    }
+    Ok(later)
+}
