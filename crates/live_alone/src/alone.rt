@@ -9,7 +9,6 @@ use crate::pending::all_pending;
 use live_parts::Recorded;
 use live_run::{LiveFault, Setting, Signs, Unseen, Watcher, run_beside, run_watched};
 use live_sockets::{Flags, Receiver, Sockets};
-use run_devices::WorkReport;
 use run_record::{Record, RecordTap, Recorder, write_record};
 use std::alloc::Global;
 use std::io::Write;
@@ -18,6 +17,7 @@ use std::sync::atomic::AtomicBool;
 use std::thread::Threads;
 use std::time::Clock;
 use studio_config::StudioSpec;
+use studio_io::WorkReport;
 
 /// The record of a run, if there is one, and where it is told what came of it.
 #[derive(Drop)]

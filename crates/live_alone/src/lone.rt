@@ -9,13 +9,13 @@ use live_parts::{Recorded, Start, SystemClock};
 use live_run::{LiveFault, MeteredSink};
 use live_sockets::{Flags, Receiver, Sockets, UdpFeed, UdpSink, feeds_of};
 use live_view::Meter;
-use run_devices::WorkReport;
 use std::alloc::Global;
 use std::io::Write;
 use std::sync::Wait;
 use std::time::Clock;
 use studio_alone::run_alone;
 use studio_config::StudioSpec;
+use studio_io::WorkReport;
 
 /// What a run in one thread is started from, beside its tap.
 #[derive(Drop)]

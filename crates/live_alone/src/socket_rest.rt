@@ -4,7 +4,6 @@ use libc::net::{POLLIN, poll};
 use libc::types::pollfd;
 use live_parts::SystemClock;
 use live_sockets::Receiver;
-use run_devices::Clock as ReadClock;
 use std::alloc::Global;
 use std::io;
 use std::sync::Wait;
@@ -13,6 +12,7 @@ use std::thread::Parker;
 use std::time::{Clock, Duration};
 use studio_alone::Rest;
 use studio_engine::Engine;
+use studio_io::Clock as ReadClock;
 
 /// A millisecond, in sampling instants.
 const MILLISECOND: u64 = 48;

@@ -6,7 +6,7 @@ use Rattle.rtp_stream.specs.declared.path_counts.PathCounts.{PathCounts}
 use Rattle.rtp_stream.specs.declared.stream_counts.StreamCounts.{StreamCounts}
 use Rattle.studio_run.specs.Report.{path_line, merge_line}
 use Rattle.studio_run.specs.LiveReport.{feed_line, sink_line}
-use Rattle.run_devices.specs.declared.report.WorkReport.{WorkReport}
+use Rattle.studio_io.specs.declared.report.WorkReport.{WorkReport}
 
 -- the counts of a stream's paths, of which there are at most four
 abbrev pub paths_in : StreamCounts → List PathCounts

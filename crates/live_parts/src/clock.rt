@@ -1,12 +1,12 @@
 //! The system's clock, in sampling instants.
 ghost use Rattle.std.specs.Prelude.{◌≡◌, ◌≤◌, ◌<◌, ◌^◌, ◌-◌, pos, ◌≤ℤ◌, ◌<ℤ◌, ◌+ℤ◌, ℤ, []};
 ghost use Rattle.std.specs.Duration.{as_nanos};
-ghost use Rattle.run_devices.specs.Clocks.{TellsTime};
+ghost use Rattle.studio_io.specs.Clocks.{TellsTime};
 ghost use Rattle.live_parts.specs.Clock.{instants_in};
 
-use run_devices::Clock;
 use std::time;
 use std::time::Duration;
+use studio_io::Clock;
 
 /// The reading of a clock so long after it began at a time, in sampling instants at 48 kHz. It stays at
 /// the greatest of its type.

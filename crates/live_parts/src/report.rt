@@ -4,8 +4,8 @@ ghost use Rattle.studio_run.specs.Buffer.{BreaksOff, PassesOn};
 ghost use Rattle.live_parts.specs.Report.{feeds_text, own_feeds_text, paths_in, paths_text, report_text, stream_text, streams_in, streams_text};
 
 use rtp_stream::{Path, PathCounts, StreamCounts};
-use run_devices::WorkReport;
 use std::io::Write;
+use studio_io::WorkReport;
 use studio_run::{
     SinkCounts, TextBuffer, WriteFault, write_feed_faults, write_merge_counts, write_path_counts,
     write_sink_counts,

@@ -1,11 +1,11 @@
 -- What a live run comes to, and why it may not begin.
 use Rattle.std.specs.Prelude.{◌≡◌, true, false, Bool, ℕ, ℤ, List, None, length, map}
 use Rattle.studio_config.specs.Studio.{Studio}
-use Rattle.run_devices.specs.Answers.{Answer}
-use Rattle.run_devices.specs.Balances.{Balances}
+use Rattle.studio_io.specs.Answers.{Answer}
+use Rattle.studio_io.specs.Balances.{Balances}
 use Rattle.single_workers.specs.Runs.{IsSettledRun}
 use Rattle.studio_alone.specs.Runs.{IsSettledRun as IsSettledAlone}
-use Rattle.run_devices.specs.declared.report.WorkReport.{WorkReport}
+use Rattle.studio_io.specs.declared.report.WorkReport.{WorkReport}
 use Rattle.live_run.specs.declared.fault.LiveFault.{LiveFault}
 use Rattle.live_run.specs.declared.fault.LiveFault.TheVariants.{Memory, Socket, Page, Thread, Unsettled, Write}
 

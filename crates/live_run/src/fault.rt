@@ -4,10 +4,10 @@ ghost use Rattle.live_run.specs.Run.{IsEarly};
 ghost use Rattle.live_run.specs.declared.fault.LiveFault.TheVariants.{Write};
 
 use live_page::PageFault;
-use run_devices::WorkFault;
 use std::alloc::{AllocError, AllocFailed};
 use std::io;
 use std::io::ErrorKind;
+use studio_io::WorkFault;
 use studio_rings::OpenFault;
 use studio_run::WriteFault;
 use thiserror::Error;

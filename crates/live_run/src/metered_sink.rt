@@ -2,7 +2,7 @@
 ghost use Rattle.std.specs.Prelude.{None};
 
 use live_view::Meter;
-use run_devices::{SendAnswer, Sink};
+use studio_io::{SendAnswer, Sink};
 
 /// A sink, with a meter if a page is asked for.
 #[derive(Drop)]

@@ -1,14 +1,14 @@
 //! The datagrams of a path, from a socket.
 ghost use Rattle.std.specs.Prelude.{◌≡◌, [], ℕ};
-ghost use Rattle.run_devices.specs.Answers.{IsWithin};
+ghost use Rattle.studio_io.specs.Answers.{IsWithin};
 
 use crate::receiver::Receiver;
 use live_parts::{Start, SystemClock};
-use run_devices::{Clock as ReadClock, Feed, FeedAnswer};
 use std::io::ErrorKind;
 use std::net::SocketAddrV4;
 use std::sync::atomic::{AtomicBool, Ordering};
 use std::time::Clock;
+use studio_io::{Clock as ReadClock, Feed, FeedAnswer};
 
 /// After so many datagrams from elsewhere than its source a feed has nothing for now.
 const MOST_STRANGERS: u32 = 64;

@@ -4,11 +4,11 @@ ghost use Rattle.std.specs.Prelude.{None};
 use live_parts::Handed;
 use mio::net::UdpSocket;
 use os::FromRawFd;
-use run_devices::{SendAnswer, Sink};
 use std::io::ErrorKind;
 use std::net::{Ipv4Addr, Net, SocketAddr};
 use std::{io, net};
 use studio_config::Senders;
+use studio_io::{SendAnswer, Sink};
 
 /// A socket that sends to one address and port.
 #[derive(Drop)]

@@ -4,9 +4,9 @@ use crate::told::Told;
 use live_parts::SystemClock;
 use live_run::View;
 use live_view::Board;
-use run_devices::Clock;
 use std::io::Write;
 use std::time;
+use studio_io::Clock;
 use studio_rings::Watches;
 
 /// The watches of all paths and streams and of the mix, what they told last, and what is shown of it.

@@ -12,13 +12,13 @@ use live_parts::Start;
 use live_run::{LiveFault, Setting, Watcher, run_watched};
 use live_sockets::{Flags, Sockets};
 use live_view::Board;
-use run_devices::WorkReport;
 use std::alloc::{AllocError, Global};
 use std::io::Write;
 use std::sync::Wait;
 use std::thread::Threads;
 use std::time::Clock;
 use studio_config::StudioSpec;
+use studio_io::WorkReport;
 use studio_rings::Watches;
 
 /// Runs a studio's workers, and the watcher beside them. It returns once all have ended; all memory but the workers' is taken

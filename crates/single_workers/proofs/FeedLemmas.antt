@@ -15,10 +15,10 @@ use Rattle.studio_rings.specs.declared.path.Offer.{Offer}
 use Rattle.studio_rings.specs.declared.path.Offer.TheVariants.{CountersFull, Bad as BadOffer, WrongType as OtherType, WrongLength as OtherLength, Full, Sent as SentOffer}
 use Rattle.studio_rings.specs.declared.path_end.PathEnd.{PathEnd}
 use Rattle.rtp_stream.specs.declared.path_counts.PathCounts.{PathCounts}
-use Rattle.run_devices.proofs.AnswerLemmas.{told-next}
-use Rattle.run_devices.specs.Answers.{Answer, CountsOthers, Tells, reaches_end, received_as, told_datagrams, told_packets, IsPartOf, packet_in, packets_in, packets_of}
-use Rattle.run_devices.specs.declared.feed.FeedAnswer.{FeedAnswer}
-use Rattle.run_devices.specs.declared.feed.FeedAnswer.TheVariants.{Datagram, Nothing, Fault, Ended}
+use Rattle.studio_io.proofs.AnswerLemmas.{told-next}
+use Rattle.studio_io.specs.Answers.{Answer, CountsOthers, Tells, reaches_end, received_as, told_datagrams, told_packets, IsPartOf, packet_in, packets_in, packets_of}
+use Rattle.studio_io.specs.declared.feed.FeedAnswer.{FeedAnswer}
+use Rattle.studio_io.specs.declared.feed.FeedAnswer.TheVariants.{Datagram, Nothing, Fault, Ended}
 use Rattle.single_workers.specs.Paths.{OffersAgain, SendsSoFar, SendsFeed}
 
 none_other : (o : Reception) → is_sent o ≡ true → (is_bad o ≡ false) × (is_wrong_type o ≡ false) × (is_wrong_length o ≡ false)

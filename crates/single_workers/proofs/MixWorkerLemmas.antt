@@ -11,7 +11,7 @@ use Rattle.studio_rings.specs.Datagrams.{AreAllGiven, HasGiven, given_after}
 use Rattle.studio_rings.specs.declared.side.Side.{Side}
 use Rattle.studio_rings.specs.declared.mix.MixNote.{MixNote}
 use Rattle.studio_rings.specs.declared.mix_end.MixEnd.{MixEnd}
-use Rattle.run_devices.specs.Sinks.{Hands}
+use Rattle.studio_io.specs.Sinks.{Hands}
 use Rattle.single_workers.specs.MixWorker.{AreSameSides, Mixes}
 
 consumers : {T A P : Type 0} (a b c : Consumer T A P) → SameConsumer a b → SameConsumer b c → SameConsumer a c

@@ -25,7 +25,7 @@ use Rattle.studio_rings.specs.declared.turn.StopReason.TheVariants.{CaughtUp, Ba
 use Rattle.studio_rings.specs.declared.turn.TurnNote.{TurnNote}
 use Rattle.studio_rings.proofs.CloseLemmas.{delivered-looked}
 use Rattle.studio_rings.proofs.TurnLemmas.{producers}
-use Rattle.run_devices.specs.Clocks.{GoByClock, IsTurnAt, TellsTime, events_in, time_with}
+use Rattle.studio_io.specs.Clocks.{GoByClock, IsTurnAt, TellsTime, events_in, time_with}
 use Rattle.single_workers.specs.Turns.{AreSameRings, GoesOn, HaveArrived, HaveTold, KeepsTokens, ReadsFirst}
 use Rattle.single_workers.specs.declared.timed_stream.TimedStream.{TimedStream}
 

@@ -3,9 +3,9 @@ pub mod Turns
 pub mod MixWorker
 pub mod StreamTokens
 pub mod Runs
-pub use Rattle.run_devices.specs.Answers
-pub use Rattle.run_devices.specs.Clocks
-pub use Rattle.run_devices.specs.Sinks
+pub use Rattle.studio_io.specs.Answers
+pub use Rattle.studio_io.specs.Clocks
+pub use Rattle.studio_io.specs.Sinks
 pub use Rattle.rtp_stream.specs.StreamSpecFacts
 pub use Rattle.rtp_stream.specs.History
 pub use Rattle.rtp_stream.specs.Marks

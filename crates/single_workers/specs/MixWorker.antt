@@ -6,7 +6,7 @@ use Rattle.studio_config.specs.Studio.{Studio}
 use Rattle.studio_rings.specs.Datagrams.{AreAllGiven, HasGiven}
 use Rattle.studio_rings.specs.declared.side.Side.{Side}
 use Rattle.studio_rings.specs.declared.mix_end.MixEnd.{MixEnd}
-use Rattle.run_devices.specs.Sinks.{Hands}
+use Rattle.studio_io.specs.Sinks.{Hands}
 
 -- the same rings, with the same tokens
 abbrev pub AreSameSides : List (Side MarkView) → List (Side MarkView) → Type 0

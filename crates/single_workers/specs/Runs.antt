@@ -13,10 +13,10 @@ use Rattle.rtp_stream.specs.PathCounts.{empty_path_tally, path_tally_of}
 use Rattle.rtp_stream.specs.declared.path_counts.PathCounts.{PathCounts}
 use Rattle.rtp_stream.specs.declared.stream_counts.StreamCounts.{StreamCounts}
 use Rattle.studio_rings.specs.Streams.{packets_by}
-use Rattle.run_devices.specs.Answers.{Answer, CountsOthers, IsPartOf, reaches_end, told_datagrams, told_packets}
-use Rattle.run_devices.specs.Clocks.{GoByClock, events_in}
-use Rattle.run_devices.specs.Sinks.{Hands}
-use Rattle.run_devices.specs.declared.report.WorkReport.{WorkReport}
+use Rattle.studio_io.specs.Answers.{Answer, CountsOthers, IsPartOf, reaches_end, told_datagrams, told_packets}
+use Rattle.studio_io.specs.Clocks.{GoByClock, events_in}
+use Rattle.studio_io.specs.Sinks.{Hands}
+use Rattle.studio_io.specs.declared.report.WorkReport.{WorkReport}
 
 -- the arrivals of a path are packets of its feed's datagrams, in order, each at most once, and all of them where at most 1,000 offers found no room; for each that is lacking 1,001 offers found none, and each other datagram was counted once
 pub record HasPathHistory (stream : Stream) (path : ℕ) (told : List Answer) (counts : PathCounts) (events : List Event) : Type 0 where

@@ -9,7 +9,7 @@ use Rattle.studio_rings.specs.Fitting.{fitting}
 use Rattle.studio_rings.specs.Streams.{StreamHasHistory, packets_by}
 use Rattle.studio_rings.specs.declared.side.Side.{Side}
 use Rattle.studio_rings.specs.declared.stream_end.StreamEnd.{StreamEnd}
-use Rattle.run_devices.specs.Clocks.{GoByClock, events_in}
+use Rattle.studio_io.specs.Clocks.{GoByClock, events_in}
 use Rattle.single_workers.specs.declared.timed_stream.TimedStream.{TimedStream}
 
 module _ {T : Type 0} where

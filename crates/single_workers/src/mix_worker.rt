@@ -3,9 +3,9 @@ ghost use Rattle.std.specs.Prelude.{true};
 ghost use Rattle.single_workers.specs.MixWorker.{Mixes};
 
 use crate::pause::Pause;
-use run_devices::{SendCounts, Sink};
 use std::sync::Wait;
 use std::sync::atomic::{AtomicBool, Ordering};
+use studio_io::{SendCounts, Sink};
 use studio_rings::MixEnd;
 
 /// The pauses after turns that found nothing, in microseconds: two packets of a millisecond are then mixed and

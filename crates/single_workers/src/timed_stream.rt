@@ -3,7 +3,7 @@ ghost use Rattle.std.specs.Prelude.{◌≡◌, ◌^◌, ◌≤ℤ◌, pos, false
 
 use crate::pause::Pause;
 use path_merge::{Counts, StreamSpec};
-use run_devices::Clock;
+use studio_io::Clock;
 use studio_rings::{StreamDone, StreamEnd};
 
 /// The longest pause after a turn, in microseconds.

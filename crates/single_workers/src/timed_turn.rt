@@ -6,8 +6,8 @@ ghost use Rattle.single_workers.specs.Turns.{Closes, GoesOn, KeepsTokens, ReadsF
 use crate::pause::Pause;
 use crate::timed_stream::TimedStream;
 use path_merge::StreamClock;
-use run_devices::Clock;
 use std::sync::Wait;
+use studio_io::Clock;
 use studio_rings::{StopReason, StreamEnd, TurnNote};
 
 /// A turn that no clock fault refuses.

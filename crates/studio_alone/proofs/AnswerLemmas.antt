@@ -1,9 +1,9 @@
 -- A feed's datagrams, one answer further.
 use Rattle.std.proofs.Common.{◌≡◌, ℕ, ◌+◌, ◌≤◌, ◌<◌, true, false, nat_eq, List, [], ◌∷◌, ◌++◌, take, sym, ap, subst, ◌∙◌, arith, append_assoc, append-nil}
 use Rattle.std.proofs.lemmas.Bool.Decides.{nat_tests}
-use Rattle.run_devices.specs.Answers.{Answer, Gives, Waits, Fails, Stops, Tells, reaches_end, told_datagrams}
-use Rattle.run_devices.specs.declared.feed.FeedAnswer.TheVariants.{Datagram, Nothing, Fault, Ended}
-use Rattle.run_devices.proofs.AnswerLemmas.{told-next}
+use Rattle.studio_io.specs.Answers.{Answer, Gives, Waits, Fails, Stops, Tells, reaches_end, told_datagrams}
+use Rattle.studio_io.specs.declared.feed.FeedAnswer.TheVariants.{Datagram, Nothing, Fault, Ended}
+use Rattle.studio_io.proofs.AnswerLemmas.{told-next}
 use Rattle.studio_alone.specs.Takes.{GoesOn, HasCome, IsGiven}
 use Rattle.studio_alone.specs.declared.taker.Taker.{Taker}
 

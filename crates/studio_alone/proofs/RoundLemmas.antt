@@ -7,7 +7,7 @@ use Rattle.std.specs.Ordering.{int_eq}
 use Rattle.studio_session.specs.Event.{TraceEvent, Arrival, Reading, Closing}
 use Rattle.studio_session.specs.Fault.{closed_at, time_at}
 use Rattle.studio_engine.specs.Session.{turned}
-use Rattle.run_devices.specs.Clocks.{TellsTime, time_with}
+use Rattle.studio_io.specs.Clocks.{TellsTime, time_with}
 use Rattle.studio_alone.specs.Rounds.{AreArrivals, AreNext, AreRounds, Round, answers_of, arrivals_on, datagram_in, datagrams_on, events_by, time_by}
 
 pub datagrams-append : (s p : ℕ) (xs ys : List TraceEvent) → datagrams_on s p (xs ++ ys) ≡ datagrams_on s p xs ++ datagrams_on s p ys

@@ -11,10 +11,10 @@ use Rattle.studio_session.specs.Report.{AreCounts}
 use Rattle.studio_engine.specs.Engine.{EngineState, HasAllMarks}
 use Rattle.studio_engine.specs.Session.{HasSession, shut, turned}
 use Rattle.studio_engine.proofs.CountsLemmas.{settled_ready}
-use Rattle.run_devices.specs.Answers.{Answer}
-use Rattle.run_devices.specs.Clocks.{TellsTime, time_with}
-use Rattle.run_devices.specs.Sinks.{Hands}
-use Rattle.run_devices.specs.declared.report.WorkReport.{WorkReport}
+use Rattle.studio_io.specs.Answers.{Answer}
+use Rattle.studio_io.specs.Clocks.{TellsTime, time_with}
+use Rattle.studio_io.specs.Sinks.{Hands}
+use Rattle.studio_io.specs.declared.report.WorkReport.{WorkReport}
 use Rattle.studio_alone.specs.Rounds.{AreNext, AreRounds, Round, answers_of, datagrams_on, events_by, events_of, time_by}
 use Rattle.studio_alone.specs.Runs.{IsDone, IsSettledRun, IsTurned, IsUnderWay}
 use Rattle.studio_alone.specs.Sends.{HasSent}

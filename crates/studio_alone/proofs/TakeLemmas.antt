@@ -12,7 +12,7 @@ use Rattle.studio_session.specs.Fault.{time_at}
 use Rattle.studio_session.proofs.PlayLemmas.{set_here}
 use Rattle.studio_engine.specs.Engine.{EngineState}
 use Rattle.studio_engine.specs.Session.{HasSession, turned}
-use Rattle.run_devices.specs.Answers.{Answer, reaches_end, told_datagrams}
+use Rattle.studio_io.specs.Answers.{Answer, reaches_end, told_datagrams}
 use Rattle.studio_alone.specs.Rounds.{arrivals_on, datagrams_on}
 use Rattle.studio_alone.specs.Takes.{AllEnded, GoesOn, HaveBegun, HaveEnded, HaveGiven, IsGiven, Takes, TakesAll, TakesStream, new_taker}
 use Rattle.studio_alone.specs.Taps.{Heard, Hears, heard_by}

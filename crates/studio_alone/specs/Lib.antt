@@ -10,6 +10,6 @@ pub use Rattle.studio_session.specs.Event
 pub use Rattle.studio_session.specs.Report
 pub use Rattle.studio_engine.specs.Engine
 pub use Rattle.studio_engine.specs.Session
-pub use Rattle.run_devices.specs.Answers
-pub use Rattle.run_devices.specs.Balances
-pub use Rattle.run_devices.specs.Clocks
+pub use Rattle.studio_io.specs.Answers
+pub use Rattle.studio_io.specs.Balances
+pub use Rattle.studio_io.specs.Clocks

@@ -3,7 +3,7 @@ use Rattle.std.specs.Prelude.{◌≡◌, ℕ, ◌≤◌, Bool, true, false, ◌&
 use Rattle.studio_config.specs.Studio.{Studio}
 use Rattle.studio_session.specs.Event.{TraceEvent, Arrival, Reading, Closing}
 use Rattle.studio_engine.specs.Session.{turned}
-use Rattle.run_devices.specs.Clocks.{time_with}
+use Rattle.studio_io.specs.Clocks.{time_with}
 
 -- the datagram, where it arrived on this path of this stream
 abbrev pub datagram_in : ℕ → ℕ → TraceEvent → List (List ℕ)

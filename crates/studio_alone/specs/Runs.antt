@@ -6,9 +6,9 @@ use Rattle.studio_session.specs.Report.{AreCounts}
 use Rattle.studio_session.specs.Run.{AreDatagrams}
 use Rattle.studio_engine.specs.Engine.{HasAllMarks}
 use Rattle.studio_engine.specs.Session.{HasSession}
-use Rattle.run_devices.specs.Answers.{Answer, reaches_end, told_datagrams}
-use Rattle.run_devices.specs.Sinks.{Hands}
-use Rattle.run_devices.specs.declared.report.WorkReport.{WorkReport}
+use Rattle.studio_io.specs.Answers.{Answer, reaches_end, told_datagrams}
+use Rattle.studio_io.specs.Sinks.{Hands}
+use Rattle.studio_io.specs.declared.report.WorkReport.{WorkReport}
 use Rattle.studio_alone.specs.Rounds.{AreNext, AreRounds, Round, answers_of, datagrams_on, events_by, events_of, time_by}
 use Rattle.studio_alone.specs.Takes.{HaveGiven}
 use Rattle.studio_alone.specs.Taps.{Heard, Hears, heard_by}

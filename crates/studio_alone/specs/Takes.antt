@@ -7,7 +7,7 @@ use Rattle.studio_session.specs.Event.{TraceEvent}
 use Rattle.studio_session.specs.Fault.{time_at}
 use Rattle.studio_engine.specs.Engine.{EngineState}
 use Rattle.studio_engine.specs.Session.{HasSession}
-use Rattle.run_devices.specs.Answers.{Answer, reaches_end, told_datagrams}
+use Rattle.studio_io.specs.Answers.{Answer, reaches_end, told_datagrams}
 use Rattle.studio_alone.specs.Rounds.{AreArrivals, arrivals_on, datagrams_on}
 use Rattle.studio_alone.specs.Taps.{Heard, Hears, heard_by}
 use Rattle.studio_alone.specs.declared.taker.Taker.{Taker}

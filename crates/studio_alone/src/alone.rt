@@ -1,8 +1,8 @@
 //! A studio in one thread.
 ghost use Rattle.std.specs.Prelude.{◌≡◌, ℕ, ℤ, List, Option, true, map, IfOk};
 ghost use Rattle.studio_config.specs.Studio.{Studio};
-ghost use Rattle.run_devices.specs.Answers.{Answer};
-ghost use Rattle.run_devices.specs.Balances.{Balances};
+ghost use Rattle.studio_io.specs.Answers.{Answer};
+ghost use Rattle.studio_io.specs.Balances.{Balances};
 ghost use Rattle.studio_alone.specs.Runs.{IsDone, IsSettledRun, IsUnderWay};
 ghost use Rattle.studio_alone.specs.Takes.{AllEnded};
 ghost use Rattle.studio_alone.specs.Taps.{Heard};
@@ -13,11 +13,11 @@ use crate::rest::Rest;
 use crate::settle::settle;
 use crate::taker::all_takers;
 use crate::tap::Tap;
-use run_devices::{Clock, Feed, SendCounts, Sink, WorkReport};
 use std::alloc::{AllocError, Global};
 use std::sync::Wait;
 use studio_config::StudioSpec;
 use studio_engine::Engine;
+use studio_io::{Clock, Feed, SendCounts, Sink, WorkReport};
 
 /// Runs a studio in this thread until all feeds have ended and all datagrams were sent.
 ///

@@ -1,8 +1,8 @@
 //! All that a run in one thread moves, round by round.
 ghost use Rattle.std.specs.Prelude.{◌≡◌, ◌≤ℤ◌, pos, ◌^◌, ℕ, ℤ, List, Option, None, length, IfOk, OnOk};
 ghost use Rattle.studio_config.specs.Studio.{Studio};
-ghost use Rattle.run_devices.specs.Answers.{Answer};
-ghost use Rattle.run_devices.specs.Clocks.{time_with};
+ghost use Rattle.studio_io.specs.Answers.{Answer};
+ghost use Rattle.studio_io.specs.Clocks.{time_with};
 ghost use Rattle.studio_alone.specs.Runs.{IsTurned, IsUnderWay};
 ghost use Rattle.studio_alone.specs.Takes.{AllEnded};
 ghost use Rattle.studio_alone.specs.Taps.{Heard};
@@ -13,8 +13,8 @@ use crate::take::take_all;
 use crate::taker::{Taker, have_all_ended};
 use crate::tap::Tap;
 use path_merge::ClockFault;
-use run_devices::{Clock, Feed, SendCounts, Sink};
 use studio_engine::{ArriveFault, Engine};
+use studio_io::{Clock, Feed, SendCounts, Sink};
 
 /// The latest reading that is taken.
 const LATEST: i64 = 1_152_921_504_606_846_976;

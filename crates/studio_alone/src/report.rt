@@ -8,15 +8,15 @@ ghost use Rattle.studio_session.specs.Event.{TraceEvent};
 ghost use Rattle.studio_session.specs.Report.{AreCounts, AreCountsOf};
 ghost use Rattle.studio_engine.specs.Engine.{HasAllMarks};
 ghost use Rattle.studio_engine.specs.Session.{HasSession};
-ghost use Rattle.run_devices.specs.Balances.{Balances};
+ghost use Rattle.studio_io.specs.Balances.{Balances};
 
 use crate::desk::Desk;
 use crate::taker::Taker;
 use path_merge::{Path, StreamSpec};
 use rtp_stream::{Counts, PathCounts, StreamCounts};
-use run_devices::WorkReport;
 use std::alloc::{AllocError, Global};
 use studio_engine::Engine;
+use studio_io::WorkReport;
 
 /// The memory that a report needs, taken before the run.
 #[derive(Drop)]

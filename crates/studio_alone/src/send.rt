@@ -7,8 +7,8 @@ ghost use Rattle.studio_engine.specs.Session.{HasSession, turned};
 ghost use Rattle.studio_alone.specs.Sends.{HasSent};
 
 use path_merge::ClockFault;
-use run_devices::{SendCounts, Sink};
 use studio_engine::Engine;
+use studio_io::{SendCounts, Sink};
 
 /// Moves the engine on to a reading of the clock, and sends each datagram that is then due.
 pub(crate) fn send_due<K: Sink>(

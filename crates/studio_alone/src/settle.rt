@@ -1,7 +1,7 @@
 //! The end of a run.
 ghost use Rattle.std.specs.Prelude.{◌≡◌, ℕ, ℤ, List, Option, IsTrue};
 ghost use Rattle.studio_config.specs.Studio.{Studio};
-ghost use Rattle.run_devices.specs.Answers.{Answer};
+ghost use Rattle.studio_io.specs.Answers.{Answer};
 ghost use Rattle.studio_alone.specs.Runs.{IsDone, IsUnderWay};
 ghost use Rattle.studio_alone.specs.Takes.{AllEnded};
 ghost use Rattle.studio_alone.specs.Taps.{Heard};
@@ -9,7 +9,7 @@ ghost use Rattle.studio_alone.specs.Taps.{Heard};
 use crate::desk::Desk;
 use crate::send::send_rest;
 use crate::tap::Tap;
-use run_devices::{Clock, Feed, Sink};
+use studio_io::{Clock, Feed, Sink};
 
 /// Closes the engine, tells the tap of it, and sends what is left. Answers whether all was given.
 pub(crate) fn settle<F: Feed, C: Clock, K: Sink, T: Tap<F>>(desk: &mut Desk<F, C, K, T>) -> bool

@@ -8,8 +8,8 @@ ghost use Rattle.studio_alone.specs.Takes.{Takes, TakesAll, TakesStream};
 use crate::taker::Taker;
 use crate::tap::Tap;
 use path_merge::Path;
-use run_devices::{Feed, FeedAnswer};
 use studio_engine::{ArriveFault, Engine};
+use studio_io::{Feed, FeedAnswer};
 
 /// How many datagrams of a feed a round takes at most.
 const MOST_TAKEN: u32 = 64;

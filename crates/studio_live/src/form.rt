@@ -11,7 +11,6 @@ use live_run::{LiveFault, Setting, Signs, run_beside};
 use live_sockets::{Sockets, sockets_of};
 use live_view::Meter;
 use live_workers::run_in_workers;
-use run_devices::WorkReport;
 use run_record::Record;
 use std::alloc::{AllocError, Global};
 use std::io::Write;
@@ -21,6 +20,7 @@ use std::sync::Wait;
 use std::thread::Threads;
 use std::time::Clock;
 use studio_config::StudioSpec;
+use studio_io::WorkReport;
 
 /// What a run is started from, beside its studio.
 #[derive(Drop)]

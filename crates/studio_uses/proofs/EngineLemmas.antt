@@ -7,7 +7,7 @@ use Rattle.studio_session.specs.Event.{TraceEvent}
 use Rattle.studio_engine.specs.Engine.{EngineState}
 use Rattle.studio_engine.specs.Session.{Gives, HasSession, turned}
 use Rattle.studio_engine.proofs.EngineLemmas.{turned_same}
-use Rattle.run_devices.specs.Sinks.{Hands}
+use Rattle.studio_io.specs.Sinks.{Hands}
 use Rattle.studio_uses.specs.Engine.{HasSent}
 
 -- one turn after another, to the same reading

@@ -6,7 +6,7 @@ use Rattle.studio_session.specs.Event.{TraceEvent}
 use Rattle.studio_session.specs.Play.{feeds_of}
 use Rattle.studio_engine.specs.Engine.{EngineState}
 use Rattle.studio_engine.specs.Session.{HasSession}
-use Rattle.run_devices.specs.Sinks.{Hands}
+use Rattle.studio_io.specs.Sinks.{Hands}
 
 -- after these datagrams the engine gave more of its events, and the sink was handed exactly those
 pub record HasSent (studio : Studio) (engine : EngineState) (events : List TraceEvent) (datagrams : List (List ℕ)) (before after : Option (List (List ℕ))) : Type 0 where

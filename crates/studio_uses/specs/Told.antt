@@ -2,7 +2,7 @@
 use Rattle.std.specs.Prelude.{ℕ, List, [], ◌∷◌, ◌++◌, map, take}
 use Rattle.std.specs.declared.vec.Vec.{Vec}
 use Rattle.std.specs.declared.alloc.Global.{Global}
-use Rattle.run_devices.specs.Answers.{Answer, Gives, Stops}
+use Rattle.studio_io.specs.Answers.{Answer, Gives, Stops}
 
 -- all datagrams, of each at most 2,048 octets, and then the end
 abbrev pub told_of : List (Vec ℕ Global) → List Answer

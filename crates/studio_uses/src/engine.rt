@@ -8,8 +8,8 @@ ghost use Rattle.studio_engine.specs.Session.{HasSession, turned};
 ghost use Rattle.studio_uses.specs.Engine.{HasSent, HasSentReady};
 
 use path_merge::ClockFault;
-use run_devices::Sink;
 use studio_engine::Engine;
+use studio_io::Sink;
 
 /// Moves an engine on to a reading of the clock, and hands the sink each datagram that is then due.
 ///

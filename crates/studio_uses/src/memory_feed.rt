@@ -2,8 +2,8 @@
 ghost use Rattle.std.specs.Prelude.{◌≡◌};
 ghost use Rattle.studio_uses.specs.Told.{told_of};
 
-use run_devices::{Feed, FeedAnswer};
 use std::marker::Model;
+use studio_io::{Feed, FeedAnswer};
 
 /// Gives these datagrams, one after another, and tells so. Of one that is longer than the buffer it
 /// gives the front. Contracts see it as the answers that it is to give.
@@ -16,7 +16,7 @@ pub struct MemoryFeed<'a> {
 
 impl<'a> Model for MemoryFeed<'a> {
     ghost use Rattle.std.specs.Prelude.{List, [], drop, if◌then◌else◌};
-    ghost use Rattle.run_devices.specs.Answers.{Answer};
+    ghost use Rattle.studio_io.specs.Answers.{Answer};
     ghost use Rattle.studio_uses.specs.Told.{told_of};
 
     ghost Value = { List Answer };

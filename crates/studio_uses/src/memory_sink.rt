@@ -2,9 +2,9 @@
 ghost use Rattle.std.specs.Prelude.{◌≡◌, [], ◌∷◌, ◌++◌, Some, is_some, OnOk, IfSome};
 ghost use Rattle.studio_uses.specs.Told.{octets_of};
 
-use run_devices::{SendAnswer, Sink};
 use std::alloc::{AllocError, Global};
 use std::marker::Model;
+use studio_io::{SendAnswer, Sink};
 
 /// Keeps the datagrams that it is handed, in order. One for which memory is refused fails at both
 /// addresses. Contracts see it as all that it was handed, and as None once a datagram was not kept.

@@ -5,7 +5,7 @@ use Rattle.rtp_stream.specs.declared.stream_spec.Stream.{Stream}
 use Rattle.rtp_stream.specs.declared.event.Event.{Event}
 use Rattle.studio_rings.specs.declared.stream_end.StreamEnd.{StreamEnd}
 use Rattle.studio_rings.proofs.TurnLemmas.{producers}
-use Rattle.run_devices.specs.Clocks.{GoByClock, events_in}
+use Rattle.studio_io.specs.Clocks.{GoByClock, events_in}
 use Rattle.single_workers.specs.Turns.{Closes, GoesOn, KeepsTokens}
 use Rattle.single_workers.specs.declared.timed_stream.TimedStream.{TimedStream}
 use Rattle.studio_workers.specs.Ends.{ClosesLater}

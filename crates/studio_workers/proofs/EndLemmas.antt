@@ -29,8 +29,8 @@ use Rattle.studio_rings.specs.declared.side.Side.{Side}
 use Rattle.studio_rings.specs.declared.stream.StreamDone.{StreamDone}
 use Rattle.studio_rings.specs.declared.stream_end.StreamEnd.{StreamEnd}
 use Rattle.studio_rings.proofs.StreamLemmas.{packets_by-append}
-use Rattle.run_devices.specs.Answers.{Answer, CountsOthers, IsPartOf, reaches_end, told_datagrams, told_packets}
-use Rattle.run_devices.specs.Clocks.{GoByClock, events_in}
+use Rattle.studio_io.specs.Answers.{Answer, CountsOthers, IsPartOf, reaches_end, told_datagrams, told_packets}
+use Rattle.studio_io.specs.Clocks.{GoByClock, events_in}
 use Rattle.single_workers.specs.Paths.{IsPathResult, SendsFeed}
 use Rattle.single_workers.specs.Runs.{HasPathHistory, HavePathHistories, sent_total}
 use Rattle.single_workers.specs.Turns.{GoesOn, HaveArrived, HaveTold}

@@ -12,7 +12,7 @@ use Rattle.studio_rings.specs.Tokens.{HandsIn}
 use Rattle.studio_rings.specs.declared.path.PathDone.{PathDone}
 use Rattle.studio_rings.specs.declared.path_end.PathEnd.{PathEnd}
 use Rattle.studio_rings.specs.declared.side.Side.{Side}
-use Rattle.run_devices.specs.Answers.{Answer}
+use Rattle.studio_io.specs.Answers.{Answer}
 use Rattle.single_workers.specs.Paths.{IsPathResult, IsTokenOf}
 use Rattle.single_workers.specs.Turns.{AreSameRings, GoesOn, HaveTold}
 use Rattle.single_workers.specs.declared.path_job.PathJob.{PathJob}

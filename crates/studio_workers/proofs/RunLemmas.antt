@@ -24,8 +24,8 @@ use Rattle.studio_rings.specs.declared.side.Side.{Side}
 use Rattle.studio_rings.specs.declared.stream.StreamDone.{StreamDone}
 use Rattle.studio_rings.specs.declared.stream_end.StreamEnd.{StreamEnd}
 use Rattle.studio_rings.specs.declared.mix_end.MixEnd.{MixEnd}
-use Rattle.run_devices.specs.Answers.{Answer}
-use Rattle.run_devices.specs.declared.report.WorkReport.{WorkReport}
+use Rattle.studio_io.specs.Answers.{Answer}
+use Rattle.studio_io.specs.declared.report.WorkReport.{WorkReport}
 use Rattle.single_workers.specs.MixWorker.{Mixes}
 use Rattle.single_workers.specs.Runs.{HaveStreamHistories, IsSettledRun, feeds_of}
 use Rattle.single_workers.specs.StreamTokens.{AllGiveTokens, AllTellMarks, AreTold}

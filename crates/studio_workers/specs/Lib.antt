@@ -2,10 +2,10 @@ pub mod Ends
 pub mod Streams
 pub mod Jobs
 pub mod StreamResults
-pub use Rattle.run_devices.specs.Answers
-pub use Rattle.run_devices.specs.Clocks
-pub use Rattle.run_devices.specs.Sinks
-pub use Rattle.run_devices.specs.Balances
+pub use Rattle.studio_io.specs.Answers
+pub use Rattle.studio_io.specs.Clocks
+pub use Rattle.studio_io.specs.Sinks
+pub use Rattle.studio_io.specs.Balances
 pub use Rattle.single_workers.specs.Paths
 pub use Rattle.single_workers.specs.Turns
 pub use Rattle.single_workers.specs.MixWorker

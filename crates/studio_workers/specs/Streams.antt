@@ -16,8 +16,8 @@ use Rattle.studio_rings.specs.Tokens.{HandsIn}
 use Rattle.studio_rings.specs.declared.path.PathDone.{PathDone}
 use Rattle.studio_rings.specs.declared.path_end.PathEnd.{PathEnd}
 use Rattle.studio_rings.specs.declared.side.Side.{Side}
-use Rattle.run_devices.specs.Answers.{Answer}
-use Rattle.run_devices.specs.Clocks.{GoByClock, events_in}
+use Rattle.studio_io.specs.Answers.{Answer}
+use Rattle.studio_io.specs.Clocks.{GoByClock, events_in}
 use Rattle.single_workers.specs.Runs.{HasStreamHistory}
 use Rattle.single_workers.specs.Turns.{HaveArrived}
 use Rattle.single_workers.specs.declared.path_job.PathJob.{PathJob}

@@ -16,6 +16,4 @@ mod stream_nest;
 mod stream_worker;
 
 pub use run::run_workers;
-pub use run_devices::{
-    Clock, Feed, FeedAnswer, SendAnswer, SendCounts, Sink, WorkFault, WorkReport,
-};
+pub use studio_io::{Clock, Feed, FeedAnswer, SendAnswer, SendCounts, Sink, WorkFault, WorkReport};

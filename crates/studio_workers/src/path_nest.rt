@@ -5,13 +5,13 @@ ghost use Rattle.std.specs.List.{AllZip};
 ghost use Rattle.single_workers.specs.Paths.{IsPathResult};
 ghost use Rattle.single_workers.specs.Turns.{GoesOn};
 
-use run_devices::{Clock, Feed};
 use single_workers::{PathJob, PathResult, TimedStream, run_path};
 use std::snapshot::Snapshot;
 use std::sync::Wait;
 use std::sync::atomic::{AtomicBool, Ordering};
 use std::thread;
 use std::thread::{Promise, Threads};
+use studio_io::{Clock, Feed};
 
 /// A worker couldn't be started, and the others were told to stop.
 #[derive(Clone, Copy, Debug)]

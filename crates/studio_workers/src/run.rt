@@ -6,7 +6,7 @@ ghost use Rattle.studio_mix.specs.Feed.{Feed as FeedMarks};
 ghost use Rattle.studio_mix.specs.Blocks.{AreBlocks};
 ghost use Rattle.studio_rings.specs.Datagrams.{AreAllGiven};
 ghost use Rattle.studio_rings.specs.FreshEnds.{AllFreshStreams};
-ghost use Rattle.run_devices.specs.Balances.{Balances};
+ghost use Rattle.studio_io.specs.Balances.{Balances};
 ghost use Rattle.single_workers.specs.Runs.{IsSettledRun};
 ghost use Rattle.single_workers.specs.StreamTokens.{AllGiveTokens, AreAllDrained, AreTokensOf, AreTold};
 ghost use Rattle.studio_workers.specs.Jobs.{AreJobsOf, HaveRoom};
@@ -16,12 +16,12 @@ use crate::jobs::{stream_jobs, unset_flags};
 use crate::parts::{Parts, room_for_parts, take_apart};
 use crate::stream_job::{StreamJob, StreamResult};
 use crate::stream_nest::run_streams;
-use run_devices::{Clock, Feed, Sink, WorkFault, WorkReport};
 use single_workers::{MixResult, settle};
 use std::alloc::{AllocError, Global};
 use std::sync::Wait;
 use std::sync::atomic::AtomicBool;
 use std::thread::Threads;
+use studio_io::{Clock, Feed, Sink, WorkFault, WorkReport};
 use studio_rings::{Ends, PathEnd, StreamEnd};
 
 /// All that the workers start from, and room for all that they come to.

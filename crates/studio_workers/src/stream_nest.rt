@@ -9,13 +9,13 @@ ghost use Rattle.studio_workers.specs.Streams.{AllReady, IsReady, IsStreamResult
 use crate::path_nest::Stopped;
 use crate::stream_job::{StreamJob, StreamResult};
 use crate::stream_worker::run_stream;
-use run_devices::{Clock, Feed, Sink};
 use single_workers::{MixResult, run_mixer};
 use std::snapshot::Snapshot;
 use std::sync::Wait;
 use std::sync::atomic::{AtomicBool, Ordering};
 use std::thread;
 use std::thread::{Promise, Threads};
+use studio_io::{Clock, Feed, Sink};
 use studio_rings::MixEnd;
 
 /// What a stream's worker comes to.

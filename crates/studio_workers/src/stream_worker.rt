@@ -7,11 +7,11 @@ ghost use Rattle.studio_workers.specs.Ends.{ClosesLater, Drains};
 use crate::path_nest::{Stopped, run_paths};
 use crate::stream_job::{StreamJob, StreamResult};
 use rtp_stream::{PathCounts, StreamCounts};
-use run_devices::{Clock, Feed};
 use single_workers::{PathResult, Pause, TimedStream};
 use std::sync::Wait;
 use std::sync::atomic::{AtomicBool, Ordering};
 use std::thread::Threads;
+use studio_io::{Clock, Feed};
 use studio_rings::{PathDone, StreamEnd};
 
 /// The longest pause at a full ring of marks, in microseconds.

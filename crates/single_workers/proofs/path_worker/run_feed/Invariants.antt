@@ -1,6 +1,6 @@
 use Rattle.std.proofs.Common.{◌≡◌, ◌≤◌, length, true}
 use Rattle.rtrb.specs.Ring.{SameProducer}
-use Rattle.run_devices.specs.Answers.{reaches_end}
+use Rattle.studio_io.specs.Answers.{reaches_end}
 use Rattle.single_workers.specs.Paths.{SendsSoFar}
 use Rattle.single_workers.proofs.path_worker.run_feed.Given as goal
 

@@ -1,6 +1,6 @@
 use Rattle.std.proofs.Common.{◌≡◌, ℕ, ℤ, List, Option, length}
 use Rattle.studio_config.specs.Studio.{Studio}
-use Rattle.run_devices.specs.Answers.{Answer}
+use Rattle.studio_io.specs.Answers.{Answer}
 use Rattle.studio_alone.specs.Runs.{IsUnderWay}
 use Rattle.studio_alone.specs.Taps.{Heard}
 use Rattle.studio_alone.proofs.alone.run_rounds.Given as goal

@@ -4,7 +4,7 @@ use Rattle.rtp_stream.specs.declared.stream_spec.Stream.{Stream}
 use Rattle.studio_rings.specs.FreshEnds.{AllFreshStreams}
 use Rattle.studio_rings.specs.declared.path_end.PathEnd.{PathEnd}
 use Rattle.studio_rings.specs.declared.stream_end.StreamEnd.{StreamEnd}
-use Rattle.run_devices.specs.Answers.{Answer}
+use Rattle.studio_io.specs.Answers.{Answer}
 use Rattle.studio_workers.specs.Runs.{IsSettledRun}
 use Rattle.studio_workers.proofs.JobLemmas.{map_snoc}
 use Rattle.studio_uses.specs.Told.{told_of}

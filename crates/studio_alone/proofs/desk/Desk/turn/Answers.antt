@@ -1,5 +1,5 @@
 use Rattle.std.proofs.Common.{rules, ◌≡◌, refl, ap, ◌∙◌, to_z, of_z, w64}
-use Rattle.run_devices.specs.Clocks.{time_with}
+use Rattle.studio_io.specs.Clocks.{time_with}
 use Rattle.studio_alone.specs.Rounds.{events_by}
 use Rattle.studio_alone.proofs.RunLemmas.{turn-more}
 use Rattle.studio_alone.proofs.desk.Desk.turn.Goals as goal

@@ -2,9 +2,9 @@ use Rattle.std.proofs.Common.{◌≡◌, ℕ, suc, ◌+◌, ◌<◌, ◌≤◌, 
 use Rattle.std.proofs.Math.Nat.{min-le_right}
 use Rattle.std.proofs.Math.Seq.{drop-cons, take-append_seam}
 use Rattle.std.proofs.lemmas.List.{length-take-le, take_min}
-use Rattle.run_devices.specs.Answers.{Answer, Gives, Stops, Tells}
+use Rattle.studio_io.specs.Answers.{Answer, Gives, Stops, Tells}
 use Rattle.studio_uses.specs.Told.{told_of}
-use Rattle.run_devices.specs.declared.feed.FeedAnswer.TheVariants.{Datagram}
+use Rattle.studio_io.specs.declared.feed.FeedAnswer.TheVariants.{Datagram}
 use Rattle.studio_uses.proofs.memory_feed.MemoryFeedFeed.next.Goals as goal
 
 -- the octets that were copied to the front

@@ -1,6 +1,6 @@
 //! What came of a run.
 ghost use Rattle.std.specs.Prelude.{◌≡◌};
-ghost use Rattle.run_devices.specs.declared.report.WorkFault.TheVariants as fault;
+ghost use Rattle.studio_io.specs.declared.report.WorkFault.TheVariants as fault;
 
 use rtp_stream::StreamCounts;
 use std::alloc::AllocError;

@@ -1,6 +1,6 @@
 //! What tells the time.
 ghost use Rattle.std.specs.Prelude.{List, ℤ};
-ghost use Rattle.run_devices.specs.Clocks.{TellsTime};
+ghost use Rattle.studio_io.specs.Clocks.{TellsTime};
 
 /// A receiver's clock, in sampling instants. A worker goes by the greatest answer so far.
 pub trait Clock: Drop {

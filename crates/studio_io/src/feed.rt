@@ -1,6 +1,6 @@
 //! What hands datagrams to a path.
 ghost use Rattle.std.specs.Prelude.{◌≡◌, List, length};
-ghost use Rattle.run_devices.specs.Answers.{Answer, IsWithin, Tells};
+ghost use Rattle.studio_io.specs.Answers.{Answer, IsWithin, Tells};
 
 /// What a feed answers.
 #[derive(Clone, Copy, PartialEq, Eq, Debug)]

@@ -6,8 +6,8 @@ use Rattle.rtp_stream.specs.Reception.{reception_of, is_bad, is_wrong_length, is
 use Rattle.rtp_stream.specs.PathCounts.{PathTally}
 use Rattle.rtp_stream.specs.declared.reception.Reception.{Reception}
 use Rattle.rtp_stream.specs.declared.reception.Reception.TheVariants.{Sent, Bad, WrongType, WrongLength}
-use Rattle.run_devices.specs.declared.feed.FeedAnswer.{FeedAnswer}
-use Rattle.run_devices.specs.declared.feed.FeedAnswer.TheVariants.{Datagram, Nothing, Fault, Ended}
+use Rattle.studio_io.specs.declared.feed.FeedAnswer.{FeedAnswer}
+use Rattle.studio_io.specs.declared.feed.FeedAnswer.TheVariants.{Datagram, Nothing, Fault, Ended}
 
 pub data Answer : Type 0 where
   Gives : List ℕ → Answer

@@ -1,6 +1,6 @@
 //! Where datagrams go.
 ghost use Rattle.std.specs.Prelude.{List, ℕ, [], ◌∷◌, Option};
-ghost use Rattle.run_devices.specs.Sinks.{Hands};
+ghost use Rattle.studio_io.specs.Sinks.{Hands};
 
 /// Which of the two addresses took a datagram.
 #[derive(Clone, Copy, PartialEq, Eq, Debug)]

@@ -1,7 +1,7 @@
 -- A feed's answers, one after another.
 use Rattle.std.proofs.Common.{◌≡◌, ℕ, true, List, [], ◌∷◌, refl}
-use Rattle.run_devices.specs.Answers.{Answer, Tells, answer_of, reaches_end}
-use Rattle.run_devices.specs.declared.feed.FeedAnswer.{FeedAnswer}
+use Rattle.studio_io.specs.Answers.{Answer, Tells, answer_of, reaches_end}
+use Rattle.studio_io.specs.declared.feed.FeedAnswer.{FeedAnswer}
 
 -- what was told is what was answered
 pub told-next : (k : ℕ) (left : List Answer) (b : List ℕ) (r : FeedAnswer) (rest : List Answer) → reaches_end k left ≡ true → Tells left b r rest → left ≡ answer_of b r ∷ rest
