@@ -9,10 +9,10 @@ use capture_import::Routes;
 use capture_replay::{Listener, flows_of, opening_of, replay, replay_record};
 use capture_streams::Table;
 use command_words::ReplayWords;
+use reception_chart::{Extent, Streams};
 use std::alloc::Global;
 use std::io;
 use std::io::Write;
-use studio_chart::{Extent, Streams};
 use studio_config::StudioSpec;
 use studio_run::ReadFault;
 

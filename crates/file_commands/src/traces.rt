@@ -1,9 +1,9 @@
 //! What a configuration makes of the trace on standard input, as one text.
 use crate::config::{Configs, standard_studio, studio_of};
 use crate::fault::{Fault, written};
+use reception_chart::chart;
 use std::alloc::Global;
 use std::io::{Read, Write};
-use studio_chart::chart;
 use studio_run::{list_marks, list_marks_and_counts, play};
 use studio_summary::write_summary;
 

@@ -1,6 +1,6 @@
 //! Media time in spans of one length.
 ghost use Rattle.std.specs.Prelude.{◌≡◌, ◌<◌, ◌≤◌};
-ghost use Rattle.studio_chart.specs.Axis.{length_between, span_of};
+ghost use Rattle.reception_chart.specs.Axis.{length_between, span_of};
 
 /// The most spans of an axis.
 pub const MOST_BINS: usize = 480;

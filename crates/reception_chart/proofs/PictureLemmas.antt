@@ -5,7 +5,7 @@ use Rattle.studio_run.specs.Play.{FailsOf}
 use Rattle.studio_run.specs.StudioReport.{IsReport}
 use Rattle.studio_run.specs.declared.player.PlayFault.{PlayFault}
 use Rattle.studio_run.specs.declared.player.PlayFault.TheVariants.{Read, Memory, Trace, Run, Write}
-use Rattle.studio_chart.specs.Picture.{FailsDrawing}
+use Rattle.reception_chart.specs.Picture.{FailsDrawing}
 
 -- as for the report
 pub fails_early : (studio : Studio) (left left_then a b : Option (List ℕ)) (fault : PlayFault) → FailsOf studio IsReport left left_then a b fault

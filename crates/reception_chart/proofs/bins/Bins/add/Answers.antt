@@ -1,8 +1,8 @@
 use Rattle.std.proofs.Common.{w64, rules, ap, ◌∙◌}
 use Rattle.std.proofs.lemmas.Int.{to_z-of_z}
-use Rattle.studio_chart.specs.Bins.{bin_of}
-use Rattle.studio_chart.proofs.BinsLemmas.{added}
-use Rattle.studio_chart.proofs.bins.Bins.add.Goals as goal
+use Rattle.reception_chart.specs.Bins.{bin_of}
+use Rattle.reception_chart.proofs.BinsLemmas.{added}
+use Rattle.reception_chart.proofs.bins.Bins.add.Goals as goal
 
 pub returns-clause-counted : goal.returns-clause-counted
 returns-clause-counted c = λ seen short counted.

@@ -3,8 +3,8 @@ use Rattle.studio_run.specs.Trace.{trace_events}
 use Rattle.studio_run.specs.Play.{StopsAt}
 use Rattle.studio_run.specs.StudioReport.{IsReport}
 use Rattle.studio_run.proofs.PlayLemmas.{fails_before, fails_read, fails_reading}
-use Rattle.studio_chart.proofs.PictureLemmas.{fails_early}
-use Rattle.studio_chart.proofs.picture.chart.Goals as goal
+use Rattle.reception_chart.proofs.PictureLemmas.{fails_early}
+use Rattle.reception_chart.proofs.picture.chart.Goals as goal
 
 pub returns-in_err-trace-clause-fault : goal.returns-in_err-trace-clause-fault
 returns-in_err-trace-clause-fault g c =

@@ -1,6 +1,6 @@
 //! What is seen of a stream.
 ghost use Rattle.std.specs.Prelude.{◌≡◌, ◌<◌};
-ghost use Rattle.studio_chart.specs.Bins.{row_of};
+ghost use Rattle.reception_chart.specs.Bins.{row_of};
 
 use path_merge::Path;
 

@@ -1,5 +1,5 @@
 use Rattle.std.proofs.Common.{◌≡◌}
-use Rattle.studio_chart.proofs.watch.watch_stream.Given as goal
+use Rattle.reception_chart.proofs.watch.watch_stream.Given as goal
 
 -- so many events were taken, and their marks given
 abbrev pub invariant-loop-place : goal.invariant-loop-place

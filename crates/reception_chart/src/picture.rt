@@ -1,6 +1,6 @@
 //! From a trace to its picture.
 ghost use Rattle.std.specs.Prelude.{IfErr, OnOk};
-ghost use Rattle.studio_chart.specs.Picture.{Draws, FailsDrawing};
+ghost use Rattle.reception_chart.specs.Picture.{Draws, FailsDrawing};
 
 use crate::gather::Gathered;
 use crate::legend::push_legend;

@@ -1,6 +1,6 @@
 //! What was seen of a stream, by span and kind.
 ghost use Rattle.std.specs.Prelude.{◌≡◌, ◌+◌, ◌<◌, ◌^◌, ◌++◌, ◌∷◌, [], List, length, IfOk};
-ghost use Rattle.studio_chart.specs.Bins.{HasCounted, Seen, count_in};
+ghost use Rattle.reception_chart.specs.Bins.{HasCounted, Seen, count_in};
 
 use crate::axis::Axis;
 use crate::sighting::Kind;
@@ -19,7 +19,7 @@ pub struct Bins {
 
 impl Model for Bins {
     ghost use Rattle.std.specs.Prelude.{◌≡◌, ◌*◌, vec_len};
-    ghost use Rattle.studio_chart.specs.Bins.{BinsState};
+    ghost use Rattle.reception_chart.specs.Bins.{BinsState};
 
     ghost Value = { BinsState };
 

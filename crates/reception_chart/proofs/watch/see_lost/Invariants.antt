@@ -1,5 +1,5 @@
 use Rattle.studio_session.specs.Cursor.{IsSameCursor, way_left}
-use Rattle.studio_chart.proofs.watch.see_lost.Given as goal
+use Rattle.reception_chart.proofs.watch.see_lost.Given as goal
 
 -- some marks were given
 abbrev pub invariant-marks : goal.invariant-marks
