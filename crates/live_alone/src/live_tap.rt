@@ -1,7 +1,8 @@
 //! The tap of a run in one thread: its record and what is seen of it, where these are asked for.
 ghost use Rattle.std.specs.Prelude.{[], ◌∷◌, None};
-ghost use Rattle.studio_alone.specs.Taps.{Came, Closed, Hears};
+ghost use Rattle.engine_run.specs.Taps.{Came, Closed, Hears};
 
+use engine_run::Tap;
 use live_sockets::UdpFeed;
 use live_view::{EngineView, Showing};
 use rtp_stream::Path;
@@ -9,7 +10,6 @@ use run_record::{RecordTap, Way};
 use std::alloc::{AllocError, Global};
 use std::io::Write;
 use std::time::Clock;
-use studio_alone::Tap;
 use studio_config::StudioSpec;
 use studio_engine::Engine;
 use studio_session::Receipt;

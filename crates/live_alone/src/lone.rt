@@ -5,6 +5,7 @@ ghost use Rattle.live_run.specs.Run.{IsEarly, IsRunOf};
 use crate::by_stream::by_stream;
 use crate::live_tap::LiveTap;
 use crate::socket_rest::SocketRest;
+use engine_run::run_alone;
 use live_parts::{Recorded, Start, SystemClock};
 use live_run::{LiveFault, MeteredSink};
 use live_sockets::{Flags, Receiver, Sockets, UdpFeed, UdpSink, feeds_of};
@@ -13,7 +14,6 @@ use std::alloc::Global;
 use std::io::Write;
 use std::sync::Wait;
 use std::time::Clock;
-use studio_alone::run_alone;
 use studio_config::StudioSpec;
 use studio_io::WorkReport;
 

@@ -1,5 +1,6 @@
 //! How a run in one thread waits for its sockets.
 
+use engine_run::Rest;
 use libc::net::{POLLIN, poll};
 use libc::types::pollfd;
 use live_parts::SystemClock;
@@ -10,7 +11,6 @@ use std::sync::Wait;
 use std::sync::atomic::{AtomicBool, Ordering};
 use std::thread::Parker;
 use std::time::{Clock, Duration};
-use studio_alone::Rest;
 use studio_engine::Engine;
 use studio_io::Clock as ReadClock;
 

@@ -4,7 +4,7 @@ use Rattle.studio_config.specs.Studio.{Studio}
 use Rattle.studio_io.specs.Answers.{Answer}
 use Rattle.studio_io.specs.Balances.{Balances}
 use Rattle.single_workers.specs.Runs.{IsSettledRun}
-use Rattle.studio_alone.specs.Runs.{IsSettledRun as IsSettledAlone}
+use Rattle.engine_run.specs.Runs.{IsSettledRun as IsSettledAlone}
 use Rattle.studio_io.specs.declared.report.WorkReport.{WorkReport}
 use Rattle.live_run.specs.declared.fault.LiveFault.{LiveFault}
 use Rattle.live_run.specs.declared.fault.LiveFault.TheVariants.{Memory, Socket, Page, Thread, Unsettled, Write}

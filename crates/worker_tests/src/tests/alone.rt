@@ -5,11 +5,11 @@ use super::timed::{TimedClock, TimedFeed, TimedSink, WholeRest};
 use super::workers::{
     FAILURES, Failing, gave_both, has_failed, list_of, one_stream, only, sends, two_packets,
 };
+use engine_run::{Quiet, Rest, run_alone};
 use std::alloc::Global;
 use std::process::Abort;
 use std::sync::Wait;
 use std::sync::atomic::AtomicI64;
-use studio_alone::{Quiet, Rest, run_alone};
 use studio_uses::{MemoryClock, MemoryFeed, MemorySink};
 use studio_workers::{Clock, Feed, Sink, WorkReport};
 

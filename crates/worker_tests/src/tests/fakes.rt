@@ -1,9 +1,9 @@
 //! A feed and a sink that fail, and a rest that is none.
 ghost use Rattle.std.specs.Prelude.{[], map, Some};
 
+use engine_run::Rest;
 use std::alloc::Global;
 use std::process::Abort;
-use studio_alone::Rest;
 use studio_engine::Engine;
 use studio_uses::MemoryFeed;
 use studio_workers::{Feed, FeedAnswer, SendAnswer, Sink};

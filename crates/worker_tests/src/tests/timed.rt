@@ -1,8 +1,8 @@
 //! A clock, a feed, a sink and a rest that share a time, which moves on only by the rests.
 ghost use Rattle.std.specs.Prelude.{[], None};
 
+use engine_run::Rest;
 use std::sync::atomic::{AtomicI64, Ordering};
-use studio_alone::Rest;
 use studio_engine::Engine;
 use studio_uses::MemoryFeed;
 use studio_workers::{Clock, Feed, FeedAnswer, SendAnswer, Sink};

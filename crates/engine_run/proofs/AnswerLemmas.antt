@@ -1,0 +1,86 @@
+-- A feed's datagrams, one answer further.
+use Rattle.std.proofs.Common.{◌≡◌, ℕ, ◌+◌, ◌≤◌, ◌<◌, true, false, nat_eq, List, [], ◌∷◌, ◌++◌, take, sym, ap, subst, ◌∙◌, arith, append_assoc, append-nil}
+use Rattle.std.proofs.lemmas.Bool.Decides.{nat_tests}
+use Rattle.studio_io.specs.Answers.{Answer, Gives, Waits, Fails, Stops, Tells, reaches_end, told_datagrams}
+use Rattle.studio_io.specs.declared.feed.FeedAnswer.TheVariants.{Datagram, Nothing, Fault, Ended}
+use Rattle.studio_io.proofs.AnswerLemmas.{told-next}
+use Rattle.engine_run.specs.Takes.{GoesOn, HasCome, IsGiven}
+use Rattle.engine_run.specs.declared.taker.Taker.{Taker}
+
+come-datagram : (all : List Answer) (k : ℕ) (left : List Answer) (octets : List ℕ) (before : List (List ℕ)) → HasCome all false k (Gives octets ∷ left) before → HasCome all false 0 left (before ++ octets ∷ [])
+unfolding reaches_end told_datagrams
+come-datagram all k left octets before h = (omega arith, h.1, append_assoc before (octets ∷ []) (told_datagrams 0 left) ∙ h.2)
+
+come-nothing : (all : List Answer) (k : ℕ) (left : List Answer) (before : List (List ℕ)) → HasCome all false k (Waits ∷ left) before → HasCome all false 0 left (before ++ [])
+unfolding reaches_end told_datagrams
+come-nothing all k left before h = (omega arith, h.1, ap (λ l. l ++ told_datagrams 0 left) (append-nil before) ∙ h.2)
+
+come-fault : (all : List Answer) (k : ℕ) (left : List Answer) (before : List (List ℕ)) → (k ≡ 999 → ⊥) → HasCome all false k (Fails ∷ left) before → HasCome all false (k + 1) left (before ++ [])
+unfolding reaches_end told_datagrams
+come-fault all k left before n h =
+    let no : nat_eq k 999 ≡ false = grind (arith, nat_tests) in
+    let row = h.0 in
+    (omega (arith, row, n), rw no at h.1, ap (λ l. l ++ told_datagrams (k + 1) left) (append-nil before) ∙ (rw no at h.2))
+
+come-last : (all : List Answer) (left : List Answer) (before : List (List ℕ)) → HasCome all false 999 (Fails ∷ left) before → HasCome all true 999 left (before ++ [])
+unfolding told_datagrams
+come-last all left before h = h.2
+
+come-end : (all : List Answer) (k : ℕ) (left : List Answer) (before : List (List ℕ)) → HasCome all false k (Stops ∷ left) before → HasCome all true k left (before ++ [])
+unfolding told_datagrams
+come-end all k left before h = h.2
+
+module _ {F : Type 0} (feed_told : F → List Answer) where
+  -- a feed that isn't asked
+  pub goes-nowhere : (taker : Taker F) → GoesOn feed_told taker taker []
+  goes-nowhere taker = λ all before given whole. subst (λ l. HasCome all taker.ended taker.in_a_row (feed_told taker.feed) l) (sym (append-nil before)) (given whole)
+
+  -- one that gave these datagrams, and then those
+  pub goes-further : (a b c : Taker F) (first more : List (List ℕ)) → GoesOn feed_told a b first → GoesOn feed_told b c more → GoesOn feed_told a c (first ++ more)
+  goes-further a b c first more h k = λ all before given. subst (IsGiven feed_told all c) (append_assoc before first more) (k all (before ++ first) (h all before given))
+
+  asked : (old : Taker F) (all : List Answer) (before : List (List ℕ)) → old.ended ≡ false → IsGiven feed_told all old before → reaches_end 0 all ≡ true → HasCome all false old.in_a_row (feed_told old.feed) before
+  asked old all before yet given whole = subst (λ b. HasCome all b old.in_a_row (feed_told old.feed) before) yet (given whole)
+
+  pub goes-datagram : (old new : Taker F) (buf : List ℕ) (n : ℕ) → old.ended ≡ false → new.ended ≡ false → new.in_a_row ≡ 0 → Tells (feed_told old.feed) buf (Datagram n) (feed_told new.feed)
+      → GoesOn feed_told old new (take n buf ∷ [])
+  goes-datagram old new buf n yet still row tells = λ all before given whole.
+      let come = asked old all before yet given whole in
+      let next = told-next old.in_a_row (feed_told old.feed) buf (Datagram n) (feed_told new.feed) come.1 tells in
+      subst (λ b. HasCome all b new.in_a_row (feed_told new.feed) (before ++ take n buf ∷ [])) (sym still)
+      (subst (λ k. HasCome all false k (feed_told new.feed) (before ++ take n buf ∷ [])) (sym row)
+      (come-datagram all old.in_a_row (feed_told new.feed) (take n buf) before (subst (λ l. HasCome all false old.in_a_row l before) next come)))
+
+  pub goes-nothing : (old new : Taker F) (buf : List ℕ) → old.ended ≡ false → new.ended ≡ false → new.in_a_row ≡ 0 → Tells (feed_told old.feed) buf Nothing (feed_told new.feed)
+      → GoesOn feed_told old new []
+  goes-nothing old new buf yet still row tells = λ all before given whole.
+      let come = asked old all before yet given whole in
+      let next = told-next old.in_a_row (feed_told old.feed) buf Nothing (feed_told new.feed) come.1 tells in
+      subst (λ b. HasCome all b new.in_a_row (feed_told new.feed) (before ++ [])) (sym still)
+      (subst (λ k. HasCome all false k (feed_told new.feed) (before ++ [])) (sym row)
+      (come-nothing all old.in_a_row (feed_told new.feed) before (subst (λ l. HasCome all false old.in_a_row l before) next come)))
+
+  pub goes-fault : (old new : Taker F) (buf : List ℕ) → old.ended ≡ false → new.ended ≡ false → old.in_a_row < 999 → new.in_a_row ≡ old.in_a_row + 1
+      → Tells (feed_told old.feed) buf Fault (feed_told new.feed) → GoesOn feed_told old new []
+  goes-fault old new buf yet still more row tells = λ all before given whole.
+      let come = asked old all before yet given whole in
+      let next = told-next old.in_a_row (feed_told old.feed) buf Fault (feed_told new.feed) come.1 tells in
+      subst (λ b. HasCome all b new.in_a_row (feed_told new.feed) (before ++ [])) (sym still)
+      (subst (λ k. HasCome all false k (feed_told new.feed) (before ++ [])) (sym row)
+      (come-fault all old.in_a_row (feed_told new.feed) before (λ e. absurd (omega (arith, more, e))) (subst (λ l. HasCome all false old.in_a_row l before) next come)))
+
+  pub goes-last : (old new : Taker F) (buf : List ℕ) → old.ended ≡ false → new.ended ≡ true → 999 ≤ old.in_a_row
+      → Tells (feed_told old.feed) buf Fault (feed_told new.feed) → GoesOn feed_told old new []
+  goes-last old new buf yet still row tells = λ all before given whole.
+      let come = asked old all before yet given whole in
+      let next = told-next old.in_a_row (feed_told old.feed) buf Fault (feed_told new.feed) come.1 tells in
+      subst (λ b. HasCome all b new.in_a_row (feed_told new.feed) (before ++ [])) (sym still)
+      (come-last all (feed_told new.feed) before (subst (λ k. HasCome all false k (Fails ∷ feed_told new.feed) before) (let few = come.0 in omega (arith, row, few)) (subst (λ l. HasCome all false old.in_a_row l before) next come)))
+
+  pub goes-end : (old new : Taker F) (buf : List ℕ) → old.ended ≡ false → new.ended ≡ true
+      → Tells (feed_told old.feed) buf Ended (feed_told new.feed) → GoesOn feed_told old new []
+  goes-end old new buf yet still tells = λ all before given whole.
+      let come = asked old all before yet given whole in
+      let next = told-next old.in_a_row (feed_told old.feed) buf Ended (feed_told new.feed) come.1 tells in
+      subst (λ b. HasCome all b new.in_a_row (feed_told new.feed) (before ++ [])) (sym still)
+      (come-end all old.in_a_row (feed_told new.feed) before (subst (λ l. HasCome all false old.in_a_row l before) next come))

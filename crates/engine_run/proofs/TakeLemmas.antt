@@ -1,0 +1,279 @@
+-- What was taken of the feeds, one answer, one feed and one stream further.
+use Rattle.std.proofs.Common.{◌≡◌, ◌≢◌, inl, inr, ℕ, zero, suc, ◌+◌, ◌≤◌, ◌<◌, true, List, [], ◌∷◌, ◌++◌, length, map, get_or, ℤ, Option, Some, slice_get, unwrap_or, refl, sym, ap, subst, ◌∙◌, arith, append_assoc, append-nil, length-append}
+use Rattle.std.specs.declared.vec.Vec.{Vec}
+use Rattle.std.specs.declared.alloc.Global.{Global}
+use Rattle.std.proofs.Math.ListN.{set}
+use Rattle.std.proofs.lemmas.Bool.{cases_eq}
+use Rattle.std.proofs.lemmas.List.{get_or-set_other, length-set}
+use Rattle.std.proofs.lemmas.Option.{get_or_from_slice_get, slice_get_read, slice_get_within}
+use Rattle.studio_config.specs.Studio.{Studio}
+use Rattle.studio_session.specs.Event.{TraceEvent, Arrival}
+use Rattle.studio_session.specs.Fault.{time_at}
+use Rattle.studio_session.proofs.PlayLemmas.{set_here}
+use Rattle.studio_engine.specs.Engine.{EngineState}
+use Rattle.studio_engine.specs.Session.{HasSession, turned}
+use Rattle.studio_io.specs.Answers.{Answer, reaches_end, told_datagrams}
+use Rattle.engine_run.specs.Rounds.{arrivals_on, datagrams_on}
+use Rattle.engine_run.specs.Takes.{AllEnded, GoesOn, HaveBegun, HaveEnded, HaveGiven, IsGiven, Takes, TakesAll, TakesStream, new_taker}
+use Rattle.engine_run.specs.Taps.{Heard, Hears, heard_by}
+use Rattle.engine_run.specs.declared.taker.Taker.{Taker}
+use Rattle.engine_run.proofs.AnswerLemmas.{goes-further, goes-nowhere}
+use Rattle.engine_run.proofs.RoundLemmas.{are_arrivals, arrivals-append, datagrams-append, datagrams-turned, more_beside, more_elsewhere, more_here, none_more, none_before}
+use Rattle.engine_run.proofs.TellLemmas.{adds_none, hears_more}
+
+-- an element beside one that was written
+set_apart : {X : Type 0} (xs : List X) (i j : ℕ) (v w : X) → j ≢ i → slice_get xs j ≡ Some w → slice_get (set xs i v) j ≡ Some w
+set_apart xs i j v w ne at =
+    let within : j < length xs = slice_get_within xs j w at in
+    slice_get_read (set xs i v) (length xs) j w (sym (length-set xs i v)) within (sym (get_or-set_other xs i j v w ne ∙ get_or_from_slice_get xs j w w at))
+
+-- what two reads of one place give
+same_at : {X : Type 0} (xs : List X) (i : ℕ) (d w : X) → slice_get xs i ≡ Some w → get_or xs i d ≡ w
+same_at xs i d w at = get_or_from_slice_get xs i w d at
+
+past : (i j : ℕ) → i + 1 ≤ j → j ≢ i
+past i j h = λ e. absurd (omega (arith, h, e))
+
+arrivals-more : (stream path : ℕ) (xs ys : List (List ℕ)) → arrivals_on stream path (xs ++ ys) ≡ arrivals_on stream path xs ++ arrivals_on stream path ys
+arrivals-more stream path [] ys = refl
+arrivals-more stream path (x ∷ xs) ys = ap (λ l. Arrival stream path x ∷ l) (arrivals-more stream path xs ys)
+
+-- one element more was made of another
+pub begun-more : {A B : Type 0} (v : A → B) (taken news : List B) (x : A) (y : B) (rest left : List A) (all : List B) → taken ++ map v rest ≡ all → rest ≡ x ∷ left → news ≡ taken ++ y ∷ [] → y ≡ v x
+    → news ++ map v left ≡ all
+begun-more v taken news x y rest left all h rest_is news_is y_is =
+    ap (λ l. l ++ map v left) (news_is ∙ ap (λ z. taken ++ z ∷ []) y_is)
+    ∙ (append_assoc taken (v x ∷ []) (map v left) ∙ (ap (λ r. taken ++ map v r) (sym rest_is) ∙ h))
+
+module _ {F : Type 0} where
+  -- the first so many feeds of a stream have ended, or those of the first streams
+  abbrev pub FirstEnded : List (Taker F) → ℕ → Type 0
+  FirstEnded takers count = (path : ℕ) (taker : Taker F) → path < count → slice_get takers path ≡ Some taker → taker.ended ≡ true
+
+  abbrev pub FirstAllEnded : List (Vec (Taker F) Global) → ℕ → Type 0
+  FirstAllEnded streams count = (stream : ℕ) (own : Vec (Taker F) Global) → stream < count → slice_get streams stream ≡ Some own → HaveEnded own.items
+
+  pub ended-none : (takers : List (Taker F)) → FirstEnded takers 0
+  ended-none takers = λ path taker h at. absurd (omega (arith, h))
+
+  pub ended-more : (takers : List (Taker F)) (i : ℕ) (d : Taker F) → FirstEnded takers i → (get_or takers i d).ended ≡ true → FirstEnded takers (i + 1)
+  ended-more takers i d before over = λ path taker h at. elim (cases_eq path i) [
+    | inl e ↦ subst (λ (t : Taker F). t.ended ≡ true) (same_at takers i d taker (subst (λ p. slice_get takers p ≡ Some taker) e at)) over
+    | inr ne ↦ before path taker (omega (arith, h, ne)) at
+  ]
+
+  pub ended-all : (takers : List (Taker F)) (i : ℕ) → FirstEnded takers i → length takers ≤ i → HaveEnded takers
+  ended-all takers i before all = λ path taker at. let within : path < length takers = slice_get_within takers path taker at in before path taker (omega (arith, within, all)) at
+
+  pub all-ended-none : (streams : List (Vec (Taker F) Global)) → FirstAllEnded streams 0
+  all-ended-none streams = λ stream own h at. absurd (omega (arith, h))
+
+  pub all-ended-more : (streams : List (Vec (Taker F) Global)) (i : ℕ) (d : Vec (Taker F) Global) → FirstAllEnded streams i → HaveEnded (get_or streams i d).items → FirstAllEnded streams (i + 1)
+  all-ended-more streams i d before over = λ stream own h at. elim (cases_eq stream i) [
+    | inl e ↦ subst (λ (v : Vec (Taker F) Global). HaveEnded v.items) (same_at streams i d own (subst (λ s. slice_get streams s ≡ Some own) e at)) over
+    | inr ne ↦ before stream own (omega (arith, h, ne)) at
+  ]
+
+  pub all-ended-all : (streams : List (Vec (Taker F) Global)) (i : ℕ) → FirstAllEnded streams i → length streams ≤ i → AllEnded streams
+  all-ended-all streams i before all = λ stream own at. let within : stream < length streams = slice_get_within streams stream own at in before stream own (omega (arith, within, all)) at
+
+module _ {F : Type 0} (feed_told : F → List Answer) where
+  -- a feed that gave nothing
+  pub takes-none : (studio : Studio) (engine : EngineState) (events : List TraceEvent) (datagrams : List (List ℕ)) (stream path : ℕ) (old new : Taker F) (o : Option (List Heard)) (most : ℕ)
+      → HasSession studio engine events datagrams → GoesOn feed_told old new [] → Takes feed_told studio engine events datagrams stream path old new o o most
+  takes-none studio engine events datagrams stream path old new o most s goes = record {
+    given = [];
+    few = omega arith;
+    stands = subst (λ l. HasSession studio engine l datagrams) (sym (append-nil events)) s;
+    heard = adds_none o;
+    goes_on = goes;
+  }
+
+  -- one answer more
+  pub takes-more : (studio : Studio) (mid new : EngineState) (events : List TraceEvent) (datagrams : List (List ℕ)) (stream path : ℕ) (a b c : Taker F) (o p q : Option (List Heard)) (most : ℕ)
+      → (t : Takes feed_told studio mid events datagrams stream path a b o p most) → Takes feed_told studio new (events ++ arrivals_on stream path t.given) datagrams stream path b c p q 1
+      → Takes feed_told studio new events datagrams stream path a c o q (most + 1)
+  takes-more studio mid new events datagrams stream path a b c o p q most t one = record {
+    given = t.given ++ one.given;
+    few = let f = t.few in let g = one.few in omega (arith, f, g, length-append t.given one.given);
+    stands = subst (λ l. HasSession studio new l datagrams)
+        (append_assoc events (arrivals_on stream path t.given) (arrivals_on stream path one.given) ∙ ap (λ l. events ++ l) (sym (arrivals-more stream path t.given one.given))) one.stands;
+    heard = subst (λ l. Hears o (heard_by (time_at studio.open_at events) l) q) (sym (arrivals-more stream path t.given one.given))
+        (hears_more studio.open_at events o p q (arrivals_on stream path t.given) (arrivals_on stream path one.given) t.heard one.heard);
+    goes_on = goes-further feed_told a b c t.given one.given t.goes_on one.goes_on;
+  }
+
+  -- fewer than so many
+  pub takes-within : (studio : Studio) (engine : EngineState) (events : List TraceEvent) (datagrams : List (List ℕ)) (stream path : ℕ) (old new : Taker F) (o p : Option (List Heard)) (n most : ℕ)
+      → n ≤ most → Takes feed_told studio engine events datagrams stream path old new o p n → Takes feed_told studio engine events datagrams stream path old new o p most
+  takes-within studio engine events datagrams stream path old new o p n most h t = record { given = t.given; few = (let f = t.few in omega (arith, f, h)); stands = t.stands; heard = t.heard; goes_on = t.goes_on }
+
+  -- no feed of a stream yet
+  pub stream-none : (studio : Studio) (engine : EngineState) (events : List TraceEvent) (datagrams : List (List ℕ)) (stream : ℕ) (takers : List (Taker F)) (o : Option (List Heard))
+      → HasSession studio engine events datagrams → TakesStream feed_told studio engine events datagrams stream takers takers o o 0
+  stream-none studio engine events datagrams stream takers o s = record {
+    arrivals = [];
+    stands = subst (λ l. HasSession studio engine l datagrams) (sym (append-nil events)) s;
+    heard = adds_none o;
+    arrive = tt;
+    few = λ path. omega arith;
+    later = λ path h. refl;
+    others = λ t path ne. refl;
+    rest = λ path taker h at. at;
+    each = λ path old at. (old, at, goes-nowhere feed_told old);
+  }
+
+  module _ (studio : Studio) (mid new : EngineState) (events : List TraceEvent) (datagrams : List (List ℕ)) (stream i : ℕ) (olds now : List (Taker F)) (d moved : Taker F) (o p q : Option (List Heard))
+      (before : TakesStream feed_told studio mid events datagrams stream olds now o p i) (within : i < length now)
+      (t : Takes feed_told studio new (events ++ before.arrivals) datagrams stream i (get_or now i d) moved p q 64) where
+    here : (path : ℕ) → path ≡ i → datagrams_on stream path (before.arrivals ++ arrivals_on stream i t.given) ≡ t.given
+    here path e = subst (λ p. datagrams_on stream p (before.arrivals ++ arrivals_on stream i t.given) ≡ t.given) (sym e) (more_here stream i before.arrivals t.given (before.later i (omega arith)))
+
+    beside : (path : ℕ) → path ≢ i → datagrams_on stream path (before.arrivals ++ arrivals_on stream i t.given) ≡ datagrams_on stream path before.arrivals
+    beside path ne = more_beside stream i path before.arrivals t.given ne
+
+    -- one feed more
+    pub stream-more : TakesStream feed_told studio new events datagrams stream olds (set now i moved) o q (i + 1)
+    stream-more = record {
+      arrivals = before.arrivals ++ arrivals_on stream i t.given;
+      stands = subst (λ l. HasSession studio new l datagrams) (append_assoc events before.arrivals (arrivals_on stream i t.given)) t.stands;
+      heard = hears_more studio.open_at events o p q before.arrivals (arrivals_on stream i t.given) before.heard t.heard;
+      arrive = arrivals-append before.arrivals (arrivals_on stream i t.given) before.arrive (are_arrivals stream i t.given);
+      few = λ path. elim (cases_eq path i) [
+        | inl e ↦ let f = t.few in let g = ap length (here path e) in omega (arith, f, g)
+        | inr ne ↦ let f = before.few path in let g = ap length (beside path ne) in omega (arith, f, g)
+      ];
+      later = λ path h. beside path (past i path h) ∙ before.later path (omega (arith, h));
+      others = λ s path ne. more_elsewhere stream i s path before.arrivals t.given ne ∙ before.others s path ne;
+      rest = λ path taker h at. set_apart now i path moved taker (past i path h) (before.rest path taker (omega (arith, h)) at);
+      each = λ path old at. elim (cases_eq path i) [
+        | inl e ↦
+            let there : slice_get now i ≡ Some old = before.rest i old (omega arith) (subst (λ p. slice_get olds p ≡ Some old) e at) in
+            let old_is : get_or now i d ≡ old = same_at now i d old there in (
+              moved,
+              subst (λ p. slice_get (set now i moved) p ≡ Some moved) (sym e) (set_here now i moved within),
+              subst (GoesOn feed_told old moved) (sym (here path e)) (subst (λ o. GoesOn feed_told o moved t.given) old_is t.goes_on),
+            )
+        | inr ne ↦
+            let found = before.each path old at in
+            (found.0, set_apart now i path moved found.0 ne found.1, subst (GoesOn feed_told old found.0) (sym (beside path ne)) found.2)
+      ];
+    }
+
+  -- no stream's feeds yet
+  pub all-none : (studio : Studio) (engine : EngineState) (events : List TraceEvent) (datagrams : List (List ℕ)) (takers : List (Vec (Taker F) Global)) (o : Option (List Heard))
+      → HasSession studio engine events datagrams → TakesAll feed_told studio engine events datagrams takers takers o o 0
+  all-none studio engine events datagrams takers o s = record {
+    arrivals = [];
+    stands = subst (λ l. HasSession studio engine l datagrams) (sym (append-nil events)) s;
+    heard = adds_none o;
+    arrive = tt;
+    few = λ stream path. omega arith;
+    later = λ stream path h. refl;
+    rest = λ stream own h at. at;
+    each = λ stream own at. (own, at, λ path old there. (old, there, goes-nowhere feed_told old));
+  }
+
+  module _ (studio : Studio) (mid new : EngineState) (events : List TraceEvent) (datagrams : List (List ℕ)) (i : ℕ) (olds now : List (Vec (Taker F) Global)) (d moved : Vec (Taker F) Global) (o p q : Option (List Heard))
+      (before : TakesAll feed_told studio mid events datagrams olds now o p i) (within : i < length now)
+      (t : TakesStream feed_told studio new (events ++ before.arrivals) datagrams i (get_or now i d).items moved.items p q (length (get_or now i d).items)) where
+    own : (stream path : ℕ) → stream ≡ i → datagrams_on stream path (before.arrivals ++ t.arrivals) ≡ datagrams_on i path t.arrivals
+    own stream path e = subst (λ s. datagrams_on s path (before.arrivals ++ t.arrivals) ≡ datagrams_on i path t.arrivals) (sym e) (none_before i path before.arrivals t.arrivals (before.later i path (omega arith)))
+
+    other : (stream path : ℕ) → stream ≢ i → datagrams_on stream path (before.arrivals ++ t.arrivals) ≡ datagrams_on stream path before.arrivals
+    other stream path ne = none_more stream path before.arrivals t.arrivals (t.others stream path ne)
+
+    -- one stream's more
+    pub all-more : TakesAll feed_told studio new events datagrams olds (set now i moved) o q (i + 1)
+    all-more = record {
+      arrivals = before.arrivals ++ t.arrivals;
+      stands = subst (λ l. HasSession studio new l datagrams) (append_assoc events before.arrivals t.arrivals) t.stands;
+      heard = hears_more studio.open_at events o p q before.arrivals t.arrivals before.heard t.heard;
+      arrive = arrivals-append before.arrivals t.arrivals before.arrive t.arrive;
+      few = λ stream path. elim (cases_eq stream i) [
+        | inl e ↦ let f = t.few path in let g = ap length (own stream path e) in omega (arith, f, g)
+        | inr ne ↦ let f = before.few stream path in let g = ap length (other stream path ne) in omega (arith, f, g)
+      ];
+      later = λ stream path h. other stream path (past i stream h) ∙ before.later stream path (omega (arith, h));
+      rest = λ stream takers h at. set_apart now i stream moved takers (past i stream h) (before.rest stream takers (omega (arith, h)) at);
+      each = λ stream takers at. elim (cases_eq stream i) [
+        | inl e ↦
+            let there : slice_get now i ≡ Some takers = before.rest i takers (omega arith) (subst (λ s. slice_get olds s ≡ Some takers) e at) in
+            let is : get_or now i d ≡ takers = same_at now i d takers there in (
+              moved,
+              subst (λ s. slice_get (set now i moved) s ≡ Some moved) (sym e) (set_here now i moved within),
+              λ path old found.
+                  let more = t.each path old (subst (λ (v : Vec (Taker F) Global). slice_get v.items path ≡ Some old) (sym is) found) in
+                  (more.0, more.1, subst (GoesOn feed_told old more.0) (sym (own stream path e)) more.2),
+            )
+        | inr ne ↦
+            let found = before.each stream takers at in (
+              found.0,
+              set_apart now i stream moved found.0 ne found.1,
+              λ path old there.
+                  let more = found.2 path old there in
+                  (more.0, more.1, subst (GoesOn feed_told old more.0) (sym (other stream path ne)) more.2),
+            )
+      ];
+    }
+
+  -- what the feeds gave stays so after a reading
+  pub given-turned : (all : List (List (List Answer))) (takers : List (Vec (Taker F) Global)) (old new : ℤ) (events : List TraceEvent)
+      → HaveGiven feed_told all takers events → HaveGiven feed_told all takers (turned old new events)
+  given-turned all takers old new events h = record {
+    each = λ stream own at.
+        let found = h.each stream own at in (
+          found.0,
+          found.1,
+          λ path told there.
+              let more = found.2 path told there in
+              (more.0, more.1, subst (IsGiven feed_told told more.0) (sym (datagrams-turned stream path old new events)) more.2),
+        );
+  }
+
+  -- and goes on by what was taken
+  pub given-more : (studio : Studio) (engine : EngineState) (all : List (List (List Answer))) (olds news : List (Vec (Taker F) Global)) (events : List TraceEvent) (datagrams : List (List ℕ)) (o p : Option (List Heard)) (count : ℕ)
+      → HaveGiven feed_told all olds events → (t : TakesAll feed_told studio engine events datagrams olds news o p count) → HaveGiven feed_told all news (events ++ t.arrivals)
+  given-more studio engine all olds news events datagrams o p count h t = record {
+    each = λ stream own at.
+        let found = h.each stream own at in
+        let moved = t.each stream found.0 found.1 in (
+          moved.0,
+          moved.1,
+          λ path told there.
+              let taker = found.2 path told there in
+              let more = moved.2 path taker.0 taker.1 in
+              (more.0, more.1, subst (IsGiven feed_told told more.0) (sym (datagrams-append stream path events t.arrivals)) (more.2 told (datagrams_on stream path events) taker.2)),
+        );
+  }
+
+  -- an element of a list that was made of another
+  map_at : {A B : Type 0} (v : A → B) (xs : List A) (i : ℕ) (y : B) → slice_get (map v xs) i ≡ Some y → (x : A) × (slice_get xs i ≡ Some x) × (y ≡ v x)
+  map_at v [] zero y e = absurd (cc)
+  map_at v [] (suc i) y e = absurd (cc)
+  map_at v (x ∷ xs) zero y e = (x, refl, sym (ap (λ o. unwrap_or o y) e))
+  map_at v (x ∷ xs) (suc i) y e = map_at v xs i y e
+
+  at_map : {A B : Type 0} (v : A → B) (xs : List A) (i : ℕ) (x : A) → slice_get xs i ≡ Some x → slice_get (map v xs) i ≡ Some (v x)
+  at_map v [] zero x e = absurd (cc)
+  at_map v [] (suc i) x e = absurd (cc)
+  at_map v (y ∷ xs) zero x e = ap (λ o. Some (v (unwrap_or o x))) e
+  at_map v (y ∷ xs) (suc i) x e = at_map v xs i x e
+
+  -- before the first round
+  pub given-none : (feeds : List (Vec F Global)) (takers : List (Vec (Taker F) Global)) → HaveBegun feeds takers → HaveGiven feed_told (map (λ (own : Vec F Global). map feed_told own.items) feeds) takers []
+  given-none feeds takers begun = record {
+    each = λ stream own at.
+        let found = map_at (λ (v : Vec F Global). map feed_told v.items) feeds stream own at in
+        let beside = at_map (λ (v : Vec F Global). map new_taker v.items) feeds stream found.0 found.1 in
+        let new = map_at (λ (v : Vec (Taker F) Global). v.items) takers stream (map new_taker found.0.items) (subst (λ l. slice_get l stream ≡ Some (map new_taker found.0.items)) (sym begun) beside) in (
+          new.0,
+          new.1,
+          λ path told there.
+              let feed = map_at feed_told found.0.items path told (subst (λ l. slice_get l path ≡ Some told) found.2 there) in (
+                new_taker feed.0,
+                subst (λ l. slice_get l path ≡ Some (new_taker feed.0)) new.2 (at_map new_taker found.0.items path feed.0 feed.1),
+                λ whole. (omega arith, subst (λ l. reaches_end 0 l ≡ true) feed.2 whole, ap (told_datagrams 0) (sym feed.2)),
+              ),
+        );
+  }

@@ -1,0 +1,69 @@
+-- What a run in one thread comes to.
+use Rattle.std.specs.Prelude.{◌≡◌, ℕ, ◌<◌, ◌^◌, true, None, List, [], ◌∷◌, ◌++◌, length, slice_get, ℤ, Option, Some}
+use Rattle.studio_config.specs.Studio.{Studio}
+use Rattle.studio_session.specs.Fault.{session_fault_of}
+use Rattle.studio_session.specs.Report.{AreCounts}
+use Rattle.studio_session.specs.Run.{AreDatagrams}
+use Rattle.studio_engine.specs.Engine.{HasAllMarks}
+use Rattle.studio_engine.specs.Session.{HasSession}
+use Rattle.studio_io.specs.Answers.{Answer, reaches_end, told_datagrams}
+use Rattle.studio_io.specs.Sinks.{Hands}
+use Rattle.studio_io.specs.declared.report.WorkReport.{WorkReport}
+use Rattle.engine_run.specs.Rounds.{AreNext, AreRounds, Round, answers_of, datagrams_on, events_by, events_of, time_by}
+use Rattle.engine_run.specs.Takes.{HaveGiven}
+use Rattle.engine_run.specs.Taps.{Heard, Hears, heard_by}
+use Rattle.engine_run.specs.declared.desk.Desk.{Desk}
+
+-- path by path the events have all datagrams of each feed that is known to reach its end
+abbrev pub HaveAllArrived : Studio → List (List (List Answer)) → List Round → Type 0
+HaveAllArrived studio all rounds = (stream path : ℕ) (own : List (List Answer)) (told : List Answer) → slice_get all stream ≡ Some own → slice_get own path ≡ Some told
+    → reaches_end 0 told ≡ true → datagrams_on stream path (events_by studio.open_at rounds) ≡ told_datagrams 0 told
+
+module _ {F C K T : Type 0} where
+  -- a run that began with such feeds and such a clock is on its way
+  pub record IsUnderWay (feed_told : F → List Answer) (clock_told : C → List ℤ) (sink_handed : K → Option (List (List ℕ))) (tap_heard : T → Option (List Heard)) (studio : Studio) (all : List (List (List Answer))) (clock : List ℤ) (before : Option (List (List ℕ))) (earlier : Option (List Heard)) (desk : Desk F C K T) : Type 0 where
+    pub rounds : List Round
+    pub datagrams : List (List ℕ)
+    pub stands : HasSession studio desk.engine (events_by studio.open_at rounds) datagrams
+    pub time : desk.engine.time ≡ time_by studio.open_at rounds
+    pub bounded : AreRounds rounds
+    pub clocked : (later : List ℤ) → AreNext (clock_told desk.clock) later → AreNext clock (answers_of rounds ++ later)
+    pub given : HaveGiven feed_told all desk.takers.items (events_by studio.open_at rounds)
+    pub count : length datagrams < 2 ^ 64 → desk.counts.blocks ≡ length datagrams
+    pub handed : Hands before datagrams (sink_handed desk.sink)
+    pub heard : Hears earlier (heard_by studio.open_at (events_by studio.open_at rounds)) (tap_heard desk.tap)
+
+  -- and nothing has arrived since its last reading
+  pub record IsTurned (feed_told : F → List Answer) (clock_told : C → List ℤ) (sink_handed : K → Option (List (List ℕ))) (tap_heard : T → Option (List Heard)) (studio : Studio) (all : List (List (List Answer))) (clock : List ℤ) (before : Option (List (List ℕ))) (earlier : Option (List Heard)) (desk : Desk F C K T) : Type 0 where
+    pub run : IsUnderWay feed_told clock_told sink_handed tap_heard studio all clock before earlier desk
+    pub front : List Round
+    pub answer : ℤ
+    pub last : run.rounds ≡ front ++ record { answer = answer; arrivals = [] } ∷ []
+
+  -- and has come to its end
+  pub record IsDone (sink_handed : K → Option (List (List ℕ))) (tap_heard : T → Option (List Heard)) (studio : Studio) (all : List (List (List Answer))) (clock : List ℤ) (before : Option (List (List ℕ))) (earlier : Option (List Heard)) (desk : Desk F C K T) : Type 0 where
+    pub rounds : List Round
+    pub datagrams : List (List ℕ)
+    pub stands : HasSession studio desk.engine (events_of studio rounds) datagrams
+    pub settled : desk.engine.settled ≡ true
+    pub whole : HasAllMarks desk.engine
+    pub bounded : AreRounds rounds
+    pub clocked : AreNext clock (answers_of rounds)
+    pub arrived : HaveAllArrived studio all rounds
+    pub count : length datagrams < 2 ^ 64 → desk.counts.blocks ≡ length datagrams
+    pub handed : Hands before datagrams (sink_handed desk.sink)
+    pub heard : Hears earlier (heard_by studio.open_at (events_of studio rounds)) (tap_heard desk.tap)
+
+-- what a settled run came to: rounds that go by what the clock was known to tell, in which all arrived that the feeds were known to give. None of their events is at fault, the report has the counts of `run_studio` for them, a sink that tells at the end was handed its datagrams, in order, and a tap that does was told its arrivals, each with the reading before it, and its close
+pub record IsSettledRun (studio : Studio) (all : List (List (List Answer))) (clock : List ℤ) (report : WorkReport) (before after : Option (List (List ℕ))) (earlier later : Option (List Heard)) : Type 0 where
+  pub rounds : List Round
+  pub bounded : AreRounds rounds
+  pub clocked : AreNext clock (answers_of rounds)
+  pub arrived : HaveAllArrived studio all rounds
+  pub lawful : session_fault_of studio (events_of studio rounds) ≡ None
+  pub datagrams : List (List ℕ)
+  pub given : AreDatagrams studio (events_of studio rounds) datagrams
+  pub counts : AreCounts studio (events_of studio rounds) report.streams.items
+  pub count : length datagrams < 2 ^ 64 → report.blocks ≡ length datagrams
+  pub handed : Hands before datagrams after
+  pub heard : Hears earlier (heard_by studio.open_at (events_of studio rounds)) later
