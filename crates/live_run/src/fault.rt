@@ -7,8 +7,8 @@ use live_page::PageFault;
 use std::alloc::{AllocError, AllocFailed};
 use std::io;
 use std::io::ErrorKind;
+use studio_ends::OpenFault;
 use studio_io::WorkFault;
-use studio_rings::OpenFault;
 use studio_run::WriteFault;
 use thiserror::Error;
 

@@ -6,7 +6,7 @@ ghost use Rattle.live_run.specs.Run.{IsEarly};
 use live_run::LiveFault;
 use std::alloc::Global;
 use studio_config::StudioSpec;
-use studio_rings::{Ends, OpenFault, Watches, open, open_watched};
+use studio_ends::{Ends, OpenFault, Watches, open, open_watched};
 
 /// How many places each ring has.
 const PLACES: usize = 256;

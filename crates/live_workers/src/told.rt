@@ -11,8 +11,8 @@ use live_view::see_mix;
 use rtp_stream::PathCounts;
 use std::alloc::{AllocError, Global};
 use stream_watch::{MixNumbers, StreamNumbers};
+use studio_ends::Watches;
 use studio_page::Snapshot;
-use studio_rings::Watches;
 
 /// What each watch told last; none, where it told nothing yet.
 #[derive(Drop)]

@@ -6,8 +6,8 @@ use live_run::View;
 use live_view::Board;
 use std::io::Write;
 use std::time;
+use studio_ends::Watches;
 use studio_io::Clock;
-use studio_rings::Watches;
 
 /// The watches of all paths and streams and of the mix, what they told last, and what is shown of it.
 #[derive(Drop)]

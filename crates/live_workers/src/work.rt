@@ -11,7 +11,7 @@ use std::sync::Wait;
 use std::thread::Threads;
 use std::time::Clock;
 use studio_config::StudioSpec;
-use studio_rings::Ends;
+use studio_ends::Ends;
 use studio_workers::{WorkReport, run_workers};
 
 /// What the workers are started from.

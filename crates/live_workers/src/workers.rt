@@ -18,8 +18,8 @@ use std::sync::Wait;
 use std::thread::Threads;
 use std::time::Clock;
 use studio_config::StudioSpec;
+use studio_ends::Watches;
 use studio_io::WorkReport;
-use studio_rings::Watches;
 
 /// Runs a studio's workers, and the watcher beside them. It returns once all have ended; all memory but the workers' is taken
 /// before the first thread starts.

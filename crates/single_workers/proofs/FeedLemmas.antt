@@ -1,6 +1,6 @@
 -- A path's worker, one answer further.
 use Rattle.std.proofs.Common.{◌≡◌, ℕ, ◌+◌, ◌-◌, ◌*◌, ◌^◌, ◌≤◌, ◌<◌, Bool, true, false, cond, nat_eq, nat_lt, List, [], ◌∷◌, ◌++◌, length, take, refl, sym, ap, ◌∙◌, arith, append_assoc, append-nil, length-append, ◌⊎◌, inl, inr, subst}
-use Rattle.studio_rings.proofs.TurnLemmas.{producers}
+use Rattle.studio_ends.proofs.TurnLemmas.{producers}
 use Rattle.std.proofs.lemmas.Bool.Decides.{nat_tests}
 use Rattle.std.proofs.lemmas.List.Sums.{sum_by-append}
 use Rattle.rtrb.specs.Ring.{sent, SameProducer}
@@ -10,10 +10,10 @@ use Rattle.rtp_stream.specs.PathCounts.{PathTally, path_tally_of, with_reception
 use Rattle.rtp_stream.specs.declared.reception.Reception.{Reception}
 use Rattle.rtp_stream.specs.declared.reception.Reception.TheVariants.{Sent, Bad, WrongType, WrongLength}
 use Rattle.rtp_stream.specs.declared.stream_spec.Stream.{Stream}
-use Rattle.studio_rings.specs.Paths.{Offers, Receives}
-use Rattle.studio_rings.specs.declared.path.Offer.{Offer}
-use Rattle.studio_rings.specs.declared.path.Offer.TheVariants.{CountersFull, Bad as BadOffer, WrongType as OtherType, WrongLength as OtherLength, Full, Sent as SentOffer}
-use Rattle.studio_rings.specs.declared.path_end.PathEnd.{PathEnd}
+use Rattle.studio_ends.specs.Paths.{Offers, Receives}
+use Rattle.studio_ends.specs.declared.path.Offer.{Offer}
+use Rattle.studio_ends.specs.declared.path.Offer.TheVariants.{CountersFull, Bad as BadOffer, WrongType as OtherType, WrongLength as OtherLength, Full, Sent as SentOffer}
+use Rattle.studio_ends.specs.declared.path_end.PathEnd.{PathEnd}
 use Rattle.rtp_stream.specs.declared.path_counts.PathCounts.{PathCounts}
 use Rattle.studio_io.proofs.AnswerLemmas.{told-next}
 use Rattle.studio_io.specs.Answers.{Answer, CountsOthers, Tells, reaches_end, received_as, told_datagrams, told_packets, IsPartOf, packet_in, packets_in, packets_of}

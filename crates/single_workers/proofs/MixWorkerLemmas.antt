@@ -5,12 +5,12 @@ use Rattle.rtrb.specs.declared.consumer.Consumer.{Consumer}
 use Rattle.rtp_stream.specs.MarkFacts.{MarkView}
 use Rattle.mix_packets.specs.OutSpec.{datagram_length}
 use Rattle.studio_config.specs.Studio.{Studio}
-use Rattle.studio_rings.specs.Mixes.{AllTakeSome}
-use Rattle.studio_rings.specs.MixEnds.{MixHasFeeds, MixesBlock}
-use Rattle.studio_rings.specs.Datagrams.{AreAllGiven, HasGiven, given_after}
-use Rattle.studio_rings.specs.declared.side.Side.{Side}
-use Rattle.studio_rings.specs.declared.mix.MixNote.{MixNote}
-use Rattle.studio_rings.specs.declared.mix_end.MixEnd.{MixEnd}
+use Rattle.studio_ends.specs.Mixes.{AllTakeSome}
+use Rattle.studio_ends.specs.MixEnds.{MixHasFeeds, MixesBlock}
+use Rattle.studio_ends.specs.Datagrams.{AreAllGiven, HasGiven, given_after}
+use Rattle.studio_ends.specs.declared.side.Side.{Side}
+use Rattle.studio_ends.specs.declared.mix.MixNote.{MixNote}
+use Rattle.studio_ends.specs.declared.mix_end.MixEnd.{MixEnd}
 use Rattle.studio_io.specs.Sinks.{Hands}
 use Rattle.single_workers.specs.MixWorker.{AreSameSides, Mixes}
 

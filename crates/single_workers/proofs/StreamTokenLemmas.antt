@@ -9,16 +9,16 @@ use Rattle.rtp_stream.specs.StreamSpecFacts.{format_of}
 use Rattle.rtp_stream.specs.MarkFacts.{MarkView}
 use Rattle.lane_align.specs.AcceptedMarks.{accepted_marks}
 use Rattle.studio_mix.specs.Feed.{Feed}
-use Rattle.studio_rings.specs.Side.{IsDrained}
-use Rattle.studio_rings.specs.Looks.{AllDrained, AllLookAt, LooksAt}
-use Rattle.studio_rings.specs.Tokens.{HandsIn}
-use Rattle.studio_rings.specs.AcceptedFeeds.{accepted_feeds}
-use Rattle.studio_rings.specs.Datagrams.{AllTell}
-use Rattle.studio_rings.specs.FreshEnds.{AllFreshRings}
-use Rattle.studio_rings.specs.declared.side.Side.{Side}
-use Rattle.studio_rings.specs.declared.monitor_end.MonitorEnd.{MonitorEnd}
-use Rattle.studio_rings.specs.declared.stream_end.StreamEnd.{StreamEnd}
-use Rattle.studio_rings.specs.declared.stream.StreamDone.{StreamDone}
+use Rattle.studio_ends.specs.Side.{IsDrained}
+use Rattle.studio_ends.specs.Looks.{AllDrained, AllLookAt, LooksAt}
+use Rattle.studio_ends.specs.Tokens.{HandsIn}
+use Rattle.studio_ends.specs.AcceptedFeeds.{accepted_feeds}
+use Rattle.studio_ends.specs.Datagrams.{AllTell}
+use Rattle.studio_ends.specs.FreshEnds.{AllFreshRings}
+use Rattle.studio_ends.specs.declared.side.Side.{Side}
+use Rattle.studio_ends.specs.declared.monitor_end.MonitorEnd.{MonitorEnd}
+use Rattle.studio_ends.specs.declared.stream_end.StreamEnd.{StreamEnd}
+use Rattle.studio_ends.specs.declared.stream.StreamDone.{StreamDone}
 use Rattle.single_workers.specs.MixWorker.{AreSameSides}
 use Rattle.single_workers.specs.StreamTokens.{AllGiveTokens, AllTellMarks, AreAllDrained, AreTokensOf, HasTokenOf, HaveTokens}
 

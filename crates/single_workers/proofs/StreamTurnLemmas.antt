@@ -12,19 +12,19 @@ use Rattle.path_merge.specs.MergeState.{MergeState}
 use Rattle.path_merge.specs.Clock.{clock_fault_of}
 use Rattle.path_merge.specs.declared.clock.ClockFault.{ClockFault}
 use Rattle.path_merge.proofs.RunLemmas.{still_no_fault}
-use Rattle.studio_rings.specs.Fitting.{fitting}
-use Rattle.studio_rings.specs.Side.{IsDrained}
-use Rattle.studio_rings.specs.Looks.{AllDrained, AllLookAt}
-use Rattle.studio_rings.specs.Stop.{StopsFor}
-use Rattle.studio_rings.specs.Turns.{AllTakePackets, arrivals_from, turn_events}
-use Rattle.studio_rings.specs.Streams.{AllDelivered, ReadsClock, StreamHasHistory, TakesTurn}
-use Rattle.studio_rings.specs.declared.side.Side.{Side}
-use Rattle.studio_rings.specs.declared.stream_end.StreamEnd.{StreamEnd}
-use Rattle.studio_rings.specs.declared.turn.StopReason.{StopReason}
-use Rattle.studio_rings.specs.declared.turn.StopReason.TheVariants.{CaughtUp, Batch, NoRoom}
-use Rattle.studio_rings.specs.declared.turn.TurnNote.{TurnNote}
-use Rattle.studio_rings.proofs.CloseLemmas.{delivered-looked}
-use Rattle.studio_rings.proofs.TurnLemmas.{producers}
+use Rattle.studio_ends.specs.Fitting.{fitting}
+use Rattle.studio_ends.specs.Side.{IsDrained}
+use Rattle.studio_ends.specs.Looks.{AllDrained, AllLookAt}
+use Rattle.studio_ends.specs.Stop.{StopsFor}
+use Rattle.studio_ends.specs.Turns.{AllTakePackets, arrivals_from, turn_events}
+use Rattle.studio_ends.specs.Streams.{AllDelivered, ReadsClock, StreamHasHistory, TakesTurn}
+use Rattle.studio_ends.specs.declared.side.Side.{Side}
+use Rattle.studio_ends.specs.declared.stream_end.StreamEnd.{StreamEnd}
+use Rattle.studio_ends.specs.declared.turn.StopReason.{StopReason}
+use Rattle.studio_ends.specs.declared.turn.StopReason.TheVariants.{CaughtUp, Batch, NoRoom}
+use Rattle.studio_ends.specs.declared.turn.TurnNote.{TurnNote}
+use Rattle.studio_ends.proofs.CloseLemmas.{delivered-looked}
+use Rattle.studio_ends.proofs.TurnLemmas.{producers}
 use Rattle.studio_io.specs.Clocks.{GoByClock, IsTurnAt, TellsTime, events_in, time_with}
 use Rattle.single_workers.specs.Turns.{AreSameRings, GoesOn, HaveArrived, HaveTold, KeepsTokens, ReadsFirst}
 use Rattle.single_workers.specs.declared.timed_stream.TimedStream.{TimedStream}

@@ -14,5 +14,5 @@ pub use Rattle.rtp_stream.specs.PathCounts
 pub use Rattle.studio_config.specs.Studio
 pub use Rattle.studio_mix.specs.Feed
 pub use Rattle.studio_mix.specs.Blocks
-pub use Rattle.studio_rings.specs.Streams
-pub use Rattle.studio_rings.specs.Datagrams
+pub use Rattle.studio_ends.specs.Streams
+pub use Rattle.studio_ends.specs.Datagrams

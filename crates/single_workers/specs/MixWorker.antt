@@ -3,9 +3,9 @@ use Rattle.std.specs.Prelude.{◌≡◌, ℕ, ◌+◌, ◌<◌, ◌^◌, Bool, t
 use Rattle.rtrb.specs.Ring.{SameConsumer}
 use Rattle.rtp_stream.specs.MarkFacts.{MarkView}
 use Rattle.studio_config.specs.Studio.{Studio}
-use Rattle.studio_rings.specs.Datagrams.{AreAllGiven, HasGiven}
-use Rattle.studio_rings.specs.declared.side.Side.{Side}
-use Rattle.studio_rings.specs.declared.mix_end.MixEnd.{MixEnd}
+use Rattle.studio_ends.specs.Datagrams.{AreAllGiven, HasGiven}
+use Rattle.studio_ends.specs.declared.side.Side.{Side}
+use Rattle.studio_ends.specs.declared.mix_end.MixEnd.{MixEnd}
 use Rattle.studio_io.specs.Sinks.{Hands}
 
 -- the same rings, with the same tokens

@@ -5,9 +5,9 @@ use Rattle.rtrb.specs.Ring.{all_sent, sent, SameProducer}
 use Rattle.rtp_stream.specs.declared.packet.Packet.{Packet}
 use Rattle.rtp_stream.specs.PathCounts.{path_tally_of}
 use Rattle.rtp_stream.specs.declared.path_counts.PathCounts.{PathCounts}
-use Rattle.studio_rings.specs.Fitting.{fitting}
-use Rattle.studio_rings.specs.declared.path.PathDone.{PathDone}
-use Rattle.studio_rings.specs.declared.path_end.PathEnd.{PathEnd}
+use Rattle.studio_ends.specs.Fitting.{fitting}
+use Rattle.studio_ends.specs.declared.path.PathDone.{PathDone}
+use Rattle.studio_ends.specs.declared.path_end.PathEnd.{PathEnd}
 use Rattle.studio_io.specs.Answers.{Answer, CountsOthers, IsPartOf, packets_in, packets_of, reaches_end, told_datagrams, told_packets}
 use Rattle.single_workers.specs.declared.path_job.PathJob.{PathJob}
 use Rattle.single_workers.specs.declared.path_job.PathResult.{PathResult}

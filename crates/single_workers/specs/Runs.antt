@@ -12,7 +12,7 @@ use Rattle.studio_mix.specs.Blocks.{AreBlocks}
 use Rattle.rtp_stream.specs.PathCounts.{empty_path_tally, path_tally_of}
 use Rattle.rtp_stream.specs.declared.path_counts.PathCounts.{PathCounts}
 use Rattle.rtp_stream.specs.declared.stream_counts.StreamCounts.{StreamCounts}
-use Rattle.studio_rings.specs.Streams.{packets_by}
+use Rattle.studio_ends.specs.Streams.{packets_by}
 use Rattle.studio_io.specs.Answers.{Answer, CountsOthers, IsPartOf, reaches_end, told_datagrams, told_packets}
 use Rattle.studio_io.specs.Clocks.{GoByClock, events_in}
 use Rattle.studio_io.specs.Sinks.{Hands}

@@ -6,9 +6,9 @@ use Rattle.rtp_stream.specs.MarkFacts.{MarkView}
 use Rattle.rtp_stream.specs.MarkList.{is_mark_list}
 use Rattle.studio_config.specs.Studio.{Studio}
 use Rattle.studio_mix.specs.Feed.{Feed}
-use Rattle.studio_rings.specs.Tokens.{HasToken}
-use Rattle.studio_rings.specs.declared.side.Side.{Side}
-use Rattle.studio_rings.specs.declared.stream.StreamDone.{StreamDone}
+use Rattle.studio_ends.specs.Tokens.{HasToken}
+use Rattle.studio_ends.specs.declared.side.Side.{Side}
+use Rattle.studio_ends.specs.declared.stream.StreamDone.{StreamDone}
 
 -- each token is of the ring at its place, and no ring has one yet
 abbrev pub AreTokensOf : List (Option StreamDone) → List (Side MarkView) → Type 0

@@ -5,8 +5,8 @@ ghost use Rattle.single_workers.specs.MixWorker.{Mixes};
 use crate::pause::Pause;
 use std::sync::Wait;
 use std::sync::atomic::{AtomicBool, Ordering};
+use studio_ends::MixEnd;
 use studio_io::{SendCounts, Sink};
-use studio_rings::MixEnd;
 
 /// The pauses after turns that found nothing, in microseconds: two packets of a millisecond are then mixed and
 /// sent one after the other, which costs less than a turn for each.

@@ -1,7 +1,7 @@
 //! What a path's worker starts from, and what it comes to.
 
 use rtp_stream::PathCounts;
-use studio_rings::{PathDone, PathEnd};
+use studio_ends::{PathDone, PathEnd};
 
 /// A path's end, and what feeds it.
 #[derive(Drop)]

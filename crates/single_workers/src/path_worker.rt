@@ -1,7 +1,7 @@
 //! The worker of a path.
 ghost use Rattle.std.specs.Prelude.{◌≡◌, true, length, IfSome, None};
 ghost use Rattle.rtrb.specs.Ring.{all_sent, Finishes, SameProducer};
-ghost use Rattle.studio_rings.specs.Fitting.{fitting};
+ghost use Rattle.studio_ends.specs.Fitting.{fitting};
 ghost use Rattle.studio_io.specs.Answers.{reaches_end};
 ghost use Rattle.single_workers.specs.Paths.{IsPathResult, IsTokenOf, OffersAgain, SendsFeed};
 
@@ -9,8 +9,8 @@ use crate::path_job::{PathJob, PathResult};
 use crate::pause::Pause;
 use std::sync::Wait;
 use std::sync::atomic::{AtomicBool, Ordering};
+use studio_ends::{Offer, PathEnd};
 use studio_io::{Feed, FeedAnswer};
-use studio_rings::{Offer, PathEnd};
 
 /// The longest pause after a feed had nothing, in microseconds.
 const FEED_PAUSE: u64 = 10_000;

@@ -3,10 +3,10 @@ ghost use Rattle.std.specs.Prelude.{◌≡◌, ◌↔◌, ℕ, List, IsTrue, tru
 ghost use Rattle.studio_config.specs.Studio.{Studio};
 ghost use Rattle.studio_mix.specs.Feed.{Feed};
 ghost use Rattle.studio_mix.specs.Blocks.{AreBlocks};
-ghost use Rattle.studio_rings.specs.Datagrams.{AreAllGiven};
+ghost use Rattle.studio_ends.specs.Datagrams.{AreAllGiven};
 ghost use Rattle.single_workers.specs.StreamTokens.{AllGiveTokens, AreAllDrained, AreTokensOf, AreTold, HaveTokens};
 
-use studio_rings::{MixEnd, StreamDone};
+use studio_ends::{MixEnd, StreamDone};
 
 /// Hands in the proofs that the streams have finished.
 fn hand_in_all(end: &mut MixEnd, dones: Vec<Option<StreamDone>>)

@@ -3,8 +3,8 @@ ghost use Rattle.std.specs.Prelude.{◌≡◌, ◌^◌, ◌≤ℤ◌, pos, false
 
 use crate::pause::Pause;
 use path_merge::{Counts, StreamSpec};
+use studio_ends::{StreamDone, StreamEnd};
 use studio_io::Clock;
-use studio_rings::{StreamDone, StreamEnd};
 
 /// The longest pause after a turn, in microseconds.
 const TURN_PAUSE: u64 = 5_000;

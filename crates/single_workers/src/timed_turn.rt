@@ -1,14 +1,14 @@
 //! A turn of a stream at its clock's time, and its close.
 ghost use Rattle.std.specs.Prelude.{◌≡◌, ◌^◌, ◌≤ℤ◌, pos, false, IfOk, IfErr};
-ghost use Rattle.studio_rings.specs.Streams.{TakesTurn};
+ghost use Rattle.studio_ends.specs.Streams.{TakesTurn};
 ghost use Rattle.single_workers.specs.Turns.{Closes, GoesOn, KeepsTokens, ReadsFirst};
 
 use crate::pause::Pause;
 use crate::timed_stream::TimedStream;
 use path_merge::StreamClock;
 use std::sync::Wait;
+use studio_ends::{StopReason, StreamEnd, TurnNote};
 use studio_io::Clock;
-use studio_rings::{StopReason, StreamEnd, TurnNote};
 
 /// A turn that no clock fault refuses.
 fn turn_at(end: &mut StreamEnd, now: i64) -> TurnNote

@@ -10,7 +10,7 @@ use std::alloc::{AllocError, AllocFailed, Global};
 use std::sync::Wait;
 use std::thread::Threads;
 use studio_config::StudioSpec;
-use studio_rings::{OpenFault, open};
+use studio_ends::{OpenFault, open};
 use studio_workers::{Sink, WorkFault, WorkReport, run_workers};
 use thiserror::Error;
 

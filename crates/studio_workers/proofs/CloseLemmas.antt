@@ -3,8 +3,8 @@ use Rattle.std.proofs.Common.{ℕ, List, [], ◌∷◌, ◌++◌, ℤ, refl, sym
 use Rattle.rtrb.specs.Ring.{producer_capacity}
 use Rattle.rtp_stream.specs.declared.stream_spec.Stream.{Stream}
 use Rattle.rtp_stream.specs.declared.event.Event.{Event}
-use Rattle.studio_rings.specs.declared.stream_end.StreamEnd.{StreamEnd}
-use Rattle.studio_rings.proofs.TurnLemmas.{producers}
+use Rattle.studio_ends.specs.declared.stream_end.StreamEnd.{StreamEnd}
+use Rattle.studio_ends.proofs.TurnLemmas.{producers}
 use Rattle.studio_io.specs.Clocks.{GoByClock, events_in}
 use Rattle.single_workers.specs.Turns.{Closes, GoesOn, KeepsTokens}
 use Rattle.single_workers.specs.declared.timed_stream.TimedStream.{TimedStream}

@@ -21,14 +21,14 @@ use Rattle.path_merge.proofs.HistoryLemmas.{fates_of-push}
 use Rattle.path_merge.proofs.RestartOfferLemmas.{counted_arrivals}
 use Rattle.rtp_stream.specs.PathCounts.{path_tally_of}
 use Rattle.rtp_stream.specs.declared.path_counts.PathCounts.{PathCounts}
-use Rattle.studio_rings.specs.Fitting.{fitting}
-use Rattle.studio_rings.specs.FreshEnds.{AllFreshPaths, IsFreshPath, IsFreshStream}
-use Rattle.studio_rings.specs.Streams.{StreamHasHistory, packets_by}
-use Rattle.studio_rings.specs.declared.path.PathDone.{PathDone}
-use Rattle.studio_rings.specs.declared.side.Side.{Side}
-use Rattle.studio_rings.specs.declared.stream.StreamDone.{StreamDone}
-use Rattle.studio_rings.specs.declared.stream_end.StreamEnd.{StreamEnd}
-use Rattle.studio_rings.proofs.StreamLemmas.{packets_by-append}
+use Rattle.studio_ends.specs.Fitting.{fitting}
+use Rattle.studio_ends.specs.FreshEnds.{AllFreshPaths, IsFreshPath, IsFreshStream}
+use Rattle.studio_ends.specs.Streams.{StreamHasHistory, packets_by}
+use Rattle.studio_ends.specs.declared.path.PathDone.{PathDone}
+use Rattle.studio_ends.specs.declared.side.Side.{Side}
+use Rattle.studio_ends.specs.declared.stream.StreamDone.{StreamDone}
+use Rattle.studio_ends.specs.declared.stream_end.StreamEnd.{StreamEnd}
+use Rattle.studio_ends.proofs.StreamLemmas.{packets_by-append}
 use Rattle.studio_io.specs.Answers.{Answer, CountsOthers, IsPartOf, reaches_end, told_datagrams, told_packets}
 use Rattle.studio_io.specs.Clocks.{GoByClock, events_in}
 use Rattle.single_workers.specs.Paths.{IsPathResult, SendsFeed}

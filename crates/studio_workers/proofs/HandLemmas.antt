@@ -7,11 +7,11 @@ use Rattle.rtp_stream.specs.declared.stream_spec.Stream.{Stream}
 use Rattle.rtp_stream.specs.declared.packet.Packet.{Packet}
 use Rattle.rtp_stream.specs.declared.event.Event.{Event}
 use Rattle.rtp_stream.specs.declared.path_counts.PathCounts.{PathCounts}
-use Rattle.studio_rings.specs.Streams.{StreamHasHistory}
-use Rattle.studio_rings.specs.Tokens.{HandsIn}
-use Rattle.studio_rings.specs.declared.path.PathDone.{PathDone}
-use Rattle.studio_rings.specs.declared.path_end.PathEnd.{PathEnd}
-use Rattle.studio_rings.specs.declared.side.Side.{Side}
+use Rattle.studio_ends.specs.Streams.{StreamHasHistory}
+use Rattle.studio_ends.specs.Tokens.{HandsIn}
+use Rattle.studio_ends.specs.declared.path.PathDone.{PathDone}
+use Rattle.studio_ends.specs.declared.path_end.PathEnd.{PathEnd}
+use Rattle.studio_ends.specs.declared.side.Side.{Side}
 use Rattle.studio_io.specs.Answers.{Answer}
 use Rattle.single_workers.specs.Paths.{IsPathResult, IsTokenOf}
 use Rattle.single_workers.specs.Turns.{AreSameRings, GoesOn, HaveTold}

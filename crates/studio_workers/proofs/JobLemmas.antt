@@ -1,9 +1,9 @@
 -- The jobs of the streams, made one after another.
 use Rattle.std.proofs.Common.{◌≡◌, ℕ, ◌≤◌, List, [], ◌∷◌, ◌++◌, length, map, drop, get_or, ℤ, refl, sym, ap, subst, ◌∙◌, arith, append_assoc, append-nil, length-append}
 use Rattle.rtp_stream.specs.declared.stream_spec.Stream.{Stream}
-use Rattle.studio_rings.specs.FreshEnds.{AllFreshStreams, IsFreshStream}
-use Rattle.studio_rings.specs.declared.path_end.PathEnd.{PathEnd}
-use Rattle.studio_rings.specs.declared.stream_end.StreamEnd.{StreamEnd}
+use Rattle.studio_ends.specs.FreshEnds.{AllFreshStreams, IsFreshStream}
+use Rattle.studio_ends.specs.declared.path_end.PathEnd.{PathEnd}
+use Rattle.studio_ends.specs.declared.stream_end.StreamEnd.{StreamEnd}
 use Rattle.single_workers.specs.declared.path_job.PathJob.{PathJob}
 use Rattle.studio_workers.specs.Jobs.{AreJobsOf, HasRoom, HaveRoom, feeds_in}
 use Rattle.studio_workers.specs.Streams.{ends_of}

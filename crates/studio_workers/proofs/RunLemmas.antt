@@ -15,15 +15,15 @@ use Rattle.studio_config.specs.Studio.{Studio}
 use Rattle.studio_mix.specs.Feed.{Feed}
 use Rattle.rtp_stream.specs.declared.stream_counts.StreamCounts.{StreamCounts}
 use Rattle.studio_mix.specs.Blocks.{AreBlocks}
-use Rattle.studio_rings.specs.Datagrams.{AreAllGiven}
-use Rattle.studio_rings.specs.FreshEnds.{AllFreshPaths, AllFreshRings, AllFreshStreams, AreFreshRings, AreOpened, IsFreshStream}
-use Rattle.studio_rings.specs.declared.ends.Ends.{Ends}
-use Rattle.studio_rings.specs.declared.monitor_end.MonitorEnd.{MonitorEnd}
-use Rattle.studio_rings.specs.declared.path_end.PathEnd.{PathEnd}
-use Rattle.studio_rings.specs.declared.side.Side.{Side}
-use Rattle.studio_rings.specs.declared.stream.StreamDone.{StreamDone}
-use Rattle.studio_rings.specs.declared.stream_end.StreamEnd.{StreamEnd}
-use Rattle.studio_rings.specs.declared.mix_end.MixEnd.{MixEnd}
+use Rattle.studio_ends.specs.Datagrams.{AreAllGiven}
+use Rattle.studio_ends.specs.FreshEnds.{AllFreshPaths, AllFreshRings, AllFreshStreams, AreFreshRings, AreOpened, IsFreshStream}
+use Rattle.studio_ends.specs.declared.ends.Ends.{Ends}
+use Rattle.studio_ends.specs.declared.monitor_end.MonitorEnd.{MonitorEnd}
+use Rattle.studio_ends.specs.declared.path_end.PathEnd.{PathEnd}
+use Rattle.studio_ends.specs.declared.side.Side.{Side}
+use Rattle.studio_ends.specs.declared.stream.StreamDone.{StreamDone}
+use Rattle.studio_ends.specs.declared.stream_end.StreamEnd.{StreamEnd}
+use Rattle.studio_ends.specs.declared.mix_end.MixEnd.{MixEnd}
 use Rattle.studio_io.specs.Answers.{Answer}
 use Rattle.studio_io.specs.declared.report.WorkReport.{WorkReport}
 use Rattle.single_workers.specs.MixWorker.{Mixes}

@@ -7,8 +7,8 @@ use Rattle.rtp_stream.specs.Marks.{marks_of}
 use Rattle.rtp_stream.specs.declared.packet.Packet.{Packet}
 use Rattle.rtp_stream.specs.declared.event.Event.{Event}
 use Rattle.rtp_stream.specs.declared.event.Event.TheVariants.{Close}
-use Rattle.studio_rings.specs.Streams.{StreamHasHistory}
-use Rattle.studio_rings.specs.declared.stream_end.StreamEnd.{StreamEnd}
+use Rattle.studio_ends.specs.Streams.{StreamHasHistory}
+use Rattle.studio_ends.specs.declared.stream_end.StreamEnd.{StreamEnd}
 use Rattle.studio_io.specs.Clocks.{GoByClock, events_in}
 use Rattle.single_workers.specs.Turns.{HaveArrived, HaveTold}
 use Rattle.single_workers.specs.declared.timed_stream.TimedStream.{TimedStream}

@@ -1,7 +1,7 @@
 -- How the ends and the feeds of a studio go to its workers.
 use Rattle.std.specs.Prelude.{◌≡◌, ◌≤◌, List, [], ◌∷◌, ◌++◌, length, map, vec_len, vec_capacity}
-use Rattle.studio_rings.specs.declared.path_end.PathEnd.{PathEnd}
-use Rattle.studio_rings.specs.declared.stream_end.StreamEnd.{StreamEnd}
+use Rattle.studio_ends.specs.declared.path_end.PathEnd.{PathEnd}
+use Rattle.studio_ends.specs.declared.stream_end.StreamEnd.{StreamEnd}
 use Rattle.single_workers.specs.declared.path_job.PathJob.{PathJob}
 use Rattle.studio_workers.specs.Streams.{ends_of}
 use Rattle.studio_workers.specs.declared.stream_job.StreamJob.{StreamJob}

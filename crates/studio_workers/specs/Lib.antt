@@ -20,4 +20,4 @@ pub use Rattle.studio_mix.specs.Feed
 pub use Rattle.rtp_stream.specs.Reception
 pub use Rattle.rtp_stream.specs.PathCounts
 pub use Rattle.studio_mix.specs.Blocks
-pub use Rattle.studio_rings.specs.FreshEnds
+pub use Rattle.studio_ends.specs.FreshEnds

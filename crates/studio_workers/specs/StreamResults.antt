@@ -1,11 +1,11 @@
 -- What the results of all streams come to.
 use Rattle.std.specs.Prelude.{ℕ, List, [], map, vec_len, sum_by, Option}
 use Rattle.studio_config.specs.Studio.{Studio}
-use Rattle.studio_rings.specs.Datagrams.{HasGiven}
-use Rattle.studio_rings.specs.FreshEnds.{AllFreshRings, AllFreshStreams}
-use Rattle.studio_rings.specs.declared.ends.Ends.{Ends}
-use Rattle.studio_rings.specs.declared.monitor_end.MonitorEnd.{MonitorEnd}
-use Rattle.studio_rings.specs.declared.stream.StreamDone.{StreamDone}
+use Rattle.studio_ends.specs.Datagrams.{HasGiven}
+use Rattle.studio_ends.specs.FreshEnds.{AllFreshRings, AllFreshStreams}
+use Rattle.studio_ends.specs.declared.ends.Ends.{Ends}
+use Rattle.studio_ends.specs.declared.monitor_end.MonitorEnd.{MonitorEnd}
+use Rattle.studio_ends.specs.declared.stream.StreamDone.{StreamDone}
 use Rattle.rtp_stream.specs.declared.stream_counts.StreamCounts.{StreamCounts}
 use Rattle.studio_workers.specs.declared.stream_job.StreamResult.{StreamResult}
 

@@ -10,12 +10,12 @@ use Rattle.rtp_stream.specs.declared.packet.Packet.{Packet}
 use Rattle.rtp_stream.specs.declared.event.Event.{Event}
 use Rattle.rtp_stream.specs.declared.event.Event.TheVariants.{Close}
 use Rattle.rtp_stream.specs.History.{is_closed, is_well_timed}
-use Rattle.studio_rings.specs.FreshEnds.{IsFreshStream}
-use Rattle.studio_rings.specs.Streams.{StreamHasHistory}
-use Rattle.studio_rings.specs.Tokens.{HandsIn}
-use Rattle.studio_rings.specs.declared.path.PathDone.{PathDone}
-use Rattle.studio_rings.specs.declared.path_end.PathEnd.{PathEnd}
-use Rattle.studio_rings.specs.declared.side.Side.{Side}
+use Rattle.studio_ends.specs.FreshEnds.{IsFreshStream}
+use Rattle.studio_ends.specs.Streams.{StreamHasHistory}
+use Rattle.studio_ends.specs.Tokens.{HandsIn}
+use Rattle.studio_ends.specs.declared.path.PathDone.{PathDone}
+use Rattle.studio_ends.specs.declared.path_end.PathEnd.{PathEnd}
+use Rattle.studio_ends.specs.declared.side.Side.{Side}
 use Rattle.studio_io.specs.Answers.{Answer}
 use Rattle.studio_io.specs.Clocks.{GoByClock, events_in}
 use Rattle.single_workers.specs.Runs.{HasStreamHistory}

@@ -2,7 +2,7 @@
 ghost use Rattle.std.specs.Prelude.{◌≡◌, ◌+◌, ◌≤◌, ◌++◌, List, ℕ, ℤ, length, vec_len, vec_capacity, IfOk};
 ghost use Rattle.std.specs.Vec.Iter.{into_iter_items, into_iter_len};
 ghost use Rattle.rtp_stream.specs.declared.stream_spec.Stream.{Stream};
-ghost use Rattle.studio_rings.specs.FreshEnds.{AllFreshStreams};
+ghost use Rattle.studio_ends.specs.FreshEnds.{AllFreshStreams};
 ghost use Rattle.studio_workers.specs.Jobs.{AreJobsOf, HasRoom, HaveRoom, feeds_in};
 ghost use Rattle.studio_workers.specs.Streams.{ends_of};
 
@@ -12,7 +12,7 @@ use single_workers::{PathJob, PathResult};
 use std::alloc::{AllocError, Global};
 use std::sync::atomic::AtomicBool;
 use std::vec::IntoIter;
-use studio_rings::{PathEnd, StreamEnd};
+use studio_ends::{PathEnd, StreamEnd};
 
 /// So many flags, none of them set.
 pub(crate) fn unset_flags(alloc: Global, count: usize) -> Result<Vec<AtomicBool>, AllocError>

@@ -1,6 +1,6 @@
 //! The workers of a studio: a thread for each path, each stream and the mixer.
 //!
-//! `studio_rings::open` gives the ends. `run_workers` takes them with a `Feed` for each path, stream by
+//! `studio_ends::open` gives the ends. `run_workers` takes them with a `Feed` for each path, stream by
 //! stream and path by path, a `Clock` for each stream, and a `Sink`. It returns once every feed has ended
 //! and every datagram was sent, with a report and the sink. Where the report is `settled`, the sink was
 //! handed the datagrams of exactly the ready blocks of the streams' marks. A caller that wants counts on

@@ -5,7 +5,7 @@ ghost use Rattle.studio_workers.specs.StreamResults.{counts_in, dones_in, fault_
 use crate::stream_job::StreamResult;
 use rtp_stream::StreamCounts;
 use std::alloc::{AllocError, Global};
-use studio_rings::StreamDone;
+use studio_ends::StreamDone;
 
 /// The tokens of the streams, their counts, and the number of each feed's faults.
 #[derive(Drop)]

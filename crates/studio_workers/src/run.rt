@@ -4,8 +4,8 @@ ghost use Rattle.rtp_stream.specs.declared.stream_spec.Stream.{Stream};
 ghost use Rattle.studio_config.specs.Studio.{IsStudio, Studio};
 ghost use Rattle.studio_mix.specs.Feed.{Feed as FeedMarks};
 ghost use Rattle.studio_mix.specs.Blocks.{AreBlocks};
-ghost use Rattle.studio_rings.specs.Datagrams.{AreAllGiven};
-ghost use Rattle.studio_rings.specs.FreshEnds.{AllFreshStreams};
+ghost use Rattle.studio_ends.specs.Datagrams.{AreAllGiven};
+ghost use Rattle.studio_ends.specs.FreshEnds.{AllFreshStreams};
 ghost use Rattle.studio_io.specs.Balances.{Balances};
 ghost use Rattle.single_workers.specs.Runs.{IsSettledRun};
 ghost use Rattle.single_workers.specs.StreamTokens.{AllGiveTokens, AreAllDrained, AreTokensOf, AreTold};
@@ -21,8 +21,8 @@ use std::alloc::{AllocError, Global};
 use std::sync::Wait;
 use std::sync::atomic::AtomicBool;
 use std::thread::Threads;
+use studio_ends::{Ends, PathEnd, StreamEnd};
 use studio_io::{Clock, Feed, Sink, WorkFault, WorkReport};
-use studio_rings::{Ends, PathEnd, StreamEnd};
 
 /// All that the workers start from, and room for all that they come to.
 #[derive(Drop)]

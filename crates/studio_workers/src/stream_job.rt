@@ -3,7 +3,7 @@
 use rtp_stream::{PathCounts, StreamCounts};
 use single_workers::{PathJob, PathResult};
 use std::sync::atomic::AtomicBool;
-use studio_rings::{StreamDone, StreamEnd};
+use studio_ends::{StreamDone, StreamEnd};
 
 /// A stream's end with its clock, its paths, and all the memory that their workers need.
 #[derive(Drop)]

@@ -15,8 +15,8 @@ use std::sync::Wait;
 use std::sync::atomic::{AtomicBool, Ordering};
 use std::thread;
 use std::thread::{Promise, Threads};
+use studio_ends::MixEnd;
 use studio_io::{Clock, Feed, Sink};
-use studio_rings::MixEnd;
 
 /// What a stream's worker comes to.
 #[derive(Drop)]

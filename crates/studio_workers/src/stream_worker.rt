@@ -11,8 +11,8 @@ use single_workers::{PathResult, Pause, TimedStream};
 use std::sync::Wait;
 use std::sync::atomic::{AtomicBool, Ordering};
 use std::thread::Threads;
+use studio_ends::{PathDone, StreamEnd};
 use studio_io::{Clock, Feed};
-use studio_rings::{PathDone, StreamEnd};
 
 /// The longest pause at a full ring of marks, in microseconds.
 const DRAIN_PAUSE: u64 = 2_000;

@@ -7,14 +7,14 @@ use Rattle.rtrb.specs.declared.producer.Producer.{Producer}
 use Rattle.rtp_stream.specs.declared.stream_spec.Stream.{Stream}
 use Rattle.rtp_stream.specs.MarkFacts.{MarkView}
 use Rattle.rtp_stream.specs.declared.packet.Packet.{Packet}
-use Rattle.studio_rings.specs.FreshEnds.{AllFreshPaths, AllFreshRings, AllFreshStreams}
+use Rattle.studio_ends.specs.FreshEnds.{AllFreshPaths, AllFreshRings, AllFreshStreams}
 use Rattle.worker_tests.specs.OneStream.{AreOfOneStream}
-use Rattle.studio_rings.specs.Tokens.{HandsIn}
-use Rattle.studio_rings.specs.declared.side.Side.{Side}
-use Rattle.studio_rings.specs.declared.path_end.PathEnd.{PathEnd}
-use Rattle.studio_rings.specs.declared.stream_end.StreamEnd.{StreamEnd}
-use Rattle.studio_rings.specs.declared.monitor_end.MonitorEnd.{MonitorEnd}
-use Rattle.studio_rings.specs.declared.mix_end.MixEnd.{MixEnd}
+use Rattle.studio_ends.specs.Tokens.{HandsIn}
+use Rattle.studio_ends.specs.declared.side.Side.{Side}
+use Rattle.studio_ends.specs.declared.path_end.PathEnd.{PathEnd}
+use Rattle.studio_ends.specs.declared.stream_end.StreamEnd.{StreamEnd}
+use Rattle.studio_ends.specs.declared.monitor_end.MonitorEnd.{MonitorEnd}
+use Rattle.studio_ends.specs.declared.mix_end.MixEnd.{MixEnd}
 
 -- the token of an end is that of the ring's other end, whatever both did before
 pub token_of : {T A P : Type 0} (p q : Producer T A P) (done : Finished T A P) (c d : Consumer T A P) → IsPair p c → SameProducer p q → SameConsumer c d → Finishes q done → IsFinishedOf done d

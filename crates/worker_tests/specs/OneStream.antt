@@ -3,10 +3,10 @@ use Rattle.std.specs.Prelude.{◌≡◌, length, slice_get, Some}
 use Rattle.rtrb.specs.Ring.{IsPair}
 use Rattle.rtp_stream.specs.MarkFacts.{MarkView}
 use Rattle.rtp_stream.specs.declared.packet.Packet.{Packet}
-use Rattle.studio_rings.specs.declared.side.Side.{Side}
-use Rattle.studio_rings.specs.declared.path_end.PathEnd.{PathEnd}
-use Rattle.studio_rings.specs.declared.stream_end.StreamEnd.{StreamEnd}
-use Rattle.studio_rings.specs.declared.mix_end.MixEnd.{MixEnd}
+use Rattle.studio_ends.specs.declared.side.Side.{Side}
+use Rattle.studio_ends.specs.declared.path_end.PathEnd.{PathEnd}
+use Rattle.studio_ends.specs.declared.stream_end.StreamEnd.{StreamEnd}
+use Rattle.studio_ends.specs.declared.mix_end.MixEnd.{MixEnd}
 
 -- the paths' ends are those of the stream's rings, in order, and the stream's end is that of the mixer's first ring
 pub record AreOfOneStream (first second : PathEnd) (stream : StreamEnd) (mix : MixEnd) : Type 0 where

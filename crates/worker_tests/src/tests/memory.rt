@@ -14,7 +14,7 @@ use std::process::Abort;
 use std::sync::Wait;
 use std::thread::Threads;
 use studio_config::StudioSpec;
-use studio_rings::OpenFault;
+use studio_ends::OpenFault;
 use studio_run::PlayFault;
 use studio_uses::{
     Arrival, MemoryClock, MemoryFeed, MemorySink, ReceiveFault, RunFault, receive_stream,

@@ -1,7 +1,7 @@
 //! One stream through its rings, by worked examples.
 ghost use Rattle.std.specs.Prelude.{◌≡◌, ◌++◌, ◌∷◌, []};
 ghost use Rattle.rtrb.specs.Ring.{SameProducer};
-ghost use Rattle.studio_rings.specs.FreshEnds.{AreOpened};
+ghost use Rattle.studio_ends.specs.FreshEnds.{AreOpened};
 ghost use Rattle.worker_tests.specs.OneStream.{AreOfOneStream};
 
 use super::packets::{FIRST, SECOND, datagram, ones_alone, sums, thousands};
@@ -11,7 +11,7 @@ use rtp_wire::Enc;
 use std::alloc::Global;
 use std::process::Abort;
 use studio_config::StudioSpec;
-use studio_rings::*;
+use studio_ends::*;
 
 pub(super) const MEDIA: StreamClock = StreamClock::Media { offset: 0 };
 

@@ -8,7 +8,7 @@ use std::sync::Wait;
 use std::thread;
 use std::thread::{Parker, Threads};
 use std::time::Duration;
-use studio_rings::{MixEnd, Offer, PathCounts, PathEnd, StreamEnd};
+use studio_ends::{MixEnd, Offer, PathCounts, PathEnd, StreamEnd};
 
 /// The packets that each path sends.
 const PACKETS: u8 = 100;

@@ -3,7 +3,7 @@ use super::packets::{FIRST, SECOND};
 use super::rings::{MEDIA, studio_of};
 use std::alloc::Global;
 use std::process::Abort;
-use studio_rings::{Ends, MixEnd, Offer, Watches, open_watched};
+use studio_ends::{Ends, MixEnd, Offer, Watches, open_watched};
 
 /// What is done with the ends of one stream on two paths, and what its watches have to tell.
 #[derive(Clone, Copy)]

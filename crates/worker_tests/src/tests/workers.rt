@@ -9,7 +9,7 @@ use std::process::Abort;
 use std::sync::Wait;
 use std::thread::Threads;
 use studio_config::StudioSpec;
-use studio_rings::open;
+use studio_ends::open;
 use studio_uses::{MemoryClock, MemoryFeed, MemorySink};
 use studio_workers::{Clock, Feed, Sink, WorkReport, run_workers};
 

@@ -1,5 +1,5 @@
 use Rattle.std.proofs.Common.{◌≡◌, ◌∙◌, arith, rules}
-use Rattle.studio_rings.proofs.TurnLemmas.{producers}
+use Rattle.studio_ends.proofs.TurnLemmas.{producers}
 use Rattle.single_workers.proofs.FeedLemmas.{offers-lost, offers-then}
 use Rattle.single_workers.proofs.path_worker.offer_again.Goals as goal
 

@@ -1,8 +1,8 @@
 use Rattle.std.proofs.Common.{rules, arith, inl, inr, refl, ◌∙◌, ap, sym, subst}
 use Rattle.rtrb.specs.Ring.{SameProducer}
-use Rattle.studio_rings.specs.declared.path_end.PathEnd.{PathEnd}
+use Rattle.studio_ends.specs.declared.path_end.PathEnd.{PathEnd}
 use Rattle.std.proofs.lemmas.Option.{IfSome_then}
-use Rattle.studio_rings.proofs.TurnLemmas.{producers}
+use Rattle.studio_ends.proofs.TurnLemmas.{producers}
 use Rattle.studio_io.specs.declared.feed.FeedAnswer.TheVariants.{Fault, Ended}
 use Rattle.single_workers.proofs.FeedLemmas.{sends-start, sends-datagram, sends-nothing, sends-fault, sends-end}
 use Rattle.single_workers.proofs.path_worker.run_feed.Goals as goal

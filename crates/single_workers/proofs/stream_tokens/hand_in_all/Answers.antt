@@ -1,8 +1,8 @@
 use Rattle.std.proofs.Common.{rules, ◌≡◌, ◌∙◌, [], ◌∷◌, ◌++◌, Option, Some, sym, ap, subst, arith, append_assoc, length-append, slice_get}
 use Rattle.std.specs.Vec.Iter.{into_iter_items}
-use Rattle.studio_rings.specs.Tokens.{HandsIn}
-use Rattle.studio_rings.specs.declared.mix_end.MixEnd.{MixEnd}
-use Rattle.studio_rings.specs.declared.stream.StreamDone.{StreamDone}
+use Rattle.studio_ends.specs.Tokens.{HandsIn}
+use Rattle.studio_ends.specs.declared.mix_end.MixEnd.{MixEnd}
+use Rattle.studio_ends.specs.declared.stream.StreamDone.{StreamDone}
 use Rattle.single_workers.specs.StreamTokens.{AreTokensOf}
 use Rattle.single_workers.proofs.StreamTokenLemmas.{hands-none, hands-some, place-within, token-at, tokens-more}
 use Rattle.single_workers.proofs.stream_tokens.hand_in_all.Goals as goal

@@ -1,9 +1,9 @@
 use Rattle.std.proofs.Common.{◌≡◌, ℕ, List, [], ◌∷◌, ◌++◌, length, map, drop, ℤ, refl, sym, ap, subst, ◌∙◌, arith, length-append}
 use Rattle.std.proofs.lemmas.List.{take_all}
 use Rattle.rtp_stream.specs.declared.stream_spec.Stream.{Stream}
-use Rattle.studio_rings.specs.FreshEnds.{AllFreshStreams}
-use Rattle.studio_rings.specs.declared.path_end.PathEnd.{PathEnd}
-use Rattle.studio_rings.specs.declared.stream_end.StreamEnd.{StreamEnd}
+use Rattle.studio_ends.specs.FreshEnds.{AllFreshStreams}
+use Rattle.studio_ends.specs.declared.path_end.PathEnd.{PathEnd}
+use Rattle.studio_ends.specs.declared.stream_end.StreamEnd.{StreamEnd}
 use Rattle.studio_io.specs.Answers.{Answer}
 use Rattle.studio_workers.specs.Runs.{IsSettledRun}
 use Rattle.studio_workers.proofs.JobLemmas.{map_snoc}

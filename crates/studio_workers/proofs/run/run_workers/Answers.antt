@@ -1,6 +1,6 @@
 use Rattle.std.proofs.Common.{◌≡◌, ℕ, true, List, [], length, Option, Vec, Global, sym, ap, subst, ◌∙◌, arith}
 use Rattle.std.specs.List.{AllZip}
-use Rattle.studio_rings.specs.declared.stream.StreamDone.{StreamDone}
+use Rattle.studio_ends.specs.declared.stream.StreamDone.{StreamDone}
 use Rattle.single_workers.specs.MixWorker.{Mixes}
 use Rattle.single_workers.specs.StreamTokens.{AllGiveTokens, AreTokensOf, AreTold}
 use Rattle.single_workers.proofs.StreamTokenLemmas.{tokens-opened}

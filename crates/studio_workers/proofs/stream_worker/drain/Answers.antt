@@ -1,4 +1,4 @@
-use Rattle.studio_rings.proofs.TurnLemmas.{producers}
+use Rattle.studio_ends.proofs.TurnLemmas.{producers}
 use Rattle.studio_workers.proofs.stream_worker.drain.Goals as goal
 
 pub returns-then-drain_turn : goal.returns-then-drain_turn

@@ -2,7 +2,7 @@ use Rattle.std.proofs.Common.{List, ℤ}
 use Rattle.rtrb.specs.Ring.{SameProducer}
 use Rattle.rtp_stream.specs.declared.stream_spec.Stream.{Stream}
 use Rattle.rtp_stream.specs.declared.event.Event.{Event}
-use Rattle.studio_rings.specs.Streams.{StreamHasHistory}
+use Rattle.studio_ends.specs.Streams.{StreamHasHistory}
 use Rattle.studio_workers.proofs.stream_worker.drain.Given as goal
 
 abbrev pub invariant-loop : goal.invariant-loop

@@ -1,8 +1,8 @@
 use Rattle.std.proofs.Common.{IfSome}
 use Rattle.std.proofs.lemmas.Option.{IfSome_then}
 use Rattle.rtrb.specs.Ring.{Finishes}
-use Rattle.studio_rings.specs.declared.stream.StreamDone.{StreamDone}
-use Rattle.studio_rings.proofs.TurnLemmas.{producers}
+use Rattle.studio_ends.specs.declared.stream.StreamDone.{StreamDone}
+use Rattle.studio_ends.proofs.TurnLemmas.{producers}
 use Rattle.studio_workers.proofs.EndLemmas.{ended, same_token}
 use Rattle.studio_workers.proofs.stream_worker.end_stream.Goals as goal
 

@@ -1,7 +1,7 @@
 use Rattle.std.proofs.Common.{◌≡◌, [], subst, arith}
 use Rattle.std.proofs.lemmas.Result.{IfOk-weaker}
 use Rattle.std.specs.List.{AllZip}
-use Rattle.studio_rings.specs.declared.stream_end.StreamEnd.{StreamEnd}
+use Rattle.studio_ends.specs.declared.stream_end.StreamEnd.{StreamEnd}
 use Rattle.single_workers.specs.Paths.{IsPathResult}
 use Rattle.single_workers.specs.Turns.{AreSameRings}
 use Rattle.studio_workers.specs.declared.stream_job.StreamResult.{StreamResult}

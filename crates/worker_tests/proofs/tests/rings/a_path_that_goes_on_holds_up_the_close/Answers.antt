@@ -1,7 +1,7 @@
 use Rattle.std.proofs.Common.{refl, subst, IfSome}
 use Rattle.rtrb.specs.Ring.{Finishes, SameConsumer}
 use Rattle.rtrb.specs.declared.consumer.Consumer.{Consumer}
-use Rattle.studio_rings.specs.declared.path.PathDone.{PathDone}
+use Rattle.studio_ends.specs.declared.path.PathDone.{PathDone}
 use Rattle.worker_tests.proofs.OneStreamLemmas.{token_of}
 use Rattle.worker_tests.proofs.tests.rings.a_path_that_goes_on_holds_up_the_close.Goals as goal
 

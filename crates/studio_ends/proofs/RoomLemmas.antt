@@ -1,0 +1,38 @@
+-- What is written to a room.
+use Rattle.std.proofs.Common.{arith, ◌≡◌, ◌≤◌, ℕ, List, ◌++◌, length, take, drop, sym, ap, ◌∙◌, length-append}
+use Rattle.std.proofs.lemmas.List.{length-drop}
+use Rattle.std.proofs.lemmas.Slice.{drop-append-drop}
+use Rattle.std.proofs.Math.Seq.{take-append_seam}
+use Rattle.rtp_stream.specs.MarkFacts.{IsMark, payload_length}
+use Rattle.rtp_stream.specs.declared.mark.Format.{Format}
+use Rattle.rtp_stream.specs.declared.mark.Body.TheVariants.{Got, Lost}
+use Rattle.rtp_stream.specs.declared.mark.MarkKind.{MarkKind}
+use Rattle.rtp_stream.specs.declared.mark.MarkKind.TheVariants.{Slot, Quiet, End}
+use Rattle.studio_ends.specs.MarkRooms.{IsWithin}
+use Rattle.studio_ends.specs.Rooms.{IsRoom, taken_length}
+
+-- the room's length is that of what is in it
+pub length_is : (size len : ℕ) (before value : List ℕ) → IsRoom size len before → take len before ≡ value → len ≡ length value
+length_is size len before value h is = sym (taken_length size len before h) ∙ ap length is
+
+-- as many as were there leave what lies behind them
+pub written : (size len k : ℕ) (before front : List ℕ) → IsRoom size len before → len ≡ k → length front ≡ k → IsRoom size len (front ++ drop k before)
+written size len k before front h same e =
+    let all = h.size_is in
+    let fits = h.fits in
+    record {
+      size_is = omega (arith, all, fits, same, e, length-drop k before, length-append front (drop k before));
+      fits = h.fits;
+      blank = drop-append-drop k before front len (omega (arith, same)) e ∙ h.blank;
+    }
+
+-- and are what is in it then
+pub written_is : (len k : ℕ) (before front : List ℕ) → len ≡ k → length front ≡ k → take len (front ++ drop k before) ≡ front
+written_is len k before front same e = ap (λ n. take n (front ++ drop k before)) (same ∙ sym e) ∙ take-append_seam front (drop k before)
+
+-- where the format's payloads have room, each mark has
+pub mark_within : (size : ℕ) (format : Format) (kind : MarkKind) → IsMark format kind → payload_length format ≤ size → IsWithin size kind
+mark_within size format (Slot epoch number media (Got payload)) sound room = rw sound.3 room
+mark_within size format (Slot epoch number media Lost) sound room = omega arith
+mark_within size format (Quiet until) sound room = omega arith
+mark_within size format End sound room = omega arith

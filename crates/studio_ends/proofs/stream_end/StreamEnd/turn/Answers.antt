@@ -1,0 +1,9 @@
+use Rattle.std.proofs.Common.{rules, ◌≡◌, refl, to_z, of_z, w64}
+use Rattle.studio_ends.proofs.StreamLemmas.{turned, at_now, stop_now}
+use Rattle.studio_ends.proofs.stream_end.StreamEnd.turn.Goals as goal
+
+pub returns-clause-turned : goal.returns-clause-turned
+returns-clause-turned c =
+    let t = c.take_all-from.ensures.took in
+    let z : to_z w64 (of_z w64 c.args.now) ≡ c.args.now = search rules in
+    turned c.args.self.now _ c.args.now _ c.take_all-from.new.merge t.0 _ t.1 t.2 t.3 (at_now _ _ _ _ _ c.args.now _ z c.push_marks-marks.ensures.pushed) refl c.push_marks-marks.ensures.most (search rules) (stop_now _ _ _ c.args.now _ _ z c.push_marks-marks.ensures.stop) c.show_counts.ensures.ring (rw c.counts.ensures at (c.show_counts.ensures.shows)) refl

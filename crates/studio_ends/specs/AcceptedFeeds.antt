@@ -1,0 +1,23 @@
+-- What each stream's ring delivered of marks that are accepted.
+use Rattle.std.specs.Prelude.{ℕ, List, [], ◌∷◌, length, sum_by}
+use Rattle.rtp_stream.specs.declared.stream_spec.Stream.{Stream}
+use Rattle.rtp_stream.specs.StreamSpecFacts.{format_of}
+use Rattle.rtp_stream.specs.MarkFacts.{MarkView}
+use Rattle.rtrb.specs.Ring.{received}
+use Rattle.lane_align.specs.AcceptedMarks.{accepted_marks}
+use Rattle.studio_mix.specs.Feed.{Feed}
+use Rattle.studio_ends.specs.declared.side.Side.{Side}
+
+-- each stream, with the marks that were accepted of those that its ring delivered
+abbrev pub accepted_feeds : List Stream → List (Side MarkView) → List Feed
+accepted_feeds [] sides = []
+accepted_feeds (stream ∷ streams) [] = []
+accepted_feeds (stream ∷ streams) (side ∷ sides) = record { stream = stream; marks = accepted_marks (format_of stream) (received side.ring) } ∷ accepted_feeds streams sides
+
+-- how many marks came of all streams
+abbrev pub received_total : List (Side MarkView) → ℕ
+received_total sides = sum_by (λ (side : Side MarkView). length (received side.ring)) sides
+
+-- how many were accepted
+abbrev pub accepted_total : List Feed → ℕ
+accepted_total feeds = sum_by (λ (feed : Feed). length feed.marks) feeds

@@ -1,0 +1,34 @@
+-- What a path's end does with a datagram.
+use Rattle.std.specs.Prelude.{◌≡◌, ℕ, ◌<◌, ◌^◌, List, [], ◌∷◌, ◌++◌}
+use Rattle.rtrb.specs.Ring.{sent, known_free}
+use Rattle.rtp_stream.specs.declared.packet.Packet.{Packet}
+use Rattle.rtp_stream.specs.PathCounts.{path_tally_of, with_full, with_reception}
+use Rattle.rtp_stream.specs.Reception.{reception_of}
+use Rattle.rtp_stream.specs.declared.reception.Reception.{Reception}
+use Rattle.rtp_stream.specs.declared.reception.Reception.TheVariants.{Sent as Received, Bad as BadWire, WrongType as OtherType, WrongLength as OtherLength}
+use Rattle.studio_ends.specs.declared.path_end.PathEnd.{PathEnd}
+use Rattle.studio_ends.specs.declared.path.Offer.{Offer}
+use Rattle.studio_ends.specs.declared.path.Offer.TheVariants.{CountersFull, Bad, WrongType, WrongLength, Full, Sent}
+
+-- the datagram was received so, and counted
+pub record Receives (octets : List ℕ) (p : PathEnd) (reception : Reception) (q : PathEnd) : Type 0 where
+  pub room : p.counts.offered < 2 ^ 62
+  pub received : reception_of p.spec octets ≡ reception
+  pub counted : path_tally_of q.counts ≡ with_reception (path_tally_of p.counts) reception
+
+-- it was a packet, and counted as one that found no room
+pub record FindsNoRoom (octets : List ℕ) (p q : PathEnd) : Type 0 where
+  pub room : p.counts.offered < 2 ^ 62
+  pub packet : Packet
+  pub received : reception_of p.spec octets ≡ Received packet
+  pub none_free : known_free q.ring ≡ 0
+  pub counted : path_tally_of q.counts ≡ with_full (path_tally_of p.counts)
+
+-- the answer is the first that holds; the packet is sent where it is `Sent`, and nothing else ever is
+abbrev pub Offers : List ℕ → PathEnd → Offer → PathEnd → Type 0
+Offers octets p CountersFull q = (q ≡ p) × (p.counts.offered ≡ 2 ^ 62)
+Offers octets p Bad q = Receives octets p BadWire q × (sent q.ring ≡ sent p.ring)
+Offers octets p WrongType q = Receives octets p OtherType q × (sent q.ring ≡ sent p.ring)
+Offers octets p WrongLength q = Receives octets p OtherLength q × (sent q.ring ≡ sent p.ring)
+Offers octets p Full q = FindsNoRoom octets p q × (sent q.ring ≡ sent p.ring)
+Offers octets p Sent q = (packet : Packet) × Receives octets p (Received packet) q × (sent q.ring ≡ sent p.ring ++ packet ∷ [])

@@ -1,0 +1,10 @@
+-- Why a turn stopped.
+use Rattle.std.specs.Prelude.{◌≡◌, ℕ, ℤ}
+use Rattle.studio_ends.specs.declared.turn.StopReason.{StopReason}
+use Rattle.studio_ends.specs.declared.turn.StopReason.TheVariants.{CaughtUp, Batch, NoRoom}
+
+-- CaughtUp only at the time asked for, Batch only after 64 marks, NoRoom only with no place known
+abbrev pub StopsFor : StopReason → ℤ → ℤ → ℕ → ℕ → Type 0
+StopsFor CaughtUp reached now marks free = reached ≡ now
+StopsFor Batch reached now marks free = marks ≡ 64
+StopsFor NoRoom reached now marks free = free ≡ 0

@@ -1,0 +1,35 @@
+//! The marks that a closed merge has left.
+ghost use Rattle.std.specs.Prelude.{◌≡◌, ◌+◌, ◌⊎◌, length, true, false};
+ghost use Rattle.rtrb.specs.Ring.{sent, known_free};
+ghost use Rattle.path_merge.specs.Goal.{HasGivenAll};
+ghost use Rattle.rtp_stream.specs.MarkFacts.{payload_length};
+ghost use Rattle.rtp_stream.specs.StreamSpecFacts.{format_of};
+ghost use Rattle.studio_ends.specs.RoomRings.{HasRoomFor};
+ghost use Rattle.studio_ends.specs.Turns.{DrainsMarks};
+
+use crate::mark_ring::MarkIn;
+use crate::take::BATCH;
+use crate::turn::push_next;
+use path_merge::{Goal, Merge, SlotWindow};
+
+/// Pushes what is left, while there is room, and says whether the end is among what was pushed by now.
+pub(crate) fn drain_marks(marks: &mut MarkIn, merge: &mut Merge<SlotWindow>) -> bool
+    requires closed { merge.old.closed ≡ true }
+    requires roomy { HasRoomFor (payload_length (format_of merge.old.spec)) marks.old }
+    ensures drained { DrainsMarks marks.old merge.old marks.new merge.new }
+    ensures all { result ≡ true → HasGivenAll merge.new }
+    ensures some { result ≡ false → (length (sent marks.new) ≡ length (sent marks.old) + 64) ⊎ (known_free marks.new ≡ 0) }
+{
+    for _ in 0..BATCH {
+        if merge.ended() {
+            return true;
+        }
+        if marks.is_full() {
+            return false;
+        }
+        if !push_next(marks, merge, Goal::End) {
+            return true;
+        }
+    }
+    merge.ended()
+}

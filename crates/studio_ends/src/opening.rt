@@ -1,0 +1,238 @@
+//! Opens the rings of a studio.
+ghost use Rattle.std.specs.Prelude.{◌≡◌, ◌<◌, ◌≤◌, [], List, ◌++◌, IfOk, IfErr, OnOk, length, vec_len, ℤ, pos, ◌≤ℤ◌, ◌^◌};
+ghost use Rattle.studio_config.specs.Studio.{IsStudio};
+ghost use Rattle.studio_ends.specs.declared.path_end.PathEnd.{PathEnd};
+ghost use Rattle.studio_ends.specs.Datagrams.{HasGiven};
+ghost use Rattle.studio_ends.specs.FreshEnds.{AllFreshPaths, AreFreshRings, AreOpened, IsFreshPath, IsFreshStream, open_fault_of};
+ghost use Rattle.studio_ends.specs.Opening.{AddsStream, AllUnread, AreFreshEnds};
+
+use crate::ends::{Ends, OpenFault};
+use crate::mark_ring::{MarkOut, open_marks};
+use crate::mix_end::MixEnd;
+use crate::monitor_end::MonitorEnd;
+use crate::packet_ring::{PacketOut, open_packets};
+use crate::path_end::PathEnd;
+use crate::stream_end::StreamEnd;
+use crate::watches::{Tellers, Watches};
+use path_merge::{Merge, StreamSpec};
+use rtp_stream::PathCounts;
+use rtrb::RingBuffer;
+use std::alloc::{AllocError, Global};
+use studio_config::StudioSpec;
+use studio_mix::Mixer;
+
+/// The ends of some streams, and of their marks' rings.
+#[derive(Drop)]
+pub(crate) struct StreamEnds {
+    pub(crate) paths: Vec<PathEnd>,
+    pub(crate) streams: Vec<StreamEnd>,
+    pub(crate) monitors: Vec<MonitorEnd>,
+    pub(crate) marks: Vec<MarkOut>,
+}
+
+/// A path's ring, with both ends.
+fn open_path(
+    alloc: Global,
+    spec: &StreamSpec,
+    ring_len: usize,
+    tellers: &mut Tellers,
+) -> Result<(PathEnd, PacketOut), AllocError>
+    ensures { IfOk result (λ r. IsFreshPath spec.now ring_len r.0 r.1) }
+{
+    let teller = tellers.of_path(alloc)?;
+    let (ring, side) = open_packets(alloc, spec.payload_len(), ring_len)?;
+    let end = PathEnd {
+        spec: *spec,
+        ring,
+        counts: PathCounts::new(),
+        teller,
+    };
+    Ok((end, side))
+}
+
+/// The rings of a stream's paths: their ends join the others, and the stream's sides are answered.
+fn open_paths(
+    alloc: Global,
+    spec: &StreamSpec,
+    ring_len: usize,
+    paths: &mut Vec<PathEnd>,
+    tellers: &mut Tellers,
+) -> Result<Vec<PacketOut>, AllocError>
+    ensures { IfOk result (λ sides. (own : List PathEnd) × (paths.new.items ≡ paths.old.items ++ own)
+        × (length own ≡ spec.now.paths) × (vec_len sides ≡ spec.now.paths) × AllFreshPaths spec.now ring_len own sides.items) }
+{
+    let mut sides = Vec::new(alloc);
+    for _ in 0..spec.paths() {
+        let (end, side) = open_path(alloc, spec, ring_len, tellers)?;
+        paths.push(end)?;
+        sides.push(side)?;
+    }
+    Ok(sides)
+}
+
+/// A stream's merge, and its rings of marks and of counts.
+fn open_stream(
+    alloc: Global,
+    spec: &StreamSpec,
+    open_at: i64,
+    sides: Vec<PacketOut>,
+    ring_len: usize,
+    tellers: &mut Tellers,
+) -> Result<(StreamEnd, MonitorEnd, MarkOut), AllocError>
+    requires not_low { pos 0 ≤ℤ open_at }
+    requires not_high { open_at ≤ℤ pos (2 ^ 60) }
+    requires paths { vec_len sides ≡ spec.now.paths }
+    ensures fresh { (own : List PathEnd) → length own ≡ spec.now.paths → AllFreshPaths spec.now ring_len own sides.items
+        → IfOk result (λ r. IsFreshStream open_at ring_len spec.now own r.0) }
+    ensures rings { IfOk result (λ r. AreFreshRings ring_len r.0 r.1 r.2) }
+{
+    let teller = tellers.of_stream(alloc, spec)?;
+    let merge = Merge::new(alloc, *spec, open_at)?;
+    let _len = spec.payload_len();
+    let format = spec.format();
+    let (marks, side) = open_marks(alloc, format, ring_len)?;
+    let (monitor, look) = RingBuffer::new(alloc, ring_len)?;
+    let end = StreamEnd {
+        spec: *spec,
+        sides,
+        marks,
+        monitor,
+        merge,
+        teller,
+    };
+    Ok((end, MonitorEnd { ring: look }, side))
+}
+
+/// Adds the ends of a stream to those of the streams before it.
+fn add_stream(
+    alloc: Global,
+    spec: &StreamSpec,
+    open_at: i64,
+    ring_len: usize,
+    ends: &mut StreamEnds,
+    tellers: &mut Tellers,
+) -> Result<(), AllocError>
+    requires not_low { pos 0 ≤ℤ open_at }
+    requires not_high { open_at ≤ℤ pos (2 ^ 60) }
+    ensures { OnOk result (AddsStream open_at ring_len spec.now ends.old ends.new) }
+{
+    let sides = open_paths(alloc, spec, ring_len, &mut ends.paths, tellers)?;
+    let (end, monitor, side) = open_stream(alloc, spec, open_at, sides, ring_len, tellers)?;
+    ends.streams.push(end)?;
+    ends.monitors.push(monitor)?;
+    ends.marks.push(side)?;
+    Ok(())
+}
+
+/// The ends of all streams.
+fn open_streams(
+    alloc: Global,
+    specs: &[StreamSpec],
+    open_at: i64,
+    ring_len: usize,
+    tellers: &mut Tellers,
+) -> Result<StreamEnds, AllocError>
+    requires not_low { pos 0 ≤ℤ open_at }
+    requires not_high { open_at ≤ℤ pos (2 ^ 60) }
+    ensures { IfOk result (λ ends. AreFreshEnds open_at ring_len specs.now ends) }
+{
+    let mut ends = StreamEnds {
+        paths: Vec::new(alloc),
+        streams: Vec::new(alloc),
+        monitors: Vec::new(alloc),
+        marks: Vec::new(alloc),
+    };
+    for spec in specs {
+        add_stream(alloc, spec, open_at, ring_len, &mut ends, tellers)?;
+    }
+    Ok(ends)
+}
+
+/// The mixer's end, over the rings of all streams' marks.
+fn open_mix(
+    alloc: Global,
+    studio: &StudioSpec,
+    sides: Vec<MarkOut>,
+    tellers: &mut Tellers,
+) -> Result<MixEnd, AllocError>
+    requires sound { IsStudio studio.now }
+    requires unread { AllUnread studio.now.streams sides.items }
+    ensures { IfOk result (λ mix. (mix.sides ≡ sides) × HasGiven studio.now mix []) }
+{
+    let output = studio.output();
+    let teller = tellers.of_mix(alloc, output)?;
+    let mixer = Mixer::new(alloc, studio)?;
+    let _frames = output.frames();
+    Ok(MixEnd {
+        sides,
+        mixer,
+        teller,
+    })
+}
+
+/// The ends of all paths, streams and monitors, and of the mixer.
+fn open_ends(
+    alloc: Global,
+    studio: &StudioSpec,
+    ring_len: usize,
+    tellers: &mut Tellers,
+) -> Result<Ends, AllocError>
+    ensures { IfOk result (λ ends. AreOpened studio.now ring_len ends) }
+{
+    let StreamEnds {
+        paths,
+        streams,
+        monitors,
+        marks,
+    } = open_streams(alloc, studio.streams(), studio.open_at(), ring_len, tellers)?;
+    let mix = open_mix(alloc, studio, marks, tellers)?;
+    Ok(Ends {
+        paths,
+        streams,
+        monitors,
+        mix,
+    })
+}
+
+/// Opens the rings of a studio, each with so many places: nothing was sent, and nothing happened yet.
+///
+/// From then on no call of an end takes memory. Each end may go to a thread of its own.
+pub fn open(alloc: Global, studio: &StudioSpec, ring_len: usize) -> Result<Ends, OpenFault>
+    ensures opened { IfOk result (λ ends. AreOpened studio.now ring_len ends) }
+    ensures places { IfOk result (λ ends. (1 ≤ ring_len) × (ring_len ≤ 65536)) }
+    ensures fault { IfErr result (λ fault. fault ≡ open_fault_of ring_len) }
+{
+    open_with(alloc, studio, ring_len, &mut Tellers::new(alloc, false))
+}
+
+/// The same, with watches, which are told what becomes of each path's packets and of the mix.
+pub fn open_watched(
+    alloc: Global,
+    studio: &StudioSpec,
+    ring_len: usize,
+) -> Result<(Ends, Watches), OpenFault>
+    ensures opened { IfOk result (λ r. AreOpened studio.now ring_len r.0) }
+    ensures places { IfOk result (λ r. (1 ≤ ring_len) × (ring_len ≤ 65536)) }
+    ensures fault { IfErr result (λ fault. fault ≡ open_fault_of ring_len) }
+{
+    let mut tellers = Tellers::new(alloc, true);
+    let ends = open_with(alloc, studio, ring_len, &mut tellers)?;
+    Ok((ends, tellers.watches))
+}
+
+/// Opens the rings, and those of the watches that are wanted.
+fn open_with(
+    alloc: Global,
+    studio: &StudioSpec,
+    ring_len: usize,
+    tellers: &mut Tellers,
+) -> Result<Ends, OpenFault>
+    ensures opened { IfOk result (λ ends. AreOpened studio.now ring_len ends) }
+    ensures places { IfOk result (λ ends. (1 ≤ ring_len) × (ring_len ≤ 65536)) }
+    ensures fault { IfErr result (λ fault. fault ≡ open_fault_of ring_len) }
+{
+    if ring_len < 1 || 65536 < ring_len {
+        return Err(OpenFault::RingLength);
+    }
+    open_ends(alloc, studio, ring_len, tellers).map_err(|_| OpenFault::Memory)
+}

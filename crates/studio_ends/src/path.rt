@@ -1,0 +1,116 @@
+//! The end of a path.
+ghost use Rattle.std.specs.Prelude.{◌≡◌, ◌<◌, ◌^◌, IfSome, false, length, true};
+ghost use Rattle.rtrb.specs.Ring.{all_sent, known_free, Finishes, ProducerLooked, SameProducer};
+ghost use Rattle.rtp_stream.specs.declared.packet.Packet.{Packet};
+ghost use Rattle.rtp_stream.specs.Reception.{reception_from, reception_of};
+ghost use Rattle.rtp_stream.specs.declared.reception.Reception.TheVariants.{Sent as Received};
+ghost use Rattle.studio_ends.specs.Fitting.{fitting};
+ghost use Rattle.studio_ends.specs.Paths.{Offers};
+ghost use Rattle.studio_ends.specs.declared.path.Offer.TheVariants as offer;
+
+use crate::packet_ring::{PacketIn, PacketToken};
+use crate::path_end::PathEnd;
+use rtp_stream::{PathCounts, ReceptionRef, receive_ref};
+use stream_watch::PathTeller;
+
+/// What became of a datagram: the first of these that holds.
+#[derive(Clone, Copy, PartialEq, Eq, Debug)]
+pub enum Offer {
+    /// 2^62 datagrams were offered before. This one is not counted.
+    CountersFull,
+    /// No RTP packet.
+    Bad,
+    /// Of another payload type.
+    WrongType,
+    /// Of another length.
+    WrongLength,
+    /// No free place was seen in the ring.
+    Full,
+    Sent,
+}
+
+/// The proof that a path's end has finished: what its stream's end wants before it closes.
+#[derive(Drop)]
+pub struct PathDone {
+    pub(crate) token: PacketToken,
+}
+
+/// Whether this is a packet, and no free place is seen for it.
+fn lacks_room(ring: &mut PacketIn, reception: ReceptionRef<'_>) -> bool
+    ensures ring { ProducerLooked ring.old ring.new }
+    ensures full { result ≡ true → ((packet : Packet) × (reception_from reception.entry ≡ Received packet)) × (known_free ring.new ≡ 0) }
+    ensures room { result ≡ false → (packet : Packet) → reception_from reception.entry ≡ Received packet → 0 < known_free ring.new }
+{
+    match reception {
+        ReceptionRef::Sent(_) => ring.is_full(),
+        ReceptionRef::Bad => false,
+        ReceptionRef::WrongType => false,
+        ReceptionRef::WrongLength => false,
+    }
+}
+
+/// Tells counts, if somebody is to be told.
+fn tell(teller: &mut Option<PathTeller>, counts: PathCounts) {
+    if let Some(teller) = teller {
+        teller.tell(counts);
+    }
+}
+
+impl PathEnd {
+    /// Sends the packet of a datagram to its stream, if it is one of the stream.
+    pub fn offer(&mut self, datagram: &[u8]) -> Offer
+        ensures answer { Offers datagram.now self.old result self.new }
+        ensures known { (packet : Packet) → self.old.counts.offered < 2 ^ 62 → 0 < known_free self.old.ring
+            → reception_of self.old.spec datagram.now ≡ Received packet → result ≡ offer.Sent }
+        ensures ring { SameProducer self.old.ring self.new.ring }
+        ensures spec { self.new.spec ≡ self.old.spec }
+    {
+        if self.counts.offered == 1 << 62 {
+            return Offer::CountersFull;
+        }
+        let reception = receive_ref(&self.spec, datagram);
+        if lacks_room(&mut self.ring, reception) {
+            self.counts.add_full();
+            tell(&mut self.teller, self.counts);
+            return Offer::Full;
+        }
+        self.counts.add_ref(reception);
+        tell(&mut self.teller, self.counts);
+        match reception {
+            ReceptionRef::Sent(packet) => {
+                self.ring.push(packet);
+                Offer::Sent
+            }
+            ReceptionRef::Bad => Offer::Bad,
+            ReceptionRef::WrongType => Offer::WrongType,
+            ReceptionRef::WrongLength => Offer::WrongLength,
+        }
+    }
+
+    /// Tells its watch what became of the datagrams, if it has one: where none comes for now.
+    pub fn tell(&mut self)
+        ensures { self.new ≡ record self.old { teller = self.new.teller } }
+    {
+        tell(&mut self.teller, self.counts);
+    }
+
+    /// Gives up the end: the proof of it, and what became of the datagrams. No proof where the other
+    /// end is gone.
+    pub fn finish(self) -> (Option<PathDone>, PathCounts)
+        ensures token { IfSome result.0 (λ done. Finishes self.ring done.token) }
+        ensures fit { IfSome result.0 (λ done. fitting self.spec (all_sent done.token) ≡ all_sent done.token) }
+        ensures count { IfSome result.0 (λ done. self.counts.sent ≡ length (all_sent done.token)) }
+        ensures counts { result.1 ≡ self.counts }
+    {
+        let PathEnd {
+            spec: _,
+            ring,
+            counts,
+            teller: _,
+        } = self;
+        match ring.finish() {
+            Some(token) => (Some(PathDone { token }), counts),
+            None => (None, counts),
+        }
+    }
+}

@@ -1,0 +1,28 @@
+//! What the end of a path consists of.
+ghost use Rattle.std.specs.Prelude.{◌≡◌, ◌≤◌, ◌^◌, length};
+ghost use Rattle.rtrb.specs.Ring.{sent};
+ghost use Rattle.rtp_stream.specs.MarkFacts.{payload_length};
+ghost use Rattle.rtp_stream.specs.StreamSpecFacts.{format_of};
+ghost use Rattle.studio_ends.specs.Fitting.{fitting};
+ghost use Rattle.studio_ends.specs.RoomRings.{HasRoomFor};
+
+use crate::packet_ring::PacketIn;
+use path_merge::StreamSpec;
+use rtp_stream::PathCounts;
+use stream_watch::PathTeller;
+
+/// The end of a path: its datagrams go in.
+///
+/// Input: `offer`. At the end: `finish`. Neither takes memory or waits.
+#[derive(Drop)]
+pub struct PathEnd {
+    pub(crate) spec: StreamSpec,
+    pub(crate) ring: PacketIn,
+    pub(crate) counts: PathCounts,
+    /// Who is told these counts, if anybody is.
+    pub(crate) teller: Option<PathTeller>,
+    ghost few: { counts.offered ≤ 2 ^ 62 },
+    ghost all_counted: { counts.sent ≡ length (sent ring) },
+    ghost roomy: { HasRoomFor (payload_length (format_of spec)) ring },
+    ghost all_fit: { fitting spec (sent ring) ≡ sent ring },
+}

@@ -1,0 +1,26 @@
+//! What the end of a stream consists of.
+ghost use Rattle.std.specs.Prelude.{◌≡◌, vec_len};
+ghost use Rattle.rtp_stream.specs.MarkFacts.{payload_length};
+ghost use Rattle.rtp_stream.specs.StreamSpecFacts.{format_of};
+ghost use Rattle.studio_ends.specs.RoomRings.{HasRoomFor};
+
+use crate::mark_ring::MarkIn;
+use crate::packet_ring::PacketOut;
+use path_merge::{Counts, Merge, SlotWindow, StreamSpec};
+use rtrb::Producer;
+use stream_watch::StreamTeller;
+
+/// The end of a stream: packets of all paths come in, and marks go out.
+#[derive(Drop)]
+pub struct StreamEnd {
+    pub(crate) spec: StreamSpec,
+    pub(crate) sides: Vec<PacketOut>,
+    pub(crate) marks: MarkIn,
+    pub(crate) monitor: Producer<Counts>,
+    pub(crate) merge: Merge<SlotWindow>,
+    /// Who is told what becomes of the packets, if anybody is.
+    pub(crate) teller: Option<StreamTeller>,
+    ghost same: { merge.spec ≡ spec },
+    ghost paths: { vec_len sides ≡ spec.paths },
+    ghost roomy: { HasRoomFor (payload_length (format_of spec)) marks },
+}
