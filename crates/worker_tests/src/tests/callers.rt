@@ -3,14 +3,14 @@
 use super::packets::{FIRST, SECOND};
 use super::workers::{gave_both, one_stream};
 use engine_tests::small_studios::stream;
+use example_callers::{
+    Arrival, MemorySink, ReceiveFault, receive_stream, report_trace, run_in_threads,
+};
 use path_merge::{Body, ClockFault, Mark, MarkKind, Path};
 use std::alloc::Global;
 use std::process::Abort;
 use studio_config::StudioSpec;
 use studio_run::{PlayFault, TraceKind};
-use studio_uses::{
-    Arrival, MemorySink, ReceiveFault, receive_stream, report_trace, run_in_threads,
-};
 
 pub(super) const TRACE: &str = "tick 0\n\
     a 0 806000010000000000000001000001000002000003000004000005000006\n\

@@ -8,6 +8,10 @@ use super::packets::{FIRST, SECOND};
 use super::workers::one_stream;
 use engine_run::{Quiet, run_alone};
 use engine_tests::small_studios::stream;
+use example_callers::{
+    Arrival, MemoryClock, MemoryFeed, MemorySink, ReceiveFault, RunFault, receive_stream,
+    report_trace, run_in_threads,
+};
 use path_merge::StreamSpec;
 use std::alloc::Global;
 use std::process::Abort;
@@ -16,10 +20,6 @@ use std::thread::Threads;
 use studio_config::StudioSpec;
 use studio_ends::OpenFault;
 use studio_run::PlayFault;
-use studio_uses::{
-    Arrival, MemoryClock, MemoryFeed, MemorySink, ReceiveFault, RunFault, receive_stream,
-    report_trace, run_in_threads,
-};
 use studio_workers::{WorkFault, WorkReport};
 
 /// Whether the marks of both packets were given; else memory was refused.

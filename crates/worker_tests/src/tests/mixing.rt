@@ -2,12 +2,12 @@
 
 use super::packets::{ones_alone, sums};
 use engine_tests::small_studios::{six_and_forty_eight, stream};
+use example_callers::mix_next;
 use path_merge::{Body, Format, Mark};
 use rtp_wire::Payload;
 use std::alloc::Global;
 use std::process::Abort;
 use studio_mix::Mixer;
-use studio_uses::mix_next;
 
 /// A slot that got so many times this sample.
 fn got(

@@ -1,0 +1,20 @@
+use Rattle.std.proofs.Common.{◌≡◌, ℕ, List, length}
+use Rattle.studio_config.specs.Studio.{Studio}
+use Rattle.studio_session.specs.Event.{TraceEvent}
+use Rattle.studio_session.specs.Run.{blocks_left}
+use Rattle.studio_engine.specs.Session.{HasSession}
+use Rattle.example_callers.specs.Engine.{HasSent}
+use Rattle.example_callers.proofs.engine.send_rest.Given as goal
+
+-- the datagrams so far were sent
+abbrev pub invariant-loop-len : goal.invariant-loop-len
+invariant-loop-len g l = record {
+  closed : l.engine.closed ≡ l.fn.engine.closed;
+  output : l.engine.mixer.packer.spec ≡ l.fn.engine.mixer.packer.spec;
+  room : length l.out ≡ length l.fn.out;
+  sent : (studio : Studio) (events : List TraceEvent) (datagrams : List (List ℕ)) → HasSession studio l.fn.engine events datagrams
+      → HasSent studio l.engine events datagrams (g.K.Sink.handed l.fn.sink) (g.K.Sink.handed l.sink);
+}
+
+abbrev pub decreases-loop-len : goal.decreases-loop-len
+decreases-loop-len g l = blocks_left l.engine.mixer.packer

@@ -1,0 +1,53 @@
+//! Datagrams in memory.
+ghost use Rattle.std.specs.Prelude.{◌≡◌};
+ghost use Rattle.example_callers.specs.Told.{told_of};
+
+use std::marker::Model;
+use studio_io::{Feed, FeedAnswer};
+
+/// Gives these datagrams, one after another, and tells so. Of one that is longer than the buffer it
+/// gives the front. Contracts see it as the answers that it is to give.
+#[derive(Drop)]
+pub struct MemoryFeed<'a> {
+    datagrams: &'a [Vec<u8>],
+    next: usize,
+    ended: bool,
+}
+
+impl<'a> Model for MemoryFeed<'a> {
+    ghost use Rattle.std.specs.Prelude.{List, [], drop, if◌then◌else◌};
+    ghost use Rattle.studio_io.specs.Answers.{Answer};
+    ghost use Rattle.example_callers.specs.Told.{told_of};
+
+    ghost Value = { List Answer };
+
+    ghost view = { λ f. if f.ended then [] else told_of (drop f.next f.datagrams.now) };
+}
+
+impl<'a> MemoryFeed<'a> {
+    /// Before the first datagram.
+    pub fn new(datagrams: &'a [Vec<u8>]) -> MemoryFeed<'a>
+        ensures { result ≡ told_of datagrams.now }
+    {
+        MemoryFeed {
+            datagrams,
+            next: 0,
+            ended: false,
+        }
+    }
+}
+
+impl<'a> Feed for MemoryFeed<'a> {
+    ghost told = { λ feed. feed };
+
+    fn next(&mut self, buf: &mut [u8]) -> FeedAnswer {
+        let Some(datagram) = self.datagrams.get(self.next) else {
+            self.ended = true;
+            return FeedAnswer::Ended;
+        };
+        self.next += 1;
+        let count = buf.len().min(datagram.len());
+        buf[..count].copy_from_slice(&datagram[..count]);
+        FeedAnswer::Datagram(count)
+    }
+}

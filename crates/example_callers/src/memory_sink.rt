@@ -1,0 +1,71 @@
+//! Datagrams kept in memory.
+ghost use Rattle.std.specs.Prelude.{◌≡◌, [], ◌∷◌, ◌++◌, Some, is_some, OnOk, IfSome};
+ghost use Rattle.example_callers.specs.Told.{octets_of};
+
+use std::alloc::{AllocError, Global};
+use std::marker::Model;
+use studio_io::{SendAnswer, Sink};
+
+/// Keeps the datagrams that it is handed, in order. One for which memory is refused fails at both
+/// addresses. Contracts see it as all that it was handed, and as None once a datagram was not kept.
+#[derive(Drop)]
+pub struct MemorySink {
+    alloc: Global,
+    kept: Vec<Vec<u8>>,
+    whole: bool,
+}
+
+impl Model for MemorySink {
+    ghost use Rattle.std.specs.Prelude.{ℕ, List, Option, Some, None, if◌then◌else◌};
+    ghost use Rattle.example_callers.specs.Told.{octets_of};
+
+    ghost Value = { Option (List (List ℕ)) };
+
+    ghost view = { λ sink. if sink.whole then Some (octets_of sink.kept.items) else None };
+}
+
+impl MemorySink {
+    /// Keeps none yet.
+    pub fn new(alloc: Global) -> MemorySink
+        ensures { result ≡ Some [] }
+    {
+        MemorySink {
+            alloc,
+            kept: Vec::new(alloc),
+            whole: true,
+        }
+    }
+
+    /// The datagrams that were kept, in order.
+    pub fn kept(&self) -> &[Vec<u8>]
+        ensures { IfSome self.now (λ handed. octets_of result.now ≡ handed) }
+    {
+        self.kept.as_slice()
+    }
+
+    /// Whether all were kept.
+    pub fn is_whole(&self) -> bool
+        ensures { result ≡ is_some self.now }
+    {
+        self.whole
+    }
+}
+
+/// Keeps one more.
+fn keep(alloc: Global, kept: &mut Vec<Vec<u8>>, datagram: &[u8]) -> Result<(), AllocError>
+    ensures { OnOk result (octets_of kept.new.items ≡ octets_of kept.old.items ++ datagram.now ∷ []) }
+{
+    let copy = Vec::from_slice(alloc, datagram)?;
+    kept.push(copy)?;
+    Ok(())
+}
+
+impl Sink for MemorySink {
+    ghost handed = { λ sink. sink };
+
+    fn send(&mut self, datagram: &[u8]) -> SendAnswer {
+        let kept = keep(self.alloc, &mut self.kept, datagram).is_ok();
+        self.whole &= kept;
+        SendAnswer { a: kept, b: kept }
+    }
+}

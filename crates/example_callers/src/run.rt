@@ -1,0 +1,74 @@
+//! A studio in threads, over datagrams in memory.
+ghost use Rattle.std.specs.Prelude.{◌≡◌, true, map, IfOk};
+ghost use Rattle.studio_workers.specs.Balances.{Balances};
+ghost use Rattle.studio_workers.specs.Runs.{IsSettledRun};
+ghost use Rattle.example_callers.specs.Told.{told_of};
+
+use crate::memory_clock::MemoryClock;
+use crate::memory_feed::MemoryFeed;
+use std::alloc::{AllocError, AllocFailed, Global};
+use std::sync::Wait;
+use std::thread::Threads;
+use studio_config::StudioSpec;
+use studio_ends::{OpenFault, open};
+use studio_workers::{Sink, WorkFault, WorkReport, run_workers};
+use thiserror::Error;
+
+/// How many packets, marks or counts a ring holds.
+const PLACES: usize = 64;
+
+/// Why a run didn't begin.
+#[derive(Debug, Drop, Error)]
+pub enum RunFault {
+    /// There aren't as many lists of datagrams as the streams have paths.
+    #[error("a list of datagrams for each path")]
+    Paths,
+    /// The rings could not be opened.
+    #[error("{0}")]
+    Open(#[from] OpenFault),
+    /// The workers didn't begin.
+    #[error("{0}")]
+    Work(#[from] WorkFault),
+    /// A growth was refused.
+    #[error("out of memory")]
+    Memory(#[from] AllocError),
+}
+
+impl<T: Drop> From<AllocFailed<T>> for RunFault {
+    fn from(refused: AllocFailed<T>) -> RunFault {
+        RunFault::Memory(refused.into())
+    }
+}
+
+/// Runs a studio's workers over these datagrams, a list for each path, stream by stream and path by
+/// path. Each stream's clock has the same readings, and a stream goes by them.
+///
+/// Where the report is settled, a sink that tells at the end what it was handed was handed the datagrams
+/// of exactly the ready blocks. A `MemorySink` tells it where it is whole.
+pub fn run_in_threads<R: Threads + Wait + Sync, K: Sink>(
+    rt: &R,
+    alloc: Global,
+    studio: &StudioSpec,
+    datagrams: &[Vec<Vec<u8>>],
+    readings: &[i64],
+    sink: K,
+) -> Result<(WorkReport, K), RunFault>
+    ensures balance { IfOk result (λ r. Balances r.0.blocks r.0.sent_a r.0.fault_a r.0.sent_b r.0.fault_b) }
+    ensures settled { IfOk result (λ r. r.0.settled ≡ true
+        → IsSettledRun studio.now 64 (map (λ path. told_of path.items) datagrams.now) (map (λ _. readings.now) studio.now.streams) r.0 (K.handed sink) (K.handed r.1)) }
+{
+    let ends = open(alloc, studio, PLACES)?;
+    if datagrams.len() != ends.paths.len() {
+        return Err(RunFault::Paths);
+    }
+    let _sound = studio.streams();
+    let mut feeds = Vec::new(alloc);
+    for path in datagrams {
+        feeds.push(MemoryFeed::new(path.as_slice()))?;
+    }
+    let mut clocks = Vec::new(alloc);
+    for _ in 0..ends.streams.len() {
+        clocks.push(MemoryClock::new(readings))?;
+    }
+    Ok(run_workers(rt, alloc, ends, feeds, clocks, sink)?)
+}
