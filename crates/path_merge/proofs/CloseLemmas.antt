@@ -20,7 +20,7 @@ use Rattle.rtp_stream.specs.Marks.{marks_at, marks_of}
 use Rattle.path_merge.specs.MergeState.{IsSound, MergeState}
 use Rattle.rtp_stream.specs.declared.stream_spec.Stream.{Stream}
 use Rattle.rtp_stream.specs.StreamSpecFacts.{IsStream}
-use Rattle.reorder_window.specs.Window.{IsEmpty}
+use Rattle.path_merge.specs.Window.{IsEmpty}
 use Rattle.rtp_stream.specs.declared.event.Event.{Event}
 use Rattle.rtp_stream.specs.declared.event.Event.TheVariants.{Close}
 

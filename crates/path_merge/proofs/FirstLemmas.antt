@@ -31,7 +31,7 @@ use Rattle.path_merge.specs.Steps.{IsFirstStep, IsRefusal, Offers}
 use Rattle.rtp_stream.specs.StreamSpec.{Fits}
 use Rattle.rtp_stream.specs.declared.stream_spec.Stream.{Stream}
 use Rattle.rtp_stream.specs.Put.{is_taken, put_answer}
-use Rattle.reorder_window.specs.Window.{IsEmpty}
+use Rattle.path_merge.specs.Window.{IsEmpty}
 use Rattle.rtp_stream.specs.declared.anchor.Anchor.{Anchor}
 use Rattle.rtp_stream.specs.declared.event.Event.{Event}
 use Rattle.rtp_stream.specs.declared.event.Event.TheVariants.{Arrive}

@@ -1,3 +1,7 @@
+pub mod OctetLemmas
+pub mod SortedLemmas
+pub mod RingLemmas
+pub mod SlotWindowLemmas
 pub mod DueLemmas
 pub mod HistoryLemmas
 pub mod MarkGrowthLemmas

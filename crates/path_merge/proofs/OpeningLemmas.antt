@@ -11,7 +11,7 @@ use Rattle.path_merge.specs.MergeState.{IsAnchored, IsSound, MergeState, held_co
 use Rattle.rtp_stream.specs.PathProbation.{is_complete, probation_at, probation_heard}
 use Rattle.rtp_stream.specs.Probation.{is_off}
 use Rattle.path_merge.specs.Steps.{epoch_media, opening_of}
-use Rattle.reorder_window.specs.Window.{IsEmpty}
+use Rattle.path_merge.specs.Window.{IsEmpty}
 use Rattle.rtp_stream.specs.declared.anchor.Anchor.{Anchor}
 use Rattle.rtp_stream.specs.declared.packet.Packet.{Packet}
 

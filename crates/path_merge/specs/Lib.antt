@@ -1,3 +1,6 @@
+pub mod Window
+pub mod SortedWindow
+pub mod SlotWindow
 pub use Rattle.rtp_stream.specs.Nearest
 pub use Rattle.rtp_stream.specs.MarkFacts
 pub use Rattle.rtp_stream.specs.MarkRef
@@ -20,7 +23,6 @@ pub use Rattle.rtp_stream.specs.Counts
 pub use Rattle.rtp_stream.specs.Sent
 pub use Rattle.rtp_stream.specs.Laws
 pub use Rattle.rtp_stream.specs.EpochLaws
-pub use Rattle.reorder_window.specs.Window
 pub mod Clock
 pub mod MergeState
 pub mod Merge

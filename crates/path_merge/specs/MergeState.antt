@@ -9,7 +9,7 @@ use Rattle.rtp_stream.specs.CountsFacts.{Tally}
 use Rattle.rtp_stream.specs.declared.probation.Probation.{Probation}
 use Rattle.rtp_stream.specs.declared.anchor.Anchor.{Anchor}
 use Rattle.rtp_stream.specs.declared.packet.Packet.{Packet}
-use Rattle.reorder_window.specs.Window.{IsEmpty}
+use Rattle.path_merge.specs.Window.{IsEmpty}
 use Rattle.rtp_stream.specs.Anchor.{media_time_of, next_number}
 
 pub record MergeState : Type 0 where

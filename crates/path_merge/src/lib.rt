@@ -1,3 +1,10 @@
+//! Reorder windows: the packets of a stream that are held until their deadlines, by number.
+//!
+//! A window has room for `size` numbers from `base` on. `put_ref` takes a packet where its number has none,
+//! and answers whether a further copy is alike; `front` reads the packet at the base, and `drop_front` lets
+//! it go and moves on. `SlotWindow` has a slot for each number, and no call takes longer the more is held;
+//! `SortedWindow` keeps its packets sorted, the plain form beside it. Only their `new` takes memory.
+//!
 //! One stream that comes in on several paths, merged into a list of marks.
 //!
 //! There are two ways to each step, with one contract. The plain one takes and answers values: `admit`,
@@ -20,7 +27,12 @@ mod clock;
 mod goal;
 mod laws;
 mod merge;
+mod octets;
 mod run;
+mod slot;
+mod slots;
+mod sorted;
+mod window;
 
 pub use clock::{ClockFault, clock_fault};
 pub use goal::Goal;
@@ -31,9 +43,11 @@ pub use laws::{
     nothing_follows_a_close, sent_numbers_are_recovered, ticks_may_be_split,
 };
 pub use merge::Merge;
-pub use reorder_window::{SlotWindow, SortedWindow, Window};
 pub use rtp_stream::{
     AdmitFault, Body, Counts, Event, Fate, Format, Mark, MarkKind, MarkKindRef, MarkRef, Packet,
     PacketRef, Path, Probation, Put, SpecFault, Stream, StreamClock, StreamSpec, near16, near32,
 };
 pub use run::{RunFault, run_merge};
+pub use slots::SlotWindow;
+pub use sorted::SortedWindow;
+pub use window::Window;

@@ -6,7 +6,8 @@ ghost use Rattle.rtp_stream.specs.declared.event.Event.TheVariants.{Close};
 ghost use Rattle.rtp_stream.specs.Counts.{tally_of};
 ghost use Rattle.rtp_stream.specs.declared.stream_spec.Stream.{Stream};
 
-use reorder_window::{SlotWindow, Window};
+use crate::slots::SlotWindow;
+use crate::window::Window;
 use rtp_stream::{Anchor, Counts, Probation, StreamSpec};
 use std::alloc::{AllocError, Global};
 use std::marker::Model;
@@ -83,7 +84,7 @@ impl Merge<SlotWindow> {
 impl<V: Window> Merge<V> {
     ghost use Rattle.path_merge.specs.MergeState.{MergeState};
     ghost use Rattle.path_merge.specs.Merge.{HasHistory};
-    ghost use Rattle.reorder_window.specs.Window.{IsEmpty};
+    ghost use Rattle.path_merge.specs.Window.{IsEmpty};
     ghost use Rattle.path_merge.specs.Steps.{next_deadline_of};
 
     /// A merge over an empty window of the stream's size: nothing has happened yet.

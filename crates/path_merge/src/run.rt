@@ -13,7 +13,7 @@ ghost use Rattle.rtp_stream.specs.declared.stream_spec.Stream.{Stream};
 
 use crate::clock::clock_fault;
 use crate::merge::Merge;
-use reorder_window::Window;
+use crate::window::Window;
 use rtp_stream::{Event, Mark, MarkKind, StreamSpec};
 use std::alloc::{AllocError, Global};
 use thiserror::Error;

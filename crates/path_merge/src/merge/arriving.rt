@@ -11,7 +11,7 @@ ghost use Rattle.rtp_stream.specs.Probation.{is_off};
 ghost use Rattle.rtp_stream.specs.declared.stream_spec.Stream.{Stream};
 
 use super::Merge;
-use reorder_window::Window;
+use crate::window::Window;
 use rtp_stream::{
     Anchor, Fate, Packet, PacketRef, Path, Probation, fate_of_first, fate_of_put, goes_on, hear_on,
     is_off_place, is_taken, media_of_first, media_of_restart, place_of,
@@ -23,7 +23,7 @@ const MOST_ARRIVALS: u64 = 4_611_686_018_427_387_904;
 impl<V: Window> Merge<V> {
     ghost use Rattle.rtp_stream.specs.StreamSpec.{Fits};
     ghost use Rattle.path_merge.specs.Merge.{HasHistory};
-    ghost use Rattle.reorder_window.specs.Window.{IsEmpty};
+    ghost use Rattle.path_merge.specs.Window.{IsEmpty};
     ghost use Rattle.path_merge.specs.Steps.{IsFirstStep, IsHeardStep, IsNextStep, IsPutStep, IsRefusal, IsRestartStep, Offers, epoch_media, opening_of, opens_epoch};
 
     /// Takes a packet of the stream's length that came in on one of its paths.

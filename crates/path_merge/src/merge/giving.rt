@@ -13,7 +13,7 @@ ghost use Rattle.rtp_stream.specs.declared.stream_spec.Stream.{Stream};
 use super::Merge;
 use crate::clock::{ClockFault, clock_fault};
 use crate::goal::Goal;
-use reorder_window::Window;
+use crate::window::Window;
 use rtp_stream::{Anchor, Counts, Mark, MarkRef, Packet};
 
 /// Whether a Quiet is given, where the last one was at `last`.

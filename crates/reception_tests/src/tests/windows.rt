@@ -1,10 +1,10 @@
 //! The rules of a reorder window, each tried at every window.
 ghost use Rattle.std.specs.Prelude.{◌≡◌};
-ghost use Rattle.reorder_window.specs.Window.{IsEmpty};
+ghost use Rattle.path_merge.specs.Window.{IsEmpty};
 
 use super::cases::{STREAM, spec_of};
 use super::steps::Sent;
-use reorder_window::{SlotWindow, SortedWindow, Window};
+use path_merge::{SlotWindow, SortedWindow, Window};
 use rtp_stream::{Put, StreamSpec};
 use std::process::Abort;
 

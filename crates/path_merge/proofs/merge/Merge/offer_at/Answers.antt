@@ -4,7 +4,7 @@ use Rattle.rtp_stream.specs.PacketRef.{packet_of}
 use Rattle.rtp_stream.specs.Anchor.{is_restart_in_reach, media_time_of, restart_media_time}
 use Rattle.path_merge.specs.MergeState.{IsSound, MergeState}
 use Rattle.path_merge.specs.Steps.{IsRestartStep}
-use Rattle.reorder_window.specs.Window.{IsEmpty}
+use Rattle.path_merge.specs.Window.{IsEmpty}
 use Rattle.rtp_stream.specs.declared.fate.Fate.TheVariants.{Restarted}
 use Rattle.path_merge.proofs.OpeningLemmas.{Opens, nothing_held, opening_is}
 use Rattle.path_merge.proofs.AnewLemmas.{restart_heard}

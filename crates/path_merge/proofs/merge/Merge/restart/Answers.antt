@@ -3,7 +3,7 @@ use Rattle.rtp_stream.specs.PacketRef.{packet_of}
 use Rattle.rtp_stream.specs.declared.anchor.Anchor.{Anchor}
 use Rattle.path_merge.specs.MergeState.{MergeState}
 use Rattle.rtp_stream.specs.StreamSpec.{Fits}
-use Rattle.reorder_window.specs.Window.{IsEmpty}
+use Rattle.path_merge.specs.Window.{IsEmpty}
 use Rattle.rtp_stream.specs.Anchor.{is_restart_in_reach, media_time_of, restart_media_time}
 use Rattle.std.proofs.lemmas.Int.{to_z-of_z}
 use Rattle.path_merge.proofs.SoundLemmas.{anchored_at}

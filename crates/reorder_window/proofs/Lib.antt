@@ -1,4 +1,0 @@
-pub mod OctetLemmas
-pub mod SortedLemmas
-pub mod RingLemmas
-pub mod SlotWindowLemmas

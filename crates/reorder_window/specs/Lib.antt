@@ -1,3 +1,0 @@
-pub mod Window
-pub mod SortedWindow
-pub mod SlotWindow
