@@ -1,8 +1,8 @@
 -- What is shown of a path's packets.
 use Rattle.std.specs.Prelude.{◌≡◌, ℕ, ◌+◌, ◌-◌, ◌^◌, min, max, List, slice_index, slice_get, Some, option_map}
 use Rattle.rtp_stream.specs.declared.counts.Counts.{Counts}
-use Rattle.stream_tally.specs.declared.spare.Spare.{Spare}
-use Rattle.stream_watch.specs.declared.numbers.PathNumbers.{PathNumbers}
+use Rattle.rtp_stats.specs.declared.spare.Spare.{Spare}
+use Rattle.rtp_stats.specs.declared.numbers.PathNumbers.{PathNumbers}
 use Rattle.studio_page.specs.declared.snapshot.Copies.{Copies}
 use Rattle.studio_page.specs.declared.snapshot.PathState.{PathState}
 use Rattle.studio_page.specs.declared.snapshot.Spare as page

@@ -3,9 +3,9 @@ use Rattle.std.specs.Prelude.{◌≡◌, ◌≢◌, ℕ, ◌∷◌, [], List, le
 use Rattle.rtp_wire.specs.Datagram.{head_at}
 use Rattle.rtp_stream.specs.declared.fate.Fate.{Fate}
 use Rattle.rtp_stream.specs.declared.stream_spec.Stream.{Stream}
-use Rattle.stream_tally.specs.Offer.{Offer}
-use Rattle.stream_tally.specs.Tally.{HasTally}
-use Rattle.stream_watch.specs.declared.copy_watch.CopyWatch.{CopyWatch}
+use Rattle.rtp_stats.specs.Offer.{Offer}
+use Rattle.rtp_stats.specs.Tally.{HasTally}
+use Rattle.rtp_stats.specs.declared.copy_watch.CopyWatch.{CopyWatch}
 use Rattle.studio_session.specs.declared.receipt.Receipt.{Receipt}
 use Rattle.studio_session.specs.declared.receipt.Receipt.TheVariants.{Offered, Bad, WrongType, WrongLength}
 

@@ -1,11 +1,11 @@
 -- What a view shows of an engine.
 use Rattle.std.specs.Prelude.{◌≡◌, ◌≤◌, ◌<◌, ℕ, ℤ, Bool, List, length, replicate, slice_get, IfSome}
 use Rattle.rtp_stream.specs.declared.stream_spec.Stream.{Stream}
-use Rattle.stream_tally.specs.Offer.{Offer}
-use Rattle.stream_tally.specs.Tally.{HasTally}
-use Rattle.stream_watch.specs.Numbers.{AreNumbers}
-use Rattle.stream_watch.specs.declared.copy_watch.CopyWatch.{CopyWatch}
-use Rattle.stream_watch.specs.declared.numbers.PathNumbers.{PathNumbers}
+use Rattle.rtp_stats.specs.Offer.{Offer}
+use Rattle.rtp_stats.specs.Tally.{HasTally}
+use Rattle.rtp_stats.specs.Numbers.{AreNumbers}
+use Rattle.rtp_stats.specs.declared.copy_watch.CopyWatch.{CopyWatch}
+use Rattle.rtp_stats.specs.declared.numbers.PathNumbers.{PathNumbers}
 use Rattle.studio_engine.specs.Engine.{EngineState}
 use Rattle.studio_page.specs.Blank.{blank_path}
 use Rattle.studio_page.specs.declared.snapshot.OutputState.{OutputState}

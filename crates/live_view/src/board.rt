@@ -36,7 +36,7 @@ pub struct Board<E> {
 }
 
 impl<E: Write + Drop> Board<E> {
-    ghost use Rattle.stream_watch.specs.Newest.{Gives};
+    ghost use Rattle.rtp_stats.specs.Newest.{Gives};
     ghost use Rattle.live_view.specs.Shown.{IsBlankSnapshot, Shows, is_due_at};
 
     /// A board of these streams and so many output channels, up to eight, before anything came; `now` is in sampling instants.

@@ -2,7 +2,7 @@
 ghost use Rattle.std.specs.Prelude.{◌≡◌};
 ghost use Rattle.live_view.specs.Copies.{spare_of, with_numbers};
 
-use stream_watch::PathNumbers;
+use rtp_stats::PathNumbers;
 use studio_page::{Copies, PathState, Spare};
 
 /// Sees what became of a path's packets, of a stream that lost so many.
@@ -23,7 +23,7 @@ pub(crate) fn see_numbers(numbers: &PathNumbers, lost: u64, state: &mut PathStat
 }
 
 /// The spare times of a path, as they are shown.
-fn shown_spare(spare: stream_tally::Spare) -> Spare
+fn shown_spare(spare: rtp_stats::Spare) -> Spare
     ensures { result ≡ spare_of spare }
 {
     Spare {

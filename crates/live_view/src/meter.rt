@@ -3,9 +3,9 @@ ghost use Rattle.std.specs.Prelude.{◌≡◌, ◌≤◌, min};
 ghost use Rattle.live_view.specs.Each.{AreEach};
 ghost use Rattle.live_view.specs.Outputs.{KeepsCount};
 
+use rtp_stats::raise_peaks;
 use rtp_wire::Enc;
 use std::sync::atomic::{AtomicU32, Ordering};
-use stream_tally::raise_peaks;
 use studio_page::OutputState;
 
 /// The most output channels.

@@ -6,9 +6,9 @@ ghost use Rattle.live_view.specs.Noted.{AddsOfferAt, IsUnheard};
 
 use byteorder::{BigEndian, ByteOrder};
 use path_merge::{Fate, Path};
+use rtp_stats::CopyWatch;
 use rtp_stream::StreamSpec;
 use std::alloc::{AllocError, Global};
-use stream_watch::CopyWatch;
 
 /// How many octets a packet's header has.
 const HEAD: usize = 12;

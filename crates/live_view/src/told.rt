@@ -5,8 +5,8 @@ ghost use Rattle.live_view.specs.Each.{AreEach};
 ghost use Rattle.live_view.specs.Outputs.{HasCount, HasNumbers};
 
 use crate::copies::see_numbers;
+use rtp_stats::{MixNumbers, StreamNumbers};
 use rtp_stream::{Counts, PathCounts};
-use stream_watch::{MixNumbers, StreamNumbers};
 use studio_page::{OutputState, PathState, StreamState};
 
 /// Sees what was told of a stream.

@@ -2,8 +2,8 @@
 ghost use Rattle.std.specs.Prelude.{◌≡◌, None, IsNone, IsSomeAnd, MatchOption};
 ghost use Rattle.live_workers.specs.Asked.{AreAsked, TellsMix, TellsPath, TellsStream, mix_last_of};
 
+use rtp_stats::{MixNumbers, MixWatch, PathWatch, StreamNumbers, StreamWatch};
 use rtp_stream::PathCounts;
-use stream_watch::{MixNumbers, MixWatch, PathWatch, StreamNumbers, StreamWatch};
 
 /// Asks the watches of all paths.
 pub(crate) fn ask_paths(watches: &mut [PathWatch], told: &mut [Option<PathCounts>])

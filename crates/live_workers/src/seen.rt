@@ -4,8 +4,8 @@ ghost use Rattle.live_view.specs.Each.{AreEach};
 ghost use Rattle.live_workers.specs.Told.{HasCounts, SeesAt, SeesStream, SeesTold};
 
 use live_view::{see_datagrams, see_told};
+use rtp_stats::StreamNumbers;
 use rtp_stream::PathCounts;
-use stream_watch::StreamNumbers;
 use studio_page::{PathState, StreamState};
 
 /// Sees what was told of each stream, and of each path, by counts that stand path by path.

@@ -8,9 +8,9 @@ ghost use Rattle.live_workers.specs.Told.{SeesTold};
 use crate::asked::{ask_mix, ask_paths, ask_streams};
 use crate::seen::see_streams;
 use live_view::see_mix;
+use rtp_stats::{MixNumbers, StreamNumbers};
 use rtp_stream::PathCounts;
 use std::alloc::{AllocError, Global};
-use stream_watch::{MixNumbers, StreamNumbers};
 use studio_ends::Watches;
 use studio_page::Snapshot;
 

@@ -36,6 +36,6 @@ pub use Rattle.studio_mix.specs.Ready
 pub use Rattle.studio_mix.specs.Output
 pub use Rattle.studio_mix.specs.Blocks
 pub use Rattle.studio_mix.specs.Saturated
-pub use Rattle.stream_watch.specs.Told as WatchTold
+pub use Rattle.rtp_stats.specs.Told as WatchTold
 pub use Rattle.rtp_stream.specs.PathCounts
 pub use Rattle.rtp_stream.specs.Reception

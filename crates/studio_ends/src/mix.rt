@@ -21,7 +21,7 @@ use crate::look::look_at_streams;
 use crate::mix_end::MixEnd;
 use crate::stream::StreamDone;
 use crate::take_marks::take_streams;
-use stream_watch::MixTeller;
+use rtp_stats::MixTeller;
 
 /// What a turn of the mixer's end did.
 #[derive(Clone, Copy, Debug)]

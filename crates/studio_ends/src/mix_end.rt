@@ -3,7 +3,7 @@ ghost use Rattle.std.specs.Prelude.{◌≡◌, ◌≤◌, length, vec_len};
 ghost use Rattle.studio_ends.specs.Told.{Measures};
 
 use crate::mark_ring::MarkOut;
-use stream_watch::MixTeller;
+use rtp_stats::MixTeller;
 use studio_mix::Mixer;
 
 /// The mixer's end: marks of all streams come in, and datagrams go out.

@@ -14,10 +14,10 @@ use crate::room::{LONG, MIDDLE, SHORT};
 use crate::side::Side;
 use crate::take::take_path;
 use path_merge::{Merge, PacketRef, Path, SlotWindow, StreamSpec};
+use rtp_stats::StreamTeller;
 use rtrb::{Finished, RingBuffer};
 use std::alloc::{AllocError, Global};
 use std::marker::Model;
-use stream_watch::StreamTeller;
 
 /// A pushing end, by its rooms.
 #[derive(Drop)]

@@ -10,8 +10,8 @@ ghost use Rattle.studio_ends.specs.declared.path.Offer.TheVariants as offer;
 
 use crate::packet_ring::{PacketIn, PacketToken};
 use crate::path_end::PathEnd;
+use rtp_stats::PathTeller;
 use rtp_stream::{PathCounts, ReceptionRef, receive_ref};
-use stream_watch::PathTeller;
 
 /// What became of a datagram: the first of these that holds.
 #[derive(Clone, Copy, PartialEq, Eq, Debug)]

@@ -8,8 +8,8 @@ ghost use Rattle.studio_ends.specs.RoomRings.{HasRoomFor};
 
 use crate::packet_ring::PacketIn;
 use path_merge::StreamSpec;
+use rtp_stats::PathTeller;
 use rtp_stream::PathCounts;
-use stream_watch::PathTeller;
 
 /// The end of a path: its datagrams go in.
 ///

@@ -22,8 +22,8 @@ use crate::stream_end::StreamEnd;
 use crate::take::take_all;
 use crate::turn::{StopReason, TurnNote, push_marks};
 use path_merge::{ClockFault, Counts, Merge, SlotWindow, StreamSpec, clock_fault};
+use rtp_stats::StreamTeller;
 use rtrb::Producer;
-use stream_watch::StreamTeller;
 
 /// Which paths haven't finished, or have sent packets that were not taken.
 #[derive(Clone, Copy, PartialEq, Eq, Debug)]

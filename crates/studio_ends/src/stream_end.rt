@@ -7,8 +7,8 @@ ghost use Rattle.studio_ends.specs.RoomRings.{HasRoomFor};
 use crate::mark_ring::MarkIn;
 use crate::packet_ring::PacketOut;
 use path_merge::{Counts, Merge, SlotWindow, StreamSpec};
+use rtp_stats::StreamTeller;
 use rtrb::Producer;
-use stream_watch::StreamTeller;
 
 /// The end of a stream: packets of all paths come in, and marks go out.
 #[derive(Drop)]

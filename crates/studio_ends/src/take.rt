@@ -8,7 +8,7 @@ use crate::packet_ring::PacketOut;
 use crate::packet_room::PacketRoom;
 use crate::side::Side;
 use path_merge::{Fate, Merge, PacketRef, Path, SlotWindow, StreamSpec};
-use stream_watch::StreamTeller;
+use rtp_stats::StreamTeller;
 
 /// How many packets of a path, or marks, one turn takes at most.
 pub(crate) const BATCH: u32 = 64;

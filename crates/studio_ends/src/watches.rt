@@ -3,12 +3,12 @@ ghost use Rattle.std.specs.Prelude.{IfOk};
 ghost use Rattle.studio_ends.specs.Told.{Measures};
 
 use mix_packets::OutSpec;
-use rtp_stream::StreamSpec;
-use std::alloc::{AllocError, Global};
-use stream_watch::{
+use rtp_stats::{
     MixTeller, MixWatch, PathTeller, PathWatch, StreamTeller, StreamWatch, open_mix_watch,
     open_path_watch, open_watch,
 };
+use rtp_stream::StreamSpec;
+use std::alloc::{AllocError, Global};
 
 /// What a studio's ends tell of the packets of each path: before the merges stream by stream and path by path, and by the
 /// merges stream by stream; and of the mix.

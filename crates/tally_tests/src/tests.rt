@@ -1,10 +1,10 @@
 //! A stream of two paths with a window of eight packets, and payloads.
 
+use rtp_stats::{Deadlines, Spare, StreamTally, raise_peaks, spare_before};
 use rtp_stream::{Fate, Path, StreamClock, StreamSpec};
 use rtp_wire::Enc;
 use std::alloc::Global;
 use std::process::Abort;
-use stream_tally::{Deadlines, Spare, StreamTally, raise_peaks, spare_before};
 
 /// The tally of a stream of which nothing was offered yet.
 fn new_tally(rt: &impl Abort, alloc: Global) -> StreamTally {

@@ -1,7 +1,7 @@
 use Rattle.std.proofs.Common.{◌≡◌, ℤ, Option, Bor, MatchOption, sym, subst, to_z, of_z, w64}
 use Rattle.std.proofs.lemmas.Int.{to_z-of_z}
-use Rattle.stream_watch.specs.Numbers.{AreNumbers}
-use Rattle.stream_watch.specs.declared.copy_watch.CopyWatch.{CopyWatch}
+use Rattle.rtp_stats.specs.Numbers.{AreNumbers}
+use Rattle.rtp_stats.specs.declared.copy_watch.CopyWatch.{CopyWatch}
 use Rattle.live_view.specs.Viewed.{IsWatched}
 use Rattle.live_view.proofs.engine_view.see_copies.Goals as goal
 

@@ -1,6 +1,6 @@
 use Rattle.std.proofs.Common.{◌+◌, List, length, sym, refl, subst}
 use Rattle.std.proofs.lemmas.Option.{slice_get_read}
-use Rattle.stream_watch.specs.declared.copy_watch.CopyWatch.{CopyWatch}
+use Rattle.rtp_stats.specs.declared.copy_watch.CopyWatch.{CopyWatch}
 use Rattle.live_view.specs.Noted.{IsUnheard}
 use Rattle.live_view.proofs.Each.{IsBegun, begun-push}
 use Rattle.live_view.proofs.noted.all_watched.Goals as goal

@@ -2,7 +2,7 @@ use Rattle.std.proofs.Common.{◌≡◌, length, refl, sym, subst, arith, to_z, 
 use Rattle.std.proofs.lemmas.Grind.{common_steps}
 use Rattle.std.proofs.lemmas.Int.{to_z-of_z}
 use Rattle.std.proofs.lemmas.Option.{slice_get_read, slice_get_within}
-use Rattle.stream_watch.specs.declared.copy_watch.CopyWatch.{CopyWatch}
+use Rattle.rtp_stats.specs.declared.copy_watch.CopyWatch.{CopyWatch}
 use Rattle.live_view.specs.Noted.{AddsOffer}
 use Rattle.live_view.proofs.Each.{get-set, get-set_else}
 use Rattle.live_view.proofs.noted.note_at.Goals as goal

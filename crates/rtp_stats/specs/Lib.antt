@@ -1,0 +1,14 @@
+pub mod Offer
+pub mod Offers
+pub mod Missed
+pub mod Spare
+pub mod Entry
+pub mod Second
+pub mod Counts
+pub mod Tally
+pub mod Deadlines
+pub mod Laws
+pub mod Peaks
+pub mod Newest
+pub mod Numbers
+pub mod Told

@@ -1,0 +1,56 @@
+//! Counters of a path's offers by fate.
+ghost use Rattle.std.specs.Prelude.{◌≡◌, ◌<◌, [], ◌∷◌};
+ghost use Rattle.rtp_stats.specs.Counts.{one_more};
+
+use rtp_stream::{Fate, Path};
+
+/// Adds one to a path's number, which stands still at the greatest.
+#[inline(always)]
+fn add_one_at(numbers: &mut [u64; 4], at: usize)
+    requires { at < 4 }
+    ensures { numbers.new ≡ one_more at numbers.old }
+{
+    numbers[at] = numbers[at].saturating_add(1);
+}
+
+/// Numbers of offers, by path.
+#[derive(Clone, Copy, Debug)]
+pub(crate) struct FateCounts {
+    pub(crate) first: [u64; 4],
+    pub(crate) double: [u64; 4],
+    pub(crate) unlike: [u64; 4],
+    pub(crate) late: [u64; 4],
+}
+
+impl FateCounts {
+    ghost use Rattle.rtp_stats.specs.Counts.{with_fate};
+
+    /// Of no offer.
+    pub(crate) fn new() -> FateCounts
+        ensures { result ≡ record { first = 0 ∷ 0 ∷ 0 ∷ 0 ∷ []; double = 0 ∷ 0 ∷ 0 ∷ 0 ∷ []; unlike = 0 ∷ 0 ∷ 0 ∷ 0 ∷ []; late = 0 ∷ 0 ∷ 0 ∷ 0 ∷ [] } }
+    {
+        FateCounts {
+            first: [0; 4],
+            double: [0; 4],
+            unlike: [0; 4],
+            late: [0; 4],
+        }
+    }
+
+    /// Counts an offer.
+    #[inline(always)]
+    pub(crate) fn add(&mut self, path: Path, fate: Fate)
+        ensures value { self.new ≡ with_fate path fate self.old }
+        ensures path { path < 4 }
+    {
+        let at = usize::from(path.number());
+        match fate {
+            Fate::Taken | Fate::Restarted => add_one_at(&mut self.first, at),
+            Fate::Double => add_one_at(&mut self.double, at),
+            Fate::Unlike => add_one_at(&mut self.unlike, at),
+            Fate::Late => add_one_at(&mut self.late, at),
+            Fate::Closed | Fate::CountersFull | Fate::WrongSource | Fate::OffGrid | Fate::Ahead =>
+                {}
+        }
+    }
+}

@@ -1,0 +1,51 @@
+//! What became of the offers of one stream, path by path, and the peaks of a payload: what an operator is shown.
+//!
+//! `StreamTally::new` takes all memory. `add` is told each packet that was offered to the stream's merge, with
+//! the fate that it had, whichever that was; it takes some tens of instructions, and no memory. `path` and
+//! `spare` may be asked at any time: `path` for a path's counts, `spare` for how long before their deadlines its
+//! packets came in the last whole second. A number is missed by a path once the numbers of a whole window lie
+//! between it and one that was taken, so that `missed` comes as long after as a window lasts.
+//!
+//! How long before its deadline a packet came is told by `Deadlines::deadline`, of its fate and timestamp, and
+//! `spare_before`: of the deadline it needs no more than the stream's next one after an epoch's first packet.
+//!
+//! `raise_peaks` reads a payload's samples; whoever shows peaks sets them to 0 again.
+//!
+//! What becomes of a stream's packets, path by path, told through a ring while its merge goes on.
+//!
+//! A `CopyWatch` is told each packet that was offered to the merge, and what became of it; its `numbers` may be asked at any
+//! time. `open_watch` gives a `StreamTeller`, for whoever has the merge, and a `StreamWatch`, for whoever looks: `tell` hands
+//! the numbers on ten times a second, if there is room, and nothing waits. A `PathTeller` and a `PathWatch` do so for what becomes of a
+//! path's datagrams before the merge, a `MixTeller` and a `MixWatch` for the mix's saturated samples and its peaks. Only `new`
+//! and the calls that open take memory.
+#![tactic(auto)]
+
+mod copy_watch;
+mod counts;
+mod deadlines;
+mod entry;
+mod laws;
+mod mix_teller;
+mod mix_watch;
+mod numbers;
+mod path_tally;
+mod path_watch;
+mod peaks;
+mod ring;
+mod second;
+mod spare;
+mod stream_watch;
+mod tally;
+
+pub use copy_watch::CopyWatch;
+pub use deadlines::{Deadlines, spare_before};
+pub use laws::{a_path_misses_what_it_gives_up, each_number_is_first_on_one_path};
+pub use mix_teller::MixTeller;
+pub use mix_watch::{MixWatch, open_mix_watch};
+pub use numbers::{MixNumbers, PathNumbers, StreamNumbers};
+pub use path_tally::PathTally;
+pub use path_watch::{PathTeller, PathWatch, open_path_watch};
+pub use peaks::raise_peaks;
+pub use spare::Spare;
+pub use stream_watch::{StreamTeller, StreamWatch, open_watch};
+pub use tally::StreamTally;

@@ -1,0 +1,157 @@
+//! The tally of a stream's offers.
+ghost use Rattle.std.specs.Prelude.{◌≡◌, ◌^◌, ◌<◌, List, [], ◌∷◌, length, replicate, slice_index_or, slice_set, IfOk, IfSome, IsNone};
+ghost use Rattle.rtp_stream.specs.declared.stream_spec.Stream.{Stream};
+ghost use Rattle.rtp_stats.specs.Offer.{Offer};
+ghost use Rattle.rtp_stats.specs.declared.second.Second.{Second};
+ghost use Rattle.rtp_stats.specs.Entry.{empty_entry};
+ghost use Rattle.rtp_stats.specs.Missed.{missed_of};
+ghost use Rattle.rtp_stats.specs.Offers.{count_in_64_bits, double_of, first_of, late_of, unlike_of};
+ghost use Rattle.rtp_stats.specs.Second.{AreNewSeconds, place_of, second_after};
+ghost use Rattle.rtp_stats.specs.Spare.{IsLatest, IsLeast, IsMedian, last_spares, second_of};
+
+use crate::counts::FateCounts;
+use crate::entry::{Entry, note};
+use crate::path_tally::PathTally;
+use crate::second::{Second, second_of};
+use crate::spare::Spare;
+use rtp_stream::{Fate, Path, StreamSpec};
+use std::alloc::{AllocError, Global};
+use std::marker::Model;
+
+/// What became of the offers of one stream, path by path.
+///
+/// No call but `new` takes memory.
+#[derive(Drop)]
+pub struct StreamTally {
+    counts: FateCounts,
+    missed: [u64; 4],
+    /// A place for each number of the window.
+    entries: Vec<Entry>,
+    /// Of each path the latest even second in which a packet came, and the latest odd one.
+    seconds: Vec<Second>,
+}
+
+impl Model for StreamTally {
+    ghost use Rattle.std.specs.Prelude.{◌≡◌, ◌<◌, length};
+    ghost use Rattle.rtp_stats.specs.Tally.{TallyState};
+
+    ghost Value = { TallyState };
+
+    ghost view = { λ t. record { counts = t.counts; missed = t.missed; entries = t.entries.items; seconds = t.seconds.items } };
+
+    ghost invariant = { λ t. record { places : 0 < length t.entries.items; eight : length t.seconds.items ≡ 8 } };
+}
+
+/// The places of a window.
+fn new_entries(alloc: Global, window: u16) -> Result<Vec<Entry>, AllocError>
+    ensures { IfOk result (λ entries. entries.items ≡ replicate window empty_entry) }
+{
+    let mut entries = Vec::with_capacity(alloc, usize::from(window))?;
+    for _ in 0..window {
+        entries.push(Entry::new())?;
+    }
+    Ok(entries)
+}
+
+/// The seconds of four paths, each path's even one first.
+fn new_seconds(alloc: Global) -> Result<Vec<Second>, AllocError>
+    ensures { IfOk result (λ seconds. AreNewSeconds 8 seconds.items) }
+{
+    let mut seconds = Vec::with_capacity(alloc, 8)?;
+    for place in 0..8_u64 {
+        seconds.push(Second::new(place % 2))?;
+    }
+    Ok(seconds)
+}
+
+/// The place of a path's second.
+#[inline(always)]
+fn place_of(path: Path, second: u64) -> usize
+    ensures value { result ≡ place_of path second }
+    ensures few { result < 8 }
+{
+    2 * usize::from(path.number()) + (second % 2) as usize
+}
+
+/// Notes the spare time of a path's packet.
+#[inline(always)]
+fn note_spare(seconds: &mut [Second], path: Path, spare: u32, now: i64)
+    requires { length seconds.old ≡ 8 }
+    ensures { (d : Second) → seconds.new ≡ slice_set seconds.old (place_of path (second_of now))
+        (second_after (second_of now) spare (slice_index_or seconds.old (place_of path (second_of now)) d)) }
+{
+    let second = second_of(now);
+    seconds[place_of(path, second)].note(second, spare);
+}
+
+impl StreamTally {
+    ghost use Rattle.rtp_stats.specs.Tally.{HasTally, TallyState};
+
+    /// The tally of a stream of which nothing was offered yet.
+    pub fn new(alloc: Global, spec: &StreamSpec) -> Result<StreamTally, AllocError>
+        ensures { IfOk result (λ tally. HasTally spec.now [] tally) }
+    {
+        let entries = new_entries(alloc, spec.window())?;
+        let seconds = new_seconds(alloc)?;
+        Ok(StreamTally {
+            counts: FateCounts::new(),
+            missed: [0; 4],
+            entries,
+            seconds,
+        })
+    }
+
+    /// Takes a packet that was offered on a path at this reading of the clock, and what became of it.
+    ///
+    /// `spare` says how long before its deadline it came, in sampling instants; none where it came later, or has
+    /// no place.
+    #[inline]
+    pub fn add(&mut self, path: Path, fate: Fate, seq: u16, spare: Option<u32>, now: i64)
+        ensures { (stream : Stream) (offers : List Offer) → HasTally stream offers self.old
+            → HasTally stream (record { path = path; fate = fate; seq = seq; spare = spare; now = now } ∷ offers) self.new }
+    {
+        self.counts.add(path, fate);
+        note(
+            self.entries.as_mut_slice(),
+            &mut self.missed,
+            path,
+            fate,
+            seq,
+        );
+        if let Some(spare) = spare {
+            note_spare(self.seconds.as_mut_slice(), path, spare, now);
+        }
+    }
+
+    /// What a path's offers came to.
+    pub fn path(&self, path: Path) -> PathTally
+        ensures first { (stream : Stream) (offers : List Offer) → HasTally stream offers self.now → result.first ≡ count_in_64_bits (first_of path offers) }
+        ensures double { (stream : Stream) (offers : List Offer) → HasTally stream offers self.now → result.double ≡ count_in_64_bits (double_of path offers) }
+        ensures unlike { (stream : Stream) (offers : List Offer) → HasTally stream offers self.now → result.unlike ≡ count_in_64_bits (unlike_of path offers) }
+        ensures late { (stream : Stream) (offers : List Offer) → HasTally stream offers self.now → result.late ≡ count_in_64_bits (late_of path offers) }
+        ensures missed { (stream : Stream) (offers : List Offer) → HasTally stream offers self.now → result.missed ≡ count_in_64_bits (missed_of stream.window path offers) }
+    {
+        let at = usize::from(path.number());
+        PathTally {
+            first: self.counts.first[at],
+            double: self.counts.double[at],
+            unlike: self.counts.unlike[at],
+            late: self.counts.late[at],
+            missed: self.missed[at],
+        }
+    }
+
+    /// The least and the median spare time of a path's packets in the whole second before this reading's; none
+    /// where there was none, and none of an earlier second where the clock went back.
+    pub fn spare(&self, path: Path, now: i64) -> Option<Spare>
+        ensures least { (stream : Stream) (offers : List Offer) → HasTally stream offers self.now → IfSome result (λ spare. IsLeast (last_spares path now offers) spare.least) }
+        ensures median { (stream : Stream) (offers : List Offer) → HasTally stream offers self.now → length (last_spares path now offers) < 2 ^ 32 → IfSome result (λ spare. IsMedian (last_spares path now offers) spare.median) }
+        ensures none { (stream : Stream) (offers : List Offer) → HasTally stream offers self.now → IsLatest now offers → IsNone result → last_spares path now offers ≡ [] }
+    {
+        let second = second_of(now);
+        if second == 0 {
+            return None;
+        }
+        self.seconds[place_of(path, second - 1)].spare_in(second - 1)
+    }
+}

@@ -1,5 +1,0 @@
-use Rattle.stream_tally.proofs.LawLemmas.{firsts_are_taken}
-use Rattle.stream_tally.proofs.laws.each_number_is_first_on_one_path.Goals as goal
-
-pub returns : goal.returns
-returns c offers all = firsts_are_taken offers all

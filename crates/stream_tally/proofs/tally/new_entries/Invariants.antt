@@ -1,9 +1,0 @@
-use Rattle.std.proofs.Common.{◌≡◌, ◌≤◌, replicate, vec_capacity}
-use Rattle.stream_tally.specs.Entry.{empty_entry}
-use Rattle.stream_tally.proofs.tally.new_entries.Given as goal
-
-abbrev pub invariant-loop : goal.invariant-loop
-invariant-loop l = record {
-  empty : l.entries.items ≡ replicate l.counter empty_entry;
-  room : l.window ≤ vec_capacity l.entries;
-}

@@ -1,9 +1,0 @@
-use Rattle.std.proofs.Common.{◌≤◌, vec_capacity}
-use Rattle.stream_tally.specs.Second.{AreNewSeconds}
-use Rattle.stream_tally.proofs.tally.new_seconds.Given as goal
-
-abbrev pub invariant-loop-place : goal.invariant-loop-place
-invariant-loop-place l = record {
-  new : AreNewSeconds l.place l.seconds.items;
-  room : 8 ≤ vec_capacity l.seconds;
-}

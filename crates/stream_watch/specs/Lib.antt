@@ -1,3 +1,0 @@
-pub mod Newest
-pub mod Numbers
-pub mod Told
