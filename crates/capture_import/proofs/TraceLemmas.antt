@@ -1,7 +1,7 @@
 -- A trace with the lines of one more item.
 use Rattle.std.proofs.Common.{ℕ, ◌+◌, ◌≡◌, List, [], ◌∷◌, ◌++◌, Err, refl, append_assoc}
-use Rattle.capture_read.specs.declared.fault.CaptureFault.{CaptureFault}
-use Rattle.capture_read.specs.Capture.{Item}
+use Rattle.pcap_file.specs.declared.fault.CaptureFault.{CaptureFault}
+use Rattle.pcap_file.specs.Capture.{Item}
 use Rattle.capture_import.specs.declared.route.Route.{Route}
 use Rattle.capture_import.specs.declared.clock.CaptureClock.{CaptureClock}
 use Rattle.capture_import.specs.Lines.{close_line}

@@ -1,8 +1,8 @@
 -- The trace of a capture: its datagrams of the flows that have a route, in order, at readings of the clock.
 use Rattle.std.specs.Prelude.{◌+◌, nat_lt, if◌then◌else◌, List, [], ◌∷◌, ◌++◌, ℕ, Option, Some, None, Ok, Err, Bool, position, slice_get, option_and_then}
-use Rattle.capture_read.specs.Ipv4.{BodyView, Whole, Part, Cut}
-use Rattle.capture_read.specs.Packet.{PacketView}
-use Rattle.capture_read.specs.Capture.{Item}
+use Rattle.pcap_file.specs.Ipv4.{BodyView, Whole, Part, Cut}
+use Rattle.pcap_file.specs.Packet.{PacketView}
+use Rattle.pcap_file.specs.Capture.{Item}
 use Rattle.capture_streams.specs.declared.sighting.FlowKey.{FlowKey}
 use Rattle.capture_streams.specs.declared.sighting.Sighting.{Sighting}
 use Rattle.capture_streams.specs.Sighting.{sighting_of, same_flow}

@@ -4,8 +4,8 @@ use crate::form::{Form, form_of};
 use crate::route::Route;
 use crate::routes::Routes;
 use crate::starts::{Start, starts_in};
-use capture_read::open;
 use capture_streams::{FlowKey, Table, skew_of};
+use pcap_file::open;
 use std::alloc::Global;
 
 /// The least latency that is chosen, 10 ms in sampling instants.

@@ -3,8 +3,8 @@ use crate::clock::CaptureClock;
 use crate::fault::ImportFault;
 use crate::routes::Routes;
 use crate::trace::route_in;
-use capture_read::open;
 use capture_streams::sighting_in;
+use pcap_file::open;
 use std::alloc::Global;
 
 /// A stream's first packet.

@@ -1,7 +1,7 @@
 //! The trace of a capture.
 ghost use Rattle.std.specs.Prelude.{◌≡◌, ◌+◌, ◌++◌, ◌<◌, ◌≤◌, OnOk, IfOk, Some, [], length, position};
-ghost use Rattle.capture_read.specs.Capture.{item_view, packets_left, packets_of};
-ghost use Rattle.capture_read.specs.Packet.{packet_view};
+ghost use Rattle.pcap_file.specs.Capture.{item_view, packets_left, packets_of};
+ghost use Rattle.pcap_file.specs.Packet.{packet_view};
 ghost use Rattle.capture_import.specs.Clock.{clock_begun};
 ghost use Rattle.capture_import.specs.Lines.{close_line};
 ghost use Rattle.capture_import.specs.Trace.{event_count, events_from, item_events, packet_events, is_route_of, route_of, item_clock, item_text, octets_of, packet_clock, packet_text, text_from, trace_of};
@@ -10,8 +10,8 @@ use crate::clock::CaptureClock;
 use crate::fault::ImportFault;
 use crate::lines::{push_arrival, push_close, push_tick};
 use crate::route::Route;
-use capture_read::{Body, Capture, CaptureFault, Packet, open};
 use capture_streams::{FlowKey, sighting_in};
+use pcap_file::{Body, Capture, CaptureFault, Packet, open};
 use std::alloc::Global;
 
 /// The most octets and events of a trace.

@@ -1,7 +1,7 @@
 -- The events of one packet more.
 use Rattle.std.proofs.Common.{◌≡◌, ◌⊎◌, inl, inr, ℕ, ◌+◌, Bool, true, false, nat_lt, List, [], ◌∷◌, ◌++◌, ℤ, pos, if◌then◌else◌, Option, Some, None, refl, sym, ap, subst, ◌∙◌, append_assoc, append-nil}
 use Rattle.std.specs.Ordering.{int_eq}
-use Rattle.capture_read.specs.Packet.{PacketView}
+use Rattle.pcap_file.specs.Packet.{PacketView}
 use Rattle.capture_import.specs.declared.clock.CaptureClock.{CaptureClock}
 use Rattle.capture_import.specs.Clock.{clock_with}
 use Rattle.capture_import.specs.Trace.{octets_of}

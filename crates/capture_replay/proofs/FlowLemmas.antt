@@ -1,14 +1,14 @@
 -- A table with a capture's next packet, or its fault.
 use Rattle.std.proofs.Common.{◌≡◌, ℕ, List, [], ◌∷◌, ◌++◌, map, Option, Some, None, Ok, Err, refl, sym, ap, ◌∙◌, append-nil}
 use Rattle.std.proofs.lemmas.List.{map-append}
-use Rattle.capture_read.specs.declared.fault.CaptureFault.{CaptureFault}
-use Rattle.capture_read.specs.declared.mark.RecordMark.{RecordMark}
-use Rattle.capture_read.specs.Entries.{Entry, entries_in}
-use Rattle.capture_read.specs.Packet.{PacketView}
-use Rattle.capture_read.specs.Capture.{Item, packets_of}
+use Rattle.pcap_file.specs.declared.fault.CaptureFault.{CaptureFault}
+use Rattle.pcap_file.specs.declared.mark.RecordMark.{RecordMark}
+use Rattle.pcap_file.specs.Entries.{Entry, entries_in}
+use Rattle.pcap_file.specs.Packet.{PacketView}
+use Rattle.pcap_file.specs.Capture.{Item, packets_of}
 use Rattle.capture_streams.specs.Table.{TableView, no_table, table_after, table_with}
-use Rattle.capture_reader.specs.Reader.{HasEntries, IsFaultBehind, packets_among}
-use Rattle.capture_reader.proofs.EntryLemmas.{among_more}
+use Rattle.pcap_file.specs.Reader.{HasEntries, IsFaultBehind, packets_among}
+use Rattle.pcap_file.proofs.ReaderEntryLemmas.{among_more}
 
 table_more : (t : TableView) (items : List Item) (item : Item) → table_after t (items ++ item ∷ []) ≡ table_with (table_after t items) item
 unfolding table_after

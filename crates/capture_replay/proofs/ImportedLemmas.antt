@@ -12,7 +12,7 @@ use Rattle.std.proofs.lemmas.List.Splits.{slice_split_at, slice_split_none}
 use Rattle.std.proofs.lemmas.Str.Parse.{digit_from_value}
 use Rattle.hex.specs.Hex.{IsBytes, decode_of, encode_lower, is_hex_digit, lower_digits}
 use Rattle.hex.proofs.HexLemmas.{IsDigits-lower_digits, decode_of-encode_lower, decode_pairs-encode_with, decode_pairs-ok, length-encode_with}
-use Rattle.capture_read.specs.Packet.{PacketView}
+use Rattle.pcap_file.specs.Packet.{PacketView}
 use Rattle.capture_import.specs.declared.clock.CaptureClock.{CaptureClock}
 use Rattle.capture_import.specs.declared.route.Route.{Route}
 use Rattle.capture_import.specs.Clock.{clock_begun, clock_with, instants_in}

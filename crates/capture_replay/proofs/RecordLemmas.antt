@@ -1,11 +1,11 @@
 -- The opening and the close among the entries of a file.
 use Rattle.std.proofs.Common.{◌≡◌, ℕ, Bool, List, [], ◌∷◌, ◌++◌, Option, Some, None, refl, ap, ◌∙◌}
-use Rattle.capture_read.specs.declared.mark.RecordMark.{RecordMark}
-use Rattle.capture_read.specs.declared.mark.RecordMark.TheVariants.{Opened, Closed}
-use Rattle.capture_read.specs.declared.parts.Parts.{Parts}
-use Rattle.capture_read.specs.Packet.{PacketView}
-use Rattle.capture_read.specs.Entries.{Entry, Packet, Mark, entries_at, entries_in, entries_of}
-use Rattle.capture_reader.specs.Reader.{HasTold}
+use Rattle.pcap_file.specs.declared.mark.RecordMark.{RecordMark}
+use Rattle.pcap_file.specs.declared.mark.RecordMark.TheVariants.{Opened, Closed}
+use Rattle.pcap_file.specs.declared.parts.Parts.{Parts}
+use Rattle.pcap_file.specs.Packet.{PacketView}
+use Rattle.pcap_file.specs.Entries.{Entry, Packet, Mark, entries_at, entries_in, entries_of}
+use Rattle.pcap_file.specs.Reader.{HasTold}
 use Rattle.capture_replay.specs.Record.{closing_in, closing_with, opening_decided, opening_in}
 
 -- the close behind some entries, where one mark more is told

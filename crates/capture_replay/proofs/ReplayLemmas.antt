@@ -4,15 +4,15 @@ use Rattle.std.specs.Prelude.{⊤}
 use Rattle.std.specs.Io.KnownBytes.{Appends}
 use Rattle.std.proofs.Math.Seq.{take-length}
 use Rattle.std.proofs.lemmas.List.{length-map}
-use Rattle.capture_read.specs.declared.parts.Parts.{Parts}
-use Rattle.capture_read.specs.declared.part.Part.{Part}
-use Rattle.capture_read.specs.Entries.{Entry, entries_at}
-use Rattle.capture_read.specs.Packet.{PacketView, packet_view}
-use Rattle.capture_read.specs.Parts.{items_at}
-use Rattle.capture_reader.specs.declared.fault.ReaderFault.{ReaderFault}
-use Rattle.capture_reader.specs.declared.fault.ReaderFault.TheVariants as reader
-use Rattle.capture_reader.specs.Reader.{HasEntries, HasTold, IsLong, packets_among, packets_in, part_entries}
-use Rattle.capture_reader.proofs.EntryLemmas.{among_more}
+use Rattle.pcap_file.specs.declared.parts.Parts.{Parts}
+use Rattle.pcap_file.specs.declared.part.Part.{Part}
+use Rattle.pcap_file.specs.Entries.{Entry, entries_at}
+use Rattle.pcap_file.specs.Packet.{PacketView, packet_view}
+use Rattle.pcap_file.specs.Parts.{items_at}
+use Rattle.pcap_file.specs.declared.reader_fault.ReaderFault.{ReaderFault}
+use Rattle.pcap_file.specs.declared.reader_fault.ReaderFault.TheVariants as reader
+use Rattle.pcap_file.specs.Reader.{HasEntries, HasTold, IsLong, packets_among, packets_in, part_entries}
+use Rattle.pcap_file.proofs.ReaderEntryLemmas.{among_more}
 use Rattle.capture_import.specs.declared.clock.CaptureClock.{CaptureClock}
 use Rattle.capture_import.specs.Clock.{clock_with}
 use Rattle.studio_mix.specs.Feed.{Feed}

@@ -1,8 +1,8 @@
 -- The events that a capture says, by a plan of where its datagrams go.
 use Rattle.std.specs.Prelude.{◌≡◌, ℕ, ◌+◌, ◌++◌, nat_lt, List, [], ◌∷◌, ℤ, pos, Option, Some, None, if◌then◌else◌}
-use Rattle.capture_read.specs.Packet.{PacketView}
-use Rattle.capture_read.specs.Entries.{Entry}
-use Rattle.capture_reader.specs.Reader.{packets_among}
+use Rattle.pcap_file.specs.Packet.{PacketView}
+use Rattle.pcap_file.specs.Entries.{Entry}
+use Rattle.pcap_file.specs.Reader.{packets_among}
 use Rattle.capture_import.specs.declared.clock.CaptureClock.{CaptureClock}
 use Rattle.capture_import.specs.Clock.{clock_with}
 use Rattle.capture_import.specs.Trace.{octets_of}

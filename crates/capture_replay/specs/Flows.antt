@@ -1,9 +1,9 @@
 -- The flows of a capture's packets so far.
 use Rattle.std.specs.Prelude.{◌≡◌, ℕ, Bool, List, map, Option, Ok}
-use Rattle.capture_read.specs.declared.parts.Parts.{Parts}
-use Rattle.capture_read.specs.Entries.{Entry}
+use Rattle.pcap_file.specs.declared.parts.Parts.{Parts}
+use Rattle.pcap_file.specs.Entries.{Entry}
 use Rattle.capture_streams.specs.Table.{TableView, no_table, table_after}
-use Rattle.capture_reader.specs.Reader.{HasTold, packets_among}
+use Rattle.pcap_file.specs.Reader.{HasTold, packets_among}
 
 -- the table has those of the packets among the entries that were told
 pub record HasTable (file : List ℕ) (left : Option (List ℕ)) (table : TableView) (parts : Parts) (held : List ℕ) (ended : Bool) : Type 0 where

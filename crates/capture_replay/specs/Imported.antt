@@ -1,7 +1,7 @@
 -- What an import writes as lines that a trace can have.
 use Rattle.std.specs.Prelude.{◌≡◌, ◌≤◌, ◌<◌, ◌^◌, List, [], ◌∷◌, length, Some, IfSome}
 use Rattle.hex.specs.Hex.{IsBytes}
-use Rattle.capture_read.specs.Packet.{PacketView}
+use Rattle.pcap_file.specs.Packet.{PacketView}
 use Rattle.capture_import.specs.declared.route.Route.{Route}
 use Rattle.capture_import.specs.Trace.{octets_of, route_of}
 

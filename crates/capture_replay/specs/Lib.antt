@@ -8,11 +8,11 @@ pub mod Heard
 pub mod Sound
 pub mod Imported
 pub mod Replay
-pub use Rattle.capture_read.specs.Packet
-pub use Rattle.capture_read.specs.Capture
-pub use Rattle.capture_read.specs.Entries
-pub use Rattle.capture_reader.specs.Window
-pub use Rattle.capture_reader.specs.Reader
+pub use Rattle.pcap_file.specs.Packet
+pub use Rattle.pcap_file.specs.Capture
+pub use Rattle.pcap_file.specs.Entries
+pub use Rattle.pcap_file.specs.Window
+pub use Rattle.pcap_file.specs.Reader
 pub use Rattle.capture_streams.specs.Table
 pub use Rattle.capture_import.specs.Trace
 pub use Rattle.capture_import.specs.Clock

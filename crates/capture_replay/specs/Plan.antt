@@ -1,6 +1,6 @@
 -- Where the datagrams of a capture go, and from when its readings count.
 use Rattle.std.specs.Prelude.{ℕ, ◌+◌, ◌-◌, nat_lt, List, [], ◌∷◌, Option, Some, None, if◌then◌else◌}
-use Rattle.capture_read.specs.Packet.{PacketView}
+use Rattle.pcap_file.specs.Packet.{PacketView}
 use Rattle.capture_import.specs.declared.clock.CaptureClock.{CaptureClock}
 use Rattle.capture_import.specs.declared.route.Route.{Route}
 use Rattle.capture_import.specs.Clock.{clock_begun, clock_with}

@@ -1,8 +1,8 @@
 -- What the entries of a file say of a live run.
 use Rattle.std.specs.Prelude.{ℕ, List, [], ◌∷◌, Option, Some, None}
-use Rattle.capture_read.specs.declared.mark.RecordMark.{RecordMark}
-use Rattle.capture_read.specs.declared.mark.RecordMark.TheVariants.{Opened, Closed}
-use Rattle.capture_read.specs.Entries.{Entry, Packet, Mark}
+use Rattle.pcap_file.specs.declared.mark.RecordMark.{RecordMark}
+use Rattle.pcap_file.specs.declared.mark.RecordMark.TheVariants.{Opened, Closed}
+use Rattle.pcap_file.specs.Entries.{Entry, Packet, Mark}
 
 -- when the studio was opened, by a mark
 abbrev pub opening_by : RecordMark → Option ℕ

@@ -1,13 +1,13 @@
 -- The report of a capture, and how far it was written.
 use Rattle.std.specs.Prelude.{◌≡◌, ◌≢◌, ◌⊎◌, ◌<◌, ℕ, ◌++◌, Bool, false, List, [], ◌∷◌, length, take, map, Option, Ok, Err, IfSome, ⊤}
 use Rattle.std.specs.Io.KnownBytes.{Appends}
-use Rattle.capture_read.specs.declared.parts.Parts.{Parts}
-use Rattle.capture_read.specs.Entries.{Entry, entries_of}
-use Rattle.capture_read.specs.Packet.{PacketView}
-use Rattle.capture_read.specs.Capture.{Item, packets_of}
-use Rattle.capture_reader.specs.declared.fault.ReaderFault.{ReaderFault}
-use Rattle.capture_reader.specs.declared.fault.ReaderFault.TheVariants as reader
-use Rattle.capture_reader.specs.Reader.{HasEntries, HasTold, packets_among}
+use Rattle.pcap_file.specs.declared.parts.Parts.{Parts}
+use Rattle.pcap_file.specs.Entries.{Entry, entries_of}
+use Rattle.pcap_file.specs.Packet.{PacketView}
+use Rattle.pcap_file.specs.Capture.{Item, packets_of}
+use Rattle.pcap_file.specs.declared.reader_fault.ReaderFault.{ReaderFault}
+use Rattle.pcap_file.specs.declared.reader_fault.ReaderFault.TheVariants as reader
+use Rattle.pcap_file.specs.Reader.{HasEntries, HasTold, packets_among}
 use Rattle.studio_config.specs.Studio.{Studio}
 use Rattle.studio_mix.specs.Blocks.{AreFirstBlocks}
 use Rattle.studio_session.specs.Event.{TraceEvent}

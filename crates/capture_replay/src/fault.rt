@@ -2,7 +2,7 @@
 ghost use Rattle.std.specs.Prelude.{◌≡◌};
 ghost use Rattle.capture_replay.specs.declared.fault.ReplayFault.TheVariants as fault;
 
-use capture_reader::ReaderFault;
+use pcap_file::ReaderFault;
 use std::alloc::AllocError;
 use studio_run::WriteFault;
 use studio_session::StudioFault;

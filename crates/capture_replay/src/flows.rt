@@ -1,15 +1,14 @@
 //! The flows of a capture that is read from a file.
 ghost use Rattle.std.specs.Prelude.{◌≡◌, ◌≤◌, ◌++◌, ℕ, List, map, length, drop, Option, None, Ok, IfOk, IfSome, OnOk};
-ghost use Rattle.capture_read.specs.Entries.{Entry};
-ghost use Rattle.capture_reader.specs.Window.{octets_of};
-ghost use Rattle.capture_reader.specs.Reader.{HasTold, IsNext, packets_among, part_entries};
+ghost use Rattle.pcap_file.specs.Entries.{Entry};
+ghost use Rattle.pcap_file.specs.Window.{octets_of};
+ghost use Rattle.pcap_file.specs.Reader.{HasTold, IsNext, packets_among, part_entries};
 ghost use Rattle.capture_replay.specs.Flows.{HasTable};
-ghost use Rattle.capture_read.specs.Capture.{packets_of};
+ghost use Rattle.pcap_file.specs.Capture.{packets_of};
 ghost use Rattle.capture_streams.specs.Table.{no_table, table_after, table_view};
 
-use capture_read::{Part, Parts};
-use capture_reader::{ReaderFault, Window, has_next, next, open};
 use capture_streams::Table;
+use pcap_file::{Part, Parts, ReaderFault, Window, has_next, next, reader_open as open};
 use std::alloc::{AllocError, Global};
 use std::io::Read;
 

@@ -1,8 +1,8 @@
 //! The events of a capture, packet by packet.
 ghost use Rattle.std.specs.Prelude.{◌≡◌, ◌≤◌, ◌<◌, ◌+◌, ◌^◌, ◌∷◌, ◌++◌, [], ℕ, pos, List, Option, None, length, drop, false, is_some, IfOk, IfErr, IfSome, OnOk};
-ghost use Rattle.capture_read.specs.Packet.{PacketView, packet_view};
-ghost use Rattle.capture_reader.specs.Window.{octets_of};
-ghost use Rattle.capture_reader.specs.Reader.{IsNext, packets_in};
+ghost use Rattle.pcap_file.specs.Packet.{PacketView, packet_view};
+ghost use Rattle.pcap_file.specs.Window.{octets_of};
+ghost use Rattle.pcap_file.specs.Reader.{IsNext, packets_in};
 ghost use Rattle.capture_import.specs.Clock.{clock_with};
 ghost use Rattle.path_merge.specs.Clock.{clock_fault_of};
 ghost use Rattle.studio_config.specs.Studio.{Studio};
@@ -21,9 +21,8 @@ use crate::record::closed_at;
 use crate::run::Run;
 use crate::turn::write_turn;
 use capture_import::octets_in;
-use capture_read::{Packet, Part, Parts, RecordMark};
-use capture_reader::{ReaderFault, Window, has_next, next};
 use path_merge::{Path, clock_fault};
+use pcap_file::{Packet, Part, Parts, ReaderFault, RecordMark, Window, has_next, next};
 use std::io::{Read, Write};
 use studio_engine::{ArriveFault, Engine};
 use studio_session::StudioFault;

@@ -1,6 +1,6 @@
 //! What a record says of its run. Nothing is computed here: the clause is the law.
 ghost use Rattle.std.specs.Prelude.{◌≡◌, ◌≤◌, ℕ, pos, ◌≤ℤ◌, List, map, length, Option, None, Ok};
-ghost use Rattle.capture_read.specs.Packet.{PacketView};
+ghost use Rattle.pcap_file.specs.Packet.{PacketView};
 ghost use Rattle.capture_import.specs.declared.route.Route.{Route};
 ghost use Rattle.capture_import.specs.Trace.{event_count, trace_of};
 ghost use Rattle.studio_config.specs.Studio.{Studio};

@@ -1,12 +1,12 @@
 //! Where the datagrams of a capture go, and from when its readings count.
 ghost use Rattle.std.specs.Prelude.{◌≡◌, Some};
 ghost use Rattle.capture_replay.specs.Plan as spec;
-ghost use Rattle.capture_read.specs.Packet.{packet_view};
+ghost use Rattle.pcap_file.specs.Packet.{packet_view};
 ghost use Rattle.capture_replay.specs.Plan.{clock_before, closing_of, opening_of, plan_view, target_of};
 
 use capture_import::{CaptureClock, Route, route_in};
-use capture_read::Packet;
 use path_merge::StreamSpec;
+use pcap_file::Packet;
 
 /// What is known of a capture before its first packet.
 #[derive(Clone, Copy)]

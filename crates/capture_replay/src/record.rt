@@ -1,12 +1,13 @@
 //! When a live run was opened and closed, as its record says it.
 ghost use Rattle.std.specs.Prelude.{◌≡◌, [], ℕ, List, Option, None, IfOk, IfSome};
-ghost use Rattle.capture_read.specs.Entries.{entries_of};
-ghost use Rattle.capture_reader.specs.Window.{octets_of};
-ghost use Rattle.capture_reader.specs.Reader.{HasTold, IsNext, part_entries};
+ghost use Rattle.pcap_file.specs.Entries.{entries_of};
+ghost use Rattle.pcap_file.specs.Window.{octets_of};
+ghost use Rattle.pcap_file.specs.Reader.{HasTold, IsNext, part_entries};
 ghost use Rattle.capture_replay.specs.Record as spec;
 
-use capture_read::{Part, Parts, RecordMark};
-use capture_reader::{ReaderFault, Window, has_next, next, open};
+use pcap_file::{
+    Part, Parts, ReaderFault, RecordMark, Window, has_next, next, reader_open as open,
+};
 use std::alloc::Global;
 use std::io::Read;
 

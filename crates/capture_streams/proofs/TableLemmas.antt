@@ -1,8 +1,8 @@
 -- A table with one more packet.
 use Rattle.std.proofs.Common.{ℕ, ◌≡◌, ◌<◌, List, [], ◌∷◌, length, map, set, slice_index_or, position, Option, Some, Err, refl, sym, ap, ◌∙◌}
 use Rattle.std.proofs.lemmas.List.{map-set, get_or-map}
-use Rattle.capture_read.specs.declared.fault.CaptureFault.{CaptureFault}
-use Rattle.capture_read.specs.Capture.{Item}
+use Rattle.pcap_file.specs.declared.fault.CaptureFault.{CaptureFault}
+use Rattle.pcap_file.specs.Capture.{Item}
 use Rattle.capture_streams.specs.declared.sighting.FlowKey.{FlowKey}
 use Rattle.capture_streams.specs.declared.sighting.Sighting.{Sighting}
 use Rattle.capture_streams.specs.declared.flow.Flow.{Flow}

@@ -3,8 +3,8 @@ use Rattle.std.specs.Prelude.{Bool, length, Option, Some, None, ◌==◌, ◌&&�
 use Rattle.std.specs.Int.{w32, from_be_bytes}
 use Rattle.rtp_wire.specs.declared.fault.WireFault.{WireFault}
 use Rattle.rtp_wire.specs.Datagram.{wire_fault_of, head_at, payload_at}
-use Rattle.capture_read.specs.Ipv4.{Ipv4View, BodyView, Whole, Part, Cut, UdpView}
-use Rattle.capture_read.specs.Packet.{PacketView}
+use Rattle.pcap_file.specs.Ipv4.{Ipv4View, BodyView, Whole, Part, Cut, UdpView}
+use Rattle.pcap_file.specs.Packet.{PacketView}
 use Rattle.capture_streams.specs.declared.sighting.FlowKey.{FlowKey}
 use Rattle.capture_streams.specs.declared.sighting.Sighting.{Sighting}
 

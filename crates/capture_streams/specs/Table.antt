@@ -1,7 +1,7 @@
 -- The flows of a capture.
 use Rattle.std.specs.Prelude.{ℕ, List, [], ◌∷◌, ◌++◌, length, map, set, slice_index_or, position, Option, Some, None, Ok, Err, nat_lt, if◌then◌else◌}
-use Rattle.capture_read.specs.declared.fault.CaptureFault.{CaptureFault}
-use Rattle.capture_read.specs.Capture.{Item}
+use Rattle.pcap_file.specs.declared.fault.CaptureFault.{CaptureFault}
+use Rattle.pcap_file.specs.Capture.{Item}
 use Rattle.capture_streams.specs.declared.sighting.FlowKey.{FlowKey}
 use Rattle.capture_streams.specs.declared.sighting.Sighting.{Sighting}
 use Rattle.capture_streams.specs.declared.table.Table.{Table}

@@ -1,9 +1,9 @@
 //! An RTP packet as it was captured.
 ghost use Rattle.std.specs.Prelude.{◌≡◌};
-ghost use Rattle.capture_read.specs.Packet.{packet_view};
+ghost use Rattle.pcap_file.specs.Packet.{packet_view};
 ghost use Rattle.capture_streams.specs.Sighting.{same_flow, sighting_of};
 
-use capture_read::{Body, Packet};
+use pcap_file::{Body, Packet};
 use rtp_wire::read;
 
 /// What tells flows apart: where packets come from and go to, their source and their payload type. An address is its

@@ -1,7 +1,7 @@
 //! The times between the arrivals of the same number on two paths.
 use crate::near::{CYCLE, first_number, number_near};
 use crate::sighting::{FlowKey, Sighting, sighting_in};
-use capture_read::{Capture, open};
+use pcap_file::{Capture, open};
 use std::alloc::{AllocError, Global};
 
 /// How much later than on the first path packets came on the second, in nanoseconds; below 0 earlier.

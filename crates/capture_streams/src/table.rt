@@ -1,11 +1,11 @@
 //! All flows of a capture.
 ghost use Rattle.std.specs.Prelude.{◌≡◌, ◌≤◌, IfOk, OnOk, length, vec_len, position};
-ghost use Rattle.capture_read.specs.Capture.{item_view, packets_left, packets_of};
+ghost use Rattle.pcap_file.specs.Capture.{item_view, packets_left, packets_of};
 ghost use Rattle.capture_streams.specs.Sighting.{same_flow};
 
 use crate::flow::Flow;
 use crate::sighting::{FlowKey, Sighting, sighting_in};
-use capture_read::{Capture, CaptureFault, Packet, open};
+use pcap_file::{Capture, CaptureFault, Packet, open};
 use std::alloc::{AllocError, Global};
 
 /// The most flows of a table.

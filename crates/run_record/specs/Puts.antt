@@ -2,9 +2,9 @@
 use Rattle.std.specs.Prelude.{◌≡◌, ◌⊎◌, ◌<◌, ℕ, zero, suc, ◌+◌, List, [], ◌∷◌, ◌++◌, length, ℤ, pos, ◌+ℤ◌, Some, true, false}
 use Rattle.std.specs.Net.Addr.{ipv4_octets}
 use Rattle.rtrb.specs.Ring.{known_free, sent}
-use Rattle.capture_write.specs.Arrival.{ArrivalView}
-use Rattle.capture_write.specs.Blocks.{closing_block, datagram_block, interface_block, section_block}
-use Rattle.capture_write.specs.Times.{nanoseconds_in_64}
+use Rattle.pcap_file.specs.Arrival.{ArrivalView}
+use Rattle.pcap_file.specs.Blocks.{closing_block, datagram_block, interface_block, section_block}
+use Rattle.pcap_file.specs.Times.{nanoseconds_in_64}
 use Rattle.rtp_stream.specs.declared.stream_spec.Stream.{Stream}
 use Rattle.studio_config.specs.Studio.{Studio}
 use Rattle.run_record.specs.declared.block_end.BlockEnd.{BlockEnd}

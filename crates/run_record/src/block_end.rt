@@ -1,10 +1,10 @@
 //! The end of a ring into which the blocks of a record are put, whole ones alone.
 ghost use Rattle.std.specs.Prelude.{◌≡◌, ◌≤◌, length, take, true, false};
-ghost use Rattle.capture_write.specs.Arrival.{arrival_view};
-ghost use Rattle.capture_write.specs.Blocks.{closing_block, datagram_block, interface_block, section_block};
+ghost use Rattle.pcap_file.specs.Arrival.{arrival_view};
+ghost use Rattle.pcap_file.specs.Blocks.{closing_block, datagram_block, interface_block, section_block};
 ghost use Rattle.run_record.specs.Puts.{Puts};
 
-use capture_write::{
+use pcap_file::{
     Arrival, BLOCK_ROOM, write_closing, write_datagram, write_interface, write_opening,
 };
 use rtrb::Producer;

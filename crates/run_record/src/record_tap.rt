@@ -1,12 +1,12 @@
 //! What makes a record of what a run takes.
 ghost use Rattle.std.specs.Prelude.{◌≡◌, ◌≤◌, ◌<◌, ℕ, [], length, IfSome, pos, true};
 ghost use Rattle.rtrb.specs.Ring.{sent};
-ghost use Rattle.capture_write.specs.Arrival.{arrival_view};
+ghost use Rattle.pcap_file.specs.Arrival.{arrival_view};
 ghost use Rattle.run_record.specs.Puts.{IsPacket, IsSince, Opens, PutsClose, PutsPacket, Sends, path_blocks, row_blocks};
 
 use crate::block_end::BlockEnd;
 use crate::way::Way;
-use capture_write::{Arrival, MOST_OCTETS, nanoseconds_after};
+use pcap_file::{Arrival, MOST_OCTETS, nanoseconds_after};
 use rtp_stream::StreamSpec;
 use rtrb::Producer;
 use studio_config::StudioSpec;

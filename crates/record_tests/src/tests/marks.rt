@@ -1,6 +1,6 @@
 //! What the blocks of a record tell, and what others don't.
 use super::record::{latest_header, record};
-use capture_read::{Parts, RecordMark};
+use pcap_file::{Parts, RecordMark};
 use std::process::Abort;
 
 /// The length of each block, and what it tells.

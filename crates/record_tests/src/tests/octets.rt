@@ -2,10 +2,9 @@
 ghost use Rattle.std.specs.Prelude.{◌≡◌, length};
 
 use super::record::record;
-use capture_read::{Body, Datagram, Ipv4, Packet, open};
-use capture_write::{
-    Arrival, BLOCK_ROOM, nanoseconds_after, write_closing, write_datagram, write_interface,
-    write_opening,
+use pcap_file::{
+    Arrival, BLOCK_ROOM, Body, Datagram, Ipv4, Packet, nanoseconds_after, open, write_closing,
+    write_datagram, write_interface, write_opening,
 };
 use std::net::Ipv4Addr;
 

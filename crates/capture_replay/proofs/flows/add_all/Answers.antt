@@ -1,6 +1,6 @@
 use Rattle.std.proofs.Common.{drop, sym, subst, rules}
 use Rattle.capture_streams.specs.Table.{table_view}
-use Rattle.capture_reader.specs.Window.{octets_of}
+use Rattle.pcap_file.specs.Window.{octets_of}
 use Rattle.capture_replay.specs.Flows.{HasTable}
 use Rattle.capture_replay.proofs.CaseLemmas.{some_is}
 use Rattle.capture_replay.proofs.FlowLemmas.{seen_all}

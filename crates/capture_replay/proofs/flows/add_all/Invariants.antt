@@ -1,8 +1,8 @@
 use Rattle.std.proofs.Common.{◌≡◌, ℕ, List, map, Ok}
-use Rattle.capture_read.specs.Entries.{Entry}
+use Rattle.pcap_file.specs.Entries.{Entry}
 use Rattle.capture_streams.specs.Table.{no_table, table_after, table_view}
-use Rattle.capture_reader.specs.Window.{octets_of}
-use Rattle.capture_reader.specs.Reader.{HasTold, packets_among}
+use Rattle.pcap_file.specs.Window.{octets_of}
+use Rattle.pcap_file.specs.Reader.{HasTold, packets_among}
 use Rattle.capture_replay.specs.Flows.{HasTable}
 use Rattle.capture_replay.proofs.flows.add_all.Given as goal
 

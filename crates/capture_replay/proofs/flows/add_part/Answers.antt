@@ -1,7 +1,7 @@
 use Rattle.std.proofs.Common.{◌≡◌, ◌++◌, map, option_map, Ok, sym, subst}
-use Rattle.capture_read.specs.Entries.{entries_in}
-use Rattle.capture_read.specs.Packet.{packet_view}
-use Rattle.capture_reader.specs.Reader.{packets_among}
+use Rattle.pcap_file.specs.Entries.{entries_in}
+use Rattle.pcap_file.specs.Packet.{packet_view}
+use Rattle.pcap_file.specs.Reader.{packets_among}
 use Rattle.capture_streams.specs.Table.{no_table, table_after, table_view}
 use Rattle.capture_replay.proofs.CaseLemmas.{ok_then}
 use Rattle.capture_replay.proofs.FlowLemmas.{seen_part, seen_same}

@@ -1,6 +1,6 @@
 use Rattle.std.proofs.Common.{[], ℕ, List}
-use Rattle.capture_reader.specs.Window.{octets_of}
-use Rattle.capture_reader.specs.Reader.{HasTold}
+use Rattle.pcap_file.specs.Window.{octets_of}
+use Rattle.pcap_file.specs.Reader.{HasTold}
 use Rattle.capture_replay.proofs.record.find_opening.Given as goal
 
 -- nothing was told so far

@@ -1,5 +1,5 @@
 use Rattle.std.proofs.Common.{[], ap, sym, ◌∙◌}
-use Rattle.capture_reader.specs.Reader.{part_entries}
+use Rattle.pcap_file.specs.Reader.{part_entries}
 use Rattle.capture_replay.specs.Record.{opening_in}
 use Rattle.capture_replay.proofs.CaseLemmas.{some_when}
 use Rattle.capture_replay.proofs.RecordLemmas.{opening_told}

@@ -1,5 +1,5 @@
 use Rattle.std.proofs.Common.{◌≡◌, ◌+◌, ◌++◌, ◌<◌}
-use Rattle.capture_read.specs.Capture.{packets_left}
+use Rattle.pcap_file.specs.Capture.{packets_left}
 use Rattle.capture_import.specs.Trace.{events_from, text_from}
 use Rattle.capture_import.proofs.trace.Trace.read.Given as goal
 

@@ -1,5 +1,5 @@
 use Rattle.std.proofs.Common.{◌≡◌, Err, drop, sym, subst, rules}
-use Rattle.capture_reader.specs.Window.{octets_of}
+use Rattle.pcap_file.specs.Window.{octets_of}
 use Rattle.capture_replay.specs.Plan.{plan_view}
 use Rattle.capture_replay.specs.Record.{closing_with}
 use Rattle.capture_replay.specs.Replay.{IsReplaying}

@@ -1,6 +1,6 @@
 use Rattle.std.proofs.Common.{ℕ, List, Option, None}
 use Rattle.studio_config.specs.Studio.{Studio}
-use Rattle.capture_reader.specs.Window.{octets_of}
+use Rattle.pcap_file.specs.Window.{octets_of}
 use Rattle.capture_replay.specs.Plan.{plan_view}
 use Rattle.capture_replay.specs.Replay.{IsReplaying}
 use Rattle.capture_replay.proofs.run.Run.go_over.Given as goal

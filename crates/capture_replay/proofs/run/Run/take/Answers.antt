@@ -1,5 +1,5 @@
 use Rattle.std.proofs.Common.{◌≡◌, ◌++◌, ◌∷◌, [], ◌∙◌, Err, Some, sym, subst, rules}
-use Rattle.capture_read.specs.Packet.{packet_view}
+use Rattle.pcap_file.specs.Packet.{packet_view}
 use Rattle.capture_import.specs.Clock.{clock_with}
 use Rattle.capture_import.specs.Trace.{octets_of}
 use Rattle.studio_session.specs.Event.{Arrival}

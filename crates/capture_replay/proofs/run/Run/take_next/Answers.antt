@@ -1,6 +1,6 @@
 use Rattle.std.proofs.Common.{◌≡◌, ◌++◌, Err, rules}
-use Rattle.capture_reader.specs.Window.{octets_of}
-use Rattle.capture_reader.specs.Reader.{packets_among, part_entries}
+use Rattle.pcap_file.specs.Window.{octets_of}
+use Rattle.pcap_file.specs.Reader.{packets_among, part_entries}
 use Rattle.capture_replay.specs.Plan.{plan_view}
 use Rattle.capture_replay.proofs.CaseLemmas.{some_maps}
 use Rattle.capture_replay.proofs.ReplayLemmas.{begins, replaying_more, stops_among, stops_behind}

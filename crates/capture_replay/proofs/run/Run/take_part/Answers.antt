@@ -1,6 +1,6 @@
 use Rattle.std.proofs.Common.{◌++◌, option_map, sym, subst}
 use Rattle.std.specs.Option.{option_to_list}
-use Rattle.capture_read.specs.Packet.{packet_view}
+use Rattle.pcap_file.specs.Packet.{packet_view}
 use Rattle.capture_replay.specs.Events.{events_of}
 use Rattle.capture_replay.specs.Plan.{plan_view}
 use Rattle.capture_replay.specs.Replay.{HasTaken, Stops}

@@ -1,5 +1,5 @@
 use Rattle.std.proofs.Common.{◌≡◌}
-use Rattle.capture_read.specs.Capture.{packets_left}
+use Rattle.pcap_file.specs.Capture.{packets_left}
 use Rattle.capture_streams.specs.Table.{table_after, table_view}
 use Rattle.capture_streams.proofs.table.Table.read.Given as goal
 

@@ -1,5 +1,0 @@
-use Rattle.capture_read.proofs.DecimalLemmas.{number_in-is}
-use Rattle.capture_read.proofs.decimal.number_in.Goals as goal
-
-pub returns : goal.returns
-returns c = number_in-is c.args.text.now c.decimal_number.result c.decimal_number.ensures.spelled c.decimal_number.ensures.small c.decimal_number.ensures.found

@@ -1,3 +1,0 @@
-mod WindowLemmas
-mod ReaderLemmas
-pub mod EntryLemmas

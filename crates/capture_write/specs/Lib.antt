@@ -1,6 +1,0 @@
-pub mod Places
-pub mod Arrival
-pub mod Packet
-pub mod Blocks
-pub mod Times
-pub mod Record

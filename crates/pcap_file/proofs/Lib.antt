@@ -1,0 +1,23 @@
+pub mod CaptureLemmas
+pub mod DecimalLemmas
+pub mod FrontLemmas
+pub mod InterfaceLemmas
+pub mod EntryLemmas
+pub mod OptionsLemmas
+pub mod PartsLemmas
+pub mod SectionLemmas
+mod WindowLemmas
+mod ReaderLemmas
+pub mod ReaderEntryLemmas
+mod PiecesLemmas
+mod PlacesLemmas
+mod PacketLemmas
+mod OctetLemmas
+mod OptionLemmas
+mod WholeLemmas
+mod OpeningLemmas
+mod WriteInterfaceLemmas
+mod ClosingLemmas
+mod FrameLemmas
+mod DatagramLemmas
+mod RecordLemmas

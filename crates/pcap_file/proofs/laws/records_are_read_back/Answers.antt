@@ -1,0 +1,10 @@
+use Rattle.pcap_file.proofs.RecordLemmas.{closed_entries, closed_packets, open_entries, open_packets}
+use Rattle.pcap_file.proofs.laws.records_are_read_back.Goals as goal
+
+pub returns : goal.returns
+returns c = record {
+  open_packets = open_packets;
+  open_entries = open_entries;
+  closed_packets = closed_packets;
+  closed_entries = closed_entries;
+}

@@ -1,0 +1,56 @@
+-- The entries of a capture, record by record or block by block: its UDP packets, and what it tells of a record.
+use Rattle.std.specs.Prelude.{◌-◌, ℕ, zero, suc, List, [], ◌∷◌, ◌++◌, map, drop, Option, Result, Ok, Err, if◌then◌else◌}
+use Rattle.std.specs.Option.{option_to_list}
+use Rattle.pcap_file.specs.declared.cursor.Format.TheVariants as format
+use Rattle.pcap_file.specs.declared.fault.FaultKind.{FaultKind}
+use Rattle.pcap_file.specs.declared.mark.RecordMark.{RecordMark}
+use Rattle.pcap_file.specs.declared.parts.Parts.{Parts}
+use Rattle.pcap_file.specs.declared.pcap.Pcap.{Pcap}
+use Rattle.pcap_file.specs.Packet.{PacketView}
+use Rattle.pcap_file.specs.Pcap.{pcap_of}
+use Rattle.pcap_file.specs.Section.{Block, no_section}
+use Rattle.pcap_file.specs.Capture.{State, is_pcapng, part_of}
+use Rattle.pcap_file.specs.Parts.{state_at}
+
+-- a packet, or what a block tells of a record
+pub data Entry : Type 0 where
+  Packet : PacketView → Entry
+  Mark : RecordMark → Entry
+
+-- those of a record or a block: its packet, if it has one, and its mark, if it has one
+abbrev pub entries_in : Option PacketView → Option RecordMark → List Entry
+entries_in packet mark = map Packet (option_to_list packet) ++ map Mark (option_to_list mark)
+
+-- those of a block before those of the octets behind it; none behind a fault
+abbrev pub entries_after : (Block → List Entry) → Result Block FaultKind → List Entry
+entries_after rest (Ok block) = entries_in block.part.packet block.part.mark ++ rest block
+entries_after rest (Err kind) = []
+
+-- the entries of the records or blocks that stand one behind the other, once so many octets are passed over
+unfoldable pub entries_past : ℕ → State → List ℕ → List Entry
+entries_past count state [] = []
+entries_past (suc count) state (octet ∷ octets) = entries_past count state octets
+entries_past zero state (octet ∷ octets) =
+    entries_after
+    (λ block. entries_past (block.part.len - 1) (record { format = state.format; section = block.section }) octets)
+    (part_of state (octet ∷ octets))
+
+-- the same where none is
+abbrev pub entries_from : State → List ℕ → List Entry
+entries_from state octets = entries_past 0 state octets
+
+-- those of a file behind a pcap header
+abbrev pub entries_behind : List ℕ → Result Pcap FaultKind → List Entry
+entries_behind octets (Ok pcap) = entries_from (record { format = format.Pcap pcap; section = no_section }) (drop 24 octets)
+entries_behind octets (Err kind) = []
+
+-- the entries of a file up to its first fault, in order
+unfoldable pub entries_of : List ℕ → List Entry
+entries_of octets =
+    if is_pcapng octets
+    then entries_from (record { format = format.Pcapng; section = no_section }) octets
+    else entries_behind octets (pcap_of octets)
+
+-- those of a capture whose octets from the place on are these
+abbrev pub entries_at : Parts → List ℕ → List Entry
+entries_at parts octets = entries_from (state_at parts) octets

@@ -1,0 +1,36 @@
+-- The options of a block (pcapng, Options): each has a code and a length of two octets each, and its value, padded to four octets.
+use Rattle.std.specs.Prelude.{◌+◌, ◌*◌, ◌/◌, ℕ, zero, suc, List, length, drop, slice_range, Option, Some, None, option_map, Result, Ok, Err, nat_lt, ◌==◌, if◌then◌else◌}
+use Rattle.std.specs.Borrow.{Bor}
+use Rattle.std.specs.Result.{result_map_both}
+use Rattle.pcap_file.specs.declared.order.Order.{Order}
+use Rattle.pcap_file.specs.declared.fault.FaultKind.{FaultKind}
+use Rattle.pcap_file.specs.declared.fault.FaultKind.TheVariants as fault
+use Rattle.pcap_file.specs.Octets.{number_at}
+
+-- an option's code, where its value ends, and where the next option begins
+abbrev pub code_of : Order → List ℕ → ℕ
+code_of order options = number_at order 2 0 options
+
+abbrev pub value_end : Order → List ℕ → ℕ
+value_end order options = 4 + number_at order 2 2 options
+
+abbrev pub option_end : Order → List ℕ → ℕ
+option_end order options = 4 * ((value_end order options + 3) / 4)
+
+-- the value of the first option with a code, among at most so many options; the code 0 ends them, and so does the block
+unfoldable pub option_among : ℕ → Order → ℕ → List ℕ → Result (Option (List ℕ)) FaultKind
+option_among zero order code options = Ok None
+option_among (suc count) order code options =
+    if nat_lt (length options) 4 then Ok None
+    else (if code_of order options == 0 then Ok None
+    else (if nat_lt (length options) (value_end order options) then Err fault.Options
+    else (if code_of order options == code then Ok (Some (slice_range options 4 (value_end order options)))
+    else option_among count order code (drop (option_end order options) options))))
+
+-- the same among all: there are no more than octets
+abbrev pub option_of : Order → ℕ → List ℕ → Result (Option (List ℕ)) FaultKind
+option_of order code options = option_among (length options) order code options
+
+-- what the code's value stands for
+abbrev pub value_view : Result (Option (Bor (List ℕ))) FaultKind → Result (Option (List ℕ)) FaultKind
+value_view value = result_map_both (option_map (λ octets. octets.now)) (λ kind. kind) value

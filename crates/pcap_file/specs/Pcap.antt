@@ -1,0 +1,57 @@
+-- The pcap format (draft-ietf-opsawg-pcap, File Header and Packet Record).
+use Rattle.std.specs.Prelude.{◌+◌, ◌*◌, ◌%◌, ◌^◌, ℕ, List, length, slice_range, Option, Some, None, Result, Ok, Err, nat_lt, ◌==◌, not, ◌||◌, if◌then◌else◌}
+use Rattle.pcap_file.specs.declared.order.Order.{Order}
+use Rattle.pcap_file.specs.declared.order.Order.TheVariants.{Big, Little}
+use Rattle.pcap_file.specs.declared.pcap.Pcap.{Pcap}
+use Rattle.pcap_file.specs.declared.pcap.Unit.{Unit}
+use Rattle.pcap_file.specs.declared.pcap.Unit.TheVariants.{Microsecond, Nanosecond}
+use Rattle.pcap_file.specs.declared.fault.FaultKind.{FaultKind}
+use Rattle.pcap_file.specs.declared.fault.FaultKind.TheVariants as fault
+use Rattle.pcap_file.specs.Octets.{number_at}
+use Rattle.pcap_file.specs.Link.{link_of}
+use Rattle.pcap_file.specs.Packet.{packet_in}
+use Rattle.pcap_file.specs.Part.{PartView}
+
+-- the nanoseconds in a smaller unit
+abbrev pub nanoseconds_in : Unit → ℕ
+nanoseconds_in Microsecond = 1000
+nanoseconds_in Nanosecond = 1
+
+-- the order of octets, and the smaller unit of times, that the first four octets say
+abbrev pub magic_of : List ℕ → Option (Order × Unit)
+magic_of octets =
+    if number_at Big 4 0 octets == 0xa1b2c3d4 then Some (Big, Microsecond)
+    else (if number_at Little 4 0 octets == 0xa1b2c3d4 then Some (Little, Microsecond)
+    else (if number_at Big 4 0 octets == 0xa1b23c4d then Some (Big, Nanosecond)
+    else (if number_at Little 4 0 octets == 0xa1b23c4d then Some (Little, Nanosecond) else None)))
+
+-- a file's header of 24 octets, once its order is known: the version is 2.4, and its last field ends in the link's number
+unfoldable pub header_in : List ℕ → Option (Order × Unit) → Result Pcap FaultKind
+header_in octets None = Err fault.Format
+header_in octets (Some (order, unit)) =
+    if nat_lt (length octets) 24 then Err fault.Cut
+    else (if not (number_at order 2 4 octets == 2) || not (number_at order 2 6 octets == 4) then Err fault.Version
+    else Ok (record { order = order; unit = unit; link = link_of (number_at order 4 20 octets % 2 ^ 16) }))
+
+-- the header that octets begin with
+unfoldable pub pcap_of : List ℕ → Result Pcap FaultKind
+pcap_of octets = if nat_lt (length octets) 4 then Err fault.Format else header_in octets (magic_of octets)
+
+-- a record's time in nanoseconds: its seconds, and its smaller units
+abbrev pub record_time : Pcap → List ℕ → ℕ
+record_time pcap octets = number_at pcap.order 4 0 octets * 1_000_000_000 + number_at pcap.order 4 4 octets * nanoseconds_in pcap.unit
+
+-- where the record ends: behind its header of 16 octets and what was captured of the packet
+abbrev pub record_end : Pcap → List ℕ → ℕ
+record_end pcap octets = 16 + number_at pcap.order 4 8 octets
+
+-- the packet record that octets begin with
+unfoldable pub record_of : Pcap → List ℕ → Result PartView FaultKind
+record_of pcap octets =
+    if nat_lt (length octets) 16 then Err fault.Cut
+    else (if nat_lt (length octets) (record_end pcap octets) then Err fault.Cut
+    else Ok (record {
+      len = record_end pcap octets;
+      packet = packet_in pcap.link (Some (record_time pcap octets)) 0 (slice_range octets 16 (record_end pcap octets));
+      mark = None;
+    }))

@@ -1,0 +1,77 @@
+-- A capture that is read from a file, record by record or block by block.
+use Rattle.std.specs.Prelude.{◌≡◌, ◌⊎◌, ℕ, ◌≤◌, ◌<◌, ◌^◌, ◌++◌, Bool, true, false, List, [], ◌∷◌, length, take, map, Option, Some, option_map, Ok, Err}
+use Rattle.std.specs.Option.{option_to_list}
+use Rattle.std.specs.Io.KnownBytes.{Consumes, IsAtEnd}
+use Rattle.pcap_file.specs.declared.fault.CaptureFault.{CaptureFault}
+use Rattle.pcap_file.specs.declared.part.Part.{Part}
+use Rattle.pcap_file.specs.declared.parts.Parts.{Parts}
+use Rattle.pcap_file.specs.Packet.{PacketView, packet_view}
+use Rattle.pcap_file.specs.Capture.{packets_of}
+use Rattle.pcap_file.specs.Parts.{is_cut_in, items_at}
+use Rattle.pcap_file.specs.Entries.{Entry, Packet, Mark, entries_at, entries_in, entries_of}
+use Rattle.pcap_file.specs.declared.reader_fault.ReaderFault.{ReaderFault}
+use Rattle.pcap_file.specs.declared.reader_fault.ReaderFault.TheVariants.{Unread, Capture, Long, Memory}
+
+-- the packets among entries
+abbrev pub packets_among : List Entry → List PacketView
+packets_among [] = []
+packets_among (Packet packet ∷ entries) = packet ∷ packets_among entries
+packets_among (Mark mark ∷ entries) = packets_among entries
+
+-- the first entries of a file are these, and their packets its first packets; the others are those of the octets that are held and
+-- of what is left of the file
+pub record HasTold (file : List ℕ) (entries : List Entry) (left : Option (List ℕ)) (parts : Parts) (held : List ℕ) (ended : Bool) : Type 0 where
+  pub rest : List ℕ
+  pub left_is : left ≡ Some rest
+  pub packets : packets_of file ≡ map Ok (packets_among entries) ++ items_at parts (held ++ rest)
+  pub all : entries_of file ≡ entries ++ entries_at parts (held ++ rest)
+  pub end : ended ≡ true → rest ≡ []
+
+-- the file has these entries, and no fault
+pub record HasEntries (file : List ℕ) (entries : List Entry) : Type 0 where
+  pub packets : packets_of file ≡ map Ok (packets_among entries)
+  pub all : entries_of file ≡ entries
+
+-- behind these entries the file has this fault
+pub record IsFaultBehind (file : List ℕ) (entries : List Entry) (fault : CaptureFault) : Type 0 where
+  pub packets : packets_of file ≡ map Ok (packets_among entries) ++ Err fault ∷ []
+  pub all : entries_of file ≡ entries
+
+-- the packet of a record or a block, if it has one
+abbrev pub packets_in : Part → List PacketView
+packets_in part = option_to_list (option_map packet_view part.packet)
+
+-- its packet and its mark
+abbrev pub part_entries : Part → List Entry
+part_entries part = entries_in (option_map packet_view part.packet) part.mark
+
+-- the octets show the header of a file, or all of the file
+pub record HasOpened (left left_then : Option (List ℕ)) (held : List ℕ) (ended : Bool) : Type 0 where
+  pub read : Consumes left left_then held
+  pub few : length held < 983040
+  pub enough : ended ≡ false → 24 ≤ length held
+  pub end : ended ≡ true → IsAtEnd left_then
+
+-- what comes next is whole within the octets that are lent, or they are all
+abbrev pub IsFilled : Parts → List ℕ → Bool → Type 0
+IsFilled parts held ended = (is_cut_in parts (take 983040 held) ≡ false) ⊎ ((ended ≡ true) × (length held < 983040))
+
+-- something comes next
+pub record IsNext (parts : Parts) (held : List ℕ) (ended : Bool) : Type 0 where
+  pub some : 1 ≤ length held
+  pub filled : IsFilled parts held ended
+  pub place : parts.place ≤ 2 ^ 63
+
+-- a read failed, or what comes next is too long
+abbrev pub IsLong : ReaderFault → Type 0
+IsLong Unread = Unit {0}
+IsLong (Capture fault) = ⊥
+IsLong (Long place) = Unit {0}
+IsLong Memory = ⊥
+
+-- why a file was not opened: its fault, a read failed, or memory was refused
+abbrev pub IsOpenFault : List ℕ → ReaderFault → Type 0
+IsOpenFault file Unread = Unit {0}
+IsOpenFault file (Capture fault) = packets_of file ≡ Err fault ∷ []
+IsOpenFault file (Long place) = ⊥
+IsOpenFault file Memory = Unit {0}

@@ -1,0 +1,106 @@
+//! A capture's UDP packets, one by one.
+ghost use Rattle.std.specs.Prelude.{◌≡◌, ◌<◌, ◌≤◌, [], ◌∷◌, length, MatchOption, IfOk, IfErr, Err};
+ghost use Rattle.pcap_file.specs.Capture as spec;
+ghost use Rattle.pcap_file.specs.Capture.{HasRead, item_view, packets_left, packets_of, state_of};
+
+use crate::cursor::{Capture, Format};
+use crate::fault::{CaptureFault, FaultKind};
+use crate::order::Order;
+use crate::packet::Packet;
+use crate::part::Part;
+use crate::pcap::{FILE_HEADER, read_header, read_record};
+use crate::section::{SECTION_HEADER, Section};
+
+/// Opens a capture, of which `octets` are the whole file.
+#[tactic(auto, unfolding(crate::specs::Capture::packets_of))]
+pub fn open(octets: &[u8]) -> Result<Capture<'_>, CaptureFault>
+    ensures packets { IfOk result (λ capture. packets_left capture ≡ packets_of octets.now) }
+    ensures fault { IfErr result (λ fault. packets_of octets.now ≡ Err fault ∷ []) }
+{
+    if is_pcapng(octets) {
+        return Ok(Capture {
+            format: Format::Pcapng,
+            section: Section::new(),
+            place: 0,
+            octets,
+        });
+    }
+    match read_header(octets) {
+        Ok(pcap) => Ok(Capture {
+            format: Format::Pcap(pcap),
+            section: Section::new(),
+            place: FILE_HEADER,
+            octets: &octets[FILE_HEADER..],
+        }),
+        Err(kind) => Err(CaptureFault { place: 0, kind }),
+    }
+}
+
+/// Whether a section header's block stands first.
+pub(crate) fn is_pcapng(octets: &[u8]) -> bool
+    ensures { result ≡ spec.is_pcapng octets.now }
+{
+    octets.len() >= 4 && Order::Big.read_u32(octets, 0) == SECTION_HEADER
+}
+
+impl<'a> Capture<'a> {
+    /// Reads the record or the block that comes next.
+    #[tactic(auto, unfolding(crate::specs::Capture::part_as))]
+    fn read_part(&mut self) -> Result<Part<'a>, FaultKind>
+        ensures part { HasRead (state_of self.old) (state_of self.new) self.old.octets.now result }
+        ensures bounds { IfOk result (λ part. (1 ≤ part.len) × (part.len ≤ length self.old.octets.now)) }
+        ensures octets { self.new.octets ≡ self.old.octets }
+        ensures place { self.new.place ≡ self.old.place }
+    {
+        match self.format {
+            Format::Pcap(pcap) => read_record(&pcap, self.octets),
+            Format::Pcapng => self.section.read_block(self.octets),
+        }
+    }
+
+    /// Passes over the record or the block that comes next, and answers what is told of it.
+    fn advance(&mut self) -> Option<Result<Packet<'a>, CaptureFault>>
+        requires { 1 ≤ length self.old.octets.now }
+        ensures told { MatchOption result (packets_left self.new ≡ packets_left self.old)
+            (λ item. packets_left self.old ≡ item_view item ∷ packets_left self.new) }
+        ensures shorter { length self.new.octets.now < length self.old.octets.now }
+    {
+        match self.read_part() {
+            Ok(part) => {
+                self.place += part.len;
+                self.octets = &self.octets[part.len..];
+                match part.packet {
+                    Some(packet) => Some(Ok(packet)),
+                    None => None,
+                }
+            }
+            Err(kind) => {
+                self.octets = &[];
+                Some(Err(CaptureFault {
+                    place: self.place,
+                    kind,
+                }))
+            }
+        }
+    }
+}
+
+impl<'a> Iterator for Capture<'a> {
+    ghost use Rattle.std.specs.Iterator.{YieldsFirstBy, item_count};
+    ghost use Rattle.pcap_file.specs.Capture.{item_view, packets_left};
+
+    type Item = Result<Packet<'a>, CaptureFault>;
+
+    ghost next_gives = { YieldsFirstBy item_view packets_left };
+
+    ghost remaining = { item_count packets_left };
+
+    fn next(&mut self) -> Option<Result<Packet<'a>, CaptureFault>> {
+        while !self.octets.is_empty() {
+            if let Some(item) = self.advance() {
+                return Some(item);
+            }
+        }
+        None
+    }
+}

@@ -1,0 +1,106 @@
+//! Octets on their way from a file to who is lent them, 983,040 at most.
+ghost use Rattle.std.specs.Prelude.{◌≡◌, ◌≤◌, ◌<◌, ◌+◌, ◌++◌, [], length, take, drop, vec_len, IfOk, IfErr, OnOk, OnErr, true, false};
+ghost use Rattle.pcap_file.specs.Window.{octets_of, Reads};
+ghost use Rattle.pcap_file.specs.declared.reader_fault.ReaderFault.TheVariants.{Unread};
+
+use crate::reader_fault::ReaderFault;
+use crate::window::Window;
+use std::alloc::{AllocError, Global};
+use std::io::Read;
+
+/// The most octets that are lent: a record or block has no more.
+const MOST_LENT: usize = 983_040;
+
+/// The most octets of one read.
+const MOST_READ: usize = 65_536;
+
+/// The most octets that are held.
+const MOST_HELD: usize = MOST_LENT + MOST_READ;
+
+impl Window {
+    /// Before the first octet.
+    pub(crate) fn new(alloc: Global) -> Result<Window, AllocError>
+        ensures none { IfOk result (λ window. octets_of window ≡ []) }
+        ensures going { IfOk result (λ window. window.ended ≡ false) }
+    {
+        let held = Vec::with_capacity(alloc, MOST_HELD)?;
+        Ok(Window {
+            held,
+            passed: 0,
+            ended: false,
+        })
+    }
+
+    /// The first octets that are not passed over, 983,040 at most.
+    pub(crate) fn front(&self) -> &[u8]
+        ensures { result.now ≡ take 983040 (octets_of self.now) }
+    {
+        let left = &self.held[self.passed..];
+        &left[..left.len().min(MOST_LENT)]
+    }
+
+    /// Whether as many are there as are lent at most.
+    pub(crate) fn is_full(&self) -> bool
+        ensures full { result ≡ true → 983040 ≤ length (octets_of self.now) }
+        ensures room { result ≡ false → length (octets_of self.now) < 983040 }
+    {
+        self.held.len() - self.passed >= MOST_LENT
+    }
+
+    /// Whether the file is at its end.
+    pub(crate) fn is_ended(&self) -> bool
+        ensures { result ≡ self.now.ended }
+    {
+        self.ended
+    }
+
+    /// Passes over octets: the length of what was answered.
+    pub fn pass(&mut self, count: usize)
+        requires { count ≤ length (octets_of self.old) }
+        ensures octets { octets_of self.new ≡ drop count (octets_of self.old) }
+        ensures ended { self.new.ended ≡ self.old.ended }
+    {
+        self.passed += count;
+    }
+
+    /// Reads on once.
+    pub(crate) fn read_on<R: Read>(&mut self, reader: &mut R) -> Result<(), ReaderFault>
+        requires { length (octets_of self.old) < 983040 }
+        ensures ok { OnOk result (Reads (R.remaining reader.old) (R.remaining reader.new) (octets_of self.old) (octets_of self.new) self.new.ended) }
+        ensures unread { IfErr result (λ fault. fault ≡ Unread) }
+    {
+        let mut chunk = [0u8; MOST_READ];
+        match reader.read(&mut chunk) {
+            Ok(count) => {
+                self.take(&chunk[..count]);
+                self.ended = count == 0;
+                Ok(())
+            }
+            Err(_) => Err(ReaderFault::Unread),
+        }
+    }
+
+    /// Holds octets behind the others.
+    fn take(&mut self, octets: &[u8])
+        requires { length (octets_of self.old) + length octets.now ≤ 1048576 }
+        ensures { octets_of self.new ≡ octets_of self.old ++ octets.now }
+    {
+        if self.held.capacity() - self.held.len() < octets.len() {
+            self.make_room();
+        }
+        let Ok(()) = self.held.extend_from_slice(octets) else {
+            unreachable!()
+        };
+    }
+
+    /// Moves the octets that are not passed over to the front.
+    fn make_room(&mut self)
+        ensures same { octets_of self.new ≡ octets_of self.old }
+        ensures alone { vec_len self.new.held ≡ length (octets_of self.old) }
+    {
+        let left = self.held.len() - self.passed;
+        self.held.rotate_left(self.passed);
+        self.held.truncate(left);
+        self.passed = 0;
+    }
+}

@@ -1,0 +1,34 @@
+//! What a block holds in front of a datagram, piece by piece.
+ghost use Rattle.std.specs.Prelude.{◌≡◌, ◌+◌, ◌*◌, ◌%◌, ◌≤◌, ◌++◌, length};
+ghost use Rattle.arrayvec.specs.ArrayVec.{array_vec_len};
+ghost use Rattle.pcap_file.specs.Blocks.{option_octets};
+
+use arrayvec::ArrayVec;
+
+/// The octets that a block holds, without a datagram's.
+pub(crate) type Head = ArrayVec<u8, 64>;
+
+/// Adds octets.
+pub(crate) fn push(head: &mut Head, octets: &[u8])
+    requires { array_vec_len head.old + length octets.now ≤ 64 }
+    ensures items { head.new.items ≡ head.old.items ++ octets.now }
+    ensures length { array_vec_len head.new ≡ array_vec_len head.old + length octets.now }
+{
+    let Ok(()) = head.try_extend_from_slice(octets) else {
+        unreachable!()
+    };
+}
+
+/// Adds an option.
+#[tactic(auto, unfolding(crate::specs::Blocks::option_octets, crate::specs::Blocks::padded))]
+pub(crate) fn push_option(head: &mut Head, code: u16, value: &[u8])
+    requires few { length value.now ≤ 64 }
+    requires room { array_vec_len head.old + (4 + length value.now + 3 * length value.now % 4) ≤ 64 }
+    ensures items { head.new.items ≡ head.old.items ++ option_octets code value.now }
+    ensures length { array_vec_len head.new ≡ array_vec_len head.old + (4 + length value.now + 3 * length value.now % 4) }
+{
+    push(head, &code.to_le_bytes());
+    push(head, &(value.len() as u16).to_le_bytes());
+    push(head, value);
+    push(head, &[0; 3][..3 * value.len() % 4]);
+}

@@ -1,0 +1,77 @@
+//! The UDP packets of a capture of network traffic, read where they lie: pcap and pcapng files.
+//!
+//! `open` takes the octets of a whole file and answers a `Capture`, or the fault of its header. That is
+//! an iterator: each call of `next` steps over the records or blocks of no interest, by their lengths,
+//! and answers the next `Packet`, whose payload lies in the caller's octets. The first fault comes last,
+//! as an item of its own, with its place; then nothing more comes. A UDP datagram comes whole with its
+//! time, interface, addresses and ports; that one is a fragment or cut is told, and anything else is passed over.
+//!
+//! Where the octets come piece by piece, `Parts` is the place among them: its calls are lent those from there on, as many
+//! as came. While `is_cut` says that more are needed, more are read; `next` passes over a record or a block. It also tells a
+//! block's `mark`: that a live run's record begins, with the time of the opening, or the time of an interface's statistics.
+//!
+//! Nothing here takes memory, copies a payload or reads a file. What a file holds is `packets_of`, and in order with
+//! its marks `entries_of`, by the formats (draft-ietf-opsawg-pcap and draft-ietf-opsawg-pcapng) and tcpdump's registry
+//! of link types.
+//!
+//! The UDP packets of a capture of any length, read from a file in memory that its length doesn't change.
+//!
+//! `open` takes all memory, 1 MiB, and reads the file's header. `has_next` reads on until the record or the block that comes
+//! next is whole, and answers whether one comes. Then `next` answers it, with the packet in it if there is one, and
+//! `Window::pass` passes over it. The first fault ends it. What is told is `packets_of` the file, and in order with its marks
+//! `entries_of` it, as of one in memory.
+//!
+//! The record of a live run, written block by block: a pcapng file of the datagrams that came, to be replayed.
+//!
+//! `write_opening` writes the section header, with the time at which the studio was opened; `write_interface` then describes a
+//! path, stream by stream and path by path; `write_datagram` writes what came, as an IPv4 packet; and `write_closing` the
+//! time of the close. Each writes one block to the front of the caller's slice, which has room for any, `BLOCK_ROOM`, and
+//! answers its length. Times are in nanoseconds since the opening: `nanoseconds_after` so many sampling instants.
+//!
+//! Nothing here takes memory or writes a file. What is written are `section_block`, `interface_block`, `datagram_block` and
+//! `closing_block`, by the format (draft-ietf-opsawg-pcapng); `capture_read` reads them back: `records_are_read_back`.
+#![tactic(auto)]
+
+mod arrival;
+mod blocks;
+mod capture;
+mod cursor;
+mod decimal;
+mod fault;
+mod feed;
+mod head;
+mod heads;
+mod interface;
+mod ip;
+mod ipv4;
+mod laws;
+mod link;
+mod mark;
+mod options;
+mod order;
+mod packet;
+mod part;
+mod parts;
+mod pcap;
+mod places;
+mod reader;
+mod reader_fault;
+mod section;
+mod times;
+mod window;
+
+pub use arrival::{Arrival, MOST_OCTETS};
+pub use blocks::{BLOCK_ROOM, write_closing, write_datagram, write_interface, write_opening};
+pub use capture::open;
+pub use cursor::Capture;
+pub use fault::{CaptureFault, FaultKind};
+pub use ipv4::{Body, Datagram, Ipv4};
+pub use laws::{checksums_are_right, instants_come_back, records_are_read_back};
+pub use mark::RecordMark;
+pub use packet::Packet;
+pub use part::Part;
+pub use parts::Parts;
+pub use reader::{has_next, next, open as reader_open};
+pub use reader_fault::ReaderFault;
+pub use times::nanoseconds_after;
+pub use window::Window;

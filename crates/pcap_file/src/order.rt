@@ -1,0 +1,52 @@
+//! Numbers of several octets, in the order that the capture was written in.
+ghost use Rattle.std.specs.Prelude.{◌≡◌, ◌≤◌, ◌+◌, length};
+ghost use Rattle.pcap_file.specs.Octets.{number_at};
+
+use byteorder::{BigEndian, ByteOrder, LittleEndian};
+
+/// Which octet of a number stands first.
+#[derive(Clone, Copy, Debug, PartialEq, Eq)]
+pub enum Order {
+    /// The most significant.
+    Big,
+    /// The least significant.
+    Little,
+}
+
+impl Order {
+    /// The number of two octets at a place.
+    #[tactic(auto, unfolding(crate::specs::Octets::number_at))]
+    pub(crate) fn read_u16(self, octets: &[u8], place: usize) -> u16
+        requires { place + 2 ≤ length octets.now }
+        ensures { result ≡ number_at self 2 place octets.now }
+    {
+        match self {
+            Order::Big => BigEndian::read_u16(&octets[place..]),
+            Order::Little => LittleEndian::read_u16(&octets[place..]),
+        }
+    }
+
+    /// The number of four octets at a place.
+    #[tactic(auto, unfolding(crate::specs::Octets::number_at))]
+    pub(crate) fn read_u32(self, octets: &[u8], place: usize) -> u32
+        requires { place + 4 ≤ length octets.now }
+        ensures { result ≡ number_at self 4 place octets.now }
+    {
+        match self {
+            Order::Big => BigEndian::read_u32(&octets[place..]),
+            Order::Little => LittleEndian::read_u32(&octets[place..]),
+        }
+    }
+
+    /// The number of eight octets at a place.
+    #[tactic(auto, unfolding(crate::specs::Octets::number_at))]
+    pub(crate) fn read_u64(self, octets: &[u8], place: usize) -> u64
+        requires { place + 8 ≤ length octets.now }
+        ensures { result ≡ number_at self 8 place octets.now }
+    {
+        match self {
+            Order::Big => BigEndian::read_u64(&octets[place..]),
+            Order::Little => LittleEndian::read_u64(&octets[place..]),
+        }
+    }
+}

@@ -1,0 +1,103 @@
+//! A capture's records and blocks, where its octets come piece by piece.
+ghost use Rattle.std.specs.Prelude.{◌≡◌, ◌⊎◌, ◌+◌, ◌<◌, ◌≤◌, ◌^◌, ◌++◌, ◌∷◌, ℕ, List, [], false, drop, length, option_map, IfOk, IfErr, OnErr, Err};
+ghost use Rattle.pcap_file.specs.Capture.{HasRead, packets_of, with_packet};
+ghost use Rattle.pcap_file.specs.Packet.{packet_view};
+ghost use Rattle.pcap_file.specs.Entries.{entries_at, entries_in, entries_of};
+ghost use Rattle.pcap_file.specs.Parts.{IsEnough, is_cut_in, items_at, state_at};
+
+use crate::capture::is_pcapng;
+use crate::cursor::Format;
+use crate::fault::{CaptureFault, FaultKind};
+use crate::part::Part;
+use crate::pcap::{FILE_HEADER, is_record_cut, read_header, read_record};
+use crate::section::{Section, is_block_cut};
+
+/// A place in a capture. The octets from there on are the caller's, who lends as many as came so far.
+#[derive(Drop)]
+pub struct Parts {
+    pub(crate) format: Format,
+    pub(crate) section: Section,
+    /// How many octets stand before it.
+    pub(crate) place: usize,
+}
+
+impl Parts {
+    /// The place of the first record or block, of a capture that begins with these octets: at least 24, or all that there are.
+    pub fn open(front: &[u8]) -> Result<Parts, CaptureFault>
+        ensures parts { IfOk result (λ parts. (rest : List ℕ) → IsEnough front.now rest → packets_of (front.now ++ rest) ≡ items_at parts (drop parts.place (front.now ++ rest))) }
+        ensures entries { IfOk result (λ parts. (rest : List ℕ) → IsEnough front.now rest → entries_of (front.now ++ rest) ≡ entries_at parts (drop parts.place (front.now ++ rest))) }
+        ensures place { IfOk result (λ parts. parts.place ≤ length front.now) }
+        ensures fault { IfErr result (λ fault. (rest : List ℕ) → IsEnough front.now rest → packets_of (front.now ++ rest) ≡ Err fault ∷ []) }
+    {
+        if is_pcapng(front) {
+            return Ok(Parts {
+                format: Format::Pcapng,
+                section: Section::new(),
+                place: 0,
+            });
+        }
+        match read_header(front) {
+            Ok(pcap) => Ok(Parts {
+                format: Format::Pcap(pcap),
+                section: Section::new(),
+                place: FILE_HEADER,
+            }),
+            Err(kind) => Err(CaptureFault { place: 0, kind }),
+        }
+    }
+
+    /// How many octets stand before the place.
+    pub fn place(&self) -> usize
+        ensures { result ≡ self.now.place }
+    {
+        self.place
+    }
+
+    /// Whether the record or the block that these octets begin with ends behind them.
+    pub fn is_cut(&self, front: &[u8]) -> bool
+        ensures { result ≡ is_cut_in self.now front.now }
+    {
+        match self.format {
+            Format::Pcap(pcap) => is_record_cut(&pcap, front),
+            Format::Pcapng => is_block_cut(self.section.order, front),
+        }
+    }
+
+    /// Reads the record or the block that these octets begin with.
+    #[tactic(auto, unfolding(crate::specs::Capture::part_as))]
+    fn read<'a>(&mut self, front: &'a [u8]) -> Result<Part<'a>, FaultKind>
+        ensures part { HasRead (state_at self.old) (state_at self.new) front.now result }
+        ensures bounds { IfOk result (λ part. (1 ≤ part.len) × (part.len ≤ length front.now)) }
+        ensures place { self.new.place ≡ self.old.place }
+    {
+        match self.format {
+            Format::Pcap(pcap) => read_record(&pcap, front),
+            Format::Pcapng => self.section.read_block(front),
+        }
+    }
+
+    /// Passes over the record or the block that these octets begin with: all that there are, where it is cut.
+    pub fn next<'a>(&mut self, front: &'a [u8]) -> Result<Part<'a>, CaptureFault>
+        requires some { 1 ≤ length front.now }
+        requires place { self.old.place + length front.now < 2 ^ 64 }
+        ensures part { IfOk result (λ part. (rest : List ℕ) → (is_cut_in self.old front.now ≡ false) ⊎ (rest ≡ [])
+            → items_at self.old (front.now ++ rest) ≡ with_packet (option_map packet_view part.packet) (items_at self.new (drop part.len front.now ++ rest))) }
+        ensures entries { IfOk result (λ part. (rest : List ℕ) → (is_cut_in self.old front.now ≡ false) ⊎ (rest ≡ [])
+            → entries_at self.old (front.now ++ rest) ≡ entries_in (option_map packet_view part.packet) part.mark ++ entries_at self.new (drop part.len front.now ++ rest)) }
+        ensures len { IfOk result (λ part. (1 ≤ part.len) × (part.len ≤ length front.now) × (self.new.place ≡ self.old.place + part.len)) }
+        ensures fault { IfErr result (λ fault. (rest : List ℕ) → (is_cut_in self.old front.now ≡ false) ⊎ (rest ≡ [])
+            → items_at self.old (front.now ++ rest) ≡ Err fault ∷ []) }
+        ensures no_entry { OnErr result ((rest : List ℕ) → (is_cut_in self.old front.now ≡ false) ⊎ (rest ≡ []) → entries_at self.old (front.now ++ rest) ≡ []) }
+    {
+        match self.read(front) {
+            Ok(part) => {
+                self.place += part.len;
+                Ok(part)
+            }
+            Err(kind) => Err(CaptureFault {
+                place: self.place,
+                kind,
+            }),
+        }
+    }
+}

@@ -1,0 +1,115 @@
+//! A capture's records and blocks, one by one.
+ghost use Rattle.std.specs.Prelude.{◌≡◌, ℕ, ◌≤◌, ◌<◌, ◌++◌, List, [], Option, length, false, true, take, drop, IfOk, IfErr, OnOk, IfSome};
+ghost use Rattle.pcap_file.specs.Entries.{Entry};
+ghost use Rattle.pcap_file.specs.Window.{octets_of, Reads};
+ghost use Rattle.pcap_file.specs.Reader.{HasEntries, HasOpened, HasTold, IsFaultBehind, IsFilled, IsLong, IsNext, IsOpenFault, part_entries};
+ghost use Rattle.pcap_file.specs.declared.reader_fault.ReaderFault.TheVariants.{Unread};
+
+use crate::fault::CaptureFault;
+use crate::part::Part;
+use crate::parts::Parts;
+use crate::reader_fault::ReaderFault;
+use crate::window::Window;
+use std::alloc::Global;
+use std::io::Read;
+
+/// The most octets before a record or a block.
+const MOST_PLACE: usize = 9_223_372_036_854_775_808;
+
+/// The octets of the longest header of a file.
+const FILE_HEADER: usize = 24;
+
+/// More reads than a record or a block can take, each of which brings an octet or the file's end.
+const MOST_READS: u32 = 1_000_000;
+
+/// Opens a capture by the header of its file.
+pub fn open<R: Read>(alloc: Global, reader: &mut R) -> Result<(Window, Parts), ReaderFault>
+    ensures told { IfOk result (λ opened. IfSome (R.remaining reader.old) (λ file. HasTold file [] (R.remaining reader.new) opened.1 (octets_of opened.0) opened.0.ended)) }
+    ensures fault { IfErr result (λ fault. IfSome (R.remaining reader.old) (λ file. IsOpenFault file fault)) }
+{
+    let mut window = Window::new(alloc)?;
+    read_header(&mut window, reader)?;
+    match Parts::open(window.front()) {
+        Ok(parts) => {
+            window.pass(parts.place());
+            Ok((window, parts))
+        }
+        Err(fault) => Err(ReaderFault::Capture(fault)),
+    }
+}
+
+/// Reads on until the header of a file is there, or the file ends.
+fn read_header<R: Read>(window: &mut Window, reader: &mut R) -> Result<(), ReaderFault>
+    requires first { octets_of window.old ≡ [] }
+    requires going { window.old.ended ≡ false }
+    ensures ok { OnOk result (HasOpened (R.remaining reader.old) (R.remaining reader.new) (octets_of window.new) window.new.ended) }
+    ensures unread { IfErr result (λ fault. fault ≡ Unread) }
+{
+    'reads: for _turn in 0..FILE_HEADER {
+        if window.front().len() >= FILE_HEADER {
+            return Ok(());
+        }
+        window.read_on(reader)?;
+        if window.is_ended() {
+            return Ok(());
+        }
+    }
+    Ok(())
+}
+
+/// Reads on until the record or the block that comes next is whole, or the file ends. Answers whether one comes.
+pub fn has_next<R: Read>(
+    parts: &Parts,
+    window: &mut Window,
+    reader: &mut R,
+) -> Result<bool, ReaderFault>
+    ensures told { OnOk result ((file : List ℕ) (entries : List Entry) → HasTold file entries (R.remaining reader.old) parts.now (octets_of window.old) window.old.ended
+        → HasTold file entries (R.remaining reader.new) parts.now (octets_of window.new) window.new.ended) }
+    ensures next { IfOk result (λ some. some ≡ true → IsNext parts.now (octets_of window.new) window.new.ended) }
+    ensures end { IfOk result (λ some. some ≡ false → (file : List ℕ) (entries : List Entry) → HasTold file entries (R.remaining reader.old) parts.now (octets_of window.old) window.old.ended
+        → HasEntries file entries) }
+    ensures fault { IfErr result (λ fault. IsLong fault) }
+{
+    fill(parts, window, reader)?;
+    if window.front().is_empty() {
+        return Ok(false);
+    }
+    if parts.place() > MOST_PLACE {
+        return Err(ReaderFault::Long(parts.place()));
+    }
+    Ok(true)
+}
+
+/// Reads on until the record or the block that comes next is whole, or the file ends.
+fn fill<R: Read>(parts: &Parts, window: &mut Window, reader: &mut R) -> Result<(), ReaderFault>
+    ensures told { OnOk result ((file : List ℕ) (entries : List Entry) → HasTold file entries (R.remaining reader.old) parts.now (octets_of window.old) window.old.ended
+        → HasTold file entries (R.remaining reader.new) parts.now (octets_of window.new) window.new.ended) }
+    ensures filled { OnOk result (IsFilled parts.now (octets_of window.new) window.new.ended) }
+    ensures fault { IfErr result (λ fault. IsLong fault) }
+{
+    'reads: for _turn in 0..MOST_READS {
+        if !parts.is_cut(window.front()) {
+            return Ok(());
+        }
+        if window.is_full() {
+            return Err(ReaderFault::Long(parts.place()));
+        }
+        if window.is_ended() {
+            return Ok(());
+        }
+        window.read_on(reader)?;
+    }
+    Err(ReaderFault::Unread)
+}
+
+/// The record or the block that comes next, to be passed over by its length.
+pub fn next<'a>(parts: &mut Parts, window: &'a Window) -> Result<Part<'a>, CaptureFault>
+    requires { IsNext parts.old (octets_of window.now) window.now.ended }
+    ensures len { IfOk result (λ part. part.len ≤ length (octets_of window.now)) }
+    ensures told { IfOk result (λ part. (file : List ℕ) (entries : List Entry) (left : Option (List ℕ)) → HasTold file entries left parts.old (octets_of window.now) window.now.ended
+        → HasTold file (entries ++ part_entries part) left parts.new (drop part.len (octets_of window.now)) window.now.ended) }
+    ensures fault { IfErr result (λ fault. (file : List ℕ) (entries : List Entry) (left : Option (List ℕ)) → HasTold file entries left parts.old (octets_of window.now) window.now.ended
+        → IsFaultBehind file entries fault) }
+{
+    parts.next(window.front())
+}

@@ -1,0 +1,32 @@
+//! Why a capture was not read to its end.
+ghost use Rattle.std.specs.Prelude.{◌≡◌};
+ghost use Rattle.pcap_file.specs.declared.reader_fault.ReaderFault.TheVariants as fault;
+
+use crate::fault::CaptureFault;
+use std::alloc::AllocError;
+use thiserror::Error;
+
+/// Why a capture was not read to its end.
+#[derive(Clone, Copy, Debug, PartialEq, Eq, Error)]
+pub enum ReaderFault {
+    /// A read failed.
+    #[error("device: capture")]
+    Unread,
+    /// The first fault of the capture.
+    #[error("capture {0}")]
+    Capture(CaptureFault),
+    /// The record or block behind so many octets is longer than 983,040, or begins past 2^63.
+    #[error("capture octet {0}: it is too long")]
+    Long(usize),
+    /// Memory was refused.
+    #[error("out of memory")]
+    Memory,
+}
+
+impl From<AllocError> for ReaderFault {
+    ghost from_gives = { λ _ to. to ≡ fault.Memory };
+
+    fn from(_error: AllocError) -> ReaderFault {
+        ReaderFault::Memory
+    }
+}
