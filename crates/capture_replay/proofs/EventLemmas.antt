@@ -2,9 +2,9 @@
 use Rattle.std.proofs.Common.{◌≡◌, ◌⊎◌, inl, inr, ℕ, ◌+◌, Bool, true, false, nat_lt, List, [], ◌∷◌, ◌++◌, ℤ, pos, if◌then◌else◌, Option, Some, None, refl, sym, ap, subst, ◌∙◌, append_assoc, append-nil}
 use Rattle.std.specs.Ordering.{int_eq}
 use Rattle.pcap_file.specs.Packet.{PacketView}
-use Rattle.capture_import.specs.declared.clock.CaptureClock.{CaptureClock}
-use Rattle.capture_import.specs.Clock.{clock_with}
-use Rattle.capture_import.specs.Trace.{octets_of}
+use Rattle.pcap_flows.specs.declared.clock.CaptureClock.{CaptureClock}
+use Rattle.pcap_flows.specs.Clock.{clock_with}
+use Rattle.pcap_flows.specs.Trace.{octets_of}
 use Rattle.studio_session.specs.Event.{TraceEvent, Arrival, Reading}
 use Rattle.studio_session.specs.Fault.{closed_at, time_at}
 use Rattle.studio_engine.specs.Session.{turned}

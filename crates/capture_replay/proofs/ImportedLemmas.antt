@@ -13,11 +13,11 @@ use Rattle.std.proofs.lemmas.Str.Parse.{digit_from_value}
 use Rattle.hex.specs.Hex.{IsBytes, decode_of, encode_lower, is_hex_digit, lower_digits}
 use Rattle.hex.proofs.HexLemmas.{IsDigits-lower_digits, decode_of-encode_lower, decode_pairs-encode_with, decode_pairs-ok, length-encode_with}
 use Rattle.pcap_file.specs.Packet.{PacketView}
-use Rattle.capture_import.specs.declared.clock.CaptureClock.{CaptureClock}
-use Rattle.capture_import.specs.declared.route.Route.{Route}
-use Rattle.capture_import.specs.Clock.{clock_begun, clock_with, instants_in}
-use Rattle.capture_import.specs.Lines.{arrival_line}
-use Rattle.capture_import.specs.Trace.{event_count, events_from, item_clock, item_events, item_text, octets_of as octets_in, packet_clock, packet_events, packet_text, route_of, text_from, trace_of}
+use Rattle.pcap_flows.specs.declared.clock.CaptureClock.{CaptureClock}
+use Rattle.pcap_flows.specs.declared.route.Route.{Route}
+use Rattle.pcap_flows.specs.Clock.{clock_begun, clock_with, instants_in}
+use Rattle.pcap_flows.specs.Lines.{arrival_line}
+use Rattle.pcap_flows.specs.Trace.{event_count, events_from, item_clock, item_events, item_text, octets_of as octets_in, packet_clock, packet_events, packet_text, route_of, text_from, trace_of}
 use Rattle.studio_config.specs.Studio.{Studio}
 use Rattle.studio_session.specs.Fault.{time_at}
 use Rattle.studio_session.proofs.FaultLemmas.{time_more}

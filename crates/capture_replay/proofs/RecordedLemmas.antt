@@ -5,9 +5,9 @@ use Rattle.std.proofs.lemmas.Bool.{false≢true}
 use Rattle.std.proofs.lemmas.Bool.Decides.{nat_tests}
 use Rattle.std.proofs.lemmas.Int.{ints}
 use Rattle.pcap_file.specs.Packet.{PacketView}
-use Rattle.capture_import.specs.declared.clock.CaptureClock.{CaptureClock}
-use Rattle.capture_import.specs.Clock.{clock_begun, clock_with, instants_in}
-use Rattle.capture_import.specs.Trace.{octets_of}
+use Rattle.pcap_flows.specs.declared.clock.CaptureClock.{CaptureClock}
+use Rattle.pcap_flows.specs.Clock.{clock_begun, clock_with, instants_in}
+use Rattle.pcap_flows.specs.Trace.{octets_of}
 use Rattle.rtp_stream.specs.declared.stream_spec.Stream.{Stream}
 use Rattle.lane_align.specs.Lane.{natural}
 use Rattle.studio_config.specs.Studio.{Studio}

@@ -13,8 +13,8 @@ use Rattle.pcap_file.specs.declared.reader_fault.ReaderFault.{ReaderFault}
 use Rattle.pcap_file.specs.declared.reader_fault.ReaderFault.TheVariants as reader
 use Rattle.pcap_file.specs.Reader.{HasEntries, HasTold, IsLong, packets_among, packets_in, part_entries}
 use Rattle.pcap_file.proofs.ReaderEntryLemmas.{among_more}
-use Rattle.capture_import.specs.declared.clock.CaptureClock.{CaptureClock}
-use Rattle.capture_import.specs.Clock.{clock_with}
+use Rattle.pcap_flows.specs.declared.clock.CaptureClock.{CaptureClock}
+use Rattle.pcap_flows.specs.Clock.{clock_with}
 use Rattle.studio_mix.specs.Feed.{Feed}
 use Rattle.studio_config.specs.Studio.{Studio}
 use Rattle.studio_session.specs.Event.{TraceEvent}

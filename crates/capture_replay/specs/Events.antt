@@ -3,9 +3,9 @@ use Rattle.std.specs.Prelude.{◌≡◌, ℕ, ◌+◌, ◌++◌, nat_lt, List, [
 use Rattle.pcap_file.specs.Packet.{PacketView}
 use Rattle.pcap_file.specs.Entries.{Entry}
 use Rattle.pcap_file.specs.Reader.{packets_among}
-use Rattle.capture_import.specs.declared.clock.CaptureClock.{CaptureClock}
-use Rattle.capture_import.specs.Clock.{clock_with}
-use Rattle.capture_import.specs.Trace.{octets_of}
+use Rattle.pcap_flows.specs.declared.clock.CaptureClock.{CaptureClock}
+use Rattle.pcap_flows.specs.Clock.{clock_with}
+use Rattle.pcap_flows.specs.Trace.{octets_of}
 use Rattle.studio_config.specs.Studio.{Studio}
 use Rattle.studio_session.specs.Event.{TraceEvent, Arrival, Closing}
 use Rattle.studio_session.specs.Fault.{time_at}

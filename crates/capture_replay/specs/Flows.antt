@@ -2,7 +2,7 @@
 use Rattle.std.specs.Prelude.{◌≡◌, ℕ, Bool, List, map, Option, Ok}
 use Rattle.pcap_file.specs.declared.parts.Parts.{Parts}
 use Rattle.pcap_file.specs.Entries.{Entry}
-use Rattle.capture_streams.specs.Table.{TableView, no_table, table_after}
+use Rattle.pcap_flows.specs.Table.{TableView, no_table, table_after}
 use Rattle.pcap_file.specs.Reader.{HasTold, packets_among}
 
 -- the table has those of the packets among the entries that were told

@@ -2,8 +2,8 @@
 use Rattle.std.specs.Prelude.{◌≡◌, ◌≤◌, ◌<◌, ◌^◌, List, [], ◌∷◌, length, Some, IfSome}
 use Rattle.hex.specs.Hex.{IsBytes}
 use Rattle.pcap_file.specs.Packet.{PacketView}
-use Rattle.capture_import.specs.declared.route.Route.{Route}
-use Rattle.capture_import.specs.Trace.{octets_of, route_of}
+use Rattle.pcap_flows.specs.declared.route.Route.{Route}
+use Rattle.pcap_flows.specs.Trace.{octets_of, route_of}
 
 -- a route names a path a to d, 97 to 100, of one of 16 streams
 pub record IsPathRoute (route : Route) : Type 0 where

@@ -13,9 +13,9 @@ pub use Rattle.pcap_file.specs.Capture
 pub use Rattle.pcap_file.specs.Entries
 pub use Rattle.pcap_file.specs.Window
 pub use Rattle.pcap_file.specs.Reader
-pub use Rattle.capture_streams.specs.Table
-pub use Rattle.capture_import.specs.Trace
-pub use Rattle.capture_import.specs.Clock
+pub use Rattle.pcap_flows.specs.Table
+pub use Rattle.pcap_flows.specs.Trace
+pub use Rattle.pcap_flows.specs.Clock
 pub use Rattle.mix_packets.specs.OutSpec
 pub use Rattle.path_merge.specs.Clock as MergeClock
 pub use Rattle.studio_config.specs.Studio

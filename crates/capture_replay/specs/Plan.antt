@@ -1,10 +1,10 @@
 -- Where the datagrams of a capture go, and from when its readings count.
 use Rattle.std.specs.Prelude.{ℕ, ◌+◌, ◌-◌, nat_lt, List, [], ◌∷◌, Option, Some, None, if◌then◌else◌}
 use Rattle.pcap_file.specs.Packet.{PacketView}
-use Rattle.capture_import.specs.declared.clock.CaptureClock.{CaptureClock}
-use Rattle.capture_import.specs.declared.route.Route.{Route}
-use Rattle.capture_import.specs.Clock.{clock_begun, clock_with}
-use Rattle.capture_import.specs.Trace.{route_of}
+use Rattle.pcap_flows.specs.declared.clock.CaptureClock.{CaptureClock}
+use Rattle.pcap_flows.specs.declared.route.Route.{Route}
+use Rattle.pcap_flows.specs.Clock.{clock_begun, clock_with}
+use Rattle.pcap_flows.specs.Trace.{route_of}
 use Rattle.rtp_stream.specs.declared.stream_spec.Stream.{Stream}
 use Rattle.lane_align.specs.Lane.{natural}
 use Rattle.studio_config.specs.Studio.{Studio}

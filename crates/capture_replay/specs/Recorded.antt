@@ -1,8 +1,8 @@
 -- The packets that a run's arrivals are in its record.
 use Rattle.std.specs.Prelude.{◌≡◌, ℕ, zero, suc, ◌+◌, ℤ, pos, ◌+ℤ◌, ◌<ℤ◌, List, [], ◌∷◌, Option, Some}
 use Rattle.pcap_file.specs.Packet.{PacketView}
-use Rattle.capture_import.specs.Clock.{instants_in}
-use Rattle.capture_import.specs.Trace.{octets_of}
+use Rattle.pcap_flows.specs.Clock.{instants_in}
+use Rattle.pcap_flows.specs.Trace.{octets_of}
 use Rattle.rtp_stream.specs.declared.stream_spec.Stream.{Stream}
 use Rattle.studio_config.specs.Studio.{Studio}
 use Rattle.studio_session.specs.Event.{TraceEvent, Arrival, Reading, Closing}

@@ -5,10 +5,10 @@ ghost use Rattle.pcap_file.specs.Window.{octets_of};
 ghost use Rattle.pcap_file.specs.Reader.{HasTold, IsNext, packets_among, part_entries};
 ghost use Rattle.capture_replay.specs.Flows.{HasTable};
 ghost use Rattle.pcap_file.specs.Capture.{packets_of};
-ghost use Rattle.capture_streams.specs.Table.{no_table, table_after, table_view};
+ghost use Rattle.pcap_flows.specs.Table.{no_table, table_after, table_view};
 
-use capture_streams::Table;
 use pcap_file::{Part, Parts, ReaderFault, Window, has_next, next, reader_open as open};
+use pcap_flows::Table;
 use std::alloc::{AllocError, Global};
 use std::io::Read;
 

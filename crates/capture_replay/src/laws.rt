@@ -1,8 +1,8 @@
 //! What a record says of its run. Nothing is computed here: the clause is the law.
 ghost use Rattle.std.specs.Prelude.{◌≡◌, ◌≤◌, ℕ, pos, ◌≤ℤ◌, List, map, length, Option, None, Ok};
 ghost use Rattle.pcap_file.specs.Packet.{PacketView};
-ghost use Rattle.capture_import.specs.declared.route.Route.{Route};
-ghost use Rattle.capture_import.specs.Trace.{event_count, trace_of};
+ghost use Rattle.pcap_flows.specs.declared.route.Route.{Route};
+ghost use Rattle.pcap_flows.specs.Trace.{event_count, trace_of};
 ghost use Rattle.studio_config.specs.Studio.{Studio};
 ghost use Rattle.studio_session.specs.Event.{TraceEvent};
 ghost use Rattle.studio_session.specs.Fault.{session_fault_of};

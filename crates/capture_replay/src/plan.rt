@@ -4,9 +4,9 @@ ghost use Rattle.capture_replay.specs.Plan as spec;
 ghost use Rattle.pcap_file.specs.Packet.{packet_view};
 ghost use Rattle.capture_replay.specs.Plan.{clock_before, closing_of, opening_of, plan_view, target_of};
 
-use capture_import::{CaptureClock, Route, route_in};
 use path_merge::StreamSpec;
 use pcap_file::Packet;
+use pcap_flows::{CaptureClock, Route, route_in};
 
 /// What is known of a capture before its first packet.
 #[derive(Clone, Copy)]

@@ -2,7 +2,7 @@
 ghost use Rattle.std.specs.Prelude.{◌≤◌};
 ghost use Rattle.mix_packets.specs.OutSpec.{datagram_length};
 
-use capture_import::CaptureClock;
+use pcap_flows::CaptureClock;
 use studio_engine::Engine;
 use studio_run::TextBuffer;
 

@@ -1,7 +1,7 @@
 //! What a capture holds.
 use crate::config::Configs;
 use crate::fault::{CaptureError, Fault};
-use capture_streams::Table;
+use pcap_flows::Table;
 use std::alloc::Global;
 use std::io::Write;
 use streams_text::text_of;

@@ -2,9 +2,8 @@
 use crate::captures::{capture_of, own_fault};
 use crate::config::Configs;
 use crate::fault::{CaptureError, Fault};
-use capture_import::{ImportFault, Routes, config_text, routes_of, trace_text};
-use capture_streams::Table;
 use command_words::ImportOptions;
+use pcap_flows::{ImportFault, Routes, Table, config_text, routes_of, trace_text};
 use std::alloc::Global;
 use std::io::Write;
 use std::net::SocketAddrV4;

@@ -1,5 +1,5 @@
 //! What a capture holds, as a text.
-use capture_streams::{
+use pcap_flows::{
     Flow, FlowKey, Lengths, Pair, Skew, Steps, Stream, Table, fit_of, skews_of, streams_of,
 };
 use std::alloc::{AllocError, Global};

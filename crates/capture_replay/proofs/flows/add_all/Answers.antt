@@ -1,5 +1,5 @@
 use Rattle.std.proofs.Common.{drop, sym, subst, rules}
-use Rattle.capture_streams.specs.Table.{table_view}
+use Rattle.pcap_flows.specs.Table.{table_view}
 use Rattle.pcap_file.specs.Window.{octets_of}
 use Rattle.capture_replay.specs.Flows.{HasTable}
 use Rattle.capture_replay.proofs.CaseLemmas.{some_is}

@@ -1,6 +1,6 @@
 use Rattle.std.proofs.Common.{◌≡◌, ℕ, List, map, Ok}
 use Rattle.pcap_file.specs.Entries.{Entry}
-use Rattle.capture_streams.specs.Table.{no_table, table_after, table_view}
+use Rattle.pcap_flows.specs.Table.{no_table, table_after, table_view}
 use Rattle.pcap_file.specs.Window.{octets_of}
 use Rattle.pcap_file.specs.Reader.{HasTold, packets_among}
 use Rattle.capture_replay.specs.Flows.{HasTable}

@@ -1,4 +1,4 @@
-use Rattle.capture_streams.specs.Table.{table_view}
+use Rattle.pcap_flows.specs.Table.{table_view}
 use Rattle.capture_replay.proofs.FlowLemmas.{seen_fault}
 use Rattle.capture_replay.proofs.flows.add_next.Goals as goal
 

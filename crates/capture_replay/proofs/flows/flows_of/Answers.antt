@@ -1,5 +1,5 @@
 use Rattle.std.proofs.Common.{[], Err, ap, ◌∙◌}
-use Rattle.capture_streams.specs.Table.{table_view, table_with}
+use Rattle.pcap_flows.specs.Table.{table_view, table_with}
 use Rattle.capture_replay.proofs.CaseLemmas.{some_maps}
 use Rattle.capture_replay.proofs.FlowLemmas.{seen_header, seen_none}
 use Rattle.capture_replay.proofs.flows.flows_of.Goals as goal

@@ -1,7 +1,7 @@
 use Rattle.std.proofs.Common.{◌≡◌, ◌++◌, ◌∷◌, [], ◌∙◌, Err, Some, sym, subst, rules}
 use Rattle.pcap_file.specs.Packet.{packet_view}
-use Rattle.capture_import.specs.Clock.{clock_with}
-use Rattle.capture_import.specs.Trace.{octets_of}
+use Rattle.pcap_flows.specs.Clock.{clock_with}
+use Rattle.pcap_flows.specs.Trace.{octets_of}
 use Rattle.studio_session.specs.Event.{Arrival}
 use Rattle.capture_replay.specs.Events.{events_with, read_at}
 use Rattle.capture_replay.specs.Plan.{opening_of, plan_view, target_of}

@@ -1,4 +1,0 @@
-pub mod Sighting
-pub mod Numbers
-pub mod Flow
-pub mod Table

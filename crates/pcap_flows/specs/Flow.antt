@@ -1,0 +1,66 @@
+-- A flow's packets, counted.
+use Rattle.std.specs.Prelude.{ℕ, ◌+◌, ◌-◌, ◌%◌, ◌^◌, Bool, false, min, max, Option, Some, None, ◌==◌, not, ◌||◌, if◌then◌else◌}
+use Rattle.pcap_flows.specs.declared.sighting.Sighting.{Sighting}
+use Rattle.pcap_flows.specs.declared.lengths.Lengths.{Lengths}
+use Rattle.pcap_flows.specs.declared.steps.Steps.{Steps}
+use Rattle.pcap_flows.specs.declared.flow.Flow.{Flow}
+use Rattle.pcap_flows.specs.Numbers.{NumbersView, numbers_first, numbers_with, numbers_view, one_more, span_of}
+
+pub record FlowView : Type 0 where
+  pub packets : ℕ
+  pub numbers : NumbersView
+  pub lengths : Lengths
+  pub steps : Steps
+
+abbrev pub lengths_first : ℕ → Lengths
+lengths_first len = record { least = len; greatest = len }
+
+abbrev pub lengths_with : Lengths → ℕ → Lengths
+lengths_with l len = record { least = min l.least len; greatest = max l.greatest len }
+
+abbrev pub steps_first : ℕ → ℕ → Steps
+steps_first seq ts = record { seq = seq; ts = ts; first = None; varies = false }
+
+-- a step from the packet of one number to that of the next
+abbrev pub step_of : Steps → ℕ → ℕ
+step_of s ts = (2 ^ 32 + ts - s.ts) % 2 ^ 32
+
+abbrev pub first_step : Option ℕ → ℕ → Option ℕ
+first_step None step = Some step
+first_step (Some first) step = Some first
+
+abbrev pub varies_with : Option ℕ → Bool → ℕ → Bool
+varies_with None varies step = varies
+varies_with (Some first) varies step = varies || not (first == step)
+
+unfoldable pub steps_with : Steps → ℕ → ℕ → Steps
+steps_with s seq ts =
+    if seq == (s.seq + 1) % 2 ^ 16
+    then record { seq = seq; ts = ts; first = first_step s.first (step_of s ts); varies = varies_with s.first s.varies (step_of s ts) }
+    else record { seq = seq; ts = ts; first = s.first; varies = s.varies }
+
+-- a flow of one packet
+abbrev pub flow_first : Sighting → FlowView
+flow_first s = record {
+  packets = 1;
+  numbers = numbers_first s.seq;
+  lengths = lengths_first s.len;
+  steps = steps_first s.seq s.ts;
+}
+
+-- with one more packet
+abbrev pub flow_with : FlowView → Sighting → FlowView
+flow_with f s = record {
+  packets = one_more f.packets;
+  numbers = numbers_with f.numbers s.seq;
+  lengths = lengths_with f.lengths s.len;
+  steps = steps_with f.steps s.seq s.ts;
+}
+
+-- the numbers from the least to the greatest that didn't come
+abbrev pub lost_of : FlowView → ℕ
+lost_of f = span_of f.numbers - (f.packets - f.numbers.repeated)
+
+-- what the code's value stands for
+abbrev pub flow_view : Flow → FlowView
+flow_view f = record { packets = f.packets; numbers = numbers_view f.numbers; lengths = f.lengths; steps = f.steps }

@@ -1,0 +1,76 @@
+-- The trace of a capture: its datagrams of the flows that have a route, in order, at readings of the clock.
+use Rattle.std.specs.Prelude.{◌+◌, nat_lt, if◌then◌else◌, List, [], ◌∷◌, ◌++◌, ℕ, Option, Some, None, Ok, Err, Bool, position, slice_get, option_and_then}
+use Rattle.pcap_file.specs.Ipv4.{BodyView, Whole, Part, Cut}
+use Rattle.pcap_file.specs.Packet.{PacketView}
+use Rattle.pcap_file.specs.Capture.{Item}
+use Rattle.pcap_flows.specs.declared.sighting.FlowKey.{FlowKey}
+use Rattle.pcap_flows.specs.declared.sighting.Sighting.{Sighting}
+use Rattle.pcap_flows.specs.Sighting.{sighting_of, same_flow}
+use Rattle.pcap_flows.specs.declared.route.Route.{Route}
+use Rattle.pcap_flows.specs.declared.clock.CaptureClock.{CaptureClock}
+use Rattle.pcap_flows.specs.Clock.{clock_begun, clock_with}
+use Rattle.pcap_flows.specs.Lines.{tick_text, arrival_line, close_line}
+
+-- a flow's route is the first that names it
+abbrev pub is_route_of : FlowKey → Route → Bool
+is_route_of key route = same_flow key route.key
+
+abbrev pub route_for : List Route → Option Sighting → Option Route
+route_for routes None = None
+route_for routes (Some s) = option_and_then (slice_get routes) (position (is_route_of s.key) routes)
+
+-- the route of a packet, if it is an RTP packet of a flow that has one
+unfoldable pub route_of : List Route → PacketView → Option Route
+route_of routes packet = route_for routes (sighting_of packet)
+
+-- the octets of a whole datagram
+abbrev pub octets_of : BodyView → List ℕ
+octets_of (Whole udp) = udp.payload
+octets_of Part = []
+octets_of Cut = []
+
+-- a datagram's line, after that of the clock where it goes on
+abbrev pub packet_text : CaptureClock → PacketView → Option Route → List ℕ
+packet_text clock packet None = []
+packet_text clock packet (Some route) =
+    tick_text clock.reading (clock_with clock packet.time).reading ++ arrival_line route (octets_of packet.ip.body)
+
+-- times of other flows move no clock
+abbrev pub packet_clock : CaptureClock → PacketView → Option Route → CaptureClock
+packet_clock clock packet None = clock
+packet_clock clock packet (Some route) = clock_with clock packet.time
+
+unfoldable pub item_text : List Route → CaptureClock → Item → List ℕ
+item_text routes clock (Ok packet) = packet_text clock packet (route_of routes packet)
+item_text routes clock (Err fault) = []
+
+unfoldable pub item_clock : List Route → CaptureClock → Item → CaptureClock
+item_clock routes clock (Ok packet) = packet_clock clock packet (route_of routes packet)
+item_clock routes clock (Err fault) = clock
+
+-- the lines of what is left of a capture, and the close
+unfoldable pub text_from : List Route → CaptureClock → List Item → List ℕ
+text_from routes clock [] = close_line
+text_from routes clock (item ∷ items) = item_text routes clock item ++ text_from routes (item_clock routes clock item) items
+
+-- the whole trace
+abbrev pub trace_of : List Route → List Item → List ℕ
+trace_of routes items = text_from routes clock_begun items
+
+-- the events of a datagram: its own, and before it that of a later reading
+abbrev pub packet_events : CaptureClock → PacketView → Option Route → ℕ
+packet_events clock packet None = 0
+packet_events clock packet (Some route) = if nat_lt clock.reading (clock_with clock packet.time).reading then 2 else 1
+
+unfoldable pub item_events : List Route → CaptureClock → Item → ℕ
+item_events routes clock (Ok packet) = packet_events clock packet (route_of routes packet)
+item_events routes clock (Err fault) = 0
+
+-- how many events the lines of what is left give, with the close
+unfoldable pub events_from : List Route → CaptureClock → List Item → ℕ
+events_from routes clock [] = 1
+events_from routes clock (item ∷ items) = item_events routes clock item + events_from routes (item_clock routes clock item) items
+
+-- those of the whole trace
+abbrev pub event_count : List Route → List Item → ℕ
+event_count routes items = events_from routes clock_begun items

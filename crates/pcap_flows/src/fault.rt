@@ -1,0 +1,46 @@
+//! Why a capture gives no trace.
+ghost use Rattle.std.specs.Prelude.{◌≡◌};
+ghost use Rattle.pcap_flows.specs.declared.fault.ImportFault.TheVariants as fault;
+
+use std::alloc::AllocError;
+use thiserror::Error;
+
+/// Why a capture gives no trace or no configuration: what it lacks, or what goes beyond a trace's limits.
+#[derive(Clone, Copy, Debug, PartialEq, Eq, Error)]
+pub enum ImportFault {
+    /// No flow goes to an address that was named.
+    #[error("no flow goes to a named address")]
+    Unknown,
+    /// No flow fits a stream.
+    #[error("no flow fits a stream")]
+    NoFlow,
+    /// There are more than 16 streams.
+    #[error("more than 16 streams")]
+    Streams,
+    /// The packets of a stream that was named fit none.
+    #[error("a named flow fits no stream")]
+    Unfit,
+    /// No window spans the latency.
+    #[error("the latency is too long for a window")]
+    Latency,
+    /// A datagram has more than 2,045 octets, for which a line has no room.
+    #[error("a datagram is too long for a trace")]
+    Line,
+    /// There are more than 1,000,000 events.
+    #[error("more than 1000000 events")]
+    Events,
+    /// The text has more than 67,108,864 octets.
+    #[error("more than 67108864 octets of trace")]
+    Text,
+    /// Memory was refused.
+    #[error("out of memory")]
+    Memory,
+}
+
+impl From<AllocError> for ImportFault {
+    ghost from_gives = { λ _ to. to ≡ fault.Memory };
+
+    fn from(_error: AllocError) -> ImportFault {
+        ImportFault::Memory
+    }
+}

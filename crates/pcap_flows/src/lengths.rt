@@ -1,0 +1,30 @@
+//! The payload lengths of a flow.
+ghost use Rattle.std.specs.Prelude.{◌≡◌};
+ghost use Rattle.pcap_flows.specs.Flow.{lengths_first, lengths_with};
+
+/// The least and the greatest, in octets.
+#[derive(Clone, Copy)]
+pub struct Lengths {
+    pub least: usize,
+    pub greatest: usize,
+}
+
+impl Lengths {
+    /// Those of one packet.
+    pub fn new(len: usize) -> Lengths
+        ensures { result ≡ lengths_first len }
+    {
+        Lengths {
+            least: len,
+            greatest: len,
+        }
+    }
+
+    /// Takes in a packet's.
+    pub fn add(&mut self, len: usize)
+        ensures { self.new ≡ lengths_with self.old len }
+    {
+        self.least = self.least.min(len);
+        self.greatest = self.greatest.max(len);
+    }
+}

@@ -1,0 +1,73 @@
+//! The lines of a trace.
+ghost use Rattle.std.specs.Prelude.{◌≡◌, ◌++◌, ◌≤◌, length, OnOk};
+ghost use Rattle.hex.specs.Hex.{encode_lower};
+ghost use Rattle.pcap_flows.specs.Lines.{arrival_line, close_line, tick_text};
+
+use crate::fault::ImportFault;
+use crate::route::Route;
+use std::alloc::AllocError;
+
+/// The most octets of a datagram whose line a trace has room for.
+const MOST_DATAGRAM: usize = 2045;
+
+/// Adds the line of a reading, where it is a later one.
+pub(crate) fn push_tick(text: &mut Vec<u8>, earlier: u64, reading: u64) -> Result<(), AllocError>
+    ensures { OnOk result (text.new.items ≡ text.old.items ++ tick_text earlier reading) }
+{
+    if earlier < reading {
+        let mut digits = itoa::Buffer::new();
+        text.extend_from_slice(b"tick ")?;
+        text.extend_from_slice(digits.format(reading).as_bytes())?;
+        text.extend_from_slice(b"\n")?;
+    }
+    Ok(())
+}
+
+/// Adds the line of a datagram.
+pub(crate) fn push_arrival(
+    text: &mut Vec<u8>,
+    route: &Route,
+    octets: &[u8],
+) -> Result<(), ImportFault>
+    ensures { OnOk result (text.new.items ≡ text.old.items ++ arrival_line route.now octets.now) }
+{
+    if octets.len() > MOST_DATAGRAM {
+        return Err(ImportFault::Line);
+    }
+    push_short(text, route, octets)?;
+    Ok(())
+}
+
+/// The same of a datagram for which a line has room.
+fn push_short(text: &mut Vec<u8>, route: &Route, octets: &[u8]) -> Result<(), AllocError>
+    requires { length octets.now ≤ 2045 }
+    ensures { OnOk result (text.new.items ≡ text.old.items ++ arrival_line route.now octets.now) }
+{
+    let mut digits = itoa::Buffer::new();
+    text.push(route.letter)?;
+    text.extend_from_slice(b" ")?;
+    text.extend_from_slice(digits.format(route.stream).as_bytes())?;
+    text.extend_from_slice(b" ")?;
+    push_octets(text, octets)?;
+    text.extend_from_slice(b"\n")
+}
+
+/// Adds octets, each by two hexadecimal digits.
+fn push_octets(text: &mut Vec<u8>, octets: &[u8]) -> Result<(), AllocError>
+    requires { length octets.now ≤ 2045 }
+    ensures { OnOk result (text.new.items ≡ text.old.items ++ encode_lower octets.now) }
+{
+    let start = text.len();
+    text.resize(start + 2 * octets.len(), 0)?;
+    let Ok(()) = hex::encode_to_slice(octets, &mut text[start..]) else {
+        unreachable!()
+    };
+    Ok(())
+}
+
+/// Adds the line of the end.
+pub(crate) fn push_close(text: &mut Vec<u8>) -> Result<(), AllocError>
+    ensures { OnOk result (text.new.items ≡ text.old.items ++ close_line) }
+{
+    text.extend_from_slice(b"close\n")
+}

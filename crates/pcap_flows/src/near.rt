@@ -1,0 +1,38 @@
+//! Extended sequence numbers (RFC 3550, A.1).
+ghost use Rattle.std.specs.Prelude.{◌≡◌, IfOk, vec_len};
+ghost use Rattle.pcap_flows.specs.Numbers as spec;
+
+use std::alloc::{AllocError, Global};
+
+/// How many numbers 16 bits have.
+pub(crate) const CYCLE: usize = 65_536;
+
+/// The extended number of a first packet: two cycles stand before it.
+pub(crate) fn first_number(seq: u16) -> u64
+    ensures { result ≡ spec.first_number seq }
+{
+    131_072 + u64::from(seq)
+}
+
+/// The extended number nearest to the greatest so far, of which the low 16 bits are `seq`.
+#[tactic(auto, unfolding(crate::specs::Numbers::number_near))]
+pub(crate) fn number_near(greatest: u64, seq: u16) -> u64
+    ensures { result ≡ spec.number_near greatest seq }
+{
+    let ahead = (65_536 + u64::from(seq) - greatest % 65_536) % 65_536;
+    if ahead < 32_768 {
+        greatest.saturating_add(ahead)
+    } else {
+        greatest.saturating_sub(65_536 - ahead)
+    }
+}
+
+/// No number came.
+#[tactic(auto, unfolding(crate::specs::Numbers::no_numbers))]
+pub(crate) fn no_numbers(alloc: Global) -> Result<Vec<u64>, AllocError>
+    ensures items { IfOk result (λ seen. seen.items ≡ spec.no_numbers) }
+    ensures len { IfOk result (λ seen. vec_len seen ≡ 65536) }
+{
+    let seen = Vec::from_elem(alloc, 0u64, CYCLE)?;
+    Ok(seen)
+}

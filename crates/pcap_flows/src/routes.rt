@@ -1,0 +1,129 @@
+//! The routes of a capture's flows.
+use crate::fault::ImportFault;
+use crate::form::{Form, form_of};
+use crate::route::Route;
+use crate::sighting::FlowKey;
+use crate::streams::{Stream, streams_of};
+use crate::table::Table;
+use std::alloc::Global;
+use std::net::SocketAddrV4;
+
+/// The most streams of a trace.
+const MOST_STREAMS: u8 = 16;
+
+/// The letters of a stream's paths.
+const LETTERS: [u8; 4] = [b'a', b'b', b'c', b'd'];
+
+/// The routes of flows, stream by stream and path by path.
+#[derive(Drop)]
+pub struct Routes {
+    pub(crate) list: Vec<Route>,
+    pub(crate) streams: u8,
+    left_out: usize,
+}
+
+impl Routes {
+    /// The routes, for `trace_text`.
+    pub fn list(&self) -> &[Route] {
+        self.list.as_slice()
+    }
+
+    /// How many flows have none.
+    pub fn left_out(&self) -> usize {
+        self.left_out
+    }
+}
+
+/// Routes of the flows to these addresses, or of all that fit a stream where none is named. The streams are those that
+/// `streams_of` finds.
+pub fn routes_of(
+    alloc: Global,
+    table: &Table,
+    names: &[SocketAddrV4],
+) -> Result<Routes, ImportFault> {
+    check_names(table, names)?;
+    let mut routes = Routes {
+        list: Vec::new(alloc),
+        streams: 0,
+        left_out: 0,
+    };
+    let streams = streams_of(alloc, table)?;
+    for stream in streams.iter() {
+        routes.add(table, names, stream)?;
+    }
+    if routes.list.is_empty() {
+        return Err(ImportFault::NoFlow);
+    }
+    routes.left_out = table.flows().len().saturating_sub(routes.list.len());
+    Ok(routes)
+}
+
+/// Tests whether each name is that of a flow.
+fn check_names(table: &Table, names: &[SocketAddrV4]) -> Result<(), ImportFault> {
+    for name in names.iter() {
+        if !table.keys().iter().any(|key| is_named(key, name)) {
+            return Err(ImportFault::Unknown);
+        }
+    }
+    Ok(())
+}
+
+/// Whether a flow goes to an address and a port.
+fn is_named(key: &FlowKey, name: &SocketAddrV4) -> bool {
+    name.ip().to_bits() == key.to && name.port() == key.to_port
+}
+
+impl Routes {
+    /// Adds those of a stream's paths that are wanted.
+    fn add(
+        &mut self,
+        table: &Table,
+        names: &[SocketAddrV4],
+        stream: &Stream,
+    ) -> Result<(), ImportFault> {
+        if names.is_empty() && form_in(table, stream).is_none() {
+            return Ok(());
+        }
+        let mut letters = LETTERS.iter();
+        for place in stream.places().iter() {
+            if let Some(key) = table.keys().get(*place)
+                && (names.is_empty() || names.iter().any(|name| is_named(key, name)))
+                && let Some(letter) = letters.next()
+            {
+                self.push(*key, *letter)?;
+            }
+        }
+        if letters.len() < LETTERS.len() {
+            self.streams = self.streams.saturating_add(1);
+        }
+        Ok(())
+    }
+
+    /// Adds a path of the next stream.
+    fn push(&mut self, key: FlowKey, letter: u8) -> Result<(), ImportFault> {
+        if self.streams >= MOST_STREAMS {
+            return Err(ImportFault::Streams);
+        }
+        let route = Route {
+            key,
+            stream: self.streams,
+            letter,
+        };
+        match self.list.push(route) {
+            Ok(()) => Ok(()),
+            Err(_) => Err(ImportFault::Memory),
+        }
+    }
+}
+
+/// The form of the first of a stream's flows that has one.
+fn form_in(table: &Table, stream: &Stream) -> Option<Form> {
+    for place in stream.places().iter() {
+        if let Some((key, flow)) = table.flow(*place)
+            && let Some(form) = form_of(key.pt, flow)
+        {
+            return Some(form);
+        }
+    }
+    None
+}

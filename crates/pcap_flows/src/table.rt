@@ -1,0 +1,168 @@
+//! All flows of a capture.
+ghost use Rattle.std.specs.Prelude.{◌≡◌, ◌≤◌, IfOk, OnOk, length, vec_len, position};
+ghost use Rattle.pcap_file.specs.Capture.{item_view, packets_left, packets_of};
+ghost use Rattle.pcap_flows.specs.Sighting.{same_flow};
+
+use crate::flow::Flow;
+use crate::sighting::{FlowKey, Sighting, sighting_in};
+use pcap_file::{Capture, CaptureFault, Packet, open};
+use std::alloc::{AllocError, Global};
+
+/// The most flows of a table.
+pub const MOST_FLOWS: usize = 256;
+
+/// The flows of a capture, in the order of their first packets.
+#[derive(Drop)]
+pub struct Table {
+    keys: Vec<FlowKey>,
+    flows: Vec<Flow>,
+    /// Packets of flows beyond the table's.
+    beyond: u64,
+    /// UDP packets that are cut, fragments or no RTP.
+    others: u64,
+    /// What is wrong with the capture behind what was found.
+    fault: Option<CaptureFault>,
+    ghost same: { vec_len flows ≡ vec_len keys },
+}
+
+impl Table {
+    ghost use Rattle.pcap_flows.specs.Table.{no_table, table_after, table_begun, table_seeing, table_view, table_with};
+
+    /// The flows of the capture that octets are, up to its end or its fault.
+    #[tactic(auto, using(crate::proofs::TableLemmas::table_after_fault))]
+    pub fn of(alloc: Global, octets: &[u8]) -> Result<Table, AllocError>
+        ensures { IfOk result (λ table. table_view table ≡ table_after no_table (packets_of octets.now)) }
+    {
+        let mut table = Table::new(alloc);
+        match open(octets) {
+            Ok(capture) => {
+                table.read(alloc, capture)?;
+                Ok(table)
+            }
+            Err(fault) => {
+                table.fault = Some(fault);
+                Ok(table)
+            }
+        }
+    }
+
+    /// Nothing was seen.
+    pub fn new(alloc: Global) -> Table
+        ensures { table_view result ≡ no_table }
+    {
+        Table {
+            keys: Vec::new(alloc),
+            flows: Vec::new(alloc),
+            beyond: 0,
+            others: 0,
+            fault: None,
+        }
+    }
+
+    /// Takes in a packet of a flow.
+    #[tactic(auto, unfolding(crate::specs::Table::table_seeing))]
+    pub fn add(&mut self, alloc: Global, next: &Sighting) -> Result<(), AllocError>
+        ensures { OnOk result (table_view self.new ≡ table_seeing (table_view self.old) next.now) }
+    {
+        match place_of(&self.keys, &next.key) {
+            Some(place) => {
+                self.flows[place].add(next);
+                Ok(())
+            }
+            None if self.keys.len() < MOST_FLOWS => self.begin(alloc, next),
+            None => {
+                self.beyond = self.beyond.saturating_add(1);
+                Ok(())
+            }
+        }
+    }
+
+    /// Begins a flow with its first packet.
+    fn begin(&mut self, alloc: Global, first: &Sighting) -> Result<(), AllocError>
+        ensures { OnOk result (table_view self.new ≡ table_begun (table_view self.old) first.now) }
+    {
+        self.keys.reserve(1)?;
+        self.flows.reserve(1)?;
+        let flow = Flow::new(alloc, first)?;
+        self.flows.push(flow)?;
+        self.keys.push(first.key)?;
+        Ok(())
+    }
+
+    /// Takes in what is told of a capture: a packet, or the fault that comes last.
+    #[tactic(auto, unfolding(crate::specs::Table::table_with))]
+    pub fn take(
+        &mut self,
+        alloc: Global,
+        item: Result<Packet<'_>, CaptureFault>,
+    ) -> Result<(), AllocError>
+        ensures { OnOk result (table_view self.new ≡ table_with (table_view self.old) (item_view item.entry)) }
+    {
+        match item {
+            Ok(packet) => match sighting_in(&packet) {
+                Some(next) => self.add(alloc, &next)?,
+                None => self.others = self.others.saturating_add(1),
+            },
+            Err(fault) => self.fault = Some(fault),
+        }
+        Ok(())
+    }
+
+    /// Takes in what is left of a capture.
+    #[tactic(auto, using(crate::proofs::TableLemmas::table_after_none, crate::proofs::TableLemmas::table_after_next))]
+    fn read(&mut self, alloc: Global, mut capture: Capture<'_>) -> Result<(), AllocError>
+        ensures { OnOk result (table_view self.new ≡ table_after (table_view self.old) (packets_left capture.entry)) }
+    {
+        while let Some(item) = capture.next() {
+            self.take(alloc, item)?;
+        }
+        Ok(())
+    }
+
+    /// The flows' keys, in the order of their first packets.
+    pub fn keys(&self) -> &[FlowKey]
+        ensures { result.now ≡ self.now.keys.items }
+    {
+        self.keys.as_slice()
+    }
+
+    /// What was counted of each, in the same order.
+    pub fn flows(&self) -> &[Flow]
+        ensures { result.now ≡ self.now.flows.items }
+    {
+        self.flows.as_slice()
+    }
+
+    /// The flow at a place.
+    pub fn flow(&self, place: usize) -> Option<(FlowKey, &Flow)> {
+        Some((*self.keys.get(place)?, self.flows.get(place)?))
+    }
+
+    /// How many packets are of flows beyond the table's.
+    pub fn beyond(&self) -> u64
+        ensures { result ≡ self.now.beyond }
+    {
+        self.beyond
+    }
+
+    /// How many UDP packets are cut, fragments or no RTP.
+    pub fn others(&self) -> u64
+        ensures { result ≡ self.now.others }
+    {
+        self.others
+    }
+
+    /// What is wrong with the capture behind what was found.
+    pub fn fault(&self) -> Option<CaptureFault>
+        ensures { result ≡ self.now.fault }
+    {
+        self.fault
+    }
+}
+
+/// The place of a flow.
+fn place_of(keys: &[FlowKey], key: &FlowKey) -> Option<usize>
+    ensures { result ≡ position (same_flow key.now) keys.now }
+{
+    keys.iter().position(|other| key.is_same(other))
+}
