@@ -1,11 +1,11 @@
 //! What is written of a capture beside its report.
 ghost use Rattle.std.specs.Prelude.{[], IfOk};
-ghost use Rattle.capture_replay.specs.Sound.{HasSoundedIf};
+ghost use Rattle.pcap_replay.specs.Sound.{HasSoundedIf};
 
 use crate::config::Configs;
 use crate::fault::Fault;
-use capture_replay::{Listener, Sound};
 use mix_packets::OutSpec;
+use pcap_replay::{Listener, Sound};
 use reception_chart::{Observer, Streams};
 use rtp_stream::Path;
 use std::io::Write;

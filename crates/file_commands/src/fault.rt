@@ -1,9 +1,9 @@
 //! The faults of a run: their lines and exit statuses.
-use capture_replay::ReplayFault;
 use live_parts::HandedFault;
 use live_run::LiveFault;
 use pcap_file::{CaptureFault, ReaderFault};
 use pcap_flows::ImportFault;
+use pcap_replay::ReplayFault;
 use std::alloc::{AllocError, AllocFailed};
 use std::io;
 use std::io::Write;

@@ -1,5 +1,0 @@
-use Rattle.capture_replay.proofs.RecordedLemmas.{run_said}
-use Rattle.capture_replay.proofs.laws.a_record_says_its_run.Goals as goal
-
-pub returns : goal.returns
-returns c = λ studio events packets closing low none rising recorded. run_said studio low events packets closing none rising recorded

@@ -1,5 +1,0 @@
-use Rattle.capture_replay.proofs.ImportedLemmas.{import_said}
-use Rattle.capture_replay.proofs.laws.a_replay_takes_its_import.Goals as goal
-
-pub returns : goal.returns
-returns c = λ studio routes packets opened lines room short. import_said studio routes packets opened lines room short

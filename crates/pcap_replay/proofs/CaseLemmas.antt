@@ -1,0 +1,36 @@
+-- What is said of a value that is there.
+use Rattle.std.proofs.Common.{◌≡◌, Option, Some, None, IfSome, Result, Ok, Err, OnOk, IfErr, refl, sym, subst}
+use Rattle.std.specs.Prelude.{IsErrAnd}
+use Rattle.pcap_replay.specs.declared.fault.ReplayFault.{ReplayFault}
+
+pub some_is : {X : Type 0} (o : Option X) (x : X) (P : X → Type 0) → o ≡ Some x → IfSome o P → P x
+some_is o x P is p = subst (λ o. IfSome o P) is p
+
+pub some_when : {X : Type 0} (o : Option X) (P : X → Type 0) → ((x : X) → o ≡ Some x → P x) → IfSome o P
+some_when None P f = tt
+some_when (Some x) P f = f x refl
+
+pub some_maps : {X : Type 0} (o : Option X) (P Q : X → Type 0) → ((x : X) → P x → Q x) → IfSome o P → IfSome o Q
+some_maps None P Q f p = tt
+some_maps (Some x) P Q f p = f x p
+
+pub ok_then : {X E : Type 0} (r : Result X E) (P Q : Type 0) → (P → Q) → OnOk r P → OnOk r Q
+ok_then (Ok x) P Q f p = f p
+ok_then (Err e) P Q f p = tt
+
+pub err_then : {X E : Type 0} (r : Result X E) (P Q : E → Type 0) → ((e : E) → P e → Q e) → IfErr r P → IfErr r Q
+err_then (Ok x) P Q f p = tt
+err_then (Err e) P Q f p = f e p
+
+pub ok_both : {X E : Type 0} (r : Result X E) (P Q R : Type 0) → (P → Q → R) → OnOk r P → OnOk r Q → OnOk r R
+ok_both (Ok x) P Q R f p q = f p q
+ok_both (Err e) P Q R f p q = tt
+
+-- a fault is answered as it was
+pub told : {T : Type 0} (P : ReplayFault → Type 0) (fault : ReplayFault) (r : Result T ReplayFault) → IsErrAnd r (λ answer. answer ≡ fault) → P fault → IfErr r P
+told P fault (Ok it) is holds = absurd is
+told P fault (Err answer) is holds = subst P (sym is) holds
+
+pub err_both : {X E : Type 0} (r : Result X E) (P Q R : E → Type 0) → ((e : E) → P e → Q e → R e) → IfErr r P → IfErr r Q → IfErr r R
+err_both (Ok x) P Q R f p q = tt
+err_both (Err e) P Q R f p q = f e p q

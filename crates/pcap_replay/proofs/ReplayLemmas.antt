@@ -1,0 +1,254 @@
+-- What was written of a report so far.
+use Rattle.std.proofs.Common.{◌≡◌, ◌<◌, ℕ, Bool, List, [], ◌∷◌, ◌++◌, length, map, take, Option, None, option_map, IfSome, Ok, refl, sym, ap, subst, ◌∙◌, append-nil}
+use Rattle.std.specs.Prelude.{⊤}
+use Rattle.std.specs.Io.KnownBytes.{Appends}
+use Rattle.std.proofs.Math.Seq.{take-length}
+use Rattle.std.proofs.lemmas.List.{length-map}
+use Rattle.pcap_file.specs.declared.parts.Parts.{Parts}
+use Rattle.pcap_file.specs.declared.part.Part.{Part}
+use Rattle.pcap_file.specs.Entries.{Entry, entries_at}
+use Rattle.pcap_file.specs.Packet.{PacketView, packet_view}
+use Rattle.pcap_file.specs.Parts.{items_at}
+use Rattle.pcap_file.specs.declared.reader_fault.ReaderFault.{ReaderFault}
+use Rattle.pcap_file.specs.declared.reader_fault.ReaderFault.TheVariants as reader
+use Rattle.pcap_file.specs.Reader.{HasEntries, HasTold, IsLong, packets_among, packets_in, part_entries}
+use Rattle.pcap_file.proofs.ReaderEntryLemmas.{among_more}
+use Rattle.pcap_flows.specs.declared.clock.CaptureClock.{CaptureClock}
+use Rattle.pcap_flows.specs.Clock.{clock_with}
+use Rattle.studio_mix.specs.Feed.{Feed}
+use Rattle.studio_config.specs.Studio.{Studio}
+use Rattle.studio_session.specs.Event.{TraceEvent}
+use Rattle.studio_engine.specs.Engine.{EngineState}
+use Rattle.studio_engine.specs.Session.{HasSession}
+use Rattle.studio_run.specs.Buffer.{BreaksOff, PassesOn}
+use Rattle.studio_run.specs.Listing.{datagrams_text}
+use Rattle.studio_run.proofs.BufferLemmas.{BreaksOff-finished, BreaksOff-later, PassesOn-none, PassesOn-finished, PassesOn-trans}
+use Rattle.pcap_replay.specs.declared.fault.ReplayFault.{ReplayFault}
+use Rattle.pcap_replay.specs.declared.fault.ReplayFault.TheVariants.{Memory, Capture, Run as RunOf, Full, Write}
+use Rattle.pcap_replay.specs.declared.run.Run.{Run}
+use Rattle.pcap_replay.specs.Lines.{BreaksLines, Hearing}
+use Rattle.pcap_replay.specs.Replay.{BeginsWith, BreaksAt, HasBegun, HasComeToClose, HasGoneOver, HasHeardFirst, HasReplayed, HasTaken, IsReason, IsReplaying, IsRun, IsOwn, Stops, StopsAt, StopsFile}
+use Rattle.pcap_replay.specs.Events.{AreFirst, clock_after, clock_of, closed_events, events_of, events_told, events_with, read_at}
+use Rattle.pcap_replay.specs.Plan.{PlanView, clock_before, clock_past, closing_of, opening_of, target_of}
+use Rattle.pcap_replay.specs.Record.{closing_in, closing_with}
+use Rattle.pcap_replay.proofs.CaseLemmas.{some_maps}
+use Rattle.pcap_replay.proofs.EventLemmas.{clock_more, events_more, first_longer, first_read, first_same}
+use Rattle.pcap_replay.proofs.LineLemmas.{lines_more}
+use Rattle.pcap_replay.proofs.RecordLemmas.{closing_more}
+
+-- lines of more datagrams follow
+pub wrote_more : (a b c : Option (List ℕ)) (h i : List ℕ) (datagrams more : List (List ℕ)) → PassesOn a [] b h (datagrams_text datagrams) → PassesOn b h c i (datagrams_text more)
+    → PassesOn a [] c i (datagrams_text (datagrams ++ more))
+wrote_more a b c h i datagrams more first second =
+    subst (PassesOn a [] c i) (sym (lines_more datagrams more)) (PassesOn-trans a b c [] h i (datagrams_text datagrams) (datagrams_text more) first second)
+
+pub broke_more : (studio : Studio) (engine : EngineState) (events earlier : List TraceEvent) (a b c : Option (List ℕ)) (h : List ℕ) (H K : Hearing) (datagrams : List (List ℕ)) → PassesOn a [] b h (datagrams_text datagrams)
+    → AreFirst earlier events → H earlier datagrams → BreaksLines studio engine events datagrams b h c H K → BreaksAt studio events a c K
+broke_more studio engine events earlier a b c h H K datagrams first early told broken =
+    let both = subst (BreaksOff a [] c) (sym (lines_more datagrams broken.more)) (BreaksOff-later a b c [] h (datagrams_text datagrams) (datagrams_text broken.more) first broken.broke) in
+    record {
+      datagrams = datagrams ++ broken.more;
+      first = broken.stands.given.first;
+      count = both.count;
+      wrote = both.wrote;
+      told = record { earlier = earlier; early = early; datagrams = datagrams ++ broken.more; first = broken.stands.given.first; told = broken.told earlier told };
+    }
+
+-- what a listener was told of so far
+pub heard_first : (studio : Studio) (events : List TraceEvent) (a b : Option (List ℕ)) (H : Hearing) (run : Run) → HasReplayed studio events a run b H → HasHeardFirst studio events H
+heard_first studio events a b H run r = record { earlier = events; early = first_same events; datagrams = r.datagrams; first = r.session.given.first; told = r.told }
+
+-- before the first event
+pub begun_replayed : (studio : Studio) (a : Option (List ℕ)) (H : Hearing) (run : Run) → HasBegun studio run → H [] [] → HasReplayed studio [] a run a H
+begun_replayed studio a H run b told = record {
+  datagrams = [];
+  session = b.session;
+  rested = b.rested;
+  open_yet = refl;
+  wrote = subst (λ h. PassesOn a [] a h []) (sym b.none) (PassesOn-none a []);
+  told = told;
+}
+
+-- whoever listens
+pub unheard : (studio : Studio) (events : List TraceEvent) (a b : Option (List ℕ)) (H : Hearing) (run : Run) → HasReplayed studio events a run b H → HasReplayed studio events a run b (λ _ _. ⊤)
+unheard studio events a b H run r = record { datagrams = r.datagrams; session = r.session; rested = r.rested; open_yet = r.open_yet; wrote = r.wrote; told = tt }
+
+-- what was held is written
+pub broke_whole : (studio : Studio) (events : List TraceEvent) (a b c : Option (List ℕ)) (H : Hearing) (run : Run) → HasReplayed studio events a run b H → Appends b c run.text → BreaksAt studio events a c H
+broke_whole studio events a b c H run r rest = record {
+  datagrams = r.datagrams;
+  first = r.session.given.first;
+  count = length (datagrams_text r.datagrams);
+  wrote = subst (Appends a c) (sym (take-length (datagrams_text r.datagrams))) (PassesOn-finished a b c run.text (datagrams_text r.datagrams) r.wrote rest);
+  told = heard_first studio events a b H run r;
+}
+
+pub broke_part : (studio : Studio) (events : List TraceEvent) (a b c : Option (List ℕ)) (H : Hearing) (run : Run) → HasReplayed studio events a run b H
+    → (n : ℕ) × (n < length run.text) × Appends b c (take n run.text) → BreaksAt studio events a c H
+broke_part studio events a b c H run r part =
+    let broken = BreaksOff-finished a b c run.text (datagrams_text r.datagrams) r.wrote part in
+    record { datagrams = r.datagrams; first = r.session.given.first; count = broken.count; wrote = broken.wrote; told = heard_first studio events a b H run r }
+
+-- a fault of an event, where all that was given is written or held
+pub stops_at_run : (studio : Studio) (events : List TraceEvent) (a b : Option (List ℕ)) (H : Hearing) (run : Run) (fault : ReplayFault) → IsRun fault → HasReplayed studio events a run b H → StopsAt studio events a run b H fault
+stops_at_run studio events a b H run Memory kind r = absurd kind
+stops_at_run studio events a b H run (Capture fault) kind r = absurd kind
+stops_at_run studio events a b H run (RunOf fault) kind r = r
+stops_at_run studio events a b H run Full kind r = r
+stops_at_run studio events a b H run Write kind r = absurd kind
+
+-- what stops before some events stops before more
+pub stops_longer : (studio : Studio) (all longer : List TraceEvent) (a c : Option (List ℕ)) (H : Hearing) (run : Run) (fault : ReplayFault) → AreFirst all longer
+    → Stops studio all a run c H fault → Stops studio longer a run c H fault
+stops_longer studio all longer a c H run fault first stops = record { events = stops.events; first = first_longer stops.events all longer stops.first first; at = stops.at }
+
+-- a stream for each cursor
+pub streams_of_session : (studio : Studio) (engine : EngineState) (events : List TraceEvent) (datagrams : List (List ℕ)) → HasSession studio engine events datagrams
+    → length studio.streams ≡ length engine.cursors
+streams_of_session studio engine events datagrams s =
+    let played = s.given.played in
+    ap length (sym played.fed.streams) ∙ length-map played.feeds (λ (feed : Feed). feed.stream) ∙ sym played.count
+
+-- a file that told entries begins with them
+pub begins : (file : List ℕ) (entries : List Entry) (left : Option (List ℕ)) (parts : Parts) (held : List ℕ) (ended : Bool) → HasTold file entries left parts held ended → BeginsWith file entries
+begins file entries left parts held ended told = record { items = items_at parts (held ++ told.rest); packets = told.packets; later = entries_at parts (held ++ told.rest); all = told.all }
+
+pub begins_whole : (file : List ℕ) (entries : List Entry) → HasEntries file entries → BeginsWith file entries
+begins_whole file entries whole = record {
+  items = [];
+  packets = whole.packets ∙ sym (append-nil (map Ok (packets_among entries)));
+  later = [];
+  all = whole.all ∙ sym (append-nil entries);
+}
+
+pub own_reason : (file : List ℕ) (entries : List Entry) (fault : ReplayFault) → IsOwn fault → IsReason file entries fault
+own_reason file entries Memory kind = tt
+own_reason file entries (Capture fault) kind = absurd kind
+own_reason file entries (RunOf fault) kind = tt
+own_reason file entries Full kind = tt
+own_reason file entries Write kind = tt
+
+pub long_reason : (file : List ℕ) (entries : List Entry) (fault : ReaderFault) → IsLong fault → IsReason file entries (Capture fault)
+long_reason file entries reader.Unread kind = tt
+long_reason file entries (reader.Capture fault) kind = absurd kind
+long_reason file entries (reader.Long place) kind = tt
+long_reason file entries reader.Memory kind = absurd kind
+
+-- one packet more was taken
+next_events : (studio : Studio) (plan : PlanView) (packets : List PacketView) (packet : PacketView) (clock : CaptureClock) → clock ≡ clock_after plan (clock_before plan) packets
+    → events_with studio.open_at (opening_of plan) clock (events_of studio plan packets) packet (target_of plan packet) ≡ events_of studio plan (packets ++ packet ∷ [])
+next_events studio plan packets packet clock is =
+    ap (λ k. events_with studio.open_at (opening_of plan) k (events_of studio plan packets) packet (target_of plan packet)) is
+    ∙ sym (events_more studio.open_at plan (clock_before plan) [] packets packet)
+
+pub taken_more : (studio : Studio) (plan : PlanView) (packets : List PacketView) (packet : PacketView) (a b c : Option (List ℕ)) (H K : Hearing) (old new : Run) → HasTaken studio plan packets a old b H
+    → new.clock ≡ clock_past old.clock packet (target_of plan packet)
+    → HasReplayed studio (events_with studio.open_at (opening_of plan) old.clock (events_of studio plan packets) packet (target_of plan packet)) a new c K
+    → HasTaken studio plan (packets ++ packet ∷ []) a new c K
+taken_more studio plan packets packet a b c H K old new taken clock replayed = record {
+  clock = clock ∙ ap (λ k. clock_past k packet (target_of plan packet)) taken.clock ∙ sym (clock_more plan (clock_before plan) packets packet);
+  replayed = subst (λ l. HasReplayed studio l a new c K) (next_events studio plan packets packet old.clock taken.clock) replayed;
+}
+
+pub stops_more : (studio : Studio) (plan : PlanView) (packets : List PacketView) (packet : PacketView) (a b c : Option (List ℕ)) (H K : Hearing) (old new : Run) (fault : ReplayFault) → HasTaken studio plan packets a old b H
+    → Stops studio (events_with studio.open_at (opening_of plan) old.clock (events_of studio plan packets) packet (target_of plan packet)) a new c K fault
+    → Stops studio (events_of studio plan (packets ++ packet ∷ [])) a new c K fault
+stops_more studio plan packets packet a b c H K old new fault taken stops = subst (λ l. Stops studio l a new c K fault) (next_events studio plan packets packet old.clock taken.clock) stops
+
+pub taken_same : (studio : Studio) (plan : PlanView) (packets : List PacketView) (a c : Option (List ℕ)) (H : Hearing) (run : Run) → HasTaken studio plan packets a run c H → HasTaken studio plan (packets ++ []) a run c H
+taken_same studio plan packets a c H run taken = subst (λ l. HasTaken studio plan l a run c H) (sym (append-nil packets)) taken
+
+-- a file told the same entries, as more of it was read
+pub replaying_read : (studio : Studio) (plan : PlanView) (first a : Option (List ℕ)) (run : Run) (parts : Parts) (held held' : List ℕ) (ended ended' : Bool) (left left' c : Option (List ℕ)) (H : Hearing) (closing : Option ℕ)
+    → ((file : List ℕ) (entries : List Entry) → HasTold file entries left parts held ended → HasTold file entries left' parts held' ended')
+    → IsReplaying studio plan first a run parts held ended left c H closing → IsReplaying studio plan first a run parts held' ended' left' c H closing
+replaying_read studio plan first a run parts held held' ended ended' left left' c H closing reads r = record {
+  entries = r.entries;
+  told = some_maps first _ _ (λ file told. reads file r.entries told) r.told;
+  taken = r.taken;
+  closes = r.closes;
+}
+
+-- before the first entry
+pub replaying_none : (studio : Studio) (plan : PlanView) (first a : Option (List ℕ)) (run : Run) (parts : Parts) (held : List ℕ) (ended : Bool) (left : Option (List ℕ)) (H : Hearing)
+    → IfSome first (λ file. HasTold file [] left parts held ended) → run.clock ≡ clock_before plan → HasReplayed studio [] a run a H → IsReplaying studio plan first a run parts held ended left a H None
+replaying_none studio plan first a run parts held ended left H told clock replayed = record {
+  entries = [];
+  told = told;
+  taken = record { clock = clock; replayed = replayed };
+  closes = refl;
+}
+
+-- a reading at the time of the close, behind all packets
+closing_same : (plan : PlanView) (entries : List Entry) (told closing : Option ℕ) → closing ≡ closing_of plan told → told ≡ closing_in entries → closing ≡ closing_of plan (closing_in entries)
+closing_same plan entries told closing same closes = same ∙ ap (closing_of plan) closes
+
+pub come_to_close : (studio : Studio) (plan : PlanView) (told closing : Option ℕ) (from : ℕ) (first a b c : Option (List ℕ)) (H K : Hearing) (old new : Run) → from ≡ opening_of plan → closing ≡ closing_of plan told
+    → (gone : HasGoneOver studio plan first a old b H told)
+    → ((events : List TraceEvent) → HasReplayed studio events a old b H → HasReplayed studio (read_at studio.open_at from events old.clock.reading (clock_with old.clock closing).reading) a new c K)
+    → HasComeToClose studio plan first a new c K
+come_to_close studio plan told closing from first a b c H K old new same closes gone reads =
+    let packets = packets_among gone.entries in
+    let events = events_of studio plan packets in
+    record {
+      entries = gone.entries;
+      told = gone.told;
+      replayed = subst (λ o. HasReplayed studio (closed_events studio plan packets o) a new c K) (closing_same plan gone.entries told closing closes gone.closes)
+          (subst (λ n. HasReplayed studio (read_at studio.open_at n events (clock_of plan packets).reading (clock_with (clock_of plan packets) closing).reading) a new c K) same
+          (subst (λ k. HasReplayed studio (read_at studio.open_at from events k.reading (clock_with k closing).reading) a new c K) gone.taken.clock (reads events gone.taken.replayed)));
+    }
+
+pub stops_at_close : (studio : Studio) (plan : PlanView) (told closing : Option ℕ) (from : ℕ) (first a b c : Option (List ℕ)) (H K : Hearing) (old new : Run) (fault : ReplayFault) → from ≡ opening_of plan → closing ≡ closing_of plan told
+    → IsOwn fault → (gone : HasGoneOver studio plan first a old b H told)
+    → ((events : List TraceEvent) → HasReplayed studio events a old b H → Stops studio (read_at studio.open_at from events old.clock.reading (clock_with old.clock closing).reading) a new c K fault)
+    → StopsFile studio plan first a new c K fault
+stops_at_close studio plan told closing from first a b c H K old new fault same closes kind gone reads =
+    let packets = packets_among gone.entries in
+    let events = events_of studio plan packets in
+    record {
+      entries = gone.entries;
+      told = some_maps first _ _ (λ file whole. (begins_whole file gone.entries whole, own_reason file gone.entries fault kind)) gone.told;
+      stops = subst (λ o. Stops studio (closed_events studio plan packets o) a new c K fault) (closing_same plan gone.entries told closing closes gone.closes)
+          (subst (λ n. Stops studio (read_at studio.open_at n events (clock_of plan packets).reading (clock_with (clock_of plan packets) closing).reading) a new c K fault) same
+          (subst (λ k. Stops studio (read_at studio.open_at from events k.reading (clock_with k closing).reading) a new c K fault) gone.taken.clock (reads events gone.taken.replayed)));
+    }
+
+-- the events of packets are the first of those up to a close
+pub before_close : (studio : Studio) (plan : PlanView) (entries : List Entry) → AreFirst (events_of studio plan (packets_among entries)) (events_told studio plan entries)
+before_close studio plan entries =
+    let packets = packets_among entries in
+    first_read studio.open_at (opening_of plan) (events_of studio plan packets) (clock_of plan packets).reading (clock_with (clock_of plan packets) (closing_of plan (closing_in entries))).reading
+
+-- a fault comes behind the entries that were told
+pub stops_behind : (studio : Studio) (plan : PlanView) (first a : Option (List ℕ)) (run : Run) (parts : Parts) (held : List ℕ) (ended : Bool) (left c : Option (List ℕ)) (H : Hearing) (closing : Option ℕ) (fault : ReplayFault)
+    (r : IsReplaying studio plan first a run parts held ended left c H closing) → ((file : List ℕ) → HasTold file r.entries left parts held ended → IsReason file r.entries fault)
+    → ((events : List TraceEvent) → HasReplayed studio events a run c H → StopsAt studio events a run c H fault) → StopsFile studio plan first a run c H fault
+stops_behind studio plan first a run parts held ended left c H closing fault r reason at = record {
+  entries = r.entries;
+  told = some_maps first _ _ (λ file told. (begins file r.entries left parts held ended told, reason file told)) r.told;
+  stops = record { events = events_of studio plan (packets_among r.entries); first = before_close studio plan r.entries; at = at (events_of studio plan (packets_among r.entries)) r.taken.replayed };
+}
+
+-- a record or a block more was told
+pub replaying_more : (studio : Studio) (plan : PlanView) (first a : Option (List ℕ)) (run : Run) (parts : Parts) (held : List ℕ) (ended : Bool) (left c : Option (List ℕ)) (H : Hearing) (closing : Option ℕ) (entries : List Entry) (part : Part)
+    → IfSome first (λ file. HasTold file (entries ++ part_entries part) left parts held ended) → HasTaken studio plan (packets_among entries ++ packets_in part) a run c H → closing ≡ closing_in entries
+    → IsReplaying studio plan first a run parts held ended left c H (closing_with closing part.mark)
+replaying_more studio plan first a run parts held ended left c H closing entries part told taken closes = record {
+  entries = entries ++ part_entries part;
+  told = told;
+  taken = subst (λ l. HasTaken studio plan l a run c H) (sym (among_more entries (option_map packet_view part.packet) part.mark)) taken;
+  closes = ap (λ o. closing_with o part.mark) closes ∙ sym (closing_more entries (option_map packet_view part.packet) part.mark);
+}
+
+-- or its packet's events stopped
+pub stops_among : (studio : Studio) (plan : PlanView) (first a : Option (List ℕ)) (run : Run) (c : Option (List ℕ)) (H : Hearing) (fault : ReplayFault) (entries : List Entry) (part : Part)
+    → IfSome first (λ file. BeginsWith file (entries ++ part_entries part)) → IsOwn fault → Stops studio (events_of studio plan (packets_among entries ++ packets_in part)) a run c H fault
+    → StopsFile studio plan first a run c H fault
+stops_among studio plan first a run c H fault entries part begins kind stops =
+    let all = entries ++ part_entries part in
+    record {
+      entries = all;
+      told = some_maps first _ _ (λ file b. (b, own_reason file all fault kind)) begins;
+      stops = stops_longer studio (events_of studio plan (packets_among all)) (events_told studio plan all) a c H run fault (before_close studio plan all)
+          (subst (λ l. Stops studio (events_of studio plan l) a run c H fault) (sym (among_more entries (option_map packet_view part.packet) part.mark)) stops);
+    }

@@ -1,0 +1,5 @@
+use Rattle.pcap_replay.proofs.ImportedLemmas.{import_said}
+use Rattle.pcap_replay.proofs.laws.a_replay_takes_its_import.Goals as goal
+
+pub returns : goal.returns
+returns c = λ studio routes packets opened lines room short. import_said studio routes packets opened lines room short
