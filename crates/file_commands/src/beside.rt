@@ -10,8 +10,7 @@ use reception_chart::{Observer, Streams};
 use rtp_stream::Path;
 use std::io::Write;
 use studio_run::write_text;
-use studio_wav::FileFault;
-use wav_file::Overwrite;
+use wav_file::{FileFault, Overwrite};
 
 /// The mix's file, and the streams that are watched, where they are asked for.
 #[derive(Drop)]

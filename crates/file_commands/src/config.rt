@@ -7,9 +7,8 @@ use std::alloc::Global;
 use std::io::Read;
 use studio_config::StudioSpec;
 use studio_run::ReadFault;
-use studio_wav::FileFault;
 use toml::Table;
-use wav_file::Overwrite;
+use wav_file::{FileFault, Overwrite};
 
 /// The most octets of a configuration.
 const MOST_OCTETS: usize = 1_048_576;

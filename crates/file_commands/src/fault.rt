@@ -9,8 +9,8 @@ use std::io;
 use std::io::Write;
 use studio_config::Kind;
 use studio_run::{PlayFault, SpecError, StudioFault, WriteFault};
-use studio_wav::{FileFault, StreamFault};
 use thiserror::Error;
+use wav_file::{FileFault, StreamFault};
 
 /// Why a run gave no text, or only a part of it.
 #[derive(Debug, Drop, Error)]

@@ -1,6 +1,6 @@
 //! A file that a word names.
 use crate::config::Configs;
-use studio_wav::{FileFault, WavFiles};
+use wav_file::{FileFault, WavFiles};
 
 /// A file that is made at a path once it is asked for.
 #[derive(Clone, Copy)]

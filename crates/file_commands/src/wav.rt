@@ -5,7 +5,7 @@ use crate::named_file::NamedFile;
 use command_words::StreamWords;
 use std::alloc::Global;
 use std::io::{Read, Write};
-use studio_wav::{RecordFault, list_and_record, play_and_record};
+use wav_file::{RecordFault, list_and_record, play_and_record};
 
 /// Plays the trace by the configuration at a path, and writes the mix to the file at another. Before a fault of that
 /// file its path is told where faults go.

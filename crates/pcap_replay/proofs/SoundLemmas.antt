@@ -9,9 +9,9 @@ use Rattle.rtp_wire.specs.declared.encoding.Enc.{Enc}
 use Rattle.wav_file.specs.declared.format.WavFormat.{WavFormat}
 use Rattle.wav_file.specs.Head.{head_octets}
 use Rattle.wav_file.specs.File.{Becomes, IsBegun, WavState, wav_octets}
-use Rattle.studio_wav.specs.Recording.{HasAdded}
-use Rattle.studio_wav.specs.Samples.{datagram_samples, samples_in}
-use Rattle.studio_wav.proofs.TrackLemmas.{added_both, added_by}
+use Rattle.wav_file.specs.Recording.{HasAdded}
+use Rattle.wav_file.specs.WavSamples.{datagram_samples, samples_in}
+use Rattle.wav_file.proofs.TrackLemmas.{added_both, added_by}
 use Rattle.pcap_replay.specs.Sound.{HasAddedBy, HasAddedFirst, HasFront, HasHead, HasSounded, SoundState}
 
 samples_more : (enc : Enc) (datagrams : List (List ℕ)) (datagram : List ℕ) → samples_in enc (datagrams ++ datagram ∷ []) ≡ samples_in enc datagrams ++ datagram_samples enc datagram

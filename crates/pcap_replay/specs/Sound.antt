@@ -5,8 +5,8 @@ use Rattle.wav_file.specs.declared.format.WavFormat.{WavFormat}
 use Rattle.wav_file.specs.Head.{head_octets}
 use Rattle.wav_file.specs.File.{WavState}
 use Rattle.studio_session.specs.Event.{TraceEvent}
-use Rattle.studio_wav.specs.Recording.{HasAdded}
-use Rattle.studio_wav.specs.Samples.{samples_in}
+use Rattle.wav_file.specs.Recording.{HasAdded}
+use Rattle.wav_file.specs.WavSamples.{samples_in}
 use Rattle.pcap_replay.specs.Heard.{HasHeardIf}
 
 -- what contracts see of a file that is written: its octets, if it tells them, its format and count, and whether a write failed

@@ -2,7 +2,7 @@
 ghost use Rattle.std.specs.Prelude.{◌≡◌, ◌≤◌, ◌∷◌, ◌++◌, [], ℕ, List, Some, IfOk, length};
 ghost use Rattle.mix_packets.specs.declared.out_spec.Output.{Output};
 ghost use Rattle.wav_file.specs.File.{wav_octets};
-ghost use Rattle.studio_wav.specs.Samples.{output_format, samples_in};
+ghost use Rattle.wav_file.specs.WavSamples.{output_format, samples_in};
 ghost use Rattle.pcap_replay.specs.Sound.{HasFront, HasHead, HasSounded, SoundState};
 
 use crate::listener::Listener;
@@ -10,8 +10,7 @@ use mix_packets::OutSpec;
 use path_merge::Path;
 use std::io::Write;
 use std::marker::Model;
-use studio_wav::FileFault;
-use wav_file::{Overwrite, WavFormat, WavWriter};
+use wav_file::{FileFault, Overwrite, WavFormat, WavWriter};
 
 /// Writes the samples of the datagrams that it is told of to a WAV file. After a write that failed it writes no more.
 ///

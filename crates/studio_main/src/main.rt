@@ -9,8 +9,7 @@ use std::rt::Env;
 use std::{env, fs};
 use studio_commands::{Configs, Fault, run};
 use studio_run::{ReadFault, read_text};
-use studio_wav::FileFault;
-use wav_file::OverFile;
+use wav_file::{FileFault, OverFile};
 
 /// The files of the host.
 #[derive(Clone, Copy)]

@@ -2,3 +2,8 @@ pub mod FileLemmas
 pub mod HeadLemmas
 pub mod SamplesLemmas
 pub mod SilenceLemmas
+pub mod FrontLemmas
+pub mod ListingLemmas
+pub mod PlayLemmas
+pub mod RecordingLemmas
+pub mod TrackLemmas

@@ -1,0 +1,94 @@
+//! Why a run was not recorded.
+ghost use Rattle.std.specs.Prelude.{◌≡◌};
+ghost use Rattle.studio_run.specs.declared.player.PlayFault.TheVariants as play;
+ghost use Rattle.wav_file.specs.declared.fault.RecordFault.TheVariants as fault;
+ghost use Rattle.wav_file.specs.declared.fault.FileFault.TheVariants as file;
+
+use crate::writer::WavFault;
+use std::alloc::AllocError;
+use studio_run::{PlayFault, WriteFault};
+use thiserror::Error;
+
+/// What failed of a WAV file.
+#[derive(Clone, Copy, Debug, PartialEq, Eq, Error)]
+pub enum FileFault {
+    /// It could not be made.
+    #[error("not made")]
+    Unmade,
+    /// A write failed, or took no octet, or it has too many.
+    #[error("write")]
+    Write,
+}
+
+/// Why no file is written of a stream.
+#[derive(Clone, Copy, Debug, PartialEq, Eq, Error)]
+pub enum StreamFault {
+    /// The studio has no stream of this number.
+    #[error("no stream")]
+    Unknown,
+    /// The stream has more than 8 channels.
+    #[error("channels")]
+    Channels,
+}
+
+/// Why a report or a listing, and a WAV file, were not written whole.
+#[derive(Debug, Drop, Error)]
+pub enum RecordFault {
+    /// The report's or the listing's fault.
+    #[error("{0}")]
+    Play(PlayFault),
+    /// That of the stream that a file was to be written of.
+    #[error("{0}")]
+    Stream(StreamFault),
+    /// The file's.
+    #[error("{0}")]
+    File(FileFault),
+}
+
+impl From<PlayFault> for RecordFault {
+    ghost from_gives = { λ from to. to ≡ fault.Play from };
+
+    fn from(fault: PlayFault) -> RecordFault {
+        RecordFault::Play(fault)
+    }
+}
+
+impl From<AllocError> for RecordFault {
+    ghost from_gives = { λ _ to. to ≡ fault.Play play.Memory };
+
+    fn from(_error: AllocError) -> RecordFault {
+        RecordFault::Play(PlayFault::Memory)
+    }
+}
+
+impl From<WriteFault> for RecordFault {
+    ghost from_gives = { λ _ to. to ≡ fault.Play play.Write };
+
+    fn from(_fault: WriteFault) -> RecordFault {
+        RecordFault::Play(PlayFault::Write)
+    }
+}
+
+impl From<WavFault> for RecordFault {
+    ghost from_gives = { λ _ to. to ≡ fault.File file.Write };
+
+    fn from(_fault: WavFault) -> RecordFault {
+        RecordFault::File(FileFault::Write)
+    }
+}
+
+impl From<FileFault> for RecordFault {
+    ghost from_gives = { λ from to. to ≡ fault.File from };
+
+    fn from(fault: FileFault) -> RecordFault {
+        RecordFault::File(fault)
+    }
+}
+
+impl From<StreamFault> for RecordFault {
+    ghost from_gives = { λ from to. to ≡ fault.Stream from };
+
+    fn from(fault: StreamFault) -> RecordFault {
+        RecordFault::Stream(fault)
+    }
+}

@@ -1,0 +1,75 @@
+//! From a trace to its listing, with a WAV file of one stream beside it.
+ghost use Rattle.std.specs.Prelude.{◌≡◌, ◌<◌, ◌≤◌, Some, None, slice_get, IfErr, IfOk};
+ghost use Rattle.rtp_stream.specs.declared.stream_spec.Stream.{Stream};
+ghost use Rattle.studio_session.specs.Play.{HasPathsBy, IsRunnableBy};
+ghost use Rattle.wav_file.specs.StreamListing.{FailsBoth, FailsListing, IsUnfit, ListsAndRecords, ListsAndRecordsTextOf};
+
+use crate::fault::{RecordFault, StreamFault};
+use crate::files::WavFiles;
+use crate::stream_recorder::write_stream;
+use path_merge::StreamSpec;
+use std::alloc::Global;
+use std::io::{Read, Write};
+use studio_config::StudioSpec;
+use studio_run::{TextBuffer, TracedEvents, read_all, runnable_events, write_whole_listing};
+use studio_session::{Cursor, studio_cursors};
+
+/// The most channels of a stream that a file is written of.
+const MOST_CHANNELS: u8 = 8;
+
+/// Reads a trace to its end, writes the samples of one stream to a file, and then the listing of all marks as
+/// `list_marks` does. The file is made once nothing but a write can fail.
+pub fn list_and_record<R: Read, W: Write, M: WavFiles>(
+    alloc: Global,
+    spec: &StudioSpec,
+    number: u8,
+    reader: &mut R,
+    writer: &mut W,
+    files: &M,
+) -> Result<M::File, RecordFault>
+    ensures ok { IfOk result (λ file. ListsAndRecordsTextOf spec.now number (R.remaining reader.old) (R.remaining reader.new) (W.contents writer.old) (W.contents writer.new) (M.File.Write.contents file)) }
+    ensures fault { IfErr result (FailsListing spec.now number (R.remaining reader.old) (R.remaining reader.new) (W.contents writer.old) (W.contents writer.new)) }
+{
+    let stream = stream_at(spec, number)?;
+    let trace = read_all(alloc, reader)?;
+    let events = runnable_events(alloc, spec, trace.as_slice())?;
+    let file = write_both(alloc, spec, stream, number, &events, writer, files)?;
+    Ok(file)
+}
+
+/// The stream of a number, if a file can be written of it.
+fn stream_at(spec: &StudioSpec, number: u8) -> Result<StreamSpec, StreamFault>
+    ensures ok { IfOk result (λ stream. slice_get spec.now.streams number ≡ Some stream) }
+    ensures fault { IfErr result (IsUnfit spec.now number) }
+{
+    match spec.streams().get(usize::from(number)) {
+        None => Err(StreamFault::Unknown),
+        Some(stream) if stream.channels() > MOST_CHANNELS => Err(StreamFault::Channels),
+        Some(stream) => Ok(*stream),
+    }
+}
+
+/// Writes the samples of a stream, and the listing of events of which none is at fault. All memory is taken before.
+fn write_both<W: Write, M: WavFiles>(
+    alloc: Global,
+    spec: &StudioSpec,
+    stream: StreamSpec,
+    number: u8,
+    events: &TracedEvents<'_>,
+    writer: &mut W,
+    files: &M,
+) -> Result<M::File, RecordFault>
+    requires is { slice_get spec.now.streams number ≡ Some stream }
+    requires runnable { IsRunnableBy spec.now events.now }
+    requires paths { HasPathsBy spec.now events.now }
+    ensures ok { IfOk result (λ file. ListsAndRecords spec.now events.now stream number (W.contents writer.old) (W.contents writer.new) (M.File.Write.contents file)) }
+    ensures fault { IfErr result (FailsBoth spec.now events.now (W.contents writer.old) (W.contents writer.new)) }
+{
+    let mut cursors = studio_cursors(alloc, spec)?;
+    let mut cursor = Cursor::new(alloc, stream, number, spec.open_at())?;
+    let mut text = TextBuffer::new(alloc)?;
+    let mut file = files.make()?;
+    write_stream(&mut file, events, &mut cursor)?;
+    write_whole_listing(&mut text, writer, events, cursors.as_mut_slice())?;
+    Ok(file)
+}

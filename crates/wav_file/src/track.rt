@@ -1,0 +1,78 @@
+//! One stream's samples, mark by mark.
+ghost use Rattle.std.specs.Prelude.{◌≡◌, ◌+◌, ◌≤◌, length, option_copied, Some, OnOk};
+ghost use Rattle.std.specs.Option.{option_to_list};
+ghost use Rattle.rtp_stream.specs.MarkFacts.{IsTime};
+ghost use Rattle.rtp_stream.specs.MarkRef.{body_from, IsShort};
+ghost use Rattle.lane_align.specs.Lane.{frames_between};
+ghost use Rattle.wav_file.specs.Recording.{HasAdded};
+ghost use Rattle.wav_file.specs.StreamSamples.{body_samples, gap_samples};
+ghost use Rattle.wav_file.specs.Track.{HasTracked};
+
+use crate::writer::{WavFault, WavWriter};
+use path_merge::{MarkKindRef, MarkRef};
+use std::io::Write;
+
+/// A stream's file while its samples are written.
+#[derive(Drop)]
+pub(crate) struct Track {
+    pub(crate) wav: WavWriter,
+    /// Sampling instants per packet.
+    pub(crate) frames: u16,
+    /// Where the last slot ends.
+    pub(crate) end: Option<i64>,
+}
+
+impl Track {
+    /// Adds the samples of the next mark, if there is one.
+    pub(crate) fn add_next<F: Write>(
+        &mut self,
+        file: &mut F,
+        mark: Option<MarkRef<'_>>,
+    ) -> Result<(), WavFault>
+        ensures { OnOk result (HasTracked (F.contents file.old) (F.contents file.new) self.old self.new (option_to_list mark.entry)) }
+    {
+        let Some(mark) = mark else {
+            return Ok(());
+        };
+        match mark.kind() {
+            MarkKindRef::Slot { media, payload, .. } => {
+                self.add_gap(file, media)?;
+                self.add_body(file, payload)?;
+                self.end = Some(media + i64::from(self.frames));
+                Ok(())
+            }
+            MarkKindRef::Quiet { .. } | MarkKindRef::End => Ok(()),
+        }
+    }
+
+    /// Adds silence up to a media time.
+    fn add_gap<F: Write>(&mut self, file: &mut F, media: i64) -> Result<(), WavFault>
+        ensures added { OnOk result (HasAdded (F.contents file.old) (F.contents file.new) self.old.wav self.new.wav (gap_samples self.old.wav.format self.old.end media)) }
+        ensures frames { self.new.frames ≡ self.old.frames }
+    {
+        match self.end {
+            Some(end) => self.wav.push_silence(file, instants_between(end, media)),
+            None => Ok(()),
+        }
+    }
+
+    /// Adds the samples of a packet's payload, or as much silence.
+    fn add_body<F: Write>(&mut self, file: &mut F, payload: Option<&[u8]>) -> Result<(), WavFault>
+        requires short { IsShort (body_from (option_copied payload)) }
+        ensures added { OnOk result (HasAdded (F.contents file.old) (F.contents file.new) self.old.wav self.new.wav
+            (body_samples self.old.wav.format self.old.frames (body_from (option_copied payload.entry)))) }
+        ensures frames { self.new.frames ≡ self.old.frames }
+    {
+        match payload {
+            Some(octets) => self.wav.push(file, octets),
+            None => self.wav.push_silence(file, u64::from(self.frames)),
+        }
+    }
+}
+
+/// The sampling instants from one time to another; none where that comes earlier.
+fn instants_between(from: i64, to: i64) -> u64
+    ensures { result ≡ frames_between from to }
+{
+    if to > from { to.abs_diff(from) } else { 0 }
+}
