@@ -1,7 +1,7 @@
 //! A studio in threads, over datagrams in memory.
 ghost use Rattle.std.specs.Prelude.{◌≡◌, true, map, IfOk};
-ghost use Rattle.studio_workers.specs.Balances.{Balances};
-ghost use Rattle.studio_workers.specs.Runs.{IsSettledRun};
+ghost use Rattle.studio_rings.specs.Balances.{Balances};
+ghost use Rattle.studio_rings.specs.Runs.{IsSettledRun};
 ghost use Rattle.example_callers.specs.Told.{told_of};
 
 use crate::memory_clock::MemoryClock;
@@ -11,7 +11,7 @@ use std::sync::Wait;
 use std::thread::Threads;
 use studio_config::StudioSpec;
 use studio_ends::{OpenFault, open};
-use studio_workers::{Sink, WorkFault, WorkReport, run_workers};
+use studio_rings::{Sink, WorkFault, WorkReport, run_workers};
 use thiserror::Error;
 
 /// How many packets, marks or counts a ring holds.

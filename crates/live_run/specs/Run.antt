@@ -3,7 +3,7 @@ use Rattle.std.specs.Prelude.{◌≡◌, true, false, Bool, ℕ, ℤ, List, None
 use Rattle.studio_config.specs.Studio.{Studio}
 use Rattle.studio_io.specs.Answers.{Answer}
 use Rattle.studio_io.specs.Balances.{Balances}
-use Rattle.single_workers.specs.Runs.{IsSettledRun}
+use Rattle.studio_rings.specs.Runs.{IsSettledRun}
 use Rattle.engine_run.specs.Runs.{IsSettledRun as IsSettledAlone}
 use Rattle.studio_io.specs.declared.report.WorkReport.{WorkReport}
 use Rattle.live_run.specs.declared.fault.LiveFault.{LiveFault}

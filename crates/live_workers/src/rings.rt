@@ -1,6 +1,6 @@
 //! The rings between a run's workers.
 ghost use Rattle.std.specs.Prelude.{◌≡◌, ℕ, length, IfOk, IfErr};
-ghost use Rattle.studio_workers.specs.StreamResults.{AreOpenedTogether};
+ghost use Rattle.studio_rings.specs.StreamResults.{AreOpenedTogether};
 ghost use Rattle.live_run.specs.Run.{IsEarly};
 
 use live_run::LiveFault;

@@ -1,6 +1,6 @@
 //! What a run's workers are started from.
 ghost use Rattle.std.specs.Prelude.{◌≡◌, false, length, IfOk, IfErr};
-ghost use Rattle.studio_workers.specs.StreamResults.{AreOpenedTogether};
+ghost use Rattle.studio_rings.specs.StreamResults.{AreOpenedTogether};
 ghost use Rattle.live_run.specs.Run.{IsEarly, IsRunOf};
 
 use live_parts::{Start, SystemClock};
@@ -12,7 +12,7 @@ use std::thread::Threads;
 use std::time::Clock;
 use studio_config::StudioSpec;
 use studio_ends::Ends;
-use studio_workers::{WorkReport, run_workers};
+use studio_rings::{WorkReport, run_workers};
 
 /// What the workers are started from.
 #[derive(Drop)]

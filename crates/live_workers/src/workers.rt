@@ -1,7 +1,7 @@
 //! A live run by workers, with a watcher beside them.
 ghost use Rattle.std.specs.Prelude.{◌≡◌, false, length, IfOk, IfErr};
 ghost use Rattle.std.specs.Thread.{IsSync};
-ghost use Rattle.studio_workers.specs.StreamResults.{AreOpenedTogether};
+ghost use Rattle.studio_rings.specs.StreamResults.{AreOpenedTogether};
 ghost use Rattle.live_run.specs.Run.{IsEarly, IsRunOf};
 
 use crate::rings::{Rings, rings_of};

@@ -11,7 +11,7 @@ use std::alloc::Global;
 use std::process::Abort;
 use std::sync::Wait;
 use std::sync::atomic::AtomicI64;
-use studio_workers::{Clock, Feed, Sink, WorkReport};
+use studio_rings::{Clock, Feed, Sink, WorkReport};
 
 /// Runs one stream on two paths.
 fn run_one<R: Wait + Abort, F: Feed, C: Clock, K: Sink, P: Rest>(

@@ -6,7 +6,7 @@ use example_callers::MemoryFeed;
 use std::alloc::Global;
 use std::process::Abort;
 use studio_engine::Engine;
-use studio_workers::{Feed, FeedAnswer, SendAnswer, Sink};
+use studio_rings::{Feed, FeedAnswer, SendAnswer, Sink};
 
 /// Fails so often before its first answer, and so often before each later one.
 #[derive(Drop)]

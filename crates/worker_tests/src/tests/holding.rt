@@ -10,7 +10,7 @@ use std::sync::Wait;
 use std::sync::atomic::{AtomicBool, AtomicU64, Ordering};
 use std::thread::{Parker, Threads};
 use std::time::Duration;
-use studio_workers::{Clock, Feed, FeedAnswer, SendAnswer, Sink, WorkReport};
+use studio_rings::{Clock, Feed, FeedAnswer, SendAnswer, Sink, WorkReport};
 
 /// How often something is waited for, a millisecond each time.
 const WAITS: u32 = 20_000;

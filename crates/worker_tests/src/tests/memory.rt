@@ -19,8 +19,8 @@ use std::sync::Wait;
 use std::thread::Threads;
 use studio_config::StudioSpec;
 use studio_ends::OpenFault;
+use studio_rings::{WorkFault, WorkReport};
 use studio_run::PlayFault;
-use studio_workers::{WorkFault, WorkReport};
 
 /// Whether the marks of both packets were given; else memory was refused.
 fn is_received(rt: &impl Abort, alloc: Global, spec: StreamSpec, arrivals: &[Arrival<'_>]) -> bool {

@@ -5,7 +5,7 @@ use engine_run::Rest;
 use example_callers::MemoryFeed;
 use std::sync::atomic::{AtomicI64, Ordering};
 use studio_engine::Engine;
-use studio_workers::{Clock, Feed, FeedAnswer, SendAnswer, Sink};
+use studio_rings::{Clock, Feed, FeedAnswer, SendAnswer, Sink};
 
 /// Tells the time.
 #[derive(Drop)]

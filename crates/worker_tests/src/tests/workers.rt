@@ -11,7 +11,7 @@ use std::sync::Wait;
 use std::thread::Threads;
 use studio_config::StudioSpec;
 use studio_ends::open;
-use studio_workers::{Clock, Feed, Sink, WorkReport, run_workers};
+use studio_rings::{Clock, Feed, Sink, WorkReport, run_workers};
 
 /// One stream on two paths, in packets of six sampling instants; its output is alike. None where memory was refused.
 pub(super) fn one_stream(alloc: Global) -> Option<StudioSpec> {

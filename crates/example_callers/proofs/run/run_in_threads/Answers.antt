@@ -5,8 +5,8 @@ use Rattle.studio_ends.specs.FreshEnds.{AllFreshStreams}
 use Rattle.studio_ends.specs.declared.path_end.PathEnd.{PathEnd}
 use Rattle.studio_ends.specs.declared.stream_end.StreamEnd.{StreamEnd}
 use Rattle.studio_io.specs.Answers.{Answer}
-use Rattle.studio_workers.specs.Runs.{IsSettledRun}
-use Rattle.studio_workers.proofs.JobLemmas.{map_snoc}
+use Rattle.studio_rings.specs.Runs.{IsSettledRun}
+use Rattle.studio_rings.proofs.JobLemmas.{map_snoc}
 use Rattle.example_callers.specs.Told.{told_of}
 use Rattle.example_callers.specs.declared.memory_clock.MemoryClock.{MemoryClock}
 use Rattle.example_callers.proofs.run.run_in_threads.Goals as goal

@@ -1,4 +1,0 @@
-pub mod FeedLemmas
-pub mod StreamTurnLemmas
-pub mod MixWorkerLemmas
-pub mod StreamTokenLemmas

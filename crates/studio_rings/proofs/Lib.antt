@@ -1,0 +1,11 @@
+pub mod FeedLemmas
+pub mod StreamTurnLemmas
+pub mod MixWorkerLemmas
+pub mod StreamTokenLemmas
+pub mod ZipLemmas
+pub mod HandLemmas
+pub mod CloseLemmas
+pub mod EndLemmas
+pub mod NestLemmas
+pub mod JobLemmas
+pub mod RunLemmas

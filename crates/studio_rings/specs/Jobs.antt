@@ -1,0 +1,35 @@
+-- How the ends and the feeds of a studio go to its workers.
+use Rattle.std.specs.Prelude.{◌≡◌, ◌≤◌, List, [], ◌∷◌, ◌++◌, length, map, vec_len, vec_capacity}
+use Rattle.studio_ends.specs.declared.path_end.PathEnd.{PathEnd}
+use Rattle.studio_ends.specs.declared.stream_end.StreamEnd.{StreamEnd}
+use Rattle.studio_rings.specs.declared.path_job.PathJob.{PathJob}
+use Rattle.studio_rings.specs.WorkersStreams.{ends_of}
+use Rattle.studio_rings.specs.declared.stream_job.StreamJob.{StreamJob}
+
+module _ {F : Type 0} where
+  abbrev pub feeds_in : List (PathJob F) → List F
+  feeds_in paths = map (λ (path : PathJob F). path.feed) paths
+
+module _ {F C : Type 0} where
+  -- the paths' ends, the feeds and the clocks go to the streams in their order: to each as many as it has paths, and one clock
+  abbrev pub AreJobsOf : List PathEnd → List F → List C → List StreamEnd → List (StreamJob F C) → Type 0
+  AreJobsOf paths feeds clocks [] [] = (paths ≡ []) × (feeds ≡ []) × (clocks ≡ [])
+  AreJobsOf paths feeds clocks (end ∷ ends) (job ∷ jobs) =
+      (rest : List PathEnd) × (others : List F) × (left : List C) × (paths ≡ ends_of job.paths.items ++ rest) × (feeds ≡ feeds_in job.paths.items ++ others)
+      × (clocks ≡ job.clock ∷ left) × (job.end ≡ end) × (length job.paths.items ≡ end.spec.paths) × AreJobsOf rest others left ends jobs
+  AreJobsOf paths feeds clocks [] (job ∷ jobs) = ⊥
+  AreJobsOf paths feeds clocks (end ∷ ends) [] = ⊥
+
+  -- there is a flag for each path, and room for what it comes to
+  pub record HasRoom (job : StreamJob F C) : Type 0 where
+    pub ended : vec_len job.paths ≤ vec_len job.ended
+    pub no_results : vec_len job.results ≡ 0
+    pub results : vec_len job.paths ≤ vec_capacity job.results
+    pub no_counts : vec_len job.counts ≡ 0
+    pub counts : vec_len job.paths ≤ vec_capacity job.counts
+    pub no_faults : vec_len job.faults ≡ 0
+    pub faults : vec_len job.paths ≤ vec_capacity job.faults
+
+  abbrev pub HaveRoom : List (StreamJob F C) → Type 0
+  HaveRoom [] = Unit {0}
+  HaveRoom (job ∷ jobs) = HasRoom job × HaveRoom jobs

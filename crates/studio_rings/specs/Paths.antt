@@ -1,0 +1,59 @@
+-- What a path's worker sends of what its feed gives.
+use Rattle.std.specs.Prelude.{◌≡◌, ℕ, ◌+◌, ◌-◌, ◌*◌, ◌<◌, ◌≤◌, ◌^◌, List, [], ◌∷◌, ◌++◌, length, ◌⊎◌, true, IfSome}
+use Rattle.rtrb.specs.Ends.{SameRing}
+use Rattle.rtrb.specs.Ring.{all_sent, sent, SameProducer}
+use Rattle.rtp_stream.specs.declared.packet.Packet.{Packet}
+use Rattle.rtp_stream.specs.PathCounts.{path_tally_of}
+use Rattle.rtp_stream.specs.declared.path_counts.PathCounts.{PathCounts}
+use Rattle.studio_ends.specs.Fitting.{fitting}
+use Rattle.studio_ends.specs.declared.path.PathDone.{PathDone}
+use Rattle.studio_ends.specs.declared.path_end.PathEnd.{PathEnd}
+use Rattle.studio_io.specs.Answers.{Answer, CountsOthers, IsPartOf, packets_in, packets_of, reaches_end, told_datagrams, told_packets}
+use Rattle.studio_rings.specs.declared.path_job.PathJob.{PathJob}
+use Rattle.studio_rings.specs.declared.path_job.PathResult.{PathResult}
+
+-- a datagram was offered, and again while it found no room, but at most 1,000 times more: its packet was sent at most once, and once where fewer than 1,001 of these offers found no room
+pub record OffersAgain (octets : List ℕ) (p q : PathEnd) : Type 0 where
+  pub ring : SameProducer p.ring q.ring
+  pub spec : q.spec ≡ p.spec
+  pub sends : (sent q.ring ≡ sent p.ring) ⊎ (sent q.ring ≡ sent p.ring ++ packets_of p.spec octets)
+  pub all : q.counts.full < p.counts.full + 1001 → q.counts.offered < 2 ^ 62 → sent q.ring ≡ sent p.ring ++ packets_of p.spec octets
+  pub others : q.counts.offered < 2 ^ 62 → CountsOthers p.spec (octets ∷ []) (path_tally_of p.counts) (path_tally_of q.counts)
+  pub full : p.counts.full ≤ q.counts.full
+  pub offered : p.counts.offered ≤ q.counts.offered
+
+-- what was sent in all, of a feed that told its answers: packets of its datagrams, in order, each at most once, and all of them where at most 1,000 offers found no room; for each that is lacking 1,001 offers found none, and each other datagram was counted once
+pub record SendsFeed (told : List Answer) (p : PathEnd) (sent_in_all : List Packet) (counts : PathCounts) : Type 0 where
+  pub more : List Packet
+  pub sends : sent_in_all ≡ sent p.ring ++ more
+  pub some : IsPartOf more (told_packets p.spec 0 told)
+  pub all : counts.full ≤ 1000 → counts.offered < 2 ^ 62 → more ≡ told_packets p.spec 0 told
+  pub lacking : counts.offered < 2 ^ 62 → p.counts.full + (length (told_packets p.spec 0 told) - length more) * 1001 ≤ counts.full
+  pub others : counts.offered < 2 ^ 62 → CountsOthers p.spec (told_datagrams 0 told) (path_tally_of p.counts) (path_tally_of counts)
+
+-- the same on the way, where these answers are left, so many faults have come in a row, and these datagrams were tried
+pub record SendsSoFar (told : List Answer) (p : PathEnd) (left : List Answer) (faults : ℕ) (q : PathEnd) : Type 0 where
+  pub ring : SameProducer p.ring q.ring
+  pub spec : q.spec ≡ p.spec
+  pub whole : reaches_end faults left ≡ true
+  pub more : List Packet
+  pub sends : sent q.ring ≡ sent p.ring ++ more
+  pub some : (rest : List Packet) → IsPartOf rest (told_packets p.spec faults left) → IsPartOf (more ++ rest) (told_packets p.spec 0 told)
+  pub all : q.counts.full ≤ 1000 → q.counts.offered < 2 ^ 62 → more ++ told_packets p.spec faults left ≡ told_packets p.spec 0 told
+  pub tried : List (List ℕ)
+  pub before : tried ++ told_datagrams faults left ≡ told_datagrams 0 told
+  pub grows : p.counts.full ≤ q.counts.full
+  pub lacking : q.counts.offered < 2 ^ 62 → p.counts.full + length (packets_in p.spec tried) * 1001 ≤ q.counts.full + length more * 1001
+  pub others : q.counts.offered < 2 ^ 62 → CountsOthers p.spec tried (path_tally_of p.counts) (path_tally_of q.counts)
+
+-- the token of this path's ring
+abbrev pub IsTokenOf : PathEnd → PathDone → Type 0
+IsTokenOf p done = SameRing p.ring.end done.token.end
+
+module _ {F : Type 0} where
+  -- what a path's worker came to: the token of its end, which tells packets of the stream, each counted, and which of its feed's packets they are
+  pub record IsPathResult (told : F → List Answer) (job : PathJob F) (result : PathResult) : Type 0 where
+    pub token : IfSome result.done (λ done. IsTokenOf job.end done)
+    pub fit : IfSome result.done (λ done. fitting job.end.spec (all_sent done.token) ≡ all_sent done.token)
+    pub count : IfSome result.done (λ done. result.counts.sent ≡ length (all_sent done.token))
+    pub sent : reaches_end 0 (told job.feed) ≡ true → IfSome result.done (λ done. SendsFeed (told job.feed) job.end (all_sent done.token) result.counts)

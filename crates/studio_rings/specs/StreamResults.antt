@@ -1,0 +1,27 @@
+-- What the results of all streams come to.
+use Rattle.std.specs.Prelude.{ℕ, List, [], map, vec_len, sum_by, Option}
+use Rattle.studio_config.specs.Studio.{Studio}
+use Rattle.studio_ends.specs.Datagrams.{HasGiven}
+use Rattle.studio_ends.specs.FreshEnds.{AllFreshRings, AllFreshStreams}
+use Rattle.studio_ends.specs.declared.ends.Ends.{Ends}
+use Rattle.studio_ends.specs.declared.monitor_end.MonitorEnd.{MonitorEnd}
+use Rattle.studio_ends.specs.declared.stream.StreamDone.{StreamDone}
+use Rattle.rtp_stream.specs.declared.stream_counts.StreamCounts.{StreamCounts}
+use Rattle.studio_rings.specs.declared.stream_job.StreamResult.{StreamResult}
+
+-- the ends were opened together, and nothing was done with them; the monitors' may be elsewhere
+pub record AreOpenedTogether (studio : Studio) (places : ℕ) (ends : Ends) : Type 0 where
+  pub streams : AllFreshStreams studio.open_at places studio.streams ends.paths.items ends.streams.items
+  pub monitors : List MonitorEnd
+  pub rings : AllFreshRings places ends.streams.items monitors ends.mix.sides.items
+  pub mix : HasGiven studio ends.mix []
+
+abbrev pub dones_in : List StreamResult → List (Option StreamDone)
+dones_in results = map (λ (result : StreamResult). result.done) results
+
+abbrev pub counts_in : List StreamResult → List StreamCounts
+counts_in results = map (λ (result : StreamResult). result.counts) results
+
+-- how many numbers of faults there are
+abbrev pub fault_numbers : List StreamResult → ℕ
+fault_numbers results = sum_by (λ (result : StreamResult). vec_len result.faults) results

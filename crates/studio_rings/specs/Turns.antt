@@ -1,0 +1,70 @@
+-- What the turns of a stream's worker come to.
+use Rattle.std.specs.Prelude.{◌≡◌, ℕ, suc, ◌≤◌, true, false, List, [], ◌∷◌, ◌++◌, length, ℤ, ◌≤ℤ◌, IfSome}
+use Rattle.rtrb.specs.Ring.{all_sent, sent, producer_capacity, SameConsumer, SameProducer}
+use Rattle.rtp_stream.specs.declared.stream_spec.Stream.{Stream}
+use Rattle.rtp_stream.specs.declared.packet.Packet.{Packet}
+use Rattle.rtp_stream.specs.declared.event.Event.{Event}
+use Rattle.rtp_stream.specs.declared.event.Event.TheVariants.{Close}
+use Rattle.studio_ends.specs.Fitting.{fitting}
+use Rattle.studio_ends.specs.Streams.{StreamHasHistory, packets_by}
+use Rattle.studio_ends.specs.declared.side.Side.{Side}
+use Rattle.studio_ends.specs.declared.stream_end.StreamEnd.{StreamEnd}
+use Rattle.studio_io.specs.Clocks.{GoByClock, events_in}
+use Rattle.studio_rings.specs.declared.timed_stream.TimedStream.{TimedStream}
+
+module _ {T : Type 0} where
+  -- each ring is the one that it was
+  abbrev pub AreSameRings : List (Side T) → List (Side T) → Type 0
+  AreSameRings [] [] = Unit {0}
+  AreSameRings (old ∷ olds) (new ∷ news) = SameConsumer old.ring new.ring × AreSameRings olds news
+  AreSameRings [] (new ∷ news) = ⊥
+  AreSameRings (old ∷ olds) [] = ⊥
+
+  -- what each ring's token tells, where it was handed in
+  abbrev pub HaveTold : List (Side T) → List (List T) → Type 0
+  HaveTold [] [] = Unit {0}
+  HaveTold (side ∷ sides) (all ∷ more) = IfSome side.done (λ done. all_sent done ≡ all) × HaveTold sides more
+  HaveTold [] (all ∷ more) = ⊥
+  HaveTold (side ∷ sides) [] = ⊥
+
+  -- what was told stays told
+  abbrev pub KeepsTokens : List (Side T) → List (Side T) → Type 0
+  KeepsTokens olds news = (lists : List (List T)) → HaveTold olds lists → HaveTold news lists
+
+-- the arrivals are just these packets, path by path from this one on: those that have the stream's length
+abbrev pub HaveArrived : Stream → ℕ → List (List Packet) → List Event → Type 0
+HaveArrived stream path [] events = (other : ℕ) → path ≤ other → packets_by other events ≡ []
+HaveArrived stream path (packets ∷ more) events = (packets_by path events ≡ fitting stream packets) × HaveArrived stream (suc path) more events
+
+-- an end was closed, once all that the tokens tell had arrived
+pub record Closes (s t : StreamEnd) : Type 0 where
+  pub marks : SameProducer s.marks t.marks
+  pub closed : t.merge.closed ≡ true
+  pub stands : (stream : Stream) (open_at : ℤ) (events : List Event) → StreamHasHistory stream open_at s events → StreamHasHistory stream open_at t (events ++ Close ∷ [])
+  pub arrived : (stream : Stream) (open_at : ℤ) (events : List Event) (lists : List (List Packet)) → HaveTold s.sides.items lists
+      → StreamHasHistory stream open_at s events → HaveArrived stream 0 lists events
+
+-- before its packets are taken an end had these events: none, or a reading that is no later than this
+pub record ReadsFirst (s : StreamEnd) (now : ℤ) (t : StreamEnd) : Type 0 where
+  pub first : List Event
+  pub sides : t.sides ≡ s.sides
+  pub ring : SameProducer s.marks t.marks
+  pub more : length (sent s.marks) ≤ length (sent t.marks)
+  pub spec : t.spec ≡ s.spec
+  pub still_open : t.merge.closed ≡ false
+  pub not_after : t.merge.time ≤ℤ now
+  pub stands : (stream : Stream) (open_at : ℤ) (events : List Event) → StreamHasHistory stream open_at s events → StreamHasHistory stream open_at t (events ++ first)
+
+module _ {C : Type 0} where
+  -- a stream that is not closed went on: its history grew by turns that go by its clock
+  pub record GoesOn (told : C → List ℤ) (s t : TimedStream C) : Type 0 where
+    pub rings : AreSameRings s.end.sides.items t.end.sides.items
+    pub marks : SameProducer s.end.marks t.end.marks
+    pub spec : t.end.spec ≡ s.end.spec
+    pub turns : Stream → List (List Event)
+    pub stands : (stream : Stream) (open_at : ℤ) (events : List Event)
+        → StreamHasHistory stream open_at s.end events → StreamHasHistory stream open_at t.end (events ++ events_in (turns stream))
+    pub timed : (stream : Stream) (open_at : ℤ) (events : List Event) (places : ℕ) (later : List (List Event))
+        → StreamHasHistory stream open_at s.end events → producer_capacity s.end.marks ≡ places
+        → GoByClock stream open_at places t.now (told t.clock) (events ++ events_in (turns stream)) later
+        → GoByClock stream open_at places s.now (told s.clock) events (turns stream ++ later)

@@ -1,0 +1,140 @@
+//! What the workers start from, with all the memory that they need.
+ghost use Rattle.std.specs.Prelude.{◌≡◌, ◌+◌, ◌≤◌, ◌++◌, List, ℕ, ℤ, length, vec_len, vec_capacity, IfOk};
+ghost use Rattle.std.specs.Vec.Iter.{into_iter_items, into_iter_len};
+ghost use Rattle.rtp_stream.specs.declared.stream_spec.Stream.{Stream};
+ghost use Rattle.studio_ends.specs.FreshEnds.{AllFreshStreams};
+ghost use Rattle.studio_rings.specs.Jobs.{AreJobsOf, HasRoom, HaveRoom, feeds_in};
+ghost use Rattle.studio_rings.specs.WorkersStreams.{ends_of};
+
+use crate::path_job::{PathJob, PathResult};
+use crate::stream_job::StreamJob;
+use rtp_stream::PathCounts;
+use std::alloc::{AllocError, Global};
+use std::sync::atomic::AtomicBool;
+use std::vec::IntoIter;
+use studio_ends::{PathEnd, StreamEnd};
+
+/// So many flags, none of them set.
+pub(crate) fn unset_flags(alloc: Global, count: usize) -> Result<Vec<AtomicBool>, AllocError>
+    ensures { IfOk result (λ flags. vec_len flags ≡ count) }
+{
+    let mut flags = Vec::with_capacity(alloc, count)?;
+    for _ in 0..count {
+        flags.push_reserved(AtomicBool::new(false));
+    }
+    Ok(flags)
+}
+
+/// The jobs of a stream's paths: the next ends, each with the next feed.
+fn next_paths<F: Drop>(
+    alloc: Global,
+    count: u8,
+    ends: &mut IntoIter<PathEnd>,
+    feeds: &mut IntoIter<F>,
+) -> Result<Vec<PathJob<F>>, AllocError>
+    requires ends { count ≤ into_iter_len ends.old }
+    requires feeds { count ≤ into_iter_len feeds.old }
+    ensures ends { IfOk result (λ own. into_iter_items ends.old ≡ ends_of own.items ++ into_iter_items ends.new) }
+    ensures feeds { IfOk result (λ own. into_iter_items feeds.old ≡ feeds_in own.items ++ into_iter_items feeds.new) }
+    ensures count { IfOk result (λ own. vec_len own ≡ count) }
+    ensures left { IfOk result (λ own. (into_iter_len ends.new + count ≡ into_iter_len ends.old) × (into_iter_len feeds.new + count ≡ into_iter_len feeds.old)) }
+{
+    let mut own = Vec::with_capacity(alloc, usize::from(count))?;
+    for _ in 0..count {
+        let Some(end) = ends.next() else {
+            unreachable!();
+        };
+        let Some(feed) = feeds.next() else {
+            unreachable!();
+        };
+        own.push_reserved(PathJob { end, feed });
+    }
+    Ok(own)
+}
+
+/// Room for what the workers of a stream's paths come to.
+#[derive(Drop)]
+struct PathRoom {
+    ended: Vec<AtomicBool>,
+    results: Vec<PathResult>,
+    counts: Vec<PathCounts>,
+    faults: Vec<u64>,
+}
+
+/// Room for so many paths, none of which has ended.
+fn room_for_paths(alloc: Global, count: usize) -> Result<PathRoom, AllocError>
+    ensures ended { IfOk result (λ room. vec_len room.ended ≡ count) }
+    ensures results { IfOk result (λ room. (vec_len room.results ≡ 0) × (count ≤ vec_capacity room.results)) }
+    ensures counts { IfOk result (λ room. (vec_len room.counts ≡ 0) × (count ≤ vec_capacity room.counts)) }
+    ensures faults { IfOk result (λ room. (vec_len room.faults ≡ 0) × (count ≤ vec_capacity room.faults)) }
+{
+    let ended = unset_flags(alloc, count)?;
+    let results = Vec::with_capacity(alloc, count)?;
+    let counts = Vec::with_capacity(alloc, count)?;
+    let faults = Vec::with_capacity(alloc, count)?;
+    Ok(PathRoom {
+        ended,
+        results,
+        counts,
+        faults,
+    })
+}
+
+/// The job of a stream.
+fn stream_job<F: Drop, C: Drop>(
+    alloc: Global,
+    end: StreamEnd,
+    clock: C,
+    paths: Vec<PathJob<F>>,
+) -> Result<StreamJob<F, C>, AllocError>
+    ensures parts { IfOk result (λ job. (job.end ≡ end) × (job.clock ≡ clock) × (job.paths ≡ paths)) }
+    ensures room { IfOk result (λ job. HasRoom job) }
+{
+    let room = room_for_paths(alloc, paths.len())?;
+    let PathRoom {
+        ended,
+        results,
+        counts,
+        faults,
+    } = room;
+    Ok(StreamJob {
+        end,
+        clock,
+        paths,
+        ended,
+        results,
+        counts,
+        faults,
+    })
+}
+
+/// The jobs of all streams. The paths' ends and the feeds stand stream by stream and path by path.
+pub(crate) fn stream_jobs<F: Drop, C: Drop>(
+    alloc: Global,
+    paths: Vec<PathEnd>,
+    feeds: Vec<F>,
+    streams: Vec<StreamEnd>,
+    clocks: Vec<C>,
+) -> Result<Vec<StreamJob<F, C>>, AllocError>
+    requires streams { (open_at : ℤ) × (places : ℕ) × (specs : List Stream) × AllFreshStreams open_at places specs paths.items streams.items }
+    requires feeds { length feeds.items ≡ length paths.items }
+    requires clocks { length clocks.items ≡ length streams.items }
+    ensures jobs { IfOk result (λ jobs. AreJobsOf paths.items feeds.items clocks.items streams.items jobs.items) }
+    ensures room { IfOk result (λ jobs. HaveRoom jobs.items) }
+    ensures count { IfOk result (λ jobs. vec_len jobs ≡ vec_len streams) }
+{
+    let mut jobs = Vec::with_capacity(alloc, streams.len())?;
+    let mut paths = paths.into_iter();
+    let mut feeds = feeds.into_iter();
+    let mut clocks = clocks.into_iter();
+    for end in streams {
+        let Some(clock) = clocks.next() else {
+            unreachable!();
+        };
+        let count = end.spec().paths();
+        let own = next_paths(alloc, count, &mut paths, &mut feeds)?;
+        let job = stream_job(alloc, end, clock, own)?;
+        jobs.push_reserved(job);
+    }
+    Ok(jobs)
+}

@@ -1,0 +1,69 @@
+//! What the streams' workers came to, in the parts of a report.
+ghost use Rattle.std.specs.Prelude.{◌≡◌, ◌≤◌, vec_len, vec_capacity, IfOk};
+ghost use Rattle.studio_rings.specs.StreamResults.{counts_in, dones_in, fault_numbers};
+
+use crate::stream_job::StreamResult;
+use rtp_stream::StreamCounts;
+use std::alloc::{AllocError, Global};
+use studio_ends::StreamDone;
+
+/// The tokens of the streams, their counts, and the number of each feed's faults.
+#[derive(Drop)]
+pub(crate) struct Parts {
+    pub(crate) dones: Vec<Option<StreamDone>>,
+    pub(crate) streams: Vec<StreamCounts>,
+    pub(crate) feed_faults: Vec<u64>,
+}
+
+/// Room for the parts of so many streams and feeds.
+pub(crate) fn room_for_parts(
+    alloc: Global,
+    streams: usize,
+    feeds: usize,
+) -> Result<Parts, AllocError>
+    ensures dones { IfOk result (λ parts. (vec_len parts.dones ≡ 0) × (streams ≤ vec_capacity parts.dones)) }
+    ensures streams { IfOk result (λ parts. (vec_len parts.streams ≡ 0) × (streams ≤ vec_capacity parts.streams)) }
+    ensures feeds { IfOk result (λ parts. (vec_len parts.feed_faults ≡ 0) × (feeds ≤ vec_capacity parts.feed_faults)) }
+{
+    let dones = Vec::with_capacity(alloc, streams)?;
+    let counts = Vec::with_capacity(alloc, streams)?;
+    let feed_faults = Vec::with_capacity(alloc, feeds)?;
+    Ok(Parts {
+        dones,
+        streams: counts,
+        feed_faults,
+    })
+}
+
+/// Takes the results apart. The room for all was taken before, so nothing grows.
+pub(crate) fn take_apart(results: Vec<StreamResult>, parts: Parts) -> Parts
+    requires dones { (vec_len parts.dones ≡ 0) × (vec_len results ≤ vec_capacity parts.dones) }
+    requires streams { (vec_len parts.streams ≡ 0) × (vec_len results ≤ vec_capacity parts.streams) }
+    requires faults { (vec_len parts.feed_faults ≡ 0) × (fault_numbers results.items ≤ vec_capacity parts.feed_faults) }
+    ensures dones { result.dones.items ≡ dones_in results.items }
+    ensures streams { result.streams.items ≡ counts_in results.items }
+    ensures faults { vec_len result.feed_faults ≡ fault_numbers results.items }
+{
+    let Parts {
+        mut dones,
+        mut streams,
+        mut feed_faults,
+    } = parts;
+    for result in results {
+        let StreamResult {
+            done,
+            counts,
+            mut faults,
+        } = result;
+        dones.push_reserved(done);
+        streams.push_reserved(counts);
+        let Ok(()) = feed_faults.append(&mut faults) else {
+            unreachable!();
+        };
+    }
+    Parts {
+        dones,
+        streams,
+        feed_faults,
+    }
+}

@@ -1,0 +1,142 @@
+//! The workers of a studio.
+ghost use Rattle.std.specs.Prelude.{◌≡◌, ◌≤◌, ◌↔◌, ℕ, ℤ, List, IsTrue, true, map, length, vec_len, vec_capacity, IfOk};
+ghost use Rattle.rtp_stream.specs.declared.stream_spec.Stream.{Stream};
+ghost use Rattle.studio_config.specs.Studio.{IsStudio, Studio};
+ghost use Rattle.studio_mix.specs.Feed.{Feed as FeedMarks};
+ghost use Rattle.studio_mix.specs.Blocks.{AreBlocks};
+ghost use Rattle.studio_ends.specs.Datagrams.{AreAllGiven};
+ghost use Rattle.studio_ends.specs.FreshEnds.{AllFreshStreams};
+ghost use Rattle.studio_io.specs.Balances.{Balances};
+ghost use Rattle.studio_rings.specs.Runs.{IsSettledRun};
+ghost use Rattle.studio_rings.specs.StreamTokens.{AllGiveTokens, AreAllDrained, AreTokensOf, AreTold};
+ghost use Rattle.studio_rings.specs.Jobs.{AreJobsOf, HaveRoom};
+ghost use Rattle.studio_rings.specs.StreamResults.{AreOpenedTogether};
+
+use crate::jobs::{stream_jobs, unset_flags};
+use crate::mix_worker::MixResult;
+use crate::parts::{Parts, room_for_parts, take_apart};
+use crate::stream_job::{StreamJob, StreamResult};
+use crate::stream_nest::run_streams;
+use crate::stream_tokens::settle;
+use std::alloc::{AllocError, Global};
+use std::sync::Wait;
+use std::sync::atomic::AtomicBool;
+use std::thread::Threads;
+use studio_ends::{Ends, PathEnd, StreamEnd};
+use studio_io::{Clock, Feed, Sink, WorkFault, WorkReport};
+
+/// All that the workers start from, and room for all that they come to.
+#[derive(Drop)]
+struct Memory<F, C> {
+    jobs: Vec<StreamJob<F, C>>,
+    results: Vec<StreamResult>,
+    ended: Vec<AtomicBool>,
+    parts: Parts,
+}
+
+/// Takes all memory of a run.
+fn take_memory<F: Drop, C: Drop>(
+    alloc: Global,
+    paths: Vec<PathEnd>,
+    feeds: Vec<F>,
+    streams: Vec<StreamEnd>,
+    clocks: Vec<C>,
+) -> Result<Memory<F, C>, AllocError>
+    requires streams { (open_at : ℤ) × (places : ℕ) × (specs : List Stream) × AllFreshStreams open_at places specs paths.items streams.items }
+    requires feeds { length feeds.items ≡ length paths.items }
+    requires clocks { length clocks.items ≡ length streams.items }
+    ensures jobs { IfOk result (λ m. AreJobsOf paths.items feeds.items clocks.items streams.items m.jobs.items × HaveRoom m.jobs.items) }
+    ensures results { IfOk result (λ m. (vec_len m.results ≡ 0) × (vec_len m.jobs ≤ vec_capacity m.results)) }
+    ensures ended { IfOk result (λ m. vec_len m.ended ≡ vec_len m.jobs) }
+    ensures dones { IfOk result (λ m. (vec_len m.parts.dones ≡ 0) × (vec_len m.jobs ≤ vec_capacity m.parts.dones)) }
+    ensures counts { IfOk result (λ m. (vec_len m.parts.streams ≡ 0) × (vec_len m.jobs ≤ vec_capacity m.parts.streams)) }
+    ensures faults { IfOk result (λ m. (vec_len m.parts.feed_faults ≡ 0) × (vec_len feeds ≤ vec_capacity m.parts.feed_faults)) }
+{
+    let count = streams.len();
+    let parts = room_for_parts(alloc, count, feeds.len())?;
+    let results = Vec::with_capacity(alloc, count)?;
+    let ended = unset_flags(alloc, count)?;
+    let jobs = stream_jobs(alloc, paths, feeds, streams, clocks)?;
+    Ok(Memory {
+        jobs,
+        results,
+        ended,
+        parts,
+    })
+}
+
+/// What came of a run, and its sink.
+fn report<K: Drop>(mixed: MixResult<K>, parts: Parts) -> (WorkReport, K)
+    requires tokens { AreTokensOf parts.dones.items mixed.end.sides.items }
+    ensures balance { Balances result.0.blocks result.0.sent_a result.0.fault_a result.0.sent_b result.0.fault_b }
+    ensures streams { result.0.streams ≡ parts.streams }
+    ensures faults { result.0.feed_faults ≡ parts.feed_faults }
+    ensures blocks { result.0.blocks ≡ mixed.counts.blocks }
+    ensures sink { result.1 ≡ mixed.sink }
+    ensures exactly { IsTrue result.0.settled ↔ AreAllDrained parts.dones.items mixed.end.sides.items }
+    ensures given { result.0.settled ≡ true → AllGiveTokens parts.dones.items }
+    ensures settled { result.0.settled ≡ true → (studio : Studio) (feeds : List FeedMarks) (datagrams : List (List ℕ)) → AreTold studio parts.dones.items feeds
+        → AreAllGiven studio mixed.end datagrams → AreBlocks studio feeds datagrams }
+{
+    let MixResult { end, sink, counts } = mixed;
+    let Parts {
+        dones,
+        streams,
+        feed_faults,
+    } = parts;
+    let settled = settle(end, dones);
+    let report = WorkReport {
+        streams,
+        feed_faults,
+        blocks: counts.blocks,
+        sent_a: counts.sent_a,
+        sent_b: counts.sent_b,
+        fault_a: counts.fault_a,
+        fault_b: counts.fault_b,
+        settled,
+    };
+    (report, sink)
+}
+
+/// Runs a worker for each path, each stream and the mixer, each in a thread of its own, until all feeds
+/// have ended and all datagrams were sent.
+///
+/// The ends are those of one `open`, not used yet; the monitors' ends may be elsewhere. The feeds stand
+/// stream by stream and path by path. All memory is taken before the first worker starts. Where a
+/// worker can't be started, the others stop and are joined.
+pub fn run_workers<R: Threads + Wait + Sync, F: Feed + Send, C: Clock + Send, K: Sink>(
+    rt: &R,
+    alloc: Global,
+    ends: Ends,
+    feeds: Vec<F>,
+    clocks: Vec<C>,
+    sink: K,
+) -> Result<(WorkReport, K), WorkFault>
+    requires opened { (studio : Studio) × (places : ℕ) × IsStudio studio × AreOpenedTogether studio places ends }
+    requires feeds { length feeds.items ≡ length ends.paths.items }
+    requires clocks { length clocks.items ≡ length ends.streams.items }
+    ensures balance { IfOk result (λ r. Balances r.0.blocks r.0.sent_a r.0.fault_a r.0.sent_b r.0.fault_b) }
+    ensures faults { IfOk result (λ r. length r.0.feed_faults.items ≡ length feeds.items) }
+    ensures settled { IfOk result (λ r. r.0.settled ≡ true → (studio : Studio) (places : ℕ) → AreOpenedTogether studio places ends
+        → IsSettledRun studio places (map F.told feeds.items) (map C.told clocks.items) r.0 (K.handed sink) (K.handed r.1)) }
+{
+    let Ends {
+        paths,
+        streams,
+        monitors: _,
+        mix,
+    } = ends;
+    let memory = take_memory(alloc, paths, feeds, streams, clocks)?;
+    let Memory {
+        jobs,
+        results,
+        ended,
+        parts,
+    } = memory;
+    let stop = AtomicBool::new(false);
+    let Ok((results, mixed)) = run_streams(rt, jobs, results, mix, sink, &ended, &stop) else {
+        return Err(WorkFault::Start);
+    };
+    let parts = take_apart(results, parts);
+    Ok(report(mixed, parts))
+}
