@@ -7,12 +7,12 @@ use live_parts::{LiveOptions, StreamName};
 use live_sockets::Sockets;
 use live_view::{Board, Meter, Showing, Stats};
 use rtrb::Producer;
+use status_page::Snapshot;
 use std::alloc::{AllocError, Global};
 use std::io::Write;
 use std::net::Net;
 use std::random::RandomSource;
 use studio_config::StudioSpec;
-use studio_page::Snapshot;
 
 /// What is seen of a run.
 #[derive(Clone, Copy)]

@@ -2,6 +2,7 @@
 
 use crate::fault::PageFault;
 use rtrb::{Producer, RingBuffer};
+use status_page::{Page, PageServer, RingSource, Snapshot, serve_page};
 use std::alloc::Global;
 use std::hash::RandomState;
 use std::io;
@@ -10,8 +11,6 @@ use std::net::{Net, SocketAddr};
 use std::random::RandomSource;
 use std::sync::Wait;
 use std::time::Clock;
-use studio_page::{Page, Snapshot};
-use studio_serve::{PageServer, RingSource, serve_page};
 
 /// How many snapshots may wait for the page. It takes the newest.
 const PLACES: usize = 4;

@@ -1,7 +1,7 @@
 -- Output channels whose counts were seen, and then their peaks.
 use Rattle.std.proofs.Common.{◌≡◌, ℕ, List, slice_get, Option, Some, None, IfSome, MatchOption, refl, ap, ◌∙◌, arith}
 use Rattle.std.proofs.lemmas.Option.{slice_get-get_or, slice_get_within}
-use Rattle.studio_page.specs.declared.snapshot.OutputState.{OutputState}
+use Rattle.status_page.specs.declared.snapshot.OutputState.{OutputState}
 use Rattle.live_view.specs.Each.{AreEach}
 use Rattle.live_view.specs.Outputs.{HasCount, KeepsCount}
 

@@ -1,7 +1,7 @@
 -- Seen ones that look at their streams, place by place.
 use Rattle.std.proofs.Common.{◌≡◌, ◌⊎◌, inl, inr, ℕ, ◌+◌, ◌<◌, ◌≤◌, ℤ, Bool, List, length, slice_get, Some, option_map, MatchOption, sym, ap, subst, ◌∙◌, arith}
 use Rattle.std.proofs.lemmas.Option.{slice_get_past}
-use Rattle.studio_page.specs.declared.snapshot.StreamState.{StreamState}
+use Rattle.status_page.specs.declared.snapshot.StreamState.{StreamState}
 use Rattle.live_view.specs.Each.{AreEach}
 use Rattle.live_view.specs.Pulses.{Looks, LooksAt, Stands, looked, with_condition}
 use Rattle.live_view.specs.declared.seen.Seen.{Seen}

@@ -2,8 +2,8 @@
 use Rattle.std.proofs.Common.{List, subst, ◌∙◌, arith}
 use Rattle.std.proofs.lemmas.Option.{slice_get-get_or, slice_get_within}
 use Rattle.studio_engine.specs.Engine.{EngineState}
-use Rattle.studio_page.specs.declared.snapshot.PathState.{PathState}
-use Rattle.studio_page.specs.declared.snapshot.StreamState.{StreamState}
+use Rattle.status_page.specs.declared.snapshot.PathState.{PathState}
+use Rattle.status_page.specs.declared.snapshot.StreamState.{StreamState}
 use Rattle.live_view.specs.Each.{AreEach}
 use Rattle.live_view.specs.Engine.{IsEnginePath}
 use Rattle.live_view.specs.Seen.{IsBlankOf}

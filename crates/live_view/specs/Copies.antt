@@ -3,9 +3,9 @@ use Rattle.std.specs.Prelude.{◌≡◌, ℕ, ◌+◌, ◌-◌, ◌^◌, min, ma
 use Rattle.rtp_stream.specs.declared.counts.Counts.{Counts}
 use Rattle.rtp_stats.specs.declared.spare.Spare.{Spare}
 use Rattle.rtp_stats.specs.declared.numbers.PathNumbers.{PathNumbers}
-use Rattle.studio_page.specs.declared.snapshot.Copies.{Copies}
-use Rattle.studio_page.specs.declared.snapshot.PathState.{PathState}
-use Rattle.studio_page.specs.declared.snapshot.Spare as page
+use Rattle.status_page.specs.declared.snapshot.Copies.{Copies}
+use Rattle.status_page.specs.declared.snapshot.PathState.{PathState}
+use Rattle.status_page.specs.declared.snapshot.Spare as page
 
 -- what it missed, and what its stream lost; what became of the others
 abbrev pub copies_of : PathNumbers → ℕ → Copies

@@ -11,7 +11,7 @@ use Rattle.studio_session.specs.Event.{TraceEvent}
 use Rattle.studio_session.specs.Report.{merge_tally_of}
 use Rattle.studio_engine.specs.Engine.{EngineState, HasAllMarks}
 use Rattle.studio_engine.specs.Session.{HasSession}
-use Rattle.studio_page.specs.declared.snapshot.PathState.{PathState}
+use Rattle.status_page.specs.declared.snapshot.PathState.{PathState}
 
 -- of the events that an engine was handed, the counts of this stream's merge, once its marks were taken
 abbrev pub HasEngineCounts : EngineState → ℕ → Counts → Type 0

@@ -1,8 +1,8 @@
 -- Where streams stand, by when their packets came.
 use Rattle.std.specs.Prelude.{◌≡◌, ℕ, ℤ, Bool, List, slice_get, ◌≢◌, MatchOption, length, option_map, ◌==◌, if◌then◌else◌}
-use Rattle.studio_page.specs.Pulse.{condition_of, is_silent}
-use Rattle.studio_page.specs.declared.pulse.Pulse.{Pulse}
-use Rattle.studio_page.specs.declared.snapshot.StreamState.{StreamState}
+use Rattle.status_page.specs.Pulse.{condition_of, is_silent}
+use Rattle.status_page.specs.declared.pulse.Pulse.{Pulse}
+use Rattle.status_page.specs.declared.snapshot.StreamState.{StreamState}
 use Rattle.live_view.specs.declared.seen.Seen.{Seen}
 
 -- since when so many packets are taken

@@ -2,8 +2,8 @@
 use Rattle.std.specs.Prelude.{◌≡◌, ℕ, ℤ, List, Option, None, slice_index_or}
 use Rattle.arrayvec.specs.ArrayString.{ArrayString}
 use Rattle.rtp_stream.specs.declared.stream_spec.Stream.{Stream}
-use Rattle.studio_page.specs.Blank.{IsBlank}
-use Rattle.studio_page.specs.declared.snapshot.StreamState.{StreamState}
+use Rattle.status_page.specs.Blank.{IsBlank}
+use Rattle.status_page.specs.declared.snapshot.StreamState.{StreamState}
 use Rattle.live_view.specs.declared.seen.Seen.{Seen}
 
 -- a stream of this name, of which nothing came by this time

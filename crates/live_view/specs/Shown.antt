@@ -2,7 +2,7 @@
 use Rattle.std.specs.Prelude.{◌≡◌, ◌≤◌, ℕ, ℤ, int_le, Bool, false, ◌||◌, ◌&&◌, List, length, replicate, Option, is_some, option_map, unwrap_or, IsNone, IsSomeAnd, MatchOption}
 use Rattle.rtrb.specs.declared.producer.Producer.{Producer}
 use Rattle.rtp_stats.specs.Newest.{Gives}
-use Rattle.studio_page.specs.declared.snapshot.Snapshot.{Snapshot}
+use Rattle.status_page.specs.declared.snapshot.Snapshot.{Snapshot}
 use Rattle.live_view.specs.Each.{AreEach}
 use Rattle.live_view.specs.Outputs.{blank_output}
 use Rattle.live_view.specs.Pulses.{Stands}

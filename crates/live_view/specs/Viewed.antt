@@ -7,11 +7,11 @@ use Rattle.rtp_stats.specs.Numbers.{AreNumbers}
 use Rattle.rtp_stats.specs.declared.copy_watch.CopyWatch.{CopyWatch}
 use Rattle.rtp_stats.specs.declared.numbers.PathNumbers.{PathNumbers}
 use Rattle.studio_engine.specs.Engine.{EngineState}
-use Rattle.studio_page.specs.Blank.{blank_path}
-use Rattle.studio_page.specs.declared.snapshot.OutputState.{OutputState}
-use Rattle.studio_page.specs.declared.snapshot.PathState.{PathState}
-use Rattle.studio_page.specs.declared.snapshot.Snapshot.{Snapshot}
-use Rattle.studio_page.specs.declared.snapshot.StreamState.{StreamState}
+use Rattle.status_page.specs.Blank.{blank_path}
+use Rattle.status_page.specs.declared.snapshot.OutputState.{OutputState}
+use Rattle.status_page.specs.declared.snapshot.PathState.{PathState}
+use Rattle.status_page.specs.declared.snapshot.Snapshot.{Snapshot}
+use Rattle.status_page.specs.declared.snapshot.StreamState.{StreamState}
 use Rattle.live_view.specs.Copies.{with_numbers}
 use Rattle.live_view.specs.Each.{AreEach}
 use Rattle.live_view.specs.Engine.{HasEngineCounts, IsEnginePath}

@@ -10,9 +10,9 @@ use crate::seen::Seen;
 use crate::stats::Stats;
 use rtp_stream::StreamSpec;
 use rtrb::Producer;
+use status_page::{Name, OutputState, Snapshot, StreamState};
 use std::alloc::{AllocError, Global};
 use std::io::Write;
-use studio_page::{Name, OutputState, Snapshot, StreamState};
 
 /// The most output channels.
 const MOST: usize = 8;

@@ -3,7 +3,7 @@ ghost use Rattle.std.specs.Prelude.{◌≡◌};
 ghost use Rattle.live_view.specs.Copies.{spare_of, with_numbers};
 
 use rtp_stats::PathNumbers;
-use studio_page::{Copies, PathState, Spare};
+use status_page::{Copies, PathState, Spare};
 
 /// Sees what became of a path's packets, of a stream that lost so many.
 pub(crate) fn see_numbers(numbers: &PathNumbers, lost: u64, state: &mut PathState)

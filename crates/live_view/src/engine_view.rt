@@ -14,10 +14,10 @@ use crate::told::{first_at, see_datagrams, see_saturated};
 use path_merge::Path;
 use rtp_stats::CopyWatch;
 use rtp_stream::{Counts, StreamSpec};
+use status_page::{OutputState, PathState, StreamState};
 use std::alloc::{AllocError, Global};
 use std::io::Write;
 use studio_engine::Engine;
-use studio_page::{OutputState, PathState, StreamState};
 use studio_session::Receipt;
 
 /// A board, and what came of each stream's packets where it has a page.

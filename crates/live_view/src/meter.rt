@@ -5,8 +5,8 @@ ghost use Rattle.live_view.specs.Outputs.{KeepsCount};
 
 use rtp_stats::raise_peaks;
 use rtp_wire::Enc;
+use status_page::OutputState;
 use std::sync::atomic::{AtomicU32, Ordering};
-use studio_page::OutputState;
 
 /// The most output channels.
 const MOST: usize = 8;

@@ -5,8 +5,8 @@ ghost use Rattle.live_view.specs.Seen.{IsFirstSeenOf};
 
 use crate::seen::Seen;
 use rtp_stream::StreamSpec;
+use status_page::Name;
 use std::alloc::{AllocError, Global};
-use studio_page::Name;
 
 /// What is seen of streams with these names, before anything came.
 pub(crate) fn all_seen(

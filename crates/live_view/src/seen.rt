@@ -2,7 +2,7 @@
 ghost use Rattle.std.specs.Prelude.{◌≡◌, ◌≤◌};
 
 use rtp_stream::StreamSpec;
-use studio_page::{Name, PathState, Pulse, StreamState};
+use status_page::{Name, PathState, Pulse, StreamState};
 
 /// A stream's name, what is fixed of it, and when its packets came.
 #[derive(Drop)]
@@ -15,7 +15,7 @@ pub(crate) struct Seen {
 }
 
 impl Seen {
-    ghost use Rattle.studio_page.specs.Blank.{IsBlank};
+    ghost use Rattle.status_page.specs.Blank.{IsBlank};
     ghost use Rattle.live_view.specs.Pulses.{looked, with_condition};
     ghost use Rattle.live_view.specs.Seen.{IsFirstSeen};
 

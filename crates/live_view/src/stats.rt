@@ -3,9 +3,9 @@ ghost use Rattle.std.specs.Prelude.{◌≡◌, ◌⊎◌, ◌^◌, ◌-◌, ◌*
 ghost use Rattle.std.specs.Int.{saturate_to_bits};
 
 use crate::ready::{FAULTS, is_ready};
+use status_page::Snapshot;
 use std::alloc::{AllocError, Global};
 use std::io::Write;
-use studio_page::Snapshot;
 use studio_run::{TextBuffer, WriteFault, write_running_counts};
 
 /// A second, in sampling instants.

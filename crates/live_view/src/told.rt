@@ -7,7 +7,7 @@ ghost use Rattle.live_view.specs.Outputs.{HasCount, HasNumbers};
 use crate::copies::see_numbers;
 use rtp_stats::{MixNumbers, StreamNumbers};
 use rtp_stream::{Counts, PathCounts};
-use studio_page::{OutputState, PathState, StreamState};
+use status_page::{OutputState, PathState, StreamState};
 
 /// Sees what was told of a stream.
 pub fn see_told(numbers: &StreamNumbers, stream: &mut StreamState)

@@ -2,7 +2,7 @@
 use Rattle.std.proofs.Common.{◌≡◌, ℕ, zero, suc, ◌+◌, List, [], ◌∷◌, length, drop, slice_get, Some, sym, ap, subst, ◌∙◌, arith}
 use Rattle.std.proofs.lemmas.Grind.{common_steps}
 use Rattle.std.proofs.lemmas.Option.{same_Some}
-use Rattle.studio_page.specs.declared.snapshot.StreamState.{StreamState}
+use Rattle.status_page.specs.declared.snapshot.StreamState.{StreamState}
 use Rattle.live_workers.specs.Told.{paths_before}
 
 before-suc : (streams : List StreamState) (n : ℕ) (stream : StreamState) → slice_get streams n ≡ Some stream → paths_before streams (suc n) ≡ paths_before streams n + length stream.paths.items

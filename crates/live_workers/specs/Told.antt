@@ -2,8 +2,8 @@
 use Rattle.std.specs.Prelude.{◌≡◌, ℕ, zero, suc, ◌+◌, List, [], ◌∷◌, length, drop, slice_get, Option, Some, None, MatchOption}
 use Rattle.rtp_stream.specs.declared.path_counts.PathCounts.{PathCounts}
 use Rattle.rtp_stats.specs.declared.numbers.StreamNumbers.{StreamNumbers}
-use Rattle.studio_page.specs.declared.snapshot.PathState.{PathState}
-use Rattle.studio_page.specs.declared.snapshot.StreamState.{StreamState}
+use Rattle.status_page.specs.declared.snapshot.PathState.{PathState}
+use Rattle.status_page.specs.declared.snapshot.StreamState.{StreamState}
 use Rattle.live_view.specs.Copies.{IsTold}
 use Rattle.live_view.specs.Each.{AreEach}
 

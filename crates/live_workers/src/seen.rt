@@ -6,7 +6,7 @@ ghost use Rattle.live_workers.specs.Told.{HasCounts, SeesAt, SeesStream, SeesTol
 use live_view::{see_datagrams, see_told};
 use rtp_stats::StreamNumbers;
 use rtp_stream::PathCounts;
-use studio_page::{PathState, StreamState};
+use status_page::{PathState, StreamState};
 
 /// Sees what was told of each stream, and of each path, by counts that stand path by path.
 pub(crate) fn see_streams(

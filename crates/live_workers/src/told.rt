@@ -10,9 +10,9 @@ use crate::seen::see_streams;
 use live_view::see_mix;
 use rtp_stats::{MixNumbers, StreamNumbers};
 use rtp_stream::PathCounts;
+use status_page::Snapshot;
 use std::alloc::{AllocError, Global};
 use studio_ends::Watches;
-use studio_page::Snapshot;
 
 /// What each watch told last; none, where it told nothing yet.
 #[derive(Drop)]

@@ -2,11 +2,11 @@
 use super::sample::snapshot;
 use super::texts::STATE;
 use http_server::{Connection, serve};
+use status_page::{HTML, Page, open, state_of};
 use std::alloc::Global;
 use std::hash::RandomState;
 use std::process::Abort;
 use std::random::RandomSource;
-use studio_page::{HTML, Page, open, state_of};
 
 /// What a page sends to a client that sends these octets and no more.
 fn answers(

@@ -1,7 +1,7 @@
 //! A snapshot, in which each number is another.
 use rtp_stream::{Counts, PathCounts};
+use status_page::{Condition, Copies, Name, OutputState, PathState, Snapshot, Spare, StreamState};
 use std::process::Abort;
-use studio_page::{Condition, Copies, Name, OutputState, PathState, Snapshot, Spare, StreamState};
 
 /// A name with all that has to be escaped.
 pub(super) const NAME: &str = "L\"\\\n<b>";

@@ -1,12 +1,11 @@
 //! Clients at real sockets, with the server and the clients in one thread.
 use super::sample::snapshot;
+use status_page::{MOST_CLIENTS, Page, PageServer};
 use std::hash::RandomState;
 use std::io::{ErrorKind, Read, Write};
 use std::net::TcpStream;
 use std::process::Abort;
 use std::time::Duration;
-use studio_page::Page;
-use studio_serve::{MOST_CLIENTS, PageServer};
 
 /// A request, and its answer.
 const REQUEST: &[u8] = b"GET /nothing HTTP/1.1\r\nHost: h\r\n\r\n";

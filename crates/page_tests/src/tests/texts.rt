@@ -1,8 +1,8 @@
 //! The two texts of a snapshot, written out by hand.
 use super::sample::snapshot;
+use status_page::{Snapshot, metrics_of, state_of};
 use std::alloc::Global;
 use std::process::Abort;
-use studio_page::{Snapshot, metrics_of, state_of};
 
 /// The JSON of the snapshot.
 pub(super) const STATE: &str =

@@ -1,6 +1,6 @@
 use Rattle.std.proofs.Common.{◌≡◌, ◌∷◌, [], ◌++◌, ◌+◌, List, length, sym, refl, subst, arith}
 use Rattle.std.proofs.lemmas.Option.{slice_get_read}
-use Rattle.studio_page.specs.declared.snapshot.StreamState.{StreamState}
+use Rattle.status_page.specs.declared.snapshot.StreamState.{StreamState}
 use Rattle.live_view.specs.Seen.{IsBlankOf}
 use Rattle.live_view.proofs.Each.{IsBegun, begun-push, begun-all, where_ok}
 use Rattle.live_view.proofs.board.add_streams.Goals as goal

@@ -2,7 +2,7 @@ use Rattle.std.proofs.Common.{â„¤, to_z, of_z, w64, arith, refl, length, sym, â—
 use Rattle.std.proofs.lemmas.Int.{to_z-of_z}
 use Rattle.std.proofs.lemmas.Option.{slice_get_read}
 use Rattle.live_view.specs.Each.{AreEach}
-use Rattle.studio_page.specs.declared.snapshot.StreamState.{StreamState}
+use Rattle.status_page.specs.declared.snapshot.StreamState.{StreamState}
 use Rattle.live_view.specs.Pulses.{Looks, LooksAt, Stands}
 use Rattle.live_view.proofs.Each.{upto-all, upto-set}
 use Rattle.live_view.proofs.Pulses.{looks-all, looks-step, stands-before}

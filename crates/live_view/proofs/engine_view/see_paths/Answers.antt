@@ -1,6 +1,6 @@
 use Rattle.std.proofs.Common.{length, sym, refl, subst, ◌∙◌, arith}
 use Rattle.std.proofs.lemmas.Option.{slice_get_read}
-use Rattle.studio_page.specs.declared.snapshot.PathState.{PathState}
+use Rattle.status_page.specs.declared.snapshot.PathState.{PathState}
 use Rattle.live_view.specs.Engine.{IsEnginePath}
 use Rattle.live_view.proofs.Each.{upto-all, upto-set}
 use Rattle.live_view.proofs.engine_view.see_paths.Goals as goal

@@ -1,6 +1,6 @@
 use Rattle.std.proofs.Common.{◌<◌, length, sym, refl, subst, ◌∙◌, arith}
 use Rattle.std.proofs.lemmas.Option.{slice_get_read}
-use Rattle.studio_page.specs.declared.snapshot.StreamState.{StreamState}
+use Rattle.status_page.specs.declared.snapshot.StreamState.{StreamState}
 use Rattle.live_view.specs.Viewed.{SeesStream}
 use Rattle.live_view.proofs.Each.{upto-all, upto-set}
 use Rattle.live_view.proofs.engine_view.see_streams.Goals as goal

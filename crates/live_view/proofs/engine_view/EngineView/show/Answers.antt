@@ -1,9 +1,9 @@
 use Rattle.std.proofs.Common.{◌≡◌, ℤ, List, length, replicate, sym, subst, ◌∙◌, to_z, of_z, w64, rules}
 use Rattle.std.proofs.lemmas.Int.{to_z-of_z}
 use Rattle.std.specs.List.{refill}
-use Rattle.studio_page.specs.declared.snapshot.OutputState.{OutputState}
-use Rattle.studio_page.specs.declared.snapshot.Snapshot.{Snapshot}
-use Rattle.studio_page.specs.declared.snapshot.StreamState.{StreamState}
+use Rattle.status_page.specs.declared.snapshot.OutputState.{OutputState}
+use Rattle.status_page.specs.declared.snapshot.Snapshot.{Snapshot}
+use Rattle.status_page.specs.declared.snapshot.StreamState.{StreamState}
 use Rattle.live_view.specs.Each.{AreEach}
 use Rattle.live_view.specs.Outputs.{blank_output}
 use Rattle.live_view.specs.Shown.{Shows}

@@ -1,4 +1,4 @@
-use Rattle.studio_page.specs.Blank.{IsBlank}
+use Rattle.status_page.specs.Blank.{IsBlank}
 use Rattle.live_view.proofs.seen.Seen.blank.Given as goal
 
 abbrev pub invariant-loop : goal.invariant-loop

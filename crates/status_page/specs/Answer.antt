@@ -1,0 +1,66 @@
+-- What is answered to a request.
+use Rattle.std.specs.Prelude.{◌≡◌, ℕ, ◌≤◌, List, [], ◌∷◌, Bool, true, false, ◌||◌, Option, Some, None, codes, if◌then◌else◌}
+use Rattle.std.specs.Str.{bytes_eq}
+use Rattle.json.specs.Print.{print}
+use Rattle.http1.specs.Fields.{Header}
+use Rattle.http_server.specs.declared.state.Config.{Config}
+use Rattle.http_server.specs.declared.response.Response.{Response}
+use Rattle.http_server.specs.Response.{IsResponse}
+use Rattle.status_page.specs.declared.html.TheConstants.{HTML}
+use Rattle.status_page.specs.declared.resource.Resource.{Resource}
+use Rattle.status_page.specs.declared.resource.Resource.TheVariants.{Page, State, Metrics}
+use Rattle.status_page.specs.declared.snapshot.Snapshot.{Snapshot}
+use Rattle.status_page.specs.Metrics.{metrics_text}
+use Rattle.status_page.specs.State.{state_tokens}
+
+-- what stands at a path
+abbrev pub resource_of : List ℕ → Option Resource
+resource_of path =
+    if bytes_eq path (codes "/") then Some Page
+    else (if bytes_eq path (codes "/state") then Some State
+    else (if bytes_eq path (codes "/metrics") then Some Metrics else None))
+
+-- whether a method only reads
+abbrev pub is_read : List ℕ → Bool
+is_read method = bytes_eq method (codes "GET") || bytes_eq method (codes "HEAD")
+
+-- the media type of what is shown
+abbrev pub media_type : Resource → List ℕ
+media_type Page = codes "text/html; charset=utf-8"
+media_type State = codes "application/json"
+media_type Metrics = codes "text/plain; version=0.0.4; charset=utf-8"
+
+-- the page itself
+unfoldable pub page_text : List ℕ
+page_text = HTML.now
+
+-- what is shown of a snapshot
+abbrev pub content_of : Snapshot → Resource → List ℕ
+content_of snapshot Page = page_text
+content_of snapshot State = print (state_tokens snapshot)
+content_of snapshot Metrics = metrics_text snapshot
+
+-- the header fields of what is shown
+abbrev pub shown_fields : Resource → List Header
+shown_fields resource = (codes "content-type", media_type resource) ∷ (codes "cache-control", codes "no-store") ∷ []
+
+-- those of what can only be read
+abbrev pub refused_fields : List Header
+refused_fields = (codes "allow", codes "GET, HEAD") ∷ []
+
+-- what stands nowhere is 404, what can't be read so is 405, and the rest is shown
+abbrev pub answers : Snapshot → Bool → Option Resource → Response → Type 0
+answers snapshot read None response = IsResponse 404 [] [] response
+answers snapshot false (Some resource) response = IsResponse 405 refused_fields [] response
+answers snapshot true (Some resource) response = IsResponse 200 (shown_fields resource) (content_of snapshot resource) response
+
+-- the answer to a method and a path
+abbrev pub IsAnswer : Snapshot → List ℕ → List ℕ → Response → Type 0
+IsAnswer snapshot method path response = answers snapshot (is_read method) (resource_of path) response
+
+-- at most 8,192 octets of a head, of trailers and of a body, and no request while an answer waits
+pub record IsGuarded (config : Config) : Type 0 where
+  pub head : config.limits.max_head_len ≤ 8192
+  pub trailers : config.limits.max_trailers_len ≤ 8192
+  pub body : config.max_body_len ≤ 8192
+  pub pending : config.max_pending ≡ 0

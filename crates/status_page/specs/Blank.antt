@@ -1,0 +1,20 @@
+-- What is seen where nothing came.
+use Rattle.std.specs.Prelude.{◌≡◌, ℕ, Option, None, replicate}
+use Rattle.arrayvec.specs.ArrayString.{ArrayString}
+use Rattle.rtp_stream.specs.Counts.{tally_of}
+use Rattle.rtp_stream.specs.CountsFacts.{empty_tally}
+use Rattle.status_page.specs.declared.snapshot.Condition.TheVariants.{NoPacket}
+use Rattle.status_page.specs.declared.snapshot.PathState.{PathState}
+use Rattle.status_page.specs.declared.snapshot.StreamState.{StreamState}
+
+-- a path on which nothing came, and of which no more is known
+abbrev pub blank_path : PathState
+blank_path = record { datagrams = 0; first = 0; counts = None; copies = None; spare = None }
+
+-- a stream of this name, latency and number of paths, of which nothing came
+pub record IsBlank (name : Option ArrayString) (latency paths : ℕ) (stream : StreamState) : Type 0 where
+  pub name_is : stream.name ≡ name
+  pub condition_is : stream.condition ≡ NoPacket
+  pub latency_is : stream.latency ≡ latency
+  pub counts_are : tally_of stream.counts ≡ empty_tally
+  pub paths_are : stream.paths.items ≡ replicate paths blank_path

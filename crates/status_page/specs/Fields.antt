@@ -1,0 +1,157 @@
+-- The numbers of a snapshot, by the fields that name them.
+use Rattle.std.specs.Prelude.{ℕ, List, Option, Some, codes, option_map}
+use Rattle.status_page.specs.declared.snapshot.PathState.{PathState}
+use Rattle.status_page.specs.declared.snapshot.StreamState.{StreamState}
+use Rattle.status_page.specs.declared.snapshot.OutputState.{OutputState}
+use Rattle.status_page.specs.declared.path_field.PathField.{PathField}
+use Rattle.status_page.specs.declared.path_field.PathField.TheVariants as Path
+use Rattle.status_page.specs.declared.stream_field.StreamField.{StreamField}
+use Rattle.status_page.specs.declared.stream_field.StreamField.TheVariants as Stream
+use Rattle.status_page.specs.declared.output_field.OutputField.{OutputField}
+use Rattle.status_page.specs.declared.output_field.OutputField.TheVariants as Output
+use Rattle.status_page.specs.declared.kind.Kind.{Kind}
+use Rattle.status_page.specs.declared.kind.Kind.TheVariants.{Counter, Gauge}
+
+-- how a number of a path is called
+abbrev pub path_key : PathField → List ℕ
+path_key Path.Datagrams = codes "datagrams"
+path_key Path.First = codes "first"
+path_key Path.Sent = codes "packets"
+path_key Path.Lost = codes "lost"
+path_key Path.Double = codes "double"
+path_key Path.Unlike = codes "unlike"
+path_key Path.Late = codes "late"
+path_key Path.Bad = codes "bad"
+path_key Path.WrongType = codes "wrong_type"
+path_key Path.WrongLength = codes "wrong_length"
+path_key Path.Full = codes "full"
+path_key Path.SpareLeast = codes "spare_least"
+path_key Path.SpareMedian = codes "spare_median"
+
+-- whether it only rises
+abbrev pub path_kind : PathField → Kind
+path_kind Path.Datagrams = Counter
+path_kind Path.First = Counter
+path_kind Path.Sent = Counter
+path_kind Path.Lost = Counter
+path_kind Path.Double = Counter
+path_kind Path.Unlike = Counter
+path_kind Path.Late = Counter
+path_kind Path.Bad = Counter
+path_kind Path.WrongType = Counter
+path_kind Path.WrongLength = Counter
+path_kind Path.Full = Counter
+path_kind Path.SpareLeast = Gauge
+path_kind Path.SpareMedian = Gauge
+
+-- what it counts
+abbrev pub path_help : PathField → List ℕ
+path_help Path.Datagrams = codes "Datagrams that came on the path."
+path_help Path.First = codes "Packets of which the path brought the first copy."
+path_help Path.Sent = codes "Datagrams that were packets of the stream."
+path_help Path.Lost = codes "Packets of the stream that the path never brought."
+path_help Path.Double = codes "Further copies, with the payload of the first."
+path_help Path.Unlike = codes "Further copies, with another payload than the first."
+path_help Path.Late = codes "Packets that came after their deadline."
+path_help Path.Bad = codes "Datagrams that were no RTP packets."
+path_help Path.WrongType = codes "Datagrams of another payload type."
+path_help Path.WrongLength = codes "Datagrams of another length."
+path_help Path.Full = codes "Packets that found no room on their way to the merge."
+path_help Path.SpareLeast = codes "The least time before its deadline that a packet of the last second came, in periods of 48 kHz."
+path_help Path.SpareMedian = codes "The median time before their deadlines that packets of the last second came, in periods of 48 kHz; past 6138 it may be more."
+
+-- how a number of a stream is called
+abbrev pub stream_key : StreamField → List ℕ
+stream_key Stream.Got = codes "got"
+stream_key Stream.Lost = codes "lost"
+stream_key Stream.Arrived = codes "arrived"
+stream_key Stream.Taken = codes "taken"
+stream_key Stream.Double = codes "double"
+stream_key Stream.Unlike = codes "unlike"
+stream_key Stream.OffGrid = codes "off_grid"
+stream_key Stream.Late = codes "late"
+stream_key Stream.Ahead = codes "ahead"
+stream_key Stream.WrongSource = codes "wrong_source"
+stream_key Stream.Restarts = codes "restarts"
+stream_key Stream.Latency = codes "latency"
+
+-- whether it only rises
+abbrev pub stream_kind : StreamField → Kind
+stream_kind Stream.Got = Counter
+stream_kind Stream.Lost = Counter
+stream_kind Stream.Arrived = Counter
+stream_kind Stream.Taken = Counter
+stream_kind Stream.Double = Counter
+stream_kind Stream.Unlike = Counter
+stream_kind Stream.OffGrid = Counter
+stream_kind Stream.Late = Counter
+stream_kind Stream.Ahead = Counter
+stream_kind Stream.WrongSource = Counter
+stream_kind Stream.Restarts = Counter
+stream_kind Stream.Latency = Gauge
+
+-- what it counts
+abbrev pub stream_help : StreamField → List ℕ
+stream_help Stream.Got = codes "Slots that were handed on with a payload."
+stream_help Stream.Lost = codes "Slots that were handed on as lost."
+stream_help Stream.Arrived = codes "Packets that came to the merge."
+stream_help Stream.Taken = codes "Packets that were the first copy of their number."
+stream_help Stream.Double = codes "Further copies, with the payload of the first."
+stream_help Stream.Unlike = codes "Further copies, with another payload than the first."
+stream_help Stream.OffGrid = codes "Packets whose timestamp was not in step with their number."
+stream_help Stream.Late = codes "Packets that came after their deadline."
+stream_help Stream.Ahead = codes "Packets beyond the reorder window."
+stream_help Stream.WrongSource = codes "Packets of another synchronization source."
+stream_help Stream.Restarts = codes "Packets that opened a new epoch."
+stream_help Stream.Latency = codes "From a packet's media time to its deadline, in periods of 48 kHz."
+
+-- how a number of an output channel is called
+abbrev pub output_key : OutputField → List ℕ
+output_key Output.Peak = codes "peak"
+output_key Output.Saturated = codes "saturated"
+
+-- whether it only rises
+abbrev pub output_kind : OutputField → Kind
+output_kind Output.Peak = Gauge
+output_kind Output.Saturated = Counter
+
+-- what it counts
+abbrev pub output_help : OutputField → List ℕ
+output_help Output.Peak = codes "The greatest magnitude of a sample of the last tenth of a second, of 8388608 at full scale."
+output_help Output.Saturated = codes "Samples that were saturated: their rounded sum lay past what the output can hold."
+
+-- a number of a path, if it is known
+abbrev pub path_value : PathField → PathState → Option ℕ
+path_value Path.Datagrams path = Some path.datagrams
+path_value Path.First path = Some path.first
+path_value Path.Sent path = option_map (λ counts. counts.sent) path.counts
+path_value Path.Lost path = option_map (λ copies. copies.lost) path.copies
+path_value Path.Double path = option_map (λ copies. copies.double) path.copies
+path_value Path.Unlike path = option_map (λ copies. copies.unlike) path.copies
+path_value Path.Late path = option_map (λ copies. copies.late) path.copies
+path_value Path.Bad path = option_map (λ counts. counts.bad) path.counts
+path_value Path.WrongType path = option_map (λ counts. counts.wrong_type) path.counts
+path_value Path.WrongLength path = option_map (λ counts. counts.wrong_length) path.counts
+path_value Path.Full path = option_map (λ counts. counts.full) path.counts
+path_value Path.SpareLeast path = option_map (λ spare. spare.least) path.spare
+path_value Path.SpareMedian path = option_map (λ spare. spare.median) path.spare
+
+-- a number of a stream
+abbrev pub stream_value : StreamField → StreamState → ℕ
+stream_value Stream.Got stream = stream.counts.got
+stream_value Stream.Lost stream = stream.counts.lost
+stream_value Stream.Arrived stream = stream.counts.arrived
+stream_value Stream.Taken stream = stream.counts.taken
+stream_value Stream.Double stream = stream.counts.double
+stream_value Stream.Unlike stream = stream.counts.unlike
+stream_value Stream.OffGrid stream = stream.counts.off_grid
+stream_value Stream.Late stream = stream.counts.late
+stream_value Stream.Ahead stream = stream.counts.ahead
+stream_value Stream.WrongSource stream = stream.counts.wrong_source
+stream_value Stream.Restarts stream = stream.counts.restarts
+stream_value Stream.Latency stream = stream.latency
+
+-- a number of an output channel
+abbrev pub output_value : OutputField → OutputState → ℕ
+output_value Output.Peak output = output.peak
+output_value Output.Saturated output = output.saturated

@@ -1,0 +1,183 @@
+-- The text form of Prometheus, 0.0.4, of a snapshot.
+use Rattle.std.specs.Prelude.{ℕ, suc, List, [], ◌∷◌, ◌++◌, Option, Some, None, codes, if◌then◌else◌, ◌==◌}
+use Rattle.std.specs.Fmt.{decimal}
+use Rattle.arrayvec.specs.ArrayString.{ArrayString}
+use Rattle.status_page.specs.declared.snapshot.Condition.{Condition}
+use Rattle.status_page.specs.declared.snapshot.Condition.TheVariants.{NoPacket, Running, Lost, Ended}
+use Rattle.status_page.specs.declared.snapshot.PathState.{PathState}
+use Rattle.status_page.specs.declared.snapshot.StreamState.{StreamState}
+use Rattle.status_page.specs.declared.snapshot.OutputState.{OutputState}
+use Rattle.status_page.specs.declared.snapshot.Snapshot.{Snapshot}
+use Rattle.status_page.specs.declared.kind.Kind.{Kind}
+use Rattle.status_page.specs.declared.kind.Kind.TheVariants.{Counter, Gauge}
+use Rattle.status_page.specs.declared.path_field.PathField.{PathField}
+use Rattle.status_page.specs.declared.stream_field.StreamField.{StreamField}
+use Rattle.status_page.specs.declared.output_field.OutputField.{OutputField}
+use Rattle.status_page.specs.declared.path_field.TheConstants.{PATH_FIELDS}
+use Rattle.status_page.specs.declared.stream_field.TheConstants.{STREAM_FIELDS}
+use Rattle.status_page.specs.declared.output_field.TheConstants.{OUTPUT_FIELDS}
+use Rattle.status_page.specs.declared.condition.TheConstants.{CONDITIONS}
+use Rattle.status_page.specs.Fields.{path_key, path_kind, path_help, path_value, stream_key, stream_kind, stream_help, stream_value, output_key, output_kind, output_help, output_value}
+
+-- what stands for an octet in the value of a label: a backslash, a quotation mark and a line feed are escaped
+abbrev pub label_octet : ℕ → List ℕ
+label_octet octet = if octet == 92 then codes "\\\\" else (if octet == 34 then codes "\\\"" else (if octet == 10 then codes "\\n" else octet ∷ []))
+
+-- the value of a label
+unfoldable pub label_text : List ℕ → List ℕ
+label_text [] = []
+label_text (octet ∷ octets) = label_octet octet ++ label_text octets
+
+-- what ends the name of a metric: that of a counter ends in `_total`
+abbrev pub suffix : Kind → List ℕ
+suffix Counter = codes "_total"
+suffix Gauge = codes ""
+
+-- the name of a metric
+unfoldable pub metric_text : List ℕ → List ℕ → Kind → List ℕ
+metric_text group key kind = codes "darbexum_" ++ group ++ key ++ suffix kind
+
+-- what ends the line of a metric's type
+abbrev pub kind_text : Kind → List ℕ
+kind_text Counter = codes " counter\n"
+kind_text Gauge = codes " gauge\n"
+
+-- the lines before a metric's samples
+unfoldable pub header_text : List ℕ → List ℕ → Kind → List ℕ → List ℕ
+header_text group key kind help =
+    codes "# HELP " ++ metric_text group key kind ++ codes " " ++ help ++ codes "\n# TYPE " ++ metric_text group key kind ++ kind_text kind
+
+-- the metric of a stream's number
+abbrev pub stream_metric : StreamField → List ℕ
+stream_metric field = metric_text (codes "stream_") (stream_key field) (stream_kind field)
+
+-- that of a path's
+abbrev pub path_metric : PathField → List ℕ
+path_metric field = metric_text (codes "path_") (path_key field) (path_kind field)
+
+-- that of an output channel's
+abbrev pub output_metric : OutputField → List ℕ
+output_metric field = metric_text (codes "output_") (output_key field) (output_kind field)
+
+-- that of a stream's condition
+abbrev pub state_metric : List ℕ
+state_metric = metric_text (codes "stream_") (codes "state") Gauge
+
+-- the lines before each
+abbrev pub stream_header : StreamField → List ℕ
+stream_header field = header_text (codes "stream_") (stream_key field) (stream_kind field) (stream_help field)
+
+abbrev pub path_header : PathField → List ℕ
+path_header field = header_text (codes "path_") (path_key field) (path_kind field) (path_help field)
+
+abbrev pub output_header : OutputField → List ℕ
+output_header field = header_text (codes "output_") (output_key field) (output_kind field) (output_help field)
+
+abbrev pub state_header : List ℕ
+state_header = header_text (codes "stream_") (codes "state") Gauge (codes "Where the stream stands: 1 for the state that it is in, and 0 for the others.")
+
+-- how a condition is written
+abbrev pub condition_text : Condition → List ℕ
+condition_text NoPacket = codes "no_packet"
+condition_text Running = codes "running"
+condition_text Lost = codes "lost"
+condition_text Ended = codes "ended"
+
+-- the letter of a path
+abbrev pub path_letter : ℕ → List ℕ
+path_letter path = if path == 0 then codes "a" else (if path == 1 then codes "b" else (if path == 2 then codes "c" else codes "d"))
+
+-- the name of a stream as a label, if it has one
+unfoldable pub name_label : Option ArrayString → List ℕ
+name_label None = []
+name_label (Some name) = codes ",name=\"" ++ label_text name.bytes ++ codes "\""
+
+-- the labels of a stream, by its number from 0
+unfoldable pub stream_labels : ℕ → StreamState → List ℕ
+stream_labels number stream = codes "{stream=\"" ++ decimal number ++ codes "\"" ++ name_label stream.name
+
+-- the end of a sample's line
+unfoldable pub value_text : ℕ → List ℕ
+value_text value = codes "} " ++ decimal value ++ codes "\n"
+
+-- a number of a stream
+unfoldable pub stream_sample : StreamField → ℕ → StreamState → List ℕ
+stream_sample field number stream = stream_metric field ++ stream_labels number stream ++ value_text (stream_value field stream)
+
+-- a number of a path, if it is known
+unfoldable pub path_sample : PathField → ℕ → StreamState → ℕ → Option ℕ → List ℕ
+path_sample field number stream path None = []
+path_sample field number stream path (Some value) =
+    path_metric field ++ stream_labels number stream ++ codes ",path=\"" ++ path_letter path ++ codes "\"" ++ value_text value
+
+-- whether a stream has a condition: 1 or 0
+abbrev pub has_condition : Condition → Condition → ℕ
+has_condition NoPacket NoPacket = 1
+has_condition Running Running = 1
+has_condition Lost Lost = 1
+has_condition Ended Ended = 1
+has_condition _ _ = 0
+
+-- whether it has this one
+unfoldable pub condition_sample : ℕ → StreamState → Condition → List ℕ
+condition_sample number stream condition =
+    state_metric ++ stream_labels number stream ++ codes ",state=\"" ++ condition_text condition ++ codes "\""
+    ++ value_text (has_condition condition stream.condition)
+
+-- a number of an output channel
+unfoldable pub output_sample : OutputField → ℕ → OutputState → List ℕ
+output_sample field number output = output_metric field ++ codes "{output=\"" ++ decimal number ++ codes "\"" ++ value_text (output_value field output)
+
+-- one number of the streams, from this one on
+unfoldable pub stream_samples : StreamField → ℕ → List StreamState → List ℕ
+stream_samples field number [] = []
+stream_samples field number (stream ∷ streams) = stream_sample field number stream ++ stream_samples field (suc number) streams
+
+-- one number of a stream's paths, from this one on
+unfoldable pub path_samples : PathField → ℕ → StreamState → ℕ → List PathState → List ℕ
+path_samples field number stream path [] = []
+path_samples field number stream path (state ∷ states) =
+    path_sample field number stream path (path_value field state) ++ path_samples field number stream (suc path) states
+
+-- one number of all paths, from this stream on
+unfoldable pub all_path_samples : PathField → ℕ → List StreamState → List ℕ
+all_path_samples field number [] = []
+all_path_samples field number (stream ∷ streams) = path_samples field number stream 0 stream.paths.items ++ all_path_samples field (suc number) streams
+
+-- which of these conditions a stream has
+unfoldable pub condition_samples : ℕ → StreamState → List Condition → List ℕ
+condition_samples number stream [] = []
+condition_samples number stream (condition ∷ conditions) = condition_sample number stream condition ++ condition_samples number stream conditions
+
+-- which condition each stream has, from this one on
+unfoldable pub all_condition_samples : List Condition → ℕ → List StreamState → List ℕ
+all_condition_samples conditions number [] = []
+all_condition_samples conditions number (stream ∷ streams) = condition_samples number stream conditions ++ all_condition_samples conditions (suc number) streams
+
+-- one number of the output channels, from this one on
+unfoldable pub output_samples : OutputField → ℕ → List OutputState → List ℕ
+output_samples field number [] = []
+output_samples field number (output ∷ outputs) = output_sample field number output ++ output_samples field (suc number) outputs
+
+-- the metrics of the streams
+unfoldable pub stream_families : List StreamField → List StreamState → List ℕ
+stream_families [] streams = []
+stream_families (field ∷ fields) streams = stream_header field ++ stream_samples field 0 streams ++ stream_families fields streams
+
+-- the metrics of the paths
+unfoldable pub path_families : List PathField → List StreamState → List ℕ
+path_families [] streams = []
+path_families (field ∷ fields) streams = path_header field ++ all_path_samples field 0 streams ++ path_families fields streams
+
+-- the metrics of the output channels
+unfoldable pub output_families : List OutputField → List OutputState → List ℕ
+output_families [] outputs = []
+output_families (field ∷ fields) outputs = output_header field ++ output_samples field 0 outputs ++ output_families fields outputs
+
+-- all metrics
+unfoldable pub metrics_text : Snapshot → List ℕ
+metrics_text snapshot =
+    state_header ++ all_condition_samples CONDITIONS 0 snapshot.streams.items
+    ++ stream_families STREAM_FIELDS snapshot.streams.items
+    ++ path_families PATH_FIELDS snapshot.streams.items
+    ++ output_families OUTPUT_FIELDS snapshot.outputs.items

@@ -1,0 +1,90 @@
+-- The JSON of a snapshot, as its tokens.
+use Rattle.std.specs.Prelude.{ℕ, List, [], ◌∷◌, ◌++◌, Option, Some, None, codes}
+use Rattle.std.specs.Fmt.{decimal}
+use Rattle.arrayvec.specs.ArrayString.{ArrayString}
+use Rattle.json.specs.Token.{Token, begin_object, end_object, begin_array, end_array, key, string, number, null}
+use Rattle.status_page.specs.declared.snapshot.PathState.{PathState}
+use Rattle.status_page.specs.declared.snapshot.StreamState.{StreamState}
+use Rattle.status_page.specs.declared.snapshot.OutputState.{OutputState}
+use Rattle.status_page.specs.declared.snapshot.Snapshot.{Snapshot}
+use Rattle.status_page.specs.declared.path_field.PathField.{PathField}
+use Rattle.status_page.specs.declared.stream_field.StreamField.{StreamField}
+use Rattle.status_page.specs.declared.output_field.OutputField.{OutputField}
+use Rattle.status_page.specs.declared.path_field.TheConstants.{PATH_FIELDS}
+use Rattle.status_page.specs.declared.stream_field.TheConstants.{STREAM_FIELDS}
+use Rattle.status_page.specs.declared.output_field.TheConstants.{OUTPUT_FIELDS}
+use Rattle.status_page.specs.Fields.{path_key, path_value, stream_key, stream_value, output_key, output_value}
+use Rattle.status_page.specs.Metrics.{condition_text}
+
+-- a number
+abbrev pub number_token : ℕ → Token
+number_token value = number (decimal value)
+
+-- a number, or null where it isn't known
+abbrev pub known_token : Option ℕ → Token
+known_token None = null
+known_token (Some value) = number_token value
+
+-- a name, or null
+abbrev pub name_token : Option ArrayString → Token
+name_token None = null
+name_token (Some name) = string name.bytes
+
+-- the numbers of a path, each behind its key
+unfoldable pub path_members : List PathField → PathState → List Token
+path_members [] path = []
+path_members (field ∷ fields) path = key (path_key field) ∷ known_token (path_value field path) ∷ path_members fields path
+
+-- those of a stream
+unfoldable pub stream_members : List StreamField → StreamState → List Token
+stream_members [] stream = []
+stream_members (field ∷ fields) stream = key (stream_key field) ∷ number_token (stream_value field stream) ∷ stream_members fields stream
+
+-- those of an output channel
+unfoldable pub output_members : List OutputField → OutputState → List Token
+output_members [] output = []
+output_members (field ∷ fields) output = key (output_key field) ∷ number_token (output_value field output) ∷ output_members fields output
+
+-- a path
+abbrev pub path_tokens : PathState → List Token
+path_tokens path = begin_object ∷ (path_members PATH_FIELDS path ++ end_object ∷ [])
+
+-- the paths of a stream
+unfoldable pub paths_tokens : List PathState → List Token
+paths_tokens [] = []
+paths_tokens (path ∷ paths) = path_tokens path ++ paths_tokens paths
+
+-- the name and the condition of a stream
+abbrev pub front_tokens : StreamState → List Token
+front_tokens stream =
+    begin_object ∷ key (codes "name") ∷ name_token stream.name ∷ key (codes "state") ∷ string (condition_text stream.condition) ∷ []
+
+-- an array behind its key
+abbrev pub array_tokens : List ℕ → List Token → List Token
+array_tokens name items = key name ∷ begin_array ∷ (items ++ end_array ∷ [])
+
+-- a stream
+abbrev pub stream_tokens : StreamState → List Token
+stream_tokens stream =
+    front_tokens stream ++ stream_members STREAM_FIELDS stream
+    ++ array_tokens (codes "paths") (paths_tokens stream.paths.items) ++ end_object ∷ []
+
+-- the streams
+unfoldable pub streams_tokens : List StreamState → List Token
+streams_tokens [] = []
+streams_tokens (stream ∷ streams) = stream_tokens stream ++ streams_tokens streams
+
+-- an output channel
+abbrev pub output_tokens : OutputState → List Token
+output_tokens output = begin_object ∷ (output_members OUTPUT_FIELDS output ++ end_object ∷ [])
+
+-- the output channels
+unfoldable pub outputs_tokens : List OutputState → List Token
+outputs_tokens [] = []
+outputs_tokens (output ∷ outputs) = output_tokens output ++ outputs_tokens outputs
+
+-- a snapshot
+unfoldable pub state_tokens : Snapshot → List Token
+state_tokens snapshot =
+    begin_object ∷ (array_tokens (codes "streams") (streams_tokens snapshot.streams.items)
+    ++ array_tokens (codes "outputs") (outputs_tokens snapshot.outputs.items) ++ end_object ∷ [])

@@ -1,0 +1,442 @@
+//! The page itself.
+ghost use Rattle.std.specs.Prelude.{◌≡◌};
+ghost use Rattle.status_page.specs.Answer.{page_text};
+
+/// The page, with its style and its script.
+pub const HTML: &str = r##"<!doctype html>
+<html lang="en">
+<head>
+<meta charset="utf-8">
+<meta name="viewport" content="width=device-width, initial-scale=1">
+<meta http-equiv="Content-Security-Policy"
+ content="default-src 'none'; style-src 'unsafe-inline'; script-src 'unsafe-inline'; connect-src 'self'; img-src data:">
+<link rel="icon" href="data:,">
+<title>Darbexum</title>
+<style>
+:root {
+  color-scheme: light dark;
+  --size: 11px;
+  --ground: #f4f5f7; --card: #ffffff; --line: #d5d9e0; --text: #14181f; --soft: #566071;
+  --good: #1b7f46; --bad: #c4182c; --warn: #94600a; --bar: #3d73c9; --track: #e3e7ee; --bad-ground: #fde7e9;
+}
+@media (prefers-color-scheme: dark) {
+  :root {
+    --ground: #111419; --card: #1a1f27; --line: #2f3744; --text: #e8ebf0; --soft: #9aa6b8;
+    --good: #4cc785; --bad: #ff6b76; --warn: #e3b04b; --bar: #6ea3f2; --track: #2a313d; --bad-ground: #42191f;
+  }
+}
+* { box-sizing: border-box; }
+body {
+  margin: 0; padding: 6px 8px; background: var(--ground); color: var(--text);
+  font: var(--size)/1.3 system-ui, -apple-system, "Segoe UI", "Liberation Sans", sans-serif;
+  font-variant-numeric: tabular-nums;
+}
+h1, h2 { font-size: 1em; margin: 0; display: inline; }
+header { display: flex; gap: 6px; align-items: stretch; margin-bottom: 6px; }
+#about { padding: 3px 6px 3px 0; min-width: 11em; }
+#about h1 { font-size: 1.25em; }
+#link { display: block; color: var(--soft); }
+#link.off { color: var(--bad); font-weight: 700; }
+.net { flex: 1; background: var(--card); border: 1px solid var(--line); border-radius: 4px; padding: 3px 8px; }
+.net b { font-size: 1.2em; }
+.net span { display: inline-block; margin-left: .8em; white-space: nowrap; }
+.net.silent, .net.losing { border-color: var(--bad); background: var(--bad-ground); }
+.soft { color: var(--soft); }
+.word { font-weight: 700; }
+.good { color: var(--good); } .bad { color: var(--bad); } .warn { color: var(--warn); }
+#outputs { display: grid; grid-template-columns: repeat(8, 1fr); gap: 6px; margin-bottom: 6px; }
+.out { background: var(--card); border: 1px solid var(--line); border-radius: 4px; padding: 2px 6px 4px; }
+.out p { margin: 0; display: flex; justify-content: space-between; white-space: nowrap; }
+.meter { position: relative; height: 7px; background: var(--track); border-radius: 2px; overflow: hidden; }
+.meter i { position: absolute; inset: 0 auto 0 0; width: 0; background: var(--bar); }
+.meter b { position: absolute; top: 0; bottom: 0; width: 2px; background: var(--text); }
+#streams { display: grid; grid-template-columns: repeat(auto-fit, minmax(27.5em, 1fr)); gap: 6px; }
+.stream { background: var(--card); border: 1px solid var(--line); border-radius: 4px; padding: 3px 6px; min-width: 0; }
+.stream.lost { border-color: var(--bad); }
+.top { display: flex; gap: .7em; align-items: baseline; white-space: nowrap; }
+.top h2 { overflow: hidden; text-overflow: ellipsis; flex: 0 1 auto; min-width: 3em; }
+.top .right { margin-left: auto; white-space: pre; }
+canvas { display: block; width: 100%; height: 1.45em; margin: 2px 0 1px; }
+table { border-collapse: collapse; width: 100%; table-layout: fixed; }
+th { width: 13%; }
+th:first-child { width: 8%; } th:nth-child(4) { width: 10%; } th:nth-child(6) { width: 12%; } th:last-child { width: auto; }
+th { color: var(--soft); font-weight: 400; text-align: right; padding: 0 2px; vertical-align: bottom; line-height: 1.15; }
+td { text-align: right; padding: 0 2px; white-space: nowrap; }
+th:first-child, td:first-child { text-align: left; padding-left: 0; }
+th:last-child, td:last-child { padding-right: 0; text-align: left; padding-left: 5px; }
+tr.silent td { background: var(--bad-ground); }
+tr.silent td:first-child { font-weight: 700; }
+.spare { display: inline-block; position: relative; width: 2.5em; height: .75em; background: var(--track); border-radius: 2px; margin-right: 4px; overflow: hidden; }
+.spare i { position: absolute; inset: 0 auto 0 0; background: var(--bar); opacity: .55; }
+.spare b { position: absolute; inset: 0 auto 0 0; background: var(--bar); }
+.note { margin: 1px 0 0; color: var(--soft); overflow: hidden; text-overflow: ellipsis; white-space: nowrap; min-height: 1.3em; }
+.note.warn { color: var(--warn); }
+</style>
+</head>
+<body>
+<header>
+<div id="about"><h1>Darbexum</h1> <span id="link" role="status">connecting</span></div>
+</header>
+<section id="outputs" aria-label="Output channels"></section>
+<main id="streams"></main>
+<noscript>This page needs its script. The same numbers stand at /state and /metrics.</noscript>
+<script>
+"use strict";
+const LETTERS = ["a", "b", "c", "d"];
+const FULL_SCALE = 8388608, RATE = 48000, FLOOR = -60;
+const ASK_EVERY = 100, RATE_SPAN = 1000, HOLD = 2000, BINS = 60;
+const CONDITIONS = {
+  no_packet: ["\u25cb no packet yet", "soft"],
+  running: ["\u25cf running", "good"],
+  lost: ["\u2715 lost", "bad"],
+  ended: ["\u25a0 ended", "soft"],
+};
+const REFUSED = { unlike: "unlike", bad: "no RTP", wrong_type: "type", wrong_length: "length", full: "no room" };
+const REFUSED_BY_STREAM = { off_grid: "off grid", ahead: "ahead", wrong_source: "source" };
+
+let shape = "", view = null, paint = null, history = [];
+
+// ---- elements
+
+function make(tag, parent, name, text) {
+  const element = document.createElement(tag);
+  if (name) element.className = name;
+  if (text !== undefined) element.textContent = text;
+  if (parent) parent.append(element);
+  return element;
+}
+
+// a text that is only touched where it changes, so that a selection stays
+function show(element, text) {
+  const node = element.firstChild;
+  if (!node) element.append(text);
+  else if (node.data !== text) node.data = text;
+}
+
+function mark(element, name, on) {
+  if (element.classList.contains(name) !== on) element.classList.toggle(name, on);
+}
+
+function style(element, name) {
+  if (element.className !== name) element.className = name;
+}
+
+function set(element, property, value) {
+  if (element[property + "Now"] === value) return;
+  element[property + "Now"] = value;
+  element.style[property] = value;
+}
+
+function percent(share) {
+  return (100 * Math.min(1, Math.max(0, share))).toFixed(1);
+}
+
+function width(element, share) {
+  set(element, "width", percent(share) + "%");
+}
+
+const whole = new Intl.NumberFormat("en");
+const exact = n => whole.format(Math.round(n));
+// up to five digits, and then the first three: the whole number stands at /state
+const few = new Intl.NumberFormat("en", { notation: "compact", maximumSignificantDigits: 3 });
+const count = n => n < 99999.5 ? exact(n) : few.format(n);
+// what isn't known is a dash
+const known = (n, text) => n === null ? "\u2013" : text(n);
+const millis = n => (1000 * n / RATE).toFixed(n < 4800 ? 1 : 0);
+const decibels = peak => peak > 0 ? 20 * Math.log10(peak / FULL_SCALE) : -Infinity;
+const level = db => db === -Infinity ? "\u2212\u221e" : db.toFixed(1).replace("-", "\u2212");
+
+// ---- what is there, built once
+
+function build(state) {
+  const streams = state.streams.length;
+  document.documentElement.style.setProperty("--size", streams <= 4 ? "14px" : streams <= 9 ? "12px" : "11px");
+  for (const old of document.querySelectorAll(".net")) old.remove();
+  const paths = Math.max(0, ...state.streams.map(stream => stream.paths.length));
+  const nets = LETTERS.slice(0, paths).map(buildNet);
+  const outputs = document.getElementById("outputs");
+  outputs.replaceChildren();
+  outputs.style.gridTemplateColumns = "repeat(" + Math.max(4, state.outputs.length) + ", 1fr)";
+  const main = document.getElementById("streams");
+  main.replaceChildren();
+  return {
+    nets,
+    outputs: state.outputs.map((_, n) => buildOutput(outputs, n)),
+    streams: state.streams.map((stream, n) => buildStream(main, stream, n)),
+  };
+}
+
+function buildNet(letter) {
+  const box = make("div", document.querySelector("header"), "net");
+  make("b", box, "", "path " + letter);
+  return { box, word: make("span", box, "word"), rate: make("span", box), lost: make("span", box), first: make("span", box) };
+}
+
+function buildOutput(parent, n) {
+  const box = make("div", parent, "out");
+  const line = make("p", box);
+  make("span", line, "soft", "out " + n);
+  const text = make("span", line);
+  const meter = make("div", box, "meter");
+  const clip = make("p", box);
+  return { clip, text, bar: make("i", meter), held: make("b", meter), hold: -Infinity, holdAt: 0, saturated: null, clipAt: -Infinity };
+}
+
+function buildStream(parent, stream, n) {
+  const box = make("section", parent, "stream");
+  const top = make("div", box, "top");
+  make("h2", top, "", stream.name || "stream " + n);
+  const word = make("span", top, "word");
+  word.classList.add("right");
+  const line = make("div", box, "top");
+  const epoch = make("span", line, "soft");
+  const counts = make("span", line, "right");
+  const strip = make("canvas", box);
+  strip.setAttribute("role", "img");
+  const table = make("table", box);
+  const head = make("tr", make("thead", table));
+  for (const word of ["path", "pk/s", "lost", "first", "double", "late", "spare ms: least, median"]) {
+    make("th", head, "", word).scope = "col";
+  }
+  const body = make("tbody", table);
+  const paths = stream.paths.map((_, path) => buildPath(body, LETTERS[path]));
+  const note = make("p", box, "note");
+  return { box, word, epoch, counts, strip, paths, note, bins: [] };
+}
+
+function buildPath(body, letter) {
+  const row = make("tr", body);
+  make("td", row, "", letter);
+  const cells = {};
+  for (const name of ["rate", "lost", "first", "double", "late"]) cells[name] = make("td", row);
+  const last = make("td", row);
+  const bar = make("span", last, "spare");
+  const median = make("i", bar), least = make("b", bar);
+  return { row, cells, bar, median, least, spare: make("span", last) };
+}
+
+// ---- what has changed since
+
+// the snapshot of about a second ago, and the seconds since
+function earlier(state, now) {
+  const last = history[history.length - 1];
+  if (last && fell(last.state, state)) {
+    history = [];
+    for (const stream of view.streams) stream.bins = [];
+  }
+  history.push({ state, now });
+  while (history.length > 2 && now - history[1].now >= RATE_SPAN) history.shift();
+  return { old: history[0].state, last: history.length > 1 ? history[history.length - 2].state : state,
+           seconds: Math.max(.05, (now - history[0].now) / 1000) };
+}
+
+// another run: a count is less than it was
+function fell(old, state) {
+  return state.streams.some((stream, n) => stream.got < old.streams[n].got || stream.arrived < old.streams[n].arrived);
+}
+
+function draw(state, now) {
+  const wanted = JSON.stringify([state.streams.map(s => [s.name, s.paths.length]), state.outputs.length]);
+  if (wanted !== shape) {
+    shape = wanted;
+    history = [];
+    view = build(state);
+    paint = null;
+  }
+  if (paint === null) measure();
+  const since = earlier(state, now);
+  const nets = view.nets.map(() => ({ rate: 0, lost: 0, all: 0, first: 0, slots: 0, running: false, silent: false }));
+  state.streams.forEach((stream, n) => drawStream(view.streams[n], stream, since.old.streams[n], since.last.streams[n], since.seconds, now, nets));
+  view.nets.forEach((net, n) => drawNet(net, nets[n]));
+  state.outputs.forEach((output, n) => drawOutput(view.outputs[n], output, now));
+}
+
+function drawNet(net, sum) {
+  const silent = sum.running && sum.silent, losing = sum.lost > 0;
+  mark(net.box, "silent", silent);
+  mark(net.box, "losing", losing);
+  const well = sum.lost === null ? "\u25cf heard" : "\u25cf whole";
+  show(net.word, silent ? "\u2715 silent" : losing ? "\u25b2 losing" : sum.running ? well : "\u25cb idle");
+  style(net.word, "word " + (silent || losing ? "bad" : sum.running ? "good" : "soft"));
+  show(net.rate, count(sum.rate) + " pk/s");
+  show(net.lost, sum.lost === null ? "" : "lost " + count(sum.lost) + "/s, " + exact(sum.all) + " in all");
+  show(net.first, "first " + share(sum.first, sum.slots));
+}
+
+function share(part, all) {
+  return all > 0 ? Math.round(100 * part / all) + "%" : "\u2013";
+}
+
+function drawStream(it, stream, old, last, seconds, now, nets) {
+  const [word, kind] = CONDITIONS[stream.state] || [stream.state, "soft"];
+  show(it.word, word);
+  style(it.word, "right word " + kind);
+  mark(it.box, "lost", stream.state === "lost");
+  show(it.epoch, "epoch " + exact(stream.restarts));
+  fill(it.bins, stream.got - last.got, stream.lost - last.lost, now);
+  const lately = it.bins.reduce((sum, bin) => sum + bin.lost, 0);
+  show(it.counts, "got " + exact(stream.got) + "  lost " + exact(stream.lost) + (lately > 0 ? " (" + count(lately) + " in 60 s)" : ""));
+  style(it.counts, lately > 0 ? "right bad" : "right");
+  drawStrip(it, now, lately);
+  const slots = stream.got - old.got;
+  stream.paths.forEach((path, n) => {
+    drawPath(it.paths[n], stream, path, old.paths[n], slots, seconds);
+    sumPath(nets[n], stream, path, old.paths[n], slots, seconds);
+  });
+  const words = notes(stream), none = stream.paths.some(path => path.bad === null) ? "refused on paths: not known" : "nothing refused";
+  show(it.note, words.length > 0 ? "refused: " + words.join(", ") : none);
+  style(it.note, words.length > 0 ? "note warn" : "note");
+}
+
+// the packets of a path, or where those aren't told apart its datagrams
+const came = path => path.packets ?? path.datagrams;
+
+// how much more there is, if it is known
+const more = (now, before) => now === null || before === null ? null : now - before;
+
+// whether nothing came for so long that it is worth a word
+function isSilent(rate, seconds) {
+  return rate === 0 && seconds >= .5;
+}
+
+function sumPath(net, stream, path, old, slots, seconds) {
+  net.rate += (came(path) - came(old)) / seconds;
+  net.lost = path.lost === null ? null : net.lost + more(path.lost, old.lost) / seconds;
+  net.all += path.lost;
+  net.first += path.first - old.first;
+  net.slots += slots;
+  net.running = net.running || stream.state === "running";
+  net.silent = isSilent(net.rate, seconds);
+}
+
+function drawPath(it, stream, path, old, slots, seconds) {
+  const rate = (came(path) - came(old)) / seconds;
+  const silent = isSilent(rate, seconds) && (stream.state === "running" || stream.state === "lost");
+  mark(it.row, "silent", silent);
+  show(it.cells.rate, silent ? "silent" : count(rate));
+  show(it.cells.lost, known(path.lost, count));
+  style(it.cells.lost, path.lost > old.lost ? "bad word" : "");
+  show(it.cells.first, share(path.first - old.first, slots));
+  show(it.cells.double, known(path.double, count));
+  show(it.cells.late, known(path.late, count));
+  style(it.cells.late, path.late > old.late ? "bad word" : path.late > 0 ? "warn" : "");
+  const spares = path.spare_least !== null;
+  set(it.bar, "display", spares ? "inline-block" : "none");
+  show(it.spare, spares ? millis(path.spare_least) + ", " + millis(path.spare_median) : path.lost === null ? "\u2013" : "none in time");
+  if (spares) {
+    width(it.least, path.spare_least / stream.latency);
+    width(it.median, path.spare_median / stream.latency);
+  }
+}
+
+// what was refused, by name
+function notes(stream) {
+  const words = [];
+  stream.paths.forEach((path, n) => {
+    for (const key in REFUSED) if (path[key] > 0) words.push(LETTERS[n] + " " + REFUSED[key] + " " + count(path[key]));
+  });
+  for (const key in REFUSED_BY_STREAM) if (stream[key] > 0) words.push(REFUSED_BY_STREAM[key] + " " + count(stream[key]));
+  return words;
+}
+
+// ---- the last minute
+
+function fill(bins, got, lost, now) {
+  const second = Math.floor(now / 1000);
+  if (bins.length === 0 || bins[bins.length - 1].second !== second) bins.push({ second, got: 0, lost: 0 });
+  const bin = bins[bins.length - 1];
+  bin.got += got;
+  bin.lost += lost;
+  while (bins.length > BINS) bins.shift();
+}
+
+// sizes and colors are read once, and again where they may have changed
+function measure() {
+  const scale = window.devicePixelRatio || 1, colors = getComputedStyle(document.documentElement);
+  const sizes = view.streams.map(it => [it.strip.clientWidth * scale, it.strip.clientHeight * scale]);
+  view.streams.forEach((it, n) => {
+    [it.strip.width, it.strip.height] = sizes[n].map(Math.round);
+    it.drawn = "";
+  });
+  const color = name => colors.getPropertyValue(name);
+  paint = { scale, track: color("--track"), bar: color("--bar"), bad: color("--bad") };
+}
+
+addEventListener("resize", () => { paint = null; });
+matchMedia("(prefers-color-scheme: dark)").addEventListener("change", () => { paint = null; });
+
+// got stands on the ground, lost hangs from above; drawn again where a second or a loss is new
+function drawStrip(it, now, lately) {
+  const newest = Math.floor(now / 1000), drawn = newest + " " + lately;
+  if (it.drawn === drawn) return;
+  it.drawn = drawn;
+  const { width: wide, height: high } = it.strip, pen = it.strip.getContext("2d");
+  pen.fillStyle = paint.track;
+  pen.fillRect(0, 0, wide, high);
+  const edge = second => Math.round(wide * (BINS - newest + second) / BINS);
+  for (const bin of it.bins) {
+    const all = bin.got + bin.lost;
+    if (all === 0) continue;
+    const left = edge(bin.second - 1), across = edge(bin.second) - left - paint.scale;
+    const lost = bin.lost === 0 ? 0 : Math.max(.25, bin.lost / all);
+    pen.fillStyle = paint.bar;
+    pen.fillRect(left, high * Math.max(lost, .55), across, high);
+    pen.fillStyle = paint.bad;
+    pen.fillRect(left, 0, across, high * lost);
+  }
+  it.strip.setAttribute("aria-label", "the last minute: lost " + exact(lately));
+}
+
+// ---- meters
+
+function drawOutput(it, output, now) {
+  const db = decibels(output.peak);
+  if (db >= it.hold || now - it.holdAt > HOLD) { it.hold = db; it.holdAt = now; }
+  const saturated = output.saturated;
+  if (it.saturated !== null && saturated > it.saturated) it.clipAt = now;
+  it.saturated = saturated;
+  const clips = now - it.clipAt < HOLD;
+  show(it.clip, (clips ? "\u25b2 CLIP, " : "") + (saturated > 0 ? exact(saturated) : "none") + " saturated");
+  style(it.clip, clips ? "bad word" : saturated > 0 ? "warn" : "soft");
+  show(it.text, level(it.hold) + " dBFS");
+  width(it.bar, 1 - db / FLOOR);
+  set(it.held, "left", "calc(" + percent(1 - it.hold / FLOOR) + "% - 2px)");
+}
+
+// ---- asking, ten times a second, one request after another
+
+const rest = time => new Promise(done => setTimeout(done, time));
+
+async function ask() {
+  const link = document.getElementById("link");
+  for (;;) {
+    const now = performance.now();
+    try {
+      const answer = await fetch("/state", { cache: "no-store" });
+      draw(await answer.json(), now);
+      show(link, "live");
+      style(link, "");
+    } catch (fault) {
+      console.error(fault);
+      show(link, "\u2715 no answer: these are the last numbers");
+      style(link, "off");
+      history = [];
+      await rest(900);
+    }
+    await rest(Math.max(0, ASK_EVERY - (performance.now() - now)));
+  }
+}
+
+ask();
+</script>
+</body>
+</html>
+"##;
+
+/// It, as what is answered.
+#[tactic(auto, unfolding(crate::specs::Answer::page_text))]
+pub(crate) fn page_html() -> &'static str
+    ensures { result.now ≡ page_text }
+{
+    HTML
+}

@@ -1,0 +1,50 @@
+//! The operator's page: what a browser, a script and Prometheus are answered about a run.
+//!
+//! The caller keeps a `Page` with the newest `Snapshot` of the run, and for each client a connection that `open` makes. Once
+//! octets came it calls `read_from` and `answer`, and while the connection `wants_write` then `write_to` and `answer`; it lets
+//! the connection go once that `is_done`. Nothing here reads, writes or waits.
+//!
+//! `/` answers the page itself, `/state` the snapshot as JSON (`state_tokens`), `/metrics` the same in the text form of
+//! Prometheus (`metrics_text`). A `Pulse` for each stream tells its condition. `PathField`, `StreamField` and `OutputField` name each number for both.
+//!
+//! The page on a port of this machine: sockets, and whose turn it is.
+//!
+//! `PageServer::bind` listens at 127.0.0.1. Its `turn` waits for sockets and answers what came from a page's snapshot; `serve_page` does so
+//! again and again in a thread of its own, and asks a `SnapshotSource` for what is newer before each. Nothing waits for that thread: a client
+//! that reads nothing waits alone, and is dropped after a while, as is each past the 64th.
+#![tactic(auto)]
+
+mod client;
+mod condition;
+mod connection;
+mod html;
+mod kind;
+mod metrics;
+mod output_field;
+mod page;
+mod path_field;
+mod pulse;
+mod resource;
+mod samples;
+mod server;
+mod snapshot;
+mod source;
+mod state;
+mod stream_field;
+mod text;
+
+pub use condition::CONDITIONS;
+pub use connection::open;
+pub use html::HTML;
+pub use kind::Kind;
+pub use metrics::metrics_of;
+pub use output_field::{OUTPUT_FIELDS, OutputField};
+pub use page::Page;
+pub use path_field::{PATH_FIELDS, PathField};
+pub use pulse::Pulse;
+pub use resource::Resource;
+pub use server::{MOST_CLIENTS, PageServer};
+pub use snapshot::{Condition, Copies, Name, OutputState, PathState, Snapshot, Spare, StreamState};
+pub use source::{RingSource, SnapshotSource, serve_page};
+pub use state::state_of;
+pub use stream_field::{STREAM_FIELDS, StreamField};

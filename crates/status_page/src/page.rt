@@ -1,0 +1,161 @@
+//! Who answers the requests.
+ghost use Rattle.std.specs.Prelude.{◌≡◌, [], OnOk, IfOk};
+ghost use Rattle.http_server.specs.Connection.{config_of, history};
+ghost use Rattle.http_server.specs.History.{IsServed, Rests};
+ghost use Rattle.http_server.specs.Response.{IsBlank, IsResponse};
+ghost use Rattle.status_page.specs.Answered.{page_answers, AnswersMore};
+ghost use Rattle.status_page.specs.Answer.{is_read, content_of, shown_fields, refused_fields};
+ghost use Rattle.status_page.specs.declared.resource.Resource.TheVariants.{State};
+
+use crate::html::page_html;
+use crate::metrics::metrics_of;
+use crate::resource::Resource;
+use crate::snapshot::Snapshot;
+use crate::state::state_of;
+use bytes::Bytes;
+use http::{HeaderName, HeaderValue, Method, Request, StatusCode};
+use http_server::{Connection, Response, Service};
+use std::alloc::{AllocError, Global};
+use std::marker::Model;
+
+/// Answers the requests of all connections from one snapshot, which the caller renews between them. Its JSON is written once
+/// for all who ask for it.
+#[derive(Drop)]
+pub struct Page {
+    alloc: Global,
+    snapshot: Snapshot,
+    /// What is answered at `/state`, once it was asked for.
+    state: Option<Bytes>,
+}
+
+impl Model for Page {
+    ghost use Rattle.std.specs.Prelude.{◌≡◌, IfSome};
+    ghost use Rattle.status_page.specs.declared.snapshot.Snapshot as shown;
+    ghost use Rattle.status_page.specs.declared.resource.Resource.TheVariants.{State};
+    ghost use Rattle.status_page.specs.Answer.{content_of};
+
+    ghost Value = { shown.Snapshot };
+
+    ghost view = { λ page. page.snapshot };
+
+    ghost invariant = { λ page. IfSome page.state (λ octets. octets ≡ content_of page.snapshot State) };
+}
+
+impl Page {
+    /// The page of a snapshot.
+    pub fn new(alloc: Global, snapshot: Snapshot) -> Page
+        ensures { result ≡ snapshot }
+    {
+        Page {
+            alloc,
+            snapshot,
+            state: None,
+        }
+    }
+
+    /// Answers from a newer snapshot from now on.
+    pub fn renew(&mut self, snapshot: Snapshot)
+        ensures { self.new ≡ snapshot }
+    {
+        self.snapshot = snapshot;
+        self.state = None;
+    }
+
+    /// Answers what was read of a client. To be called after each read, and after each write.
+    pub fn answer(&mut self, connection: &mut Connection)
+        ensures served { ∥ IsServed (config_of connection.new) (history connection.new) ∥₁ }
+        ensures answers { AnswersMore self.old (history connection.old) (history connection.new) }
+        ensures rests { Rests (config_of connection.new) (history connection.new) }
+        ensures same { self.new ≡ self.old }
+        ensures config { config_of connection.new ≡ config_of connection.old }
+    {
+        connection.advance(self);
+    }
+
+    /// Answers what was asked for.
+    fn show(&mut self, resource: Resource, response: &mut Response) -> Result<(), AllocError>
+        requires { IsBlank response.old }
+        ensures shown { OnOk result (IsResponse 200 (shown_fields resource) (content_of self.old resource) response.new) }
+        ensures same { self.new ≡ self.old }
+    {
+        response.add_header(
+            HeaderName::from_static("content-type"),
+            resource.media_type(),
+        )?;
+        response.add_header(
+            HeaderName::from_static("cache-control"),
+            HeaderValue::from_static("no-store"),
+        )?;
+        response.body.push(self.content(resource)?)
+    }
+
+    /// The octets of what was asked for.
+    fn content(&mut self, resource: Resource) -> Result<Bytes, AllocError>
+        ensures shown { IfOk result (λ octets. octets ≡ content_of self.old resource) }
+        ensures same { self.new ≡ self.old }
+    {
+        match resource {
+            Resource::Page => Ok(Bytes::from_static(page_html().as_bytes())),
+            Resource::State => self.state(),
+            Resource::Metrics => shared(metrics_of(self.alloc, &self.snapshot)?),
+        }
+    }
+
+    /// The snapshot as JSON.
+    fn state(&mut self) -> Result<Bytes, AllocError>
+        ensures shown { IfOk result (λ octets. octets ≡ content_of self.old State) }
+        ensures same { self.new ≡ self.old }
+    {
+        if let Some(state) = &self.state {
+            return state.clone();
+        }
+        let state = shared(state_of(self.alloc, &self.snapshot)?)?;
+        self.state = Some(state.clone()?);
+        Ok(state)
+    }
+}
+
+impl Service for Page {
+    ghost answers = { page_answers };
+
+    fn call(
+        &mut self,
+        request: &Request<Bytes>,
+        response: &mut Response,
+    ) -> Result<(), AllocError> {
+        match Resource::of(request.uri().path()) {
+            None => {
+                response.status = StatusCode::NOT_FOUND;
+                Ok(())
+            }
+            Some(resource) if is_read(request.method()) => self.show(resource, response),
+            Some(_) => refuse(response),
+        }
+    }
+}
+
+/// Whether a method only reads.
+fn is_read(method: &Method) -> bool
+    ensures { result ≡ is_read method.now }
+{
+    method.as_str() == "GET" || method.as_str() == "HEAD"
+}
+
+/// Answers that what was asked for can only be read.
+fn refuse(response: &mut Response) -> Result<(), AllocError>
+    requires { IsBlank response.old }
+    ensures { OnOk result (IsResponse 405 refused_fields [] response.new) }
+{
+    response.status = StatusCode::METHOD_NOT_ALLOWED;
+    response.add_header(
+        HeaderName::from_static("allow"),
+        HeaderValue::from_static("GET, HEAD"),
+    )
+}
+
+/// Octets that the connection holds with no copy.
+fn shared(octets: Vec<u8>) -> Result<Bytes, AllocError>
+    ensures { IfOk result (λ shared. shared ≡ octets.items) }
+{
+    Ok(Bytes::from_vec(octets)?)
+}
