@@ -1,5 +1,5 @@
 //! The faults of a run: their lines and exit statuses.
-use live_parts::HandedFault;
+use live_io::HandedFault;
 use live_run::LiveFault;
 use pcap_file::{CaptureFault, ReaderFault};
 use pcap_flows::ImportFault;

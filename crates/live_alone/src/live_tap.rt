@@ -3,10 +3,9 @@ ghost use Rattle.std.specs.Prelude.{[], ◌∷◌, None};
 ghost use Rattle.engine_run.specs.Taps.{Came, Closed, Hears};
 
 use engine_run::Tap;
-use live_sockets::UdpFeed;
+use live_io::{RecordTap, UdpFeed, Way};
 use live_view::{EngineView, Showing};
 use rtp_stream::Path;
-use run_record::{RecordTap, Way};
 use std::alloc::{AllocError, Global};
 use std::io::Write;
 use std::time::Clock;

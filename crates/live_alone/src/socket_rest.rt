@@ -3,8 +3,7 @@
 use engine_run::Rest;
 use libc::net::{POLLIN, poll};
 use libc::types::pollfd;
-use live_parts::SystemClock;
-use live_sockets::Receiver;
+use live_io::{Receiver, SystemClock};
 use std::alloc::Global;
 use std::io;
 use std::sync::Wait;

@@ -3,8 +3,7 @@
 use crate::fault::PageFault;
 use crate::places::tell_places;
 use crate::serving::Serving;
-use live_parts::{LiveOptions, StreamName};
-use live_sockets::Sockets;
+use live_io::{LiveOptions, Sockets, StreamName};
 use live_view::{Board, Meter, Showing, Stats};
 use rtrb::Producer;
 use status_page::Snapshot;

@@ -1,7 +1,7 @@
 //! The line that says where a run receives, sends and is shown.
 
 use crate::serving::Serving;
-use live_sockets::{Sockets, write_places};
+use live_io::{Sockets, write_places};
 use live_view::{FAULTS, is_ready};
 use std::io;
 use std::io::Write;

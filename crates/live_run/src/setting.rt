@@ -1,7 +1,7 @@
 //! What either form of a run is set in.
 
 use crate::signs::Signs;
-use live_parts::Start;
+use live_io::Start;
 use live_view::Showing;
 
 /// What a run is set in, beside its studio and its sockets.

@@ -1,7 +1,7 @@
 //! What the workers' watches tell, shown while they run.
 
 use crate::told::Told;
-use live_parts::SystemClock;
+use live_io::SystemClock;
 use live_run::View;
 use live_view::Board;
 use std::io::Write;

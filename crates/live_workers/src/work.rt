@@ -3,9 +3,8 @@ ghost use Rattle.std.specs.Prelude.{◌≡◌, false, length, IfOk, IfErr};
 ghost use Rattle.studio_rings.specs.StreamResults.{AreOpenedTogether};
 ghost use Rattle.live_run.specs.Run.{IsEarly, IsRunOf};
 
-use live_parts::{Start, SystemClock};
+use live_io::{Flags, Sockets, Start, SystemClock, UdpFeed, UdpSink, feeds_of};
 use live_run::LiveFault;
-use live_sockets::{Flags, Sockets, UdpFeed, UdpSink, feeds_of};
 use std::alloc::{AllocError, Global};
 use std::sync::Wait;
 use std::thread::Threads;

@@ -2,7 +2,7 @@
 use crate::names::names_in;
 use command_words::LiveWords;
 use file_commands::{Configs, Fault, config_of, studio_in, written};
-use live_parts::{
+use live_io::{
     Handed, LiveOptions, LivePorts, Opening, Recorded, Setup, Strangers, StreamName, TaiOffset,
     tai_opening,
 };

@@ -1,6 +1,6 @@
 //! The names of a configuration's streams, which are for people alone.
 use file_commands::{Fault, table_in};
-use live_parts::StreamName;
+use live_io::StreamName;
 use std::alloc::Global;
 use toml::Value;
 

@@ -5,13 +5,11 @@ ghost use Rattle.live_run.specs.Run.{IsEarly, IsRunOf};
 
 use crate::standard::open_standard;
 use live_alone::{Recording, run_in_one_thread};
+use live_io::{LiveOptions, Record, Recorded, Setup, Sockets, Start, sockets_of};
 use live_page::{Seen, Serving, Shown, show};
-use live_parts::{LiveOptions, Recorded, Setup, Start};
 use live_run::{LiveFault, Setting, Signs, run_beside};
-use live_sockets::{Sockets, sockets_of};
 use live_view::Meter;
 use live_workers::run_in_workers;
-use run_record::Record;
 use std::alloc::{AllocError, Global};
 use std::io::Write;
 use std::net::Net;

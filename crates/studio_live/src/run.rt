@@ -3,7 +3,7 @@ ghost use Rattle.std.specs.Prelude.{true, IfErr, OnOk};
 ghost use Rattle.studio_live.specs.Run.{FailsRun, WritesRun};
 
 use crate::form::run_form;
-use live_parts::{LiveOptions, Setup, write_report};
+use live_io::{LiveOptions, Setup, write_report};
 use live_run::LiveFault;
 use std::alloc::Global;
 use std::io::Write;

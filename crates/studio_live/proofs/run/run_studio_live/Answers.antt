@@ -1,7 +1,7 @@
 use Rattle.std.proofs.Common.{subst}
 use Rattle.studio_run.specs.Buffer.{BreaksOff, PassesOn}
 use Rattle.studio_run.proofs.BufferLemmas.{BreaksOff-finished, PassesOn-finished}
-use Rattle.live_parts.specs.Report.{report_text}
+use Rattle.live_io.specs.Report.{report_text}
 use Rattle.studio_live.proofs.RunLemmas.{broke_off}
 use Rattle.studio_live.proofs.run.run_studio_live.Goals as goal
 

@@ -1,0 +1,6 @@
+pub mod AddressLemmas
+pub mod PortLemmas
+pub mod TextLemmas
+pub mod ReportLemmas
+pub mod PutLemmas
+pub mod PassLemmas

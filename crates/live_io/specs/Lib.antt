@@ -1,0 +1,6 @@
+pub mod Addresses
+pub mod Clock
+pub mod Ports
+pub mod Report
+pub mod Puts
+pub mod Passes

@@ -1,0 +1,86 @@
+//! The end of a ring into which the blocks of a record are put, whole ones alone.
+ghost use Rattle.std.specs.Prelude.{◌≡◌, ◌≤◌, length, take, true, false};
+ghost use Rattle.pcap_file.specs.Arrival.{arrival_view};
+ghost use Rattle.pcap_file.specs.Blocks.{closing_block, datagram_block, interface_block, section_block};
+ghost use Rattle.live_io.specs.Puts.{Puts};
+
+use pcap_file::{
+    Arrival, BLOCK_ROOM, write_closing, write_datagram, write_interface, write_opening,
+};
+use rtrb::Producer;
+
+/// The end of a ring into which blocks are put.
+#[derive(Drop)]
+pub(crate) struct BlockEnd {
+    pub(crate) ring: Producer<u8>,
+    /// Nothing is put any more.
+    pub(crate) ended: bool,
+    /// Where a block is made.
+    pub(crate) block: [u8; BLOCK_ROOM],
+}
+
+impl BlockEnd {
+    /// The end of a ring, into which nothing was put yet.
+    pub(crate) fn new(ring: Producer<u8>) -> BlockEnd
+        ensures ring { result.ring ≡ ring }
+        ensures open { result.ended ≡ false }
+    {
+        BlockEnd {
+            ring,
+            ended: false,
+            block: [0; BLOCK_ROOM],
+        }
+    }
+
+    /// Puts the section header of a record, whose studio was opened at this time in sampling instants.
+    pub(crate) fn put_opening(&mut self, open_at: u64)
+        ensures puts { Puts self.old (section_block open_at) self.new }
+        ensures ended { self.old.ended ≡ true → self.new.ended ≡ true }
+    {
+        let len = write_opening(open_at, &mut self.block);
+        self.put(len)
+    }
+
+    /// Puts the description of a path's interface.
+    pub(crate) fn put_interface(&mut self, stream: u16, letter: u8)
+        ensures puts { Puts self.old (interface_block stream letter) self.new }
+        ensures ended { self.old.ended ≡ true → self.new.ended ≡ true }
+    {
+        let len = write_interface(stream, letter, &mut self.block);
+        self.put(len)
+    }
+
+    /// Puts the packet of a datagram that came.
+    pub(crate) fn put_datagram(&mut self, arrival: &Arrival<'_>)
+        requires few { length arrival.now.octets.now ≤ 2048 }
+        ensures puts { Puts self.old (datagram_block (arrival_view arrival.now)) self.new }
+        ensures ended { self.old.ended ≡ true → self.new.ended ≡ true }
+    {
+        let len = write_datagram(arrival, &mut self.block);
+        self.put(len)
+    }
+
+    /// Puts that the studio was closed so many nanoseconds after it was opened.
+    pub(crate) fn put_closing(&mut self, nanoseconds: u64)
+        ensures puts { Puts self.old (closing_block nanoseconds) self.new }
+        ensures ended { self.old.ended ≡ true → self.new.ended ≡ true }
+    {
+        let len = write_closing(nanoseconds, &mut self.block);
+        self.put(len)
+    }
+
+    /// Puts the first so many octets of the block, if there is room for all of them. The first for which there is none
+    /// ends that.
+    fn put(&mut self, len: usize)
+        requires within { len ≤ 2108 }
+        ensures puts { Puts self.old (take len self.old.block) self.new }
+        ensures ended { self.old.ended ≡ true → self.new.ended ≡ true }
+    {
+        if self.ended {
+            return;
+        }
+        if self.ring.push_entire_slice(&self.block[..len]).is_err() {
+            self.ended = true;
+        }
+    }
+}

@@ -1,0 +1,62 @@
+//! What a live run is made of beside its sockets: what it is set up with, its clock, and the report that it ends with.
+//!
+//! `LivePorts::of` finds the ports that a studio needs, or names the first that is absent; `addresses_of` says where
+//! each path is received, and `Handed::told` which sockets are there already. By `tai_opening` a studio can be opened
+//! now; a `Start` has the clock of the run, and says when that ends its feeds. `write_report` writes what a run came to.
+//!
+//! The sockets of a live run.
+//!
+//! `sockets_of` binds a socket for each path, at the address that `addresses_of` says, and two for the output, but for those
+//! that were `Handed` over. `feeds_of` makes a `Feed` of each that receives; the `UdpSink` of those that send is a `Sink`.
+//!
+//! The record of a live run: a capture of what it received, from which it can be replayed.
+//!
+//! A `Record` has two ends of a ring. The run's thread tells its `RecordTap` of each datagram that came, which puts whole
+//! blocks into the ring and waits for nothing; `write_record`, in a thread beside it, writes what comes through the ring to
+//! the record's file. Where the file doesn't take blocks in time, and the ring is full, the record ends.
+#![tactic(auto)]
+
+mod addresses;
+mod block_end;
+mod clock;
+mod feed;
+mod feeds;
+mod handed;
+mod options;
+mod places;
+mod ports;
+mod receiver;
+mod record;
+mod record_tap;
+mod recorded;
+mod recorder;
+mod report;
+mod setup;
+mod sink;
+mod sockets;
+mod start;
+mod strangers;
+mod tai;
+mod way;
+
+pub use addresses::{PathAddress, addresses_of};
+pub use clock::{SystemClock, reading_after};
+pub use feed::{Flags, UdpFeed};
+pub use feeds::feeds_of;
+pub use handed::{Handed, HandedFault};
+pub use options::LiveOptions;
+pub use places::write_places;
+pub use ports::LivePorts;
+pub use receiver::Receiver;
+pub use record::Record;
+pub use record_tap::RecordTap;
+pub use recorded::Recorded;
+pub use recorder::{Recorder, Written, write_record};
+pub use report::write_report;
+pub use setup::{Setup, StreamName};
+pub use sink::UdpSink;
+pub use sockets::{Sockets, sockets_of};
+pub use start::Start;
+pub use strangers::{Source, Strangers};
+pub use tai::{Opening, TaiOffset, tai_opening};
+pub use way::Way;

@@ -1,4 +1,0 @@
-pub mod AddressLemmas
-pub mod PortLemmas
-pub mod TextLemmas
-pub mod ReportLemmas

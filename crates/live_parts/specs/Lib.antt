@@ -1,4 +1,0 @@
-pub mod Addresses
-pub mod Clock
-pub mod Ports
-pub mod Report
