@@ -1,10 +1,10 @@
 //! What a capture holds.
 use crate::config::Configs;
 use crate::fault::{CaptureError, Fault};
+use crate::text::text_of;
 use pcap_flows::Table;
 use std::alloc::Global;
 use std::io::Write;
-use streams_text::text_of;
 use studio_run::{ReadFault, write_text};
 
 /// Writes a line for each RTP flow of the capture at a path, stream by stream. A fault of the capture comes behind them.

@@ -1,8 +1,8 @@
 //! A capture as a trace, and the configuration that fits it.
+use crate::asked::ImportOptions;
 use crate::captures::{capture_of, own_fault};
 use crate::config::Configs;
 use crate::fault::{CaptureError, Fault};
-use command_words::ImportOptions;
 use pcap_flows::{ImportFault, Routes, Table, config_text, routes_of, trace_text};
 use std::alloc::Global;
 use std::io::Write;

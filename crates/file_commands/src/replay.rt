@@ -1,11 +1,11 @@
 //! A capture as the report of what it says, with a WAV file and a picture beside it.
 ghost use Rattle.std.specs.Prelude.{[]};
 
+use crate::asked::ReplayWords;
 use crate::beside::{Beside, begin_sound, end_sound, write_picture};
 use crate::config::{Configs, studio_of};
 use crate::fault::{CaptureError, Fault};
 use crate::import::routed;
-use command_words::ReplayWords;
 use pcap_flows::{Routes, Table};
 use pcap_replay::{Listener, flows_of, opening_of, replay, replay_record};
 use reception_chart::{Extent, Streams};

@@ -1,11 +1,11 @@
 //! What a configuration makes of the trace on standard input, as one text.
 use crate::config::{Configs, standard_studio, studio_of};
 use crate::fault::{Fault, written};
+use crate::summary::write_summary;
 use reception_chart::chart;
 use std::alloc::Global;
 use std::io::{Read, Write};
 use studio_run::{list_marks, list_marks_and_counts, play};
-use studio_summary::write_summary;
 
 /// Lists the marks of the trace by the configuration of a run without words.
 pub fn list_standard<I: Read, W: Write>(

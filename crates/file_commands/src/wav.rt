@@ -1,8 +1,8 @@
 //! A report or a listing, with a WAV file of the mix or of a stream beside it.
+use crate::asked::StreamWords;
 use crate::config::{Configs, studio_of};
 use crate::fault::Fault;
 use crate::named_file::NamedFile;
-use command_words::StreamWords;
 use std::alloc::Global;
 use std::io::{Read, Write};
 use wav_file::{RecordFault, list_and_record, play_and_record};

@@ -1,7 +1,6 @@
 //! Live runs, from the octets of a configuration.
 use crate::names::names_in;
-use command_words::LiveWords;
-use file_commands::{Configs, Fault, config_of, studio_in, written};
+use file_commands::{Configs, Fault, LiveWords, config_of, studio_in, written};
 use live_io::{
     Handed, LiveOptions, LivePorts, Opening, Recorded, Setup, Strangers, StreamName, TaiOffset,
     tai_opening,

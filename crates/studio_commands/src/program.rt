@@ -1,10 +1,9 @@
 //! From the words of a command line to its exit status.
 use crate::live::run_live;
 use crate::told::told;
-use command_words::{Asked, asked_for};
 use file_commands::{
-    Configs, Fault, check, draw, import_capture, list, list_standard, list_streams, list_to_wav,
-    list_with_counts, play_to_wav, play_trace, replay_capture,
+    Asked, Configs, Fault, asked_for, check, draw, import_capture, list, list_standard,
+    list_streams, list_to_wav, list_with_counts, play_to_wav, play_trace, replay_capture,
 };
 use std::alloc::Global;
 use std::io::{Read, Write};
