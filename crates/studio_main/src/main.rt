@@ -1,13 +1,25 @@
+//! The program's commands: to run a studio live, and those over files.
+//!
+//! `run` is the whole: from the words of a command line to its exit status. Where configurations, captures and WAV files lie is the
+//! caller's: it hands in `Configs`.
+//!
 //! The program, over the host's words, files and streams.
 #![tactic(auto)]
 
+mod live;
+mod names;
+mod program;
+mod told;
+
+pub use file_commands::{CaptureError, ConfigFault, Configs, Fault};
+pub use live::run_config;
+pub use program::run;
 use std::alloc::Global;
 use std::env::Args;
 use std::io::ErrorKind;
 use std::process::ExitCode;
 use std::rt::Env;
 use std::{env, fs};
-use studio_commands::{Configs, Fault, run};
 use studio_run::{ReadFault, read_text};
 use wav_file::{FileFault, OverFile};
 
