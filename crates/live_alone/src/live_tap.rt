@@ -4,7 +4,7 @@ ghost use Rattle.engine_run.specs.Taps.{Came, Closed, Hears};
 
 use engine_run::Tap;
 use live_io::{RecordTap, UdpFeed, Way};
-use live_view::{EngineView, Showing};
+use live_status::{EngineView, Showing};
 use rtp_stream::Path;
 use std::alloc::{AllocError, Global};
 use std::io::Write;

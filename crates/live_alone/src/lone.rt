@@ -8,7 +8,7 @@ use crate::socket_rest::SocketRest;
 use engine_run::run_alone;
 use live_io::{Flags, Receiver, Recorded, Sockets, Start, SystemClock, UdpFeed, UdpSink, feeds_of};
 use live_run::{LiveFault, MeteredSink};
-use live_view::Meter;
+use live_status::Meter;
 use std::alloc::Global;
 use std::io::Write;
 use std::sync::Wait;

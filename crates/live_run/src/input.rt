@@ -1,5 +1,5 @@
 //! The end of standard input.
-use live_view::{INPUT, is_ready};
+use live_status::{INPUT, is_ready};
 
 /// The most reads of one look. They empty a full pipe.
 const MOST_READS: u32 = 1_024;

@@ -1,7 +1,7 @@
 //! Where the output's datagrams go, and are measured on the way.
 ghost use Rattle.std.specs.Prelude.{None};
 
-use live_view::Meter;
+use live_status::Meter;
 use studio_io::{SendAnswer, Sink};
 
 /// A sink, with a meter if a page is asked for.

@@ -2,7 +2,7 @@
 
 use crate::signs::Signs;
 use live_io::Start;
-use live_view::Showing;
+use live_status::Showing;
 
 /// What a run is set in, beside its studio and its sockets.
 #[derive(Drop)]

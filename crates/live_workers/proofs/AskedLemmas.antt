@@ -2,7 +2,7 @@
 use Rattle.std.proofs.Common.{◌≡◌, inl, inr, ℕ, ◌+◌, ◌<◌, ◌≤◌, min, List, length, set, slice_get, Option, Some, sym, subst, ◌∙◌, arith}
 use Rattle.std.proofs.lemmas.Grind.{common_steps}
 use Rattle.std.proofs.lemmas.Option.{slice_get_within}
-use Rattle.live_view.proofs.Each.{below_next, get-set, get-set_else}
+use Rattle.live_status.proofs.Each.{below_next, get-set, get-set_else}
 use Rattle.live_workers.specs.Asked.{AreAsked}
 
 -- those below a place told theirs, and the others were not asked

@@ -4,8 +4,8 @@ use Rattle.rtp_stream.specs.declared.path_counts.PathCounts.{PathCounts}
 use Rattle.rtp_stats.specs.declared.numbers.StreamNumbers.{StreamNumbers}
 use Rattle.status_page.specs.declared.snapshot.PathState.{PathState}
 use Rattle.status_page.specs.declared.snapshot.StreamState.{StreamState}
-use Rattle.live_view.specs.Copies.{IsTold}
-use Rattle.live_view.specs.Each.{AreEach}
+use Rattle.live_status.specs.Copies.{IsTold}
+use Rattle.live_status.specs.Each.{AreEach}
 
 -- how many paths the streams before a place have
 abbrev pub paths_before : List StreamState → ℕ → ℕ

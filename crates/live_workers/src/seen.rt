@@ -1,9 +1,9 @@
 //! What is seen of streams by what their watches told.
 ghost use Rattle.std.specs.Prelude.{◌≡◌, drop};
-ghost use Rattle.live_view.specs.Each.{AreEach};
+ghost use Rattle.live_status.specs.Each.{AreEach};
 ghost use Rattle.live_workers.specs.Told.{HasCounts, SeesAt, SeesStream, SeesTold};
 
-use live_view::{see_datagrams, see_told};
+use live_status::{see_datagrams, see_told};
 use rtp_stats::StreamNumbers;
 use rtp_stream::PathCounts;
 use status_page::{PathState, StreamState};

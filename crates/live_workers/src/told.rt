@@ -1,13 +1,13 @@
 //! What the workers' watches told last.
 ghost use Rattle.std.specs.Prelude.{◌≡◌, None, replicate, IfOk, IsNone, IsSomeAnd, MatchOption};
-ghost use Rattle.live_view.specs.Each.{AreEach};
-ghost use Rattle.live_view.specs.Outputs.{HasNumbers};
+ghost use Rattle.live_status.specs.Each.{AreEach};
+ghost use Rattle.live_status.specs.Outputs.{HasNumbers};
 ghost use Rattle.live_workers.specs.Asked.{AreAsked, TellsMix, TellsPath, TellsStream};
 ghost use Rattle.live_workers.specs.Told.{SeesTold};
 
 use crate::asked::{ask_mix, ask_paths, ask_streams};
 use crate::seen::see_streams;
-use live_view::see_mix;
+use live_status::see_mix;
 use rtp_stats::{MixNumbers, StreamNumbers};
 use rtp_stream::PathCounts;
 use status_page::Snapshot;

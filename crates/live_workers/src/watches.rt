@@ -3,7 +3,7 @@
 use crate::told::Told;
 use live_io::SystemClock;
 use live_run::View;
-use live_view::Board;
+use live_status::Board;
 use std::io::Write;
 use std::time;
 use studio_ends::Watches;

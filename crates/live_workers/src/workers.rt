@@ -10,7 +10,7 @@ use crate::watches::WatchView;
 use crate::work::work_of;
 use live_io::{Flags, Sockets, Start};
 use live_run::{LiveFault, Setting, Watcher, run_watched};
-use live_view::Board;
+use live_status::Board;
 use std::alloc::{AllocError, Global};
 use std::io::Write;
 use std::sync::Wait;

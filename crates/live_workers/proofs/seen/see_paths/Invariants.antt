@@ -1,4 +1,4 @@
-use Rattle.live_view.proofs.Each.{IsUpTo}
+use Rattle.live_status.proofs.Each.{IsUpTo}
 use Rattle.live_workers.specs.Told.{HasCounts}
 use Rattle.live_workers.proofs.seen.see_paths.Given as goal
 

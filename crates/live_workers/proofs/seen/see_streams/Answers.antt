@@ -2,7 +2,7 @@ use Rattle.std.proofs.Common.{◌≡◌, ◌<◌, List, Option, length, sym, ref
 use Rattle.std.proofs.lemmas.Option.{slice_get_read}
 use Rattle.rtp_stream.specs.declared.path_counts.PathCounts.{PathCounts}
 use Rattle.status_page.specs.declared.snapshot.StreamState.{StreamState}
-use Rattle.live_view.proofs.Each.{upto-all, upto-set}
+use Rattle.live_status.proofs.Each.{upto-all, upto-set}
 use Rattle.live_workers.specs.Told.{SeesAt, SeesTold}
 use Rattle.live_workers.proofs.SeenLemmas.{left-next}
 use Rattle.live_workers.proofs.seen.see_streams.Goals as goal

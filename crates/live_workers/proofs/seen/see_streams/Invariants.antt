@@ -1,5 +1,5 @@
 use Rattle.std.proofs.Common.{◌≡◌, drop}
-use Rattle.live_view.proofs.Each.{IsUpTo}
+use Rattle.live_status.proofs.Each.{IsUpTo}
 use Rattle.live_workers.specs.Told.{SeesTold, paths_before}
 use Rattle.live_workers.proofs.seen.see_streams.Given as goal
 

@@ -1,0 +1,91 @@
+//! What is seen of a stream, and of the mix, by what workers tell.
+ghost use Rattle.std.specs.Prelude.{◌≡◌, Some, slice_index};
+ghost use Rattle.live_status.specs.Copies.{IsTold};
+ghost use Rattle.live_status.specs.Each.{AreEach};
+ghost use Rattle.live_status.specs.Outputs.{HasCount, HasNumbers};
+
+use crate::copies::see_numbers;
+use rtp_stats::{MixNumbers, StreamNumbers};
+use rtp_stream::{Counts, PathCounts};
+use status_page::{OutputState, PathState, StreamState};
+
+/// Sees what was told of a stream.
+pub fn see_told(numbers: &StreamNumbers, stream: &mut StreamState)
+    ensures counts { stream.new.counts ≡ numbers.now.counts }
+    ensures paths { AreEach (IsTold numbers.now.counts numbers.now.paths) stream.old.paths.items stream.new.paths.items }
+    ensures rest { (stream.new.name ≡ stream.old.name) × (stream.new.condition ≡ stream.old.condition) × (stream.new.latency ≡ stream.old.latency) }
+{
+    stream.counts = numbers.counts;
+    see_paths(numbers, stream.paths.as_mut_slice());
+}
+
+/// Sees what was told of each path.
+fn see_paths(numbers: &StreamNumbers, paths: &mut [PathState])
+    ensures { AreEach (IsTold numbers.now.counts numbers.now.paths) paths.old paths.new }
+{
+    for (place, path) in paths.iter_mut().enumerate() {
+        see_path(numbers, place, path);
+    }
+}
+
+/// Sees what was told of the path at a place.
+fn see_path(numbers: &StreamNumbers, place: usize, path: &mut PathState)
+    ensures { IsTold numbers.now.counts numbers.now.paths place path.old path.new }
+{
+    if let Some(of_path) = numbers.paths.get(place) {
+        path.first = first_at(&numbers.counts, place);
+        see_numbers(of_path, numbers.counts.lost, path);
+    }
+}
+
+/// How many first copies the path at a place brought.
+pub(crate) fn first_at(counts: &Counts, place: usize) -> u64
+    ensures { result ≡ slice_index counts.now.taken_by place }
+{
+    match counts.taken_by.get(place) {
+        Some(first) => *first,
+        None => 0,
+    }
+}
+
+/// Sees what became of a path's datagrams before the merge.
+pub fn see_datagrams(counts: PathCounts, state: &mut PathState)
+    ensures counts { state.new.counts ≡ Some counts }
+    ensures datagrams { state.new.datagrams ≡ counts.offered }
+    ensures copies { (state.new.copies ≡ state.old.copies) × (state.new.spare ≡ state.old.spare) × (state.new.first ≡ state.old.first) }
+{
+    state.datagrams = counts.offered;
+    state.counts = Some(counts);
+}
+
+/// Sees what was told of the mix: each channel's peak, and how many of its samples were saturated.
+pub fn see_mix(numbers: &MixNumbers, outputs: &mut [OutputState])
+    ensures { AreEach (HasNumbers numbers.now) outputs.old outputs.new }
+{
+    for (channel, output) in outputs.iter_mut().enumerate() {
+        see_channel(numbers, channel, output);
+    }
+}
+
+/// Sees what was told of the channel at a place.
+fn see_channel(numbers: &MixNumbers, channel: usize, output: &mut OutputState)
+    ensures { HasNumbers numbers.now channel output.old output.new }
+{
+    if let Some(peak) = numbers.peaks.get(channel) {
+        output.peak = *peak;
+    }
+    if let Some(count) = numbers.saturated.get(channel) {
+        output.saturated = *count;
+    }
+}
+
+/// Sees how many samples of each output channel were saturated, as far as that is told.
+pub(crate) fn see_saturated(saturated: &[u64], outputs: &mut [OutputState])
+    ensures { AreEach (HasCount saturated.now) outputs.old outputs.new }
+{
+    for (channel, output) in outputs.iter_mut().enumerate() {
+        if let Some(count) = saturated.get(channel) {
+            output.saturated = *count;
+        }
+    }
+}
