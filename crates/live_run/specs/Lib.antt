@@ -1,1 +1,4 @@
 pub mod Run
+pub mod Asked
+pub mod Told
+pub mod LiveRun

@@ -5,6 +5,7 @@ use live_io::{
     Handed, LiveOptions, LivePorts, Opening, Recorded, Setup, Strangers, StreamName, TaiOffset,
     tai_opening,
 };
+use live_run::{LiveFault, run_studio_live};
 use rtp_stream::Path;
 use std::alloc::Global;
 use std::io::Write;
@@ -15,7 +16,6 @@ use std::sync::Wait;
 use std::thread::Threads;
 use std::time::{Clock, Duration};
 use studio_config::StudioSpec;
-use studio_live::{LiveFault, run_studio_live};
 
 /// A studio, and what the system's monotonic clock reads at its opening time.
 #[derive(Drop)]

@@ -1,0 +1,4 @@
+pub mod AskedLemmas
+pub mod SeenLemmas
+pub mod FeedLemmas
+pub mod RunLemmas

@@ -1,0 +1,89 @@
+//! What a run's workers are started from.
+ghost use Rattle.std.specs.Prelude.{◌≡◌, false, length, IfOk, IfErr};
+ghost use Rattle.studio_rings.specs.StreamResults.{AreOpenedTogether};
+ghost use Rattle.live_run.specs.Run.{IsEarly, IsRunOf};
+
+use crate::fault::LiveFault;
+use live_io::{Flags, Sockets, Start, SystemClock, UdpFeed, UdpSink, feeds_of};
+use std::alloc::{AllocError, Global};
+use std::sync::Wait;
+use std::thread::Threads;
+use std::time::Clock;
+use studio_config::StudioSpec;
+use studio_ends::Ends;
+use studio_rings::{WorkReport, run_workers};
+
+/// What the workers are started from.
+#[derive(Drop)]
+pub(crate) struct Work<'a, R: Clock> {
+    pub(crate) ends: Ends,
+    pub(crate) feeds: Vec<UdpFeed<'a, R>>,
+    pub(crate) clocks: Vec<SystemClock<'a, R>>,
+    sink: UdpSink,
+}
+
+/// The workers of rings and sockets.
+pub(crate) fn work_of<'a, R: Clock>(
+    rt: &'a R,
+    alloc: Global,
+    ends: Ends,
+    sockets: Sockets<'a>,
+    start: Start,
+    flags: Flags<'a>,
+) -> Result<Work<'a, R>, AllocError>
+    ensures ends { IfOk result (λ work. work.ends ≡ ends) }
+    ensures feeds { IfOk result (λ work. length work.feeds.items ≡ length sockets.entry.receiving.items) }
+    ensures clocks { IfOk result (λ work. length work.clocks.items ≡ length ends.streams.items) }
+{
+    let Sockets { receiving, sink } = sockets;
+    let clocks = clocks_of(rt, alloc, ends.streams.len(), start)?;
+    let feeds = feeds_of(rt, alloc, receiving, start, flags)?;
+    Ok(Work {
+        ends,
+        feeds,
+        clocks,
+        sink,
+    })
+}
+
+/// So many clocks of a run.
+fn clocks_of<R: Clock>(
+    rt: &R,
+    alloc: Global,
+    count: usize,
+    start: Start,
+) -> Result<Vec<SystemClock<'_, R>>, AllocError>
+    ensures { IfOk result (λ clocks. length clocks.items ≡ count) }
+{
+    let mut clocks = Vec::with_capacity(alloc, count)?;
+    for _ in 0..count {
+        clocks.push(start.clock(rt))?;
+    }
+    Ok(clocks)
+}
+
+impl<R: Threads + Wait + Sync + Clock> Work<'_, R> {
+    /// Runs the workers of a studio.
+    pub(crate) fn run(
+        self,
+        rt: &R,
+        alloc: Global,
+        studio: &StudioSpec,
+    ) -> Result<WorkReport, LiveFault>
+        requires opened { AreOpenedTogether studio.now 256 self.ends }
+        requires feeds { length self.feeds.items ≡ length self.ends.paths.items }
+        requires clocks { length self.clocks.items ≡ length self.ends.streams.items }
+        ensures run { IfOk result (IsRunOf false studio.now) }
+        ensures early { IfErr result IsEarly }
+    {
+        let _open_at = studio.open_at();
+        let Work {
+            ends,
+            feeds,
+            clocks,
+            sink,
+        } = self;
+        let (report, _sink) = run_workers(rt, alloc, ends, feeds, clocks, sink)?;
+        Ok(report)
+    }
+}
