@@ -5,7 +5,7 @@ use Rattle.studio_io.specs.Answers.{Answer, Gives, Waits, Fails, Stops, Tells, r
 use Rattle.studio_io.specs.declared.feed.FeedAnswer.TheVariants.{Datagram, Nothing, Fault, Ended}
 use Rattle.studio_io.proofs.AnswerLemmas.{told-next}
 use Rattle.engine_run.specs.Takes.{GoesOn, HasCome, IsGiven}
-use Rattle.engine_run.specs.declared.taker.Taker.{Taker}
+use Rattle.engine_run.specs.declared.feed_reader.Taker.{Taker}
 
 come-datagram : (all : List Answer) (k : ℕ) (left : List Answer) (octets : List ℕ) (before : List (List ℕ)) → HasCome all false k (Gives octets ∷ left) before → HasCome all false 0 left (before ++ octets ∷ [])
 unfolding reaches_end told_datagrams

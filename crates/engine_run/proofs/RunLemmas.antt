@@ -20,8 +20,8 @@ use Rattle.engine_run.specs.Runs.{IsDone, IsSettledRun, IsTurned, IsUnderWay}
 use Rattle.engine_run.specs.Sends.{HasSent}
 use Rattle.engine_run.specs.Takes.{AllEnded, HasCome, HaveBegun, HaveGiven, TakesAll}
 use Rattle.engine_run.specs.Taps.{Closed, Heard, Hears, heard_by}
-use Rattle.engine_run.specs.declared.desk.Desk.{Desk}
-use Rattle.engine_run.specs.declared.taker.Taker.{Taker}
+use Rattle.engine_run.specs.declared.state.Desk.{Desk}
+use Rattle.engine_run.specs.declared.feed_reader.Taker.{Taker}
 use Rattle.engine_run.proofs.RoundLemmas.{answers-last, answers-more, last-takes, next-more, next-none, one-round, rounds-front, rounds-more, rounds-open, time-arrivals, time-more}
 use Rattle.engine_run.proofs.TakeLemmas.{given-more, given-none, given-turned}
 use Rattle.engine_run.proofs.TellLemmas.{adds_more, adds_none, heard_turned, hears_close, hears_on}

@@ -16,7 +16,7 @@ use Rattle.studio_io.specs.Answers.{Answer, reaches_end, told_datagrams}
 use Rattle.engine_run.specs.Rounds.{arrivals_on, datagrams_on}
 use Rattle.engine_run.specs.Takes.{AllEnded, GoesOn, HaveBegun, HaveEnded, HaveGiven, IsGiven, Takes, TakesAll, TakesStream, new_taker}
 use Rattle.engine_run.specs.Taps.{Heard, Hears, heard_by}
-use Rattle.engine_run.specs.declared.taker.Taker.{Taker}
+use Rattle.engine_run.specs.declared.feed_reader.Taker.{Taker}
 use Rattle.engine_run.proofs.AnswerLemmas.{goes-further, goes-nowhere}
 use Rattle.engine_run.proofs.RoundLemmas.{are_arrivals, arrivals-append, datagrams-append, datagrams-turned, more_beside, more_elsewhere, more_here, none_more, none_before}
 use Rattle.engine_run.proofs.TellLemmas.{adds_none, hears_more}

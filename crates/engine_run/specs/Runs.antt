@@ -12,7 +12,7 @@ use Rattle.studio_io.specs.declared.report.WorkReport.{WorkReport}
 use Rattle.engine_run.specs.Rounds.{AreNext, AreRounds, Round, answers_of, datagrams_on, events_by, events_of, time_by}
 use Rattle.engine_run.specs.Takes.{HaveGiven}
 use Rattle.engine_run.specs.Taps.{Heard, Hears, heard_by}
-use Rattle.engine_run.specs.declared.desk.Desk.{Desk}
+use Rattle.engine_run.specs.declared.state.Desk.{Desk}
 
 -- path by path the events have all datagrams of each feed that is known to reach its end
 abbrev pub HaveAllArrived : Studio → List (List (List Answer)) → List Round → Type 0

@@ -10,7 +10,7 @@ use Rattle.studio_engine.specs.Session.{HasSession}
 use Rattle.studio_io.specs.Answers.{Answer, reaches_end, told_datagrams}
 use Rattle.engine_run.specs.Rounds.{AreArrivals, arrivals_on, datagrams_on}
 use Rattle.engine_run.specs.Taps.{Heard, Hears, heard_by}
-use Rattle.engine_run.specs.declared.taker.Taker.{Taker}
+use Rattle.engine_run.specs.declared.feed_reader.Taker.{Taker}
 
 -- of all datagrams of these answers so many came, with these answers left after so many faults in a row; all, once the feed ended
 abbrev pub HasCome : List Answer → Bool → ℕ → List Answer → List (List ℕ) → Type 0

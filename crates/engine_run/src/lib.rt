@@ -9,16 +9,16 @@
 //! events of which the sink was handed the datagrams, the tap was told the arrivals and the report has the counts.
 #![tactic(auto)]
 
-mod alone;
-mod desk;
+mod feed_reader;
+mod intake;
+mod observer;
+mod output;
 mod report;
 mod rest;
-mod send;
+mod run;
 mod settle;
-mod take;
-mod taker;
-mod tap;
+mod state;
 
-pub use alone::run_alone;
+pub use observer::{Quiet, Tap};
 pub use rest::Rest;
-pub use tap::{Quiet, Tap};
+pub use run::run_alone;

@@ -10,8 +10,8 @@ ghost use Rattle.studio_engine.specs.Engine.{HasAllMarks};
 ghost use Rattle.studio_engine.specs.Session.{HasSession};
 ghost use Rattle.studio_io.specs.Balances.{Balances};
 
-use crate::desk::Desk;
-use crate::taker::Taker;
+use crate::feed_reader::Taker;
+use crate::state::Desk;
 use path_merge::{Path, StreamSpec};
 use rtp_stream::{Counts, PathCounts, StreamCounts};
 use std::alloc::{AllocError, Global};

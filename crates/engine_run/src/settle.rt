@@ -6,9 +6,9 @@ ghost use Rattle.engine_run.specs.Runs.{IsDone, IsUnderWay};
 ghost use Rattle.engine_run.specs.Takes.{AllEnded};
 ghost use Rattle.engine_run.specs.Taps.{Heard};
 
-use crate::desk::Desk;
-use crate::send::send_rest;
-use crate::tap::Tap;
+use crate::observer::Tap;
+use crate::output::send_rest;
+use crate::state::Desk;
 use studio_io::{Clock, Feed, Sink};
 
 /// Closes the engine, tells the tap of it, and sends what is left. Answers whether all was given.

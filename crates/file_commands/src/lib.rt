@@ -14,30 +14,30 @@
 #![tactic(auto)]
 
 mod asked;
-mod beside;
-mod captures;
 mod command;
-mod config;
+mod config_summary;
 mod fault;
-mod import;
+mod files;
+mod flow_text;
+mod import_command;
 mod known;
 mod named_file;
 mod part;
-mod replay;
-mod summary;
-mod text;
-mod traces;
+mod replay_command;
+mod replay_outputs;
+mod streams_command;
+mod trace_commands;
 mod wav;
 mod words;
 
 pub use asked::{Asked, ImportOptions, LiveWords, ReplayWords, StreamWords};
-pub use captures::list_streams;
-pub use config::{Configs, config_of, studio_in, table_in};
+pub use config_summary::write_summary;
 pub use fault::{CaptureError, ConfigFault, Fault, written};
-pub use import::import_capture;
-pub use replay::replay_capture;
-pub use summary::write_summary;
-pub use text::text_of;
-pub use traces::{check, draw, list, list_standard, list_with_counts, play_trace};
+pub use files::{Configs, config_of, studio_in, table_in};
+pub use flow_text::text_of;
+pub use import_command::import_capture;
+pub use replay_command::replay_capture;
+pub use streams_command::list_streams;
+pub use trace_commands::{check, draw, list, list_standard, list_with_counts, play_trace};
 pub use wav::{list_to_wav, play_to_wav};
 pub use words::asked_for;

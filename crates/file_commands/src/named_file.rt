@@ -1,5 +1,5 @@
 //! A file that a word names.
-use crate::config::Configs;
+use crate::files::Configs;
 use wav_file::{FileFault, WavFiles};
 
 /// A file that is made at a path once it is asked for.

@@ -1,7 +1,7 @@
 //! A report or a listing, with a WAV file of the mix or of a stream beside it.
 use crate::asked::StreamWords;
-use crate::config::{Configs, studio_of};
 use crate::fault::Fault;
+use crate::files::{Configs, studio_of};
 use crate::named_file::NamedFile;
 use std::alloc::Global;
 use std::io::{Read, Write};

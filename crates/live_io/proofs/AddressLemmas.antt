@@ -3,7 +3,7 @@ use Rattle.std.proofs.Common.{◌≡◌, ◌<◌, ◌≤◌, ◌+◌, ℕ, suc, 
 use Rattle.std.proofs.lemmas.List.{append-nil, drop_all}
 use Rattle.rtp_stream.specs.declared.stream_spec.Stream.{Stream}
 use Rattle.studio_config.specs.declared.networks.Networks.{Networks}
-use Rattle.live_io.specs.declared.addresses.PathAddress.{PathAddress}
+use Rattle.live_io.specs.declared.sockets.addresses.PathAddress.{PathAddress}
 use Rattle.live_io.specs.Addresses.{path_addresses, row_addresses}
 
 -- the addresses of the streams so far were found, and these are left

@@ -4,7 +4,7 @@ use Rattle.std.proofs.lemmas.List.{append-nil, drop_all}
 use Rattle.rtrb.specs.Ring.{sent}
 use Rattle.rtp_stream.specs.declared.stream_spec.Stream.{Stream}
 use Rattle.live_io.specs.Puts.{Sends, path_blocks, row_blocks}
-use Rattle.live_io.specs.declared.block_end.BlockEnd.{BlockEnd}
+use Rattle.live_io.specs.declared.record.block_producer.BlockEnd.{BlockEnd}
 
 -- the paths of the streams so far were described, and these are left
 pub record Describes (streams : List Stream) (n : ℕ) (old new : BlockEnd) : Type 0 where

@@ -5,7 +5,7 @@ use Rattle.rtp_stream.specs.declared.stream_spec.Stream.{Stream}
 use Rattle.studio_config.specs.Networks.{path_address}
 use Rattle.studio_config.specs.Studio.{Studio}
 use Rattle.studio_config.specs.declared.networks.Networks.{Networks}
-use Rattle.live_io.specs.declared.addresses.PathAddress.{PathAddress}
+use Rattle.live_io.specs.declared.sockets.addresses.PathAddress.{PathAddress}
 
 -- 127.0.0.1
 abbrev pub localhost : Ipv4Addr

@@ -2,7 +2,7 @@
 use Rattle.std.specs.Prelude.{◌≡◌, ◌⊎◌, ◌≤◌, ℕ, List, [], ◌++◌, length, take, Option}
 use Rattle.std.specs.Io.KnownBytes.{Appends}
 use Rattle.rtrb.specs.Ring.{known_items, received}
-use Rattle.live_io.specs.declared.recorder.Recorder.{Recorder}
+use Rattle.live_io.specs.declared.record.writer.Recorder.{Recorder}
 
 module _ {D : Type 0} where
   -- of all that came through the ring these octets went on, and the rest is held

@@ -10,7 +10,7 @@ use Rattle.studio_config.specs.declared.config.fault.Place.{Place}
 use Rattle.studio_config.specs.declared.config.fault.Place.TheVariants as place
 use Rattle.studio_config.specs.declared.config.fault.Kind.TheVariants as kind
 use Rattle.studio_config.specs.declared.config.fault.SpecError.{SpecError}
-use Rattle.live_io.specs.declared.ports.LivePorts.{LivePorts}
+use Rattle.live_io.specs.declared.sockets.ports.LivePorts.{LivePorts}
 
 -- a port that is needed: where the configuration says it, and which it is, if it does
 pub record Need : Type 0 where

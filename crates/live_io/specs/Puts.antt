@@ -7,7 +7,7 @@ use Rattle.pcap_file.specs.Blocks.{closing_block, datagram_block, interface_bloc
 use Rattle.pcap_file.specs.Times.{nanoseconds_in_64}
 use Rattle.rtp_stream.specs.declared.stream_spec.Stream.{Stream}
 use Rattle.studio_config.specs.Studio.{Studio}
-use Rattle.live_io.specs.declared.block_end.BlockEnd.{BlockEnd}
+use Rattle.live_io.specs.declared.record.block_producer.BlockEnd.{BlockEnd}
 use Rattle.live_io.specs.declared.way.Way.{Way}
 
 -- nothing was sent, and nothing will be any more

@@ -1,8 +1,8 @@
 //! The feeds of all paths.
 ghost use Rattle.std.specs.Prelude.{◌≡◌, length, IfOk};
 
-use crate::feed::{Flags, UdpFeed};
-use crate::receiver::Receiver;
+use crate::sockets::feed::{Flags, UdpFeed};
+use crate::sockets::receiver::Receiver;
 use crate::start::Start;
 use std::alloc::{AllocError, Global};
 use std::time::Clock;

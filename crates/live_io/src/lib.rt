@@ -16,47 +16,37 @@
 //! the record's file. Where the file doesn't take blocks in time, and the ring is full, the record ends.
 #![tactic(auto)]
 
-mod addresses;
-mod block_end;
 mod clock;
-mod feed;
 mod feeds;
-mod handed;
 mod options;
 mod places;
-mod ports;
-mod receiver;
 mod record;
-mod record_tap;
 mod recorded;
-mod recorder;
 mod report;
 mod setup;
-mod sink;
 mod sockets;
 mod start;
-mod strangers;
 mod tai;
 mod way;
 
-pub use addresses::{PathAddress, addresses_of};
 pub use clock::{SystemClock, reading_after};
-pub use feed::{Flags, UdpFeed};
 pub use feeds::feeds_of;
-pub use handed::{Handed, HandedFault};
 pub use options::LiveOptions;
 pub use places::write_places;
-pub use ports::LivePorts;
-pub use receiver::Receiver;
 pub use record::Record;
-pub use record_tap::RecordTap;
+pub use record::observer::RecordTap;
+pub use record::writer::{Recorder, Written, write_record};
 pub use recorded::Recorded;
-pub use recorder::{Recorder, Written, write_record};
 pub use report::write_report;
 pub use setup::{Setup, StreamName};
-pub use sink::UdpSink;
+pub use sockets::addresses::{PathAddress, addresses_of};
+pub use sockets::feed::{Flags, UdpFeed};
+pub use sockets::inherited::{Handed, HandedFault};
+pub use sockets::ports::LivePorts;
+pub use sockets::receiver::Receiver;
+pub use sockets::sink::UdpSink;
+pub use sockets::unexpected::{Source, Strangers};
 pub use sockets::{Sockets, sockets_of};
 pub use start::Start;
-pub use strangers::{Source, Strangers};
 pub use tai::{Opening, TaiOffset, tai_opening};
 pub use way::Way;

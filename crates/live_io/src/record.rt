@@ -1,11 +1,15 @@
 //! Both ends of a record.
 
-use crate::record_tap::RecordTap;
-use crate::recorder::Recorder;
+use crate::record::observer::RecordTap;
+use crate::record::writer::Recorder;
 use rtrb::RingBuffer;
 use std::alloc::{AllocError, Global};
 use std::io::Write;
 use studio_config::StudioSpec;
+
+pub(crate) mod block_producer;
+pub(crate) mod observer;
+pub(crate) mod writer;
 
 /// How many octets the ring of a record holds.
 const RING_OCTETS: usize = 8 << 20;

@@ -1,9 +1,9 @@
 //! What a live run is set up with.
 
-use crate::handed::Handed;
-use crate::ports::LivePorts;
 use crate::recorded::Recorded;
-use crate::strangers::Strangers;
+use crate::sockets::inherited::Handed;
+use crate::sockets::ports::LivePorts;
+use crate::sockets::unexpected::Strangers;
 use arrayvec::ArrayString;
 use std::time::Duration;
 

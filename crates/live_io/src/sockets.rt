@@ -1,14 +1,22 @@
 //! All sockets of a run.
 
-use crate::addresses::{PathAddress, addresses_of};
-use crate::receiver::{Receiver, inherited_socket, receiving_socket};
 use crate::setup::Setup;
-use crate::sink::UdpSink;
+use crate::sockets::addresses::{PathAddress, addresses_of};
+use crate::sockets::receiver::{Receiver, inherited_socket, receiving_socket};
+use crate::sockets::sink::UdpSink;
 use std::alloc::Global;
 use std::io;
 use std::io::ErrorKind;
 use std::net::{Ipv4Addr, Net, SocketAddrV4, UdpSocket};
 use studio_config::StudioSpec;
+
+pub(crate) mod addresses;
+pub(crate) mod feed;
+pub(crate) mod inherited;
+pub(crate) mod ports;
+pub(crate) mod receiver;
+pub(crate) mod sink;
+pub(crate) mod unexpected;
 
 /// The sockets of a run.
 #[derive(Drop)]

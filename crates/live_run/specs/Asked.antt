@@ -2,11 +2,11 @@
 use Rattle.std.specs.Prelude.{◌≡◌, ℕ, List, length, replicate, slice_get, Option, Some, None, option_map}
 use Rattle.rtp_stream.specs.declared.path_counts.PathCounts.{PathCounts}
 use Rattle.rtp_stats.specs.Newest.{IsNewest}
-use Rattle.rtp_stats.specs.declared.mix_watch.MixWatch.{MixWatch}
-use Rattle.rtp_stats.specs.declared.numbers.MixNumbers.{MixNumbers}
-use Rattle.rtp_stats.specs.declared.numbers.StreamNumbers.{StreamNumbers}
-use Rattle.rtp_stats.specs.declared.path_watch.PathWatch.{PathWatch}
-use Rattle.rtp_stats.specs.declared.stream_watch.StreamWatch.{StreamWatch}
+use Rattle.rtp_stats.specs.declared.channel.mix.MixWatch.{MixWatch}
+use Rattle.rtp_stats.specs.declared.stats.MixNumbers.{MixNumbers}
+use Rattle.rtp_stats.specs.declared.stats.StreamNumbers.{StreamNumbers}
+use Rattle.rtp_stats.specs.declared.channel.path.PathWatch.{PathWatch}
+use Rattle.rtp_stats.specs.declared.channel.stream.StreamWatch.{StreamWatch}
 
 -- what was told just now, or where nothing was, what was told before
 abbrev pub last_of : {T : Type 0} → Option T → Option T → Option T

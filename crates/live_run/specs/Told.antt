@@ -1,7 +1,7 @@
 -- What is seen of what workers' watches told last.
 use Rattle.std.specs.Prelude.{◌≡◌, ℕ, zero, suc, ◌+◌, List, [], ◌∷◌, length, drop, slice_get, Option, Some, None, MatchOption}
 use Rattle.rtp_stream.specs.declared.path_counts.PathCounts.{PathCounts}
-use Rattle.rtp_stats.specs.declared.numbers.StreamNumbers.{StreamNumbers}
+use Rattle.rtp_stats.specs.declared.stats.StreamNumbers.{StreamNumbers}
 use Rattle.status_page.specs.declared.snapshot.PathState.{PathState}
 use Rattle.status_page.specs.declared.snapshot.StreamState.{StreamState}
 use Rattle.live_status.specs.Copies.{IsTold}

@@ -20,38 +20,28 @@
 //! and writes the report once all feeds have ended. Its caller hands in the runtime, the memory and both writers.
 #![tactic(auto)]
 
-mod alone;
 mod asked;
-mod beside;
 mod by_stream;
+mod context;
 mod fault;
-mod form;
 mod input;
-mod live_tap;
-mod lone;
+mod launch;
 mod metered_sink;
 mod pending;
-mod rings;
 mod run;
-mod seen;
-mod setting;
-mod signal;
-mod signs;
-mod socket_rest;
-mod standard;
-mod told;
-mod watch;
-mod watches;
-mod work;
+mod scoped_thread;
+mod single_thread;
+mod std_fds;
+mod supervisor;
 mod workers;
 
-pub use alone::{Recording, run_in_one_thread};
-pub use beside::run_beside;
+pub use context::Setting;
 pub use fault::LiveFault;
 pub use metered_sink::MeteredSink;
 pub use run::run_studio_live;
-pub use setting::Setting;
-pub use signal::has_ending_signal;
-pub use signs::Signs;
-pub use watch::{Unseen, View, Watcher, run_watched};
+pub use scoped_thread::run_beside;
+pub use single_thread::{Recording, run_in_one_thread};
+pub use supervisor::stop_conditions::has_ending_signal;
+pub use supervisor::stop_flags::Signs;
+pub use supervisor::{Unseen, View, Watcher, run_watched};
 pub use workers::run_in_workers;

@@ -3,7 +3,7 @@ ghost use Rattle.std.specs.Prelude.{true, IfErr, OnOk};
 ghost use Rattle.live_run.specs.LiveRun.{FailsRun, WritesRun};
 
 use crate::fault::LiveFault;
-use crate::form::run_form;
+use crate::launch::run_form;
 use live_io::{LiveOptions, Setup, write_report};
 use std::alloc::Global;
 use std::io::Write;

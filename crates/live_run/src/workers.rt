@@ -4,13 +4,13 @@ ghost use Rattle.std.specs.Thread.{IsSync};
 ghost use Rattle.studio_rings.specs.StreamResults.{AreOpenedTogether};
 ghost use Rattle.live_run.specs.Run.{IsEarly, IsRunOf};
 
+use crate::context::Setting;
 use crate::fault::LiveFault;
-use crate::rings::{Rings, rings_of};
-use crate::setting::Setting;
-use crate::told::Told;
-use crate::watch::{Watcher, run_watched};
-use crate::watches::WatchView;
-use crate::work::work_of;
+use crate::supervisor::{Watcher, run_watched};
+use crate::workers::latest_stats::Told;
+use crate::workers::rings::{Rings, rings_of};
+use crate::workers::status_task::WatchView;
+use crate::workers::worker_run::work_of;
 use live_io::{Flags, Sockets, Start};
 use live_status::Board;
 use std::alloc::{AllocError, Global};
@@ -21,6 +21,12 @@ use std::time::Clock;
 use studio_config::StudioSpec;
 use studio_ends::Watches;
 use studio_io::WorkReport;
+
+mod latest_stats;
+mod rings;
+mod status_task;
+mod stream_status;
+mod worker_run;
 
 /// Runs a studio's workers, and the watcher beside them. It returns once all have ended; all memory but the workers' is taken
 /// before the first thread starts.

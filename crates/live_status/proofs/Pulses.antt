@@ -4,7 +4,7 @@ use Rattle.std.proofs.lemmas.Option.{slice_get_past}
 use Rattle.status_page.specs.declared.snapshot.StreamState.{StreamState}
 use Rattle.live_status.specs.Each.{AreEach}
 use Rattle.live_status.specs.Pulses.{Looks, LooksAt, Stands, looked, with_condition}
-use Rattle.live_status.specs.declared.seen.Seen.{Seen}
+use Rattle.live_status.specs.declared.stream_status.Seen.{Seen}
 use Rattle.live_status.proofs.Each.{IsUpTo, below_next}
 
 -- the one at this place has looked too

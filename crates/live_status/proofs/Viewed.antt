@@ -8,7 +8,7 @@ use Rattle.live_status.specs.Each.{AreEach}
 use Rattle.live_status.specs.Engine.{IsEnginePath}
 use Rattle.live_status.specs.Seen.{IsBlankOf}
 use Rattle.live_status.specs.Viewed.{IsEngineStream, SeesStream}
-use Rattle.live_status.specs.declared.seen.Seen.{Seen}
+use Rattle.live_status.specs.declared.stream_status.Seen.{Seen}
 
 -- each blank stream that was seen is the engine's
 pub streams-seen : (engine : EngineState) (seen : List Seen) (blanks news : List StreamState) → AreEach IsBlankOf seen blanks → AreEach (SeesStream engine) blanks news → AreEach (IsEngineStream engine) seen news

@@ -2,7 +2,7 @@
 use Rattle.std.specs.Prelude.{◌≡◌, ℕ, ◌+◌, ◌-◌, ◌^◌, min, max, List, slice_index, slice_get, Some, option_map}
 use Rattle.rtp_stream.specs.declared.counts.Counts.{Counts}
 use Rattle.rtp_stats.specs.declared.spare.Spare.{Spare}
-use Rattle.rtp_stats.specs.declared.numbers.PathNumbers.{PathNumbers}
+use Rattle.rtp_stats.specs.declared.stats.PathNumbers.{PathNumbers}
 use Rattle.status_page.specs.declared.snapshot.Copies.{Copies}
 use Rattle.status_page.specs.declared.snapshot.PathState.{PathState}
 use Rattle.status_page.specs.declared.snapshot.Spare as page

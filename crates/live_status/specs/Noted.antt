@@ -5,7 +5,7 @@ use Rattle.rtp_stream.specs.declared.fate.Fate.{Fate}
 use Rattle.rtp_stream.specs.declared.stream_spec.Stream.{Stream}
 use Rattle.rtp_stats.specs.Offer.{Offer}
 use Rattle.rtp_stats.specs.Tally.{HasTally}
-use Rattle.rtp_stats.specs.declared.copy_watch.CopyWatch.{CopyWatch}
+use Rattle.rtp_stats.specs.declared.copy_tracker.CopyWatch.{CopyWatch}
 use Rattle.studio_session.specs.declared.receipt.Receipt.{Receipt}
 use Rattle.studio_session.specs.declared.receipt.Receipt.TheVariants.{Offered, Bad, WrongType, WrongLength}
 

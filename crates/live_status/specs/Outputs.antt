@@ -1,6 +1,6 @@
 -- What is shown of output channels.
 use Rattle.std.specs.Prelude.{◌≡◌, ℕ, List, slice_get, slice_index_or, MatchOption}
-use Rattle.rtp_stats.specs.declared.numbers.MixNumbers.{MixNumbers}
+use Rattle.rtp_stats.specs.declared.stats.MixNumbers.{MixNumbers}
 use Rattle.status_page.specs.declared.snapshot.OutputState.{OutputState}
 
 -- a channel of which nothing is counted

@@ -3,7 +3,7 @@ use Rattle.std.specs.Prelude.{◌≡◌, ℕ, ℤ, Bool, List, slice_get, ◌≢
 use Rattle.status_page.specs.Pulse.{condition_of, is_silent}
 use Rattle.status_page.specs.declared.pulse.Pulse.{Pulse}
 use Rattle.status_page.specs.declared.snapshot.StreamState.{StreamState}
-use Rattle.live_status.specs.declared.seen.Seen.{Seen}
+use Rattle.live_status.specs.declared.stream_status.Seen.{Seen}
 
 -- since when so many packets are taken
 abbrev pub since_of : Pulse → ℕ → ℤ → ℤ

@@ -4,7 +4,7 @@ use Rattle.arrayvec.specs.ArrayString.{ArrayString}
 use Rattle.rtp_stream.specs.declared.stream_spec.Stream.{Stream}
 use Rattle.status_page.specs.Blank.{IsBlank}
 use Rattle.status_page.specs.declared.snapshot.StreamState.{StreamState}
-use Rattle.live_status.specs.declared.seen.Seen.{Seen}
+use Rattle.live_status.specs.declared.stream_status.Seen.{Seen}
 
 -- a stream of this name, of which nothing came by this time
 pub record IsFirstSeen (name : Option ArrayString) (now : ℤ) (stream : Stream) (seen : Seen) : Type 0 where

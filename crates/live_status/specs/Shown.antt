@@ -7,8 +7,8 @@ use Rattle.live_status.specs.Each.{AreEach}
 use Rattle.live_status.specs.Outputs.{blank_output}
 use Rattle.live_status.specs.Pulses.{Stands}
 use Rattle.live_status.specs.Seen.{IsBlankOf}
-use Rattle.live_status.specs.declared.board.Board.{Board}
-use Rattle.live_status.specs.declared.seen.Seen.{Seen}
+use Rattle.live_status.specs.declared.publisher.Board.{Board}
+use Rattle.live_status.specs.declared.stream_status.Seen.{Seen}
 
 -- as many streams and output channels as there are, of which nothing is counted; a snapshot holds up to 16 streams
 pub record IsBlankSnapshot (seen : List Seen) (channels : ℕ) (snapshot : Snapshot) : Type 0 where

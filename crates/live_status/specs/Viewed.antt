@@ -4,8 +4,8 @@ use Rattle.rtp_stream.specs.declared.stream_spec.Stream.{Stream}
 use Rattle.rtp_stats.specs.Offer.{Offer}
 use Rattle.rtp_stats.specs.Tally.{HasTally}
 use Rattle.rtp_stats.specs.Numbers.{AreNumbers}
-use Rattle.rtp_stats.specs.declared.copy_watch.CopyWatch.{CopyWatch}
-use Rattle.rtp_stats.specs.declared.numbers.PathNumbers.{PathNumbers}
+use Rattle.rtp_stats.specs.declared.copy_tracker.CopyWatch.{CopyWatch}
+use Rattle.rtp_stats.specs.declared.stats.PathNumbers.{PathNumbers}
 use Rattle.studio_engine.specs.Engine.{EngineState}
 use Rattle.status_page.specs.Blank.{blank_path}
 use Rattle.status_page.specs.declared.snapshot.OutputState.{OutputState}
@@ -17,8 +17,8 @@ use Rattle.live_status.specs.Each.{AreEach}
 use Rattle.live_status.specs.Engine.{HasEngineCounts, IsEnginePath}
 use Rattle.live_status.specs.Outputs.{blank_output}
 use Rattle.live_status.specs.Shown.{Shows}
-use Rattle.live_status.specs.declared.board.Board.{Board}
-use Rattle.live_status.specs.declared.seen.Seen.{Seen}
+use Rattle.live_status.specs.declared.publisher.Board.{Board}
+use Rattle.live_status.specs.declared.stream_status.Seen.{Seen}
 
 -- a stream of an engine: its name and latency, the counts of its merge, and each of its paths
 pub record IsEngineStream (engine : EngineState) (number : ℕ) (seen : Seen) (stream : StreamState) : Type 0 where

@@ -12,29 +12,29 @@
 //! the run shows of itself.
 #![tactic(auto)]
 
-mod board;
 mod copies;
-mod engine_view;
+mod count_lines;
+mod engine_offers;
+mod engine_status;
 mod fault;
+mod fd_ready;
 mod meter;
 mod names;
-mod noted;
-mod outlets;
+mod page_thread;
 mod places;
-mod ready;
-mod seen;
-mod serving;
+mod publisher;
 mod showing;
-mod stats;
-mod told;
+mod snapshot_fill;
+mod status_outputs;
+mod stream_status;
 
-pub use board::Board;
-pub use engine_view::EngineView;
+pub use count_lines::Stats;
+pub use engine_status::EngineView;
 pub use fault::PageFault;
+pub use fd_ready::{FAULTS, INPUT, is_ready};
 pub use meter::Meter;
-pub use outlets::{Seen, Shown, show};
-pub use ready::{FAULTS, INPUT, is_ready};
-pub use serving::Serving;
+pub use page_thread::Serving;
+pub use publisher::Board;
 pub use showing::Showing;
-pub use stats::Stats;
-pub use told::{see_datagrams, see_mix, see_told};
+pub use snapshot_fill::{see_datagrams, see_mix, see_told};
+pub use status_outputs::{Seen, Shown, show};

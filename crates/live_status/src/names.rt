@@ -3,7 +3,7 @@ ghost use Rattle.std.specs.Prelude.{◌≡◌, None, IfOk, slice_index_or};
 ghost use Rattle.live_status.specs.Each.{AreEach};
 ghost use Rattle.live_status.specs.Seen.{IsFirstSeenOf};
 
-use crate::seen::Seen;
+use crate::stream_status::Seen;
 use rtp_stream::StreamSpec;
 use status_page::Name;
 use std::alloc::{AllocError, Global};

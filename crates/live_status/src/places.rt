@@ -1,7 +1,7 @@
 //! The line that says where a run receives, sends and is shown.
 
-use crate::ready::{FAULTS, is_ready};
-use crate::serving::Serving;
+use crate::fd_ready::{FAULTS, is_ready};
+use crate::page_thread::Serving;
 use live_io::{Sockets, write_places};
 use std::io;
 use std::io::Write;

@@ -1,7 +1,7 @@
 //! What a run shows of itself.
 
-use crate::board::Board;
 use crate::meter::Meter;
+use crate::publisher::Board;
 
 /// What a run shows of itself, where it counts and measures for that.
 #[derive(Drop)]

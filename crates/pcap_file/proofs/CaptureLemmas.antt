@@ -1,10 +1,10 @@
 -- A capture's records and blocks, one behind the other.
 use Rattle.std.proofs.Common.{◌≡◌, ◌≤◌, ◌+◌, ◌-◌, ℕ, zero, suc, List, [], ◌∷◌, length, take, drop, refl, sym, ap, ◌∙◌, arith, option_map, Option, Some, None, Ok, Err, false}
 use Rattle.pcap_file.specs.declared.cursor.Format.TheVariants as format
-use Rattle.pcap_file.specs.declared.pcap.Pcap.{Pcap}
+use Rattle.pcap_file.specs.declared.decode.pcap.Pcap.{Pcap}
 use Rattle.pcap_file.specs.declared.fault.FaultKind.{FaultKind}
-use Rattle.pcap_file.specs.declared.mark.RecordMark.{RecordMark}
-use Rattle.pcap_file.specs.declared.packet.Packet.{Packet}
+use Rattle.pcap_file.specs.declared.decode.record_mark.RecordMark.{RecordMark}
+use Rattle.pcap_file.specs.declared.decode.Packet.{Packet}
 use Rattle.std.proofs.lemmas.List.{take_rest}
 use Rattle.pcap_file.specs.Packet.{PacketView, packet_view}
 use Rattle.pcap_file.specs.Pcap.{pcap_of}

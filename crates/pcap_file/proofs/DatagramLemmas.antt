@@ -2,9 +2,9 @@
 use Rattle.std.proofs.Common.{◌≡◌, ◌<◌, ◌≤◌, ◌+◌, ◌*◌, ◌/◌, ◌%◌, ◌^◌, ℕ, List, ◌++◌, length, replicate, slice_get, slice_range, Option, Some, None, option_map, Ok, refl, sym, ap, ◌∙◌, arith, append_assoc, length-append}
 use Rattle.std.proofs.lemmas.List.{length-replicate}
 use Rattle.byteorder.specs.Endian.{little_bytes}
-use Rattle.pcap_file.specs.declared.interface.Interface.{Interface}
-use Rattle.pcap_file.specs.declared.mark.RecordMark.{RecordMark}
-use Rattle.pcap_file.specs.declared.order.Order.TheVariants.{Little}
+use Rattle.pcap_file.specs.declared.decode.interface.Interface.{Interface}
+use Rattle.pcap_file.specs.declared.decode.record_mark.RecordMark.{RecordMark}
+use Rattle.pcap_file.specs.declared.decode.endian.Order.TheVariants.{Little}
 use Rattle.pcap_file.specs.Chain.{and_then}
 use Rattle.pcap_file.specs.Octets.{number_at}
 use Rattle.pcap_file.specs.Interface.{time_of, time_units}

@@ -2,8 +2,8 @@
 use Rattle.std.proofs.Common.{◌≡◌, ◌⊎◌, ◌≤◌, ◌-◌, ℕ, zero, suc, true, false, List, [], ◌∷◌, ◌++◌, length, drop, refl, sym, ap, ◌∙◌, arith, Option, Ok, Err, length-append}
 use Rattle.std.proofs.lemmas.List.{drop-append-le}
 use Rattle.pcap_file.specs.declared.cursor.Format.TheVariants as format
-use Rattle.pcap_file.specs.declared.mark.RecordMark.{RecordMark}
-use Rattle.pcap_file.specs.declared.pcap.Pcap.{Pcap}
+use Rattle.pcap_file.specs.declared.decode.record_mark.RecordMark.{RecordMark}
+use Rattle.pcap_file.specs.declared.decode.pcap.Pcap.{Pcap}
 use Rattle.pcap_file.specs.declared.fault.FaultKind.{FaultKind}
 use Rattle.pcap_file.specs.Packet.{PacketView}
 use Rattle.pcap_file.specs.Pcap.{pcap_of}

@@ -3,11 +3,11 @@ use Rattle.std.proofs.Common.{◌≡◌, ◌<◌, ◌≤◌, ◌+◌, ◌-◌, �
 use Rattle.std.specs.Fmt.{decimal}
 use Rattle.std.proofs.lemmas.Fmt.{decimal_injective, length-decimal-le}
 use Rattle.byteorder.specs.Endian.{little_bytes}
-use Rattle.pcap_file.specs.declared.interface.Interface.{Interface}
-use Rattle.pcap_file.specs.declared.mark.RecordMark.{RecordMark}
-use Rattle.pcap_file.specs.declared.mark.RecordMark.TheVariants.{Opened}
-use Rattle.pcap_file.specs.declared.order.Order.{Order}
-use Rattle.pcap_file.specs.declared.order.Order.TheVariants.{Little}
+use Rattle.pcap_file.specs.declared.decode.interface.Interface.{Interface}
+use Rattle.pcap_file.specs.declared.decode.record_mark.RecordMark.{RecordMark}
+use Rattle.pcap_file.specs.declared.decode.record_mark.RecordMark.TheVariants.{Opened}
+use Rattle.pcap_file.specs.declared.decode.endian.Order.{Order}
+use Rattle.pcap_file.specs.declared.decode.endian.Order.TheVariants.{Little}
 use Rattle.pcap_file.specs.Chain.{and_then}
 use Rattle.pcap_file.specs.Octets.{number_at}
 use Rattle.pcap_file.specs.Mark.{found_text, mark_of, number_in, opened_by, opening_in, opening_text, section_options, text_at}

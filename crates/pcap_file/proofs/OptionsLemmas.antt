@@ -3,7 +3,7 @@ use Rattle.std.proofs.Common.{◌≡◌, ◌≢◌, ◌≤◌, ◌<◌, ◌-◌,
 use Rattle.std.proofs.lemmas.Bool.Decides.{nat_tests}
 use Rattle.std.proofs.lemmas.Bool.{cases_lt}
 use Rattle.std.proofs.lemmas.List.{length-drop, drop_min}
-use Rattle.pcap_file.specs.declared.order.Order.{Order}
+use Rattle.pcap_file.specs.declared.decode.endian.Order.{Order}
 use Rattle.pcap_file.specs.declared.fault.FaultKind.{FaultKind}
 use Rattle.pcap_file.specs.declared.fault.FaultKind.TheVariants as fault
 use Rattle.pcap_file.specs.Options.{option_among, option_of, code_of, value_end, option_end}

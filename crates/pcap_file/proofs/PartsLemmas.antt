@@ -4,12 +4,12 @@ use Rattle.std.proofs.lemmas.Bool.Decides.{nat_tests}
 use Rattle.std.proofs.lemmas.List.{drop-append-le}
 use Rattle.pcap_file.specs.declared.cursor.Format.{Format}
 use Rattle.pcap_file.specs.declared.cursor.Format.TheVariants as format
-use Rattle.pcap_file.specs.declared.order.Order.{Order}
-use Rattle.pcap_file.specs.declared.order.Order.TheVariants.{Big, Little}
-use Rattle.pcap_file.specs.declared.pcap.Pcap.{Pcap}
-use Rattle.pcap_file.specs.declared.pcap.Unit.{Unit as PcapUnit}
+use Rattle.pcap_file.specs.declared.decode.endian.Order.{Order}
+use Rattle.pcap_file.specs.declared.decode.endian.Order.TheVariants.{Big, Little}
+use Rattle.pcap_file.specs.declared.decode.pcap.Pcap.{Pcap}
+use Rattle.pcap_file.specs.declared.decode.pcap.Unit.{Unit as PcapUnit}
 use Rattle.pcap_file.specs.declared.fault.FaultKind.{FaultKind}
-use Rattle.pcap_file.specs.declared.mark.RecordMark.{RecordMark}
+use Rattle.pcap_file.specs.declared.decode.record_mark.RecordMark.{RecordMark}
 use Rattle.pcap_file.specs.Octets.{number_at}
 use Rattle.pcap_file.specs.Packet.{PacketView}
 use Rattle.pcap_file.specs.Pcap.{header_in, magic_of, pcap_of}

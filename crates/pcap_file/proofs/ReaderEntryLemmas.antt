@@ -1,7 +1,7 @@
 -- The packets among entries, with those of a record or a block more.
 use Rattle.std.proofs.Common.{◌≡◌, List, [], ◌∷◌, ◌++◌, Option, Some, None, refl, ap, ◌∙◌}
 use Rattle.std.specs.Option.{option_to_list}
-use Rattle.pcap_file.specs.declared.mark.RecordMark.{RecordMark}
+use Rattle.pcap_file.specs.declared.decode.record_mark.RecordMark.{RecordMark}
 use Rattle.pcap_file.specs.Packet.{PacketView}
 use Rattle.pcap_file.specs.Entries.{Entry, Packet, Mark, entries_in}
 use Rattle.pcap_file.specs.Reader.{packets_among}

@@ -6,10 +6,10 @@ use Rattle.std.proofs.KnownBytes.{Consumes-trans}
 use Rattle.std.proofs.lemmas.List.{drop-append-le, drop_all, length-take, map-append, take_all}
 use Rattle.pcap_file.specs.declared.cursor.Format.{Format}
 use Rattle.pcap_file.specs.declared.cursor.Format.TheVariants as format
-use Rattle.pcap_file.specs.declared.order.Order.{Order}
+use Rattle.pcap_file.specs.declared.decode.endian.Order.{Order}
 use Rattle.pcap_file.specs.declared.parts.Parts.{Parts}
 use Rattle.pcap_file.specs.declared.fault.CaptureFault.{CaptureFault}
-use Rattle.pcap_file.specs.declared.mark.RecordMark.{RecordMark}
+use Rattle.pcap_file.specs.declared.decode.record_mark.RecordMark.{RecordMark}
 use Rattle.pcap_file.specs.Packet.{PacketView}
 use Rattle.pcap_file.specs.Capture.{Item, packets_of, packets_past, with_packet}
 use Rattle.pcap_file.specs.Entries.{Entry, entries_at, entries_in, entries_of, entries_past}

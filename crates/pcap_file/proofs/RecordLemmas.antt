@@ -3,9 +3,9 @@ use Rattle.std.proofs.Common.{◌≡◌, ◌<◌, ◌≤◌, ◌+◌, ◌^◌, �
 use Rattle.std.specs.List.{All}
 use Rattle.std.proofs.lemmas.Bool.Decides.{nat_tests}
 use Rattle.pcap_file.specs.declared.cursor.Format.TheVariants as format
-use Rattle.pcap_file.specs.declared.interface.Interface.{Interface}
-use Rattle.pcap_file.specs.declared.mark.RecordMark.TheVariants.{Opened, Closed}
-use Rattle.pcap_file.specs.declared.order.Order.TheVariants.{Big, Little}
+use Rattle.pcap_file.specs.declared.decode.interface.Interface.{Interface}
+use Rattle.pcap_file.specs.declared.decode.record_mark.RecordMark.TheVariants.{Opened, Closed}
+use Rattle.pcap_file.specs.declared.decode.endian.Order.TheVariants.{Big, Little}
 use Rattle.pcap_file.specs.Octets.{number_at}
 use Rattle.pcap_file.specs.Section.{is_section_header, no_section}
 use Rattle.pcap_file.specs.Capture.{Item, is_pcapng, packets_from, packets_of, packets_past}

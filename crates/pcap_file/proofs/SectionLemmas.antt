@@ -1,9 +1,9 @@
 -- The blocks of a section, by their kinds.
 use Rattle.std.proofs.Common.{◌≡◌, List, ℕ, ap, refl, Option, None, Result, Ok, Err}
-use Rattle.pcap_file.specs.declared.packet.Packet.{Packet}
+use Rattle.pcap_file.specs.declared.decode.Packet.{Packet}
 use Rattle.pcap_file.specs.declared.fault.FaultKind.{FaultKind}
-use Rattle.pcap_file.specs.declared.section.BlockKind.{BlockKind}
-use Rattle.pcap_file.specs.declared.section.BlockKind.TheVariants as kind
+use Rattle.pcap_file.specs.declared.decode.pcapng.BlockKind.{BlockKind}
+use Rattle.pcap_file.specs.declared.decode.pcapng.BlockKind.TheVariants as kind
 use Rattle.pcap_file.specs.Chain.{and_then}
 use Rattle.pcap_file.specs.Packet.{PacketView}
 use Rattle.pcap_file.specs.Section.{SectionView, AnswersContent, AnswersPacket, begun_by, described_by, enhanced_of, simple_of, content_as, same_section}

@@ -4,10 +4,10 @@ use Rattle.std.specs.Fmt.{decimal}
 use Rattle.std.proofs.lemmas.Bool.Decides.{nat_tests}
 use Rattle.std.proofs.lemmas.Fmt.{length-decimal-le}
 use Rattle.byteorder.specs.Endian.{little_bytes}
-use Rattle.pcap_file.specs.declared.interface.Interface.{Interface}
-use Rattle.pcap_file.specs.declared.link.Link.TheVariants.{Raw}
-use Rattle.pcap_file.specs.declared.mark.RecordMark.{RecordMark}
-use Rattle.pcap_file.specs.declared.order.Order.TheVariants.{Little}
+use Rattle.pcap_file.specs.declared.decode.interface.Interface.{Interface}
+use Rattle.pcap_file.specs.declared.decode.link.Link.TheVariants.{Raw}
+use Rattle.pcap_file.specs.declared.decode.record_mark.RecordMark.{RecordMark}
+use Rattle.pcap_file.specs.declared.decode.endian.Order.TheVariants.{Little}
 use Rattle.pcap_file.specs.Chain.{and_then}
 use Rattle.pcap_file.specs.Octets.{number_at}
 use Rattle.pcap_file.specs.Interface.{interface_of, interface_options, offset_of, offset_value, resolution_of, resolution_value}

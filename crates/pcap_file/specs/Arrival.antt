@@ -1,7 +1,7 @@
 -- A datagram that came.
 use Rattle.std.specs.Prelude.{ℕ, List}
 use Rattle.std.specs.Net.Addr.{ipv4_octets}
-use Rattle.pcap_file.specs.declared.arrival.Arrival.{Arrival}
+use Rattle.pcap_file.specs.declared.encode.datagram.Arrival.{Arrival}
 
 -- the interface that it came on, its time in nanoseconds, the four octets of each address, the ports, and its octets
 pub record ArrivalView : Type 0 where

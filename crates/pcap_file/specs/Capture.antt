@@ -4,9 +4,9 @@ use Rattle.std.specs.Result.{result_map_both}
 use Rattle.pcap_file.specs.declared.cursor.Format.{Format}
 use Rattle.pcap_file.specs.declared.cursor.Format.TheVariants as format
 use Rattle.pcap_file.specs.declared.cursor.Capture.{Capture}
-use Rattle.pcap_file.specs.declared.pcap.Pcap.{Pcap}
-use Rattle.pcap_file.specs.declared.part.Part.{Part}
-use Rattle.pcap_file.specs.declared.packet.Packet.{Packet}
+use Rattle.pcap_file.specs.declared.decode.pcap.Pcap.{Pcap}
+use Rattle.pcap_file.specs.declared.block_parser.Part.{Part}
+use Rattle.pcap_file.specs.declared.decode.Packet.{Packet}
 use Rattle.pcap_file.specs.declared.fault.FaultKind.{FaultKind}
 use Rattle.pcap_file.specs.declared.fault.CaptureFault.{CaptureFault}
 use Rattle.pcap_file.specs.Packet.{PacketView, packet_view}

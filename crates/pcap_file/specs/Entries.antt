@@ -3,9 +3,9 @@ use Rattle.std.specs.Prelude.{◌-◌, ℕ, zero, suc, List, [], ◌∷◌, ◌+
 use Rattle.std.specs.Option.{option_to_list}
 use Rattle.pcap_file.specs.declared.cursor.Format.TheVariants as format
 use Rattle.pcap_file.specs.declared.fault.FaultKind.{FaultKind}
-use Rattle.pcap_file.specs.declared.mark.RecordMark.{RecordMark}
+use Rattle.pcap_file.specs.declared.decode.record_mark.RecordMark.{RecordMark}
 use Rattle.pcap_file.specs.declared.parts.Parts.{Parts}
-use Rattle.pcap_file.specs.declared.pcap.Pcap.{Pcap}
+use Rattle.pcap_file.specs.declared.decode.pcap.Pcap.{Pcap}
 use Rattle.pcap_file.specs.Packet.{PacketView}
 use Rattle.pcap_file.specs.Pcap.{pcap_of}
 use Rattle.pcap_file.specs.Section.{Block, no_section}

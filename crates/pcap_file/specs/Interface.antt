@@ -1,8 +1,8 @@
 -- Interfaces of a section, and the times of their packets (pcapng, Interface Description Block).
 use Rattle.std.specs.Prelude.{◌+◌, ◌-◌, ◌*◌, ◌/◌, ◌^◌, ℕ, List, length, slice_index, slice_range, Option, Some, None, Result, Ok, Err, nat_lt, ◌==◌, ◌&&◌, if◌then◌else◌, ℤ, pos, ◌+ℤ◌, ◌*ℤ◌, int_le, int_lt, unsigned_abs}
 use Rattle.std.specs.Int.{w64, cast_signed}
-use Rattle.pcap_file.specs.declared.order.Order.{Order}
-use Rattle.pcap_file.specs.declared.interface.Interface.{Interface}
+use Rattle.pcap_file.specs.declared.decode.endian.Order.{Order}
+use Rattle.pcap_file.specs.declared.decode.interface.Interface.{Interface}
 use Rattle.pcap_file.specs.declared.fault.FaultKind.{FaultKind}
 use Rattle.pcap_file.specs.declared.fault.FaultKind.TheVariants as fault
 use Rattle.pcap_file.specs.Octets.{number_at}

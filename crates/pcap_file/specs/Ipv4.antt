@@ -1,11 +1,11 @@
 -- UDP datagrams in IPv4 packets (RFC 791, 3.1; RFC 768).
 use Rattle.std.specs.Prelude.{◌+◌, ◌*◌, ◌/◌, ◌%◌, ◌^◌, ℕ, Bool, List, [], ◌∷◌, length, slice_index, slice_range, Option, Some, None, nat_lt, nat_le, ◌==◌, not, ◌&&◌, ◌||◌, if◌then◌else◌}
 use Rattle.std.specs.Net.Addr.{ipv4_octets}
-use Rattle.pcap_file.specs.declared.order.Order.TheVariants.{Big}
-use Rattle.pcap_file.specs.declared.ipv4.Ipv4.{Ipv4}
-use Rattle.pcap_file.specs.declared.ipv4.Body.{Body}
-use Rattle.pcap_file.specs.declared.ipv4.Body.TheVariants as body
-use Rattle.pcap_file.specs.declared.ipv4.Datagram.{Datagram}
+use Rattle.pcap_file.specs.declared.decode.endian.Order.TheVariants.{Big}
+use Rattle.pcap_file.specs.declared.decode.ipv4.Ipv4.{Ipv4}
+use Rattle.pcap_file.specs.declared.decode.ipv4.Body.{Body}
+use Rattle.pcap_file.specs.declared.decode.ipv4.Body.TheVariants as body
+use Rattle.pcap_file.specs.declared.decode.ipv4.Datagram.{Datagram}
 use Rattle.pcap_file.specs.Octets.{number_at}
 
 -- a UDP datagram: its ports, and the octets behind its header

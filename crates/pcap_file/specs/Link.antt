@@ -1,9 +1,9 @@
 -- The header of a link in front of an IP packet (tcpdump's registry of link-layer header types; IEEE 802.1Q, 9.3).
 use Rattle.std.specs.Prelude.{◌+◌, ℕ, Bool, List, length, drop, Option, Some, None, option_map, nat_le, ◌==◌, ◌&&◌, ◌||◌, if◌then◌else◌}
-use Rattle.pcap_file.specs.declared.order.Order.{Order}
-use Rattle.pcap_file.specs.declared.order.Order.TheVariants.{Big, Little}
-use Rattle.pcap_file.specs.declared.link.Link.{Link}
-use Rattle.pcap_file.specs.declared.link.Link.TheVariants.{Null, Ethernet, Raw, Loop, Cooked, CookedTwo, Other}
+use Rattle.pcap_file.specs.declared.decode.endian.Order.{Order}
+use Rattle.pcap_file.specs.declared.decode.endian.Order.TheVariants.{Big, Little}
+use Rattle.pcap_file.specs.declared.decode.link.Link.{Link}
+use Rattle.pcap_file.specs.declared.decode.link.Link.TheVariants.{Null, Ethernet, Raw, Loop, Cooked, CookedTwo, Other}
 use Rattle.pcap_file.specs.Octets.{number_at}
 
 -- the registry's numbers

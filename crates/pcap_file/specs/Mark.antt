@@ -1,11 +1,11 @@
 -- What a block tells of a record, a live run that was written down: when its studio was opened, and when it was closed.
 use Rattle.std.specs.Prelude.{◌-◌, ◌^◌, ℕ, List, [], ◌++◌, length, take, drop, slice_get, slice_range, Option, Some, None, option_map, option_and_then, Result, Ok, Err, codes, decimal, bytes_eq, nat_lt, ◌==◌, ◌&&◌, if◌then◌else◌}
 use Rattle.std.specs.Str.Parse.{digits_value}
-use Rattle.pcap_file.specs.declared.order.Order.{Order}
-use Rattle.pcap_file.specs.declared.interface.Interface.{Interface}
+use Rattle.pcap_file.specs.declared.decode.endian.Order.{Order}
+use Rattle.pcap_file.specs.declared.decode.interface.Interface.{Interface}
 use Rattle.pcap_file.specs.declared.fault.FaultKind.{FaultKind}
-use Rattle.pcap_file.specs.declared.mark.RecordMark.{RecordMark}
-use Rattle.pcap_file.specs.declared.mark.RecordMark.TheVariants as mark
+use Rattle.pcap_file.specs.declared.decode.record_mark.RecordMark.{RecordMark}
+use Rattle.pcap_file.specs.declared.decode.record_mark.RecordMark.TheVariants as mark
 use Rattle.pcap_file.specs.Octets.{number_at}
 use Rattle.pcap_file.specs.Options.{option_of}
 use Rattle.pcap_file.specs.Interface.{time_of, time_units}

@@ -1,8 +1,8 @@
 -- Numbers of several octets, in either order.
 use Rattle.std.specs.Prelude.{ℕ, List, drop}
 use Rattle.byteorder.specs.Endian.{big_number, little_number}
-use Rattle.pcap_file.specs.declared.order.Order.{Order}
-use Rattle.pcap_file.specs.declared.order.Order.TheVariants.{Big, Little}
+use Rattle.pcap_file.specs.declared.decode.endian.Order.{Order}
+use Rattle.pcap_file.specs.declared.decode.endian.Order.TheVariants.{Big, Little}
 
 -- the number that so many octets spell from a place on
 unfoldable pub number_at : Order → ℕ → ℕ → List ℕ → ℕ

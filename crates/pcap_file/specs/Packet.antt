@@ -1,7 +1,7 @@
 -- One captured packet.
 use Rattle.std.specs.Prelude.{ℕ, List, Option, option_map, option_and_then}
-use Rattle.pcap_file.specs.declared.link.Link.{Link}
-use Rattle.pcap_file.specs.declared.packet.Packet.{Packet}
+use Rattle.pcap_file.specs.declared.decode.link.Link.{Link}
+use Rattle.pcap_file.specs.declared.decode.Packet.{Packet}
 use Rattle.pcap_file.specs.Link.{ip_octets}
 use Rattle.pcap_file.specs.Ipv4.{Ipv4View, ipv4_of, ipv4_view}
 

@@ -1,7 +1,7 @@
 -- A record or a block of a capture.
 use Rattle.std.specs.Prelude.{ℕ, Option, option_map}
-use Rattle.pcap_file.specs.declared.part.Part.{Part}
-use Rattle.pcap_file.specs.declared.mark.RecordMark.{RecordMark}
+use Rattle.pcap_file.specs.declared.block_parser.Part.{Part}
+use Rattle.pcap_file.specs.declared.decode.record_mark.RecordMark.{RecordMark}
 use Rattle.pcap_file.specs.Packet.{PacketView, packet_view}
 
 -- how many octets it takes, the UDP packet in it, if it has one, and what it tells of a record

@@ -1,11 +1,11 @@
 -- A capture whose octets come piece by piece.
 use Rattle.std.specs.Prelude.{◌≡◌, ◌⊎◌, ◌≤◌, ℕ, Bool, false, List, [], length, Result, Ok, Err, nat_lt, ◌%◌, ◌==◌, not, ◌&&◌, ◌||◌}
-use Rattle.pcap_file.specs.declared.order.Order.{Order}
+use Rattle.pcap_file.specs.declared.decode.endian.Order.{Order}
 use Rattle.pcap_file.specs.declared.cursor.Format.{Format}
 use Rattle.pcap_file.specs.declared.cursor.Format.TheVariants.{Pcap, Pcapng}
 use Rattle.pcap_file.specs.declared.fault.FaultKind.{FaultKind}
 use Rattle.pcap_file.specs.declared.parts.Parts.{Parts}
-use Rattle.pcap_file.specs.declared.pcap.Pcap.{Pcap as Header}
+use Rattle.pcap_file.specs.declared.decode.pcap.Pcap.{Pcap as Header}
 use Rattle.pcap_file.specs.Octets.{number_at}
 use Rattle.pcap_file.specs.Pcap.{record_end}
 use Rattle.pcap_file.specs.Section.{order_of, section_view}

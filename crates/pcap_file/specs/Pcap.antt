@@ -1,10 +1,10 @@
 -- The pcap format (draft-ietf-opsawg-pcap, File Header and Packet Record).
 use Rattle.std.specs.Prelude.{◌+◌, ◌*◌, ◌%◌, ◌^◌, ℕ, List, length, slice_range, Option, Some, None, Result, Ok, Err, nat_lt, ◌==◌, not, ◌||◌, if◌then◌else◌}
-use Rattle.pcap_file.specs.declared.order.Order.{Order}
-use Rattle.pcap_file.specs.declared.order.Order.TheVariants.{Big, Little}
-use Rattle.pcap_file.specs.declared.pcap.Pcap.{Pcap}
-use Rattle.pcap_file.specs.declared.pcap.Unit.{Unit}
-use Rattle.pcap_file.specs.declared.pcap.Unit.TheVariants.{Microsecond, Nanosecond}
+use Rattle.pcap_file.specs.declared.decode.endian.Order.{Order}
+use Rattle.pcap_file.specs.declared.decode.endian.Order.TheVariants.{Big, Little}
+use Rattle.pcap_file.specs.declared.decode.pcap.Pcap.{Pcap}
+use Rattle.pcap_file.specs.declared.decode.pcap.Unit.{Unit}
+use Rattle.pcap_file.specs.declared.decode.pcap.Unit.TheVariants.{Microsecond, Nanosecond}
 use Rattle.pcap_file.specs.declared.fault.FaultKind.{FaultKind}
 use Rattle.pcap_file.specs.declared.fault.FaultKind.TheVariants as fault
 use Rattle.pcap_file.specs.Octets.{number_at}

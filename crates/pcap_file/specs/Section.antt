@@ -1,12 +1,12 @@
 -- A section of the pcapng format, block by block (draft-ietf-opsawg-pcapng, General File Structure and Block Definitions).
 use Rattle.std.specs.Prelude.{◌≡◌, ◌+◌, ◌-◌, ◌%◌, ℕ, Bool, List, [], ◌∷◌, ◌++◌, length, take, slice_get, slice_range, Option, Some, None, option_map, Result, Ok, Err, MatchResult, nat_lt, ◌==◌, not, ◌&&◌, ◌||◌, if◌then◌else◌}
-use Rattle.pcap_file.specs.declared.order.Order.{Order}
-use Rattle.pcap_file.specs.declared.order.Order.TheVariants.{Big, Little}
-use Rattle.pcap_file.specs.declared.interface.Interface.{Interface}
-use Rattle.pcap_file.specs.declared.section.Section.{Section}
-use Rattle.pcap_file.specs.declared.section.BlockKind.{BlockKind}
-use Rattle.pcap_file.specs.declared.section.BlockKind.TheVariants as kind
-use Rattle.pcap_file.specs.declared.packet.Packet.{Packet}
+use Rattle.pcap_file.specs.declared.decode.endian.Order.{Order}
+use Rattle.pcap_file.specs.declared.decode.endian.Order.TheVariants.{Big, Little}
+use Rattle.pcap_file.specs.declared.decode.interface.Interface.{Interface}
+use Rattle.pcap_file.specs.declared.decode.pcapng.Section.{Section}
+use Rattle.pcap_file.specs.declared.decode.pcapng.BlockKind.{BlockKind}
+use Rattle.pcap_file.specs.declared.decode.pcapng.BlockKind.TheVariants as kind
+use Rattle.pcap_file.specs.declared.decode.Packet.{Packet}
 use Rattle.pcap_file.specs.declared.fault.FaultKind.{FaultKind}
 use Rattle.pcap_file.specs.declared.fault.FaultKind.TheVariants as fault
 use Rattle.pcap_file.specs.Octets.{number_at}

@@ -1,7 +1,7 @@
 -- The octets of a file that came, and were not passed over.
 use Rattle.std.specs.Prelude.{◌≡◌, ℕ, ◌≤◌, ◌++◌, Bool, true, false, List, length, drop, Option}
 use Rattle.std.specs.Io.KnownBytes.{Consumes, IsAtEnd}
-use Rattle.pcap_file.specs.declared.window.Window.{Window}
+use Rattle.pcap_file.specs.declared.reader.buffer.Window.{Window}
 
 abbrev pub octets_of : Window → List ℕ
 octets_of window = drop window.passed window.held.items

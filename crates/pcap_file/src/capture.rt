@@ -3,13 +3,13 @@ ghost use Rattle.std.specs.Prelude.{◌≡◌, ◌<◌, ◌≤◌, [], ◌∷◌
 ghost use Rattle.pcap_file.specs.Capture as spec;
 ghost use Rattle.pcap_file.specs.Capture.{HasRead, item_view, packets_left, packets_of, state_of};
 
+use crate::block_parser::Part;
 use crate::cursor::{Capture, Format};
+use crate::decode::Packet;
+use crate::decode::endian::Order;
+use crate::decode::pcap::{FILE_HEADER, read_header, read_record};
+use crate::decode::pcapng::{SECTION_HEADER, Section};
 use crate::fault::{CaptureFault, FaultKind};
-use crate::order::Order;
-use crate::packet::Packet;
-use crate::part::Part;
-use crate::pcap::{FILE_HEADER, read_header, read_record};
-use crate::section::{SECTION_HEADER, Section};
 
 /// Opens a capture, of which `octets` are the whole file.
 #[tactic(auto, unfolding(crate::specs::Capture::packets_of))]

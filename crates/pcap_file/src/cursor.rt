@@ -1,8 +1,8 @@
 //! A place in a capture.
 ghost use Rattle.std.specs.Prelude.{◌+◌, ◌<◌, ◌^◌, length};
 
-use crate::pcap::Pcap;
-use crate::section::Section;
+use crate::decode::pcap::Pcap;
+use crate::decode::pcapng::Section;
 
 /// The format of a capture.
 #[derive(Clone, Copy, Debug, PartialEq, Eq)]

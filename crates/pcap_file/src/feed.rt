@@ -3,8 +3,8 @@ ghost use Rattle.std.specs.Prelude.{◌≡◌, ◌≤◌, ◌<◌, ◌+◌, ◌+
 ghost use Rattle.pcap_file.specs.Window.{octets_of, Reads};
 ghost use Rattle.pcap_file.specs.declared.reader_fault.ReaderFault.TheVariants.{Unread};
 
+use crate::reader::buffer::Window;
 use crate::reader_fault::ReaderFault;
-use crate::window::Window;
 use std::alloc::{AllocError, Global};
 use std::io::Read;
 

@@ -6,9 +6,9 @@ ghost use Rattle.pcap_file.specs.Arrival.{arrival_view};
 ghost use Rattle.pcap_file.specs.Blocks as spec;
 ghost use Rattle.pcap_file.specs.Blocks.{datagram_head, option_octets, interface_text, time_octets};
 
-use crate::arrival::Arrival;
-use crate::head::{Head, push, push_option};
-use crate::ip::{push_ipv4, push_udp};
+use crate::encode::body::{Head, push, push_option};
+use crate::encode::datagram::Arrival;
+use crate::encode::ip_header::{push_ipv4, push_udp};
 use itoa::Buffer;
 
 /// The number by which a section header says the order of its octets.

@@ -3,7 +3,7 @@ ghost use Rattle.std.specs.Prelude.{◌≡◌, ◌<◌, ◌≤◌, ◌^◌, ◌�
 ghost use Rattle.std.specs.List.{All};
 ghost use Rattle.pcap_file.specs.Capture.{packets_of};
 ghost use Rattle.pcap_file.specs.Entries.{Mark, entries_of};
-ghost use Rattle.pcap_file.specs.declared.mark.RecordMark.TheVariants.{Closed, Opened};
+ghost use Rattle.pcap_file.specs.declared.decode.record_mark.RecordMark.TheVariants.{Closed, Opened};
 ghost use Rattle.pcap_file.specs.Arrival.{ArrivalView};
 ghost use Rattle.pcap_file.specs.WritePacket.{HasAddresses, carried, header_octets, words_sum};
 ghost use Rattle.pcap_file.specs.Record.{IsArrival, IsName, Name, closed_record, items_of, open_record, packet_entries};

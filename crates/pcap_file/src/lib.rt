@@ -32,46 +32,34 @@
 //! `closing_block`, by the format (draft-ietf-opsawg-pcapng); `capture_read` reads them back: `records_are_read_back`.
 #![tactic(auto)]
 
-mod arrival;
-mod blocks;
+mod block_parser;
 mod capture;
 mod cursor;
 mod decimal;
+mod decode;
+mod encode;
 mod fault;
 mod feed;
-mod head;
 mod heads;
-mod interface;
-mod ip;
-mod ipv4;
 mod laws;
-mod link;
-mod mark;
-mod options;
-mod order;
-mod packet;
-mod part;
 mod parts;
-mod pcap;
 mod places;
 mod reader;
 mod reader_fault;
-mod section;
 mod times;
-mod window;
 
-pub use arrival::{Arrival, MOST_OCTETS};
-pub use blocks::{BLOCK_ROOM, write_closing, write_datagram, write_interface, write_opening};
+pub use block_parser::Part;
 pub use capture::open;
 pub use cursor::Capture;
+pub use decode::Packet;
+pub use decode::ipv4::{Body, Datagram, Ipv4};
+pub use decode::record_mark::RecordMark;
+pub use encode::datagram::{Arrival, MOST_OCTETS};
+pub use encode::{BLOCK_ROOM, write_closing, write_datagram, write_interface, write_opening};
 pub use fault::{CaptureFault, FaultKind};
-pub use ipv4::{Body, Datagram, Ipv4};
 pub use laws::{checksums_are_right, instants_come_back, records_are_read_back};
-pub use mark::RecordMark;
-pub use packet::Packet;
-pub use part::Part;
 pub use parts::Parts;
+pub use reader::buffer::Window;
 pub use reader::{has_next, next, open as reader_open};
 pub use reader_fault::ReaderFault;
 pub use times::nanoseconds_after;
-pub use window::Window;

@@ -5,12 +5,12 @@ ghost use Rattle.pcap_file.specs.Packet.{packet_view};
 ghost use Rattle.pcap_file.specs.Entries.{entries_at, entries_in, entries_of};
 ghost use Rattle.pcap_file.specs.Parts.{IsEnough, is_cut_in, items_at, state_at};
 
+use crate::block_parser::Part;
 use crate::capture::is_pcapng;
 use crate::cursor::Format;
+use crate::decode::pcap::{FILE_HEADER, is_record_cut, read_header, read_record};
+use crate::decode::pcapng::{Section, is_block_cut};
 use crate::fault::{CaptureFault, FaultKind};
-use crate::part::Part;
-use crate::pcap::{FILE_HEADER, is_record_cut, read_header, read_record};
-use crate::section::{Section, is_block_cut};
 
 /// A place in a capture. The octets from there on are the caller's, who lends as many as came so far.
 #[derive(Drop)]

@@ -5,13 +5,15 @@ ghost use Rattle.pcap_file.specs.Window.{octets_of, Reads};
 ghost use Rattle.pcap_file.specs.Reader.{HasEntries, HasOpened, HasTold, IsFaultBehind, IsFilled, IsLong, IsNext, IsOpenFault, part_entries};
 ghost use Rattle.pcap_file.specs.declared.reader_fault.ReaderFault.TheVariants.{Unread};
 
+use crate::block_parser::Part;
 use crate::fault::CaptureFault;
-use crate::part::Part;
 use crate::parts::Parts;
+use crate::reader::buffer::Window;
 use crate::reader_fault::ReaderFault;
-use crate::window::Window;
 use std::alloc::Global;
 use std::io::Read;
+
+pub(crate) mod buffer;
 
 /// The most octets before a record or a block.
 const MOST_PLACE: usize = 9_223_372_036_854_775_808;

@@ -3,8 +3,8 @@ use Rattle.std.proofs.Common.{ℕ, ◌≡◌, ◌<◌, List, [], ◌∷◌, leng
 use Rattle.std.proofs.lemmas.List.{map-set, get_or-map}
 use Rattle.pcap_file.specs.declared.fault.CaptureFault.{CaptureFault}
 use Rattle.pcap_file.specs.Capture.{Item}
-use Rattle.pcap_flows.specs.declared.sighting.FlowKey.{FlowKey}
-use Rattle.pcap_flows.specs.declared.sighting.Sighting.{Sighting}
+use Rattle.pcap_flows.specs.declared.packet.FlowKey.{FlowKey}
+use Rattle.pcap_flows.specs.declared.packet.Sighting.{Sighting}
 use Rattle.pcap_flows.specs.declared.flow.Flow.{Flow}
 use Rattle.pcap_flows.specs.Sighting.{same_flow}
 use Rattle.pcap_flows.specs.Flow.{FlowView, flow_view, flow_with, flow_first}

@@ -1,6 +1,6 @@
 -- Readings of a clock of 48 kHz at the times of a capture.
 use Rattle.std.specs.Prelude.{ℕ, ◌-◌, ◌*◌, ◌/◌, Option, Some, None, unwrap_or, max}
-use Rattle.pcap_flows.specs.declared.clock.CaptureClock.{CaptureClock}
+use Rattle.pcap_flows.specs.declared.import.clock.CaptureClock.{CaptureClock}
 
 -- no time was seen: the clock reads 0
 abbrev pub clock_begun : CaptureClock

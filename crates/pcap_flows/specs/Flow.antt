@@ -1,6 +1,6 @@
 -- A flow's packets, counted.
 use Rattle.std.specs.Prelude.{ℕ, ◌+◌, ◌-◌, ◌%◌, ◌^◌, Bool, false, min, max, Option, Some, None, ◌==◌, not, ◌||◌, if◌then◌else◌}
-use Rattle.pcap_flows.specs.declared.sighting.Sighting.{Sighting}
+use Rattle.pcap_flows.specs.declared.packet.Sighting.{Sighting}
 use Rattle.pcap_flows.specs.declared.lengths.Lengths.{Lengths}
 use Rattle.pcap_flows.specs.declared.steps.Steps.{Steps}
 use Rattle.pcap_flows.specs.declared.flow.Flow.{Flow}

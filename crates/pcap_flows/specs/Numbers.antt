@@ -1,6 +1,6 @@
 -- Extended sequence numbers (RFC 3550, 6.4.1 and A.1), and which of them came.
 use Rattle.std.specs.Prelude.{ℕ, ◌+◌, ◌-◌, ◌%◌, ◌^◌, List, replicate, set, slice_index, min, max, nat_lt, ◌==◌, if◌then◌else◌}
-use Rattle.pcap_flows.specs.declared.numbers.Numbers.{Numbers}
+use Rattle.pcap_flows.specs.declared.received_numbers.Numbers.{Numbers}
 
 pub record NumbersView : Type 0 where
   pub least : ℕ

@@ -5,8 +5,8 @@ use Rattle.rtp_wire.specs.declared.fault.WireFault.{WireFault}
 use Rattle.rtp_wire.specs.Datagram.{wire_fault_of, head_at, payload_at}
 use Rattle.pcap_file.specs.Ipv4.{Ipv4View, BodyView, Whole, Part, Cut, UdpView}
 use Rattle.pcap_file.specs.Packet.{PacketView}
-use Rattle.pcap_flows.specs.declared.sighting.FlowKey.{FlowKey}
-use Rattle.pcap_flows.specs.declared.sighting.Sighting.{Sighting}
+use Rattle.pcap_flows.specs.declared.packet.FlowKey.{FlowKey}
+use Rattle.pcap_flows.specs.declared.packet.Sighting.{Sighting}
 
 -- the flow of a datagram: its addresses and ports, its source and its payload type
 abbrev pub key_of : Ipv4View → UdpView → FlowKey

@@ -2,8 +2,8 @@
 use Rattle.std.specs.Prelude.{ℕ, List, [], ◌∷◌, ◌++◌, length, map, set, slice_index_or, position, Option, Some, None, Ok, Err, nat_lt, if◌then◌else◌}
 use Rattle.pcap_file.specs.declared.fault.CaptureFault.{CaptureFault}
 use Rattle.pcap_file.specs.Capture.{Item}
-use Rattle.pcap_flows.specs.declared.sighting.FlowKey.{FlowKey}
-use Rattle.pcap_flows.specs.declared.sighting.Sighting.{Sighting}
+use Rattle.pcap_flows.specs.declared.packet.FlowKey.{FlowKey}
+use Rattle.pcap_flows.specs.declared.packet.Sighting.{Sighting}
 use Rattle.pcap_flows.specs.declared.table.Table.{Table}
 use Rattle.pcap_flows.specs.Sighting.{sighting_of, same_flow}
 use Rattle.pcap_flows.specs.Numbers.{one_more}

@@ -3,11 +3,11 @@ use Rattle.std.specs.Prelude.{◌+◌, nat_lt, if◌then◌else◌, List, [], �
 use Rattle.pcap_file.specs.Ipv4.{BodyView, Whole, Part, Cut}
 use Rattle.pcap_file.specs.Packet.{PacketView}
 use Rattle.pcap_file.specs.Capture.{Item}
-use Rattle.pcap_flows.specs.declared.sighting.FlowKey.{FlowKey}
-use Rattle.pcap_flows.specs.declared.sighting.Sighting.{Sighting}
+use Rattle.pcap_flows.specs.declared.packet.FlowKey.{FlowKey}
+use Rattle.pcap_flows.specs.declared.packet.Sighting.{Sighting}
 use Rattle.pcap_flows.specs.Sighting.{sighting_of, same_flow}
 use Rattle.pcap_flows.specs.declared.route.Route.{Route}
-use Rattle.pcap_flows.specs.declared.clock.CaptureClock.{CaptureClock}
+use Rattle.pcap_flows.specs.declared.import.clock.CaptureClock.{CaptureClock}
 use Rattle.pcap_flows.specs.Clock.{clock_begun, clock_with}
 use Rattle.pcap_flows.specs.Lines.{tick_text, arrival_line, close_line}
 

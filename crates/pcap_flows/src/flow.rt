@@ -4,8 +4,8 @@ ghost use Rattle.pcap_flows.specs.Flow.{flow_first, flow_view, flow_with, lost_o
 ghost use Rattle.pcap_flows.specs.Numbers.{numbers_view};
 
 use crate::lengths::Lengths;
-use crate::numbers::Numbers;
-use crate::sighting::Sighting;
+use crate::packet::Sighting;
+use crate::received_numbers::Numbers;
 use crate::steps::Steps;
 use std::alloc::{AllocError, Global};
 

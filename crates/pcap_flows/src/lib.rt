@@ -13,40 +13,35 @@
 //! and never goes back. The capture's octets are the caller's. Memory is taken for the routes and the texts.
 #![tactic(auto)]
 
-mod clock;
-mod config;
 mod fault;
 mod fit;
 mod flow;
-mod form;
+mod import;
 mod lengths;
-mod lines;
-mod near;
-mod numbers;
-mod plan;
+mod packet;
+mod packet_format;
+mod received_numbers;
 mod route;
 mod routes;
-mod sighting;
+mod sequence;
 mod skew;
-mod starts;
 mod steps;
 mod streams;
 mod table;
-mod trace;
 
-pub use clock::CaptureClock;
-pub use config::config_text;
 pub use fault::ImportFault;
 pub use fit::{Fit, fit_of};
 pub use flow::Flow;
-pub use form::{Form, form_of};
+pub use import::clock::CaptureClock;
+pub use import::config::config_text;
+pub use import::{MOST_EVENTS, MOST_OCTETS, octets_in, route_in, trace_text};
 pub use lengths::Lengths;
-pub use numbers::Numbers;
+pub use packet::{FlowKey, Sighting, sighting_in};
+pub use packet_format::{Form, form_of};
+pub use received_numbers::Numbers;
 pub use route::Route;
 pub use routes::{Routes, routes_of};
-pub use sighting::{FlowKey, Sighting, sighting_in};
 pub use skew::{Pair, Skew, skew_of, skews_of};
 pub use steps::Steps;
 pub use streams::{Stream, streams_of};
 pub use table::{MOST_FLOWS, Table};
-pub use trace::{MOST_EVENTS, MOST_OCTETS, octets_in, route_in, trace_text};

@@ -1,5 +1,5 @@
 //! Which path of which stream a flow is.
-use crate::sighting::FlowKey;
+use crate::packet::FlowKey;
 
 /// A flow's place in a trace.
 #[derive(Clone, Copy)]

@@ -1,8 +1,8 @@
 //! The routes of a capture's flows.
 use crate::fault::ImportFault;
-use crate::form::{Form, form_of};
+use crate::packet::FlowKey;
+use crate::packet_format::{Form, form_of};
 use crate::route::Route;
-use crate::sighting::FlowKey;
 use crate::streams::{Stream, streams_of};
 use crate::table::Table;
 use std::alloc::Global;

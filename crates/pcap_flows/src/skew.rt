@@ -1,6 +1,6 @@
 //! The times between the arrivals of the same number on two paths.
-use crate::near::{CYCLE, first_number, number_near};
-use crate::sighting::{FlowKey, Sighting, sighting_in};
+use crate::packet::{FlowKey, Sighting, sighting_in};
+use crate::sequence::{CYCLE, first_number, number_near};
 use pcap_file::{Capture, open};
 use std::alloc::{AllocError, Global};
 

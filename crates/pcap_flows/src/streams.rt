@@ -1,6 +1,6 @@
 //! Flows that are paths of one stream (SMPTE ST 2022-7).
 use crate::flow::Flow;
-use crate::sighting::FlowKey;
+use crate::packet::FlowKey;
 use crate::table::Table;
 use std::alloc::{AllocError, Global};
 

@@ -4,7 +4,7 @@ ghost use Rattle.pcap_file.specs.Capture.{item_view, packets_left, packets_of};
 ghost use Rattle.pcap_flows.specs.Sighting.{same_flow};
 
 use crate::flow::Flow;
-use crate::sighting::{FlowKey, Sighting, sighting_in};
+use crate::packet::{FlowKey, Sighting, sighting_in};
 use pcap_file::{Capture, CaptureFault, Packet, open};
 use std::alloc::{AllocError, Global};
 

@@ -24,7 +24,7 @@ use Rattle.studio_run.proofs.BufferLemmas.{BreaksOff-finished, BreaksOff-later, 
 use Rattle.studio_run.proofs.StudioReportLemmas.{report_alone}
 use Rattle.pcap_replay.specs.declared.fault.ReplayFault.{ReplayFault}
 use Rattle.pcap_replay.specs.declared.fault.ReplayFault.TheVariants.{Memory, Capture, Run as RunOf, Full, Write}
-use Rattle.pcap_replay.specs.declared.run.Run.{Run}
+use Rattle.pcap_replay.specs.declared.state.Run.{Run}
 use Rattle.pcap_replay.specs.Lines.{Hearing}
 use Rattle.pcap_replay.specs.Events.{events_told, file_events}
 use Rattle.pcap_replay.specs.Plan.{PlanView}

@@ -2,7 +2,7 @@
 use Rattle.std.proofs.Common.{◌≡◌, ◌⊎◌, inl, inr, ℕ, ◌+◌, Bool, true, false, nat_lt, List, [], ◌∷◌, ◌++◌, ℤ, pos, if◌then◌else◌, Option, Some, None, refl, sym, ap, subst, ◌∙◌, append_assoc, append-nil}
 use Rattle.std.specs.Ordering.{int_eq}
 use Rattle.pcap_file.specs.Packet.{PacketView}
-use Rattle.pcap_flows.specs.declared.clock.CaptureClock.{CaptureClock}
+use Rattle.pcap_flows.specs.declared.import.clock.CaptureClock.{CaptureClock}
 use Rattle.pcap_flows.specs.Clock.{clock_with}
 use Rattle.pcap_flows.specs.Trace.{octets_of}
 use Rattle.studio_session.specs.Event.{TraceEvent, Arrival, Reading}
@@ -12,7 +12,7 @@ use Rattle.studio_session.proofs.FaultLemmas.{closed_more}
 use Rattle.studio_engine.proofs.EngineLemmas.{turned_same}
 use Rattle.pcap_replay.specs.Events.{AreFirst, clock_after, events_after, events_with, read_at}
 use Rattle.pcap_replay.specs.Plan.{PlanView, clock_past, opening_of, target_of}
-use Rattle.pcap_replay.specs.declared.plan.Target.{Target}
+use Rattle.pcap_replay.specs.declared.routing.Target.{Target}
 
 pub events_more : (open_at : ℤ) (plan : PlanView) (clock : CaptureClock) (events : List TraceEvent) (packets : List PacketView) (packet : PacketView)
     → events_after open_at plan clock events (packets ++ packet ∷ [])

@@ -2,7 +2,7 @@
 use Rattle.std.proofs.Common.{◌≡◌, ℕ, List, [], ◌∷◌, ◌++◌, map, Option, Some, None, Ok, Err, refl, sym, ap, ◌∙◌, append-nil}
 use Rattle.std.proofs.lemmas.List.{map-append}
 use Rattle.pcap_file.specs.declared.fault.CaptureFault.{CaptureFault}
-use Rattle.pcap_file.specs.declared.mark.RecordMark.{RecordMark}
+use Rattle.pcap_file.specs.declared.decode.record_mark.RecordMark.{RecordMark}
 use Rattle.pcap_file.specs.Entries.{Entry, entries_in}
 use Rattle.pcap_file.specs.Packet.{PacketView}
 use Rattle.pcap_file.specs.Capture.{Item, packets_of}

@@ -5,7 +5,7 @@ use Rattle.std.proofs.lemmas.Bool.{false≢true}
 use Rattle.std.proofs.lemmas.Bool.Decides.{nat_tests}
 use Rattle.std.proofs.lemmas.Int.{ints}
 use Rattle.pcap_file.specs.Packet.{PacketView}
-use Rattle.pcap_flows.specs.declared.clock.CaptureClock.{CaptureClock}
+use Rattle.pcap_flows.specs.declared.import.clock.CaptureClock.{CaptureClock}
 use Rattle.pcap_flows.specs.Clock.{clock_begun, clock_with, instants_in}
 use Rattle.pcap_flows.specs.Trace.{octets_of}
 use Rattle.rtp_stream.specs.declared.stream_spec.Stream.{Stream}
@@ -20,7 +20,7 @@ use Rattle.studio_engine.specs.Session.{turned}
 use Rattle.pcap_replay.specs.Events.{events_after, events_with, read_at, replay_events, clock_after}
 use Rattle.pcap_replay.specs.Plan.{path_at, places_of}
 use Rattle.pcap_replay.specs.Recorded.{AreRecorded, AreRising, IsAt, place_of}
-use Rattle.pcap_replay.specs.declared.plan.Target.{Target}
+use Rattle.pcap_replay.specs.declared.routing.Target.{Target}
 
 -- the path at a path's place is that path
 record HasPath (streams : List Stream) (stream path : ℕ) : Type 0 where

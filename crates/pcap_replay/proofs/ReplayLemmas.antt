@@ -5,7 +5,7 @@ use Rattle.std.specs.Io.KnownBytes.{Appends}
 use Rattle.std.proofs.Math.Seq.{take-length}
 use Rattle.std.proofs.lemmas.List.{length-map}
 use Rattle.pcap_file.specs.declared.parts.Parts.{Parts}
-use Rattle.pcap_file.specs.declared.part.Part.{Part}
+use Rattle.pcap_file.specs.declared.block_parser.Part.{Part}
 use Rattle.pcap_file.specs.Entries.{Entry, entries_at}
 use Rattle.pcap_file.specs.Packet.{PacketView, packet_view}
 use Rattle.pcap_file.specs.Parts.{items_at}
@@ -13,7 +13,7 @@ use Rattle.pcap_file.specs.declared.reader_fault.ReaderFault.{ReaderFault}
 use Rattle.pcap_file.specs.declared.reader_fault.ReaderFault.TheVariants as reader
 use Rattle.pcap_file.specs.Reader.{HasEntries, HasTold, IsLong, packets_among, packets_in, part_entries}
 use Rattle.pcap_file.proofs.ReaderEntryLemmas.{among_more}
-use Rattle.pcap_flows.specs.declared.clock.CaptureClock.{CaptureClock}
+use Rattle.pcap_flows.specs.declared.import.clock.CaptureClock.{CaptureClock}
 use Rattle.pcap_flows.specs.Clock.{clock_with}
 use Rattle.studio_mix.specs.Feed.{Feed}
 use Rattle.studio_config.specs.Studio.{Studio}
@@ -25,7 +25,7 @@ use Rattle.studio_run.specs.Listing.{datagrams_text}
 use Rattle.studio_run.proofs.BufferLemmas.{BreaksOff-finished, BreaksOff-later, PassesOn-none, PassesOn-finished, PassesOn-trans}
 use Rattle.pcap_replay.specs.declared.fault.ReplayFault.{ReplayFault}
 use Rattle.pcap_replay.specs.declared.fault.ReplayFault.TheVariants.{Memory, Capture, Run as RunOf, Full, Write}
-use Rattle.pcap_replay.specs.declared.run.Run.{Run}
+use Rattle.pcap_replay.specs.declared.state.Run.{Run}
 use Rattle.pcap_replay.specs.Lines.{BreaksLines, Hearing}
 use Rattle.pcap_replay.specs.Replay.{BeginsWith, BreaksAt, HasBegun, HasComeToClose, HasGoneOver, HasHeardFirst, HasReplayed, HasTaken, IsReason, IsReplaying, IsRun, IsOwn, Stops, StopsAt, StopsFile}
 use Rattle.pcap_replay.specs.Events.{AreFirst, clock_after, clock_of, closed_events, events_of, events_told, events_with, read_at}

@@ -6,7 +6,7 @@ use Rattle.std.proofs.lemmas.Grind.{flat_map-append}
 use Rattle.std.proofs.lemmas.List.{take-append-le}
 use Rattle.std.proofs.Math.Seq.{take-append_seam, take-length}
 use Rattle.rtp_wire.specs.declared.encoding.Enc.{Enc}
-use Rattle.wav_file.specs.declared.format.WavFormat.{WavFormat}
+use Rattle.wav_file.specs.declared.header.WavFormat.{WavFormat}
 use Rattle.wav_file.specs.Head.{head_octets}
 use Rattle.wav_file.specs.File.{Becomes, IsBegun, WavState, wav_octets}
 use Rattle.wav_file.specs.Recording.{HasAdded}

@@ -3,7 +3,7 @@ use Rattle.std.specs.Prelude.{◌≡◌, ℕ, ◌+◌, ◌++◌, nat_lt, List, [
 use Rattle.pcap_file.specs.Packet.{PacketView}
 use Rattle.pcap_file.specs.Entries.{Entry}
 use Rattle.pcap_file.specs.Reader.{packets_among}
-use Rattle.pcap_flows.specs.declared.clock.CaptureClock.{CaptureClock}
+use Rattle.pcap_flows.specs.declared.import.clock.CaptureClock.{CaptureClock}
 use Rattle.pcap_flows.specs.Clock.{clock_with}
 use Rattle.pcap_flows.specs.Trace.{octets_of}
 use Rattle.studio_config.specs.Studio.{Studio}
@@ -12,7 +12,7 @@ use Rattle.studio_session.specs.Fault.{time_at}
 use Rattle.studio_engine.specs.Session.{turned}
 use Rattle.pcap_replay.specs.Plan.{PlanView, clock_before, clock_past, closing_of, opening_of, target_of}
 use Rattle.pcap_replay.specs.Record.{closing_in}
-use Rattle.pcap_replay.specs.declared.plan.Target.{Target}
+use Rattle.pcap_replay.specs.declared.routing.Target.{Target}
 
 -- a reading, counted from a time, that is later than the one before is an event, but where it repeats the opening time
 abbrev pub read_at : ℤ → ℕ → List TraceEvent → ℕ → ℕ → List TraceEvent

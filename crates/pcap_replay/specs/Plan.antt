@@ -1,16 +1,16 @@
 -- Where the datagrams of a capture go, and from when its readings count.
 use Rattle.std.specs.Prelude.{ℕ, ◌+◌, ◌-◌, nat_lt, List, [], ◌∷◌, Option, Some, None, if◌then◌else◌}
 use Rattle.pcap_file.specs.Packet.{PacketView}
-use Rattle.pcap_flows.specs.declared.clock.CaptureClock.{CaptureClock}
+use Rattle.pcap_flows.specs.declared.import.clock.CaptureClock.{CaptureClock}
 use Rattle.pcap_flows.specs.declared.route.Route.{Route}
 use Rattle.pcap_flows.specs.Clock.{clock_begun, clock_with}
 use Rattle.pcap_flows.specs.Trace.{route_of}
 use Rattle.rtp_stream.specs.declared.stream_spec.Stream.{Stream}
 use Rattle.lane_align.specs.Lane.{natural}
 use Rattle.studio_config.specs.Studio.{Studio}
-use Rattle.pcap_replay.specs.declared.plan.Plan as declared
-use Rattle.pcap_replay.specs.declared.plan.Plan.TheVariants as plan
-use Rattle.pcap_replay.specs.declared.plan.Target.{Target}
+use Rattle.pcap_replay.specs.declared.routing.Plan as declared
+use Rattle.pcap_replay.specs.declared.routing.Plan.TheVariants as plan
+use Rattle.pcap_replay.specs.declared.routing.Target.{Target}
 
 -- flows have routes, and readings count from the first time; or interfaces are the places of these streams' paths,
 -- and readings count from an opening time, in sampling instants

@@ -1,7 +1,7 @@
 -- What the entries of a file say of a live run.
 use Rattle.std.specs.Prelude.{ℕ, List, [], ◌∷◌, Option, Some, None}
-use Rattle.pcap_file.specs.declared.mark.RecordMark.{RecordMark}
-use Rattle.pcap_file.specs.declared.mark.RecordMark.TheVariants.{Opened, Closed}
+use Rattle.pcap_file.specs.declared.decode.record_mark.RecordMark.{RecordMark}
+use Rattle.pcap_file.specs.declared.decode.record_mark.RecordMark.TheVariants.{Opened, Closed}
 use Rattle.pcap_file.specs.Entries.{Entry, Packet, Mark}
 
 -- when the studio was opened, by a mark

@@ -21,7 +21,7 @@ use Rattle.studio_run.specs.Play.{WritesEvents}
 use Rattle.studio_run.specs.StudioReport.{IsReport}
 use Rattle.pcap_replay.specs.declared.fault.ReplayFault.{ReplayFault}
 use Rattle.pcap_replay.specs.declared.fault.ReplayFault.TheVariants.{Memory, Capture, Run as RunOf, Full, Write}
-use Rattle.pcap_replay.specs.declared.run.Run.{Run}
+use Rattle.pcap_replay.specs.declared.state.Run.{Run}
 use Rattle.pcap_replay.specs.Lines.{Hearing}
 use Rattle.pcap_replay.specs.Events.{AreFirst, clock_of, events_of, events_told, file_events}
 use Rattle.pcap_replay.specs.Plan.{PlanView}

@@ -1,7 +1,7 @@
 -- The samples of a replay's datagrams in a WAV file.
 use Rattle.std.specs.Prelude.{◌≡◌, ◌≤◌, ℕ, ◌+◌, Bool, true, false, List, ◌++◌, length, take, Option, Some}
 use Rattle.std.specs.Io.KnownBytes.{Appends}
-use Rattle.wav_file.specs.declared.format.WavFormat.{WavFormat}
+use Rattle.wav_file.specs.declared.header.WavFormat.{WavFormat}
 use Rattle.wav_file.specs.Head.{head_octets}
 use Rattle.wav_file.specs.File.{WavState}
 use Rattle.studio_session.specs.Event.{TraceEvent}

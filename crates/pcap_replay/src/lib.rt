@@ -7,23 +7,23 @@
 //! A `Listener` is told of these events and of the datagrams that they give: a `Sound` writes them to a WAV file.
 #![tactic(auto)]
 
-mod counts;
+mod count_lines;
+mod events;
 mod fault;
-mod flows;
-mod go_over;
+mod flow_scan;
 mod laws;
-mod listener;
-mod plan;
+mod observer;
+mod output;
 mod player;
-mod record;
-mod run;
-mod sound;
-mod turn;
+mod record_times;
+mod routing;
+mod state;
+mod wav_observer;
 
 pub use fault::ReplayFault;
-pub use flows::flows_of;
+pub use flow_scan::flows_of;
 pub use laws::{a_record_says_its_run, a_replay_takes_its_import};
-pub use listener::{Deaf, Listener};
+pub use observer::{Deaf, Listener};
 pub use player::{replay, replay_record};
-pub use record::opening_of;
-pub use sound::Sound;
+pub use record_times::opening_of;
+pub use wav_observer::Sound;

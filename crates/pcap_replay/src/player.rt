@@ -9,12 +9,12 @@ ghost use Rattle.pcap_replay.specs.Plan.{Flows, clock_before, places_of, plan_vi
 ghost use Rattle.pcap_replay.specs.Replay.{BreaksOffReplay, BreaksReport, CanClose, EndsBehind, HasBegun, HasComeToClose, HasHeardAll, HasReplayed, IsReplaying, StopsFile, WritesReplay};
 ghost use Rattle.studio_config.specs.Studio.{Studio};
 
-use crate::counts::write_all_counts;
+use crate::count_lines::write_all_counts;
 use crate::fault::ReplayFault;
-use crate::listener::Listener;
-use crate::plan::Plan;
-use crate::run::Run;
-use crate::turn::write_rest;
+use crate::observer::Listener;
+use crate::output::write_rest;
+use crate::routing::Plan;
+use crate::state::Run;
 use pcap_file::{Parts, Window, reader_open as open};
 use pcap_flows::Route;
 use std::alloc::{AllocError, Global};

@@ -5,7 +5,7 @@ use Rattle.std.proofs.lemmas.Bool.Decides.{eqb_tells}
 use Rattle.std.proofs.lemmas.List.{get_or-set_other, get_or-set_same, get_or_default}
 use Rattle.std.proofs.lemmas.List.Sums.{count_by-le-length}
 use Rattle.path_merge.proofs.TallyLemmas.{count_by-first}
-use Rattle.reception_chart.specs.declared.axis.Axis.{Axis}
+use Rattle.reception_chart.specs.declared.reception.axis.Axis.{Axis}
 use Rattle.reception_chart.specs.Bins.{BinsState, HasCounted, Seen, bin_of, count_in, is_in, row_of}
 
 -- what one counts

@@ -1,9 +1,9 @@
 -- What was seen of a stream, by span and kind.
 use Rattle.std.specs.Prelude.{◌≡◌, ◌<◌, ◌+◌, ◌*◌, ℕ, ℤ, Bool, ◌&&◌, nat_eq, List, get_or, count_by}
 use Rattle.reception_chart.specs.Axis.{span_of}
-use Rattle.reception_chart.specs.declared.axis.Axis.{Axis}
-use Rattle.reception_chart.specs.declared.sighting.Kind.{Kind}
-use Rattle.reception_chart.specs.declared.sighting.Kind.TheVariants.{Taken, Double, Late, Refused, Lost, Restart}
+use Rattle.reception_chart.specs.declared.reception.axis.Axis.{Axis}
+use Rattle.reception_chart.specs.declared.reception.Kind.{Kind}
+use Rattle.reception_chart.specs.declared.reception.Kind.TheVariants.{Taken, Double, Late, Refused, Lost, Restart}
 
 -- one thing that was seen, and when
 pub record Seen : Type 0 where

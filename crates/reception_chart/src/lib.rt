@@ -6,34 +6,20 @@
 //! beside the picture are sums over the bins; the counts below are those of the report.
 #![tactic(auto)]
 
-mod axis;
-mod bins;
-mod counts;
-mod extent;
-mod gather;
-mod legend;
+mod draw;
 mod observer;
-mod panel;
-mod picture;
-mod plot;
-mod sighting;
-mod spare_rows;
-mod spares;
-mod streams;
-mod strip;
-mod svg;
-mod ticks;
-mod watch;
+mod reception;
+mod render;
 
-pub use axis::{Axis, MOST_BINS};
-pub use bins::{Bins, ROWS};
-pub use extent::Extent;
-pub use gather::Gathered;
 pub use observer::Observer;
-pub use picture::chart;
-pub use sighting::{
+pub use reception::axis::{Axis, MOST_BINS};
+pub use reception::bins::{Bins, ROWS};
+pub use reception::extent::Extent;
+pub use reception::margins::{SPARE_BINS, Spares};
+pub use reception::panel_data::Gathered;
+pub use reception::stream_tracker::{Watch, watch_stream};
+pub use reception::studio_tracker::Streams;
+pub use reception::{
     Copied, DOUBLE_ROW, Kind, LATE_ROW, LOST_ROW, REFUSED_ROW, RESTART_ROW, Sighting,
 };
-pub use spares::{SPARE_BINS, Spares};
-pub use streams::Streams;
-pub use watch::{Watch, watch_stream};
+pub use render::chart;

@@ -1,5 +1,5 @@
 //! Who is told what is seen of a stream.
-use crate::sighting::Sighting;
+use crate::reception::Sighting;
 
 /// Who is told what is seen.
 pub trait Observer {

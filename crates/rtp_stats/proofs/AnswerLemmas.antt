@@ -11,7 +11,7 @@ use Rattle.rtp_stats.specs.Spare.{IsLatest, IsLeast, IsMedian, is_in, last_spare
 use Rattle.rtp_stats.specs.Tally.{HasSeconds}
 use Rattle.rtp_stats.specs.Offer.{Offer}
 use Rattle.rtp_stats.specs.declared.spare.Spare.{Spare}
-use Rattle.rtp_stats.specs.declared.second.Second.{Second}
+use Rattle.rtp_stats.specs.declared.tally.margins.Second.{Second}
 
 -- the seconds of a clock don't go back
 second_of-le : (t u : ℤ) → t ≤ℤ u → second_of t ≤ second_of u

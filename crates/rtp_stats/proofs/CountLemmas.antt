@@ -9,7 +9,7 @@ use Rattle.rtp_stream.specs.declared.fate.Fate.{Fate}
 use Rattle.rtp_stream.specs.declared.fate.Fate.TheVariants.{Ahead, Closed, CountersFull, Double, Late, OffGrid, Restarted, Taken, Unlike, WrongSource}
 use Rattle.rtp_stats.specs.Counts.{AreCounts, HasFates, one_more, with_fate}
 use Rattle.rtp_stats.specs.Offers.{count_in_64_bits, offers_of}
-use Rattle.rtp_stats.specs.declared.counts.FateCounts.{FateCounts}
+use Rattle.rtp_stats.specs.declared.tally.fate_counts.FateCounts.{FateCounts}
 use Rattle.rtp_stats.specs.Offer.{Offer}
 
 pub counted_more : (n : ℕ) → count_in_64_bits (count_in_64_bits n + 1) ≡ count_in_64_bits (n + 1)

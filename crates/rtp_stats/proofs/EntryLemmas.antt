@@ -7,7 +7,7 @@ use Rattle.rtp_stream.specs.Counts.{is_double, is_late, is_taken_fate, is_unlike
 use Rattle.rtp_stats.proofs.CountLemmas.{and_false}
 use Rattle.rtp_stats.specs.Entry.{HasEntry, empty_entry, entry_after, entry_of, misses, no_path, with_copy}
 use Rattle.rtp_stats.specs.Missed.{has_brought, is_copy_fate, is_copy_on, is_without, taken_last, takes}
-use Rattle.rtp_stats.specs.declared.entry.Entry.{Entry}
+use Rattle.rtp_stats.specs.declared.tally.window_copies.Entry.{Entry}
 use Rattle.rtp_stats.specs.Offer.{Offer}
 
 some_inside : (a b : ℕ) → Some a ≡ Some b → a ≡ b

@@ -5,7 +5,7 @@ use Rattle.std.proofs.lemmas.Bool.Decides.{nat_tests}
 use Rattle.std.proofs.lemmas.List.Sums.{count_by-le-length, sum_by-cons, sum_by_more}
 use Rattle.rtp_stats.specs.Second.{HasSpares, IsMiddle, bin_of, count_in}
 use Rattle.rtp_stats.specs.Spare.{IsMedian}
-use Rattle.rtp_stats.specs.declared.second.Second.{Second}
+use Rattle.rtp_stats.specs.declared.tally.margins.Second.{Second}
 
 -- how many spare times are less
 abbrev pub less_than : ℕ → List ℕ → ℕ

@@ -8,7 +8,7 @@ use Rattle.rtp_stats.specs.Counts.{AreCounts}
 use Rattle.rtp_stats.specs.Entry.{HasEntry, misses}
 use Rattle.rtp_stats.specs.Missed.{ends_missed, missed_of}
 use Rattle.rtp_stats.specs.Offers.{count_in_64_bits}
-use Rattle.rtp_stats.specs.declared.entry.Entry.{Entry}
+use Rattle.rtp_stats.specs.declared.tally.window_copies.Entry.{Entry}
 use Rattle.rtp_stats.specs.Offer.{Offer}
 
 counted_if : (m n : ℕ) (b : Bool) → n ≡ count_in_64_bits m → (if b then count_in_64_bits (n + 1) else n) ≡ count_in_64_bits ((if b then 1 else 0) + m)

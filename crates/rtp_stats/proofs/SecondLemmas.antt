@@ -11,7 +11,7 @@ use Rattle.rtp_stats.proofs.CountLemmas.{and_false}
 use Rattle.rtp_stats.specs.Second.{HasSecond, HasSpares, bin_of, count_in, count_in_32_bits, empty_second, second_after, with_spare}
 use Rattle.rtp_stats.specs.Spare.{is_in, second_of, spare_at, spares_in}
 use Rattle.rtp_stats.specs.Offer.{Offer}
-use Rattle.rtp_stats.specs.declared.second.Second.{Second}
+use Rattle.rtp_stats.specs.declared.tally.margins.Second.{Second}
 
 some_is_none : (x : ℕ) → Some x ≡ None → ⊥
 some_is_none x e = cc

@@ -15,9 +15,9 @@ use Rattle.rtp_stats.specs.Offers.{count_in_64_bits}
 use Rattle.rtp_stats.specs.Second.{AreNewSeconds, HasSecond, empty_second, place_of, second_after}
 use Rattle.rtp_stats.specs.Spare.{second_of}
 use Rattle.rtp_stats.specs.Tally.{HasEntries, HasSeconds}
-use Rattle.rtp_stats.specs.declared.entry.Entry.{Entry}
+use Rattle.rtp_stats.specs.declared.tally.window_copies.Entry.{Entry}
 use Rattle.rtp_stats.specs.Offer.{Offer}
-use Rattle.rtp_stats.specs.declared.second.Second.{Second}
+use Rattle.rtp_stats.specs.declared.tally.margins.Second.{Second}
 
 -- places
 pub entries_new : (window : ℕ) → HasEntries window [] (replicate window empty_entry)

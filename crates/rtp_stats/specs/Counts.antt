@@ -2,7 +2,7 @@
 use Rattle.std.specs.Prelude.{◌≡◌, ℕ, ◌+◌, ◌<◌, List, length, slice_index, slice_set}
 use Rattle.rtp_stream.specs.declared.fate.Fate.{Fate}
 use Rattle.rtp_stream.specs.declared.fate.Fate.TheVariants.{Closed, CountersFull, WrongSource, OffGrid, Late, Ahead, Taken, Double, Unlike, Restarted}
-use Rattle.rtp_stats.specs.declared.counts.FateCounts.{FateCounts}
+use Rattle.rtp_stats.specs.declared.tally.fate_counts.FateCounts.{FateCounts}
 use Rattle.rtp_stats.specs.Offer.{Offer}
 use Rattle.rtp_stats.specs.Offers.{count_in_64_bits, double_of, first_of, late_of, unlike_of}
 

@@ -2,7 +2,7 @@
 use Rattle.std.specs.Prelude.{◌≡◌, ℕ, ◌<◌, Bool, true, false, not, ◌&&◌, nat_eq, List, [], ◌∷◌, length, slice_index_or, slice_set, Option, Some, None, if◌then◌else◌}
 use Rattle.rtp_stream.specs.declared.fate.Fate.{Fate}
 use Rattle.rtp_stream.specs.Counts.{is_taken_fate}
-use Rattle.rtp_stats.specs.declared.entry.Entry.{Entry}
+use Rattle.rtp_stats.specs.declared.tally.window_copies.Entry.{Entry}
 use Rattle.rtp_stats.specs.Offer.{Offer}
 use Rattle.rtp_stats.specs.Missed.{has_brought, is_copy_fate, taken_last}
 

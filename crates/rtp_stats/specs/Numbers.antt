@@ -5,7 +5,7 @@ use Rattle.rtp_stats.specs.Offer.{Offer}
 use Rattle.rtp_stats.specs.Missed.{missed_of}
 use Rattle.rtp_stats.specs.Offers.{count_in_64_bits, double_of, first_of, late_of, unlike_of}
 use Rattle.rtp_stats.specs.Spare.{IsLatest, IsLeast, IsMedian, last_spares}
-use Rattle.rtp_stats.specs.declared.numbers.PathNumbers.{PathNumbers}
+use Rattle.rtp_stats.specs.declared.stats.PathNumbers.{PathNumbers}
 
 -- what became of the packets of a path, and the spare times of the whole second before this reading's
 pub record AreNumbers (stream : Stream) (offers : List Offer) (path : ℕ) (now : ℤ) (numbers : PathNumbers) : Type 0 where

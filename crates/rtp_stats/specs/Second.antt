@@ -1,7 +1,7 @@
 -- What is kept of a path's spare times in one second.
 use Rattle.std.specs.Prelude.{◌≡◌, ℕ, ◌+◌, ◌*◌, ◌/◌, ◌%◌, ◌-◌, ◌^◌, ◌<◌, ◌≤◌, min, nat_eq, nat_lt, ◌||◌, List, length, take, sum, replicate, count_by, slice_index, slice_index_or, slice_set, IsSome, if◌then◌else◌}
 use Rattle.std.specs.List.{All, Contains}
-use Rattle.rtp_stats.specs.declared.second.Second.{Second}
+use Rattle.rtp_stats.specs.declared.tally.margins.Second.{Second}
 use Rattle.rtp_stats.specs.Offer.{Offer}
 use Rattle.rtp_stats.specs.declared.spare.Spare.{Spare}
 use Rattle.rtp_stats.specs.Spare.{second_of, spares_in}

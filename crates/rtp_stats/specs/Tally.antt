@@ -1,9 +1,9 @@
 -- What a tally is after a list of offers, the latest first.
 use Rattle.std.specs.Prelude.{◌≡◌, ℕ, ◌/◌, ◌%◌, ◌<◌, List, length, slice_index_or}
 use Rattle.rtp_stream.specs.declared.stream_spec.Stream.{Stream}
-use Rattle.rtp_stats.specs.declared.counts.FateCounts.{FateCounts}
-use Rattle.rtp_stats.specs.declared.entry.Entry.{Entry}
-use Rattle.rtp_stats.specs.declared.second.Second.{Second}
+use Rattle.rtp_stats.specs.declared.tally.fate_counts.FateCounts.{FateCounts}
+use Rattle.rtp_stats.specs.declared.tally.window_copies.Entry.{Entry}
+use Rattle.rtp_stats.specs.declared.tally.margins.Second.{Second}
 use Rattle.rtp_stats.specs.Offer.{Offer}
 use Rattle.rtp_stats.specs.Counts.{AreCounts, HasFates}
 use Rattle.rtp_stats.specs.Entry.{HasEntry}

@@ -8,10 +8,10 @@ use Rattle.rtp_stats.specs.Offer.{Offer}
 use Rattle.rtp_stats.specs.Peaks.{peak_of}
 use Rattle.rtp_stats.specs.Newest.{Gives, GoesThrough, HasNoPlace}
 use Rattle.rtp_stats.specs.Numbers.{AreNumbers}
-use Rattle.rtp_stats.specs.declared.mix_teller.MixTeller.{MixTeller}
-use Rattle.rtp_stats.specs.declared.numbers.MixNumbers.{MixNumbers}
-use Rattle.rtp_stats.specs.declared.numbers.PathNumbers.{PathNumbers}
-use Rattle.rtp_stats.specs.declared.numbers.StreamNumbers.{StreamNumbers}
+use Rattle.rtp_stats.specs.declared.channel.mix_sender.MixTeller.{MixTeller}
+use Rattle.rtp_stats.specs.declared.stats.MixNumbers.{MixNumbers}
+use Rattle.rtp_stats.specs.declared.stats.PathNumbers.{PathNumbers}
+use Rattle.rtp_stats.specs.declared.stats.StreamNumbers.{StreamNumbers}
 
 -- these counts, and the numbers of each path, at one reading of the clock
 pub record AreTold (stream : Stream) (offers : List Offer) (counts : Counts) (now : ℤ) (numbers : StreamNumbers) : Type 0 where

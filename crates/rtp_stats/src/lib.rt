@@ -20,32 +20,25 @@
 //! and the calls that open take memory.
 #![tactic(auto)]
 
-mod copy_watch;
-mod counts;
+mod channel;
+mod copy_tracker;
 mod deadlines;
-mod entry;
 mod laws;
-mod mix_teller;
-mod mix_watch;
-mod numbers;
 mod path_tally;
-mod path_watch;
 mod peaks;
-mod ring;
-mod second;
 mod spare;
-mod stream_watch;
+mod stats;
 mod tally;
 
-pub use copy_watch::CopyWatch;
+pub use channel::mix::{MixWatch, open_mix_watch};
+pub use channel::mix_sender::MixTeller;
+pub use channel::path::{PathTeller, PathWatch, open_path_watch};
+pub use channel::stream::{StreamTeller, StreamWatch, open_watch};
+pub use copy_tracker::CopyWatch;
 pub use deadlines::{Deadlines, spare_before};
 pub use laws::{a_path_misses_what_it_gives_up, each_number_is_first_on_one_path};
-pub use mix_teller::MixTeller;
-pub use mix_watch::{MixWatch, open_mix_watch};
-pub use numbers::{MixNumbers, PathNumbers, StreamNumbers};
 pub use path_tally::PathTally;
-pub use path_watch::{PathTeller, PathWatch, open_path_watch};
 pub use peaks::raise_peaks;
 pub use spare::Spare;
-pub use stream_watch::{StreamTeller, StreamWatch, open_watch};
+pub use stats::{MixNumbers, PathNumbers, StreamNumbers};
 pub use tally::StreamTally;

@@ -2,21 +2,25 @@
 ghost use Rattle.std.specs.Prelude.{◌≡◌, ◌^◌, ◌<◌, List, [], ◌∷◌, length, replicate, slice_index_or, slice_set, IfOk, IfSome, IsNone};
 ghost use Rattle.rtp_stream.specs.declared.stream_spec.Stream.{Stream};
 ghost use Rattle.rtp_stats.specs.Offer.{Offer};
-ghost use Rattle.rtp_stats.specs.declared.second.Second.{Second};
+ghost use Rattle.rtp_stats.specs.declared.tally.margins.Second.{Second};
 ghost use Rattle.rtp_stats.specs.Entry.{empty_entry};
 ghost use Rattle.rtp_stats.specs.Missed.{missed_of};
 ghost use Rattle.rtp_stats.specs.Offers.{count_in_64_bits, double_of, first_of, late_of, unlike_of};
 ghost use Rattle.rtp_stats.specs.Second.{AreNewSeconds, place_of, second_after};
 ghost use Rattle.rtp_stats.specs.Spare.{IsLatest, IsLeast, IsMedian, last_spares, second_of};
 
-use crate::counts::FateCounts;
-use crate::entry::{Entry, note};
 use crate::path_tally::PathTally;
-use crate::second::{Second, second_of};
 use crate::spare::Spare;
+use crate::tally::fate_counts::FateCounts;
+use crate::tally::margins::{Second, second_of};
+use crate::tally::window_copies::{Entry, note};
 use rtp_stream::{Fate, Path, StreamSpec};
 use std::alloc::{AllocError, Global};
 use std::marker::Model;
+
+mod fate_counts;
+mod margins;
+mod window_copies;
 
 /// What became of the offers of one stream, path by path.
 ///

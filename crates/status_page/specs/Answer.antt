@@ -6,9 +6,9 @@ use Rattle.http1.specs.Fields.{Header}
 use Rattle.http_server.specs.declared.state.Config.{Config}
 use Rattle.http_server.specs.declared.response.Response.{Response}
 use Rattle.http_server.specs.Response.{IsResponse}
-use Rattle.status_page.specs.declared.html.TheConstants.{HTML}
-use Rattle.status_page.specs.declared.resource.Resource.{Resource}
-use Rattle.status_page.specs.declared.resource.Resource.TheVariants.{Page, State, Metrics}
+use Rattle.status_page.specs.declared.page.html.TheConstants.{HTML}
+use Rattle.status_page.specs.declared.page.resource.Resource.{Resource}
+use Rattle.status_page.specs.declared.page.resource.Resource.TheVariants.{Page, State, Metrics}
 use Rattle.status_page.specs.declared.snapshot.Snapshot.{Snapshot}
 use Rattle.status_page.specs.Metrics.{metrics_text}
 use Rattle.status_page.specs.State.{state_tokens}

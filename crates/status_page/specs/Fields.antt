@@ -3,14 +3,14 @@ use Rattle.std.specs.Prelude.{ℕ, List, Option, Some, codes, option_map}
 use Rattle.status_page.specs.declared.snapshot.PathState.{PathState}
 use Rattle.status_page.specs.declared.snapshot.StreamState.{StreamState}
 use Rattle.status_page.specs.declared.snapshot.OutputState.{OutputState}
-use Rattle.status_page.specs.declared.path_field.PathField.{PathField}
-use Rattle.status_page.specs.declared.path_field.PathField.TheVariants as Path
-use Rattle.status_page.specs.declared.stream_field.StreamField.{StreamField}
-use Rattle.status_page.specs.declared.stream_field.StreamField.TheVariants as Stream
-use Rattle.status_page.specs.declared.output_field.OutputField.{OutputField}
-use Rattle.status_page.specs.declared.output_field.OutputField.TheVariants as Output
-use Rattle.status_page.specs.declared.kind.Kind.{Kind}
-use Rattle.status_page.specs.declared.kind.Kind.TheVariants.{Counter, Gauge}
+use Rattle.status_page.specs.declared.fields.path.PathField.{PathField}
+use Rattle.status_page.specs.declared.fields.path.PathField.TheVariants as Path
+use Rattle.status_page.specs.declared.fields.stream.StreamField.{StreamField}
+use Rattle.status_page.specs.declared.fields.stream.StreamField.TheVariants as Stream
+use Rattle.status_page.specs.declared.fields.output.OutputField.{OutputField}
+use Rattle.status_page.specs.declared.fields.output.OutputField.TheVariants as Output
+use Rattle.status_page.specs.declared.fields.Kind.{Kind}
+use Rattle.status_page.specs.declared.fields.Kind.TheVariants.{Counter, Gauge}
 
 -- how a number of a path is called
 abbrev pub path_key : PathField → List ℕ

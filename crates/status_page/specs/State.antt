@@ -7,12 +7,12 @@ use Rattle.status_page.specs.declared.snapshot.PathState.{PathState}
 use Rattle.status_page.specs.declared.snapshot.StreamState.{StreamState}
 use Rattle.status_page.specs.declared.snapshot.OutputState.{OutputState}
 use Rattle.status_page.specs.declared.snapshot.Snapshot.{Snapshot}
-use Rattle.status_page.specs.declared.path_field.PathField.{PathField}
-use Rattle.status_page.specs.declared.stream_field.StreamField.{StreamField}
-use Rattle.status_page.specs.declared.output_field.OutputField.{OutputField}
-use Rattle.status_page.specs.declared.path_field.TheConstants.{PATH_FIELDS}
-use Rattle.status_page.specs.declared.stream_field.TheConstants.{STREAM_FIELDS}
-use Rattle.status_page.specs.declared.output_field.TheConstants.{OUTPUT_FIELDS}
+use Rattle.status_page.specs.declared.fields.path.PathField.{PathField}
+use Rattle.status_page.specs.declared.fields.stream.StreamField.{StreamField}
+use Rattle.status_page.specs.declared.fields.output.OutputField.{OutputField}
+use Rattle.status_page.specs.declared.fields.path.TheConstants.{PATH_FIELDS}
+use Rattle.status_page.specs.declared.fields.stream.TheConstants.{STREAM_FIELDS}
+use Rattle.status_page.specs.declared.fields.output.TheConstants.{OUTPUT_FIELDS}
 use Rattle.status_page.specs.Fields.{path_key, path_value, stream_key, stream_value, output_key, output_value}
 use Rattle.status_page.specs.Metrics.{condition_text}
 

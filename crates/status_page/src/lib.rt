@@ -14,37 +14,26 @@
 //! that reads nothing waits alone, and is dropped after a while, as is each past the 64th.
 #![tactic(auto)]
 
-mod client;
 mod condition;
 mod connection;
-mod html;
-mod kind;
-mod metrics;
-mod output_field;
+mod fields;
 mod page;
-mod path_field;
 mod pulse;
-mod resource;
-mod samples;
 mod server;
 mod snapshot;
-mod source;
-mod state;
-mod stream_field;
-mod text;
 
 pub use condition::CONDITIONS;
 pub use connection::open;
-pub use html::HTML;
-pub use kind::Kind;
-pub use metrics::metrics_of;
-pub use output_field::{OUTPUT_FIELDS, OutputField};
+pub use fields::Kind;
+pub use fields::output::{OUTPUT_FIELDS, OutputField};
+pub use fields::path::{PATH_FIELDS, PathField};
+pub use fields::stream::{STREAM_FIELDS, StreamField};
 pub use page::Page;
-pub use path_field::{PATH_FIELDS, PathField};
+pub use page::html::HTML;
+pub use page::metrics::metrics_of;
+pub use page::resource::Resource;
+pub use page::state::state_of;
 pub use pulse::Pulse;
-pub use resource::Resource;
+pub use server::source::{RingSource, SnapshotSource, serve_page};
 pub use server::{MOST_CLIENTS, PageServer};
 pub use snapshot::{Condition, Copies, Name, OutputState, PathState, Snapshot, Spare, StreamState};
-pub use source::{RingSource, SnapshotSource, serve_page};
-pub use state::state_of;
-pub use stream_field::{STREAM_FIELDS, StreamField};

@@ -5,18 +5,25 @@ ghost use Rattle.http_server.specs.History.{IsServed, Rests};
 ghost use Rattle.http_server.specs.Response.{IsBlank, IsResponse};
 ghost use Rattle.status_page.specs.Answered.{page_answers, AnswersMore};
 ghost use Rattle.status_page.specs.Answer.{is_read, content_of, shown_fields, refused_fields};
-ghost use Rattle.status_page.specs.declared.resource.Resource.TheVariants.{State};
+ghost use Rattle.status_page.specs.declared.page.resource.Resource.TheVariants.{State};
 
-use crate::html::page_html;
-use crate::metrics::metrics_of;
-use crate::resource::Resource;
+use crate::page::html::page_html;
+use crate::page::metrics::metrics_of;
+use crate::page::resource::Resource;
+use crate::page::state::state_of;
 use crate::snapshot::Snapshot;
-use crate::state::state_of;
 use bytes::Bytes;
 use http::{HeaderName, HeaderValue, Method, Request, StatusCode};
 use http_server::{Connection, Response, Service};
 use std::alloc::{AllocError, Global};
 use std::marker::Model;
+
+pub(crate) mod html;
+pub(crate) mod metrics;
+pub(crate) mod resource;
+mod samples;
+pub(crate) mod state;
+mod text;
 
 /// Answers the requests of all connections from one snapshot, which the caller renews between them. Its JSON is written once
 /// for all who ask for it.
@@ -31,7 +38,7 @@ pub struct Page {
 impl Model for Page {
     ghost use Rattle.std.specs.Prelude.{◌≡◌, IfSome};
     ghost use Rattle.status_page.specs.declared.snapshot.Snapshot as shown;
-    ghost use Rattle.status_page.specs.declared.resource.Resource.TheVariants.{State};
+    ghost use Rattle.status_page.specs.declared.page.resource.Resource.TheVariants.{State};
     ghost use Rattle.status_page.specs.Answer.{content_of};
 
     ghost Value = { shown.Snapshot };

@@ -1,7 +1,7 @@
 //! The sockets of the page.
-use crate::client::{Client, Progress};
 use crate::connection::open;
 use crate::page::Page;
+use crate::server::client::{Client, Progress};
 use mio::net::{TcpListener, TcpStream};
 use mio::{Events, Interest, Poll, Token};
 use slab::Slab;
@@ -10,6 +10,9 @@ use std::hash::RandomState;
 use std::io;
 use std::net::{Ipv4Addr, Net, SocketAddr};
 use std::time::Duration;
+
+mod client;
+pub(crate) mod source;
 
 /// How many clients are answered at once. Those past them are let go.
 pub const MOST_CLIENTS: usize = 64;

@@ -15,7 +15,7 @@ use Rattle.lane_align.specs.AcceptedMarks.{accepted_after, accepted_with}
 use Rattle.lane_align.specs.Cover.{covers, cover_of}
 use Rattle.mix_packets.specs.Block.{block_start}
 use Rattle.studio_ends.specs.Mixes.{TakesMarks, TakesWanted, fed_more}
-use Rattle.studio_ends.specs.declared.side.Side.{Side}
+use Rattle.studio_ends.specs.declared.rings.Side.{Side}
 use Rattle.studio_ends.proofs.TurnLemmas.{consumers}
 
 pub accepted_after-append : (format : Format) (before xs ys : List MarkView) → accepted_after format before (xs ++ ys) ≡ accepted_after format (accepted_after format before xs) ys

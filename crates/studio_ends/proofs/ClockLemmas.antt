@@ -11,9 +11,9 @@ use Rattle.path_merge.specs.Merge.{HasHistory}
 use Rattle.studio_ends.specs.Stop.{StopsFor}
 use Rattle.studio_ends.specs.Streams.{AllDelivered, ReadsClock, packets_by}
 use Rattle.studio_ends.specs.Turns.{PushesMarks}
-use Rattle.studio_ends.specs.declared.side.Side.{Side}
+use Rattle.studio_ends.specs.declared.rings.Side.{Side}
 use Rattle.studio_ends.specs.declared.stream_end.StreamEnd.{StreamEnd}
-use Rattle.studio_ends.specs.declared.turn.StopReason.{StopReason}
+use Rattle.studio_ends.specs.declared.stream_end.marks_out.StopReason.{StopReason}
 use Rattle.studio_ends.proofs.StreamLemmas.{packets_by-append}
 
 delivered-tick : (stream : Stream) (n : ℕ) (sides : List (Side Packet)) (es : List Event) (u : ℤ) → AllDelivered stream n sides es → AllDelivered stream n sides (es ++ Tick u ∷ [])

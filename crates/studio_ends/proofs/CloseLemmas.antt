@@ -12,7 +12,7 @@ use Rattle.path_merge.specs.Merge.{HasHistory}
 use Rattle.studio_ends.specs.Looks.{AllLookAt}
 use Rattle.studio_ends.specs.Fitting.{fitting}
 use Rattle.studio_ends.specs.Streams.{AllDelivered, StreamHasHistory, packets_by}
-use Rattle.studio_ends.specs.declared.side.Side.{Side}
+use Rattle.studio_ends.specs.declared.rings.Side.{Side}
 use Rattle.studio_ends.specs.declared.stream_end.StreamEnd.{StreamEnd}
 use Rattle.path_merge.proofs.LawLemmas.{marks_stay}
 use Rattle.studio_ends.proofs.StreamLemmas.{packets_by-append}

@@ -6,7 +6,7 @@ use Rattle.std.proofs.Math.Seq.{take-length}
 use Rattle.std.proofs.lemmas.List as lists
 use Rattle.studio_ends.specs.Side.{IsDrained}
 use Rattle.studio_ends.specs.Looks.{AllDrained, AllFalse, AllLookAt, AreOpen, LooksAt}
-use Rattle.studio_ends.specs.declared.side.Side.{Side}
+use Rattle.studio_ends.specs.declared.rings.Side.{Side}
 
 all_false-drop : (n : ℕ) (bs : List Bool) → AllFalse bs → AllFalse (drop n bs)
 all_false-drop zero bs h = h

@@ -15,7 +15,7 @@ use Rattle.studio_mix.specs.Feed.{Feed}
 use Rattle.studio_mix.specs.Mixer.{MixerState, HasFeeds}
 use Rattle.studio_ends.specs.AcceptedFeeds.{accepted_feeds, accepted_total, received_total}
 use Rattle.studio_ends.specs.Mixes.{AllStopTaking, AllTakeSome, StopsTaking, TakesAllMarks, TakesSome, TakesWanted, fed_more}
-use Rattle.studio_ends.specs.declared.side.Side.{Side}
+use Rattle.studio_ends.specs.declared.rings.Side.{Side}
 use Rattle.studio_ends.proofs.AcceptedLemmas.{accepted_after-append}
 
 all_take-snoc : (olds news : List (Side MarkView)) (old new : Side MarkView) → AllTakeSome olds news → TakesSome old new → AllTakeSome (olds ++ old ∷ []) (news ++ new ∷ [])

@@ -18,7 +18,7 @@ use Rattle.studio_ends.specs.Streams.{AllDelivered, StreamHasHistory}
 use Rattle.studio_ends.specs.AcceptedFeeds.{accepted_feeds}
 use Rattle.studio_ends.specs.FreshEnds.{AllFreshPaths, AllFreshRings, AllFreshStreams, AreFreshRings, IsFreshPath, IsFreshStream}
 use Rattle.studio_ends.specs.Opening.{AddsStream, AllUnread, AreFreshEnds}
-use Rattle.studio_ends.specs.declared.side.Side.{Side}
+use Rattle.studio_ends.specs.declared.rings.Side.{Side}
 use Rattle.studio_ends.specs.declared.path_end.PathEnd.{PathEnd}
 use Rattle.studio_ends.specs.declared.stream_end.StreamEnd.{StreamEnd}
 use Rattle.studio_ends.specs.declared.monitor_end.MonitorEnd.{MonitorEnd}

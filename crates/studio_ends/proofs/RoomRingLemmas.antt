@@ -11,7 +11,7 @@ use Rattle.rtp_stream.specs.StreamSpecFacts.{format_of}
 use Rattle.studio_mix.specs.Mixer.{MixerState}
 use Rattle.studio_ends.specs.Mixes.{TakesWanted}
 use Rattle.studio_ends.specs.RoomRings.{AreRoomy, HasRoomFor, done_with, named, side_with}
-use Rattle.studio_ends.specs.declared.side.Side.{Side}
+use Rattle.studio_ends.specs.declared.rings.Side.{Side}
 
 -- what fits each of the three rooms
 pub fits_short : (len : ℕ) (names : Names) → AreRoomy len (named 0 names) → len ≤ 64

@@ -15,9 +15,9 @@ use Rattle.studio_ends.specs.Stop.{StopsFor}
 use Rattle.studio_ends.specs.Fitting.{fitting}
 use Rattle.studio_ends.specs.Turns.{AllTakePackets, Joins, PushesMarks, arrivals_by, arrivals_from}
 use Rattle.studio_ends.specs.Streams.{AllDelivered, ShowsCounts, TakesTurn, packets_by}
-use Rattle.studio_ends.specs.declared.side.Side.{Side}
+use Rattle.studio_ends.specs.declared.rings.Side.{Side}
 use Rattle.studio_ends.specs.declared.stream_end.StreamEnd.{StreamEnd}
-use Rattle.studio_ends.specs.declared.turn.TurnNote.{TurnNote}
+use Rattle.studio_ends.specs.declared.stream_end.marks_out.TurnNote.{TurnNote}
 use Rattle.studio_ends.proofs.FittingLemmas.{fitting-append}
 
 by_path : (b : Bool) (x : Packet) (l fs gs : List Packet) → l ≡ fs ++ gs → (if b then x ∷ l else l) ≡ (if b then x ∷ fs else fs) ++ gs
@@ -138,5 +138,5 @@ turned s t now note w taken marks took from joined pushed count few reached stop
 pub at_now : {A P : Type 0} (c d : Rattle.rtrb.specs.declared.producer.Producer.Producer Rattle.rtp_stream.specs.MarkFacts.MarkView A P) (m w : MergeState) (now at : ℤ) (count : ℕ) → now ≡ at → PushesMarks c m now d w count → PushesMarks c m at d w count
 at_now c d m w now at count e h = subst (λ t. PushesMarks c m t d w count) e h
 
-pub stop_now : (why : Rattle.studio_ends.specs.declared.turn.StopReason.StopReason) (reached now at : ℤ) (marks free : ℕ) → now ≡ at → StopsFor why reached now marks free → StopsFor why reached at marks free
+pub stop_now : (why : Rattle.studio_ends.specs.declared.stream_end.marks_out.StopReason.StopReason) (reached now at : ℤ) (marks free : ℕ) → now ≡ at → StopsFor why reached now marks free → StopsFor why reached at marks free
 stop_now why reached now at marks free e h = subst (λ t. StopsFor why reached t marks free) e h

@@ -13,7 +13,7 @@ use Rattle.studio_ends.specs.AcceptedFeeds.{accepted_feeds}
 use Rattle.studio_ends.specs.Looks.{AllLookAt}
 use Rattle.studio_ends.specs.Tokens.{HandsIn, HasToken}
 use Rattle.studio_ends.specs.Streams.{AllDelivered, StreamHasHistory}
-use Rattle.studio_ends.specs.declared.side.Side.{Side}
+use Rattle.studio_ends.specs.declared.rings.Side.{Side}
 use Rattle.studio_ends.specs.declared.stream_end.StreamEnd.{StreamEnd}
 
 pub hands_in : {T : Type 0} (olds : List (Side T)) (place : ℕ) (all : List T) (old new : Side T) → place < length olds → old ≡ get_or olds place old → HasToken old all new → HandsIn olds place all (set olds place new)

@@ -16,7 +16,7 @@ use Rattle.rtp_stream.specs.declared.packet.Packet.{Packet}
 use Rattle.rtp_stream.specs.declared.fate.Fate.{Fate}
 use Rattle.rtp_stream.specs.declared.event.Event.{Event}
 use Rattle.rtp_stream.specs.declared.event.Event.TheVariants.{Arrive}
-use Rattle.studio_ends.specs.declared.side.Side.{Side}
+use Rattle.studio_ends.specs.declared.rings.Side.{Side}
 use Rattle.studio_ends.specs.Fitting.{fitting}
 use Rattle.studio_ends.specs.Turns.{AllTakePackets, Joins, TakesPackets, TakesSoFar, arrivals_by, arrivals_from}
 use Rattle.studio_ends.proofs.FittingLemmas.{fitting-append, fitting-none, fitting-one}

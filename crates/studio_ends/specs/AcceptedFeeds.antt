@@ -6,7 +6,7 @@ use Rattle.rtp_stream.specs.MarkFacts.{MarkView}
 use Rattle.rtrb.specs.Ring.{received}
 use Rattle.lane_align.specs.AcceptedMarks.{accepted_marks}
 use Rattle.studio_mix.specs.Feed.{Feed}
-use Rattle.studio_ends.specs.declared.side.Side.{Side}
+use Rattle.studio_ends.specs.declared.rings.Side.{Side}
 
 -- each stream, with the marks that were accepted of those that its ring delivered
 abbrev pub accepted_feeds : List Stream → List (Side MarkView) → List Feed

@@ -7,7 +7,7 @@ use Rattle.rtp_stream.specs.declared.packet.Packet.{Packet}
 use Rattle.studio_config.specs.Studio.{Studio}
 use Rattle.studio_ends.specs.Streams.{StreamHasHistory}
 use Rattle.studio_ends.specs.Datagrams.{HasGiven}
-use Rattle.studio_ends.specs.declared.side.Side.{Side}
+use Rattle.studio_ends.specs.declared.rings.Side.{Side}
 use Rattle.studio_ends.specs.declared.path_end.PathEnd.{PathEnd}
 use Rattle.studio_ends.specs.declared.stream_end.StreamEnd.{StreamEnd}
 use Rattle.studio_ends.specs.declared.monitor_end.MonitorEnd.{MonitorEnd}

@@ -2,7 +2,7 @@
 use Rattle.std.specs.Prelude.{◌≡◌, Bool, false, List, [], ◌∷◌, ◌↔◌, None, MatchOption, IsSomeAnd}
 use Rattle.rtrb.specs.Ring.{received, all_sent, SameConsumer}
 use Rattle.studio_ends.specs.Side.{IsDrained}
-use Rattle.studio_ends.specs.declared.side.Side.{Side}
+use Rattle.studio_ends.specs.declared.rings.Side.{Side}
 
 module _ {T : Type 0} where
   -- nothing was taken

@@ -6,8 +6,8 @@ use Rattle.rtp_stream.specs.declared.mark.MarkKind.{MarkKind}
 use Rattle.rtp_stream.specs.declared.mark.MarkKind.TheVariants.{Slot, Quiet, End}
 use Rattle.rtp_stream.specs.MarkFacts.{IsMark}
 use Rattle.rtp_stream.specs.MarkRef.{HasShortBody}
-use Rattle.studio_ends.specs.declared.mark_room.Said.{Said}
-use Rattle.studio_ends.specs.declared.mark_room.Said.TheVariants.{Got, Lost, Quiet as SaidQuiet, End as SaidEnd}
+use Rattle.studio_ends.specs.declared.rings.mark_cell.Said.{Said}
+use Rattle.studio_ends.specs.declared.rings.mark_cell.Said.TheVariants.{Got, Lost, Quiet as SaidQuiet, End as SaidEnd}
 
 -- what the mark says, with these octets
 abbrev pub kind_in : Said → List ℕ → MarkKind

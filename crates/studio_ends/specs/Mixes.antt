@@ -11,7 +11,7 @@ use Rattle.studio_config.specs.Studio.{Studio}
 use Rattle.studio_mix.specs.Feed.{Feed}
 use Rattle.studio_mix.specs.Mixer.{MixerState, HasFeeds}
 use Rattle.studio_ends.specs.AcceptedFeeds.{accepted_feeds, accepted_total, received_total}
-use Rattle.studio_ends.specs.declared.side.Side.{Side}
+use Rattle.studio_ends.specs.declared.rings.Side.{Side}
 
 -- a stream's feed with more marks: those that are accepted
 abbrev pub fed_more : Feed → List MarkView → Feed

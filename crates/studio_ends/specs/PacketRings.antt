@@ -5,13 +5,13 @@ use Rattle.rtrb.specs.declared.finished.Finished.{Finished}
 use Rattle.rtrb.specs.declared.producer.Producer.{Producer}
 use Rattle.rtp_stream.specs.declared.packet.Packet.{Packet}
 use Rattle.studio_ends.specs.RoomRings.{finished_with, producer_with, side_with}
-use Rattle.studio_ends.specs.declared.packet_ring.Senders.{Senders}
-use Rattle.studio_ends.specs.declared.packet_ring.Senders.TheVariants as sender
-use Rattle.studio_ends.specs.declared.packet_ring.Sides.{Sides}
-use Rattle.studio_ends.specs.declared.packet_ring.Sides.TheVariants as side
-use Rattle.studio_ends.specs.declared.packet_ring.Tokens.{Tokens}
-use Rattle.studio_ends.specs.declared.packet_ring.Tokens.TheVariants as token
-use Rattle.studio_ends.specs.declared.side.Side.{Side}
+use Rattle.studio_ends.specs.declared.rings.packets.Senders.{Senders}
+use Rattle.studio_ends.specs.declared.rings.packets.Senders.TheVariants as sender
+use Rattle.studio_ends.specs.declared.rings.packets.Sides.{Sides}
+use Rattle.studio_ends.specs.declared.rings.packets.Sides.TheVariants as side
+use Rattle.studio_ends.specs.declared.rings.packets.Tokens.{Tokens}
+use Rattle.studio_ends.specs.declared.rings.packets.Tokens.TheVariants as token
+use Rattle.studio_ends.specs.declared.rings.Side.{Side}
 
 abbrev pub sender_in : Senders → Producer Packet Global AnyItems
 sender_in (sender.Short end) = producer_with 0 end

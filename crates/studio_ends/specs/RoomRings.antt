@@ -7,7 +7,7 @@ use Rattle.rtrb.specs.declared.AnyItems.{AnyItems}
 use Rattle.rtrb.specs.declared.consumer.Consumer.{Consumer}
 use Rattle.rtrb.specs.declared.finished.Finished.{Finished}
 use Rattle.rtrb.specs.declared.producer.Producer.{Producer}
-use Rattle.studio_ends.specs.declared.side.Side.{Side}
+use Rattle.studio_ends.specs.declared.rings.Side.{Side}
 
 -- rooms are short: 0, middle: 1, or long: 2
 abbrev pub named : ℕ → Names → Names

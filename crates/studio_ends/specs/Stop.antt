@@ -1,7 +1,7 @@
 -- Why a turn stopped.
 use Rattle.std.specs.Prelude.{◌≡◌, ℕ, ℤ}
-use Rattle.studio_ends.specs.declared.turn.StopReason.{StopReason}
-use Rattle.studio_ends.specs.declared.turn.StopReason.TheVariants.{CaughtUp, Batch, NoRoom}
+use Rattle.studio_ends.specs.declared.stream_end.marks_out.StopReason.{StopReason}
+use Rattle.studio_ends.specs.declared.stream_end.marks_out.StopReason.TheVariants.{CaughtUp, Batch, NoRoom}
 
 -- CaughtUp only at the time asked for, Batch only after 64 marks, NoRoom only with no place known
 abbrev pub StopsFor : StopReason → ℤ → ℤ → ℕ → ℕ → Type 0

@@ -14,10 +14,10 @@ use Rattle.rtp_stream.specs.declared.event.Event.TheVariants.{Arrive, Tick, Clos
 use Rattle.studio_ends.specs.Stop.{StopsFor}
 use Rattle.studio_ends.specs.Fitting.{fitting}
 use Rattle.studio_ends.specs.Turns.{AllTakePackets, turn_events}
-use Rattle.studio_ends.specs.declared.side.Side.{Side}
+use Rattle.studio_ends.specs.declared.rings.Side.{Side}
 use Rattle.studio_ends.specs.declared.stream_end.StreamEnd.{StreamEnd}
-use Rattle.studio_ends.specs.declared.turn.StopReason.{StopReason}
-use Rattle.studio_ends.specs.declared.turn.TurnNote.{TurnNote}
+use Rattle.studio_ends.specs.declared.stream_end.marks_out.StopReason.{StopReason}
+use Rattle.studio_ends.specs.declared.stream_end.marks_out.TurnNote.{TurnNote}
 
 -- the packets that arrived by a path, in order
 abbrev pub packets_by : ℕ → List Event → List Packet

@@ -1,7 +1,7 @@
 -- What a token changes of the ends of rings.
 use Rattle.std.specs.Prelude.{◌≡◌, ℕ, zero, suc, List, [], ◌∷◌, IsSome, IfSome}
 use Rattle.rtrb.specs.Ring.{all_sent}
-use Rattle.studio_ends.specs.declared.side.Side.{Side}
+use Rattle.studio_ends.specs.declared.rings.Side.{Side}
 
 module _ {T : Type 0} where
   -- the ring's end has the token, which tells all that was sent

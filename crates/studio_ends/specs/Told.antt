@@ -2,7 +2,7 @@
 use Rattle.std.specs.Prelude.{◌≡◌, ℕ, List, Option, Some, None}
 use Rattle.mix_packets.specs.declared.out_spec.Output.{Output}
 use Rattle.rtp_stats.specs.Told.{TellsMix}
-use Rattle.rtp_stats.specs.declared.mix_teller.MixTeller.{MixTeller}
+use Rattle.rtp_stats.specs.declared.channel.mix_sender.MixTeller.{MixTeller}
 
 -- whoever is to be told measures the datagrams of this output
 abbrev pub Measures : Option MixTeller → Output → Type 0

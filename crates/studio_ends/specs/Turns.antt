@@ -11,7 +11,7 @@ use Rattle.rtp_stream.specs.declared.packet.Packet.{Packet}
 use Rattle.rtp_stream.specs.declared.event.Event.{Event}
 use Rattle.rtp_stream.specs.declared.event.Event.TheVariants.{Arrive, Tick}
 use Rattle.studio_ends.specs.Fitting.{fitting}
-use Rattle.studio_ends.specs.declared.side.Side.{Side}
+use Rattle.studio_ends.specs.declared.rings.Side.{Side}
 
 -- packets arrive by a path, one after the other
 abbrev pub arrivals_by : ℕ → List Packet → List Event

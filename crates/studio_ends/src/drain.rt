@@ -7,9 +7,9 @@ ghost use Rattle.rtp_stream.specs.StreamSpecFacts.{format_of};
 ghost use Rattle.studio_ends.specs.RoomRings.{HasRoomFor};
 ghost use Rattle.studio_ends.specs.Turns.{DrainsMarks};
 
-use crate::mark_ring::MarkIn;
-use crate::take::BATCH;
-use crate::turn::push_next;
+use crate::rings::marks::MarkIn;
+use crate::stream_end::marks_out::push_next;
+use crate::stream_end::packets_in::BATCH;
 use path_merge::{Goal, Merge, SlotWindow};
 
 /// Pushes what is left, while there is room, and says whether the end is among what was pushed by now.

@@ -3,7 +3,7 @@ ghost use Rattle.std.specs.Prelude.{◌≡◌, ◌+◌, ◌<◌, ◌≤◌, ◌+
 ghost use Rattle.rtrb.specs.Ring.{Finishes, ProducerLooked, SameProducer, known_free, sent};
 ghost use Rattle.rtp_stream.specs.MarkFacts.{payload_length};
 
-use crate::mark_room::MarkRoom;
+use crate::rings::mark_cell::MarkRoom;
 use path_merge::{Format, MarkRef};
 use rtrb::{Finished, Producer};
 use std::marker::Model;

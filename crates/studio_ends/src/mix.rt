@@ -8,7 +8,7 @@ ghost use Rattle.studio_config.specs.Studio.{Studio};
 ghost use Rattle.studio_mix.specs.Feed.{Feed};
 ghost use Rattle.studio_mix.specs.Blocks.{AreBlocks};
 ghost use Rattle.studio_mix.specs.Saturated.{AreSaturated};
-ghost use Rattle.studio_ends.specs.declared.side.Side.{Side};
+ghost use Rattle.studio_ends.specs.declared.rings.Side.{Side};
 ghost use Rattle.studio_ends.specs.AcceptedFeeds.{accepted_feeds, received_total};
 ghost use Rattle.studio_ends.specs.Looks.{AllDrained, AllLookAt};
 ghost use Rattle.studio_ends.specs.Mixes.{AllTakeSome};
@@ -17,10 +17,10 @@ ghost use Rattle.studio_ends.specs.Datagrams.{AreAllGiven, AreAllTold, HasGiven,
 ghost use Rattle.studio_ends.specs.Told.{Measures, TellsCounts};
 ghost use Rattle.studio_ends.specs.Tokens.{HandsIn};
 
-use crate::look::look_at_streams;
 use crate::mix_end::MixEnd;
-use crate::stream::StreamDone;
-use crate::take_marks::take_streams;
+use crate::mix_end::marks_in::take_streams;
+use crate::rings::drained::look_at_streams;
+use crate::stream_end::turns::StreamDone;
 use rtp_stats::MixTeller;
 
 /// What a turn of the mixer's end did.

@@ -2,9 +2,11 @@
 ghost use Rattle.std.specs.Prelude.{◌≡◌, ◌≤◌, length, vec_len};
 ghost use Rattle.studio_ends.specs.Told.{Measures};
 
-use crate::mark_ring::MarkOut;
+use crate::rings::marks::MarkOut;
 use rtp_stats::MixTeller;
 use studio_mix::Mixer;
+
+pub(crate) mod marks_in;
 
 /// The mixer's end: marks of all streams come in, and datagrams go out.
 #[derive(Drop)]

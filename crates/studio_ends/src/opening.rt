@@ -7,13 +7,13 @@ ghost use Rattle.studio_ends.specs.FreshEnds.{AllFreshPaths, AreFreshRings, AreO
 ghost use Rattle.studio_ends.specs.Opening.{AddsStream, AllUnread, AreFreshEnds};
 
 use crate::ends::{Ends, OpenFault};
-use crate::mark_ring::{MarkOut, open_marks};
 use crate::mix_end::MixEnd;
 use crate::monitor_end::MonitorEnd;
-use crate::packet_ring::{PacketOut, open_packets};
 use crate::path_end::PathEnd;
+use crate::rings::marks::{MarkOut, open_marks};
+use crate::rings::packets::{PacketOut, open_packets};
+use crate::stats_channels::{Tellers, Watches};
 use crate::stream_end::StreamEnd;
-use crate::watches::{Tellers, Watches};
 use path_merge::{Merge, StreamSpec};
 use rtp_stream::PathCounts;
 use rtrb::RingBuffer;

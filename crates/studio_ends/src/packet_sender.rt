@@ -3,7 +3,7 @@ ghost use Rattle.std.specs.Prelude.{◌≡◌, ◌+◌, ◌<◌, ◌≤◌, ◌+
 ghost use Rattle.rtrb.specs.Ring.{Finishes, ProducerLooked, SameProducer, known_free, sent};
 ghost use Rattle.rtp_stream.specs.PacketRef.{packet_of};
 
-use crate::packet_room::PacketRoom;
+use crate::rings::packet_cell::PacketRoom;
 use path_merge::PacketRef;
 use rtrb::{Finished, Producer};
 use std::marker::Model;

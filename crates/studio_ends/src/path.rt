@@ -8,8 +8,8 @@ ghost use Rattle.studio_ends.specs.Fitting.{fitting};
 ghost use Rattle.studio_ends.specs.Paths.{Offers};
 ghost use Rattle.studio_ends.specs.declared.path.Offer.TheVariants as offer;
 
-use crate::packet_ring::{PacketIn, PacketToken};
 use crate::path_end::PathEnd;
+use crate::rings::packets::{PacketIn, PacketToken};
 use rtp_stats::PathTeller;
 use rtp_stream::{PathCounts, ReceptionRef, receive_ref};
 

@@ -6,7 +6,7 @@ ghost use Rattle.rtp_stream.specs.StreamSpecFacts.{format_of};
 ghost use Rattle.studio_ends.specs.Fitting.{fitting};
 ghost use Rattle.studio_ends.specs.RoomRings.{HasRoomFor};
 
-use crate::packet_ring::PacketIn;
+use crate::rings::packets::PacketIn;
 use path_merge::StreamSpec;
 use rtp_stats::PathTeller;
 use rtp_stream::PathCounts;

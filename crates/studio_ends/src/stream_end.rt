@@ -4,11 +4,15 @@ ghost use Rattle.rtp_stream.specs.MarkFacts.{payload_length};
 ghost use Rattle.rtp_stream.specs.StreamSpecFacts.{format_of};
 ghost use Rattle.studio_ends.specs.RoomRings.{HasRoomFor};
 
-use crate::mark_ring::MarkIn;
-use crate::packet_ring::PacketOut;
+use crate::rings::marks::MarkIn;
+use crate::rings::packets::PacketOut;
 use path_merge::{Counts, Merge, SlotWindow, StreamSpec};
 use rtp_stats::StreamTeller;
 use rtrb::Producer;
+
+pub(crate) mod marks_out;
+pub(crate) mod packets_in;
+pub(crate) mod turns;
 
 /// The end of a stream: packets of all paths come in, and marks go out.
 #[derive(Drop)]

@@ -6,13 +6,13 @@
 //! The program, over the host's words, files and streams.
 #![tactic(auto)]
 
-mod live;
+mod live_command;
 mod names;
 mod program;
 mod told;
 
 pub use file_commands::{CaptureError, ConfigFault, Configs, Fault};
-pub use live::run_config;
+pub use live_command::run_config;
 pub use program::run;
 use std::alloc::Global;
 use std::env::Args;

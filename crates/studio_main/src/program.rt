@@ -1,5 +1,5 @@
 //! From the words of a command line to its exit status.
-use crate::live::run_live;
+use crate::live_command::run_live;
 use crate::told::told;
 use file_commands::{
     Asked, Configs, Fault, asked_for, check, draw, import_capture, list, list_standard,

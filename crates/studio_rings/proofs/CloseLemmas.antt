@@ -7,7 +7,7 @@ use Rattle.studio_ends.specs.declared.stream_end.StreamEnd.{StreamEnd}
 use Rattle.studio_ends.proofs.TurnLemmas.{producers}
 use Rattle.studio_io.specs.Clocks.{GoByClock, events_in}
 use Rattle.studio_rings.specs.Turns.{Closes, GoesOn, KeepsTokens}
-use Rattle.studio_rings.specs.declared.timed_stream.TimedStream.{TimedStream}
+use Rattle.studio_rings.specs.declared.worker.clocked_stream.TimedStream.{TimedStream}
 use Rattle.studio_rings.specs.Ends.{ClosesLater}
 
 -- no turn goes by any clock

@@ -25,8 +25,8 @@ use Rattle.studio_ends.specs.Fitting.{fitting}
 use Rattle.studio_ends.specs.FreshEnds.{AllFreshPaths, IsFreshPath, IsFreshStream}
 use Rattle.studio_ends.specs.Streams.{StreamHasHistory, packets_by}
 use Rattle.studio_ends.specs.declared.path.PathDone.{PathDone}
-use Rattle.studio_ends.specs.declared.side.Side.{Side}
-use Rattle.studio_ends.specs.declared.stream.StreamDone.{StreamDone}
+use Rattle.studio_ends.specs.declared.rings.Side.{Side}
+use Rattle.studio_ends.specs.declared.stream_end.turns.StreamDone.{StreamDone}
 use Rattle.studio_ends.specs.declared.stream_end.StreamEnd.{StreamEnd}
 use Rattle.studio_ends.proofs.StreamLemmas.{packets_by-append}
 use Rattle.studio_io.specs.Answers.{Answer, CountsOthers, IsPartOf, reaches_end, told_datagrams, told_packets}
@@ -37,7 +37,7 @@ use Rattle.studio_rings.specs.Turns.{GoesOn, HaveArrived, HaveTold}
 use Rattle.studio_rings.proofs.StreamTurnLemmas.{events-joined}
 use Rattle.studio_rings.specs.declared.path_job.PathJob.{PathJob}
 use Rattle.studio_rings.specs.declared.path_job.PathResult.{PathResult}
-use Rattle.studio_rings.specs.declared.timed_stream.TimedStream.{TimedStream}
+use Rattle.studio_rings.specs.declared.worker.clocked_stream.TimedStream.{TimedStream}
 use Rattle.studio_rings.specs.WorkersStreams.{EndsStream, HasEnded, HasMarks, PathsGiveTokens, IsStreamResult, all_told, ends_of, told_by, told_of}
 use Rattle.studio_rings.specs.Ends.{ClosesLater, Drains}
 use Rattle.studio_rings.proofs.ZipLemmas.{zip-length}

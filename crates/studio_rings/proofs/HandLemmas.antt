@@ -11,13 +11,13 @@ use Rattle.studio_ends.specs.Streams.{StreamHasHistory}
 use Rattle.studio_ends.specs.Tokens.{HandsIn}
 use Rattle.studio_ends.specs.declared.path.PathDone.{PathDone}
 use Rattle.studio_ends.specs.declared.path_end.PathEnd.{PathEnd}
-use Rattle.studio_ends.specs.declared.side.Side.{Side}
+use Rattle.studio_ends.specs.declared.rings.Side.{Side}
 use Rattle.studio_io.specs.Answers.{Answer}
 use Rattle.studio_rings.specs.Paths.{IsPathResult, IsTokenOf}
 use Rattle.studio_rings.specs.Turns.{AreSameRings, GoesOn, HaveTold}
 use Rattle.studio_rings.specs.declared.path_job.PathJob.{PathJob}
 use Rattle.studio_rings.specs.declared.path_job.PathResult.{PathResult}
-use Rattle.studio_rings.specs.declared.timed_stream.TimedStream.{TimedStream}
+use Rattle.studio_rings.specs.declared.worker.clocked_stream.TimedStream.{TimedStream}
 use Rattle.studio_rings.proofs.StreamTurnLemmas.{goes-still, rings-self, same_marks}
 use Rattle.studio_rings.specs.WorkersStreams.{AllTokensFit, ArePairs, FitsAt, HandsOne, PathsGiveTokens, all_told, told_by}
 

@@ -8,7 +8,7 @@ use Rattle.studio_config.specs.Studio.{Studio}
 use Rattle.studio_ends.specs.Mixes.{AllTakeSome}
 use Rattle.studio_ends.specs.MixEnds.{MixHasFeeds, MixesBlock}
 use Rattle.studio_ends.specs.Datagrams.{AreAllGiven, HasGiven, given_after}
-use Rattle.studio_ends.specs.declared.side.Side.{Side}
+use Rattle.studio_ends.specs.declared.rings.Side.{Side}
 use Rattle.studio_ends.specs.declared.mix.MixNote.{MixNote}
 use Rattle.studio_ends.specs.declared.mix_end.MixEnd.{MixEnd}
 use Rattle.studio_io.specs.Sinks.{Hands}

@@ -20,8 +20,8 @@ use Rattle.studio_ends.specs.FreshEnds.{AllFreshPaths, AllFreshRings, AllFreshSt
 use Rattle.studio_ends.specs.declared.ends.Ends.{Ends}
 use Rattle.studio_ends.specs.declared.monitor_end.MonitorEnd.{MonitorEnd}
 use Rattle.studio_ends.specs.declared.path_end.PathEnd.{PathEnd}
-use Rattle.studio_ends.specs.declared.side.Side.{Side}
-use Rattle.studio_ends.specs.declared.stream.StreamDone.{StreamDone}
+use Rattle.studio_ends.specs.declared.rings.Side.{Side}
+use Rattle.studio_ends.specs.declared.stream_end.turns.StreamDone.{StreamDone}
 use Rattle.studio_ends.specs.declared.stream_end.StreamEnd.{StreamEnd}
 use Rattle.studio_ends.specs.declared.mix_end.MixEnd.{MixEnd}
 use Rattle.studio_io.specs.Answers.{Answer}

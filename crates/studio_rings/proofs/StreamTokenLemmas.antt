@@ -15,10 +15,10 @@ use Rattle.studio_ends.specs.Tokens.{HandsIn}
 use Rattle.studio_ends.specs.AcceptedFeeds.{accepted_feeds}
 use Rattle.studio_ends.specs.Datagrams.{AllTell}
 use Rattle.studio_ends.specs.FreshEnds.{AllFreshRings}
-use Rattle.studio_ends.specs.declared.side.Side.{Side}
+use Rattle.studio_ends.specs.declared.rings.Side.{Side}
 use Rattle.studio_ends.specs.declared.monitor_end.MonitorEnd.{MonitorEnd}
 use Rattle.studio_ends.specs.declared.stream_end.StreamEnd.{StreamEnd}
-use Rattle.studio_ends.specs.declared.stream.StreamDone.{StreamDone}
+use Rattle.studio_ends.specs.declared.stream_end.turns.StreamDone.{StreamDone}
 use Rattle.studio_rings.specs.MixWorker.{AreSameSides}
 use Rattle.studio_rings.specs.StreamTokens.{AllGiveTokens, AllTellMarks, AreAllDrained, AreTokensOf, HasTokenOf, HaveTokens}
 

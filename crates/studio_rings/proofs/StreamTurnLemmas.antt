@@ -18,16 +18,16 @@ use Rattle.studio_ends.specs.Looks.{AllDrained, AllLookAt}
 use Rattle.studio_ends.specs.Stop.{StopsFor}
 use Rattle.studio_ends.specs.Turns.{AllTakePackets, arrivals_from, turn_events}
 use Rattle.studio_ends.specs.Streams.{AllDelivered, ReadsClock, StreamHasHistory, TakesTurn}
-use Rattle.studio_ends.specs.declared.side.Side.{Side}
+use Rattle.studio_ends.specs.declared.rings.Side.{Side}
 use Rattle.studio_ends.specs.declared.stream_end.StreamEnd.{StreamEnd}
-use Rattle.studio_ends.specs.declared.turn.StopReason.{StopReason}
-use Rattle.studio_ends.specs.declared.turn.StopReason.TheVariants.{CaughtUp, Batch, NoRoom}
-use Rattle.studio_ends.specs.declared.turn.TurnNote.{TurnNote}
+use Rattle.studio_ends.specs.declared.stream_end.marks_out.StopReason.{StopReason}
+use Rattle.studio_ends.specs.declared.stream_end.marks_out.StopReason.TheVariants.{CaughtUp, Batch, NoRoom}
+use Rattle.studio_ends.specs.declared.stream_end.marks_out.TurnNote.{TurnNote}
 use Rattle.studio_ends.proofs.CloseLemmas.{delivered-looked}
 use Rattle.studio_ends.proofs.TurnLemmas.{producers}
 use Rattle.studio_io.specs.Clocks.{GoByClock, IsTurnAt, TellsTime, events_in, time_with}
 use Rattle.studio_rings.specs.Turns.{AreSameRings, GoesOn, HaveArrived, HaveTold, KeepsTokens, ReadsFirst}
-use Rattle.studio_rings.specs.declared.timed_stream.TimedStream.{TimedStream}
+use Rattle.studio_rings.specs.declared.worker.clocked_stream.TimedStream.{TimedStream}
 
 -- rings that are the same as ones that are the same
 pub consumers : {T A P : Type 0} (a b c : Consumer T A P) → SameConsumer a b → SameConsumer b c → SameConsumer a c

@@ -11,7 +11,7 @@ use Rattle.studio_ends.specs.Streams.{StreamHasHistory}
 use Rattle.studio_ends.specs.declared.stream_end.StreamEnd.{StreamEnd}
 use Rattle.studio_io.specs.Clocks.{GoByClock, events_in}
 use Rattle.studio_rings.specs.Turns.{HaveArrived, HaveTold}
-use Rattle.studio_rings.specs.declared.timed_stream.TimedStream.{TimedStream}
+use Rattle.studio_rings.specs.declared.worker.clocked_stream.TimedStream.{TimedStream}
 
 module _ {C : Type 0} where
   -- after these events the stream made turns that go by its clock, these packets had arrived, and its end was closed

@@ -4,7 +4,7 @@ use Rattle.rtrb.specs.Ring.{SameConsumer}
 use Rattle.rtp_stream.specs.MarkFacts.{MarkView}
 use Rattle.studio_config.specs.Studio.{Studio}
 use Rattle.studio_ends.specs.Datagrams.{AreAllGiven, HasGiven}
-use Rattle.studio_ends.specs.declared.side.Side.{Side}
+use Rattle.studio_ends.specs.declared.rings.Side.{Side}
 use Rattle.studio_ends.specs.declared.mix_end.MixEnd.{MixEnd}
 use Rattle.studio_io.specs.Sinks.{Hands}
 

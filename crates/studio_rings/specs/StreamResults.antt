@@ -5,7 +5,7 @@ use Rattle.studio_ends.specs.Datagrams.{HasGiven}
 use Rattle.studio_ends.specs.FreshEnds.{AllFreshRings, AllFreshStreams}
 use Rattle.studio_ends.specs.declared.ends.Ends.{Ends}
 use Rattle.studio_ends.specs.declared.monitor_end.MonitorEnd.{MonitorEnd}
-use Rattle.studio_ends.specs.declared.stream.StreamDone.{StreamDone}
+use Rattle.studio_ends.specs.declared.stream_end.turns.StreamDone.{StreamDone}
 use Rattle.rtp_stream.specs.declared.stream_counts.StreamCounts.{StreamCounts}
 use Rattle.studio_rings.specs.declared.stream_job.StreamResult.{StreamResult}
 

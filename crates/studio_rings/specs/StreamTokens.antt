@@ -7,8 +7,8 @@ use Rattle.rtp_stream.specs.MarkList.{is_mark_list}
 use Rattle.studio_config.specs.Studio.{Studio}
 use Rattle.studio_mix.specs.Feed.{Feed}
 use Rattle.studio_ends.specs.Tokens.{HasToken}
-use Rattle.studio_ends.specs.declared.side.Side.{Side}
-use Rattle.studio_ends.specs.declared.stream.StreamDone.{StreamDone}
+use Rattle.studio_ends.specs.declared.rings.Side.{Side}
+use Rattle.studio_ends.specs.declared.stream_end.turns.StreamDone.{StreamDone}
 
 -- each token is of the ring at its place, and no ring has one yet
 abbrev pub AreTokensOf : List (Option StreamDone) → List (Side MarkView) → Type 0

@@ -15,14 +15,14 @@ use Rattle.studio_ends.specs.Streams.{StreamHasHistory}
 use Rattle.studio_ends.specs.Tokens.{HandsIn}
 use Rattle.studio_ends.specs.declared.path.PathDone.{PathDone}
 use Rattle.studio_ends.specs.declared.path_end.PathEnd.{PathEnd}
-use Rattle.studio_ends.specs.declared.side.Side.{Side}
+use Rattle.studio_ends.specs.declared.rings.Side.{Side}
 use Rattle.studio_io.specs.Answers.{Answer}
 use Rattle.studio_io.specs.Clocks.{GoByClock, events_in}
 use Rattle.studio_rings.specs.Runs.{HasStreamHistory}
 use Rattle.studio_rings.specs.Turns.{HaveArrived}
 use Rattle.studio_rings.specs.declared.path_job.PathJob.{PathJob}
 use Rattle.studio_rings.specs.declared.path_job.PathResult.{PathResult}
-use Rattle.studio_rings.specs.declared.timed_stream.TimedStream.{TimedStream}
+use Rattle.studio_rings.specs.declared.worker.clocked_stream.TimedStream.{TimedStream}
 use Rattle.studio_rings.specs.declared.stream_job.StreamJob.{StreamJob}
 use Rattle.studio_rings.specs.declared.stream_job.StreamResult.{StreamResult}
 

@@ -15,25 +15,20 @@
 #![tactic(auto)]
 
 mod jobs;
-mod mix_worker;
-mod parts;
 mod path_job;
-mod path_nest;
-mod path_worker;
-mod pause;
+mod path_threads;
+mod results;
 mod run;
 mod stream_job;
-mod stream_nest;
-mod stream_tokens;
-mod stream_worker;
-mod timed_stream;
-mod timed_turn;
+mod stream_threads;
+mod tokens;
+mod worker;
 
-pub use mix_worker::{MixResult, run_mixer};
 pub use path_job::{PathJob, PathResult};
-pub use path_worker::run_path;
-pub use pause::Pause;
 pub use run::run_workers;
-pub use stream_tokens::settle;
 pub use studio_io::{Clock, Feed, FeedAnswer, SendAnswer, SendCounts, Sink, WorkFault, WorkReport};
-pub use timed_stream::TimedStream;
+pub use tokens::settle;
+pub use worker::Pause;
+pub use worker::clocked_stream::TimedStream;
+pub use worker::mixer::{MixResult, run_mixer};
+pub use worker::path::run_path;

@@ -13,11 +13,11 @@ ghost use Rattle.studio_rings.specs.Jobs.{AreJobsOf, HaveRoom};
 ghost use Rattle.studio_rings.specs.StreamResults.{AreOpenedTogether};
 
 use crate::jobs::{stream_jobs, unset_flags};
-use crate::mix_worker::MixResult;
-use crate::parts::{Parts, room_for_parts, take_apart};
+use crate::results::{Parts, room_for_parts, take_apart};
 use crate::stream_job::{StreamJob, StreamResult};
-use crate::stream_nest::run_streams;
-use crate::stream_tokens::settle;
+use crate::stream_threads::run_streams;
+use crate::tokens::settle;
+use crate::worker::mixer::MixResult;
 use std::alloc::{AllocError, Global};
 use std::sync::Wait;
 use std::sync::atomic::AtomicBool;

@@ -13,13 +13,13 @@ use Rattle.studio_run.specs.Buffer.{BreaksOff}
 use Rattle.studio_run.specs.Listing.{listing_text}
 use Rattle.studio_run.specs.Play.{IsListing}
 use Rattle.studio_run.proofs.PlayLemmas.{fails_later, fails_read}
-use Rattle.wav_file.specs.declared.format.WavFormat.{WavFormat}
+use Rattle.wav_file.specs.declared.header.WavFormat.{WavFormat}
 use Rattle.wav_file.specs.Head.{head_octets}
 use Rattle.wav_file.specs.File.{Becomes, Holds, IsBegun, WavState, wav_octets}
 use Rattle.wav_file.specs.StreamSamples.{samples_behind, stream_format, stream_samples}
 use Rattle.wav_file.specs.Recording.{HasAdded}
 use Rattle.wav_file.specs.Track.{HasTracked}
-use Rattle.wav_file.specs.declared.track.Track.{Track}
+use Rattle.wav_file.specs.declared.stream_track.Track.{Track}
 use Rattle.wav_file.specs.declared.fault.RecordFault.{RecordFault}
 use Rattle.wav_file.specs.declared.fault.RecordFault.TheVariants.{Play, Stream, File}
 use Rattle.wav_file.specs.StreamListing.{FailsBoth, FailsListing}

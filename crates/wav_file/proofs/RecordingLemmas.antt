@@ -16,7 +16,7 @@ use Rattle.studio_run.specs.Report.{datagram_line}
 use Rattle.studio_run.specs.Listing.{counts_text_of, datagrams_text}
 use Rattle.studio_run.proofs.BufferLemmas.{PassesOn-none, PassesOn-trans, PassesOn-finished}
 use Rattle.studio_run.proofs.StudioReportLemmas.{Gives}
-use Rattle.wav_file.specs.declared.format.WavFormat.{WavFormat}
+use Rattle.wav_file.specs.declared.header.WavFormat.{WavFormat}
 use Rattle.wav_file.specs.Head.{head_octets}
 use Rattle.wav_file.specs.File.{Becomes, Holds, IsBegun, WavState, wav_octets}
 use Rattle.wav_file.specs.WavSamples.{datagram_samples, samples_in}

@@ -12,12 +12,12 @@ use Rattle.studio_session.specs.Cursor.{CursorState, HasPulled, IsOnTheWay, IsRu
 use Rattle.studio_session.specs.Play.{stream_marks}
 use Rattle.studio_session.proofs.CursorLemmas.{mark_of_whole}
 use Rattle.studio_session.proofs.ReportLemmas.{all_taken}
-use Rattle.wav_file.specs.declared.format.WavFormat.{WavFormat}
+use Rattle.wav_file.specs.declared.header.WavFormat.{WavFormat}
 use Rattle.wav_file.specs.File.{WavState}
 use Rattle.wav_file.specs.Recording.{HasAdded}
 use Rattle.wav_file.specs.StreamSamples.{end_after, end_of, mark_samples, samples_behind}
 use Rattle.wav_file.specs.Track.{HasTaken, HasTakenAll, HasTracked}
-use Rattle.wav_file.specs.declared.track.Track.{Track}
+use Rattle.wav_file.specs.declared.stream_track.Track.{Track}
 
 -- the samples of some marks, and of those behind them
 samples_both : (format : WavFormat) (frames : ℕ) (end : Option ℤ) (xs ys : List MarkView)

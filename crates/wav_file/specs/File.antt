@@ -1,6 +1,6 @@
 -- A WAV file while it is written, and whole.
 use Rattle.std.specs.Prelude.{◌≡◌, ◌≤◌, ℕ, ◌+◌, ◌*◌, ◌%◌, ◌==◌, List, [], ◌∷◌, ◌++◌, length, drop, replicate, ⊤, Option, Some, None, if◌then◌else◌}
-use Rattle.wav_file.specs.declared.format.WavFormat.{WavFormat}
+use Rattle.wav_file.specs.declared.header.WavFormat.{WavFormat}
 use Rattle.std.specs.Io.KnownBytes.{Appends}
 use Rattle.wav_file.specs.Head.{frame_length, head_octets}
 

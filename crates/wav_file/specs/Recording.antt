@@ -7,7 +7,7 @@ use Rattle.studio_session.specs.Play.{HasPlayed, SessionState}
 use Rattle.studio_session.specs.Run.{AreDatagrams, HasGivenBlocks}
 use Rattle.studio_run.specs.Listing.{counts_text_of, datagrams_text}
 use Rattle.studio_run.specs.Buffer.{PassesOn}
-use Rattle.wav_file.specs.declared.format.WavFormat.{WavFormat}
+use Rattle.wav_file.specs.declared.header.WavFormat.{WavFormat}
 use Rattle.wav_file.specs.File.{Becomes, Holds, WavState, wav_octets}
 use Rattle.wav_file.specs.WavSamples.{samples_in}
 

@@ -7,7 +7,7 @@ use Rattle.rtp_stream.specs.declared.mark.Body.TheVariants.{Got, Lost}
 use Rattle.rtp_stream.specs.declared.mark.MarkKind.{MarkKind}
 use Rattle.rtp_stream.specs.declared.mark.MarkKind.TheVariants.{Slot, Quiet, End}
 use Rattle.lane_align.specs.Lane.{frames_between}
-use Rattle.wav_file.specs.declared.format.WavFormat.{WavFormat}
+use Rattle.wav_file.specs.declared.header.WavFormat.{WavFormat}
 use Rattle.wav_file.specs.File.{silent_octets}
 use Rattle.wav_file.specs.Samples.{little_samples}
 

@@ -7,7 +7,7 @@ use Rattle.studio_session.specs.Cursor.{CursorState, HasPulled}
 use Rattle.studio_session.specs.Play.{stream_marks}
 use Rattle.wav_file.specs.Recording.{HasAdded}
 use Rattle.wav_file.specs.StreamSamples.{end_of, samples_behind}
-use Rattle.wav_file.specs.declared.track.Track.{Track}
+use Rattle.wav_file.specs.declared.stream_track.Track.{Track}
 
 -- the samples of these marks were added
 pub record HasTracked (made made_then : Option (List ℕ)) (track track_then : Track) (marks : List MarkView) : Type 0 where

@@ -2,7 +2,7 @@
 use Rattle.std.specs.Prelude.{ℕ, List, drop, flat_map}
 use Rattle.rtp_wire.specs.declared.encoding.Enc.{Enc}
 use Rattle.mix_packets.specs.declared.out_spec.Output.{Output}
-use Rattle.wav_file.specs.declared.format.WavFormat.{WavFormat}
+use Rattle.wav_file.specs.declared.header.WavFormat.{WavFormat}
 use Rattle.wav_file.specs.Samples.{little_samples}
 
 -- those of a datagram, behind the twelve octets of its header

@@ -3,7 +3,7 @@ ghost use Rattle.std.specs.Prelude.{◌≡◌, ◌+◌, ◌++◌, ◌^◌, ◌<�
 ghost use Rattle.arrayvec.specs.ArrayVec.{array_vec_len};
 ghost use Rattle.wav_file.specs.Head.{format_octets, frame_length, head_octets, is_long, riff_size, room_chunk, room_octets, size_octets};
 
-use crate::format::WavFormat;
+use crate::header::WavFormat;
 use arrayvec::ArrayVec;
 
 /// The octets of a head.

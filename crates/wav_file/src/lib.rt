@@ -16,23 +16,23 @@
 
 mod fault;
 mod files;
-mod format;
 mod head;
-mod lister;
+mod header;
+mod mix_wav;
 mod overwrite;
-mod player;
 mod recorder;
 mod samples;
 mod stream_recorder;
-mod track;
+mod stream_track;
+mod stream_wav;
 mod writer;
 
 pub use fault::{FileFault, RecordFault, StreamFault};
 pub use files::WavFiles;
-pub use format::WavFormat;
-pub use lister::list_and_record;
+pub use header::WavFormat;
+pub use mix_wav::play_and_record;
 pub use overwrite::{OverFile, Overwrite};
-pub use player::play_and_record;
 pub use recorder::write_recorded;
 pub use stream_recorder::write_stream;
+pub use stream_wav::list_and_record;
 pub use writer::{WavFault, WavWriter};

@@ -11,7 +11,7 @@ ghost use Rattle.studio_run.specs.StudioReport.{IsReport};
 ghost use Rattle.wav_file.specs.Play.{IsOfWriters, WritesFront};
 
 use crate::fault::RecordFault;
-use crate::format::WavFormat;
+use crate::header::WavFormat;
 use crate::overwrite::Overwrite;
 use crate::writer::WavWriter;
 use std::io::Write;

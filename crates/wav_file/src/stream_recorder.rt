@@ -7,11 +7,11 @@ ghost use Rattle.studio_session.specs.Play.{stream_marks};
 ghost use Rattle.wav_file.specs.File.{Becomes, Holds, wav_octets};
 ghost use Rattle.wav_file.specs.StreamSamples.{stream_format, stream_samples};
 ghost use Rattle.wav_file.specs.Track.{HasTaken, HasTakenAll, HasTracked};
-ghost use Rattle.wav_file.specs.declared.track.Track.{Track};
+ghost use Rattle.wav_file.specs.declared.stream_track.Track.{Track};
 
-use crate::format::WavFormat;
+use crate::header::WavFormat;
 use crate::overwrite::Overwrite;
-use crate::track::Track;
+use crate::stream_track::Track;
 use crate::writer::{WavFault, WavWriter};
 use std::io::Write;
 use studio_session::{Cursor, EventSource, MOST_ARRIVAL_OCTETS};

@@ -5,8 +5,8 @@ ghost use Rattle.wav_file.specs.Samples.{little_samples};
 ghost use Rattle.wav_file.specs.Head.{head_octets};
 ghost use Rattle.wav_file.specs.File.{Becomes, HasBroken, IsBegun, pad_octets, silent_octets, wav_octets};
 
-use crate::format::WavFormat;
 use crate::head::head_of;
+use crate::header::WavFormat;
 use crate::overwrite::Overwrite;
 use crate::samples::swap;
 use std::io::Write;

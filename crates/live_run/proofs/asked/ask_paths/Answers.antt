@@ -1,7 +1,7 @@
 use Rattle.std.proofs.Common.{Option, length, slice_index_or, sym, refl, subst, ◌∙◌, arith}
 use Rattle.std.proofs.lemmas.Option.{slice_get_read}
 use Rattle.rtp_stream.specs.declared.path_counts.PathCounts.{PathCounts}
-use Rattle.rtp_stats.specs.declared.path_watch.PathWatch.{PathWatch}
+use Rattle.rtp_stats.specs.declared.channel.path.PathWatch.{PathWatch}
 use Rattle.live_run.specs.Asked.{TellsPath}
 use Rattle.live_run.proofs.AskedLemmas.{asked-all, asked-next}
 use Rattle.live_run.proofs.asked.ask_paths.Goals as goal

@@ -1,7 +1,7 @@
 use Rattle.std.proofs.Common.{Option, length, slice_index_or, sym, refl, subst, ◌∙◌, arith}
 use Rattle.std.proofs.lemmas.Option.{slice_get_read}
-use Rattle.rtp_stats.specs.declared.numbers.StreamNumbers.{StreamNumbers}
-use Rattle.rtp_stats.specs.declared.stream_watch.StreamWatch.{StreamWatch}
+use Rattle.rtp_stats.specs.declared.stats.StreamNumbers.{StreamNumbers}
+use Rattle.rtp_stats.specs.declared.channel.stream.StreamWatch.{StreamWatch}
 use Rattle.live_run.specs.Asked.{TellsStream}
 use Rattle.live_run.proofs.AskedLemmas.{asked-all, asked-next}
 use Rattle.live_run.proofs.asked.ask_streams.Goals as goal

@@ -2,7 +2,7 @@ use Rattle.std.proofs.Common.{◌+◌, List, Option, length, sym, refl, subst, t
 use Rattle.std.proofs.lemmas.Option.{slice_get_read}
 use Rattle.arrayvec.specs.ArrayString.{ArrayString}
 use Rattle.live_status.specs.Seen.{IsFirstSeen, IsFirstSeenOf}
-use Rattle.live_status.specs.declared.seen.Seen.{Seen}
+use Rattle.live_status.specs.declared.stream_status.Seen.{Seen}
 use Rattle.live_status.proofs.Each.{IsBegun, begun-push}
 use Rattle.live_status.proofs.names.all_seen.Goals as goal
 

@@ -1,6 +1,6 @@
 use Rattle.std.proofs.Common.{◌≡◌, ℕ, true, List, [], length, Option, Vec, Global, sym, ap, subst, ◌∙◌, arith}
 use Rattle.std.specs.List.{AllZip}
-use Rattle.studio_ends.specs.declared.stream.StreamDone.{StreamDone}
+use Rattle.studio_ends.specs.declared.stream_end.turns.StreamDone.{StreamDone}
 use Rattle.studio_rings.specs.MixWorker.{Mixes}
 use Rattle.studio_rings.specs.StreamTokens.{AllGiveTokens, AreTokensOf, AreTold}
 use Rattle.studio_rings.proofs.StreamTokenLemmas.{tokens-opened}

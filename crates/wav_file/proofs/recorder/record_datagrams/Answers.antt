@@ -1,7 +1,7 @@
 use Rattle.std.proofs.Common.{◌≡◌, ◌<◌, ◌≤◌, ◌+◌, ◌-◌, ◌∙◌, ℕ, Err, rules, length, is_some, take, drop, refl, sym, ap, subst, arith}
 use Rattle.std.proofs.lemmas.List.{take_rest}
 use Rattle.std.specs.Io.KnownBytes.{Appends}
-use Rattle.wav_file.specs.declared.format.WavFormat.{WavFormat}
+use Rattle.wav_file.specs.declared.header.WavFormat.{WavFormat}
 use Rattle.wav_file.specs.Samples.{little_samples}
 use Rattle.wav_file.specs.File.{WavState}
 use Rattle.mix_packets.specs.declared.out_spec.Output.{Output}

@@ -3,7 +3,7 @@ use Rattle.rtp_stream.specs.declared.stream_spec.Stream.{Stream}
 use Rattle.studio_session.specs.Event.{TraceEvent}
 use Rattle.studio_session.specs.Cursor.{IsRunnable, IsSameCursor, way_left}
 use Rattle.wav_file.specs.Track.{HasTaken}
-use Rattle.wav_file.specs.declared.track.Track.{Track}
+use Rattle.wav_file.specs.declared.stream_track.Track.{Track}
 use Rattle.wav_file.proofs.stream_recorder.add_taken.Given as goal
 
 -- the samples of the marks so far were added

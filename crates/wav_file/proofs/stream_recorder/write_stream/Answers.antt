@@ -1,6 +1,6 @@
 use Rattle.std.proofs.Common.{◌≡◌, ◌∙◌, ap, refl}
 use Rattle.rtp_stream.specs.declared.stream_spec.Stream.{Stream}
-use Rattle.wav_file.specs.declared.format.WavFormat.{WavFormat}
+use Rattle.wav_file.specs.declared.header.WavFormat.{WavFormat}
 use Rattle.wav_file.proofs.FileLemmas.{at_ok}
 use Rattle.wav_file.specs.StreamSamples.{stream_format}
 use Rattle.wav_file.proofs.ListingLemmas.{format_by, stream_written}

@@ -3,7 +3,7 @@ use Rattle.rtrb.specs.Ring.{Finishes, IsPair, SameConsumer, SameProducer, all_se
 use Rattle.rtrb.specs.declared.consumer.Consumer.{Consumer}
 use Rattle.rtrb.specs.declared.producer.Producer.{Producer}
 use Rattle.studio_ends.specs.declared.path.PathDone.{PathDone}
-use Rattle.studio_ends.specs.declared.stream.StreamDone.{StreamDone}
+use Rattle.studio_ends.specs.declared.stream_end.turns.StreamDone.{StreamDone}
 use Rattle.worker_tests.proofs.OneStreamLemmas.{second-handed, token_of}
 use Rattle.studio_ends.proofs.TurnLemmas.{producers}
 use Rattle.worker_tests.proofs.tests.rings.tokens_carry_the_end_to_the_mixer.Goals as goal

@@ -1,0 +1,30 @@
+use Rattle.std.proofs.Common.{◌≡◌, ◌<◌, length, subst, ◌∙◌, arith}
+use Rattle.engine_run.specs.Takes.{TakesAll}
+use Rattle.engine_run.proofs.TakeLemmas.{all-more, all-none}
+use Rattle.engine_run.proofs.intake.take_all.Goals as goal
+
+pub loop-stream-init : goal.loop-stream-init
+loop-stream-init g c = record {
+  room = c.requires.room;
+  takes = λ studio events datagrams s. all-none g.F.Feed.told studio _ events datagrams _ _ s;
+}
+
+pub loop-stream-preserved : goal.loop-stream-preserved
+loop-stream-preserved g c =
+    let streams = c.loop-stream.streams in
+    let i = c.loop-stream.stream in
+    let long = c.loop-stream.auto.streams in
+    let within : i < length streams = omega (arith, c.loop-stream-test.true, long) in
+    record {
+      room = c.take_own.auto.buf ∙ c.loop-stream.invariant.room;
+      takes = λ studio events datagrams s.
+          let before = c.loop-stream.invariant.takes studio events datagrams s in
+          all-more g.F.Feed.told studio c.loop-stream.engine _ events datagrams i c.args.streams.now streams c.index-streams-stream.result c.take_own.new.own _ _ _ before within
+          (c.in_ok-take_own.ensures studio _ datagrams before.stands);
+    }
+
+pub returns : goal.returns
+returns g c = λ studio events datagrams s.
+    let end = c.loop-stream.auto.stream-end in
+    let all : c.loop-stream.stream ≡ length c.args.streams.now = omega (arith, c.loop-stream-test.false, end) in
+    subst (λ n. TakesAll g.F.Feed.told studio c.loop-stream.engine events datagrams c.args.streams.now c.loop-stream.streams (g.T.Tap.heard c.args.tap.now) (g.T.Tap.heard c.loop-stream.tap) n) all (c.loop-stream.invariant.takes studio events datagrams s)

@@ -1,5 +1,0 @@
-use Rattle.engine_run.proofs.TakeLemmas.{FirstAllEnded}
-use Rattle.engine_run.proofs.taker.have_all_ended.Given as goal
-
-abbrev pub invariant-loop-place : goal.invariant-loop-place
-invariant-loop-place g l = FirstAllEnded l.streams l.place

@@ -1,5 +1,0 @@
-use Rattle.engine_run.proofs.TakeLemmas.{FirstEnded}
-use Rattle.engine_run.proofs.taker.have_ended.Given as goal
-
-abbrev pub invariant-loop-place : goal.invariant-loop-place
-invariant-loop-place g l = FirstEnded l.takers l.place

@@ -1,0 +1,118 @@
+//! A capture as a trace, and the configuration that fits it.
+use crate::asked::ImportOptions;
+use crate::fault::{CaptureError, Fault};
+use crate::files::Configs;
+use crate::streams_command::{capture_of, own_fault};
+use pcap_flows::{ImportFault, Routes, Table, config_text, routes_of, trace_text};
+use std::alloc::Global;
+use std::io::Write;
+use std::net::SocketAddrV4;
+use studio_run::write_text;
+
+/// Writes the trace of the capture at a path, or the configuration that fits it. A fault of the capture comes behind them.
+/// How many flows were left out is told where faults go.
+pub fn import_capture<C: Configs, W: Write, E: Write>(
+    configs: &C,
+    alloc: Global,
+    path: &str,
+    options: &ImportOptions<'_>,
+    output: &mut W,
+    faults: &mut E,
+) -> Result<(), Fault> {
+    let names = addresses_in(alloc, options.names.as_slice())?;
+    let octets = capture_of(configs, alloc, path)?;
+    let octets = octets.as_slice();
+    let table = Table::of(alloc, octets)?;
+    let routes = routed(alloc, &table, names.as_slice())?;
+    write_import(alloc, &table, octets, &routes, options, output)?;
+    if routes.left_out() > 0 {
+        let _ = writeln!(faults, "capture: flows left out: {}", routes.left_out());
+    }
+    own_fault(&table)
+}
+
+/// The routes of a capture's flows to these addresses, or of all that fit.
+pub(crate) fn routed(
+    alloc: Global,
+    table: &Table,
+    names: &[SocketAddrV4],
+) -> Result<Routes, Fault> {
+    match routes_of(alloc, table, names) {
+        Ok(routes) => Ok(routes),
+        Err(fault) => Err(unrouted(table, fault)),
+    }
+}
+
+/// A capture's own fault, or why it has no routes.
+fn unrouted(table: &Table, fault: ImportFault) -> Fault {
+    match (fault, table.fault()) {
+        (ImportFault::NoFlow | ImportFault::Unknown, Some(fault)) => {
+            Fault::Capture(CaptureError::Octet(fault))
+        }
+        (fault, _) => fault_of(fault),
+    }
+}
+
+/// Writes what was asked for.
+fn write_import<W: Write>(
+    alloc: Global,
+    table: &Table,
+    octets: &[u8],
+    routes: &Routes,
+    options: &ImportOptions<'_>,
+    output: &mut W,
+) -> Result<(), Fault> {
+    if options.config {
+        write_config(alloc, table, octets, routes, options, output)
+    } else {
+        write_trace(alloc, octets, routes, output)
+    }
+}
+
+/// Writes the configuration that fits a capture's trace.
+fn write_config<W: Write>(
+    alloc: Global,
+    table: &Table,
+    octets: &[u8],
+    routes: &Routes,
+    options: &ImportOptions<'_>,
+    output: &mut W,
+) -> Result<(), Fault> {
+    match config_text(alloc, table, octets, routes, options.latency) {
+        Ok(text) => Ok(write_text(output, text.as_bytes())?),
+        Err(fault) => Err(fault_of(fault)),
+    }
+}
+
+/// Writes a capture's trace.
+fn write_trace<W: Write>(
+    alloc: Global,
+    octets: &[u8],
+    routes: &Routes,
+    output: &mut W,
+) -> Result<(), Fault> {
+    match trace_text(alloc, octets, routes.list()) {
+        Ok(text) => Ok(write_text(output, text.as_slice())?),
+        Err(fault) => Err(fault_of(fault)),
+    }
+}
+
+/// What is wrong with a capture as a trace, or want of memory.
+fn fault_of(fault: ImportFault) -> Fault {
+    match fault {
+        ImportFault::Memory => Fault::Memory,
+        other => Fault::Capture(CaptureError::Import(other)),
+    }
+}
+
+/// The addresses and ports that words say.
+fn addresses_in(alloc: Global, words: &[&str]) -> Result<Vec<SocketAddrV4>, Fault> {
+    let mut addresses = Vec::new(alloc);
+    for word in words.iter() {
+        let Ok(address) = word.parse::<SocketAddrV4>() else {
+            return Err(Fault::Address);
+        };
+        addresses.push(address)?;
+    }
+    Ok(addresses)
+}

@@ -1,0 +1,122 @@
+//! What is written of a capture beside its report.
+ghost use Rattle.std.specs.Prelude.{[], IfOk};
+ghost use Rattle.pcap_replay.specs.Sound.{HasSoundedIf};
+
+use crate::fault::Fault;
+use crate::files::Configs;
+use mix_packets::OutSpec;
+use pcap_replay::{Listener, Sound};
+use reception_chart::{Observer, Streams};
+use rtp_stream::Path;
+use std::io::Write;
+use studio_run::write_text;
+use wav_file::{FileFault, Overwrite};
+
+/// The mix's file, and the streams that are watched, where they are asked for.
+#[derive(Drop)]
+pub(crate) struct Beside<F: Overwrite, O> {
+    pub(crate) sound: Option<Sound<F>>,
+    pub(crate) streams: Option<Streams<O>>,
+}
+
+impl<F: Overwrite + Drop, O: Observer + Drop> Listener for Beside<F, O> {
+    ghost heard = { λ begun now events datagrams. HasSoundedIf begun.sound now.sound events datagrams };
+
+    fn arrived(&mut self, stream: usize, path: Path, octets: &[u8]) {
+        self.sound.arrived(stream, path, octets);
+        if let Some(streams) = &mut self.streams {
+            streams.arrived(stream, path, octets);
+        }
+    }
+
+    fn read(&mut self, time: i64) {
+        self.sound.read(time);
+        if let Some(streams) = &mut self.streams {
+            streams.read(time);
+        }
+    }
+
+    fn closed(&mut self) {
+        self.sound.closed();
+        if let Some(streams) = &mut self.streams {
+            streams.closed();
+        }
+    }
+
+    fn output(&mut self, datagram: &[u8]) {
+        self.sound.output(datagram);
+    }
+}
+
+/// Begins the mix's file, if one is asked for.
+pub(crate) fn begin_sound<C: Configs, E: Write>(
+    configs: &C,
+    path: Option<&str>,
+    output: &OutSpec,
+    faults: &mut E,
+) -> Result<Option<Sound<C::File>>, Fault>
+    ensures { IfOk result (λ sound. HasSoundedIf sound sound [] []) }
+{
+    let Some(path) = path else {
+        return Ok(None);
+    };
+    let begun = match configs.create(path) {
+        Ok(file) => Sound::begin(file, output),
+        Err(fault) => Err(fault),
+    };
+    match begun {
+        Ok(sound) => Ok(Some(sound)),
+        Err(fault) => Err(file_fault("wav", path, fault, faults)),
+    }
+}
+
+/// Ends the mix's file behind a report, or behind the fault that ended that.
+pub(crate) fn end_sound<F: Overwrite + Drop, E: Write>(
+    sound: Option<Sound<F>>,
+    played: Result<(), Fault>,
+    path: Option<&str>,
+    faults: &mut E,
+) -> Result<(), Fault> {
+    let (Some(sound), Some(path)) = (sound, path) else {
+        return played;
+    };
+    if played.is_err() {
+        let _ = sound.break_off();
+        return played;
+    }
+    match sound.finish() {
+        Ok(_file) => Ok(()),
+        Err(fault) => Err(file_fault("wav", path, fault, faults)),
+    }
+}
+
+/// Writes a picture to the file at a path.
+pub(crate) fn write_picture<C: Configs, E: Write>(
+    configs: &C,
+    path: &str,
+    picture: &[u8],
+    faults: &mut E,
+) -> Result<(), Fault> {
+    let written = match configs.create(path) {
+        Ok(mut file) => written_picture(&mut file, picture),
+        Err(fault) => Err(fault),
+    };
+    match written {
+        Ok(()) => Ok(()),
+        Err(fault) => Err(file_fault("chart", path, fault, faults)),
+    }
+}
+
+/// Writes a picture to its file.
+fn written_picture<W: Write>(file: &mut W, picture: &[u8]) -> Result<(), FileFault> {
+    match write_text(file, picture) {
+        Ok(()) => Ok(()),
+        Err(_) => Err(FileFault::Write),
+    }
+}
+
+/// The fault of a file, whose path is told first.
+fn file_fault<E: Write>(word: &str, path: &str, fault: FileFault, faults: &mut E) -> Fault {
+    let _ = write!(faults, "{word} {path}: ");
+    Fault::Wav(fault)
+}

@@ -1,0 +1,14 @@
+use Rattle.std.proofs.Common.{◌<◌, length, subst, arith}
+use Rattle.live_io.specs.Puts.{Sends, row_blocks}
+use Rattle.live_io.proofs.PutLemmas.{describes_more}
+use Rattle.live_io.proofs.record.observer.put_streams.Goals as goal
+
+pub loop-number-preserved : goal.loop-number-preserved
+loop-number-preserved c =
+    let streams = c.args.streams.now in
+    let number = c.loop-number.number in
+    let more = c.loop-number-test.true in
+    let long = c.loop-number.auto.number-end in
+    let within : number < length streams = omega (arith, more, long) in
+    describes_more streams number c.index-streams-number.result c.args.end.now c.loop-number.end c.put_paths.new.end within c.index-streams-number.is c.loop-number.invariant
+    (subst (λ n. Sends c.loop-number.end (row_blocks number n) c.put_paths.new.end) c.paths.ensures.value c.put_paths.ensures.sends) c.put_paths.ensures.ended

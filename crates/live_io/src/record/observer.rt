@@ -1,0 +1,134 @@
+//! What makes a record of what a run takes.
+ghost use Rattle.std.specs.Prelude.{◌≡◌, ◌≤◌, ◌<◌, ℕ, [], length, IfSome, pos, true};
+ghost use Rattle.rtrb.specs.Ring.{sent};
+ghost use Rattle.pcap_file.specs.Arrival.{arrival_view};
+ghost use Rattle.live_io.specs.Puts.{IsPacket, IsSince, Opens, PutsClose, PutsPacket, Sends, path_blocks, row_blocks};
+
+use crate::record::block_producer::BlockEnd;
+use crate::way::Way;
+use pcap_file::{Arrival, MOST_OCTETS, nanoseconds_after};
+use rtp_stream::StreamSpec;
+use rtrb::Producer;
+use studio_config::StudioSpec;
+
+/// The letter of a stream's first path.
+const FIRST: u8 = b'a';
+
+/// Makes the blocks of a record, and counts what came. A record ends before the first block that isn't whole, for want
+/// of room or since its time can't be written.
+#[derive(Drop)]
+pub struct RecordTap {
+    end: BlockEnd,
+    /// The studio's opening time.
+    open_at: i64,
+    /// How many datagrams came.
+    came: u64,
+}
+
+impl RecordTap {
+    /// How many datagrams came.
+    pub fn came(&self) -> u64 {
+        self.came
+    }
+
+    /// The record of a run of this studio, from its front: its opening time, and its paths.
+    pub fn new(ring: Producer<u8>, studio: &StudioSpec) -> RecordTap
+        requires fresh { sent ring ≡ [] }
+        ensures opens { Opens studio.now result.end }
+        ensures open_at { result.open_at ≡ studio.now.open_at }
+    {
+        let open_at = studio.open_at();
+        let mut end = BlockEnd::new(ring);
+        end.put_opening(opening_of(open_at));
+        put_streams(&mut end, studio.streams());
+        RecordTap {
+            end,
+            open_at,
+            came: 0,
+        }
+    }
+
+    /// Puts the packet of a datagram that came at a time, in sampling instants, and this way.
+    pub fn arrived(&mut self, time: i64, octets: &[u8], way: &Way)
+        ensures puts { PutsPacket self.old.open_at time way.now octets.now self.old.end self.new.end }
+        ensures ended { self.old.end.ended ≡ true → self.new.end.ended ≡ true }
+    {
+        self.came = self.came.saturating_add(1);
+        if self.end.ended {
+            return;
+        }
+        match self.arrival(time, octets, way) {
+            Some(arrival) => self.end.put_datagram(&arrival),
+            None => self.end.ended = true,
+        }
+    }
+
+    /// Puts the close, which was at a time.
+    pub fn closed(&mut self, time: i64)
+        ensures puts { PutsClose self.old.open_at time self.old.end self.new.end }
+        ensures ended { self.old.end.ended ≡ true → self.new.end.ended ≡ true }
+    {
+        match self.nanoseconds(time) {
+            Some(nanoseconds) => self.end.put_closing(nanoseconds),
+            None => self.end.ended = true,
+        }
+    }
+
+    /// A datagram that came at a time, if it can be written.
+    fn arrival<'a>(&self, time: i64, octets: &'a [u8], way: &Way) -> Option<Arrival<'a>>
+        ensures few { IfSome result (λ arrival. length arrival.octets.now ≤ 2048) }
+        ensures packet { IfSome result (λ arrival. IsPacket self.now.open_at time way.now octets.now (arrival_view arrival)) }
+    {
+        if octets.len() > MOST_OCTETS {
+            return None;
+        }
+        let nanoseconds = self.nanoseconds(time)?;
+        let (source, destination) = (&way.source, &way.destination);
+        Some(Arrival {
+            interface: way.place,
+            nanoseconds,
+            source: *source.ip(),
+            source_port: source.port(),
+            destination: *destination.ip(),
+            destination_port: destination.port(),
+            octets,
+        })
+    }
+
+    /// How many nanoseconds after the opening a time is, if 64 bits hold them.
+    fn nanoseconds(&self, time: i64) -> Option<u64>
+        ensures since { IfSome result (λ nanoseconds. IsSince self.now.open_at time nanoseconds) }
+    {
+        let instants = time.checked_sub(self.open_at)?;
+        nanoseconds_after(u64::try_from(instants).ok()?)
+    }
+}
+
+/// An opening time, which is not before 0.
+fn opening_of(open_at: i64) -> u64
+    ensures { (at : ℕ) → open_at ≡ pos at → result ≡ at }
+{
+    u64::try_from(open_at).unwrap_or(0)
+}
+
+/// Puts the descriptions of the paths of streams.
+fn put_streams(end: &mut BlockEnd, streams: &[StreamSpec])
+    requires few { length streams.now ≤ 16 }
+    ensures sends { Sends end.old (path_blocks 0 streams.now) end.new }
+    ensures ended { end.old.ended ≡ true → end.new.ended ≡ true }
+{
+    for number in 0..streams.len() {
+        put_paths(end, number as u16, streams[number].paths());
+    }
+}
+
+/// Puts the descriptions of a stream's first so many paths.
+fn put_paths(end: &mut BlockEnd, stream: u16, count: u8)
+    requires few { count < 5 }
+    ensures sends { Sends end.old (row_blocks stream count) end.new }
+    ensures ended { end.old.ended ≡ true → end.new.ended ≡ true }
+{
+    for path in 0..count {
+        end.put_interface(stream, FIRST + path);
+    }
+}

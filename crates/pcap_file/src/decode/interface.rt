@@ -1,0 +1,109 @@
+//! Interfaces of a section, and the times of their packets (pcapng, Interface Description Block).
+ghost use Rattle.std.specs.Prelude.{◌≡◌, ◌<◌, ◌≤◌, ◌*◌, ◌/◌, ◌^◌, length, MatchOption};
+ghost use Rattle.pcap_file.specs.Interface as spec;
+
+use crate::decode::endian::Order;
+use crate::decode::link::{Link, link_of};
+use crate::decode::options::option_at;
+use crate::fault::FaultKind;
+
+/// Numbers of the options that an interface's times need.
+const TIME_RESOLUTION: u16 = 9;
+
+const TIME_OFFSET: u16 = 14;
+
+/// What a section says of an interface.
+#[derive(Clone, Copy, Debug, Default, PartialEq, Eq)]
+pub struct Interface {
+    pub link: Link,
+    /// How many octets of a packet are captured at most; 0 for all.
+    pub limit: u32,
+    /// The option `if_tsresol`: a second has 10 to this many units, or 2 to 128 less than it.
+    pub resolution: u8,
+    /// The option `if_tsoffset`: the seconds from 1970 from which times count.
+    pub offset: i64,
+}
+
+/// The interface that a block describes.
+#[tactic(auto, unfolding(crate::specs::Interface::interface_of))]
+pub(crate) fn read_interface(order: Order, block: &[u8]) -> Result<Interface, FaultKind>
+    ensures { result ≡ spec.interface_of order block.now }
+{
+    if block.len() < 20 {
+        return Err(FaultKind::Length);
+    }
+    let options = &block[16..block.len() - 4];
+    let resolution = read_resolution(order, options)?;
+    let offset = read_offset(order, options)?;
+    Ok(Interface {
+        link: link_of(order.read_u16(block, 8)),
+        limit: order.read_u32(block, 12),
+        resolution,
+        offset,
+    })
+}
+
+/// The resolution that options give, or 6, for microseconds.
+#[tactic(auto, unfolding(crate::specs::Interface::resolution_of))]
+fn read_resolution(order: Order, options: &[u8]) -> Result<u8, FaultKind>
+    ensures { result ≡ spec.resolution_of order options.now }
+{
+    match option_at(order, TIME_RESOLUTION, options)? {
+        None => Ok(6),
+        Some(value) if value.len() == 1 => Ok(value[0]),
+        Some(_) => Err(FaultKind::Options),
+    }
+}
+
+/// The offset that options give, or 0.
+#[tactic(auto, unfolding(crate::specs::Interface::offset_of))]
+fn read_offset(order: Order, options: &[u8]) -> Result<i64, FaultKind>
+    ensures { result ≡ spec.offset_of order options.now }
+{
+    match option_at(order, TIME_OFFSET, options)? {
+        None => Ok(0),
+        Some(value) if value.len() == 8 => Ok(order.read_u64(value, 0).cast_signed()),
+        Some(_) => Err(FaultKind::Options),
+    }
+}
+
+/// The time of a block in its interface's units: its high word, and its low word.
+pub(crate) fn time_units(order: Order, block: &[u8]) -> u64
+    requires { 20 ≤ length block.now }
+    ensures { result ≡ spec.time_units order block.now }
+{
+    u64::from(order.read_u32(block, 12)) * 0x1_0000_0000 + u64::from(order.read_u32(block, 16))
+}
+
+/// A packet's time in nanoseconds since 1970, if 64 bits hold it.
+#[tactic(auto, unfolding(crate::specs::Interface::time_of))]
+pub(crate) fn time_of(interface: &Interface, units: u64) -> Option<u64>
+    ensures { result ≡ spec.time_of interface.now units }
+{
+    let since_offset = nanoseconds(interface.resolution, units) as i128;
+    let time = since_offset + i128::from(interface.offset) * 1_000_000_000;
+    u64::try_from(time).ok()
+}
+
+/// The nanoseconds of a number of units, rounded down.
+fn nanoseconds(resolution: u8, units: u64) -> u128
+    ensures value { result ≡ units * 1_000_000_000 / spec.units_per_second resolution }
+    ensures bound { result < 2 ^ 94 }
+{
+    match units_per_second(resolution) {
+        Some(count) => u128::from(units) * 1_000_000_000 / count,
+        None => 0,
+    }
+}
+
+/// How many units a second has, if 128 bits hold it.
+fn units_per_second(resolution: u8) -> Option<u128>
+    ensures { MatchOption result (2 ^ 128 ≤ spec.units_per_second resolution)
+        (λ count. count ≡ spec.units_per_second resolution) }
+{
+    if resolution < 128 {
+        10u128.checked_pow(u32::from(resolution))
+    } else {
+        2u128.checked_pow(u32::from(resolution - 128))
+    }
+}

@@ -1,0 +1,30 @@
+//! The options of a block (pcapng, Options).
+ghost use Rattle.std.specs.Prelude.{◌≡◌};
+ghost use Rattle.pcap_file.specs.Options as spec;
+
+use crate::decode::endian::Order;
+use crate::fault::FaultKind;
+
+/// The octets of the first option with a code, if there is one before the options' end.
+#[tactic(auto, unfolding(crate::specs::Options::option_among))]
+pub(crate) fn option_at(order: Order, code: u16, options: &[u8]) -> Result<Option<&[u8]>, FaultKind>
+    ensures { spec.value_view result ≡ spec.option_of order code options.now }
+{
+    let mut rest = options;
+    while rest.len() >= 4 {
+        let kind = order.read_u16(rest, 0);
+        let end = 4 + usize::from(order.read_u16(rest, 2));
+        if kind == 0 {
+            return Ok(None);
+        }
+        if rest.len() < end {
+            return Err(FaultKind::Options);
+        }
+        if kind == code {
+            return Ok(Some(&rest[4..end]));
+        }
+        let next = 4 * ((end + 3) / 4);
+        rest = &rest[next.min(rest.len())..];
+    }
+    Ok(None)
+}

@@ -1,0 +1,129 @@
+//! The pcap format (draft-ietf-opsawg-pcap, File Header and Packet Record).
+ghost use Rattle.std.specs.Prelude.{◌≡◌, ◌≤◌, MatchResult, IfOk, Ok, Err, length};
+ghost use Rattle.pcap_file.specs.Part.{part_view};
+ghost use Rattle.pcap_file.specs.Parts as parts;
+ghost use Rattle.pcap_file.specs.Pcap as spec;
+ghost use Rattle.pcap_file.specs.Pcap.{pcap_of, record_of};
+
+use crate::block_parser::Part;
+use crate::decode::endian::Order;
+use crate::decode::link::{Link, link_of};
+use crate::decode::packet_in;
+use crate::fault::FaultKind;
+
+/// The octets of a file's header, and of a record's.
+pub(crate) const FILE_HEADER: usize = 24;
+
+const RECORD_HEADER: usize = 16;
+/// The numbers that a file with microseconds begins with, and one with nanoseconds.
+const MICROSECONDS: u32 = 0xa1b2_c3d4;
+
+const NANOSECONDS: u32 = 0xa1b2_3c4d;
+
+/// The smaller unit of a file's times.
+#[derive(Clone, Copy, Debug, PartialEq, Eq)]
+pub(crate) enum Unit {
+    Microsecond,
+    Nanosecond,
+}
+
+/// What a pcap file's header says.
+#[derive(Clone, Copy, Debug, PartialEq, Eq)]
+pub(crate) struct Pcap {
+    pub(crate) order: Order,
+    pub(crate) unit: Unit,
+    pub(crate) link: Link,
+}
+
+/// The order and the unit that a file's first four octets say, if they are a pcap file's.
+fn read_magic(octets: &[u8]) -> Option<(Order, Unit)>
+    requires { 4 ≤ length octets.now }
+    ensures { result ≡ spec.magic_of octets.now }
+{
+    let big = Order::Big.read_u32(octets, 0);
+    let little = Order::Little.read_u32(octets, 0);
+    if big == MICROSECONDS {
+        Some((Order::Big, Unit::Microsecond))
+    } else if little == MICROSECONDS {
+        Some((Order::Little, Unit::Microsecond))
+    } else if big == NANOSECONDS {
+        Some((Order::Big, Unit::Nanosecond))
+    } else if little == NANOSECONDS {
+        Some((Order::Little, Unit::Nanosecond))
+    } else {
+        None
+    }
+}
+
+/// The header of a pcap file, which octets begin with.
+#[tactic(auto, unfolding(crate::specs::Pcap::pcap_of, crate::specs::Pcap::header_in))]
+pub(crate) fn read_header(octets: &[u8]) -> Result<Pcap, FaultKind>
+    ensures header { result ≡ pcap_of octets.now }
+    ensures whole { IfOk result (λ _. 24 ≤ length octets.now) }
+{
+    if octets.len() < 4 {
+        return Err(FaultKind::Format);
+    }
+    let (order, unit) = read_magic(octets).ok_or(FaultKind::Format)?;
+    if octets.len() < FILE_HEADER {
+        return Err(FaultKind::Cut);
+    }
+    if order.read_u16(octets, 4) != 2 || order.read_u16(octets, 6) != 4 {
+        return Err(FaultKind::Version);
+    }
+    Ok(Pcap {
+        order,
+        unit,
+        link: link_of((order.read_u32(octets, 20) % 65536) as u16),
+    })
+}
+
+/// The packet record that octets begin with.
+#[tactic(auto, unfolding(crate::specs::Pcap::record_of))]
+pub(crate) fn read_record<'a>(pcap: &Pcap, octets: &'a [u8]) -> Result<Part<'a>, FaultKind>
+    ensures part { MatchResult result (λ part. record_of pcap.now octets.now ≡ Ok (part_view part))
+        (λ kind. record_of pcap.now octets.now ≡ Err kind) }
+    ensures bounds { IfOk result (λ part. (1 ≤ part.len) × (part.len ≤ length octets.now)) }
+{
+    if octets.len() < RECORD_HEADER {
+        return Err(FaultKind::Cut);
+    }
+    let captured = pcap.order.read_u32(octets, 8) as usize;
+    if octets.len() - RECORD_HEADER < captured {
+        return Err(FaultKind::Cut);
+    }
+    let len = RECORD_HEADER + captured;
+    let packet = packet_in(
+        pcap.link,
+        Some(read_time(pcap, octets)),
+        0,
+        &octets[RECORD_HEADER..len],
+    );
+    Ok(Part {
+        len,
+        packet,
+        mark: None,
+    })
+}
+
+/// Whether the record that octets begin with ends behind them.
+pub(crate) fn is_record_cut(pcap: &Pcap, octets: &[u8]) -> bool
+    ensures { result ≡ parts.is_record_cut pcap.now octets.now }
+{
+    octets.len() < RECORD_HEADER
+        || octets.len() - RECORD_HEADER < pcap.order.read_u32(octets, 8) as usize
+}
+
+/// A record's time in nanoseconds since 1970.
+fn read_time(pcap: &Pcap, octets: &[u8]) -> u64
+    requires { 16 ≤ length octets.now }
+    ensures { result ≡ spec.record_time pcap.now octets.now }
+{
+    let seconds = u64::from(pcap.order.read_u32(octets, 0));
+    let units = u64::from(pcap.order.read_u32(octets, 4));
+    let nanoseconds = match pcap.unit {
+        Unit::Microsecond => units * 1000,
+        Unit::Nanosecond => units,
+    };
+    seconds * 1_000_000_000 + nanoseconds
+}

@@ -1,0 +1,276 @@
+//! A section of the pcapng format, block by block (draft-ietf-opsawg-pcapng, General File Structure and Block Definitions).
+ghost use Rattle.std.specs.Prelude.{◌≡◌, ◌≤◌, ◌*◌, MatchResult, IfOk, None, Ok, Err, Some, length, option_copied};
+ghost use Rattle.pcap_file.specs.Parts as parts;
+ghost use Rattle.pcap_file.specs.Section as spec;
+ghost use Rattle.pcap_file.specs.Section.{AnswersContent, AnswersPacket, block_of, section_view};
+ghost use Rattle.pcap_file.specs.Mark.{mark_of};
+ghost use Rattle.pcap_file.specs.Part.{part_view};
+
+use crate::block_parser::Part;
+use crate::decode::endian::Order;
+use crate::decode::interface::{Interface, read_interface, time_of, time_units};
+use crate::decode::record_mark::{RecordMark, read_closing, read_opening};
+use crate::decode::{Packet, packet_in};
+use crate::fault::FaultKind;
+use arrayvec::ArrayVec;
+
+/// How many interfaces a section may describe.
+const INTERFACES: usize = 64;
+/// The octets of a block that holds nothing: its type, and its length twice.
+const EMPTY_BLOCK: usize = 12;
+/// The type of a section header, which is the same in either order.
+pub(crate) const SECTION_HEADER: u32 = 0x0a0d_0d0a;
+/// The type of an interface's statistics.
+const STATISTICS: u32 = 5;
+/// The number by which a section header says its order.
+const BYTE_ORDER_MAGIC: u32 = 0x1a2b_3c4d;
+
+/// What a block is, by its type.
+#[derive(Clone, Copy, Debug, PartialEq, Eq)]
+pub(crate) enum BlockKind {
+    SectionHeader,
+    Interface,
+    SimplePacket,
+    EnhancedPacket,
+    /// A block that is passed over.
+    Other,
+}
+
+/// What a section's blocks said so far.
+#[derive(Drop)]
+pub(crate) struct Section {
+    pub(crate) order: Order,
+    pub(crate) interfaces: ArrayVec<Interface, INTERFACES>,
+}
+
+impl Section {
+    /// A section of which no block was read.
+    pub(crate) fn new() -> Section
+        ensures { section_view result ≡ spec.no_section }
+    {
+        Section {
+            order: Order::Big,
+            interfaces: ArrayVec::new(),
+        }
+    }
+
+    /// Reads the block that octets begin with.
+    #[tactic(auto, unfolding(crate::specs::Section::block_of))]
+    pub(crate) fn read_block<'a>(&mut self, octets: &'a [u8]) -> Result<Part<'a>, FaultKind>
+        ensures part { MatchResult result
+            (λ part. block_of (section_view self.old) octets.now
+            ≡ Ok (record { part = part_view part; section = section_view self.new }))
+            (λ kind. block_of (section_view self.old) octets.now ≡ Err kind) }
+        ensures bounds { IfOk result (λ part. (1 ≤ part.len) × (part.len ≤ length octets.now)) }
+    {
+        if octets.len() < EMPTY_BLOCK {
+            return Err(FaultKind::Cut);
+        }
+        self.order = read_order(self.order, octets)?;
+        let len = read_length(self.order, octets)?;
+        let packet = self.read_content(&octets[..len])?;
+        let mark = self.read_mark(&octets[..len]);
+        Ok(Part { len, packet, mark })
+    }
+
+    /// Takes in what a whole block says, and answers the UDP packet in it.
+    fn read_content<'a>(&mut self, block: &'a [u8]) -> Result<Option<Packet<'a>>, FaultKind>
+        requires { 12 ≤ length block.now }
+        ensures { AnswersContent (spec.content_of (section_view self.old) block.now) (section_view self.new) result }
+    {
+        match block_kind(self.order.read_u32(block, 0)) {
+            BlockKind::SectionHeader => self.begin(block),
+            BlockKind::Interface => self.add_interface(block),
+            BlockKind::SimplePacket => self.read_simple(block),
+            BlockKind::EnhancedPacket => self.read_enhanced(block),
+            BlockKind::Other => Ok(None),
+        }
+    }
+
+    /// What a whole block tells of a record.
+    fn read_mark(&self, block: &[u8]) -> Option<RecordMark>
+        requires { 12 ≤ length block.now }
+        ensures { result ≡ mark_of self.now.order (section_view self.now).interfaces block.now }
+    {
+        match self.order.read_u32(block, 0) {
+            SECTION_HEADER => read_opening(self.order, block),
+            STATISTICS => read_closing(self.order, self.interfaces.as_slice(), block),
+            _ => None,
+        }
+    }
+
+    /// Begins the section that a header says: it has no interface yet.
+    #[tactic(auto, unfolding(crate::specs::Section::begun_by))]
+    fn begin<'a>(&mut self, block: &'a [u8]) -> Result<Option<Packet<'a>>, FaultKind>
+        ensures { AnswersContent (spec.begun_by (section_view self.old) block.now) (section_view self.new) result }
+    {
+        check_version(self.order, block)?;
+        self.interfaces.clear();
+        Ok(None)
+    }
+
+    /// Takes in an interface's description.
+    #[tactic(auto, unfolding(crate::specs::Section::described_by))]
+    fn add_interface<'a>(&mut self, block: &'a [u8]) -> Result<Option<Packet<'a>>, FaultKind>
+        ensures { AnswersContent (spec.described_by (section_view self.old) block.now) (section_view self.new) result }
+    {
+        let interface = read_interface(self.order, block)?;
+        if self.interfaces.is_full() {
+            return Err(FaultKind::TooMany);
+        }
+        self.interfaces.push(interface);
+        Ok(None)
+    }
+
+    /// The UDP packet in an enhanced packet block.
+    #[tactic(auto, unfolding(crate::specs::Section::enhanced_of))]
+    fn read_enhanced<'a>(&self, block: &'a [u8]) -> Result<Option<Packet<'a>>, FaultKind>
+        ensures { AnswersPacket (spec.enhanced_of (section_view self.now) block.now) result }
+    {
+        if block.len() < 32 {
+            return Err(FaultKind::Length);
+        }
+        let number = self.order.read_u32(block, 8);
+        let interface = self.interface(number)?;
+        let captured = self.order.read_u32(block, 20) as usize;
+        if block.len() - 32 < captured {
+            return Err(FaultKind::Length);
+        }
+        let units = time_units(self.order, block);
+        let time = time_of(&interface, units).ok_or(FaultKind::Time)?;
+        Ok(packet_in(
+            interface.link,
+            Some(time),
+            number,
+            &block[28..28 + captured],
+        ))
+    }
+
+    /// The UDP packet in a simple packet block, which is of the first interface.
+    #[tactic(auto, unfolding(crate::specs::Section::simple_of))]
+    fn read_simple<'a>(&self, block: &'a [u8]) -> Result<Option<Packet<'a>>, FaultKind>
+        ensures { AnswersPacket (spec.simple_of (section_view self.now) block.now) result }
+    {
+        if block.len() < 16 {
+            return Err(FaultKind::Length);
+        }
+        let interface = self.interface(0)?;
+        let captured = captured_of(&interface, self.order.read_u32(block, 8)) as usize;
+        if block.len() - 16 < captured {
+            return Err(FaultKind::Length);
+        }
+        Ok(packet_in(interface.link, None, 0, &block[12..12 + captured]))
+    }
+
+    /// The interface with a number, if it is described.
+    #[tactic(auto, unfolding(crate::specs::Section::interface_at))]
+    fn interface(&self, number: u32) -> Result<Interface, FaultKind>
+        ensures { result ≡ spec.interface_at (section_view self.now) number }
+    {
+        self.interfaces
+            .as_slice()
+            .get(number as usize)
+            .copied()
+            .ok_or(FaultKind::Interface)
+    }
+}
+
+/// What a block of a type is.
+fn block_kind(number: u32) -> BlockKind
+    ensures { result ≡ spec.kind_of number }
+{
+    match number {
+        SECTION_HEADER => BlockKind::SectionHeader,
+        1 => BlockKind::Interface,
+        3 => BlockKind::SimplePacket,
+        6 => BlockKind::EnhancedPacket,
+        _ => BlockKind::Other,
+    }
+}
+
+/// How many octets of a packet of a length a simple packet block holds.
+fn captured_of(interface: &Interface, original: u32) -> u32
+    ensures { result ≡ spec.captured_of interface.now original }
+{
+    if interface.limit != 0 && interface.limit < original {
+        interface.limit
+    } else {
+        original
+    }
+}
+
+/// The order of a block's octets: that of its section, or what a section header says.
+#[tactic(auto, unfolding(crate::specs::Section::order_of))]
+fn read_order(order: Order, octets: &[u8]) -> Result<Order, FaultKind>
+    requires { 12 ≤ length octets.now }
+    ensures { result ≡ spec.order_of order octets.now }
+{
+    if Order::Big.read_u32(octets, 0) != SECTION_HEADER {
+        Ok(order)
+    } else if Order::Big.read_u32(octets, 8) == BYTE_ORDER_MAGIC {
+        Ok(Order::Big)
+    } else if Order::Little.read_u32(octets, 8) == BYTE_ORDER_MAGIC {
+        Ok(Order::Little)
+    } else {
+        Err(FaultKind::ByteOrder)
+    }
+}
+
+/// The length that a block gives itself at both its ends.
+#[tactic(auto, unfolding(crate::specs::Section::length_of))]
+fn read_length(order: Order, octets: &[u8]) -> Result<usize, FaultKind>
+    requires { 12 ≤ length octets.now }
+    ensures value { result ≡ spec.length_of order octets.now }
+    ensures bounds { IfOk result (λ len. (12 ≤ len) × (len ≤ length octets.now)) }
+{
+    let len = order.read_u32(octets, 4) as usize;
+    if len < EMPTY_BLOCK || len % 4 != 0 {
+        return Err(FaultKind::Length);
+    }
+    if octets.len() < len {
+        return Err(FaultKind::Cut);
+    }
+    if order.read_u32(octets, len - 4) as usize != len {
+        return Err(FaultKind::Length);
+    }
+    Ok(len)
+}
+
+/// Whether the block that octets begin with, of a section in this order, ends behind them.
+pub(crate) fn is_block_cut(order: Order, octets: &[u8]) -> bool
+    ensures { result ≡ parts.is_block_cut order octets.now }
+{
+    if octets.len() < EMPTY_BLOCK {
+        return true;
+    }
+    match read_order(order, octets) {
+        Ok(order) => is_length_cut(order, octets),
+        Err(_) => false,
+    }
+}
+
+/// Whether a block gives itself a length that can be one, and ends behind these octets.
+fn is_length_cut(order: Order, octets: &[u8]) -> bool
+    requires { 12 ≤ length octets.now }
+    ensures { result ≡ parts.is_length_cut (Ok order) octets.now }
+{
+    let len = order.read_u32(octets, 4) as usize;
+    len >= EMPTY_BLOCK && len % 4 == 0 && octets.len() < len
+}
+
+/// Tests whether a section's version is one that is read.
+#[tactic(auto, unfolding(crate::specs::Section::section_fault))]
+fn check_version(order: Order, block: &[u8]) -> Result<(), FaultKind>
+    ensures { MatchResult result (λ _. spec.section_fault order block.now ≡ None)
+        (λ kind. spec.section_fault order block.now ≡ Some kind) }
+{
+    if block.len() < 28 {
+        return Err(FaultKind::Length);
+    }
+    let major = order.read_u16(block, 12);
+    let minor = order.read_u16(block, 14);
+    if major != 1 || minor != 0 && minor != 2 {
+        return Err(FaultKind::Version);
+    }
+    Ok(())
+}

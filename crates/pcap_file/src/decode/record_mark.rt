@@ -1,0 +1,74 @@
+//! What a block tells of a record, a live run that was written down.
+ghost use Rattle.std.specs.Prelude.{◌≡◌, ◌≤◌, length};
+ghost use Rattle.pcap_file.specs.Mark as spec;
+
+use crate::decimal::number_in;
+use crate::decode::endian::Order;
+use crate::decode::interface::{Interface, time_of, time_units};
+use crate::decode::options::option_at;
+
+/// The numbers of the options that a record's section header has.
+const COMMENT: u16 = 1;
+
+const USER_APPLICATION: u16 = 4;
+
+/// What a block tells of a record, a live run that was written down.
+#[derive(Clone, Copy, Debug, PartialEq, Eq)]
+pub enum RecordMark {
+    /// A section header of `darbexum`'s: when the studio was opened, in sampling instants below 2^63.
+    Opened(u64),
+    /// An interface's statistics: their time in nanoseconds, which in a record is when the studio was closed.
+    Closed(u64),
+}
+
+/// The mark of a section header: its writer is `darbexum`, and its comment says the opening.
+#[tactic(auto, unfolding(crate::specs::Mark::opened_by))]
+pub(crate) fn read_opening(order: Order, block: &[u8]) -> Option<RecordMark>
+    ensures { result ≡ spec.opened_by order block.now }
+{
+    if block.len() < 28 {
+        return None;
+    }
+    let options = &block[24..block.len() - 4];
+    if text_at(order, USER_APPLICATION, options) != b"darbexum".as_slice() {
+        return None;
+    }
+    match opening_in(text_at(order, COMMENT, options)) {
+        Some(open_at) => Some(RecordMark::Opened(open_at)),
+        None => None,
+    }
+}
+
+/// The text of an option, or none where there is no such option before the options' end.
+fn text_at(order: Order, code: u16, options: &[u8]) -> &[u8]
+    ensures { result.now ≡ spec.text_at order code options.now }
+{
+    match option_at(order, code, options) {
+        Ok(Some(text)) => text,
+        _ => &[],
+    }
+}
+
+/// The opening that a comment says.
+fn opening_in(comment: &[u8]) -> Option<u64>
+    ensures { result ≡ spec.opening_in comment.now }
+{
+    number_in(comment.strip_prefix(b"open_at ")?)
+}
+
+/// The mark of an interface's statistics: their time.
+#[tactic(auto, unfolding(crate::specs::Mark::closed_by))]
+pub(crate) fn read_closing(
+    order: Order,
+    interfaces: &[Interface],
+    block: &[u8],
+) -> Option<RecordMark>
+    ensures { result ≡ spec.closed_by order interfaces.now block.now }
+{
+    if block.len() < 24 {
+        return None;
+    }
+    let interface = interfaces.get(order.read_u32(block, 8) as usize)?;
+    let time = time_of(interface, time_units(order, block))?;
+    Some(RecordMark::Closed(time))
+}

@@ -1,0 +1,71 @@
+//! A datagram's IPv4 packet (RFC 791, 3.1; RFC 768).
+ghost use Rattle.std.specs.Prelude.{◌≡◌, ◌+◌, ◌≤◌, ◌++◌, ◌^◌, ◌<◌, length};
+ghost use Rattle.std.specs.Net.Addr.{ipv4_octets};
+ghost use Rattle.arrayvec.specs.ArrayVec.{array_vec_len};
+ghost use Rattle.pcap_file.specs.Arrival.{arrival_view};
+ghost use Rattle.pcap_file.specs.WritePacket.{carried, checksum_of, header_octets, header_with, udp_octets, words_sum};
+
+use crate::encode::body::{Head, push};
+use crate::encode::datagram::Arrival;
+use std::net::Ipv4Addr;
+
+/// Adds the IPv4 header of a datagram.
+pub(crate) fn push_ipv4(head: &mut Head, arrival: &Arrival<'_>)
+    requires few { length arrival.now.octets.now ≤ 2048 }
+    requires room { array_vec_len head.old + 20 ≤ 64 }
+    ensures items { head.new.items ≡ head.old.items ++ header_octets (arrival_view arrival.now) }
+    ensures length { array_vec_len head.new ≡ array_vec_len head.old + 20 }
+{
+    let total = 28 + arrival.octets.len() as u16;
+    push(head, &[0x45, 0]);
+    push(head, &total.to_be_bytes());
+    push(head, &[0, 0, 0x40, 0, 64, 17]);
+    push(head, &checksum(total, arrival).to_be_bytes());
+    push(head, &arrival.source.octets());
+    push(head, &arrival.destination.octets());
+}
+
+/// Adds the UDP header of a datagram.
+#[tactic(auto, unfolding(crate::specs::WritePacket::udp_octets))]
+pub(crate) fn push_udp(head: &mut Head, arrival: &Arrival<'_>)
+    requires few { length arrival.now.octets.now ≤ 2048 }
+    requires room { array_vec_len head.old + 8 ≤ 64 }
+    ensures items { head.new.items ≡ head.old.items ++ udp_octets (arrival_view arrival.now) }
+    ensures length { array_vec_len head.new ≡ array_vec_len head.old + 8 }
+{
+    push(head, &arrival.source_port.to_be_bytes());
+    push(head, &arrival.destination_port.to_be_bytes());
+    push(head, &(8 + arrival.octets.len() as u16).to_be_bytes());
+    push(head, &[0, 0]);
+}
+
+/// The checksum of a datagram's IPv4 header.
+fn checksum(total: u16, arrival: &Arrival<'_>) -> u16
+    requires few { length arrival.now.octets.now ≤ 2048 }
+    requires total { total ≡ 28 + length arrival.now.octets.now }
+    ensures { result ≡ checksum_of (header_with 0 (arrival_view arrival.now)) }
+{
+    let fixed = 0x4500 + u32::from(total) + 0x4000 + 0x4011;
+    let sum = fixed + words_sum(arrival.source) + words_sum(arrival.destination);
+    (65_535 - carried(carried(sum))) as u16
+}
+
+/// The sum of an address's two words.
+fn words_sum(address: Ipv4Addr) -> u32
+    ensures value { result ≡ words_sum (ipv4_octets address) }
+    ensures bound { result < 2 ^ 17 }
+    ensures four { length (ipv4_octets address) ≡ 4 }
+{
+    let octets = address.octets();
+    let first = u32::from(octets[0]) * 256 + u32::from(octets[1]);
+    let second = u32::from(octets[2]) * 256 + u32::from(octets[3]);
+    first + second
+}
+
+/// A sum whose carry is added to its low sixteen bits.
+fn carried(sum: u32) -> u32
+    requires { sum < 2 ^ 31 }
+    ensures { result ≡ carried sum }
+{
+    sum % 65_536 + sum / 65_536
+}

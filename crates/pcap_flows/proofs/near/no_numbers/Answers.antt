@@ -1,6 +1,0 @@
-use Rattle.pcap_flows.specs.Numbers.{no_numbers}
-use Rattle.pcap_flows.proofs.near.no_numbers.Goals as goal
-
-pub returns-clause-items : goal.returns-clause-items
-unfolding no_numbers
-returns-clause-items c = c.in_ok-seen.ensures.items_if_clones_equal (λ y h. h)

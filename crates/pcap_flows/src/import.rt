@@ -1,0 +1,170 @@
+//! The trace of a capture.
+ghost use Rattle.std.specs.Prelude.{◌≡◌, ◌+◌, ◌++◌, ◌<◌, ◌≤◌, OnOk, IfOk, Some, [], length, position};
+ghost use Rattle.pcap_file.specs.Capture.{item_view, packets_left, packets_of};
+ghost use Rattle.pcap_file.specs.Packet.{packet_view};
+ghost use Rattle.pcap_flows.specs.Clock.{clock_begun};
+ghost use Rattle.pcap_flows.specs.Lines.{close_line};
+ghost use Rattle.pcap_flows.specs.Trace.{event_count, events_from, item_events, packet_events, is_route_of, route_of, item_clock, item_text, octets_of, packet_clock, packet_text, text_from, trace_of};
+
+use crate::fault::ImportFault;
+use crate::import::clock::CaptureClock;
+use crate::import::trace_lines::{push_arrival, push_close, push_tick};
+use crate::packet::{FlowKey, sighting_in};
+use crate::route::Route;
+use pcap_file::{Body, Capture, CaptureFault, Packet, open};
+use std::alloc::Global;
+
+pub(crate) mod clock;
+pub(crate) mod config;
+mod first_packets;
+mod stream_plan;
+mod trace_lines;
+
+/// The most octets and events of a trace.
+pub const MOST_OCTETS: usize = 67_108_864;
+
+pub const MOST_EVENTS: u32 = 1_000_000;
+
+/// A trace's text up to some place in a capture.
+#[derive(Drop)]
+struct Trace {
+    text: Vec<u8>,
+    clock: CaptureClock,
+    events: u32,
+}
+
+/// The trace of the capture that octets are, up to its end or its fault: the datagrams of the flows that have a route.
+#[tactic(auto, using(crate::proofs::TraceLemmas::text_of_fault, crate::proofs::TraceLemmas::events_of_fault))]
+pub fn trace_text(alloc: Global, octets: &[u8], routes: &[Route]) -> Result<Vec<u8>, ImportFault>
+    ensures trace { IfOk result (λ text. text.items ≡ trace_of routes.now (packets_of octets.now)) }
+    ensures fits { IfOk result (λ text. length text.items ≤ MOST_OCTETS) }
+    ensures few { OnOk result (event_count routes.now (packets_of octets.now) ≤ MOST_EVENTS) }
+{
+    let mut trace = Trace::new(alloc);
+    if let Ok(capture) = open(octets) {
+        trace.read(capture, routes)?;
+    }
+    trace.close()
+}
+
+impl Trace {
+    /// No line was written.
+    fn new(alloc: Global) -> Trace
+        ensures text { result.text.items ≡ [] }
+        ensures clock { result.clock ≡ clock_begun }
+        ensures events { result.events ≡ 0 }
+    {
+        Trace {
+            text: Vec::new(alloc),
+            clock: CaptureClock::new(),
+            events: 0,
+        }
+    }
+
+    /// Adds the lines of what is left of a capture.
+    #[tactic(auto, using(crate::proofs::TraceLemmas::text_from_none, crate::proofs::TraceLemmas::text_from_next, crate::proofs::TraceLemmas::events_from_none, crate::proofs::TraceLemmas::events_from_next))]
+    fn read(&mut self, mut capture: Capture<'_>, routes: &[Route]) -> Result<(), ImportFault>
+        requires few { self.old.events < MOST_EVENTS }
+        ensures text { OnOk result (self.new.text.items ++ close_line ≡ self.old.text.items ++ text_from routes.now self.old.clock (packets_left capture.entry)) }
+        ensures events { OnOk result (self.new.events + 1 ≡ self.old.events + events_from routes.now self.old.clock (packets_left capture.entry)) }
+        ensures few { OnOk result (self.new.events < MOST_EVENTS) }
+    {
+        while let Some(item) = capture.next() {
+            self.take(item, routes)?;
+        }
+        Ok(())
+    }
+
+    /// Adds what is told of a capture.
+    #[tactic(auto, unfolding(crate::specs::Trace::item_text, crate::specs::Trace::item_clock, crate::specs::Trace::item_events))]
+    fn take(
+        &mut self,
+        item: Result<Packet<'_>, CaptureFault>,
+        routes: &[Route],
+    ) -> Result<(), ImportFault>
+        requires few { self.old.events < MOST_EVENTS }
+        ensures text { OnOk result (self.new.text.items ≡ self.old.text.items ++ item_text routes.now self.old.clock (item_view item.entry)) }
+        ensures clock { OnOk result (self.new.clock ≡ item_clock routes.now self.old.clock (item_view item.entry)) }
+        ensures events { OnOk result (self.new.events ≡ self.old.events + item_events routes.now self.old.clock (item_view item.entry)) }
+        ensures few { OnOk result (self.new.events < MOST_EVENTS) }
+    {
+        if let Ok(packet) = item
+            && let Some(route) = route_in(routes, &packet)
+        {
+            self.add(&packet, &route)?;
+        }
+        Ok(())
+    }
+
+    /// Adds a datagram of a flow that has a route.
+    fn add(&mut self, packet: &Packet<'_>, route: &Route) -> Result<(), ImportFault>
+        ensures text { OnOk result (self.new.text.items ≡ self.old.text.items ++ packet_text self.old.clock (packet_view packet.now) (Some route.now)) }
+        ensures clock { OnOk result (self.new.clock ≡ packet_clock self.old.clock (packet_view packet.now) (Some route.now)) }
+        ensures events { OnOk result (self.new.events ≡ self.old.events + packet_events self.old.clock (packet_view packet.now) (Some route.now)) }
+        ensures few { OnOk result (self.new.events < MOST_EVENTS) }
+    {
+        let earlier = self.clock.reading();
+        self.clock.read(packet.time);
+        let reading = self.clock.reading();
+        push_tick(&mut self.text, earlier, reading)?;
+        push_arrival(&mut self.text, route, octets_in(packet))?;
+        self.count(if earlier < reading { 2 } else { 1 })
+    }
+
+    /// Counts the events of a datagram, and tests whether one more and the close's line have room.
+    fn count(&mut self, events: u32) -> Result<(), ImportFault>
+        ensures text { self.new.text ≡ self.old.text }
+        ensures clock { self.new.clock ≡ self.old.clock }
+        ensures events { OnOk result (self.new.events ≡ self.old.events + events) }
+        ensures few { OnOk result (self.new.events < MOST_EVENTS) }
+    {
+        self.events = self.events.saturating_add(events);
+        if self.events >= MOST_EVENTS {
+            return Err(ImportFault::Events);
+        }
+        if self.text.len() > MOST_OCTETS - 6 {
+            return Err(ImportFault::Text);
+        }
+        Ok(())
+    }
+
+    /// Ends the trace.
+    fn close(self) -> Result<Vec<u8>, ImportFault>
+        ensures text { IfOk result (λ text. text.items ≡ self.text.items ++ close_line) }
+        ensures fits { IfOk result (λ text. length text.items ≤ MOST_OCTETS) }
+    {
+        let mut text = self.text;
+        push_close(&mut text)?;
+        if text.len() > MOST_OCTETS {
+            return Err(ImportFault::Text);
+        }
+        Ok(text)
+    }
+}
+
+/// The route of a packet, if it is an RTP packet of a flow that has one.
+#[tactic(auto, unfolding(crate::specs::Trace::route_of))]
+pub fn route_in(routes: &[Route], packet: &Packet<'_>) -> Option<Route>
+    ensures { result ≡ route_of routes.now (packet_view packet.now) }
+{
+    let next = sighting_in(packet)?;
+    let place = place_of(routes, &next.key)?;
+    routes.get(place).copied()
+}
+
+/// The place of a flow's route.
+fn place_of(routes: &[Route], key: &FlowKey) -> Option<usize>
+    ensures { result ≡ position (is_route_of key.now) routes.now }
+{
+    routes.iter().position(|route| key.is_same(&route.key))
+}
+
+/// The octets of a whole datagram.
+pub fn octets_in<'a>(packet: &Packet<'a>) -> &'a [u8]
+    ensures { result.now ≡ octets_of (packet_view packet.now).ip.body }
+{
+    match packet.ip.body {
+        Body::Datagram(datagram) => datagram.payload,
+        Body::Fragment | Body::Cut => &[],
+    }
+}

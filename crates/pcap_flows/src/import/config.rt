@@ -1,0 +1,109 @@
+//! The configuration that fits a capture's trace, as a text.
+use crate::fault::ImportFault;
+use crate::import::stream_plan::{Plan, plans_of};
+use crate::routes::Routes;
+use crate::table::Table;
+use rtp_wire::Enc;
+use std::alloc::{AllocError, Global};
+
+/// The most channels of an output.
+const MOST_OUTPUTS: usize = 8;
+
+/// The most octets of a datagram's samples.
+const MOST_SAMPLES: usize = 1440;
+
+/// The configuration by which the trace of these routes is played: each stream from its first packet on, with a latency in
+/// milliseconds or, without one, twice the greatest skew of its paths and 10 ms at least; and an output of the first
+/// channels of all streams, at most 8, as they are. The octets are the capture's, of which the table tells the flows.
+pub fn config_text(
+    alloc: Global,
+    table: &Table,
+    octets: &[u8],
+    routes: &Routes,
+    latency: Option<u32>,
+) -> Result<String, ImportFault> {
+    let plans = plans_of(alloc, table, octets, routes, latency)?;
+    let text = text_of(alloc, plans.as_slice(), latency.is_none())?;
+    Ok(text)
+}
+
+/// The text of streams, whose latencies were chosen or asked for.
+fn text_of(alloc: Global, plans: &[Plan], is_chosen: bool) -> Result<String, AllocError> {
+    let mut text = String::from_str(alloc, "open_at = 0\n")?;
+    if is_chosen {
+        text.push_str(
+            "# latency: twice the greatest skew between the paths, and 10 ms at least\n",
+        )?;
+    }
+    for plan in plans.iter() {
+        push_stream(&mut text, alloc, plan)?;
+    }
+    push_output(&mut text, alloc, plans)?;
+    Ok(text)
+}
+
+/// The table of a stream.
+fn push_stream(text: &mut String, alloc: Global, plan: &Plan) -> Result<(), AllocError> {
+    let form = plan.form;
+    let (enc, channels, frames, pt) = (name_of(form.enc), form.channels, form.frames, form.pt);
+    let (offset, latency, window, paths) = (plan.offset, plan.latency, plan.window, plan.paths);
+    let packets = format!(in alloc;
+        "[[stream]]\nencoding = \"{enc}\"\nchannels = {channels}\nframes = {frames}\npt = {pt}\n"
+    )?;
+    text.push_str(&packets)?;
+    let times = format!(in alloc;
+        "clock = \"media\"\noffset = {offset}\nlatency = {latency}\nwindow = {window}\npaths = {paths}\n"
+    )?;
+    text.push_str(&times)
+}
+
+/// The name of samples.
+fn name_of(enc: Enc) -> &'static str {
+    match enc {
+        Enc::L16 => "L16",
+        Enc::L24 => "L24",
+    }
+}
+
+/// The table of the output.
+fn push_output(text: &mut String, alloc: Global, plans: &[Plan]) -> Result<(), AllocError> {
+    let mut inputs = 0usize;
+    for plan in plans.iter() {
+        inputs = inputs.saturating_add(usize::from(plan.form.channels));
+    }
+    let channels = inputs.min(MOST_OUTPUTS);
+    let frames = frames_for(plans, channels);
+    let start = format!(in alloc;
+        "[output]\nencoding = \"L24\"\nchannels = {channels}\nframes = {frames}\npt = 97\n"
+    )?;
+    text.push_str(&start)?;
+    text.push_str("ssrc = 1\nseq = 0\nstart = 0\ngains = [\n")?;
+    for output in 0..channels {
+        push_row(text, output, inputs)?;
+    }
+    text.push_str("]\n")
+}
+
+/// The first stream's sampling instants a packet, or 48 where so many have no room.
+fn frames_for(plans: &[Plan], channels: usize) -> u16 {
+    match plans.first() {
+        Some(plan)
+            if channels
+                .saturating_mul(3)
+                .saturating_mul(usize::from(plan.form.frames))
+                <= MOST_SAMPLES => { plan.form.frames }
+        _ => 48,
+    }
+}
+
+/// The gains of an output: of the input with its number 1, of others 0.
+fn push_row(text: &mut String, output: usize, inputs: usize) -> Result<(), AllocError> {
+    text.push_str("    [")?;
+    for input in 0..inputs {
+        if input > 0 {
+            text.push_str(", ")?;
+        }
+        text.push_str(if input == output { "65536" } else { "0" })?;
+    }
+    text.push_str("],\n")
+}

@@ -1,0 +1,148 @@
+//! The streams of a configuration that fits a capture.
+use crate::fault::ImportFault;
+use crate::import::first_packets::{Start, starts_in};
+use crate::packet::FlowKey;
+use crate::packet_format::{Form, form_of};
+use crate::route::Route;
+use crate::routes::Routes;
+use crate::skew::skew_of;
+use crate::table::Table;
+use pcap_file::open;
+use std::alloc::Global;
+
+/// The least latency that is chosen, 10 ms in sampling instants.
+const LEAST_LATENCY: u32 = 480;
+
+/// A stream that fits some flows.
+#[derive(Clone, Copy)]
+pub(crate) struct Plan {
+    pub(crate) form: Form,
+    pub(crate) paths: u8,
+    /// By how much its timestamps are ahead of the trace's clock as the first packet comes in.
+    pub(crate) offset: u32,
+    /// In sampling instants.
+    pub(crate) latency: u32,
+    /// In packets.
+    pub(crate) window: u16,
+}
+
+/// A plan for each stream of the routes. Without a latency, in milliseconds, it is twice the greatest skew of its paths.
+pub(crate) fn plans_of(
+    alloc: Global,
+    table: &Table,
+    octets: &[u8],
+    routes: &Routes,
+    latency: Option<u32>,
+) -> Result<Vec<Plan>, ImportFault> {
+    let starts = starts_in(alloc, octets, routes)?;
+    let mut plans = Vec::new(alloc);
+    for (number, start) in starts.iter().enumerate() {
+        let Some(start) = start else {
+            return Err(ImportFault::Unfit);
+        };
+        let keys = keys_of(alloc, routes.list(), number)?;
+        let plan = plan_of(alloc, table, octets, keys.as_slice(), start, latency)?;
+        if plans.push(plan).is_err() {
+            return Err(ImportFault::Memory);
+        }
+    }
+    Ok(plans)
+}
+
+/// The flows of a stream.
+fn keys_of(alloc: Global, routes: &[Route], number: usize) -> Result<Vec<FlowKey>, ImportFault> {
+    let mut keys = Vec::new(alloc);
+    for route in routes.iter() {
+        if usize::from(route.stream) == number && keys.push(route.key).is_err() {
+            return Err(ImportFault::Memory);
+        }
+    }
+    Ok(keys)
+}
+
+/// The plan of a stream.
+fn plan_of(
+    alloc: Global,
+    table: &Table,
+    octets: &[u8],
+    keys: &[FlowKey],
+    start: &Start,
+    asked: Option<u32>,
+) -> Result<Plan, ImportFault> {
+    let form = form_for(table, keys).ok_or(ImportFault::Unfit)?;
+    let latency = match asked {
+        Some(ms) => ms.saturating_mul(48),
+        None => latency_for(greatest_skew(alloc, octets, keys)?),
+    };
+    let paths = keys.len().min(4) as u8;
+    let window = window_for(&form, latency, paths).ok_or(ImportFault::Latency)?;
+    Ok(Plan {
+        form,
+        paths,
+        offset: start
+            .ts
+            .wrapping_sub((start.reading % 4_294_967_296) as u32),
+        latency,
+        window,
+    })
+}
+
+/// The form of the first of the flows that has one.
+fn form_for(table: &Table, keys: &[FlowKey]) -> Option<Form> {
+    for key in keys.iter() {
+        for (other, flow) in table.keys().iter().zip(table.flows().iter()) {
+            if other.is_same(key)
+                && let Some(form) = form_of(key.pt, flow)
+            {
+                return Some(form);
+            }
+        }
+    }
+    None
+}
+
+/// How far a further path was behind the first or before it, in nanoseconds.
+fn greatest_skew(alloc: Global, octets: &[u8], keys: &[FlowKey]) -> Result<u64, ImportFault> {
+    let mut greatest = 0;
+    let Some(first) = keys.first() else {
+        return Ok(greatest);
+    };
+    for second in keys.iter().skip(1) {
+        let Ok(capture) = open(octets) else {
+            return Ok(greatest);
+        };
+        if let Some(skew) = skew_of(alloc, capture, first, second)? {
+            greatest = greatest
+                .max(skew.least.unsigned_abs())
+                .max(skew.greatest.unsigned_abs());
+        }
+    }
+    Ok(greatest)
+}
+
+/// Twice a skew in sampling instants, rounded up, and no less than the least latency.
+fn latency_for(skew: u64) -> u32 {
+    let instants = (u128::from(skew) * 6).div_ceil(62_500);
+    u32::try_from(instants)
+        .unwrap_or(u32::MAX)
+        .max(LEAST_LATENCY)
+}
+
+/// The least window that spans twice the latency and two packets, so that a path that comes first is not ahead; or where
+/// there is none the greatest that spans the latency.
+fn window_for(form: &Form, latency: u32, paths: u8) -> Option<u16> {
+    let wanted = u64::from(latency)
+        .saturating_add(u64::from(form.frames))
+        .saturating_mul(2);
+    let mut greatest = None;
+    for power in 3..15u32 {
+        let window = 1u16.wrapping_shl(power);
+        if form.is_stream(latency, window, paths) {
+            greatest = Some(window);
+            if u64::from(window).saturating_mul(u64::from(form.frames)) >= wanted {
+                break;
+            }
+        }
+    }
+    greatest
+}

@@ -1,0 +1,255 @@
+//! The events of a capture, packet by packet.
+ghost use Rattle.std.specs.Prelude.{◌≡◌, ◌≤◌, ◌<◌, ◌+◌, ◌^◌, ◌∷◌, ◌++◌, [], ℕ, pos, List, Option, None, length, drop, false, is_some, IfOk, IfErr, IfSome, OnOk};
+ghost use Rattle.pcap_file.specs.Packet.{PacketView, packet_view};
+ghost use Rattle.pcap_file.specs.Window.{octets_of};
+ghost use Rattle.pcap_file.specs.Reader.{IsNext, packets_in};
+ghost use Rattle.pcap_flows.specs.Clock.{clock_with};
+ghost use Rattle.path_merge.specs.Clock.{clock_fault_of};
+ghost use Rattle.studio_config.specs.Studio.{Studio};
+ghost use Rattle.studio_session.specs.Event.{TraceEvent, Arrival};
+ghost use Rattle.pcap_replay.specs.Events.{events_of, events_with, read_at};
+ghost use Rattle.pcap_replay.specs.Plan.{clock_past, opening_of, plan_view, target_of};
+ghost use Rattle.pcap_replay.specs.Record.{closing_with};
+ghost use Rattle.pcap_replay.specs.Replay.{HasGoneOver, HasReplayed, HasTaken, IsOwn, IsReplaying, IsRun, Stops, StopsFile};
+ghost use Rattle.studio_session.specs.Fault.{time_at};
+ghost use Rattle.studio_engine.specs.Session.{turned};
+
+use crate::fault::ReplayFault;
+use crate::observer::Listener;
+use crate::output::write_turn;
+use crate::record_times::closed_at;
+use crate::routing::{Plan, Target};
+use crate::state::Run;
+use path_merge::{Path, clock_fault};
+use pcap_file::{Packet, Part, Parts, ReaderFault, RecordMark, Window, has_next, next};
+use pcap_flows::octets_in;
+use std::io::{Read, Write};
+use studio_engine::{ArriveFault, Engine};
+use studio_session::StudioFault;
+
+impl Run {
+    /// Takes the events of what is left of a capture, up to its end. Answers when the studio was closed, in nanoseconds, by the
+    /// first mark that tells it.
+    pub(crate) fn go_over<R: Read, W: Write, L: Listener>(
+        &mut self,
+        plan: &Plan<'_>,
+        parts: &mut Parts,
+        window: &mut Window,
+        reader: &mut R,
+        writer: &mut W,
+        listener: &mut L,
+    ) -> Result<Option<u64>, ReplayFault>
+        ensures ok { IfOk result (λ closing. (studio : Studio) (first : Option (List ℕ)) (written : Option (List ℕ)) (begun : L)
+            → IsReplaying studio (plan_view plan.now) first written self.old parts.old (octets_of window.old) window.old.ended (R.remaining reader.old) (W.contents writer.old) (L.heard begun listener.old) None
+            → HasGoneOver studio (plan_view plan.now) first written self.new (W.contents writer.new) (L.heard begun listener.new) closing) }
+        ensures fault { IfErr result (λ fault. (studio : Studio) (first : Option (List ℕ)) (written : Option (List ℕ)) (begun : L)
+            → IsReplaying studio (plan_view plan.now) first written self.old parts.old (octets_of window.old) window.old.ended (R.remaining reader.old) (W.contents writer.old) (L.heard begun listener.old) None
+            → StopsFile studio (plan_view plan.now) first written self.new (W.contents writer.new) (L.heard begun listener.new) fault) }
+    {
+        let mut closing = None;
+        'parts: for _ in 0..u64::MAX {
+            if !has_next(parts, window, reader)? {
+                return Ok(closing);
+            }
+            let (len, mark) = self.take_next(plan, parts, window, writer, listener)?;
+            closing = closed_at(closing, mark);
+            window.pass(len);
+        }
+        Err(ReplayFault::Full)
+    }
+
+    /// Takes the events of what comes next, and answers its length and its mark.
+    fn take_next<W: Write, L: Listener>(
+        &mut self,
+        plan: &Plan<'_>,
+        parts: &mut Parts,
+        window: &Window,
+        writer: &mut W,
+        listener: &mut L,
+    ) -> Result<(usize, Option<RecordMark>), ReplayFault>
+        requires next { IsNext parts.old (octets_of window.now) window.now.ended }
+        ensures len { IfOk result (λ passed. passed.0 ≤ length (octets_of window.now)) }
+        ensures ok { IfOk result (λ passed. (studio : Studio) (first : Option (List ℕ)) (written : Option (List ℕ)) (begun : L) (left : Option (List ℕ)) (closing : Option ℕ)
+            → IsReplaying studio (plan_view plan.now) first written self.old parts.old (octets_of window.now) window.now.ended left (W.contents writer.old) (L.heard begun listener.old) closing
+            → IsReplaying studio (plan_view plan.now) first written self.new parts.new (drop passed.0 (octets_of window.now)) window.now.ended left (W.contents writer.new) (L.heard begun listener.new) (closing_with closing passed.1)) }
+        ensures fault { IfErr result (λ fault. (studio : Studio) (first : Option (List ℕ)) (written : Option (List ℕ)) (begun : L) (left : Option (List ℕ)) (closing : Option ℕ)
+            → IsReplaying studio (plan_view plan.now) first written self.old parts.old (octets_of window.now) window.now.ended left (W.contents writer.old) (L.heard begun listener.old) closing
+            → StopsFile studio (plan_view plan.now) first written self.new (W.contents writer.new) (L.heard begun listener.new) fault) }
+    {
+        match next(parts, window) {
+            Ok(part) => {
+                self.take_part(plan, &part, writer, listener)?;
+                Ok((part.len, part.mark))
+            }
+            Err(fault) => Err(ReplayFault::Capture(ReaderFault::Capture(fault))),
+        }
+    }
+
+    /// Takes the events of a record or a block: those of its packet, if it has one.
+    fn take_part<W: Write, L: Listener>(
+        &mut self,
+        plan: &Plan<'_>,
+        part: &Part<'_>,
+        writer: &mut W,
+        listener: &mut L,
+    ) -> Result<(), ReplayFault>
+        ensures ok { OnOk result ((studio : Studio) (packets : List PacketView) (written : Option (List ℕ)) (begun : L) → HasTaken studio (plan_view plan.now) packets written self.old (W.contents writer.old) (L.heard begun listener.old)
+            → HasTaken studio (plan_view plan.now) (packets ++ packets_in part.now) written self.new (W.contents writer.new) (L.heard begun listener.new)) }
+        ensures fault { IfErr result (λ fault. (studio : Studio) (packets : List PacketView) (written : Option (List ℕ)) (begun : L) → HasTaken studio (plan_view plan.now) packets written self.old (W.contents writer.old) (L.heard begun listener.old)
+            → Stops studio (events_of studio (plan_view plan.now) (packets ++ packets_in part.now)) written self.new (W.contents writer.new) (L.heard begun listener.new) fault) }
+        ensures kind { IfErr result (λ fault. IsOwn fault) }
+    {
+        match part.packet {
+            Some(packet) => self.take(plan, &packet, writer, listener),
+            None => Ok(()),
+        }
+    }
+
+    /// Takes the events of a packet.
+    fn take<W: Write, L: Listener>(
+        &mut self,
+        plan: &Plan<'_>,
+        packet: &Packet<'_>,
+        writer: &mut W,
+        listener: &mut L,
+    ) -> Result<(), ReplayFault>
+        ensures ok { OnOk result ((studio : Studio) (events : List TraceEvent) (written : Option (List ℕ)) (begun : L) → HasReplayed studio events written self.old (W.contents writer.old) (L.heard begun listener.old)
+            → HasReplayed studio (events_with studio.open_at (opening_of (plan_view plan.now)) self.old.clock events (packet_view packet.now) (target_of (plan_view plan.now) (packet_view packet.now))) written self.new (W.contents writer.new) (L.heard begun listener.new)) }
+        ensures kind { IfErr result (λ fault. IsOwn fault) }
+        ensures clock { OnOk result (self.new.clock ≡ clock_past self.old.clock (packet_view packet.now) (target_of (plan_view plan.now) (packet_view packet.now))) }
+        ensures fault { IfErr result (λ fault. (studio : Studio) (events : List TraceEvent) (written : Option (List ℕ)) (begun : L) → HasReplayed studio events written self.old (W.contents writer.old) (L.heard begun listener.old)
+            → Stops studio (events_with studio.open_at (opening_of (plan_view plan.now)) self.old.clock events (packet_view packet.now) (target_of (plan_view plan.now) (packet_view packet.now))) written self.new (W.contents writer.new) (L.heard begun listener.new) fault) }
+    {
+        let Some(target) = plan.target(packet) else {
+            return Ok(());
+        };
+        self.read(plan.opening(), packet.time, writer, listener)?;
+        self.arrive(target, octets_in(packet), listener)
+    }
+
+    /// Reads the clock, counted from an opening, at a time. A reading that isn't later is no event.
+    pub(crate) fn read<W: Write, L: Listener>(
+        &mut self,
+        from: u64,
+        time: Option<u64>,
+        writer: &mut W,
+        listener: &mut L,
+    ) -> Result<(), ReplayFault>
+        ensures ok { OnOk result ((studio : Studio) (events : List TraceEvent) (written : Option (List ℕ)) (begun : L) → HasReplayed studio events written self.old (W.contents writer.old) (L.heard begun listener.old)
+            → HasReplayed studio (read_at studio.open_at from events self.old.clock.reading (clock_with self.old.clock time).reading) written self.new (W.contents writer.new) (L.heard begun listener.new)) }
+        ensures kind { IfErr result (λ fault. IsOwn fault) }
+        ensures clock { self.new.clock ≡ clock_with self.old.clock time }
+        ensures fault { IfErr result (λ fault. (studio : Studio) (events : List TraceEvent) (written : Option (List ℕ)) (begun : L) → HasReplayed studio events written self.old (W.contents writer.old) (L.heard begun listener.old)
+            → Stops studio (read_at studio.open_at from events self.old.clock.reading (clock_with self.old.clock time).reading) written self.new (W.contents writer.new) (L.heard begun listener.new) fault) }
+    {
+        let earlier = self.clock.reading();
+        self.clock.read(time);
+        let reading = self.clock.reading();
+        if reading <= earlier {
+            return Ok(());
+        }
+        self.turn(from, reading, writer, listener)
+    }
+
+    /// Moves the engine on to a reading. One that repeats its time is no event.
+    fn turn<W: Write, L: Listener>(
+        &mut self,
+        from: u64,
+        reading: u64,
+        writer: &mut W,
+        listener: &mut L,
+    ) -> Result<(), ReplayFault>
+        ensures ok { OnOk result ((studio : Studio) (events : List TraceEvent) (written : Option (List ℕ)) (begun : L) → HasReplayed studio events written self.old (W.contents writer.old) (L.heard begun listener.old)
+            → HasReplayed studio (turned (time_at studio.open_at events) (pos (from + reading)) events) written self.new (W.contents writer.new) (L.heard begun listener.new)) }
+        ensures kind { IfErr result (λ fault. IsOwn fault) }
+        ensures clock { self.new.clock ≡ self.old.clock }
+        ensures fault { IfErr result (λ fault. (studio : Studio) (events : List TraceEvent) (written : Option (List ℕ)) (begun : L) → HasReplayed studio events written self.old (W.contents writer.old) (L.heard begun listener.old)
+            → Stops studio (turned (time_at studio.open_at events) (pos (from + reading)) events) written self.new (W.contents writer.new) (L.heard begun listener.new) fault) }
+    {
+        let time = self.engine.time();
+        let Some(now) = instants_at(from, reading) else {
+            return Err(ReplayFault::Run(StudioFault::Clock(self.count)));
+        };
+        if refuses(&self.engine, now) {
+            return Err(ReplayFault::Run(StudioFault::Clock(self.count)));
+        }
+        write_turn(&mut self.engine, now, &mut self.text, writer, listener)?;
+        tell_reading(listener, time, now);
+        self.count = self.count.saturating_add(usize::from(time != now));
+        Ok(())
+    }
+
+    /// Takes a datagram that goes to a path, and tells of it.
+    fn arrive<L: Listener>(
+        &mut self,
+        target: Target,
+        octets: &[u8],
+        listener: &mut L,
+    ) -> Result<(), ReplayFault>
+        ensures ok { OnOk result ((studio : Studio) (events : List TraceEvent) (written written_then : Option (List ℕ)) (begun : L) → HasReplayed studio events written self.old written_then (L.heard begun listener.old)
+            → HasReplayed studio (events ++ Arrival target.stream target.path octets.now ∷ []) written self.new written_then (L.heard begun listener.new)) }
+        ensures fault { IfErr result (λ fault. (studio : Studio) (events : List TraceEvent) (written written_then : Option (List ℕ)) (begun : L) → HasReplayed studio events written self.old written_then (L.heard begun listener.old)
+            → Stops studio (events ++ Arrival target.stream target.path octets.now ∷ []) written self.new written_then (L.heard begun listener.new) fault) }
+        ensures kind { IfErr result (λ fault. IsRun fault) }
+        ensures clock { self.new.clock ≡ self.old.clock }
+    {
+        let Some(path) = Path::new(target.path) else {
+            return Err(self.pathless(target.stream));
+        };
+        match self.engine.arrive(target.stream, path, octets) {
+            Ok(_receipt) => {
+                listener.arrived(target.stream, path, octets);
+                self.count = self.count.saturating_add(1);
+                Ok(())
+            }
+            Err(fault) => Err(fault_at(self.count, fault)),
+        }
+    }
+
+    /// The fault of a datagram on a path that no stream has.
+    fn pathless(&self, stream: usize) -> ReplayFault
+        ensures { IsRun result }
+    {
+        if stream < self.engine.streams() {
+            ReplayFault::Run(StudioFault::Path(self.count))
+        } else {
+            ReplayFault::Run(StudioFault::Stream(self.count))
+        }
+    }
+}
+
+/// A reading that counts from an opening, as the engine's clock counts it, if 64 bits hold it with a sign.
+fn instants_at(from: u64, reading: u64) -> Option<i64>
+    ensures value { IfSome result (λ now. now ≡ pos (from + reading)) }
+    ensures small { IfSome result (λ now. from + reading < 2 ^ 63) }
+{
+    let instants = from.checked_add(reading)?;
+    i64::try_from(instants).ok()
+}
+
+/// Tells of a reading that is not the one before.
+fn tell_reading<L: Listener>(listener: &mut L, before: i64, now: i64)
+    ensures { (begun : L) (events : List TraceEvent) (datagrams : List (List ℕ)) → L.heard begun listener.old events datagrams → L.heard begun listener.new (turned before now events) datagrams }
+{
+    if before != now {
+        listener.read(now);
+    }
+}
+
+/// Whether the clock of an engine that is open refuses a reading.
+fn refuses(engine: &Engine, now: i64) -> bool
+    ensures { result ≡ is_some (clock_fault_of engine.now.time false now) }
+{
+    clock_fault(engine.time(), false, now).is_some()
+}
+
+/// Why the datagram at a place among the events isn't taken.
+fn fault_at(place: usize, fault: ArriveFault) -> ReplayFault
+    ensures { IsRun result }
+{
+    match fault {
+        ArriveFault::Stream => ReplayFault::Run(StudioFault::Stream(place)),
+        ArriveFault::Path => ReplayFault::Run(StudioFault::Path(place)),
+        ArriveFault::Unfinished | ArriveFault::Full => ReplayFault::Full,
+    }
+}

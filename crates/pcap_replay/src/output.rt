@@ -1,0 +1,75 @@
+//! The datagrams that an engine gives, as lines, and told to a listener.
+ghost use Rattle.std.specs.Prelude.{◌≡◌, ◌⊎◌, ◌≤◌, ℕ, List, OnOk, OnErr, None, true, false};
+ghost use Rattle.mix_packets.specs.OutSpec.{datagram_length};
+ghost use Rattle.path_merge.specs.Clock.{clock_fault_of};
+ghost use Rattle.studio_config.specs.Studio.{Studio};
+ghost use Rattle.studio_session.specs.Event.{TraceEvent};
+ghost use Rattle.studio_engine.specs.Session.{HasSession, turned};
+ghost use Rattle.pcap_replay.specs.Lines.{BreaksLines, GivesLines};
+
+use crate::observer::Listener;
+use std::io::Write;
+use studio_engine::Engine;
+use studio_run::{TextBuffer, WriteFault, write_datagram};
+use studio_session::MOST_OUTPUT_OCTETS;
+
+/// Moves an engine on to a reading, tells of the datagrams that it gives, and writes their lines.
+pub(crate) fn write_turn<W: Write, L: Listener>(
+    engine: &mut Engine,
+    now: i64,
+    text: &mut TextBuffer,
+    writer: &mut W,
+    listener: &mut L,
+) -> Result<(), WriteFault>
+    requires short { datagram_length engine.old.mixer.packer.spec ≤ 1452 }
+    ensures ok { OnOk result ((studio : Studio) (events : List TraceEvent) (datagrams : List (List ℕ)) (begun : L) → HasSession studio engine.old events datagrams → clock_fault_of engine.old.time engine.old.closed now ≡ None
+        → GivesLines studio engine.new (turned engine.old.time now events) datagrams (W.contents writer.old) text.old (W.contents writer.new) text.new (L.heard begun listener.old) (L.heard begun listener.new)) }
+    ensures rested { OnOk result ((studio : Studio) (events : List TraceEvent) (datagrams : List (List ℕ)) → HasSession studio engine.old events datagrams → clock_fault_of engine.old.time engine.old.closed now ≡ None
+        → engine.new.turning ≡ false) }
+    ensures fault { OnErr result ((studio : Studio) (events : List TraceEvent) (datagrams : List (List ℕ)) (begun : L) → HasSession studio engine.old events datagrams → clock_fault_of engine.old.time engine.old.closed now ≡ None
+        → BreaksLines studio engine.new (turned engine.old.time engine.new.time events) datagrams (W.contents writer.old) text.old (W.contents writer.new) (L.heard begun listener.old) (L.heard begun listener.new)) }
+    ensures time { (engine.new.time ≡ engine.old.time) ⊎ (engine.new.time ≡ now) }
+    ensures output { engine.new.mixer.packer.spec ≡ engine.old.mixer.packer.spec }
+    ensures closed { engine.new.closed ≡ engine.old.closed }
+{
+    let mut out = [0; MOST_OUTPUT_OCTETS];
+    'rounds: loop {
+        let Ok(given) = engine.turn(now, &mut out) else {
+            // No engine that has a session comes here, at a reading that its clock takes.
+            return Err(WriteFault);
+        };
+        match given {
+            Some(len) => {
+                listener.output(&out[..len]);
+                write_datagram(text, writer, &out[..len])?;
+            }
+            None => return Ok(()),
+        }
+    }
+}
+
+/// Tells of the datagrams that are left after a close, and writes their lines.
+pub(crate) fn write_rest<W: Write, L: Listener>(
+    engine: &mut Engine,
+    text: &mut TextBuffer,
+    writer: &mut W,
+    listener: &mut L,
+) -> Result<(), WriteFault>
+    requires short { datagram_length engine.old.mixer.packer.spec ≤ 1452 }
+    ensures ok { OnOk result ((studio : Studio) (events : List TraceEvent) (datagrams : List (List ℕ)) (begun : L) → HasSession studio engine.old events datagrams
+        → GivesLines studio engine.new events datagrams (W.contents writer.old) text.old (W.contents writer.new) text.new (L.heard begun listener.old) (L.heard begun listener.new)) }
+    ensures settled { OnOk result (engine.new.settled ≡ engine.old.closed) }
+    ensures fault { OnErr result ((studio : Studio) (events : List TraceEvent) (datagrams : List (List ℕ)) (begun : L) → HasSession studio engine.old events datagrams
+        → BreaksLines studio engine.new events datagrams (W.contents writer.old) text.old (W.contents writer.new) (L.heard begun listener.old) (L.heard begun listener.new)) }
+{
+    let mut out = [0; MOST_OUTPUT_OCTETS];
+    'rounds: loop {
+        match engine.drain(&mut out) {
+            Some(len) => {
+                listener.output(&out[..len]);
+                write_datagram(text, writer, &out[..len])?;
+            }
+            None => return Ok(()),
+        }
+    }
+}

@@ -1,0 +1,95 @@
+//! How long before their deadlines the copies of each path came.
+use crate::draw::bars::{LEFT, PLOT_WIDTH, height_of, push_bars};
+use crate::draw::{line, push_text};
+use crate::reception::margins::{PathSpares, SPARE_BINS, Spares};
+use path_merge::Path;
+use std::alloc::AllocError;
+use std::io::Write;
+
+/// From one path's row to the next.
+const SPARE_STEP: u32 = 24;
+
+/// The class and name of each path's row.
+const PATHS: [(&str, &str); 4] = [
+    ("from_a", "a, spare"),
+    ("from_b", "b, spare"),
+    ("from_c", "c, spare"),
+    ("from_d", "d, spare"),
+];
+
+/// How high the rows of so many paths are, with their scale.
+pub(crate) fn spare_height(paths: u8) -> u32 {
+    u32::from(paths)
+        .saturating_mul(SPARE_STEP)
+        .saturating_add(18)
+}
+
+/// Draws them from a height on.
+pub(crate) fn push_spares(
+    svg: &mut Vec<u8>,
+    top: u32,
+    paths: u8,
+    spares: &Spares,
+) -> Result<(), AllocError> {
+    let mut y = top;
+    for (place, (class, name)) in PATHS.iter().take(usize::from(paths)).enumerate() {
+        if let Some(path) = Path::new(place as u8) {
+            push_text(svg, "end", LEFT - 8, y.saturating_add(15), name)?;
+            push_path(svg, y, class, spares.path(path))?;
+        }
+        y = y.saturating_add(SPARE_STEP);
+    }
+    push_scale(svg, y, spares)
+}
+
+/// Draws a path's row: its bars by the greatest of them, and what its copies came to.
+fn push_path(svg: &mut Vec<u8>, y: u32, class: &str, path: &PathSpares) -> Result<(), AllocError> {
+    let mut most = 0;
+    for count in path.bins.iter() {
+        most = most.max(*count);
+    }
+    let mut heights = [0; SPARE_BINS];
+    for place in 0..SPARE_BINS {
+        heights[place] = height_of(path.bins[place], most, 1);
+    }
+    push_bars(svg, class, y, SPARE_STEP - 4, &heights)?;
+    let (x, in_time, late) = (LEFT + PLOT_WIDTH + 8, path.in_time, path.late);
+    line(write!(
+        svg,
+        "<text class=\"spare {class}_spare\" x=\"{x}\" y=\"{}\">in time {in_time}, late {late}</text>\n",
+        y.saturating_add(9)
+    ))?;
+    if let Some(least) = path.least {
+        let (ms, us) = millis(u64::try_from(least).unwrap_or(0));
+        line(write!(
+            svg,
+            "<text class=\"soft\" x=\"{x}\" y=\"{}\">least spare {ms}.{us:03} ms</text>\n",
+            y.saturating_add(20)
+        ))?;
+    }
+    Ok(())
+}
+
+/// Names both ends of the scale.
+fn push_scale(svg: &mut Vec<u8>, y: u32, spares: &Spares) -> Result<(), AllocError> {
+    let (ms, us) = millis(spares.span().saturating_mul(SPARE_BINS as u64));
+    push_text(
+        svg,
+        "soft",
+        LEFT,
+        y.saturating_add(10),
+        "0 ms before the deadline",
+    )?;
+    line(write!(
+        svg,
+        "<text class=\"soft end\" x=\"{}\" y=\"{}\">{ms}.{us:03} ms before the deadline</text>\n",
+        LEFT + PLOT_WIDTH,
+        y.saturating_add(10)
+    ))
+}
+
+/// Sampling instants at 48 kHz as milliseconds, and thousandths of one.
+pub(crate) fn millis(instants: u64) -> (u64, u64) {
+    let micros = instants.saturating_mul(125) / 6;
+    (micros / 1000, micros % 1000)
+}

@@ -1,0 +1,67 @@
+//! All that is drawn of a stream.
+use crate::draw::count_lines::{counts_height, push_counts};
+use crate::draw::line;
+use crate::draw::margin_rows::{millis, push_spares, spare_height};
+use crate::draw::strip::{push_strip, strip_height};
+use crate::draw::ticks::{TICKS_HEIGHT, push_ticks};
+use crate::reception::panel_data::Gathered;
+use rtp_stream::StreamSpec;
+use rtp_wire::Enc;
+use std::alloc::{AllocError, Global};
+use std::io::Write;
+use studio_session::Cursor;
+
+/// The height of a panel's name.
+const NAME_HEIGHT: u32 = 24;
+
+/// From a panel to the next.
+const GAP: u32 = 24;
+
+/// How high the panel of a stream of so many paths is.
+pub(crate) fn panel_height(paths: u8) -> u32 {
+    (NAME_HEIGHT + TICKS_HEIGHT + GAP)
+        .saturating_add(strip_height(paths))
+        .saturating_add(spare_height(paths))
+        .saturating_add(counts_height(paths))
+}
+
+/// Draws the panel of a stream, all of whose events were taken.
+pub(crate) fn push_panel(
+    svg: &mut Vec<u8>,
+    alloc: Global,
+    top: u32,
+    cursor: &Cursor,
+    gathered: &Gathered,
+) -> Result<(), AllocError> {
+    let spec = cursor.spec();
+    let paths = spec.paths();
+    let number = cursor.number();
+    line(write!(svg, "<g id=\"stream{number}\">\n"))?;
+    push_name(svg, top, number, &spec)?;
+    let top = top.saturating_add(NAME_HEIGHT);
+    push_strip(svg, alloc, top, paths, &gathered.bins)?;
+    let top = top.saturating_add(strip_height(paths));
+    push_ticks(svg, top, &gathered.bins.axis())?;
+    let top = top.saturating_add(TICKS_HEIGHT);
+    push_spares(svg, top, paths, &gathered.spares)?;
+    let top = top.saturating_add(spare_height(paths));
+    push_counts(svg, alloc, top, cursor)?;
+    svg.extend_from_slice(b"</g>\n")
+}
+
+/// Writes what a stream is.
+fn push_name(svg: &mut Vec<u8>, top: u32, number: u8, spec: &StreamSpec) -> Result<(), AllocError> {
+    let y = top.saturating_add(15);
+    let enc = match spec.enc() {
+        Enc::L16 => "L16",
+        Enc::L24 => "L24",
+    };
+    let (paths, channels) = (spec.paths(), spec.channels());
+    let (ms, us) = millis(u64::from(spec.frames()));
+    let (late_ms, late_us) = millis(u64::from(spec.latency()));
+    line(write!(
+        svg,
+        "<text class=\"name\" x=\"24\" y=\"{y}\">stream {number}: paths {paths}, {enc}, channels {channels}, \
+        packets of {ms}.{us:03} ms, latency {late_ms}.{late_us:03} ms</text>\n"
+    ))
+}

@@ -1,0 +1,129 @@
+//! The strip of a stream: a row for each kind, over media time.
+ghost use Rattle.std.specs.Prelude.{◌<◌};
+
+use crate::draw::bars::{LEFT, PLOT_WIDTH, UNITS, height_of, push_bars};
+use crate::draw::{line, push_text};
+use crate::reception::bins::{Bins, ROWS};
+use crate::reception::{DOUBLE_ROW, LATE_ROW, LOST_ROW, REFUSED_ROW, RESTART_ROW};
+use std::alloc::{AllocError, Global};
+use std::io::Write;
+
+/// From one row to the next.
+pub(crate) const ROW_STEP: u32 = 16;
+
+/// The rows of paths: class and name.
+const PATHS: [(&str, &str); 4] = [
+    ("from_a", "from a"),
+    ("from_b", "from b"),
+    ("from_c", "from c"),
+    ("from_d", "from d"),
+];
+
+/// How high a strip of so many paths is.
+pub(crate) fn strip_height(paths: u8) -> u32 {
+    u32::from(paths).saturating_add(5).saturating_mul(ROW_STEP)
+}
+
+/// Draws a strip from a height on.
+pub(crate) fn push_strip(
+    svg: &mut Vec<u8>,
+    alloc: Global,
+    top: u32,
+    paths: u8,
+    bins: &Bins,
+) -> Result<(), AllocError> {
+    let mut y = top;
+    for row in 0..usize::from(paths.min(4)) {
+        let (class, name) = PATHS[row];
+        push_row(svg, alloc, y, paths, bins, row, class, name)?;
+        y = y.saturating_add(ROW_STEP);
+    }
+    push_common(svg, alloc, y, paths, bins)
+}
+
+/// Draws the rows that every strip has.
+fn push_common(
+    svg: &mut Vec<u8>,
+    alloc: Global,
+    top: u32,
+    paths: u8,
+    bins: &Bins,
+) -> Result<(), AllocError> {
+    let mut y = top;
+    for row in DOUBLE_ROW..ROWS {
+        let name = name_of(row);
+        push_row(svg, alloc, y, paths, bins, row, name, name)?;
+        y = y.saturating_add(ROW_STEP);
+    }
+    Ok(())
+}
+
+/// The name of a row behind those of the paths, which is its class too.
+fn name_of(row: usize) -> &'static str {
+    match row {
+        DOUBLE_ROW => "double",
+        LATE_ROW => "late",
+        LOST_ROW => "lost",
+        REFUSED_ROW => "refused",
+        _ => "restart",
+    }
+}
+
+/// Draws a row: its name, its bars, and how much of it was seen in all.
+fn push_row(
+    svg: &mut Vec<u8>,
+    alloc: Global,
+    y: u32,
+    paths: u8,
+    bins: &Bins,
+    row: usize,
+    class: &str,
+    name: &str,
+) -> Result<(), AllocError>
+    requires { row < 9 }
+{
+    let base = y.saturating_add(11);
+    push_text(svg, "end", LEFT - 8, base, name)?;
+    let heights = heights_of(alloc, paths, bins, row)?;
+    push_bars(svg, class, y, ROW_STEP - 2, heights.as_slice())?;
+    let (x, total) = (LEFT + PLOT_WIDTH + 8, bins.total(row));
+    line(write!(
+        svg,
+        "<text class=\"total {class}_total\" x=\"{x}\" y=\"{base}\">{total}</text>\n"
+    ))
+}
+
+/// How high each bar of a row is: by its part of the packets of its span, and half at least where it tells of a fault.
+fn heights_of(alloc: Global, paths: u8, bins: &Bins, row: usize) -> Result<Vec<u8>, AllocError>
+    requires { row < 9 }
+{
+    let mut heights = Vec::new(alloc);
+    for bin in 0..bins.axis().bins {
+        let packets = packets_in(bins, bin);
+        let height = height_in(bins.count(bin, row), packets, paths, row);
+        heights.push(height)?;
+    }
+    Ok(heights)
+}
+
+/// How high the bar of so much of a row is in a span of so many packets.
+fn height_in(count: u64, packets: u64, paths: u8, row: usize) -> u8 {
+    let copies = u64::from(paths).saturating_sub(1).max(1);
+    match row {
+        DOUBLE_ROW => height_of(count, packets.saturating_mul(copies), 1),
+        LATE_ROW | LOST_ROW | REFUSED_ROW => height_of(count, packets, UNITS / 2),
+        RESTART_ROW => height_of(count, 1, UNITS),
+        _ => height_of(count, packets, 1),
+    }
+}
+
+/// How many packets a span has: what was taken or lost.
+fn packets_in(bins: &Bins, bin: usize) -> u64
+    requires { bin < bins.now.axis.bins }
+{
+    let mut packets = bins.count(bin, LOST_ROW);
+    for row in 0..DOUBLE_ROW {
+        packets = packets.saturating_add(bins.count(bin, row));
+    }
+    packets
+}

@@ -1,0 +1,71 @@
+//! Seconds below a strip.
+use crate::draw::bars::{LEFT, PLOT_WIDTH};
+use crate::draw::line;
+use crate::reception::axis::Axis;
+use std::alloc::AllocError;
+use std::io::Write;
+
+/// The most ticks behind the first.
+const MOST_TICKS: u64 = 8;
+
+/// The height of ticks and their times.
+pub(crate) const TICKS_HEIGHT: u32 = 22;
+
+/// Draws a tick at round times from the axis' beginning, and writes these in seconds.
+pub(crate) fn push_ticks(svg: &mut Vec<u8>, top: u32, axis: &Axis) -> Result<(), AllocError> {
+    let micros = axis.length().saturating_mul(125) / 6;
+    let step = step_of(micros);
+    for number in 0..MOST_TICKS + 1 {
+        let time = number.saturating_mul(step);
+        if time > micros {
+            break;
+        }
+        push_tick(svg, top, time, micros)?;
+    }
+    Ok(())
+}
+
+/// The least of 1, 2, 5, 10 and so on, in microseconds, of which no more than the most ticks fit.
+fn step_of(micros: u64) -> u64 {
+    let mut ten: u64 = 1;
+    for _ in 0..18 {
+        for times in [1, 2, 5] {
+            let step = ten.saturating_mul(times);
+            if micros / step.max(1) <= MOST_TICKS {
+                return step;
+            }
+        }
+        ten = ten.saturating_mul(10);
+    }
+    ten
+}
+
+/// Draws one tick.
+fn push_tick(svg: &mut Vec<u8>, top: u32, time: u64, micros: u64) -> Result<(), AllocError> {
+    let along = time.saturating_mul(u64::from(PLOT_WIDTH)) / micros.max(1);
+    let x = LEFT.saturating_add(u32::try_from(along).unwrap_or(0));
+    let (bottom, y) = (top.saturating_add(5), top.saturating_add(17));
+    line(write!(
+        svg,
+        "<path class=\"tick\" d=\"M{x} {top}V{bottom}\"/><text class=\"soft middle\" x=\"{x}\" y=\"{y}\">"
+    ))?;
+    push_seconds(svg, time)?;
+    svg.extend_from_slice(b" s</text>\n")
+}
+
+/// A time in seconds, with as many places as it needs.
+fn push_seconds(svg: &mut Vec<u8>, micros: u64) -> Result<(), AllocError> {
+    let (whole, rest) = (micros / 1_000_000, micros % 1_000_000);
+    if rest == 0 {
+        return line(write!(svg, "{whole}"));
+    }
+    if rest % 1000 == 0 {
+        let millis = rest / 1000;
+        if millis % 100 == 0 {
+            let tenths = millis / 100;
+            return line(write!(svg, "{whole}.{tenths}"));
+        }
+        return line(write!(svg, "{whole}.{millis:03}"));
+    }
+    line(write!(svg, "{whole}.{rest:06}"))
+}

@@ -1,0 +1,77 @@
+//! What was seen of a stream, by span and kind.
+ghost use Rattle.std.specs.Prelude.{◌≡◌, ◌+◌, ◌<◌, ◌^◌, ◌++◌, ◌∷◌, [], List, length, IfOk};
+ghost use Rattle.reception_chart.specs.Bins.{HasCounted, Seen, count_in};
+
+use crate::reception::Kind;
+use crate::reception::axis::Axis;
+use std::alloc::{AllocError, Global};
+use std::marker::Model;
+
+/// The rows of a span: one for each path's packets, and one for each other kind.
+pub const ROWS: usize = 9;
+
+/// How much of each kind was seen in each span of an axis.
+#[derive(Drop)]
+pub struct Bins {
+    axis: Axis,
+    counts: Vec<u64>,
+}
+
+impl Model for Bins {
+    ghost use Rattle.std.specs.Prelude.{◌≡◌, ◌*◌, vec_len};
+    ghost use Rattle.reception_chart.specs.Bins.{BinsState};
+
+    ghost Value = { BinsState };
+
+    ghost view = { λ b. record { axis = b.axis; counts = b.counts.items } };
+
+    ghost invariant = { λ b. vec_len b.counts ≡ 9 * b.axis.bins };
+}
+
+impl Bins {
+    /// Nothing was seen.
+    pub fn new(alloc: Global, axis: Axis) -> Result<Bins, AllocError>
+        ensures counted { IfOk result (λ bins. HasCounted bins []) }
+        ensures axis { IfOk result (λ bins. bins.axis ≡ axis) }
+    {
+        let mut counts = Vec::new(alloc);
+        counts.resize(ROWS * axis.bins, 0)?;
+        Ok(Bins { axis, counts })
+    }
+
+    /// Its axis.
+    pub fn axis(&self) -> Axis
+        ensures { result ≡ self.now.axis }
+    {
+        self.axis
+    }
+
+    /// Counts what was seen at a time, in its span.
+    pub fn add(&mut self, time: i64, kind: Kind)
+        ensures counted { (seen : List Seen) → length seen + 1 < 2 ^ 64 → HasCounted self.old seen → HasCounted self.new (seen ++ record { time = time; kind = kind } ∷ []) }
+        ensures axis { self.new.axis ≡ self.old.axis }
+    {
+        let place = ROWS * self.axis.bin_of(time) + kind.row();
+        self.counts[place] = self.counts[place].saturating_add(1);
+    }
+
+    /// How much of a row was seen in a span.
+    pub fn count(&self, bin: usize, row: usize) -> u64
+        requires bin { bin < self.now.axis.bins }
+        requires row { row < 9 }
+        ensures { (seen : List Seen) → HasCounted self.now seen → result ≡ count_in self.now.axis seen bin row }
+    {
+        self.counts[ROWS * bin + row]
+    }
+
+    /// How much of a row was seen in all.
+    pub fn total(&self, row: usize) -> u64
+        requires { row < 9 }
+    {
+        let mut total: u64 = 0;
+        for bin in 0..self.axis.bins {
+            total = total.saturating_add(self.count(bin, row));
+        }
+        total
+    }
+}

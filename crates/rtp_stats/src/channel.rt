@@ -1,0 +1,36 @@
+//! Values through a ring, of which the newest counts.
+ghost use Rattle.std.specs.Prelude.{◌≡◌, true, false};
+ghost use Rattle.rtrb.specs.Ring.{SameConsumer, SameProducer};
+ghost use Rattle.rtp_stats.specs.Newest.{Gives, GoesThrough, HasNoPlace, IsNewest};
+
+use rtrb::{Consumer, Producer};
+
+pub(crate) mod mix;
+pub(crate) mod mix_sender;
+pub(crate) mod path;
+pub(crate) mod stream;
+
+/// Gives a value, if there is room, and says whether it went through.
+pub(crate) fn give<T: Drop>(ring: &mut Producer<T>, value: T) -> bool
+    ensures given { Gives value ring.old ring.new }
+    ensures through { result ≡ true → GoesThrough value ring.old ring.new }
+    ensures full { result ≡ false → HasNoPlace ring.old ring.new }
+    ensures ring { SameProducer ring.old ring.new }
+{
+    ring.push(value).is_ok()
+}
+
+/// Takes out what waits, so many at most, and answers the newest.
+pub(crate) fn newest<T: Drop>(ring: &mut Consumer<T>, most: usize) -> Option<T>
+    ensures newest { IsNewest most result ring.old ring.new }
+    ensures ring { SameConsumer ring.old ring.new }
+{
+    let mut newest = None;
+    for _ in 0..most {
+        match ring.pop() {
+            Ok(value) => newest = Some(value),
+            Err(_) => return newest,
+        }
+    }
+    newest
+}

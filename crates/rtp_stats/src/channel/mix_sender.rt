@@ -1,0 +1,20 @@
+//! What tells of the mix.
+ghost use Rattle.std.specs.Prelude.{◌≤◌};
+
+use crate::stats::MixNumbers;
+use rtp_wire::Enc;
+use rtrb::Producer;
+
+/// The most output channels.
+pub(crate) const MOST: usize = 8;
+
+/// Tells how many samples of the mix were saturated, and each channel's peak.
+#[derive(Drop)]
+pub struct MixTeller {
+    pub(crate) enc: Enc,
+    pub(crate) channels: usize,
+    /// The peak of each channel since the last numbers that went through.
+    pub(crate) peaks: [u32; MOST],
+    pub(crate) ring: Producer<MixNumbers>,
+    ghost few: { channels ≤ 8 },
+}

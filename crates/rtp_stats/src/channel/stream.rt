@@ -1,0 +1,120 @@
+//! A ring of what becomes of a stream's packets.
+ghost use Rattle.std.specs.Prelude.{◌≡◌, ℕ, ◌<◌, ◌^◌, ◌∷◌, [], List, Option, IfOk, ℤ, pos, neg_ℤ, ◌+ℤ◌, ◌<ℤ◌, ◌≤ℤ◌};
+ghost use Rattle.rtrb.specs.Ring.{SameConsumer, SameProducer};
+ghost use Rattle.rtp_stream.specs.declared.stream_spec.Stream.{Stream};
+ghost use Rattle.rtp_stats.specs.Offer.{Offer};
+ghost use Rattle.rtp_stats.specs.Tally.{HasTally};
+ghost use Rattle.rtp_stats.specs.Newest.{IsNewest};
+ghost use Rattle.rtp_stats.specs.Numbers.{AreNumbers};
+ghost use Rattle.rtp_stats.specs.Told.{Tells};
+
+use crate::channel::{give, newest};
+use crate::copy_tracker::CopyWatch;
+use crate::stats::{PathNumbers, StreamNumbers};
+use rtp_stream::{Counts, Fate, PacketRef, Path, StreamSpec};
+use rtrb::{Consumer, Producer, RingBuffer};
+use std::alloc::{AllocError, Global};
+
+/// From one telling to the next, in sampling instants: a tenth of a second.
+const TENTH: i64 = 4_800;
+
+/// How many numbers may wait for whoever looks.
+const PLACES: usize = 4;
+
+/// Tells what becomes of a stream's packets.
+#[derive(Drop)]
+pub struct StreamTeller {
+    watch: CopyWatch,
+    ring: Producer<StreamNumbers>,
+    /// When it tells again, in sampling instants.
+    next: i64,
+}
+
+/// Where what becomes of a stream's packets can be looked at.
+#[derive(Drop)]
+pub struct StreamWatch {
+    ring: Consumer<StreamNumbers>,
+}
+
+/// Both ends for a stream of which nothing was offered. It takes all memory.
+pub fn open_watch(
+    alloc: Global,
+    spec: &StreamSpec,
+) -> Result<(StreamTeller, StreamWatch), AllocError>
+    ensures empty { IfOk result (λ ends. HasTally spec.now [] ends.0.watch.tally) }
+    ensures next { IfOk result (λ ends. (now : ℤ) → neg_ℤ (pos (2 ^ 63)) ≤ℤ now → ends.0.next ≤ℤ now) }
+{
+    let watch = CopyWatch::new(alloc, spec)?;
+    let (producer, consumer) = RingBuffer::new(alloc, PLACES)?;
+    let teller = StreamTeller {
+        watch,
+        ring: producer,
+        next: i64::MIN,
+    };
+    Ok((teller, StreamWatch { ring: consumer }))
+}
+
+impl StreamTeller {
+    /// Notes what became of a packet that was offered on a path at a reading of the clock, where the stream's next slot is due
+    /// then at `due`.
+    pub fn note(
+        &mut self,
+        path: Path,
+        packet: PacketRef<'_>,
+        fate: Fate,
+        due: Option<i64>,
+        now: i64,
+    )
+        ensures noted { (stream : Stream) (offers : List Offer) → HasTally stream offers self.old.watch.tally → (spare : Option ℕ)
+            × HasTally stream (record { path = path; fate = fate; seq = packet.entry.seq; spare = spare; now = now } ∷ offers) self.new.watch.tally }
+        ensures ring { self.new.ring ≡ self.old.ring }
+    {
+        self.watch.note(path, packet.seq, packet.ts, fate, due, now);
+    }
+
+    /// Tells these counts and the paths' numbers at a reading of the clock, if a tenth of a second went by since the last
+    /// time and there is room.
+    pub fn tell(&mut self, counts: Counts, now: i64)
+        ensures told { (stream : Stream) (offers : List Offer) → HasTally stream offers self.old.watch.tally → Tells stream offers counts self.old.next now self.old.ring self.new.ring }
+        ensures early { now <ℤ self.old.next → self.new.next ≡ self.old.next }
+        ensures next { self.old.next ≤ℤ now → self.new.next ≤ℤ (now +ℤ TENTH) }
+        ensures ring { SameProducer self.old.ring self.new.ring }
+        ensures watch { self.new.watch ≡ self.old.watch }
+    {
+        if now < self.next {
+            return;
+        }
+        self.next = now.saturating_add(TENTH);
+        let numbers = StreamNumbers {
+            counts,
+            paths: [
+                numbers_at(&self.watch, 0, now),
+                numbers_at(&self.watch, 1, now),
+                numbers_at(&self.watch, 2, now),
+                numbers_at(&self.watch, 3, now),
+            ],
+        };
+        give(&mut self.ring, numbers);
+    }
+}
+
+/// The numbers of the path of a number.
+fn numbers_at(watch: &CopyWatch, number: u8, now: i64) -> PathNumbers
+    requires { number < 4 }
+    ensures { (stream : Stream) (offers : List Offer) → HasTally stream offers watch.now.tally → AreNumbers stream offers number now result }
+{
+    match Path::new(number) {
+        Some(path) => watch.numbers(path, now),
+        None => unreachable!(),
+    }
+}
+
+impl StreamWatch {
+    /// The latest numbers that came since the last look, if any did.
+    pub fn latest(&mut self) -> Option<StreamNumbers>
+        ensures newest { IsNewest PLACES result self.old.ring self.new.ring }
+        ensures ring { SameConsumer self.old.ring self.new.ring }
+    {
+        newest(&mut self.ring, PLACES)
+    }
+}

@@ -1,0 +1,6 @@
+use Rattle.std.proofs.Common.{◌≡◌, ◌++◌, drop}
+use Rattle.status_page.specs.Metrics.{stream_samples}
+use Rattle.status_page.proofs.page.metrics.push_stream_samples.Given as goal
+
+abbrev pub invariant-loop-number : goal.invariant-loop-number
+invariant-loop-number l = l.text.items ++ stream_samples l.field l.number (drop l.number l.streams) ≡ l.initial.text.items ++ stream_samples l.field 0 l.streams

@@ -1,0 +1,60 @@
+//! The numbers of an output channel.
+ghost use Rattle.std.specs.Prelude.{◌≡◌};
+ghost use Rattle.status_page.specs.Fields.{output_help, output_key, output_kind, output_value};
+
+use crate::fields::Kind;
+use crate::snapshot::OutputState;
+
+/// A number of an output channel.
+#[derive(Clone, Copy, Debug, PartialEq, Eq)]
+pub enum OutputField {
+    Peak,
+    Saturated,
+}
+
+/// The numbers of an output channel, in the order in which they are shown.
+pub const OUTPUT_FIELDS: [OutputField; 2] = [OutputField::Peak, OutputField::Saturated];
+
+impl OutputField {
+    /// How it is called.
+    pub fn key(self) -> &'static str
+        ensures { result.now ≡ output_key self }
+    {
+        match self {
+            OutputField::Peak => "peak",
+            OutputField::Saturated => "saturated",
+        }
+    }
+
+    /// Whether it only rises.
+    pub fn kind(self) -> Kind
+        ensures { result ≡ output_kind self }
+    {
+        match self {
+            OutputField::Peak => Kind::Gauge,
+            _ => Kind::Counter,
+        }
+    }
+
+    /// What it counts: a line.
+    pub fn help(self) -> &'static str
+        ensures { result.now ≡ output_help self }
+    {
+        match self {
+            OutputField::Peak =>
+                "The greatest magnitude of a sample of the last tenth of a second, of 8388608 at full scale.",
+            OutputField::Saturated =>
+                "Samples that were saturated: their rounded sum lay past what the output can hold.",
+        }
+    }
+
+    /// What it is.
+    pub fn value(self, output: &OutputState) -> u64
+        ensures { result ≡ output_value self output.now }
+    {
+        match self {
+            OutputField::Peak => u64::from(output.peak),
+            OutputField::Saturated => output.saturated,
+        }
+    }
+}

@@ -1,0 +1,118 @@
+//! The numbers of a path.
+ghost use Rattle.std.specs.Prelude.{◌≡◌};
+ghost use Rattle.status_page.specs.Fields.{path_help, path_key, path_kind, path_value};
+
+use crate::fields::Kind;
+use crate::snapshot::PathState;
+
+/// A number of a path.
+#[derive(Clone, Copy, Debug, PartialEq, Eq)]
+pub enum PathField {
+    Datagrams,
+    First,
+    Sent,
+    Lost,
+    Double,
+    Unlike,
+    Late,
+    Bad,
+    WrongType,
+    WrongLength,
+    Full,
+    SpareLeast,
+    SpareMedian,
+}
+
+/// The numbers of a path, in the order in which they are shown.
+pub const PATH_FIELDS: [PathField; 13] = [
+    PathField::Datagrams,
+    PathField::First,
+    PathField::Sent,
+    PathField::Lost,
+    PathField::Double,
+    PathField::Unlike,
+    PathField::Late,
+    PathField::Bad,
+    PathField::WrongType,
+    PathField::WrongLength,
+    PathField::Full,
+    PathField::SpareLeast,
+    PathField::SpareMedian,
+];
+
+impl PathField {
+    /// How it is called.
+    pub fn key(self) -> &'static str
+        ensures { result.now ≡ path_key self }
+    {
+        match self {
+            PathField::Datagrams => "datagrams",
+            PathField::First => "first",
+            PathField::Sent => "packets",
+            PathField::Lost => "lost",
+            PathField::Double => "double",
+            PathField::Unlike => "unlike",
+            PathField::Late => "late",
+            PathField::Bad => "bad",
+            PathField::WrongType => "wrong_type",
+            PathField::WrongLength => "wrong_length",
+            PathField::Full => "full",
+            PathField::SpareLeast => "spare_least",
+            PathField::SpareMedian => "spare_median",
+        }
+    }
+
+    /// Whether it only rises.
+    pub fn kind(self) -> Kind
+        ensures { result ≡ path_kind self }
+    {
+        match self {
+            PathField::SpareLeast | PathField::SpareMedian => Kind::Gauge,
+            _ => Kind::Counter,
+        }
+    }
+
+    /// What it counts: a line.
+    pub fn help(self) -> &'static str
+        ensures { result.now ≡ path_help self }
+    {
+        match self {
+            PathField::Datagrams => "Datagrams that came on the path.",
+            PathField::First => "Packets of which the path brought the first copy.",
+            PathField::Sent => "Datagrams that were packets of the stream.",
+            PathField::Lost => "Packets of the stream that the path never brought.",
+            PathField::Double => "Further copies, with the payload of the first.",
+            PathField::Unlike => "Further copies, with another payload than the first.",
+            PathField::Late => "Packets that came after their deadline.",
+            PathField::Bad => "Datagrams that were no RTP packets.",
+            PathField::WrongType => "Datagrams of another payload type.",
+            PathField::WrongLength => "Datagrams of another length.",
+            PathField::Full => "Packets that found no room on their way to the merge.",
+            PathField::SpareLeast =>
+                "The least time before its deadline that a packet of the last second came, in periods of 48 kHz.",
+            PathField::SpareMedian =>
+                "The median time before their deadlines that packets of the last second came, in periods of 48 kHz; past 6138 it may be more.",
+        }
+    }
+
+    /// What it is, if it is known.
+    pub fn value(self, path: &PathState) -> Option<u64>
+        ensures { result ≡ path_value self path.now }
+    {
+        match self {
+            PathField::Datagrams => Some(path.datagrams),
+            PathField::First => Some(path.first),
+            PathField::Sent => path.counts.map(|counts| counts.sent),
+            PathField::Lost => path.copies.map(|copies| copies.lost),
+            PathField::Double => path.copies.map(|copies| copies.double),
+            PathField::Unlike => path.copies.map(|copies| copies.unlike),
+            PathField::Late => path.copies.map(|copies| copies.late),
+            PathField::Bad => path.counts.map(|counts| counts.bad),
+            PathField::WrongType => path.counts.map(|counts| counts.wrong_type),
+            PathField::WrongLength => path.counts.map(|counts| counts.wrong_length),
+            PathField::Full => path.counts.map(|counts| counts.full),
+            PathField::SpareLeast => path.spare.map(|spare| spare.least),
+            PathField::SpareMedian => path.spare.map(|spare| spare.median),
+        }
+    }
+}

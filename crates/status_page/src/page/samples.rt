@@ -1,0 +1,130 @@
+//! The lines of `/metrics`.
+ghost use Rattle.std.specs.Prelude.{◌≡◌, ◌++◌, OnOk};
+ghost use Rattle.status_page.specs.Metrics.{name_label, stream_labels, path_letter, value_text, stream_sample, path_sample, condition_sample, output_sample};
+
+use crate::fields::Kind;
+use crate::fields::output::OutputField;
+use crate::fields::path::PathField;
+use crate::fields::stream::StreamField;
+use crate::page::text::{push, push_label, push_metric, push_number};
+use crate::snapshot::{Condition, Name, OutputState, StreamState};
+use std::alloc::AllocError;
+
+/// Holds a stream's name as a label, if it has one.
+#[tactic(auto, unfolding(crate::specs::Metrics::name_label))]
+fn push_name(text: &mut Vec<u8>, name: &Option<Name>) -> Result<(), AllocError>
+    ensures { OnOk result (text.new.items ≡ text.old.items ++ name_label name.now) }
+{
+    if let Some(name) = name {
+        push(text, ",name=\"")?;
+        push_label(text, name.as_str())?;
+        push(text, "\"")?;
+    }
+    Ok(())
+}
+
+/// Holds the labels of a stream.
+#[tactic(auto, unfolding(crate::specs::Metrics::stream_labels))]
+fn push_labels(text: &mut Vec<u8>, number: usize, stream: &StreamState) -> Result<(), AllocError>
+    ensures { OnOk result (text.new.items ≡ text.old.items ++ stream_labels number stream.now) }
+{
+    push(text, "{stream=\"")?;
+    push_number(text, number as u64)?;
+    push(text, "\"")?;
+    push_name(text, &stream.name)
+}
+
+/// Holds the end of a line.
+#[tactic(auto, unfolding(crate::specs::Metrics::value_text))]
+fn push_value(text: &mut Vec<u8>, value: u64) -> Result<(), AllocError>
+    ensures { OnOk result (text.new.items ≡ text.old.items ++ value_text value) }
+{
+    push(text, "} ")?;
+    push_number(text, value)?;
+    push(text, "\n")
+}
+
+/// Holds the line of a stream's number.
+#[tactic(auto, unfolding(crate::specs::Metrics::stream_sample))]
+pub(crate) fn push_stream_sample(
+    text: &mut Vec<u8>,
+    field: StreamField,
+    number: usize,
+    stream: &StreamState,
+) -> Result<(), AllocError>
+    ensures { OnOk result (text.new.items ≡ text.old.items ++ stream_sample field number stream.now) }
+{
+    push_metric(text, "stream_", field.key(), field.kind())?;
+    push_labels(text, number, stream)?;
+    push_value(text, field.value(stream))
+}
+
+/// The letter of a path.
+fn path_letter(path: usize) -> &'static str
+    ensures { result.now ≡ path_letter path }
+{
+    match path {
+        0 => "a",
+        1 => "b",
+        2 => "c",
+        _ => "d",
+    }
+}
+
+/// Holds the line of a path's number, if that is known.
+#[tactic(auto, unfolding(crate::specs::Metrics::path_sample))]
+pub(crate) fn push_path_sample(
+    text: &mut Vec<u8>,
+    field: PathField,
+    number: usize,
+    stream: &StreamState,
+    path: usize,
+    value: Option<u64>,
+) -> Result<(), AllocError>
+    ensures { OnOk result (text.new.items ≡ text.old.items ++ path_sample field number stream.now path value) }
+{
+    let Some(value) = value else {
+        return Ok(());
+    };
+    push_metric(text, "path_", field.key(), field.kind())?;
+    push_labels(text, number, stream)?;
+    push(text, ",path=\"")?;
+    push(text, path_letter(path))?;
+    push(text, "\"")?;
+    push_value(text, value)
+}
+
+/// Holds the line that says whether a stream has a condition.
+#[tactic(auto, unfolding(crate::specs::Metrics::condition_sample))]
+pub(crate) fn push_condition_sample(
+    text: &mut Vec<u8>,
+    number: usize,
+    stream: &StreamState,
+    condition: Condition,
+) -> Result<(), AllocError>
+    ensures { OnOk result (text.new.items ≡ text.old.items ++ condition_sample number stream.now condition) }
+{
+    push_metric(text, "stream_", "state", Kind::Gauge)?;
+    push_labels(text, number, stream)?;
+    push(text, ",state=\"")?;
+    push(text, condition.text())?;
+    push(text, "\"")?;
+    push_value(text, condition.holds(stream.condition))
+}
+
+/// Holds the line of an output channel's number.
+#[tactic(auto, unfolding(crate::specs::Metrics::output_sample))]
+pub(crate) fn push_output_sample(
+    text: &mut Vec<u8>,
+    field: OutputField,
+    number: usize,
+    output: &OutputState,
+) -> Result<(), AllocError>
+    ensures { OnOk result (text.new.items ≡ text.old.items ++ output_sample field number output.now) }
+{
+    push_metric(text, "output_", field.key(), field.kind())?;
+    push(text, "{output=\"")?;
+    push_number(text, number as u64)?;
+    push(text, "\"")?;
+    push_value(text, field.value(output))
+}

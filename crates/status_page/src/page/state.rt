@@ -1,0 +1,211 @@
+//! What `/state` answers.
+ghost use Rattle.std.specs.Prelude.{◌≡◌, [], ◌∷◌, ◌++◌, OnOk, IfOk, codes};
+ghost use Rattle.json.specs.Lex.{tokens};
+ghost use Rattle.json.specs.Print.{print};
+ghost use Rattle.status_page.specs.State.{array_tokens, known_token, name_token, path_members, stream_members, output_members, path_tokens, paths_tokens, front_tokens, stream_tokens, streams_tokens, output_tokens, outputs_tokens, state_tokens};
+
+use crate::fields::output::{OUTPUT_FIELDS, OutputField};
+use crate::fields::path::{PATH_FIELDS, PathField};
+use crate::fields::stream::{STREAM_FIELDS, StreamField};
+use crate::snapshot::{Name, OutputState, PathState, Snapshot, StreamState};
+use json::Writer;
+use std::alloc::{AllocError, Global};
+
+/// A snapshot as JSON (RFC 8259).
+#[tactic(auto, unfolding(crate::specs::State::state_tokens))]
+pub fn state_of(alloc: Global, snapshot: &Snapshot) -> Result<Vec<u8>, AllocError>
+    ensures text { IfOk result (λ text. text.items ≡ print (state_tokens snapshot.now)) }
+    ensures reads_back { IfOk result (λ text. tokens text.items ≡ state_tokens snapshot.now) }
+{
+    let mut writer = Writer::new(Vec::new(alloc));
+    writer.begin_object()?;
+    write_streams(&mut writer, snapshot.streams.as_slice())?;
+    write_outputs(&mut writer, snapshot.outputs.as_slice())?;
+    writer.end_object()?;
+    Ok(writer.into_inner())
+}
+
+/// Writes the streams.
+fn write_streams(writer: &mut Writer, streams: &[StreamState]) -> Result<(), AllocError>
+    ensures tokens { OnOk result (writer.new.tokens ≡ writer.old.tokens ++ array_tokens (codes "streams") (streams_tokens streams.now)) }
+    ensures before { OnOk result (writer.new.before ≡ writer.old.before) }
+{
+    writer.key("streams")?;
+    writer.begin_array()?;
+    write_each_stream(writer, streams)?;
+    writer.end_array()
+}
+
+/// Writes them one after another.
+#[tactic(auto, unfolding(crate::specs::State::streams_tokens))]
+fn write_each_stream(writer: &mut Writer, streams: &[StreamState]) -> Result<(), AllocError>
+    ensures tokens { OnOk result (writer.new.tokens ≡ writer.old.tokens ++ streams_tokens streams.now) }
+    ensures before { OnOk result (writer.new.before ≡ writer.old.before) }
+{
+    for stream in streams {
+        write_stream(writer, stream)?;
+    }
+    Ok(())
+}
+
+/// Writes a stream.
+fn write_stream(writer: &mut Writer, stream: &StreamState) -> Result<(), AllocError>
+    ensures tokens { OnOk result (writer.new.tokens ≡ writer.old.tokens ++ stream_tokens stream.now) }
+    ensures before { OnOk result (writer.new.before ≡ writer.old.before) }
+{
+    write_front(writer, stream)?;
+    write_stream_members(writer, &STREAM_FIELDS, stream)?;
+    write_paths(writer, stream.paths.as_slice())?;
+    writer.end_object()
+}
+
+/// Begins a stream with its name and condition.
+fn write_front(writer: &mut Writer, stream: &StreamState) -> Result<(), AllocError>
+    ensures tokens { OnOk result (writer.new.tokens ≡ writer.old.tokens ++ front_tokens stream.now) }
+    ensures before { OnOk result (writer.new.before ≡ writer.old.before) }
+{
+    writer.begin_object()?;
+    writer.key("name")?;
+    write_name(writer, &stream.name)?;
+    writer.key("state")?;
+    writer.string(stream.condition.text())
+}
+
+/// Writes a name, or null.
+fn write_name(writer: &mut Writer, name: &Option<Name>) -> Result<(), AllocError>
+    ensures tokens { OnOk result (writer.new.tokens ≡ writer.old.tokens ++ name_token name.now ∷ []) }
+    ensures before { OnOk result (writer.new.before ≡ writer.old.before) }
+{
+    match name {
+        Some(name) => writer.string(name.as_str()),
+        None => writer.null(),
+    }
+}
+
+/// Writes the numbers of a stream.
+#[tactic(auto, unfolding(crate::specs::State::stream_members))]
+fn write_stream_members(
+    writer: &mut Writer,
+    fields: &[StreamField],
+    stream: &StreamState,
+) -> Result<(), AllocError>
+    ensures tokens { OnOk result (writer.new.tokens ≡ writer.old.tokens ++ stream_members fields.now stream.now) }
+    ensures before { OnOk result (writer.new.before ≡ writer.old.before) }
+{
+    for field in fields {
+        writer.key(field.key())?;
+        writer.u64(field.value(stream))?;
+    }
+    Ok(())
+}
+
+/// Writes the paths of a stream.
+fn write_paths(writer: &mut Writer, paths: &[PathState]) -> Result<(), AllocError>
+    ensures tokens { OnOk result (writer.new.tokens ≡ writer.old.tokens ++ array_tokens (codes "paths") (paths_tokens paths.now)) }
+    ensures before { OnOk result (writer.new.before ≡ writer.old.before) }
+{
+    writer.key("paths")?;
+    writer.begin_array()?;
+    write_each_path(writer, paths)?;
+    writer.end_array()
+}
+
+/// Writes them one after another.
+#[tactic(auto, unfolding(crate::specs::State::paths_tokens))]
+fn write_each_path(writer: &mut Writer, paths: &[PathState]) -> Result<(), AllocError>
+    ensures tokens { OnOk result (writer.new.tokens ≡ writer.old.tokens ++ paths_tokens paths.now) }
+    ensures before { OnOk result (writer.new.before ≡ writer.old.before) }
+{
+    for path in paths {
+        write_path(writer, path)?;
+    }
+    Ok(())
+}
+
+/// Writes a path.
+fn write_path(writer: &mut Writer, path: &PathState) -> Result<(), AllocError>
+    ensures tokens { OnOk result (writer.new.tokens ≡ writer.old.tokens ++ path_tokens path.now) }
+    ensures before { OnOk result (writer.new.before ≡ writer.old.before) }
+{
+    writer.begin_object()?;
+    write_path_members(writer, &PATH_FIELDS, path)?;
+    writer.end_object()
+}
+
+/// Writes the numbers of a path.
+#[tactic(auto, unfolding(crate::specs::State::path_members))]
+fn write_path_members(
+    writer: &mut Writer,
+    fields: &[PathField],
+    path: &PathState,
+) -> Result<(), AllocError>
+    ensures tokens { OnOk result (writer.new.tokens ≡ writer.old.tokens ++ path_members fields.now path.now) }
+    ensures before { OnOk result (writer.new.before ≡ writer.old.before) }
+{
+    for field in fields {
+        writer.key(field.key())?;
+        write_known(writer, field.value(path))?;
+    }
+    Ok(())
+}
+
+/// Writes a number, or null where it isn't known.
+fn write_known(writer: &mut Writer, value: Option<u64>) -> Result<(), AllocError>
+    ensures tokens { OnOk result (writer.new.tokens ≡ writer.old.tokens ++ known_token value ∷ []) }
+    ensures before { OnOk result (writer.new.before ≡ writer.old.before) }
+{
+    match value {
+        Some(value) => writer.u64(value),
+        None => writer.null(),
+    }
+}
+
+/// Writes the output channels.
+fn write_outputs(writer: &mut Writer, outputs: &[OutputState]) -> Result<(), AllocError>
+    ensures tokens { OnOk result (writer.new.tokens ≡ writer.old.tokens ++ array_tokens (codes "outputs") (outputs_tokens outputs.now)) }
+    ensures before { OnOk result (writer.new.before ≡ writer.old.before) }
+{
+    writer.key("outputs")?;
+    writer.begin_array()?;
+    write_each_output(writer, outputs)?;
+    writer.end_array()
+}
+
+/// Writes them one after another.
+#[tactic(auto, unfolding(crate::specs::State::outputs_tokens))]
+fn write_each_output(writer: &mut Writer, outputs: &[OutputState]) -> Result<(), AllocError>
+    ensures tokens { OnOk result (writer.new.tokens ≡ writer.old.tokens ++ outputs_tokens outputs.now) }
+    ensures before { OnOk result (writer.new.before ≡ writer.old.before) }
+{
+    for output in outputs {
+        write_output(writer, output)?;
+    }
+    Ok(())
+}
+
+/// Writes an output channel.
+fn write_output(writer: &mut Writer, output: &OutputState) -> Result<(), AllocError>
+    ensures tokens { OnOk result (writer.new.tokens ≡ writer.old.tokens ++ output_tokens output.now) }
+    ensures before { OnOk result (writer.new.before ≡ writer.old.before) }
+{
+    writer.begin_object()?;
+    write_output_members(writer, &OUTPUT_FIELDS, output)?;
+    writer.end_object()
+}
+
+/// Writes the numbers of an output channel.
+#[tactic(auto, unfolding(crate::specs::State::output_members))]
+fn write_output_members(
+    writer: &mut Writer,
+    fields: &[OutputField],
+    output: &OutputState,
+) -> Result<(), AllocError>
+    ensures tokens { OnOk result (writer.new.tokens ≡ writer.old.tokens ++ output_members fields.now output.now) }
+    ensures before { OnOk result (writer.new.before ≡ writer.old.before) }
+{
+    for field in fields {
+        writer.key(field.key())?;
+        writer.u64(field.value(output))?;
+    }
+    Ok(())
+}

@@ -1,0 +1,101 @@
+//! Pieces of text that are held one after another.
+ghost use Rattle.std.specs.Prelude.{◌≡◌, ◌++◌, OnOk, decimal};
+ghost use Rattle.status_page.specs.Metrics.{label_octet, label_text, suffix, metric_text, kind_text, header_text};
+
+use crate::fields::Kind;
+use std::alloc::AllocError;
+
+/// Holds a text.
+pub(crate) fn push(text: &mut Vec<u8>, piece: &str) -> Result<(), AllocError>
+    ensures { OnOk result (text.new.items ≡ text.old.items ++ piece.now) }
+{
+    text.extend_from_slice(piece.as_bytes())
+}
+
+/// Holds a number in decimal digits.
+pub(crate) fn push_number(text: &mut Vec<u8>, number: u64) -> Result<(), AllocError>
+    ensures { OnOk result (text.new.items ≡ text.old.items ++ decimal number) }
+{
+    let mut digits = itoa::Buffer::new();
+    push(text, digits.format(number))
+}
+
+/// Holds what stands for an octet in a label's value.
+fn push_label_octet(text: &mut Vec<u8>, octet: u8) -> Result<(), AllocError>
+    ensures { OnOk result (text.new.items ≡ text.old.items ++ label_octet octet) }
+{
+    match octet {
+        b'\\' => push(text, "\\\\"),
+        b'"' => push(text, "\\\""),
+        b'\n' => push(text, "\\n"),
+        _ => text.extend_from_slice(&[octet]),
+    }
+}
+
+/// Holds the value of a label, with its escapes.
+#[tactic(auto, unfolding(crate::specs::Metrics::label_text))]
+pub(crate) fn push_label(text: &mut Vec<u8>, value: &str) -> Result<(), AllocError>
+    ensures { OnOk result (text.new.items ≡ text.old.items ++ label_text value.now) }
+{
+    let octets = value.as_bytes();
+    for octet in octets {
+        push_label_octet(text, *octet)?;
+    }
+    Ok(())
+}
+
+/// Holds the name of a metric: that of a number of such a group.
+#[tactic(auto, unfolding(crate::specs::Metrics::metric_text))]
+pub(crate) fn push_metric(
+    text: &mut Vec<u8>,
+    group: &str,
+    key: &str,
+    kind: Kind,
+) -> Result<(), AllocError>
+    ensures { OnOk result (text.new.items ≡ text.old.items ++ metric_text group.now key.now kind) }
+{
+    push(text, "darbexum_")?;
+    push(text, group)?;
+    push(text, key)?;
+    push(text, suffix(kind))
+}
+
+/// Holds the two lines before a metric's samples.
+#[tactic(auto, unfolding(crate::specs::Metrics::header_text))]
+pub(crate) fn push_header(
+    text: &mut Vec<u8>,
+    group: &str,
+    key: &str,
+    kind: Kind,
+    help: &str,
+) -> Result<(), AllocError>
+    ensures { OnOk result (text.new.items ≡ text.old.items ++ header_text group.now key.now kind help.now) }
+{
+    push(text, "# HELP ")?;
+    push_metric(text, group, key, kind)?;
+    push(text, " ")?;
+    push(text, help)?;
+    push(text, "\n# TYPE ")?;
+    push_metric(text, group, key, kind)?;
+    push(text, kind_text(kind))
+}
+
+/// What ends the name of a metric.
+fn suffix(kind: Kind) -> &'static str
+    ensures { result.now ≡ suffix kind }
+{
+    match kind {
+        Kind::Counter => "_total",
+        Kind::Gauge => "",
+    }
+}
+
+/// What ends the second line.
+fn kind_text(kind: Kind) -> &'static str
+    ensures { result.now ≡ kind_text kind }
+{
+    match kind {
+        Kind::Counter => " counter\n",
+        Kind::Gauge => " gauge\n",
+    }
+}

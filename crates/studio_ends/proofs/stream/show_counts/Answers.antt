@@ -1,5 +1,0 @@
-use Rattle.std.proofs.Common.{inl, refl}
-use Rattle.studio_ends.proofs.stream.show_counts.Goals as goal
-
-pub returns-in-Ok-clause-shows : goal.returns-in-Ok-clause-shows
-returns-in-Ok-clause-shows c = inl (c.args.counts, refl, c.in-Ok.ensures.ok.0)

@@ -1,0 +1,17 @@
+use Rattle.std.proofs.Common.{arith, ◌∙◌, ◌++◌, ◌∷◌, [], length-append}
+use Rattle.studio_ends.proofs.TurnLemmas.{looked_and_passed, took-more, joined-more}
+use Rattle.studio_ends.proofs.stream_end.packets_in.take_path.Goals as goal
+
+pub loop-taken-preserved : goal.loop-taken-preserved
+loop-taken-preserved g c =
+    let i = c.loop-taken.invariant.1 in
+    let packet = c.next.result.now in
+    let taken = looked_and_passed c.loop-taken.side.ring c.is_empty.new.self.ring c.pass.new.self.ring packet c.is_empty.ensures.ring c.pass.ensures.ring (c.pass.ensures.passed packet c.next.ensures) in (
+      omega arith,
+      (
+        i.0 ++ packet ∷ [],
+        took-more _ _ c.pass.new.self i.0 packet i.1 taken.0 (c.pass.ensures.done ∙ c.is_empty.ensures.done) taken.1 taken.2,
+        (let n = i.2 in omega (arith, n, length-append i.0 (packet ∷ []))),
+        joined-more _ c.loop-taken.merge c.join_packet.new.merge _ i.0 packet i.3 c.join_packet.ensures,
+      ),
+    )

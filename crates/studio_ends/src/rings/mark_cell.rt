@@ -1,0 +1,127 @@
+//! Room for a mark in a ring.
+ghost use Rattle.std.specs.Prelude.{◌≡◌};
+ghost use Rattle.rtp_stream.specs.MarkRef.{kind_of};
+ghost use Rattle.studio_ends.specs.MarkRooms.{octets_in, said_of};
+
+use crate::rings::payload_cell::Room;
+use path_merge::{Format, MarkKindRef, MarkRef};
+use std::marker::Model;
+
+/// What a mark says, but for its octets.
+#[derive(Clone, Copy)]
+enum Said {
+    /// The slot of a packet that came in time.
+    Got { epoch: u64, number: u64, media: i64 },
+    /// The slot of one that didn't.
+    Lost { epoch: u64, number: u64, media: i64 },
+    Quiet { until: i64 },
+    End,
+}
+
+/// A mark whose payload lies in room for `N` octets. Contracts see it as that mark.
+#[derive(Clone, Copy)]
+pub(crate) struct MarkRoom<const N: usize> {
+    format: Format,
+    said: Said,
+    payload: Room<N>,
+}
+
+impl<const N: usize> Model for MarkRoom<N> {
+    ghost use Rattle.rtp_stream.specs.MarkFacts.{MarkView};
+    ghost use Rattle.studio_ends.specs.MarkRooms.{IsMarkRoom, kind_in, octets_in, said_back, said_of};
+
+    ghost Value = { MarkView };
+
+    ghost view = { λ r. record { format = r.format; kind = kind_in r.said r.payload } };
+
+    ghost invariant = { λ r. IsMarkRoom r.format r.said r.payload };
+
+    ghost inverse = { λ m. record { format = m.format; said = said_of m.kind; payload = octets_in m.kind } };
+
+    ghost inverse_ok = { λ r h i. record { format = r.format; said = said_back r.said r.payload i; payload = h.blank i } };
+}
+
+impl<const N: usize> MarkRoom<N> {
+    ghost use Rattle.studio_ends.specs.MarkRooms.{IsWithin};
+
+    /// The end of a stream.
+    pub(crate) fn new(format: Format) -> MarkRoom<N> {
+        MarkRoom {
+            format,
+            said: Said::End,
+            payload: Room::new(),
+        }
+    }
+
+    /// Becomes a mark that is lent.
+    #[inline(always)]
+    pub(crate) fn fill(&mut self, mark: &MarkRef<'_>)
+        requires { IsWithin N mark.now.kind }
+        ensures { self.new ≡ mark.now }
+    {
+        self.format = mark.format();
+        let (said, octets) = parts(mark.kind());
+        self.said = said;
+        self.payload.fill(octets);
+    }
+
+    /// The same mark, its payload lent.
+    #[inline]
+    pub(crate) fn lent(&self) -> MarkRef<'_>
+        ensures { result ≡ self.now }
+    {
+        let octets = self.payload.octets();
+        match self.said {
+            Said::Got {
+                epoch,
+                number,
+                media,
+            } => MarkRef::slot(self.format, epoch, number, media, Some(octets)),
+            Said::Lost {
+                epoch,
+                number,
+                media,
+            } => MarkRef::slot(self.format, epoch, number, media, None),
+            Said::Quiet { until } => MarkRef::quiet(self.format, until),
+            Said::End => MarkRef::end(self.format),
+        }
+    }
+}
+
+/// What a mark says, and its octets: none where it got none.
+#[inline(always)]
+fn parts<'a>(kind: MarkKindRef<'a>) -> (Said, &'a [u8])
+    ensures said { result.0 ≡ said_of (kind_of kind.entry) }
+    ensures octets { result.1.now ≡ octets_in (kind_of kind.entry) }
+{
+    match kind {
+        MarkKindRef::Slot {
+            epoch,
+            number,
+            media,
+            payload: Some(octets),
+        } => (
+            Said::Got {
+                epoch,
+                number,
+                media,
+            },
+            octets,
+        ),
+        MarkKindRef::Slot {
+            epoch,
+            number,
+            media,
+            payload: None,
+        } => (
+            Said::Lost {
+                epoch,
+                number,
+                media,
+            },
+            &[],
+        ),
+        MarkKindRef::Quiet { until } => (Said::Quiet { until }, &[]),
+        MarkKindRef::End => (Said::End, &[]),
+    }
+}

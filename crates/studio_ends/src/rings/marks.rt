@@ -1,0 +1,231 @@
+//! A stream's ring of marks, whose places have the room that its payloads need.
+ghost use Rattle.std.specs.Prelude.{◌≡◌, ◌<◌, ◌≤◌, ◌++◌, ◌∷◌, [], ◌↔◌, IfOk, IfSome, IsSomeAnd, IsTrue, MatchOption, None, Some, length};
+ghost use Rattle.rtrb.specs.Ring.{Finishes, IsFinishedOf, IsPair, ProducerLooked, SameConsumer, SameProducer, all_sent, known_free, received, sent};
+ghost use Rattle.rtp_stream.specs.MarkFacts.{payload_length};
+ghost use Rattle.studio_ends.specs.Mixes.{TakesWanted};
+ghost use Rattle.studio_ends.specs.RoomRings.{HasRoomFor};
+ghost use Rattle.studio_ends.specs.Side.{IsDrained};
+
+use crate::mark_sender::MarkSender;
+use crate::mix_end::marks_in::take_stream;
+use crate::rings::Side;
+use crate::rings::mark_cell::MarkRoom;
+use crate::rings::payload_cell::{LONG, MIDDLE, SHORT};
+use path_merge::{Format, MarkRef};
+use rtrb::{Finished, RingBuffer};
+use std::alloc::{AllocError, Global};
+use std::marker::Model;
+use studio_mix::Mixer;
+
+/// A pushing end, by its rooms.
+#[derive(Drop)]
+enum Senders {
+    Short(MarkSender<SHORT>),
+    Middle(MarkSender<MIDDLE>),
+    Long(MarkSender<LONG>),
+}
+
+/// A popping end, by its rooms.
+#[derive(Drop)]
+enum Sides {
+    Short(Side<MarkRoom<SHORT>>),
+    Middle(Side<MarkRoom<MIDDLE>>),
+    Long(Side<MarkRoom<LONG>>),
+}
+
+/// What a pushing end leaves, by its rooms.
+#[derive(Drop)]
+enum Tokens {
+    Short(Finished<MarkRoom<SHORT>>),
+    Middle(Finished<MarkRoom<MIDDLE>>),
+    Long(Finished<MarkRoom<LONG>>),
+}
+
+/// The pushing end. Contracts see it as that of a ring of marks, whose name tells the rooms.
+#[derive(Drop)]
+pub(crate) struct MarkIn {
+    end: Senders,
+}
+
+/// The popping end, with the token of the pushing end once that was handed in.
+#[derive(Drop)]
+pub(crate) struct MarkOut {
+    end: Sides,
+}
+
+/// The token of the pushing end.
+#[derive(Drop)]
+pub(crate) struct MarkToken {
+    token: Tokens,
+}
+
+impl Model for MarkIn {
+    ghost use Rattle.std.specs.declared.alloc.Global.{Global};
+    ghost use Rattle.rtrb.specs.declared.AnyItems.{AnyItems};
+    ghost use Rattle.rtrb.specs.declared.producer.Producer.{Producer};
+    ghost use Rattle.rtp_stream.specs.MarkFacts.{MarkView};
+    ghost use Rattle.studio_ends.specs.MarkRings.{sender_in};
+
+    ghost Value = { Producer MarkView Global AnyItems };
+
+    ghost view = { λ s. sender_in s.end };
+}
+
+impl Model for MarkOut {
+    ghost use Rattle.rtp_stream.specs.contracts.mark.Mark as mark_row;
+    ghost use Rattle.studio_ends.specs.contracts.rings.Side as side_row;
+    ghost use Rattle.rtp_stream.specs.MarkFacts.{MarkView};
+    ghost use Rattle.studio_ends.specs.declared.rings.Side.{Side};
+    ghost use Rattle.studio_ends.specs.MarkRings.{side_in};
+
+    ghost Value = { Side MarkView };
+
+    ghost coded = { (side_row.the_row mark_row.the_row).coded };
+
+    ghost view = { λ s. side_in s.end };
+}
+
+impl Model for MarkToken {
+    ghost use Rattle.std.specs.declared.alloc.Global.{Global};
+    ghost use Rattle.rtrb.specs.declared.AnyItems.{AnyItems};
+    ghost use Rattle.rtrb.specs.declared.finished.Finished.{Finished};
+    ghost use Rattle.rtp_stream.specs.MarkFacts.{MarkView};
+    ghost use Rattle.studio_ends.specs.MarkRings.{token_in};
+
+    ghost Value = { Finished MarkView Global AnyItems };
+
+    ghost view = { λ s. token_in s.token };
+}
+
+impl MarkIn {
+    /// Whether no place is seen to be free.
+    pub(crate) fn is_full(&mut self) -> bool
+        ensures looked { ProducerLooked self.old self.new }
+        ensures value { IsTrue result ↔ (known_free self.new ≡ 0) }
+    {
+        match &mut self.end {
+            Senders::Short(end) => end.is_full(),
+            Senders::Middle(end) => end.is_full(),
+            Senders::Long(end) => end.is_full(),
+        }
+    }
+
+    /// Pushes a mark to a place that is known to be free.
+    pub(crate) fn push(&mut self, mark: &MarkRef<'_>)
+        requires free { 0 < known_free self.old }
+        requires roomy { HasRoomFor (payload_length mark.now.format) self.old }
+        ensures ring { SameProducer self.old self.new }
+        ensures sent { sent self.new ≡ sent self.old ++ mark.now ∷ [] }
+    {
+        match &mut self.end {
+            Senders::Short(end) => end.push(mark),
+            Senders::Middle(end) => end.push(mark),
+            Senders::Long(end) => end.push(mark),
+        }
+    }
+
+    /// Gives up the end: its token. None where the other end is gone.
+    pub(crate) fn finish(self) -> Option<MarkToken>
+        ensures { IfSome result (λ done. Finishes self done) }
+    {
+        let MarkIn { end } = self;
+        let token = match end {
+            Senders::Short(end) => Tokens::Short(end.finish()?),
+            Senders::Middle(end) => Tokens::Middle(end.finish()?),
+            Senders::Long(end) => Tokens::Long(end.finish()?),
+        };
+        Some(MarkToken { token })
+    }
+}
+
+impl MarkOut {
+    /// Takes marks while the mixer wants them of a stream: how many, and how many of them may not follow.
+    pub(crate) fn take(&mut self, mixer: &mut Mixer, stream: usize) -> (u32, u32)
+        requires stream { stream < length mixer.old.lanes }
+        ensures { TakesWanted self.old self.new mixer.old mixer.new stream result.0 result.1 }
+    {
+        match &mut self.end {
+            Sides::Short(side) => take_stream(side, mixer, stream),
+            Sides::Middle(side) => take_stream(side, mixer, stream),
+            Sides::Long(side) => take_stream(side, mixer, stream),
+        }
+    }
+
+    /// Takes the token of the pushing end.
+    pub(crate) fn hand_in(&mut self, done: MarkToken)
+        requires { IsFinishedOf done self.old.ring }
+        ensures { (self.new.ring ≡ self.old.ring) × (self.new.done ≡ Some done) }
+    {
+        let MarkToken { token } = done;
+        match &mut self.end {
+            Sides::Short(side) => match token {
+                Tokens::Short(done) => side.hand_in(done),
+                Tokens::Middle(_) => unreachable!(),
+                Tokens::Long(_) => unreachable!(),
+            },
+            Sides::Middle(side) => match token {
+                Tokens::Short(_) => unreachable!(),
+                Tokens::Middle(done) => side.hand_in(done),
+                Tokens::Long(_) => unreachable!(),
+            },
+            Sides::Long(side) => match token {
+                Tokens::Short(_) => unreachable!(),
+                Tokens::Middle(_) => unreachable!(),
+                Tokens::Long(done) => side.hand_in(done),
+            },
+        }
+    }
+
+    /// Whether the pushing end has finished, and all that it pushed was taken.
+    pub(crate) fn is_drained(&mut self) -> bool
+        ensures drained { IsTrue result ↔ IsDrained self.new.ring self.new.done }
+        ensures ring { SameConsumer self.old.ring self.new.ring × (received self.new.ring ≡ received self.old.ring) }
+        ensures done { MatchOption self.old.done (self.new.done ≡ None) (λ d. IsSomeAnd self.new.done (λ e. all_sent e ≡ all_sent d)) }
+    {
+        match &mut self.end {
+            Sides::Short(side) => side.is_drained(),
+            Sides::Middle(side) => side.is_drained(),
+            Sides::Long(side) => side.is_drained(),
+        }
+    }
+}
+
+/// Both ends of a ring with one size of rooms.
+fn open_sized<const N: usize>(
+    alloc: Global,
+    format: Format,
+    places: usize,
+) -> Result<(MarkSender<N>, Side<MarkRoom<N>>), AllocError>
+    ensures pair { IfOk result (λ r. IsPair r.0 r.1.ring) }
+    ensures producer { IfOk result (λ r. (sent r.0 ≡ []) × (known_free r.0 ≡ places)) }
+    ensures side { IfOk result (λ r. (received r.1.ring ≡ []) × (r.1.done ≡ None)) }
+{
+    let (push, pop) = RingBuffer::new(alloc, places)?;
+    Ok((MarkSender::new(push, format), Side::new(pop)))
+}
+
+/// Both ends of a ring of so many places, with room for the payloads of a format.
+pub(crate) fn open_marks(
+    alloc: Global,
+    format: Format,
+    places: usize,
+) -> Result<(MarkIn, MarkOut), AllocError>
+    requires { payload_length format ≤ 1440 }
+    ensures pair { IfOk result (λ r. IsPair r.0 r.1.ring) }
+    ensures producer { IfOk result (λ r. (sent r.0 ≡ []) × (known_free r.0 ≡ places)) }
+    ensures side { IfOk result (λ r. (received r.1.ring ≡ []) × (r.1.done ≡ None)) }
+    ensures room { IfOk result (λ r. HasRoomFor (payload_length format) r.0) }
+{
+    let len = format.payload_len();
+    let (push, pop) = if len <= SHORT {
+        let (push, pop) = open_sized(alloc, format, places)?;
+        (Senders::Short(push), Sides::Short(pop))
+    } else if len <= MIDDLE {
+        let (push, pop) = open_sized(alloc, format, places)?;
+        (Senders::Middle(push), Sides::Middle(pop))
+    } else {
+        let (push, pop) = open_sized(alloc, format, places)?;
+        (Senders::Long(push), Sides::Long(pop))
+    };
+    Ok((MarkIn { end: push }, MarkOut { end: pop }))
+}

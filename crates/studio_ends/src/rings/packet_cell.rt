@@ -1,0 +1,63 @@
+//! Room for a packet in a ring.
+ghost use Rattle.std.specs.Prelude.{◌≡◌, ◌≤◌, length};
+ghost use Rattle.rtp_stream.specs.PacketRef.{packet_of};
+
+use crate::rings::payload_cell::Room;
+use path_merge::PacketRef;
+use std::marker::Model;
+
+/// A packet whose samples lie in room for `N` octets. Contracts see it as that packet.
+#[derive(Clone, Copy)]
+pub(crate) struct PacketRoom<const N: usize> {
+    seq: u16,
+    ts: u32,
+    ssrc: u32,
+    payload: Room<N>,
+}
+
+impl<const N: usize> Model for PacketRoom<N> {
+    ghost use Rattle.rtp_stream.specs.declared.packet.Packet.{Packet};
+
+    ghost Value = { Packet };
+
+    ghost view = { λ r. record { seq = r.seq; ts = r.ts; ssrc = r.ssrc; payload = record { items = r.payload } } };
+
+    ghost inverse = { λ p. record { seq = p.seq; ts = p.ts; ssrc = p.ssrc; payload = p.payload.items } };
+}
+
+impl<const N: usize> PacketRoom<N> {
+    /// A packet with no samples.
+    pub(crate) fn new() -> PacketRoom<N> {
+        PacketRoom {
+            seq: 0,
+            ts: 0,
+            ssrc: 0,
+            payload: Room::new(),
+        }
+    }
+
+    /// Becomes a packet that is lent.
+    #[inline(always)]
+    pub(crate) fn fill(&mut self, packet: PacketRef<'_>)
+        requires { length packet.payload.now ≤ N }
+        ensures { self.new ≡ packet_of packet.entry }
+    {
+        self.seq = packet.seq;
+        self.ts = packet.ts;
+        self.ssrc = packet.ssrc;
+        self.payload.fill(packet.payload);
+    }
+
+    /// The same packet, its samples lent.
+    #[inline]
+    pub(crate) fn lent(&self) -> PacketRef<'_>
+        ensures { packet_of result ≡ self.now }
+    {
+        PacketRef {
+            seq: self.seq,
+            ts: self.ts,
+            ssrc: self.ssrc,
+            payload: self.payload.octets(),
+        }
+    }
+}

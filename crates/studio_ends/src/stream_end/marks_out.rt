@@ -1,0 +1,92 @@
+//! Marks from a merge to the ring of its stream.
+ghost use Rattle.std.specs.Prelude.{◌≡◌, ℕ, ◌<◌, ◌≤◌, ◌^◌, ℤ, ◌≤ℤ◌, pos, List, ◌++◌, length, false, None, if◌then◌else◌};
+ghost use Rattle.std.specs.Option.{option_to_list};
+ghost use Rattle.rtrb.specs.Ring.{known_free, sent, SameProducer};
+ghost use Rattle.rtp_stream.specs.declared.event.Event.{Event};
+ghost use Rattle.rtp_stream.specs.declared.stream_spec.Stream.{Stream};
+ghost use Rattle.path_merge.specs.Merge.{HasHistory};
+ghost use Rattle.path_merge.specs.Goal.{CanReach, Gives, HasGivenAll, MovesTo, next_to};
+ghost use Rattle.rtp_stream.specs.MarkFacts.{payload_length};
+ghost use Rattle.rtp_stream.specs.StreamSpecFacts.{format_of};
+ghost use Rattle.studio_ends.specs.RoomRings.{HasRoomFor};
+ghost use Rattle.studio_ends.specs.Turns.{PushesMarks};
+ghost use Rattle.studio_ends.specs.Stop.{StopsFor};
+
+use crate::rings::marks::MarkIn;
+use crate::stream_end::packets_in::BATCH;
+use path_merge::{Goal, Merge, SlotWindow};
+
+/// Why a turn stopped.
+#[derive(Clone, Copy, PartialEq, Eq, Debug)]
+pub enum StopReason {
+    /// All marks up to the time asked for were handed on.
+    CaughtUp,
+    /// 64 marks were.
+    Batch,
+    /// No free place was seen in the ring.
+    NoRoom,
+}
+
+/// What a turn did.
+#[derive(Clone, Copy, Debug)]
+pub struct TurnNote {
+    /// How many packets it took of each path.
+    pub from: [u32; 4],
+    /// How many marks it handed on.
+    pub marks: u32,
+    /// The merge's time.
+    pub reached: i64,
+    pub why_stopped: StopReason,
+}
+
+/// Pushes the next mark on the way to a goal, if there is one, and passes it: whether there was one.
+pub(crate) fn push_next(marks: &mut MarkIn, merge: &mut Merge<SlotWindow>, goal: Goal) -> bool
+    requires room { 0 < known_free marks.old }
+    requires can { CanReach merge.old goal }
+    requires roomy { HasRoomFor (payload_length (format_of merge.old.spec)) marks.old }
+    ensures ring { SameProducer marks.old marks.new }
+    ensures pushed { sent marks.new ≡ sent marks.old ++ option_to_list (next_to merge.old goal) }
+    ensures count { length (option_to_list (next_to merge.old goal)) ≡ (if result then 1 else 0) }
+    ensures stands { (stream : Stream) (open_at : ℤ) (events : List Event) (k : ℕ)
+        → HasHistory stream open_at merge.old events k → Gives stream open_at merge.old merge.new events k goal (next_to merge.old goal) }
+    ensures moved { MovesTo merge.old merge.new goal (next_to merge.old goal) }
+    ensures there { result ≡ false → MovesTo merge.old merge.new goal None }
+    ensures all { result ≡ false → HasGivenAll merge.new }
+    ensures closed { merge.new.closed ≡ merge.old.closed }
+    ensures spec { merge.new.spec ≡ merge.old.spec }
+{
+    let next = merge.mark_to(goal);
+    let is_some = next.is_some();
+    if let Some(mark) = next {
+        marks.push(&mark);
+    }
+    merge.pass_to(goal);
+    is_some
+}
+
+/// Pushes marks up to a time, while there is room.
+pub(crate) fn push_marks(
+    marks: &mut MarkIn,
+    merge: &mut Merge<SlotWindow>,
+    now: i64,
+) -> (u32, StopReason)
+    requires low { merge.old.time ≤ℤ now }
+    requires high { now ≤ℤ pos (2 ^ 60) }
+    requires open_yet { merge.old.closed ≡ false }
+    requires roomy { HasRoomFor (payload_length (format_of merge.old.spec)) marks.old }
+    ensures pushed { PushesMarks marks.old merge.old now marks.new merge.new result.0 }
+    ensures most { result.0 ≤ 64 }
+    ensures stop { StopsFor result.1 merge.new.time now result.0 (known_free marks.new) }
+{
+    let mut count = 0;
+    while count < BATCH {
+        if marks.is_full() {
+            return (count, StopReason::NoRoom);
+        }
+        if !push_next(marks, merge, Goal::Reading(now)) {
+            return (count, StopReason::CaughtUp);
+        }
+        count += 1;
+    }
+    (count, StopReason::Batch)
+}

@@ -1,0 +1,97 @@
+//! Packets from the rings of a stream's paths to its merge.
+ghost use Rattle.std.specs.Prelude.{◌≡◌, ℕ, ◌+◌, ◌<◌, List, [], ◌∷◌, length, vec_len, get_or};
+ghost use Rattle.rtp_stream.specs.declared.packet.Packet.{Packet};
+ghost use Rattle.studio_ends.specs.Fitting.{fitting};
+ghost use Rattle.studio_ends.specs.Turns.{AllTakePackets, Joins, TakesPackets, arrivals_by, arrivals_from};
+
+use crate::rings::Side;
+use crate::rings::packet_cell::PacketRoom;
+use crate::rings::packets::PacketOut;
+use path_merge::{Fate, Merge, PacketRef, Path, SlotWindow, StreamSpec};
+use rtp_stats::StreamTeller;
+
+/// How many packets of a path, or marks, one turn takes at most.
+pub(crate) const BATCH: u32 = 64;
+
+/// Notes what became of a packet, if somebody is to be told.
+fn note(
+    teller: &mut Option<StreamTeller>,
+    merge: &Merge<SlotWindow>,
+    path: Path,
+    packet: PacketRef<'_>,
+    fate: Fate,
+) {
+    if let Some(teller) = teller {
+        teller.note(path, packet, fate, merge.next_deadline(), merge.time());
+    }
+}
+
+/// Offers a packet to the merge if it has the stream's length.
+fn join_packet<const N: usize>(
+    spec: &StreamSpec,
+    merge: &mut Merge<SlotWindow>,
+    path: Path,
+    room: &PacketRoom<N>,
+    teller: &mut Option<StreamTeller>,
+)
+    requires spec { merge.old.spec ≡ spec.now }
+    requires path { path < spec.now.paths }
+    ensures { Joins merge.old merge.new (λ stream. arrivals_by path (fitting stream (room.now ∷ []))) }
+{
+    let packet = room.lent();
+    if packet.payload.len() == spec.payload_len() {
+        let fate = merge.offer_ref(path, packet);
+        note(teller, merge, path, packet, fate);
+    }
+}
+
+/// Offers what a path's ring has to the merge.
+pub(crate) fn take_path<const N: usize>(
+    side: &mut Side<PacketRoom<N>>,
+    spec: &StreamSpec,
+    merge: &mut Merge<SlotWindow>,
+    path: Path,
+    teller: &mut Option<StreamTeller>,
+) -> u32
+    requires spec { merge.old.spec ≡ spec.now }
+    requires path { path < spec.now.paths }
+    ensures took { (packets : List Packet) × TakesPackets side.old side.new packets × (length packets ≡ result)
+        × Joins merge.old merge.new (λ stream. arrivals_by path (fitting stream packets)) }
+{
+    let mut taken = 0;
+    while taken < BATCH {
+        if side.is_empty() {
+            return taken;
+        }
+        join_packet(spec, merge, path, side.next(), teller);
+        side.pass();
+        taken += 1;
+    }
+    taken
+}
+
+/// Offers what the rings of all paths have to the merge, path by path, and says how many it took of each.
+pub(crate) fn take_all(
+    sides: &mut Vec<PacketOut>,
+    spec: &StreamSpec,
+    merge: &mut Merge<SlotWindow>,
+    teller: &mut Option<StreamTeller>,
+) -> [u32; 4]
+    requires spec { merge.old.spec ≡ spec.now }
+    requires paths { vec_len sides.old ≡ spec.now.paths }
+    ensures took { (taken : List (List Packet)) × AllTakePackets sides.old.items sides.new.items taken
+        × ((i : ℕ) → get_or result i 0 ≡ length (get_or taken i []))
+        × Joins merge.old merge.new (λ stream. arrivals_from stream 0 taken) }
+    ensures count { vec_len sides.new ≡ vec_len sides.old }
+{
+    let mut from = [0u32; 4];
+    for number in 0..spec.paths() {
+        let Some(path) = Path::new(number) else {
+            unreachable!();
+        };
+        let place = usize::from(number);
+        let count = sides[place].take(spec, merge, path, teller);
+        from[place] = count;
+    }
+    from
+}

@@ -1,0 +1,190 @@
+//! The end of a stream.
+ghost use Rattle.std.specs.Prelude.{◌≡◌, ◌+◌, ◌<◌, ◌⊎◌, slice_get, vec_len, List, [], ◌∷◌, ◌++◌, ℤ, length, true, false, IsOk, IfOk, IfErr, IfSome, OnOk, OnErr, Some, None};
+ghost use Rattle.rtrb.specs.Ring.{all_sent, sent, known_free, Finishes, IsFinishedOf, SameProducer};
+ghost use Rattle.rtp_stream.specs.declared.stream_spec.Stream.{Stream};
+ghost use Rattle.rtp_stream.specs.Marks.{marks_of};
+ghost use Rattle.rtp_stream.specs.declared.packet.Packet.{Packet};
+ghost use Rattle.studio_ends.specs.declared.rings.Side.{Side};
+ghost use Rattle.rtp_stream.specs.declared.event.Event.{Event};
+ghost use Rattle.rtp_stream.specs.declared.event.Event.TheVariants.{Close};
+ghost use Rattle.studio_ends.specs.Looks.{AllDrained, AllLookAt, AreOpen};
+ghost use Rattle.rtp_stream.specs.Counts.{tally_of};
+ghost use Rattle.path_merge.specs.Clock.{clock_fault_of};
+ghost use Rattle.path_merge.specs.Steps.{next_deadline_of};
+ghost use Rattle.studio_ends.specs.Streams.{ReadsClock, ShowsCounts, StreamHasHistory, TakesTurn};
+ghost use Rattle.studio_ends.specs.Tokens.{HandsIn};
+
+use crate::drain::drain_marks;
+use crate::path::PathDone;
+use crate::rings::drained::look_at_paths;
+use crate::rings::marks::MarkToken;
+use crate::stream_end::StreamEnd;
+use crate::stream_end::marks_out::{StopReason, TurnNote, push_marks};
+use crate::stream_end::packets_in::take_all;
+use path_merge::{ClockFault, Counts, Merge, SlotWindow, StreamSpec, clock_fault};
+use rtp_stats::StreamTeller;
+use rtrb::Producer;
+
+/// Which paths haven't finished, or have sent packets that were not taken.
+#[derive(Clone, Copy, PartialEq, Eq, Debug)]
+pub struct PathsOpen {
+    pub still_open: [bool; 4],
+}
+
+/// The proof that a stream's end has finished: what the mixer's end wants before it is settled.
+#[derive(Drop)]
+pub struct StreamDone {
+    pub(crate) token: MarkToken,
+}
+
+/// Shows counts to the monitor, if there is room.
+fn show_counts(monitor: &mut Producer<Counts>, counts: Counts)
+    ensures ring { SameProducer monitor.old monitor.new }
+    ensures shows { ShowsCounts monitor.old (tally_of counts) monitor.new }
+{
+    match monitor.push(counts) {
+        Ok(()) => {}
+        Err(_) => {}
+    }
+}
+
+/// Tells what became of the packets, if somebody is to be told.
+fn tell(teller: &mut Option<StreamTeller>, merge: &Merge<SlotWindow>) {
+    if let Some(teller) = teller {
+        teller.tell(merge.counts(), merge.time());
+    }
+}
+
+impl StreamEnd {
+    /// Takes packets of all paths, path by path, and then hands on marks up to `now`.
+    pub fn turn(&mut self, now: i64) -> Result<TurnNote, ClockFault>
+        ensures turned { IfOk result (λ note. TakesTurn self.old now note self.new) }
+        ensures fine { IfOk result (λ note. clock_fault_of self.old.merge.time self.old.merge.closed now ≡ None) }
+        ensures fault { IfErr result (λ fault. clock_fault_of self.old.merge.time self.old.merge.closed now ≡ Some fault) }
+        ensures err { OnErr result (self.new ≡ self.old) }
+    {
+        if let Some(fault) = clock_fault(self.merge.time(), self.merge.closed(), now) {
+            return Err(fault);
+        }
+        let from = take_all(
+            &mut self.sides,
+            &self.spec,
+            &mut self.merge,
+            &mut self.teller,
+        );
+        let (marks, why_stopped) = push_marks(&mut self.marks, &mut self.merge, now);
+        show_counts(&mut self.monitor, self.merge.counts());
+        tell(&mut self.teller, &self.merge);
+        Ok(TurnNote {
+            from,
+            marks,
+            reached: self.merge.time(),
+            why_stopped,
+        })
+    }
+
+    /// Takes no packet, and hands on marks up to `now`. By the arrival clock this sets the time of a first
+    /// packet that is taken next.
+    pub fn read_clock(&mut self, now: i64) -> Result<StopReason, ClockFault>
+        ensures read { IfOk result (λ why. ReadsClock self.old now why self.new) }
+        ensures fine { IfOk result (λ why. clock_fault_of self.old.merge.time self.old.merge.closed now ≡ None) }
+        ensures fault { IfErr result (λ fault. clock_fault_of self.old.merge.time self.old.merge.closed now ≡ Some fault) }
+        ensures err { OnErr result (self.new ≡ self.old) }
+    {
+        if let Some(fault) = clock_fault(self.merge.time(), self.merge.closed(), now) {
+            return Err(fault);
+        }
+        let (_, why_stopped) = push_marks(&mut self.marks, &mut self.merge, now);
+        Ok(why_stopped)
+    }
+
+    /// When the next slot is due: never before the first packet, nor after a close.
+    pub fn next_deadline(&self) -> Option<i64>
+        ensures { result ≡ next_deadline_of self.now.merge }
+    {
+        self.merge.next_deadline()
+    }
+
+    /// The merge's time.
+    pub fn time(&self) -> i64
+        ensures { result ≡ self.now.merge.time }
+    {
+        self.merge.time()
+    }
+
+    /// What is fixed of the stream.
+    pub fn spec(&self) -> &StreamSpec
+        ensures { result.now ≡ self.now.spec }
+    {
+        &self.spec
+    }
+
+    /// Takes the proof that a path has finished.
+    pub fn path_done(&mut self, path: usize, done: PathDone)
+        requires path { path < vec_len self.old.sides }
+        requires token { (side : Side Packet) → slice_get self.old.sides.items path ≡ Some side → IsFinishedOf done.token side.ring }
+        ensures sides { HandsIn self.old.sides.items path (all_sent done.token) self.new.sides.items }
+        ensures others { (self.new.merge ≡ self.old.merge) × (self.new.marks ≡ self.old.marks) × (self.new.monitor ≡ self.old.monitor) × (self.new.spec ≡ self.old.spec) }
+        ensures stands { (stream : Stream) (open_at : ℤ) (events : List Event) → StreamHasHistory stream open_at self.old events → StreamHasHistory stream open_at self.new events }
+    {
+        self.sides[path].hand_in(done.token);
+    }
+
+    /// Closes the stream, once all its paths have finished and all that they sent was taken.
+    pub fn close(&mut self) -> Result<(), PathsOpen>
+        ensures rings { AllLookAt self.old.sides.items self.new.sides.items ⊎ (self.new ≡ self.old) }
+        ensures ok { OnOk result (self.old.merge.closed ≡ false → AllDrained self.new.sides.items) }
+        ensures closed { OnOk result (self.new.merge ≡ record self.old.merge { closed = true }) }
+        ensures still_open { IfErr result (λ paths. AreOpen paths.still_open self.new.sides.items × (AllDrained self.new.sides.items → ⊥)) }
+        ensures err { OnErr result (self.new.merge ≡ self.old.merge) }
+        ensures again { self.old.merge.closed ≡ true → (self.new ≡ self.old) × IsOk result }
+        ensures others { (self.new.marks ≡ self.old.marks) × (self.new.monitor ≡ self.old.monitor) × (self.new.spec ≡ self.old.spec) }
+        ensures stands { OnOk result (self.old.merge.closed ≡ false → (stream : Stream) (open_at : ℤ) (events : List Event) → StreamHasHistory stream open_at self.old events → StreamHasHistory stream open_at self.new (events ++ Close ∷ [])) }
+    {
+        if self.merge.closed() {
+            return Ok(());
+        }
+        let _paths = self.spec.paths();
+        let mut still_open = [false; 4];
+        if look_at_paths(&mut self.sides, &mut still_open) {
+            return Err(PathsOpen { still_open });
+        }
+        self.merge.close();
+        Ok(())
+    }
+
+    /// Hands on what is left after a close, and says whether that was all.
+    pub fn drain_turn(&mut self) -> bool
+        ensures rings { SameProducer self.old.marks self.new.marks }
+        ensures open_yet { self.old.merge.closed ≡ false → (self.new ≡ self.old) × (result ≡ false) }
+        ensures some { self.old.merge.closed ≡ true → result ≡ false → (length (sent self.new.marks) ≡ length (sent self.old.marks) + 64) ⊎ (known_free self.new.marks ≡ 0) }
+        ensures stands { (stream : Stream) (open_at : ℤ) (events : List Event) → StreamHasHistory stream open_at self.old events → StreamHasHistory stream open_at self.new events }
+        ensures all { result ≡ true → (stream : Stream) (open_at : ℤ) (events : List Event) → StreamHasHistory stream open_at self.new events → sent self.new.marks ≡ marks_of stream open_at events }
+        ensures others { (self.new.sides ≡ self.old.sides) × (self.new.monitor ≡ self.old.monitor) × (self.new.spec ≡ self.old.spec) }
+    {
+        if !self.merge.closed() {
+            return false;
+        }
+        drain_marks(&mut self.marks, &mut self.merge)
+    }
+
+    /// Gives up the end. None where the other end is gone.
+    pub fn finish(self) -> (Option<StreamDone>, Counts)
+        ensures token { IfSome result.0 (λ done. Finishes self.marks done.token) }
+        ensures counts { tally_of result.1 ≡ self.merge.counts }
+    {
+        let counts = self.merge.counts();
+        let StreamEnd {
+            spec: _,
+            sides: _,
+            marks,
+            monitor: _,
+            merge: _,
+            teller: _,
+        } = self;
+        match marks.finish() {
+            Some(token) => (Some(StreamDone { token }), counts),
+            None => (None, counts),
+        }
+    }
+}

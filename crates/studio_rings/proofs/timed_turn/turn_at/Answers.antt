@@ -1,8 +1,0 @@
-use Rattle.std.proofs.Common.{rules, ◌≡◌, to_z, of_z, w64}
-use Rattle.studio_rings.proofs.StreamTurnLemmas.{never}
-use Rattle.studio_rings.proofs.timed_turn.turn_at.Goals as goal
-
-pub unreachable-requires : goal.unreachable-requires
-unreachable-requires c =
-    let z : to_z w64 (of_z w64 c.args.now) ≡ c.args.now = search rules in
-    never _ _ c.args.now _ c.in-Err.field-0 z c.in-Err.ensures.fault (c.requires.low) (c.requires.high) c.requires.open_yet

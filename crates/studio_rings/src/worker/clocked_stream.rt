@@ -1,0 +1,61 @@
+//! A stream's end, with the clock that its turns go by.
+ghost use Rattle.std.specs.Prelude.{◌≡◌, ◌^◌, ◌≤ℤ◌, pos, false};
+
+use crate::worker::Pause;
+use path_merge::{Counts, StreamSpec};
+use studio_ends::{StreamDone, StreamEnd};
+use studio_io::Clock;
+
+/// The longest pause after a turn, in microseconds.
+const TURN_PAUSE: u64 = 5_000;
+
+/// The longest pause after a turn of a stream, in microseconds: at most half of what its window spans
+/// beyond its latency. A packet is judged at the time of the last turn, so a longer one makes packets
+/// too far ahead. There are 48,000 sampling instants a second.
+fn longest_pause(spec: &StreamSpec) -> u64 {
+    let span = u64::from(spec.window()) * u64::from(spec.frames());
+    let spare = span.saturating_sub(u64::from(spec.latency()));
+    (spare / 2 * 125 / 6).min(TURN_PAUSE)
+}
+
+/// A stream's end that is not closed, with its clock.
+#[derive(Drop)]
+pub struct TimedStream<C> {
+    pub end: StreamEnd,
+    pub(crate) clock: C,
+    /// The greatest answer of the clock so far, from the opening time to 2^60.
+    pub(crate) now: i64,
+    pub(crate) pause: Pause,
+    ghost open_yet: { end.merge.closed ≡ false },
+    ghost not_before: { end.merge.time ≤ℤ now },
+    ghost not_after: { now ≤ℤ pos (2 ^ 60) },
+}
+
+impl<C: Clock> TimedStream<C> {
+    /// A stream's end, which is not closed, with a clock that wasn't asked yet.
+    pub fn new(end: StreamEnd, clock: C) -> TimedStream<C>
+        requires open_yet { end.merge.closed ≡ false }
+        requires in_time { end.merge.time ≤ℤ pos (2 ^ 60) }
+        ensures { (result.end ≡ end) × (result.clock ≡ clock) × (result.now ≡ end.merge.time) }
+    {
+        let pause = Pause::up_to(longest_pause(end.spec()));
+        let now = end.time();
+        TimedStream {
+            end,
+            clock,
+            now,
+            pause,
+        }
+    }
+
+    /// Gives up the end as it is.
+    pub fn finish(self) -> (Option<StreamDone>, Counts) {
+        let TimedStream {
+            end,
+            clock: _,
+            now: _,
+            pause: _,
+        } = self;
+        end.finish()
+    }
+}

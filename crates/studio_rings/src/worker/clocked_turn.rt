@@ -1,0 +1,90 @@
+//! A turn of a stream at its clock's time, and its close.
+ghost use Rattle.std.specs.Prelude.{◌≡◌, ◌^◌, ◌≤ℤ◌, pos, false, IfOk, IfErr};
+ghost use Rattle.studio_ends.specs.Streams.{TakesTurn};
+ghost use Rattle.studio_rings.specs.Turns.{Closes, GoesOn, KeepsTokens, ReadsFirst};
+
+use crate::worker::Pause;
+use crate::worker::clocked_stream::TimedStream;
+use path_merge::StreamClock;
+use std::sync::Wait;
+use studio_ends::{StopReason, StreamEnd, TurnNote};
+use studio_io::Clock;
+
+/// A turn that no clock fault refuses.
+fn turn_at(end: &mut StreamEnd, now: i64) -> TurnNote
+    requires open_yet { end.old.merge.closed ≡ false }
+    requires low { end.old.merge.time ≤ℤ now }
+    requires high { now ≤ℤ pos (2 ^ 60) }
+    ensures { TakesTurn end.old now result end.new }
+{
+    match end.turn(now) {
+        Ok(note) => note,
+        Err(_) => unreachable!(),
+    }
+}
+
+/// Reads the clock before a first packet is taken: by the arrival clock the packet has this time.
+fn read_first(end: &mut StreamEnd, now: i64)
+    requires open_yet { end.old.merge.closed ≡ false }
+    requires low { end.old.merge.time ≤ℤ now }
+    requires high { now ≤ℤ pos (2 ^ 60) }
+    ensures { ReadsFirst end.old now end.new }
+{
+    if end.spec().clock() != StreamClock::Arrival || end.next_deadline().is_some() {
+        return;
+    }
+    match end.read_clock(now) {
+        Ok(_) => {}
+        Err(_) => unreachable!(),
+    }
+}
+
+/// Rests where a turn at this time left nothing to do before packets come or time passes, and longer
+/// while none come.
+fn rest_after<R: Wait>(rt: &R, pause: &mut Pause, now: i64, note: &TurnNote) {
+    if note.from.iter().any(|count| *count > 0) {
+        pause.restart();
+    }
+    let more = note.from.iter().any(|count| *count == 64);
+    if !more && note.why_stopped != StopReason::Batch {
+        pause.rest_in_step(rt, now);
+    }
+}
+
+impl<C: Clock> TimedStream<C> {
+    /// Makes a turn at the greatest answer of the clock so far. It rests where there is nothing to do
+    /// before packets come or time passes.
+    pub fn turn<R: Wait>(&mut self, rt: &R)
+        ensures later { GoesOn C.told self.old self.new }
+        ensures tokens { KeepsTokens self.old.end.sides.items self.new.end.sides.items }
+    {
+        self.now = self.clock.now().clamp(self.now, 1 << 60);
+        read_first(&mut self.end, self.now);
+        let note = turn_at(&mut self.end, self.now);
+        rest_after(rt, &mut self.pause, self.now, &note);
+    }
+
+    /// Closes the stream where all that its paths sent was taken.
+    pub fn try_close(self) -> Result<StreamEnd, TimedStream<C>>
+        ensures closed { IfOk result (λ end. Closes self.end end) }
+        ensures later { IfErr result (λ rest. GoesOn C.told self rest) }
+        ensures tokens { IfErr result (λ rest. KeepsTokens self.end.sides.items rest.end.sides.items) }
+    {
+        let TimedStream {
+            end,
+            clock,
+            now,
+            pause,
+        } = self;
+        let mut end = end;
+        match end.close() {
+            Ok(()) => Ok(end),
+            Err(_) => Err(TimedStream {
+                end,
+                clock,
+                now,
+                pause,
+            }),
+        }
+    }
+}

@@ -1,0 +1,190 @@
+//! The worker of a stream.
+ghost use Rattle.std.specs.Prelude.{◌≡◌, ◌≤◌, map, length, vec_len, vec_capacity, true, IfOk};
+ghost use Rattle.studio_rings.specs.Turns.{GoesOn, HaveTold};
+ghost use Rattle.studio_rings.specs.WorkersStreams.{AllTokensFit, EndsStream, FitsAt, HandsOne, PathsGiveTokens, IsReady, IsStreamResult, told_by};
+ghost use Rattle.studio_rings.specs.Ends.{ClosesLater, Drains};
+
+use crate::path_job::PathResult;
+use crate::path_threads::{Stopped, run_paths};
+use crate::stream_job::{StreamJob, StreamResult};
+use crate::worker::Pause;
+use crate::worker::clocked_stream::TimedStream;
+use rtp_stream::{PathCounts, StreamCounts};
+use std::sync::Wait;
+use std::sync::atomic::{AtomicBool, Ordering};
+use std::thread::Threads;
+use studio_ends::{PathDone, StreamEnd};
+use studio_io::{Clock, Feed};
+
+/// The longest pause at a full ring of marks, in microseconds.
+const DRAIN_PAUSE: u64 = 2_000;
+
+/// Hands in the token of the path at a place, and says whether it gave one.
+fn hand_in_one<C: Clock>(stream: &mut TimedStream<C>, place: usize, done: Option<PathDone>) -> bool
+    requires { FitsAt done place stream.old.end.sides.items }
+    ensures later { GoesOn C.told stream.old stream.new }
+    ensures handed { HandsOne done place stream.old.end.sides.items result stream.new.end.sides.items }
+{
+    match done {
+        Some(done) => {
+            stream.end.path_done(place, done);
+            true
+        }
+        None => false,
+    }
+}
+
+/// Hands in the tokens of the paths, and says whether each path gave one. The counts of each path and
+/// of its feed's faults go to their places.
+fn hand_in<C: Clock>(
+    stream: &mut TimedStream<C>,
+    results: Vec<PathResult>,
+    counts: &mut Vec<PathCounts>,
+    faults: &mut Vec<u64>,
+) -> bool
+    requires tokens { AllTokensFit results.items stream.old.end.sides.items }
+    requires counts { (vec_len counts.old ≡ 0) × (vec_len results ≤ vec_capacity counts.old) }
+    requires faults { (vec_len faults.old ≡ 0) × (vec_len results ≤ vec_capacity faults.old) }
+    ensures later { GoesOn C.told stream.old stream.new }
+    ensures given { result ≡ true → PathsGiveTokens results.items }
+    ensures told { result ≡ true → HaveTold stream.new.end.sides.items (map told_by results.items) }
+    ensures counts { counts.new.items ≡ map (λ (r : PathResult). r.counts) results.items }
+    ensures faults { vec_len faults.new ≡ length results.items }
+{
+    let mut place = 0usize;
+    let mut all = true;
+    for result in results {
+        let PathResult {
+            done,
+            counts: own,
+            faults: own_faults,
+        } = result;
+        counts.push_reserved(own);
+        faults.push_reserved(own_faults);
+        all &= hand_in_one(stream, place, done);
+        place += 1;
+    }
+    all
+}
+
+/// Makes turns until all that the paths sent was taken, and closes the stream.
+fn close_when_taken<R: Wait, C: Clock>(
+    rt: &R,
+    stream: TimedStream<C>,
+    stop: &AtomicBool,
+) -> Result<StreamEnd, Stopped>
+    ensures { IfOk result (λ end. ClosesLater C.told stream end) }
+{
+    let mut stream = stream;
+    for _ in rt.forever() {
+        match stream.try_close() {
+            Ok(end) => return Ok(end),
+            Err(rest) => stream = rest,
+        }
+        if stop.load(Ordering::SeqCst) {
+            return Err(Stopped);
+        }
+        stream.turn(rt);
+    }
+    unreachable!()
+}
+
+/// Hands on what is left after the close.
+fn drain<R: Wait>(rt: &R, end: StreamEnd, stop: &AtomicBool) -> Result<StreamEnd, Stopped>
+    ensures { IfOk result (λ r. Drains end r) }
+{
+    let mut end = end;
+    let mut pause = Pause::up_to(DRAIN_PAUSE);
+    for _ in rt.forever() {
+        if end.drain_turn() {
+            return Ok(end);
+        }
+        if stop.load(Ordering::SeqCst) {
+            return Err(Stopped);
+        }
+        pause.rest(rt);
+    }
+    unreachable!()
+}
+
+/// Ends a stream whose paths have ended: hands in their tokens, takes the rest, closes it and hands on
+/// what is left. Where a path gave no token it stays open, and gives none itself.
+fn end_stream<R: Wait, C: Clock>(
+    rt: &R,
+    stream: TimedStream<C>,
+    results: Vec<PathResult>,
+    counts: Vec<PathCounts>,
+    faults: Vec<u64>,
+    stop: &AtomicBool,
+) -> Result<StreamResult, Stopped>
+    requires tokens { AllTokensFit results.items stream.end.sides.items }
+    requires counts { (vec_len counts ≡ 0) × (vec_len results ≤ vec_capacity counts) }
+    requires faults { (vec_len faults ≡ 0) × (vec_len results ≤ vec_capacity faults) }
+    ensures { IfOk result (λ r. EndsStream C.told stream results.items r) }
+{
+    let mut stream = stream;
+    let mut counts = counts;
+    let mut faults = faults;
+    if !hand_in(&mut stream, results, &mut counts, &mut faults) {
+        let (_done, merge) = stream.finish();
+        let counts = StreamCounts {
+            paths: counts,
+            merge,
+        };
+        return Ok(StreamResult {
+            done: None,
+            counts,
+            faults,
+        });
+    }
+    let end = close_when_taken(rt, stream, stop)?;
+    let end = drain(rt, end, stop)?;
+    let (done, merge) = end.finish();
+    let counts = StreamCounts {
+        paths: counts,
+        merge,
+    };
+    Ok(StreamResult {
+        done,
+        counts,
+        faults,
+    })
+}
+
+/// Runs a stream and its paths until all feeds have ended and all marks were handed on.
+fn run_parts<R: Threads + Wait + Sync, F: Feed + Send, C: Clock>(
+    rt: &R,
+    job: StreamJob<F, C>,
+    stop: &AtomicBool,
+) -> Result<StreamResult, Stopped>
+    requires { IsReady job }
+    ensures { IfOk result (λ r. IsStreamResult F.told C.told job r) }
+{
+    let StreamJob {
+        end,
+        clock,
+        paths,
+        ended,
+        results,
+        counts,
+        faults,
+    } = job;
+    let stream = TimedStream::new(end, clock);
+    let (results, stream) = run_paths(rt, paths, results, stream, &ended, stop)?;
+    end_stream(rt, stream, results, counts, faults, stop)
+}
+
+/// Runs a stream, and says when it has ended.
+pub(crate) fn run_stream<R: Threads + Wait + Sync, F: Feed + Send, C: Clock>(
+    rt: &R,
+    job: StreamJob<F, C>,
+    ended: &AtomicBool,
+    stop: &AtomicBool,
+) -> Result<StreamResult, Stopped>
+    requires { IsReady job }
+    ensures { IfOk result (λ r. IsStreamResult F.told C.told job r) }
+{
+    let result = run_parts(rt, job, stop);
+    ended.store(true, Ordering::SeqCst);
+    result
+}

@@ -1,0 +1,47 @@
+//! From a trace to its report, with a WAV file beside it.
+ghost use Rattle.std.specs.Prelude.{◌≡◌, IfErr, IfOk};
+ghost use Rattle.wav_file.specs.Play.{FailsRecording, RecordsTextOf};
+ghost use Rattle.wav_file.specs.WavSamples.{output_format};
+
+use crate::fault::RecordFault;
+use crate::files::WavFiles;
+use crate::header::WavFormat;
+use crate::recorder::write_recorded;
+use std::alloc::Global;
+use std::io::{Read, Write};
+use studio_config::StudioSpec;
+use studio_run::{TextBuffer, read_all, runnable_events};
+use studio_session::Session;
+
+/// Reads a trace to its end, writes its report as `play` does, and the samples of its datagrams to a file, which is made
+/// once nothing but a write can fail.
+pub fn play_and_record<R: Read, W: Write, M: WavFiles>(
+    alloc: Global,
+    spec: &StudioSpec,
+    reader: &mut R,
+    writer: &mut W,
+    files: &M,
+) -> Result<M::File, RecordFault>
+    ensures ok { IfOk result (λ file. RecordsTextOf spec.now (R.remaining reader.old) (R.remaining reader.new) (W.contents writer.old) (W.contents writer.new) (M.File.Write.contents file)) }
+    ensures fault { IfErr result (FailsRecording spec.now (R.remaining reader.old) (R.remaining reader.new) (W.contents writer.old) (W.contents writer.new)) }
+{
+    let trace = read_all(alloc, reader)?;
+    let events = runnable_events(alloc, spec, trace.as_slice())?;
+    let session = Session::new(alloc, spec)?;
+    let mut text = TextBuffer::new(alloc)?;
+    let mut file = files.make()?;
+    let format = format_of(spec);
+    write_recorded(&mut text, writer, format, &mut file, &events, session)?;
+    Ok(file)
+}
+
+/// What a file of a studio's output is.
+fn format_of(spec: &StudioSpec) -> WavFormat
+    ensures { result ≡ output_format spec.now.output }
+{
+    let output = spec.output();
+    WavFormat {
+        enc: output.enc(),
+        channels: output.channels(),
+    }
+}
