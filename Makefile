@@ -2,28 +2,36 @@
 PREFIX ?= /usr/local
 # What bin/darbexum is built for: x86-64-v2, or with CPU=v3 x86-64-v3.
 CPU ?= v2
-# With ANEW=--anew the gate takes nothing from what earlier runs on this machine passed.
+# With ANEW=--anew the gate takes nothing from what earlier runs on this machine passed (kit 13f).
 ANEW ?=
 sources := $(shell find crates -path '*/out' -prune -o -type f -print) crates.txt
 
-.PHONY: help build run test test-memory check fmt install clean
+# The crates of `make mutants CRATE ..`, which are no targets.
+ifeq (mutants,$(firstword $(MAKECMDGOALS)))
+names := $(wordlist 2,$(words $(MAKECMDGOALS)),$(MAKECMDGOALS))
+.PHONY: $(names)
+$(names): ;@:
+endif
+
+.PHONY: help build run try test test-memory check mutants fmt install clean
 
 help:
-	@echo "make build    prove and build bin/darbexum, and bin/darbexum-live beside it; with CPU=v3, for x86-64-v3"
-	@echo "make run      the program on its stored example; not proved where it is not built"
-	@echo "make test     the gate: the pages, every proof from nothing, edits, tests, stored runs"
-	@echo "make test-memory  what the gate has built, with each allocation refused in turn"
+	@echo "make run      the program on its stored example; not proved if it is not built"
+	@echo "make try      the worked traces and the tests of reception; nothing is proved"
+	@echo "make build    prove and build bin/darbexum and bin/darbexum-live; with CPU=v3, for x86-64-v3"
+	@echo "make test     the gate: pages, every proof from nothing, the gate's wrong bodies, tests, stored runs"
 	@echo "make check    every crate's proofs, over what earlier checks kept"
+	@echo "make mutants [CRATE ..]  all wrong bodies of these crates, or of all, and their record mutants/refused.txt"
+	@echo "make test-memory  what the gate has built, with each allocation refused in turn"
 	@echo "make fmt      lay out every file"
 	@echo "make install  the programs into PREFIX/bin (/usr/local), their pages into PREFIX/share/doc/darbexum"
 	@echo "make clean    what was built and kept"
 
 build: bin/darbexum bin/darbexum-live
 
-# Proves and builds what is missing; the first run of the program is on its stored input.
+# Proves what no earlier run on this machine proved, builds the program, and runs it on its stored input.
 bin/darbexum: $(sources) bin/.x86-64-$(CPU)
-	cd crates/studio_main && rt run --cpu=x86-64-$(CPU) < stdin > /dev/null
-	cp crates/studio_main/out/studio_main $@
+	gate/build $(CPU) $@
 
 # The processor of the last build: another one is built for anew.
 bin/.x86-64-%:
@@ -42,9 +50,12 @@ run:
 program := crates/studio_main/out/studio_main
 scripts := memory/check tests/captures diff/run $(addprefix examples/,check faults statuses blocks wav chart)
 
+try:
+	@gate/try
+
 test:
 	docs/check
-	rt ci $(ANEW)
+	gate/progress rt ci $(ANEW)
 	$(MAKE) -j4 --no-print-directory $(addsuffix .ran,$(scripts))
 	tests/loopback $(program)
 	tests/page $(program)
@@ -65,6 +76,9 @@ test-memory:
 
 check:
 	rt all check
+
+mutants:
+	@mutants/run $(names)
 
 fmt:
 	for crate in crates/*/; do (cd "$$crate" && rt fmt) || exit 1; done

@@ -11,11 +11,12 @@ GENERICS = re.compile(r"<[^<>]*>")
 CLAUSE = re.compile(r"\b(requires|ensures)(?: (\w+))? $")
 FIELD = re.compile(r"^    (?:pub )?ghost (\w+):", re.MULTILINE)
 EXPORT = re.compile(r"^pub use (\w+)::(?:\{([^}]*)\}|(\w+));", re.MULTILINE)
+COMMENT = re.compile(r"$|//|--(?!\S)")
 REFUSED = re.compile(r"(.*\.) \[(\w+(?:::\w+)?: \w+)\]")
 
 
 class Call(NamedTuple):
-    """A function: the type or trait that it belongs to, if any, its `///` lines and the names of its clauses."""
+    """A function: the type or trait that it belongs to, if any, its `///` lines, the names of its clauses, and its head with them."""
 
     name: str
     owner: str
@@ -25,6 +26,7 @@ class Call(NamedTuple):
     sentence: list
     requires: list
     ensures: list
+    head: str
 
     def path(self):
         return f"{self.owner}::{self.name}" if self.owner else self.name
@@ -47,10 +49,33 @@ class Owner(NamedTuple):
 NO_OWNER = Owner("", "", "", "", 0, 0)
 
 
+class Edit(NamedTuple):
+    """A wrong body: its name, whether the gate tries it, its sentence and the clause that refuses it, or neither."""
+
+    name: str
+    in_gate: bool
+    sentence: str
+    clause: str
+
+
+@cache
+def dependencies():
+    """The crates that each crate names in crates.txt, the lowest first."""
+    lines = [line.split("#")[0].partition(":") for line in (ROOT / "crates.txt").read_text().splitlines()]
+    return {name.strip(): below.split() for name, colon, below in lines if colon}
+
+
 def crates():
     """The names of all crates, the lowest first."""
-    lines = (ROOT / "crates.txt").read_text().splitlines()
-    return [line.split(":")[0] for line in lines if line]
+    return list(dependencies())
+
+
+@cache
+def below(crate):
+    """All crates of the repository that a crate depends on, the lowest first."""
+    named = [name for name in dependencies()[crate] if name in dependencies()]
+    found = {*named, *(deeper for name in named for deeper in below(name))}
+    return [name for name in crates() if name in found]
 
 
 def code_of(crate):
@@ -83,8 +108,8 @@ def lines_above(text, place):
 
 
 def clauses_from(text, place):
-    """The names of the clauses between a function's name and its body; one without a name has its keyword."""
-    clauses, depth, begin = {"requires": [], "ensures": []}, 0, place
+    """The names of the clauses between a function's name and its body, and where the body begins; a clause without a name has its keyword."""
+    clauses, depth, begin, at = {"requires": [], "ensures": []}, 0, place, place
     for at in range(place, len(text)):
         if text[at] in "([{":
             clause = CLAUSE.search(text[begin:at])
@@ -98,7 +123,7 @@ def clauses_from(text, place):
             begin = at + 1
         elif text[at] == ";" and depth == 0:
             break
-    return clauses
+    return clauses, at
 
 
 @cache
@@ -114,7 +139,8 @@ def calls_in(text):
         owner = next((owner for owner in owners if owner.start < found.start() < owner.end), NO_OWNER)
         public = found[1] == "pub " or owner.kind == "trait"
         above = lines_above(text, found.start())
-        yield Call(found[2], owner.name, owner.trait, public, *above, **clauses_from(text, found.end()))
+        clauses, end = clauses_from(text, found.end())
+        yield Call(found[2], owner.name, owner.trait, public, *above, **clauses, head=text[found.start() : end])
 
 
 def exports_of(crate):
@@ -141,11 +167,21 @@ def lemma_files_of(crate):
             yield file.stem, file.read_text().splitlines()[0]
 
 
+def edit_files(crate):
+    """The files of a crate's edits: those that the gate tries, then those that `make mutants` adds."""
+    return [file for folder in (ROOT / "crates" / crate / "must-fail", ROOT / "mutants" / crate) for file in sorted(folder.glob("*.edit"))]
+
+
 def edits_of(crate):
-    """Each edit of a crate by its name, with its sentence and the clause that refuses it, or neither."""
-    for file in sorted((ROOT / "crates" / crate / "must-fail").glob("*.edit")):
+    """Each edit of a crate."""
+    for file in edit_files(crate):
         said = REFUSED.fullmatch(file.read_text().splitlines()[0])
-        yield file.stem, *(said.groups() if said else ("", ""))
+        yield Edit(file.stem, file.parent.name == "must-fail", *(said.groups() if said else ("", "")))
+
+
+def code_lines(text):
+    """The lines of a .rt or .antt file without blank ones and those that are a comment."""
+    return [line for line in map(str.strip, text.splitlines()) if not COMMENT.match(line)]
 
 
 @cache
