@@ -2,4 +2,3 @@ pub mod Engine
 pub mod Mix
 pub mod Receive
 pub mod Report
-pub mod Told

@@ -12,9 +12,6 @@
 
 mod arrival;
 mod engine;
-mod memory_clock;
-mod memory_feed;
-mod memory_sink;
 mod mix;
 mod receive;
 mod report;
@@ -22,9 +19,6 @@ mod run;
 
 pub use arrival::Arrival;
 pub use engine::{send_due, send_rest};
-pub use memory_clock::MemoryClock;
-pub use memory_feed::MemoryFeed;
-pub use memory_sink::MemorySink;
 pub use mix::{Mixed, feed_wanted, mix_next};
 pub use receive::{ReceiveFault, receive_stream};
 pub use report::report_trace;

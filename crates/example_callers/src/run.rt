@@ -2,15 +2,14 @@
 ghost use Rattle.std.specs.Prelude.{◌≡◌, true, map, IfOk};
 ghost use Rattle.studio_rings.specs.Balances.{Balances};
 ghost use Rattle.studio_rings.specs.Runs.{IsSettledRun};
-ghost use Rattle.example_callers.specs.Told.{told_of};
+ghost use Rattle.studio_io.specs.Memory.{told_of};
 
-use crate::memory_clock::MemoryClock;
-use crate::memory_feed::MemoryFeed;
 use std::alloc::{AllocError, AllocFailed, Global};
 use std::sync::Wait;
 use std::thread::Threads;
 use studio_config::StudioSpec;
 use studio_ends::{OpenFault, open};
+use studio_io::{MemoryClock, MemoryFeed};
 use studio_rings::{Sink, WorkFault, WorkReport, run_workers};
 use thiserror::Error;
 

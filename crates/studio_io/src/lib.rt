@@ -7,12 +7,18 @@
 
 mod clock;
 mod feed;
+mod memory_clock;
+mod memory_feed;
+mod memory_sink;
 mod report;
 mod send_counts;
 mod sink;
 
 pub use clock::Clock;
 pub use feed::{Feed, FeedAnswer};
+pub use memory_clock::MemoryClock;
+pub use memory_feed::MemoryFeed;
+pub use memory_sink::MemorySink;
 pub use report::{WorkFault, WorkReport};
 pub use send_counts::SendCounts;
 pub use sink::{SendAnswer, Sink};

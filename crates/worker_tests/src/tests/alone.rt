@@ -6,11 +6,11 @@ use super::workers::{
     FAILURES, Failing, gave_both, has_failed, list_of, one_stream, only, sends, two_packets,
 };
 use engine_run::{Quiet, Rest, run_alone};
-use example_callers::{MemoryClock, MemoryFeed, MemorySink};
 use std::alloc::Global;
 use std::process::Abort;
 use std::sync::Wait;
 use std::sync::atomic::AtomicI64;
+use studio_io::{MemoryClock, MemoryFeed, MemorySink};
 use studio_rings::{Clock, Feed, Sink, WorkReport};
 
 /// Runs one stream on two paths.

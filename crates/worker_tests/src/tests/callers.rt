@@ -3,13 +3,12 @@
 use super::packets::{FIRST, SECOND};
 use super::workers::{gave_both, one_stream};
 use engine_tests::small_studios::stream;
-use example_callers::{
-    Arrival, MemorySink, ReceiveFault, receive_stream, report_trace, run_in_threads,
-};
+use example_callers::{Arrival, ReceiveFault, receive_stream, report_trace, run_in_threads};
 use path_merge::{Body, ClockFault, Mark, MarkKind, Path};
 use std::alloc::Global;
 use std::process::Abort;
 use studio_config::StudioSpec;
+use studio_io::MemorySink;
 use studio_run::{PlayFault, TraceKind};
 
 pub(super) const TRACE: &str = "tick 0\n\

@@ -2,10 +2,10 @@
 ghost use Rattle.std.specs.Prelude.{[], map, Some};
 
 use engine_run::Rest;
-use example_callers::MemoryFeed;
 use std::alloc::Global;
 use std::process::Abort;
 use studio_engine::Engine;
+use studio_io::MemoryFeed;
 use studio_rings::{Feed, FeedAnswer, SendAnswer, Sink};
 
 /// Fails so often before its first answer, and so often before each later one.

@@ -3,13 +3,13 @@ ghost use Rattle.std.specs.Prelude.{[], None};
 
 use super::packets::{FIRST, SECOND};
 use super::workers::{gave_both, list_of, only, run_one, two_packets};
-use example_callers::{MemoryClock, MemoryFeed, MemorySink};
 use std::alloc::Global;
 use std::process::Abort;
 use std::sync::Wait;
 use std::sync::atomic::{AtomicBool, AtomicU64, Ordering};
 use std::thread::{Parker, Threads};
 use std::time::Duration;
+use studio_io::{MemoryClock, MemoryFeed, MemorySink};
 use studio_rings::{Clock, Feed, FeedAnswer, SendAnswer, Sink, WorkReport};
 
 /// How often something is waited for, a millisecond each time.

@@ -9,8 +9,7 @@ use super::workers::one_stream;
 use engine_run::{Quiet, run_alone};
 use engine_tests::small_studios::stream;
 use example_callers::{
-    Arrival, MemoryClock, MemoryFeed, MemorySink, ReceiveFault, RunFault, receive_stream,
-    report_trace, run_in_threads,
+    Arrival, ReceiveFault, RunFault, receive_stream, report_trace, run_in_threads,
 };
 use path_merge::StreamSpec;
 use std::alloc::Global;
@@ -19,6 +18,7 @@ use std::sync::Wait;
 use std::thread::Threads;
 use studio_config::StudioSpec;
 use studio_ends::OpenFault;
+use studio_io::{MemoryClock, MemoryFeed, MemorySink};
 use studio_rings::{WorkFault, WorkReport};
 use studio_run::PlayFault;
 

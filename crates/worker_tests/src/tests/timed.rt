@@ -2,9 +2,9 @@
 ghost use Rattle.std.specs.Prelude.{[], None};
 
 use engine_run::Rest;
-use example_callers::MemoryFeed;
 use std::sync::atomic::{AtomicI64, Ordering};
 use studio_engine::Engine;
+use studio_io::MemoryFeed;
 use studio_rings::{Clock, Feed, FeedAnswer, SendAnswer, Sink};
 
 /// Tells the time.

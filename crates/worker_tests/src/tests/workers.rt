@@ -3,7 +3,6 @@
 use super::fakes::{FailingSink, FaultyFeed};
 use super::packets::{FIRST, SECOND, datagram, ones_alone, sums, thousands};
 use engine_tests::small_studios::{six_and_forty_eight, stream, sum_of};
-use example_callers::{MemoryClock, MemoryFeed, MemorySink};
 use path_merge::Counts;
 use std::alloc::Global;
 use std::process::Abort;
@@ -11,6 +10,7 @@ use std::sync::Wait;
 use std::thread::Threads;
 use studio_config::StudioSpec;
 use studio_ends::open;
+use studio_io::{MemoryClock, MemoryFeed, MemorySink};
 use studio_rings::{Clock, Feed, Sink, WorkReport, run_workers};
 
 /// One stream on two paths, in packets of six sampling instants; its output is alike. None where memory was refused.

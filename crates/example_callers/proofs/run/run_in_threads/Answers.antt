@@ -7,8 +7,8 @@ use Rattle.studio_ends.specs.declared.stream_end.StreamEnd.{StreamEnd}
 use Rattle.studio_io.specs.Answers.{Answer}
 use Rattle.studio_rings.specs.Runs.{IsSettledRun}
 use Rattle.studio_rings.proofs.JobLemmas.{map_snoc}
-use Rattle.example_callers.specs.Told.{told_of}
-use Rattle.example_callers.specs.declared.memory_clock.MemoryClock.{MemoryClock}
+use Rattle.studio_io.specs.Memory.{told_of}
+use Rattle.studio_io.specs.declared.memory_clock.MemoryClock.{MemoryClock}
 use Rattle.example_callers.proofs.run.run_in_threads.Goals as goal
 
 same : (xs : List (List Answer)) → map (λ x. x) xs ≡ xs

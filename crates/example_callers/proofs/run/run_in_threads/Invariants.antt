@@ -1,6 +1,6 @@
 use Rattle.std.proofs.Common.{◌≡◌, length, map, take, drop}
-use Rattle.example_callers.specs.Told.{told_of}
-use Rattle.example_callers.specs.declared.memory_clock.MemoryClock.{MemoryClock}
+use Rattle.studio_io.specs.Memory.{told_of}
+use Rattle.studio_io.specs.declared.memory_clock.MemoryClock.{MemoryClock}
 use Rattle.example_callers.proofs.run.run_in_threads.Given as goal
 
 -- a feed for each list of datagrams so far

@@ -1,7 +1,7 @@
 //! Readings in memory.
 ghost use Rattle.std.specs.Prelude.{◌≡◌, drop};
 
-use studio_io::Clock;
+use crate::clock::Clock;
 
 /// Gives these readings, one after another, and tells so; then the last again and again, or 0 where there
 /// is none.

@@ -1,9 +1,9 @@
 //! Datagrams in memory.
 ghost use Rattle.std.specs.Prelude.{◌≡◌};
-ghost use Rattle.example_callers.specs.Told.{told_of};
+ghost use Rattle.studio_io.specs.Memory.{told_of};
 
+use crate::feed::{Feed, FeedAnswer};
 use std::marker::Model;
-use studio_io::{Feed, FeedAnswer};
 
 /// Gives these datagrams, one after another, and tells so. Of one that is longer than the buffer it
 /// gives the front. Contracts see it as the answers that it is to give.
@@ -17,7 +17,7 @@ pub struct MemoryFeed<'a> {
 impl<'a> Model for MemoryFeed<'a> {
     ghost use Rattle.std.specs.Prelude.{List, [], drop, if◌then◌else◌};
     ghost use Rattle.studio_io.specs.Answers.{Answer};
-    ghost use Rattle.example_callers.specs.Told.{told_of};
+    ghost use Rattle.studio_io.specs.Memory.{told_of};
 
     ghost Value = { List Answer };
 

@@ -1,10 +1,10 @@
 //! Datagrams kept in memory.
 ghost use Rattle.std.specs.Prelude.{◌≡◌, [], ◌∷◌, ◌++◌, Some, is_some, OnOk, IfSome};
-ghost use Rattle.example_callers.specs.Told.{octets_of};
+ghost use Rattle.studio_io.specs.Memory.{octets_of};
 
+use crate::sink::{SendAnswer, Sink};
 use std::alloc::{AllocError, Global};
 use std::marker::Model;
-use studio_io::{SendAnswer, Sink};
 
 /// Keeps the datagrams that it is handed, in order. One for which memory is refused fails at both
 /// addresses. Contracts see it as all that it was handed, and as None once a datagram was not kept.
@@ -17,7 +17,7 @@ pub struct MemorySink {
 
 impl Model for MemorySink {
     ghost use Rattle.std.specs.Prelude.{ℕ, List, Option, Some, None, if◌then◌else◌};
-    ghost use Rattle.example_callers.specs.Told.{octets_of};
+    ghost use Rattle.studio_io.specs.Memory.{octets_of};
 
     ghost Value = { Option (List (List ℕ)) };
 

@@ -3,9 +3,9 @@ use Rattle.std.proofs.Math.Nat.{min-le_right}
 use Rattle.std.proofs.Math.Seq.{drop-cons, take-append_seam}
 use Rattle.std.proofs.lemmas.List.{length-take-le, take_min}
 use Rattle.studio_io.specs.Answers.{Answer, Gives, Stops, Tells}
-use Rattle.example_callers.specs.Told.{told_of}
+use Rattle.studio_io.specs.Memory.{told_of}
 use Rattle.studio_io.specs.declared.feed.FeedAnswer.TheVariants.{Datagram}
-use Rattle.example_callers.proofs.memory_feed.MemoryFeedFeed.next.Goals as goal
+use Rattle.studio_io.proofs.memory_feed.MemoryFeedFeed.next.Goals as goal
 
 -- the octets that were copied to the front
 copied : (xs new rest : List ℕ) (count room : ℕ) → count ≡ min room (length xs) → room ≡ 2048 → new ≡ take count xs → take count (new ++ rest) ≡ take 2048 xs
