@@ -49,5 +49,5 @@ def save(name, words, before, lines):
     machine = f"{os.cpu_count()} processors, {model.group(1) if model else 'unknown'}"
     text = "\n".join([f"bench/{name} {words}".strip() + f", {day}, {machine}, load {before} to {load()}", "", *lines]) + "\n"
     print(text, end="")
-    with open(os.path.join(HERE, f"{name}-{day}.txt"), "w") as file:
+    with open(os.path.join(HERE, "results", f"{name}-{day}.txt"), "w") as file:
         file.write(text)
