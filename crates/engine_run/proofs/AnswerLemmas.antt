@@ -4,8 +4,8 @@ use Rattle.std.proofs.lemmas.Bool.Decides.{nat_tests}
 use Rattle.studio_io.specs.Answers.{Answer, Gives, Waits, Fails, Stops, Tells, reaches_end, told_datagrams}
 use Rattle.studio_io.specs.declared.feed.FeedAnswer.TheVariants.{Datagram, Nothing, Fault, Ended}
 use Rattle.studio_io.proofs.AnswerLemmas.{told-next}
-use Rattle.engine_run.specs.Takes.{GoesOn, HasCome, IsGiven}
-use Rattle.engine_run.specs.declared.feed_reader.Taker.{Taker}
+use Rattle.engine_run.specs.Intake.{GoesOn, HasCome, IsGiven}
+use Rattle.engine_run.specs.declared.feed_reader.FeedReader.{FeedReader}
 
 come-datagram : (all : List Answer) (k : ℕ) (left : List Answer) (octets : List ℕ) (before : List (List ℕ)) → HasCome all false k (Gives octets ∷ left) before → HasCome all false 0 left (before ++ octets ∷ [])
 unfolding reaches_end told_datagrams
@@ -32,17 +32,17 @@ come-end all k left before h = h.2
 
 module _ {F : Type 0} (feed_told : F → List Answer) where
   -- a feed that isn't asked
-  pub goes-nowhere : (taker : Taker F) → GoesOn feed_told taker taker []
-  goes-nowhere taker = λ all before given whole. subst (λ l. HasCome all taker.ended taker.in_a_row (feed_told taker.feed) l) (sym (append-nil before)) (given whole)
+  pub goes-nowhere : (reader : FeedReader F) → GoesOn feed_told reader reader []
+  goes-nowhere reader = λ all before given whole. subst (λ l. HasCome all reader.ended reader.in_a_row (feed_told reader.feed) l) (sym (append-nil before)) (given whole)
 
   -- one that gave these datagrams, and then those
-  pub goes-further : (a b c : Taker F) (first more : List (List ℕ)) → GoesOn feed_told a b first → GoesOn feed_told b c more → GoesOn feed_told a c (first ++ more)
+  pub goes-further : (a b c : FeedReader F) (first more : List (List ℕ)) → GoesOn feed_told a b first → GoesOn feed_told b c more → GoesOn feed_told a c (first ++ more)
   goes-further a b c first more h k = λ all before given. subst (IsGiven feed_told all c) (append_assoc before first more) (k all (before ++ first) (h all before given))
 
-  asked : (old : Taker F) (all : List Answer) (before : List (List ℕ)) → old.ended ≡ false → IsGiven feed_told all old before → reaches_end 0 all ≡ true → HasCome all false old.in_a_row (feed_told old.feed) before
+  asked : (old : FeedReader F) (all : List Answer) (before : List (List ℕ)) → old.ended ≡ false → IsGiven feed_told all old before → reaches_end 0 all ≡ true → HasCome all false old.in_a_row (feed_told old.feed) before
   asked old all before yet given whole = subst (λ b. HasCome all b old.in_a_row (feed_told old.feed) before) yet (given whole)
 
-  pub goes-datagram : (old new : Taker F) (buf : List ℕ) (n : ℕ) → old.ended ≡ false → new.ended ≡ false → new.in_a_row ≡ 0 → Tells (feed_told old.feed) buf (Datagram n) (feed_told new.feed)
+  pub goes-datagram : (old new : FeedReader F) (buf : List ℕ) (n : ℕ) → old.ended ≡ false → new.ended ≡ false → new.in_a_row ≡ 0 → Tells (feed_told old.feed) buf (Datagram n) (feed_told new.feed)
       → GoesOn feed_told old new (take n buf ∷ [])
   goes-datagram old new buf n yet still row tells = λ all before given whole.
       let come = asked old all before yet given whole in
@@ -51,7 +51,7 @@ module _ {F : Type 0} (feed_told : F → List Answer) where
       (subst (λ k. HasCome all false k (feed_told new.feed) (before ++ take n buf ∷ [])) (sym row)
       (come-datagram all old.in_a_row (feed_told new.feed) (take n buf) before (subst (λ l. HasCome all false old.in_a_row l before) next come)))
 
-  pub goes-nothing : (old new : Taker F) (buf : List ℕ) → old.ended ≡ false → new.ended ≡ false → new.in_a_row ≡ 0 → Tells (feed_told old.feed) buf Nothing (feed_told new.feed)
+  pub goes-nothing : (old new : FeedReader F) (buf : List ℕ) → old.ended ≡ false → new.ended ≡ false → new.in_a_row ≡ 0 → Tells (feed_told old.feed) buf Nothing (feed_told new.feed)
       → GoesOn feed_told old new []
   goes-nothing old new buf yet still row tells = λ all before given whole.
       let come = asked old all before yet given whole in
@@ -60,7 +60,7 @@ module _ {F : Type 0} (feed_told : F → List Answer) where
       (subst (λ k. HasCome all false k (feed_told new.feed) (before ++ [])) (sym row)
       (come-nothing all old.in_a_row (feed_told new.feed) before (subst (λ l. HasCome all false old.in_a_row l before) next come)))
 
-  pub goes-fault : (old new : Taker F) (buf : List ℕ) → old.ended ≡ false → new.ended ≡ false → old.in_a_row < 999 → new.in_a_row ≡ old.in_a_row + 1
+  pub goes-fault : (old new : FeedReader F) (buf : List ℕ) → old.ended ≡ false → new.ended ≡ false → old.in_a_row < 999 → new.in_a_row ≡ old.in_a_row + 1
       → Tells (feed_told old.feed) buf Fault (feed_told new.feed) → GoesOn feed_told old new []
   goes-fault old new buf yet still more row tells = λ all before given whole.
       let come = asked old all before yet given whole in
@@ -69,7 +69,7 @@ module _ {F : Type 0} (feed_told : F → List Answer) where
       (subst (λ k. HasCome all false k (feed_told new.feed) (before ++ [])) (sym row)
       (come-fault all old.in_a_row (feed_told new.feed) before (λ e. absurd (omega (arith, more, e))) (subst (λ l. HasCome all false old.in_a_row l before) next come)))
 
-  pub goes-last : (old new : Taker F) (buf : List ℕ) → old.ended ≡ false → new.ended ≡ true → 999 ≤ old.in_a_row
+  pub goes-last : (old new : FeedReader F) (buf : List ℕ) → old.ended ≡ false → new.ended ≡ true → 999 ≤ old.in_a_row
       → Tells (feed_told old.feed) buf Fault (feed_told new.feed) → GoesOn feed_told old new []
   goes-last old new buf yet still row tells = λ all before given whole.
       let come = asked old all before yet given whole in
@@ -77,7 +77,7 @@ module _ {F : Type 0} (feed_told : F → List Answer) where
       subst (λ b. HasCome all b new.in_a_row (feed_told new.feed) (before ++ [])) (sym still)
       (come-last all (feed_told new.feed) before (subst (λ k. HasCome all false k (Fails ∷ feed_told new.feed) before) (let few = come.0 in omega (arith, row, few)) (subst (λ l. HasCome all false old.in_a_row l before) next come)))
 
-  pub goes-end : (old new : Taker F) (buf : List ℕ) → old.ended ≡ false → new.ended ≡ true
+  pub goes-end : (old new : FeedReader F) (buf : List ℕ) → old.ended ≡ false → new.ended ≡ true
       → Tells (feed_told old.feed) buf Ended (feed_told new.feed) → GoesOn feed_told old new []
   goes-end old new buf yet still tells = λ all before given whole.
       let come = asked old all before yet given whole in

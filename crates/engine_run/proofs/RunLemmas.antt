@@ -17,11 +17,11 @@ use Rattle.studio_io.specs.Sinks.{Hands}
 use Rattle.studio_io.specs.declared.report.WorkReport.{WorkReport}
 use Rattle.engine_run.specs.Rounds.{AreNext, AreRounds, Round, answers_of, datagrams_on, events_by, events_of, time_by}
 use Rattle.engine_run.specs.Runs.{IsDone, IsSettledRun, IsTurned, IsUnderWay}
-use Rattle.engine_run.specs.Sends.{HasSent}
-use Rattle.engine_run.specs.Takes.{AllEnded, HasCome, HaveBegun, HaveGiven, TakesAll}
-use Rattle.engine_run.specs.Taps.{Closed, Heard, Hears, heard_by}
-use Rattle.engine_run.specs.declared.state.Desk.{Desk}
-use Rattle.engine_run.specs.declared.feed_reader.Taker.{Taker}
+use Rattle.engine_run.specs.Output.{HasSent}
+use Rattle.engine_run.specs.Intake.{AllEnded, HasCome, HaveBegun, HaveGiven, TakesAll}
+use Rattle.engine_run.specs.Observers.{Closed, Heard, Hears, heard_by}
+use Rattle.engine_run.specs.declared.state.RunState.{RunState}
+use Rattle.engine_run.specs.declared.feed_reader.FeedReader.{FeedReader}
 use Rattle.engine_run.proofs.RoundLemmas.{answers-last, answers-more, last-takes, next-more, next-none, one-round, rounds-front, rounds-more, rounds-open, time-arrivals, time-more}
 use Rattle.engine_run.proofs.TakeLemmas.{given-more, given-none, given-turned}
 use Rattle.engine_run.proofs.TellLemmas.{adds_more, adds_none, heard_turned, hears_close, hears_on}
@@ -47,28 +47,28 @@ count-more old mid xs ys h k few =
 module _ {F C K T : Type 0} (feed_told : F → List Answer) (clock_told : C → List ℤ) (sink_handed : K → Option (List (List ℕ))) (tap_heard : T → Option (List Heard))
     (studio : Studio) (all : List (List (List Answer))) (clock : List ℤ) (before : Option (List (List ℕ))) (earlier : Option (List Heard)) where
   -- before the first round
-  pub run-begins : (feeds : List (Vec F Global)) (desk : Desk F C K T) → all ≡ map (λ (own : Vec F Global). map feed_told own.items) feeds → clock ≡ clock_told desk.clock → before ≡ sink_handed desk.sink → earlier ≡ tap_heard desk.tap
-      → HasSession studio desk.engine [] [] → HaveBegun feeds desk.takers.items → desk.counts.blocks ≡ 0 → IsUnderWay feed_told clock_told sink_handed tap_heard studio all clock before earlier desk
-  run-begins feeds desk all_is clock_is before_is earlier_is s begun none = record {
+  pub run-begins : (feeds : List (Vec F Global)) (state : RunState F C K T) → all ≡ map (λ (own : Vec F Global). map feed_told own.items) feeds → clock ≡ clock_told state.clock → before ≡ sink_handed state.sink → earlier ≡ tap_heard state.tap
+      → HasSession studio state.engine [] [] → HaveBegun feeds state.readers.items → state.counts.blocks ≡ 0 → IsUnderWay feed_told clock_told sink_handed tap_heard studio all clock before earlier state
+  run-begins feeds state all_is clock_is before_is earlier_is s begun none = record {
     rounds = [];
     datagrams = [];
     stands = s;
     time = s.time;
     bounded = tt;
     clocked = λ later next. subst (λ l. AreNext l later) (sym clock_is) next;
-    given = subst (λ l. HaveGiven feed_told l desk.takers.items []) (sym all_is) (given-none feed_told feeds desk.takers.items begun);
+    given = subst (λ l. HaveGiven feed_told l state.readers.items []) (sym all_is) (given-none feed_told feeds state.readers.items begun);
     count = λ few. none;
-    handed = subst (λ o. Hands o [] (sink_handed desk.sink)) (sym before_is) (adds_none (sink_handed desk.sink));
-    heard = subst (λ o. Hears o [] (tap_heard desk.tap)) (sym earlier_is) (adds_none (tap_heard desk.tap));
+    handed = subst (λ o. Hands o [] (sink_handed state.sink)) (sym before_is) (adds_none (sink_handed state.sink));
+    heard = subst (λ o. Hears o [] (tap_heard state.tap)) (sym earlier_is) (adds_none (tap_heard state.tap));
   }
 
   -- a reading more
-  pub turn-more : (old new : Desk F C K T) (h : IsUnderWay feed_told clock_told sink_handed tap_heard studio all clock before earlier old) (answer now : ℤ)
+  pub turn-more : (old new : RunState F C K T) (h : IsUnderWay feed_told clock_told sink_handed tap_heard studio all clock before earlier old) (answer now : ℤ)
       → now ≡ time_with old.engine.time answer → TellsTime (clock_told old.clock) answer (clock_told new.clock)
       → HasSent studio new.engine (turned old.engine.time now (events_by studio.open_at h.rounds)) h.datagrams (sink_handed old.sink) (sink_handed new.sink) old.counts.blocks new.counts.blocks
-      → new.engine.time ≡ now → new.takers.items ≡ old.takers.items → new.tap ≡ old.tap
+      → new.engine.time ≡ now → new.readers.items ≡ old.readers.items → new.tap ≡ old.tap
       → IsTurned feed_told clock_told sink_handed tap_heard studio all clock before earlier new
-  turn-more old new h answer now now_is tells sent there takers tap =
+  turn-more old new h answer now now_is tells sent there readers tap =
       let round : Round = record { answer = answer; arrivals = [] } in
       let before_it = events_by studio.open_at h.rounds in
       let turn = turned old.engine.time now before_it in
@@ -81,7 +81,7 @@ module _ {F C K T : Type 0} (feed_told : F → List Answer) (clock_told : C → 
           time = there ∙ (now_is ∙ (ap (λ t. time_with t answer) h.time ∙ sym (time-more studio.open_at h.rounds round)));
           bounded = rounds-more h.rounds round h.bounded (record { arrive = tt; few = λ stream path. omega arith }, tt);
           clocked = λ later next. subst (AreNext clock) (answers-more h.rounds answer [] later) (h.clocked (answer ∷ later) (next-more (clock_told old.clock) (clock_told new.clock) answer later tells next));
-          given = subst (HaveGiven feed_told all new.takers.items) events (subst (λ l. HaveGiven feed_told all l turn) (sym takers) (given-turned feed_told all old.takers.items old.engine.time now before_it h.given));
+          given = subst (HaveGiven feed_told all new.readers.items) events (subst (λ l. HaveGiven feed_told all l turn) (sym readers) (given-turned feed_told all old.readers.items old.engine.time now before_it h.given));
           count = count-more old.counts.blocks new.counts.blocks h.datagrams sent.more h.count sent.count;
           handed = adds_more before (sink_handed old.sink) (sink_handed new.sink) h.datagrams sent.more h.handed sent.handed;
           heard = subst (λ l. Hears earlier (heard_by studio.open_at l) (tap_heard new.tap)) events
@@ -94,7 +94,7 @@ module _ {F C K T : Type 0} (feed_told : F → List Answer) (clock_told : C → 
       }
 
   -- a tap that looked was told nothing
-  pub looked : (old : Desk F C K T) (tap : T) → IsTurned feed_told clock_told sink_handed tap_heard studio all clock before earlier old → Hears (tap_heard old.tap) [] (tap_heard tap)
+  pub looked : (old : RunState F C K T) (tap : T) → IsTurned feed_told clock_told sink_handed tap_heard studio all clock before earlier old → Hears (tap_heard old.tap) [] (tap_heard tap)
       → IsTurned feed_told clock_told sink_handed tap_heard studio all clock before earlier (record old { tap = tap })
   looked old tap h none =
       let run = h.run in
@@ -118,8 +118,8 @@ module _ {F C K T : Type 0} (feed_told : F → List Answer) (clock_told : C → 
       }
 
   -- what arrived since the last
-  pub take-more : (old new : Desk F C K T) (h : IsTurned feed_told clock_told sink_handed tap_heard studio all clock before earlier old) (olds news : List (Vec (Taker F) Global)) (count : ℕ)
-      → old.takers.items ≡ olds → new.takers.items ≡ news → new.clock ≡ old.clock → new.sink ≡ old.sink → new.counts ≡ old.counts
+  pub take-more : (old new : RunState F C K T) (h : IsTurned feed_told clock_told sink_handed tap_heard studio all clock before earlier old) (olds news : List (Vec (FeedReader F) Global)) (count : ℕ)
+      → old.readers.items ≡ olds → new.readers.items ≡ news → new.clock ≡ old.clock → new.sink ≡ old.sink → new.counts ≡ old.counts
       → TakesAll feed_told studio new.engine (events_by studio.open_at h.run.rounds) h.run.datagrams olds news (tap_heard old.tap) (tap_heard new.tap) count
       → IsUnderWay feed_told clock_told sink_handed tap_heard studio all clock before earlier new
   take-more old new h olds news count olds_is news_is clock_is sink_is counts_is t =
@@ -137,7 +137,7 @@ module _ {F C K T : Type 0} (feed_told : F → List Answer) (clock_told : C → 
         time = t.stands.time ∙ (time-arrivals studio.open_at before_it t.arrivals t.arrive ∙ (sym run.stands.time ∙ (run.time ∙ times)));
         bounded = rounds-more h.front round (rounds-front h.front (last ∷ []) (subst AreRounds h.last run.bounded)) (record { arrive = t.arrive; few = t.few }, tt);
         clocked = λ later next. subst (λ l. AreNext clock (l ++ later)) answers (run.clocked later (subst (λ (c : C). AreNext (clock_told c) later) clock_is next));
-        given = subst (HaveGiven feed_told all new.takers.items) events (subst (λ l. HaveGiven feed_told all l (before_it ++ t.arrivals)) (sym news_is)
+        given = subst (HaveGiven feed_told all new.readers.items) events (subst (λ l. HaveGiven feed_told all l (before_it ++ t.arrivals)) (sym news_is)
             (given-more feed_told studio new.engine all olds news before_it run.datagrams (tap_heard old.tap) (tap_heard new.tap) count
             (subst (λ l. HaveGiven feed_told all l before_it) olds_is run.given) t));
         count = λ few. ap (λ counts. counts.blocks) counts_is ∙ run.count few;
@@ -147,7 +147,7 @@ module _ {F C K T : Type 0} (feed_told : F → List Answer) (clock_told : C → 
       }
 
   -- the end
-  pub run-ends : (old new : Desk F C K T) (mid : EngineState) (h : IsUnderWay feed_told clock_told sink_handed tap_heard studio all clock before earlier old) → AllEnded old.takers.items
+  pub run-ends : (old new : RunState F C K T) (mid : EngineState) (h : IsUnderWay feed_told clock_told sink_handed tap_heard studio all clock before earlier old) → AllEnded old.readers.items
       → HasSession studio mid (shut old.engine.closed (events_by studio.open_at h.rounds)) h.datagrams
       → ((events : List TraceEvent) → HasSession studio mid events h.datagrams → HasSent studio new.engine events h.datagrams (sink_handed old.sink) (sink_handed new.sink) old.counts.blocks new.counts.blocks)
       → Hears (tap_heard old.tap) (Closed mid.time ∷ []) (tap_heard new.tap) → new.engine.settled ≡ true → HasAllMarks new.engine → IsDone sink_handed tap_heard studio all clock before earlier new
@@ -165,26 +165,26 @@ module _ {F C K T : Type 0} (feed_told : F → List Answer) (clock_told : C → 
         clocked = subst (AreNext clock) (append-nil (answers_of h.rounds)) (h.clocked [] (next-none (clock_told old.clock)));
         arrived = λ stream path own told at there whole.
             let found = h.given.each stream own at in
-            let taker = found.2 path told there in
-            let over = ended stream found.0 found.1 path taker.0 taker.1 in
-            subst (λ b. HasCome told b taker.0.in_a_row (feed_told taker.0.feed) (datagrams_on stream path (events_by studio.open_at h.rounds))) over (taker.2 whole);
+            let reader = found.2 path told there in
+            let over = ended stream found.0 found.1 path reader.0 reader.1 in
+            subst (λ b. HasCome told b reader.0.in_a_row (feed_told reader.0.feed) (datagrams_on stream path (events_by studio.open_at h.rounds))) over (reader.2 whole);
         count = count-more old.counts.blocks new.counts.blocks h.datagrams sent.more h.count sent.count;
         handed = adds_more before (sink_handed old.sink) (sink_handed new.sink) h.datagrams sent.more h.handed sent.handed;
         heard = hears_close studio.open_at (events_by studio.open_at h.rounds) earlier (tap_heard old.tap) (tap_heard new.tap) mid.time closed.time h.heard told;
       }
 
   -- and its report
-  pub run-settled : (desk : Desk F C K T) (report : WorkReport) (after : Option (List (List ℕ))) (later : Option (List Heard)) (d : IsDone sink_handed tap_heard studio all clock before earlier desk)
-      → AreCounts studio (events_of studio d.rounds) report.streams.items → report.blocks ≡ desk.counts.blocks → after ≡ sink_handed desk.sink → later ≡ tap_heard desk.tap
+  pub run-settled : (state : RunState F C K T) (report : WorkReport) (after : Option (List (List ℕ))) (later : Option (List Heard)) (d : IsDone sink_handed tap_heard studio all clock before earlier state)
+      → AreCounts studio (events_of studio d.rounds) report.streams.items → report.blocks ≡ state.counts.blocks → after ≡ sink_handed state.sink → later ≡ tap_heard state.tap
       → IsSettledRun studio all clock report before after earlier later
-  run-settled desk report after later d counts blocks after_is later_is = record {
+  run-settled state report after later d counts blocks after_is later_is = record {
     rounds = d.rounds;
     bounded = d.bounded;
     clocked = d.clocked;
     arrived = d.arrived;
     lawful = d.stands.lawful;
     datagrams = d.datagrams;
-    given = first_all studio (feeds_of studio (events_of studio d.rounds)) d.datagrams d.stands.given.first (settled_ready studio desk.engine (events_of studio d.rounds) d.datagrams d.stands d.settled);
+    given = first_all studio (feeds_of studio (events_of studio d.rounds)) d.datagrams d.stands.given.first (settled_ready studio state.engine (events_of studio d.rounds) d.datagrams d.stands d.settled);
     counts = counts;
     count = λ few. blocks ∙ d.count few;
     handed = subst (Hands before d.datagrams) (sym after_is) d.handed;

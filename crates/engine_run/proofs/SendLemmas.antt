@@ -7,7 +7,7 @@ use Rattle.studio_engine.specs.Engine.{EngineState}
 use Rattle.studio_engine.specs.Session.{Gives, HasSession, turned}
 use Rattle.studio_engine.proofs.EngineLemmas.{turned_same}
 use Rattle.studio_io.specs.Sinks.{Hands}
-use Rattle.engine_run.specs.Sends.{HasSent}
+use Rattle.engine_run.specs.Output.{HasSent}
 use Rattle.engine_run.proofs.TellLemmas.{adds_more, adds_none}
 
 -- one turn after another, to the same reading

@@ -14,9 +14,9 @@ use Rattle.studio_engine.specs.Engine.{EngineState}
 use Rattle.studio_engine.specs.Session.{HasSession, turned}
 use Rattle.studio_io.specs.Answers.{Answer, reaches_end, told_datagrams}
 use Rattle.engine_run.specs.Rounds.{arrivals_on, datagrams_on}
-use Rattle.engine_run.specs.Takes.{AllEnded, GoesOn, HaveBegun, HaveEnded, HaveGiven, IsGiven, Takes, TakesAll, TakesStream, new_taker}
-use Rattle.engine_run.specs.Taps.{Heard, Hears, heard_by}
-use Rattle.engine_run.specs.declared.feed_reader.Taker.{Taker}
+use Rattle.engine_run.specs.Intake.{AllEnded, GoesOn, HaveBegun, HaveEnded, HaveGiven, IsGiven, Takes, TakesAll, TakesStream, new_taker}
+use Rattle.engine_run.specs.Observers.{Heard, Hears, heard_by}
+use Rattle.engine_run.specs.declared.feed_reader.FeedReader.{FeedReader}
 use Rattle.engine_run.proofs.AnswerLemmas.{goes-further, goes-nowhere}
 use Rattle.engine_run.proofs.RoundLemmas.{are_arrivals, arrivals-append, datagrams-append, datagrams-turned, more_beside, more_elsewhere, more_here, none_more, none_before}
 use Rattle.engine_run.proofs.TellLemmas.{adds_none, hears_more}
@@ -47,39 +47,39 @@ begun-more v taken news x y rest left all h rest_is news_is y_is =
 
 module _ {F : Type 0} where
   -- the first so many feeds of a stream have ended, or those of the first streams
-  abbrev pub FirstEnded : List (Taker F) → ℕ → Type 0
-  FirstEnded takers count = (path : ℕ) (taker : Taker F) → path < count → slice_get takers path ≡ Some taker → taker.ended ≡ true
+  abbrev pub FirstEnded : List (FeedReader F) → ℕ → Type 0
+  FirstEnded readers count = (path : ℕ) (reader : FeedReader F) → path < count → slice_get readers path ≡ Some reader → reader.ended ≡ true
 
-  abbrev pub FirstAllEnded : List (Vec (Taker F) Global) → ℕ → Type 0
-  FirstAllEnded streams count = (stream : ℕ) (own : Vec (Taker F) Global) → stream < count → slice_get streams stream ≡ Some own → HaveEnded own.items
+  abbrev pub FirstAllEnded : List (Vec (FeedReader F) Global) → ℕ → Type 0
+  FirstAllEnded streams count = (stream : ℕ) (own : Vec (FeedReader F) Global) → stream < count → slice_get streams stream ≡ Some own → HaveEnded own.items
 
-  pub ended-none : (takers : List (Taker F)) → FirstEnded takers 0
-  ended-none takers = λ path taker h at. absurd (omega (arith, h))
+  pub ended-none : (readers : List (FeedReader F)) → FirstEnded readers 0
+  ended-none readers = λ path reader h at. absurd (omega (arith, h))
 
-  pub ended-more : (takers : List (Taker F)) (i : ℕ) (d : Taker F) → FirstEnded takers i → (get_or takers i d).ended ≡ true → FirstEnded takers (i + 1)
-  ended-more takers i d before over = λ path taker h at. elim (cases_eq path i) [
-    | inl e ↦ subst (λ (t : Taker F). t.ended ≡ true) (same_at takers i d taker (subst (λ p. slice_get takers p ≡ Some taker) e at)) over
-    | inr ne ↦ before path taker (omega (arith, h, ne)) at
+  pub ended-more : (readers : List (FeedReader F)) (i : ℕ) (d : FeedReader F) → FirstEnded readers i → (get_or readers i d).ended ≡ true → FirstEnded readers (i + 1)
+  ended-more readers i d before over = λ path reader h at. elim (cases_eq path i) [
+    | inl e ↦ subst (λ (t : FeedReader F). t.ended ≡ true) (same_at readers i d reader (subst (λ p. slice_get readers p ≡ Some reader) e at)) over
+    | inr ne ↦ before path reader (omega (arith, h, ne)) at
   ]
 
-  pub ended-all : (takers : List (Taker F)) (i : ℕ) → FirstEnded takers i → length takers ≤ i → HaveEnded takers
-  ended-all takers i before all = λ path taker at. let within : path < length takers = slice_get_within takers path taker at in before path taker (omega (arith, within, all)) at
+  pub ended-all : (readers : List (FeedReader F)) (i : ℕ) → FirstEnded readers i → length readers ≤ i → HaveEnded readers
+  ended-all readers i before all = λ path reader at. let within : path < length readers = slice_get_within readers path reader at in before path reader (omega (arith, within, all)) at
 
-  pub all-ended-none : (streams : List (Vec (Taker F) Global)) → FirstAllEnded streams 0
+  pub all-ended-none : (streams : List (Vec (FeedReader F) Global)) → FirstAllEnded streams 0
   all-ended-none streams = λ stream own h at. absurd (omega (arith, h))
 
-  pub all-ended-more : (streams : List (Vec (Taker F) Global)) (i : ℕ) (d : Vec (Taker F) Global) → FirstAllEnded streams i → HaveEnded (get_or streams i d).items → FirstAllEnded streams (i + 1)
+  pub all-ended-more : (streams : List (Vec (FeedReader F) Global)) (i : ℕ) (d : Vec (FeedReader F) Global) → FirstAllEnded streams i → HaveEnded (get_or streams i d).items → FirstAllEnded streams (i + 1)
   all-ended-more streams i d before over = λ stream own h at. elim (cases_eq stream i) [
-    | inl e ↦ subst (λ (v : Vec (Taker F) Global). HaveEnded v.items) (same_at streams i d own (subst (λ s. slice_get streams s ≡ Some own) e at)) over
+    | inl e ↦ subst (λ (v : Vec (FeedReader F) Global). HaveEnded v.items) (same_at streams i d own (subst (λ s. slice_get streams s ≡ Some own) e at)) over
     | inr ne ↦ before stream own (omega (arith, h, ne)) at
   ]
 
-  pub all-ended-all : (streams : List (Vec (Taker F) Global)) (i : ℕ) → FirstAllEnded streams i → length streams ≤ i → AllEnded streams
+  pub all-ended-all : (streams : List (Vec (FeedReader F) Global)) (i : ℕ) → FirstAllEnded streams i → length streams ≤ i → AllEnded streams
   all-ended-all streams i before all = λ stream own at. let within : stream < length streams = slice_get_within streams stream own at in before stream own (omega (arith, within, all)) at
 
 module _ {F : Type 0} (feed_told : F → List Answer) where
   -- a feed that gave nothing
-  pub takes-none : (studio : Studio) (engine : EngineState) (events : List TraceEvent) (datagrams : List (List ℕ)) (stream path : ℕ) (old new : Taker F) (o : Option (List Heard)) (most : ℕ)
+  pub takes-none : (studio : Studio) (engine : EngineState) (events : List TraceEvent) (datagrams : List (List ℕ)) (stream path : ℕ) (old new : FeedReader F) (o : Option (List Heard)) (most : ℕ)
       → HasSession studio engine events datagrams → GoesOn feed_told old new [] → Takes feed_told studio engine events datagrams stream path old new o o most
   takes-none studio engine events datagrams stream path old new o most s goes = record {
     given = [];
@@ -90,7 +90,7 @@ module _ {F : Type 0} (feed_told : F → List Answer) where
   }
 
   -- one answer more
-  pub takes-more : (studio : Studio) (mid new : EngineState) (events : List TraceEvent) (datagrams : List (List ℕ)) (stream path : ℕ) (a b c : Taker F) (o p q : Option (List Heard)) (most : ℕ)
+  pub takes-more : (studio : Studio) (mid new : EngineState) (events : List TraceEvent) (datagrams : List (List ℕ)) (stream path : ℕ) (a b c : FeedReader F) (o p q : Option (List Heard)) (most : ℕ)
       → (t : Takes feed_told studio mid events datagrams stream path a b o p most) → Takes feed_told studio new (events ++ arrivals_on stream path t.given) datagrams stream path b c p q 1
       → Takes feed_told studio new events datagrams stream path a c o q (most + 1)
   takes-more studio mid new events datagrams stream path a b c o p q most t one = record {
@@ -104,14 +104,14 @@ module _ {F : Type 0} (feed_told : F → List Answer) where
   }
 
   -- fewer than so many
-  pub takes-within : (studio : Studio) (engine : EngineState) (events : List TraceEvent) (datagrams : List (List ℕ)) (stream path : ℕ) (old new : Taker F) (o p : Option (List Heard)) (n most : ℕ)
+  pub takes-within : (studio : Studio) (engine : EngineState) (events : List TraceEvent) (datagrams : List (List ℕ)) (stream path : ℕ) (old new : FeedReader F) (o p : Option (List Heard)) (n most : ℕ)
       → n ≤ most → Takes feed_told studio engine events datagrams stream path old new o p n → Takes feed_told studio engine events datagrams stream path old new o p most
   takes-within studio engine events datagrams stream path old new o p n most h t = record { given = t.given; few = (let f = t.few in omega (arith, f, h)); stands = t.stands; heard = t.heard; goes_on = t.goes_on }
 
   -- no feed of a stream yet
-  pub stream-none : (studio : Studio) (engine : EngineState) (events : List TraceEvent) (datagrams : List (List ℕ)) (stream : ℕ) (takers : List (Taker F)) (o : Option (List Heard))
-      → HasSession studio engine events datagrams → TakesStream feed_told studio engine events datagrams stream takers takers o o 0
-  stream-none studio engine events datagrams stream takers o s = record {
+  pub stream-none : (studio : Studio) (engine : EngineState) (events : List TraceEvent) (datagrams : List (List ℕ)) (stream : ℕ) (readers : List (FeedReader F)) (o : Option (List Heard))
+      → HasSession studio engine events datagrams → TakesStream feed_told studio engine events datagrams stream readers readers o o 0
+  stream-none studio engine events datagrams stream readers o s = record {
     arrivals = [];
     stands = subst (λ l. HasSession studio engine l datagrams) (sym (append-nil events)) s;
     heard = adds_none o;
@@ -119,11 +119,11 @@ module _ {F : Type 0} (feed_told : F → List Answer) where
     few = λ path. omega arith;
     later = λ path h. refl;
     others = λ t path ne. refl;
-    rest = λ path taker h at. at;
+    rest = λ path reader h at. at;
     each = λ path old at. (old, at, goes-nowhere feed_told old);
   }
 
-  module _ (studio : Studio) (mid new : EngineState) (events : List TraceEvent) (datagrams : List (List ℕ)) (stream i : ℕ) (olds now : List (Taker F)) (d moved : Taker F) (o p q : Option (List Heard))
+  module _ (studio : Studio) (mid new : EngineState) (events : List TraceEvent) (datagrams : List (List ℕ)) (stream i : ℕ) (olds now : List (FeedReader F)) (d moved : FeedReader F) (o p q : Option (List Heard))
       (before : TakesStream feed_told studio mid events datagrams stream olds now o p i) (within : i < length now)
       (t : Takes feed_told studio new (events ++ before.arrivals) datagrams stream i (get_or now i d) moved p q 64) where
     here : (path : ℕ) → path ≡ i → datagrams_on stream path (before.arrivals ++ arrivals_on stream i t.given) ≡ t.given
@@ -145,7 +145,7 @@ module _ {F : Type 0} (feed_told : F → List Answer) where
       ];
       later = λ path h. beside path (past i path h) ∙ before.later path (omega (arith, h));
       others = λ s path ne. more_elsewhere stream i s path before.arrivals t.given ne ∙ before.others s path ne;
-      rest = λ path taker h at. set_apart now i path moved taker (past i path h) (before.rest path taker (omega (arith, h)) at);
+      rest = λ path reader h at. set_apart now i path moved reader (past i path h) (before.rest path reader (omega (arith, h)) at);
       each = λ path old at. elim (cases_eq path i) [
         | inl e ↦
             let there : slice_get now i ≡ Some old = before.rest i old (omega arith) (subst (λ p. slice_get olds p ≡ Some old) e at) in
@@ -161,9 +161,9 @@ module _ {F : Type 0} (feed_told : F → List Answer) where
     }
 
   -- no stream's feeds yet
-  pub all-none : (studio : Studio) (engine : EngineState) (events : List TraceEvent) (datagrams : List (List ℕ)) (takers : List (Vec (Taker F) Global)) (o : Option (List Heard))
-      → HasSession studio engine events datagrams → TakesAll feed_told studio engine events datagrams takers takers o o 0
-  all-none studio engine events datagrams takers o s = record {
+  pub all-none : (studio : Studio) (engine : EngineState) (events : List TraceEvent) (datagrams : List (List ℕ)) (readers : List (Vec (FeedReader F) Global)) (o : Option (List Heard))
+      → HasSession studio engine events datagrams → TakesAll feed_told studio engine events datagrams readers readers o o 0
+  all-none studio engine events datagrams readers o s = record {
     arrivals = [];
     stands = subst (λ l. HasSession studio engine l datagrams) (sym (append-nil events)) s;
     heard = adds_none o;
@@ -174,7 +174,7 @@ module _ {F : Type 0} (feed_told : F → List Answer) where
     each = λ stream own at. (own, at, λ path old there. (old, there, goes-nowhere feed_told old));
   }
 
-  module _ (studio : Studio) (mid new : EngineState) (events : List TraceEvent) (datagrams : List (List ℕ)) (i : ℕ) (olds now : List (Vec (Taker F) Global)) (d moved : Vec (Taker F) Global) (o p q : Option (List Heard))
+  module _ (studio : Studio) (mid new : EngineState) (events : List TraceEvent) (datagrams : List (List ℕ)) (i : ℕ) (olds now : List (Vec (FeedReader F) Global)) (d moved : Vec (FeedReader F) Global) (o p q : Option (List Heard))
       (before : TakesAll feed_told studio mid events datagrams olds now o p i) (within : i < length now)
       (t : TakesStream feed_told studio new (events ++ before.arrivals) datagrams i (get_or now i d).items moved.items p q (length (get_or now i d).items)) where
     own : (stream path : ℕ) → stream ≡ i → datagrams_on stream path (before.arrivals ++ t.arrivals) ≡ datagrams_on i path t.arrivals
@@ -195,19 +195,19 @@ module _ {F : Type 0} (feed_told : F → List Answer) where
         | inr ne ↦ let f = before.few stream path in let g = ap length (other stream path ne) in omega (arith, f, g)
       ];
       later = λ stream path h. other stream path (past i stream h) ∙ before.later stream path (omega (arith, h));
-      rest = λ stream takers h at. set_apart now i stream moved takers (past i stream h) (before.rest stream takers (omega (arith, h)) at);
-      each = λ stream takers at. elim (cases_eq stream i) [
+      rest = λ stream readers h at. set_apart now i stream moved readers (past i stream h) (before.rest stream readers (omega (arith, h)) at);
+      each = λ stream readers at. elim (cases_eq stream i) [
         | inl e ↦
-            let there : slice_get now i ≡ Some takers = before.rest i takers (omega arith) (subst (λ s. slice_get olds s ≡ Some takers) e at) in
-            let is : get_or now i d ≡ takers = same_at now i d takers there in (
+            let there : slice_get now i ≡ Some readers = before.rest i readers (omega arith) (subst (λ s. slice_get olds s ≡ Some readers) e at) in
+            let is : get_or now i d ≡ readers = same_at now i d readers there in (
               moved,
               subst (λ s. slice_get (set now i moved) s ≡ Some moved) (sym e) (set_here now i moved within),
               λ path old found.
-                  let more = t.each path old (subst (λ (v : Vec (Taker F) Global). slice_get v.items path ≡ Some old) (sym is) found) in
+                  let more = t.each path old (subst (λ (v : Vec (FeedReader F) Global). slice_get v.items path ≡ Some old) (sym is) found) in
                   (more.0, more.1, subst (GoesOn feed_told old more.0) (sym (own stream path e)) more.2),
             )
         | inr ne ↦
-            let found = before.each stream takers at in (
+            let found = before.each stream readers at in (
               found.0,
               set_apart now i stream moved found.0 ne found.1,
               λ path old there.
@@ -218,9 +218,9 @@ module _ {F : Type 0} (feed_told : F → List Answer) where
     }
 
   -- what the feeds gave stays so after a reading
-  pub given-turned : (all : List (List (List Answer))) (takers : List (Vec (Taker F) Global)) (old new : ℤ) (events : List TraceEvent)
-      → HaveGiven feed_told all takers events → HaveGiven feed_told all takers (turned old new events)
-  given-turned all takers old new events h = record {
+  pub given-turned : (all : List (List (List Answer))) (readers : List (Vec (FeedReader F) Global)) (old new : ℤ) (events : List TraceEvent)
+      → HaveGiven feed_told all readers events → HaveGiven feed_told all readers (turned old new events)
+  given-turned all readers old new events h = record {
     each = λ stream own at.
         let found = h.each stream own at in (
           found.0,
@@ -232,7 +232,7 @@ module _ {F : Type 0} (feed_told : F → List Answer) where
   }
 
   -- and goes on by what was taken
-  pub given-more : (studio : Studio) (engine : EngineState) (all : List (List (List Answer))) (olds news : List (Vec (Taker F) Global)) (events : List TraceEvent) (datagrams : List (List ℕ)) (o p : Option (List Heard)) (count : ℕ)
+  pub given-more : (studio : Studio) (engine : EngineState) (all : List (List (List Answer))) (olds news : List (Vec (FeedReader F) Global)) (events : List TraceEvent) (datagrams : List (List ℕ)) (o p : Option (List Heard)) (count : ℕ)
       → HaveGiven feed_told all olds events → (t : TakesAll feed_told studio engine events datagrams olds news o p count) → HaveGiven feed_told all news (events ++ t.arrivals)
   given-more studio engine all olds news events datagrams o p count h t = record {
     each = λ stream own at.
@@ -241,9 +241,9 @@ module _ {F : Type 0} (feed_told : F → List Answer) where
           moved.0,
           moved.1,
           λ path told there.
-              let taker = found.2 path told there in
-              let more = moved.2 path taker.0 taker.1 in
-              (more.0, more.1, subst (IsGiven feed_told told more.0) (sym (datagrams-append stream path events t.arrivals)) (more.2 told (datagrams_on stream path events) taker.2)),
+              let reader = found.2 path told there in
+              let more = moved.2 path reader.0 reader.1 in
+              (more.0, more.1, subst (IsGiven feed_told told more.0) (sym (datagrams-append stream path events t.arrivals)) (more.2 told (datagrams_on stream path events) reader.2)),
         );
   }
 
@@ -261,12 +261,12 @@ module _ {F : Type 0} (feed_told : F → List Answer) where
   at_map v (y ∷ xs) (suc i) x e = at_map v xs i x e
 
   -- before the first round
-  pub given-none : (feeds : List (Vec F Global)) (takers : List (Vec (Taker F) Global)) → HaveBegun feeds takers → HaveGiven feed_told (map (λ (own : Vec F Global). map feed_told own.items) feeds) takers []
-  given-none feeds takers begun = record {
+  pub given-none : (feeds : List (Vec F Global)) (readers : List (Vec (FeedReader F) Global)) → HaveBegun feeds readers → HaveGiven feed_told (map (λ (own : Vec F Global). map feed_told own.items) feeds) readers []
+  given-none feeds readers begun = record {
     each = λ stream own at.
         let found = map_at (λ (v : Vec F Global). map feed_told v.items) feeds stream own at in
         let beside = at_map (λ (v : Vec F Global). map new_taker v.items) feeds stream found.0 found.1 in
-        let new = map_at (λ (v : Vec (Taker F) Global). v.items) takers stream (map new_taker found.0.items) (subst (λ l. slice_get l stream ≡ Some (map new_taker found.0.items)) (sym begun) beside) in (
+        let new = map_at (λ (v : Vec (FeedReader F) Global). v.items) readers stream (map new_taker found.0.items) (subst (λ l. slice_get l stream ≡ Some (map new_taker found.0.items)) (sym begun) beside) in (
           new.0,
           new.1,
           λ path told there.

@@ -5,7 +5,7 @@ use Rattle.std.specs.Ordering.{int_eq}
 use Rattle.studio_session.specs.Event.{TraceEvent, Arrival, Reading, Closing}
 use Rattle.studio_session.specs.Fault.{time_after, time_at}
 use Rattle.studio_engine.specs.Session.{turned}
-use Rattle.engine_run.specs.Taps.{Came, Closed, Heard, Hears, heard_by, heard_of}
+use Rattle.engine_run.specs.Observers.{Came, Closed, Heard, Hears, heard_by, heard_of}
 
 module _ {X : Type 0} where
   -- where one tells at the end, it told at the beginning, and more since

@@ -1,7 +1,7 @@
 pub mod Rounds
-pub mod Taps
-pub mod Takes
-pub mod Sends
+pub mod Observers
+pub mod Intake
+pub mod Output
 pub mod Runs
 pub use Rattle.mix_packets.specs.OutSpec
 pub use Rattle.path_merge.specs.Clock

@@ -10,9 +10,9 @@ use Rattle.studio_io.specs.Answers.{Answer, reaches_end, told_datagrams}
 use Rattle.studio_io.specs.Sinks.{Hands}
 use Rattle.studio_io.specs.declared.report.WorkReport.{WorkReport}
 use Rattle.engine_run.specs.Rounds.{AreNext, AreRounds, Round, answers_of, datagrams_on, events_by, events_of, time_by}
-use Rattle.engine_run.specs.Takes.{HaveGiven}
-use Rattle.engine_run.specs.Taps.{Heard, Hears, heard_by}
-use Rattle.engine_run.specs.declared.state.Desk.{Desk}
+use Rattle.engine_run.specs.Intake.{HaveGiven}
+use Rattle.engine_run.specs.Observers.{Heard, Hears, heard_by}
+use Rattle.engine_run.specs.declared.state.RunState.{RunState}
 
 -- path by path the events have all datagrams of each feed that is known to reach its end
 abbrev pub HaveAllArrived : Studio → List (List (List Answer)) → List Round → Type 0
@@ -21,38 +21,38 @@ HaveAllArrived studio all rounds = (stream path : ℕ) (own : List (List Answer)
 
 module _ {F C K T : Type 0} where
   -- a run that began with such feeds and such a clock is on its way
-  pub record IsUnderWay (feed_told : F → List Answer) (clock_told : C → List ℤ) (sink_handed : K → Option (List (List ℕ))) (tap_heard : T → Option (List Heard)) (studio : Studio) (all : List (List (List Answer))) (clock : List ℤ) (before : Option (List (List ℕ))) (earlier : Option (List Heard)) (desk : Desk F C K T) : Type 0 where
+  pub record IsUnderWay (feed_told : F → List Answer) (clock_told : C → List ℤ) (sink_handed : K → Option (List (List ℕ))) (tap_heard : T → Option (List Heard)) (studio : Studio) (all : List (List (List Answer))) (clock : List ℤ) (before : Option (List (List ℕ))) (earlier : Option (List Heard)) (state : RunState F C K T) : Type 0 where
     pub rounds : List Round
     pub datagrams : List (List ℕ)
-    pub stands : HasSession studio desk.engine (events_by studio.open_at rounds) datagrams
-    pub time : desk.engine.time ≡ time_by studio.open_at rounds
+    pub stands : HasSession studio state.engine (events_by studio.open_at rounds) datagrams
+    pub time : state.engine.time ≡ time_by studio.open_at rounds
     pub bounded : AreRounds rounds
-    pub clocked : (later : List ℤ) → AreNext (clock_told desk.clock) later → AreNext clock (answers_of rounds ++ later)
-    pub given : HaveGiven feed_told all desk.takers.items (events_by studio.open_at rounds)
-    pub count : length datagrams < 2 ^ 64 → desk.counts.blocks ≡ length datagrams
-    pub handed : Hands before datagrams (sink_handed desk.sink)
-    pub heard : Hears earlier (heard_by studio.open_at (events_by studio.open_at rounds)) (tap_heard desk.tap)
+    pub clocked : (later : List ℤ) → AreNext (clock_told state.clock) later → AreNext clock (answers_of rounds ++ later)
+    pub given : HaveGiven feed_told all state.readers.items (events_by studio.open_at rounds)
+    pub count : length datagrams < 2 ^ 64 → state.counts.blocks ≡ length datagrams
+    pub handed : Hands before datagrams (sink_handed state.sink)
+    pub heard : Hears earlier (heard_by studio.open_at (events_by studio.open_at rounds)) (tap_heard state.tap)
 
   -- and nothing has arrived since its last reading
-  pub record IsTurned (feed_told : F → List Answer) (clock_told : C → List ℤ) (sink_handed : K → Option (List (List ℕ))) (tap_heard : T → Option (List Heard)) (studio : Studio) (all : List (List (List Answer))) (clock : List ℤ) (before : Option (List (List ℕ))) (earlier : Option (List Heard)) (desk : Desk F C K T) : Type 0 where
-    pub run : IsUnderWay feed_told clock_told sink_handed tap_heard studio all clock before earlier desk
+  pub record IsTurned (feed_told : F → List Answer) (clock_told : C → List ℤ) (sink_handed : K → Option (List (List ℕ))) (tap_heard : T → Option (List Heard)) (studio : Studio) (all : List (List (List Answer))) (clock : List ℤ) (before : Option (List (List ℕ))) (earlier : Option (List Heard)) (state : RunState F C K T) : Type 0 where
+    pub run : IsUnderWay feed_told clock_told sink_handed tap_heard studio all clock before earlier state
     pub front : List Round
     pub answer : ℤ
     pub last : run.rounds ≡ front ++ record { answer = answer; arrivals = [] } ∷ []
 
   -- and has come to its end
-  pub record IsDone (sink_handed : K → Option (List (List ℕ))) (tap_heard : T → Option (List Heard)) (studio : Studio) (all : List (List (List Answer))) (clock : List ℤ) (before : Option (List (List ℕ))) (earlier : Option (List Heard)) (desk : Desk F C K T) : Type 0 where
+  pub record IsDone (sink_handed : K → Option (List (List ℕ))) (tap_heard : T → Option (List Heard)) (studio : Studio) (all : List (List (List Answer))) (clock : List ℤ) (before : Option (List (List ℕ))) (earlier : Option (List Heard)) (state : RunState F C K T) : Type 0 where
     pub rounds : List Round
     pub datagrams : List (List ℕ)
-    pub stands : HasSession studio desk.engine (events_of studio rounds) datagrams
-    pub settled : desk.engine.settled ≡ true
-    pub whole : HasAllMarks desk.engine
+    pub stands : HasSession studio state.engine (events_of studio rounds) datagrams
+    pub settled : state.engine.settled ≡ true
+    pub whole : HasAllMarks state.engine
     pub bounded : AreRounds rounds
     pub clocked : AreNext clock (answers_of rounds)
     pub arrived : HaveAllArrived studio all rounds
-    pub count : length datagrams < 2 ^ 64 → desk.counts.blocks ≡ length datagrams
-    pub handed : Hands before datagrams (sink_handed desk.sink)
-    pub heard : Hears earlier (heard_by studio.open_at (events_of studio rounds)) (tap_heard desk.tap)
+    pub count : length datagrams < 2 ^ 64 → state.counts.blocks ≡ length datagrams
+    pub handed : Hands before datagrams (sink_handed state.sink)
+    pub heard : Hears earlier (heard_by studio.open_at (events_of studio rounds)) (tap_heard state.tap)
 
 -- what a settled run came to: rounds that go by what the clock was known to tell, in which all arrived that the feeds were known to give. None of their events is at fault, the report has the counts of `run_studio` for them, a sink that tells at the end was handed its datagrams, in order, and a tap that does was told its arrivals, each with the reading before it, and its close
 pub record IsSettledRun (studio : Studio) (all : List (List (List Answer))) (clock : List ℤ) (report : WorkReport) (before after : Option (List (List ℕ))) (earlier later : Option (List Heard)) : Type 0 where

@@ -1,12 +1,12 @@
 //! A feed of a run, and how far it has come.
 ghost use Rattle.std.specs.Prelude.{◌≡◌, map, IsTrue, IfOk};
-ghost use Rattle.engine_run.specs.Takes.{AllEnded, HaveBegun, HaveEnded, new_taker};
+ghost use Rattle.engine_run.specs.Intake.{AllEnded, HaveBegun, HaveEnded, new_taker};
 
 use std::alloc::{AllocError, Global};
 
 /// A feed, and how far it has come.
 #[derive(Drop)]
-pub(crate) struct Taker<F> {
+pub(crate) struct FeedReader<F> {
     pub(crate) feed: F,
     /// How many faults it has answered in a row, at most 999.
     pub(crate) in_a_row: u32,
@@ -16,12 +16,12 @@ pub(crate) struct Taker<F> {
     pub(crate) ended: bool,
 }
 
-impl<F: Drop> Taker<F> {
+impl<F: Drop> FeedReader<F> {
     /// A feed that wasn't asked yet.
-    pub(crate) fn new(feed: F) -> Taker<F>
+    pub(crate) fn new(feed: F) -> FeedReader<F>
         ensures { result ≡ new_taker feed }
     {
-        Taker {
+        FeedReader {
             feed,
             in_a_row: 0,
             faults: 0,
@@ -31,36 +31,36 @@ impl<F: Drop> Taker<F> {
 }
 
 /// The feeds of a stream, none asked yet.
-fn takers_of<F: Drop>(alloc: Global, feeds: Vec<F>) -> Result<Vec<Taker<F>>, AllocError>
-    ensures { IfOk result (λ takers. takers.items ≡ map new_taker feeds.items) }
+fn readers_of<F: Drop>(alloc: Global, feeds: Vec<F>) -> Result<Vec<FeedReader<F>>, AllocError>
+    ensures { IfOk result (λ readers. readers.items ≡ map new_taker feeds.items) }
 {
-    let mut takers = Vec::with_capacity(alloc, feeds.len())?;
+    let mut readers = Vec::with_capacity(alloc, feeds.len())?;
     for feed in feeds {
-        takers.push(Taker::new(feed))?;
+        readers.push(FeedReader::new(feed))?;
     }
-    Ok(takers)
+    Ok(readers)
 }
 
 /// The feeds of all streams, none asked yet.
-pub(crate) fn all_takers<F: Drop>(
+pub(crate) fn all_readers<F: Drop>(
     alloc: Global,
     feeds: Vec<Vec<F>>,
-) -> Result<Vec<Vec<Taker<F>>>, AllocError>
-    ensures { IfOk result (λ takers. HaveBegun feeds.items takers.items) }
+) -> Result<Vec<Vec<FeedReader<F>>>, AllocError>
+    ensures { IfOk result (λ readers. HaveBegun feeds.items readers.items) }
 {
-    let mut takers = Vec::with_capacity(alloc, feeds.len())?;
+    let mut readers = Vec::with_capacity(alloc, feeds.len())?;
     for own in feeds {
-        takers.push(takers_of(alloc, own)?)?;
+        readers.push(readers_of(alloc, own)?)?;
     }
-    Ok(takers)
+    Ok(readers)
 }
 
 /// Whether each feed of a stream has ended.
-fn have_ended<F: Drop>(takers: &[Taker<F>]) -> bool
-    ensures { IsTrue result → HaveEnded takers.now }
+fn have_ended<F: Drop>(readers: &[FeedReader<F>]) -> bool
+    ensures { IsTrue result → HaveEnded readers.now }
 {
-    for place in 0..takers.len() {
-        if !takers[place].ended {
+    for place in 0..readers.len() {
+        if !readers[place].ended {
             return false;
         }
     }
@@ -68,7 +68,7 @@ fn have_ended<F: Drop>(takers: &[Taker<F>]) -> bool
 }
 
 /// Whether each feed has ended.
-pub(crate) fn have_all_ended<F: Drop>(streams: &[Vec<Taker<F>>]) -> bool
+pub(crate) fn have_all_ended<F: Drop>(streams: &[Vec<FeedReader<F>>]) -> bool
     ensures { IsTrue result → AllEnded streams.now }
 {
     for place in 0..streams.len() {

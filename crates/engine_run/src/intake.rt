@@ -3,10 +3,10 @@ ghost use Rattle.std.specs.Prelude.{◌≡◌, ℕ, List, length, IfOk, OnOk};
 ghost use Rattle.studio_config.specs.Studio.{Studio};
 ghost use Rattle.studio_session.specs.Event.{TraceEvent};
 ghost use Rattle.studio_engine.specs.Session.{HasSession};
-ghost use Rattle.engine_run.specs.Takes.{Takes, TakesAll, TakesStream};
+ghost use Rattle.engine_run.specs.Intake.{Takes, TakesAll, TakesStream};
 
-use crate::feed_reader::Taker;
-use crate::observer::Tap;
+use crate::feed_reader::FeedReader;
+use crate::observer::RunObserver;
 use path_merge::Path;
 use studio_engine::{ArriveFault, Engine};
 use studio_io::{Feed, FeedAnswer};
@@ -22,7 +22,7 @@ const FAULT_REST: i64 = 96;
 
 /// What a feed answered.
 #[derive(Clone, Copy, PartialEq, Eq, Debug)]
-enum Taken {
+enum FeedOutcome {
     /// A datagram, which the engine took.
     Datagram,
     /// A fault.
@@ -32,66 +32,66 @@ enum Taken {
 }
 
 /// Asks a feed once, hands its datagram to the engine, and tells the tap of it.
-fn take_one<F: Feed, T: Tap<F>>(
+fn take_one<F: Feed, T: RunObserver<F>>(
     engine: &mut Engine,
     stream: usize,
     path: Path,
-    taker: &mut Taker<F>,
+    reader: &mut FeedReader<F>,
     tap: &mut T,
     buf: &mut [u8],
-) -> Result<Taken, ArriveFault>
+) -> Result<FeedOutcome, ArriveFault>
     requires room { length buf.old ≡ 2048 }
     ensures { OnOk result ((studio : Studio) (events : List TraceEvent) (datagrams : List (List ℕ)) → HasSession studio engine.old events datagrams
-        → Takes F.told studio engine.new events datagrams stream path taker.old taker.new (T.heard tap.old) (T.heard tap.new) 1) }
+        → Takes F.told studio engine.new events datagrams stream path reader.old reader.new (T.heard tap.old) (T.heard tap.new) 1) }
 {
-    if taker.ended {
-        return Ok(Taken::Nothing);
+    if reader.ended {
+        return Ok(FeedOutcome::Nothing);
     }
-    match taker.feed.next(buf) {
+    match reader.feed.next(buf) {
         FeedAnswer::Datagram(count) => {
-            taker.in_a_row = 0;
+            reader.in_a_row = 0;
             let receipt = engine.arrive(stream, path, &buf[..count])?;
-            tap.arrived(engine, stream, path, &buf[..count], receipt, &taker.feed);
-            Ok(Taken::Datagram)
+            tap.arrived(engine, stream, path, &buf[..count], receipt, &reader.feed);
+            Ok(FeedOutcome::Datagram)
         }
         FeedAnswer::Nothing => {
-            taker.in_a_row = 0;
-            Ok(Taken::Nothing)
+            reader.in_a_row = 0;
+            Ok(FeedOutcome::Nothing)
         }
         FeedAnswer::Fault => {
-            taker.faults = taker.faults.saturating_add(1);
-            if taker.in_a_row < 999 {
-                taker.in_a_row += 1;
+            reader.faults = reader.faults.saturating_add(1);
+            if reader.in_a_row < 999 {
+                reader.in_a_row += 1;
             } else {
-                taker.ended = true;
+                reader.ended = true;
             }
-            Ok(Taken::Fault)
+            Ok(FeedOutcome::Fault)
         }
         FeedAnswer::Ended => {
-            taker.ended = true;
-            Ok(Taken::Nothing)
+            reader.ended = true;
+            Ok(FeedOutcome::Nothing)
         }
     }
 }
 
 /// Takes what a feed has, but at most 64 datagrams, and answers how long the run may rest for it.
-fn take_some<F: Feed, T: Tap<F>>(
+fn take_some<F: Feed, T: RunObserver<F>>(
     engine: &mut Engine,
     stream: usize,
     path: Path,
-    taker: &mut Taker<F>,
+    reader: &mut FeedReader<F>,
     tap: &mut T,
     buf: &mut [u8],
 ) -> Result<i64, ArriveFault>
     requires room { length buf.old ≡ 2048 }
     ensures { OnOk result ((studio : Studio) (events : List TraceEvent) (datagrams : List (List ℕ)) → HasSession studio engine.old events datagrams
-        → Takes F.told studio engine.new events datagrams stream path taker.old taker.new (T.heard tap.old) (T.heard tap.new) 64) }
+        → Takes F.told studio engine.new events datagrams stream path reader.old reader.new (T.heard tap.old) (T.heard tap.new) 64) }
 {
     for _ in 0..MOST_TAKEN {
-        match take_one(engine, stream, path, taker, tap, buf)? {
-            Taken::Datagram => {}
-            Taken::Fault => return Ok(FAULT_REST),
-            Taken::Nothing => return Ok(LONGEST_REST),
+        match take_one(engine, stream, path, reader, tap, buf)? {
+            FeedOutcome::Datagram => {}
+            FeedOutcome::Fault => return Ok(FAULT_REST),
+            FeedOutcome::Nothing => return Ok(LONGEST_REST),
         }
     }
     Ok(0)
@@ -108,30 +108,30 @@ fn path_of(number: usize) -> Result<Path, ArriveFault>
 }
 
 /// Takes what the feeds of a stream have, and answers how long the run may rest.
-fn take_stream<F: Feed, T: Tap<F>>(
+fn take_stream<F: Feed, T: RunObserver<F>>(
     engine: &mut Engine,
     stream: usize,
-    takers: &mut [Taker<F>],
+    readers: &mut [FeedReader<F>],
     tap: &mut T,
     buf: &mut [u8],
 ) -> Result<i64, ArriveFault>
     requires room { length buf.old ≡ 2048 }
     ensures { OnOk result ((studio : Studio) (events : List TraceEvent) (datagrams : List (List ℕ)) → HasSession studio engine.old events datagrams
-        → TakesStream F.told studio engine.new events datagrams stream takers.old takers.new (T.heard tap.old) (T.heard tap.new) (length takers.old)) }
+        → TakesStream F.told studio engine.new events datagrams stream readers.old readers.new (T.heard tap.old) (T.heard tap.new) (length readers.old)) }
 {
     let mut most = LONGEST_REST;
-    for number in 0..takers.len() {
+    for number in 0..readers.len() {
         let path = path_of(number)?;
-        most = take_some(engine, stream, path, &mut takers[number], tap, buf)?.min(most);
+        most = take_some(engine, stream, path, &mut readers[number], tap, buf)?.min(most);
     }
     Ok(most)
 }
 
 /// Takes what the feeds of a stream have, in place.
-fn take_own<F: Feed, T: Tap<F>>(
+fn take_own<F: Feed, T: RunObserver<F>>(
     engine: &mut Engine,
     stream: usize,
-    own: &mut Vec<Taker<F>>,
+    own: &mut Vec<FeedReader<F>>,
     tap: &mut T,
     buf: &mut [u8],
 ) -> Result<i64, ArriveFault>
@@ -143,9 +143,9 @@ fn take_own<F: Feed, T: Tap<F>>(
 }
 
 /// Takes what all feeds have, and answers how long the run may rest.
-pub(crate) fn take_all<F: Feed, T: Tap<F>>(
+pub(crate) fn take_all<F: Feed, T: RunObserver<F>>(
     engine: &mut Engine,
-    streams: &mut [Vec<Taker<F>>],
+    streams: &mut [Vec<FeedReader<F>>],
     tap: &mut T,
     buf: &mut [u8],
 ) -> Result<i64, ArriveFault>

@@ -1,6 +1,6 @@
 //! A studio in one thread: an engine, its feeds, a clock and a sink, moved round by round.
 //!
-//! `run_alone` takes a `Feed` for each path, a list for each stream, a `Clock`, a `Sink`, a `Tap` and a `Rest`. Each round
+//! `run_engine` takes a `Feed` for each path, a list for each stream, a `Clock`, a `Sink`, a `RunObserver` and an `IdleWait`. Each round
 //! reads the clock, sends what is due by then, lets the tap look, rests, and asks each feed for what has come, at most 64
 //! datagrams of it.
 //! These are judged by that reading, or after a long rest by another one: so none is late that came in time, and none
@@ -19,6 +19,6 @@ mod run;
 mod settle;
 mod state;
 
-pub use observer::{Quiet, Tap};
-pub use rest::Rest;
-pub use run::run_alone;
+pub use observer::{NoObserver, RunObserver};
+pub use rest::IdleWait;
+pub use run::run_engine;

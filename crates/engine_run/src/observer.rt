@@ -1,14 +1,14 @@
 //! What is told of what a run takes.
 ghost use Rattle.std.specs.Prelude.{List, [], ◌∷◌, Option, None};
-ghost use Rattle.engine_run.specs.Taps.{Heard, Hears, Came, Closed};
+ghost use Rattle.engine_run.specs.Observers.{Heard, Hears, Came, Closed};
 
 use path_merge::Path;
 use studio_engine::Engine;
-use studio_session::Receipt;
+use studio_session::ArriveOutcome;
 
 /// Is told each datagram that the engine took, and the close, and may look at the engine before each rest. What it does
 /// delays the run.
-pub trait Tap<F>: Drop {
+pub trait RunObserver<F>: Drop {
     /// All that the tap was told, in order, where it tells. One that has stopped never tells again.
     ghost heard: { Self → Option (List Heard) };
 
@@ -19,13 +19,13 @@ pub trait Tap<F>: Drop {
         stream: usize,
         path: Path,
         octets: &[u8],
-        receipt: Receipt,
+        receipt: ArriveOutcome,
         feed: &F,
     )
         ensures heard { Hears (heard self.old) (Came stream path engine.now.time octets.now ∷ []) (heard self.new) };
 
     /// The run is about to rest.
-    fn rests(&mut self, engine: &Engine)
+    fn before_wait(&mut self, engine: &Engine)
         ensures heard { Hears (heard self.old) [] (heard self.new) };
 
     /// The engine was closed at its time.
@@ -35,9 +35,9 @@ pub trait Tap<F>: Drop {
 
 /// A tap that does nothing with what it is told.
 #[derive(Clone, Copy, Debug)]
-pub struct Quiet;
+pub struct NoObserver;
 
-impl<F> Tap<F> for Quiet {
+impl<F> RunObserver<F> for NoObserver {
     ghost heard = { λ tap. None };
 
     fn arrived(
@@ -46,11 +46,11 @@ impl<F> Tap<F> for Quiet {
         _stream: usize,
         _path: Path,
         _octets: &[u8],
-        _receipt: Receipt,
+        _receipt: ArriveOutcome,
         _feed: &F,
     ) {}
 
-    fn rests(&mut self, _engine: &Engine) {}
+    fn before_wait(&mut self, _engine: &Engine) {}
 
     fn closed(&mut self, _engine: &Engine) {}
 }

@@ -4,7 +4,7 @@ ghost use Rattle.path_merge.specs.Clock.{clock_fault_of};
 ghost use Rattle.studio_config.specs.Studio.{Studio};
 ghost use Rattle.studio_session.specs.Event.{TraceEvent};
 ghost use Rattle.studio_engine.specs.Session.{HasSession, turned};
-ghost use Rattle.engine_run.specs.Sends.{HasSent};
+ghost use Rattle.engine_run.specs.Output.{HasSent};
 
 use path_merge::ClockFault;
 use studio_engine::Engine;

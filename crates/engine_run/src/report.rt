@@ -10,8 +10,8 @@ ghost use Rattle.studio_engine.specs.Engine.{HasAllMarks};
 ghost use Rattle.studio_engine.specs.Session.{HasSession};
 ghost use Rattle.studio_io.specs.Balances.{Balances};
 
-use crate::feed_reader::Taker;
-use crate::state::Desk;
+use crate::feed_reader::FeedReader;
+use crate::state::RunState;
 use path_merge::{Path, StreamSpec};
 use rtp_stream::{Counts, PathCounts, StreamCounts};
 use std::alloc::{AllocError, Global};
@@ -20,22 +20,22 @@ use studio_io::WorkReport;
 
 /// The memory that a report needs, taken before the run.
 #[derive(Drop)]
-pub(crate) struct Room {
+pub(crate) struct ReportBuffers {
     streams: Vec<StreamCounts>,
     paths: Vec<Vec<PathCounts>>,
     faults: Vec<u64>,
 }
 
-impl Room {
+impl ReportBuffers {
     /// Room for the counts of these streams, and for the faults of their feeds.
-    pub(crate) fn new(alloc: Global, specs: &[StreamSpec]) -> Result<Room, AllocError> {
+    pub(crate) fn new(alloc: Global, specs: &[StreamSpec]) -> Result<ReportBuffers, AllocError> {
         let streams = Vec::with_capacity(alloc, specs.len())?;
         let mut paths = Vec::with_capacity(alloc, specs.len())?;
         for spec in specs {
             paths.push(Vec::with_capacity(alloc, usize::from(spec.paths()))?)?;
         }
         let faults = Vec::with_capacity(alloc, specs.len().saturating_mul(4))?;
-        Ok(Room {
+        Ok(ReportBuffers {
             streams,
             paths,
             faults,
@@ -110,50 +110,53 @@ fn all_counts(
 }
 
 /// How often each feed failed, stream by stream and path by path, in a room for it.
-fn all_faults<F: Drop>(streams: &[Vec<Taker<F>>], room: Vec<u64>) -> Result<Vec<u64>, AllocError> {
+fn all_faults<F: Drop>(
+    streams: &[Vec<FeedReader<F>>],
+    room: Vec<u64>,
+) -> Result<Vec<u64>, AllocError> {
     let mut faults = room;
     faults.clear();
     for own in streams {
-        for taker in own {
-            faults.push(taker.faults)?;
+        for reader in own {
+            faults.push(reader.faults)?;
         }
     }
     Ok(faults)
 }
 
 /// What came of a run, its sink and its tap.
-pub(crate) fn report<F: Drop, C: Drop, K: Drop, T: Drop>(
+pub(crate) fn work_report<F: Drop, C: Drop, K: Drop, T: Drop>(
     alloc: Global,
-    desk: Desk<F, C, K, T>,
+    state: RunState<F, C, K, T>,
     specs: &[StreamSpec],
-    room: Room,
+    room: ReportBuffers,
     settled: bool,
 ) -> Result<(WorkReport, K, T), AllocError>
     ensures balance { IfOk result (λ r. Balances r.0.blocks r.0.sent_a r.0.fault_a r.0.sent_b r.0.fault_b) }
     ensures settled { IfOk result (λ r. r.0.settled ≡ settled) }
-    ensures blocks { IfOk result (λ r. r.0.blocks ≡ desk.counts.blocks) }
-    ensures sink { IfOk result (λ r. r.1 ≡ desk.sink) }
-    ensures tap { IfOk result (λ r. r.2 ≡ desk.tap) }
+    ensures blocks { IfOk result (λ r. r.0.blocks ≡ state.counts.blocks) }
+    ensures sink { IfOk result (λ r. r.1 ≡ state.sink) }
+    ensures tap { IfOk result (λ r. r.2 ≡ state.tap) }
     ensures counts { IfOk result (λ r. (studio : Studio) (events : List TraceEvent) (datagrams : List (List ℕ))
-        → HasSession studio desk.engine events datagrams → HasAllMarks desk.engine → specs.now ≡ studio.streams
+        → HasSession studio state.engine events datagrams → HasAllMarks state.engine → specs.now ≡ studio.streams
         → AreCounts studio events r.0.streams.items) }
 {
-    let Desk {
+    let RunState {
         engine,
-        takers,
+        readers,
         clock: _,
         sink,
         tap,
         counts,
-    } = desk;
-    let Room {
+    } = state;
+    let ReportBuffers {
         streams,
         paths,
         faults,
     } = room;
     let report = WorkReport {
         streams: all_counts(alloc, &engine, specs, streams, paths)?,
-        feed_faults: all_faults(takers.as_slice(), faults)?,
+        feed_faults: all_faults(readers.as_slice(), faults)?,
         blocks: counts.blocks,
         sent_a: counts.sent_a,
         sent_b: counts.sent_b,

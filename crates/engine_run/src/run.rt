@@ -4,15 +4,15 @@ ghost use Rattle.studio_config.specs.Studio.{Studio};
 ghost use Rattle.studio_io.specs.Answers.{Answer};
 ghost use Rattle.studio_io.specs.Balances.{Balances};
 ghost use Rattle.engine_run.specs.Runs.{IsDone, IsSettledRun, IsUnderWay};
-ghost use Rattle.engine_run.specs.Takes.{AllEnded};
-ghost use Rattle.engine_run.specs.Taps.{Heard};
+ghost use Rattle.engine_run.specs.Intake.{AllEnded};
+ghost use Rattle.engine_run.specs.Observers.{Heard};
 
-use crate::feed_reader::all_takers;
-use crate::observer::Tap;
-use crate::report::{Room, report};
-use crate::rest::Rest;
+use crate::feed_reader::all_readers;
+use crate::observer::RunObserver;
+use crate::report::{ReportBuffers, work_report};
+use crate::rest::IdleWait;
 use crate::settle::settle;
-use crate::state::Desk;
+use crate::state::RunState;
 use std::alloc::{AllocError, Global};
 use std::sync::Wait;
 use studio_config::StudioSpec;
@@ -23,7 +23,7 @@ use studio_io::{Clock, Feed, SendCounts, Sink, WorkReport};
 ///
 /// The feeds stand stream by stream and path by path, a list for each stream. All memory is taken before the clock
 /// is read first. A run that is not settled was handed a feed for a path that its stream lacks, or took 2^62 events.
-pub fn run_alone<R: Wait, F: Feed, C: Clock, K: Sink, T: Tap<F>, P: Rest>(
+pub fn run_engine<R: Wait, F: Feed, C: Clock, K: Sink, T: RunObserver<F>, P: IdleWait>(
     rt: &R,
     alloc: Global,
     studio: &StudioSpec,
@@ -38,35 +38,35 @@ pub fn run_alone<R: Wait, F: Feed, C: Clock, K: Sink, T: Tap<F>, P: Rest>(
         → IsSettledRun studio.now (map (λ own. map F.told own.items) feeds.items) (C.told clock) r.0 (K.handed sink) (K.handed r.1) (T.heard tap) (T.heard r.2)) }
 {
     let specs = studio.streams();
-    let room = Room::new(alloc, specs)?;
-    let mut desk = Desk {
+    let room = ReportBuffers::new(alloc, specs)?;
+    let mut state = RunState {
         engine: Engine::new(alloc, studio)?,
-        takers: all_takers(alloc, feeds)?,
+        readers: all_readers(alloc, feeds)?,
         clock,
         sink,
         tap,
         counts: SendCounts::new(),
     };
     let mut rest = rest;
-    let ended = run_rounds(rt, &mut desk, &mut rest);
-    let settled = settle(&mut desk) && ended;
-    report(alloc, desk, specs, room, settled)
+    let ended = run_rounds(rt, &mut state, &mut rest);
+    let settled = settle(&mut state) && ended;
+    work_report(alloc, state, specs, room, settled)
 }
 
 /// Makes rounds until all feeds have ended; answers false where the engine took no more.
-fn run_rounds<R: Wait, F: Feed, C: Clock, K: Sink, T: Tap<F>, P: Rest>(
+fn run_rounds<R: Wait, F: Feed, C: Clock, K: Sink, T: RunObserver<F>, P: IdleWait>(
     rt: &R,
-    desk: &mut Desk<F, C, K, T>,
+    state: &mut RunState<F, C, K, T>,
     rest: &mut P,
 ) -> bool
     ensures on { result ≡ true → (studio : Studio) (all : List (List (List Answer))) (clock : List ℤ) (before : Option (List (List ℕ))) (earlier : Option (List Heard))
-        → IsUnderWay F.told C.told K.handed T.heard studio all clock before earlier desk.old → IsUnderWay F.told C.told K.handed T.heard studio all clock before earlier desk.new }
-    ensures ended { result ≡ true → AllEnded desk.new.takers.items }
+        → IsUnderWay F.told C.told K.handed T.heard studio all clock before earlier state.old → IsUnderWay F.told C.told K.handed T.heard studio all clock before earlier state.new }
+    ensures ended { result ≡ true → AllEnded state.new.readers.items }
 {
     let mut most = 0;
     let mut buf = [0u8; 2048];
     for _ in rt.forever() {
-        match desk.round(rest, most, &mut buf) {
+        match state.round(rest, most, &mut buf) {
             Ok(Some(instants)) => most = instants,
             Ok(None) => return true,
             Err(_) => return false,

@@ -3,24 +3,26 @@ ghost use Rattle.std.specs.Prelude.{◌≡◌, ℕ, ℤ, List, Option, IsTrue};
 ghost use Rattle.studio_config.specs.Studio.{Studio};
 ghost use Rattle.studio_io.specs.Answers.{Answer};
 ghost use Rattle.engine_run.specs.Runs.{IsDone, IsUnderWay};
-ghost use Rattle.engine_run.specs.Takes.{AllEnded};
-ghost use Rattle.engine_run.specs.Taps.{Heard};
+ghost use Rattle.engine_run.specs.Intake.{AllEnded};
+ghost use Rattle.engine_run.specs.Observers.{Heard};
 
-use crate::observer::Tap;
+use crate::observer::RunObserver;
 use crate::output::send_rest;
-use crate::state::Desk;
+use crate::state::RunState;
 use studio_io::{Clock, Feed, Sink};
 
 /// Closes the engine, tells the tap of it, and sends what is left. Answers whether all was given.
-pub(crate) fn settle<F: Feed, C: Clock, K: Sink, T: Tap<F>>(desk: &mut Desk<F, C, K, T>) -> bool
+pub(crate) fn settle<F: Feed, C: Clock, K: Sink, T: RunObserver<F>>(
+    state: &mut RunState<F, C, K, T>,
+) -> bool
     ensures { IsTrue result → (studio : Studio) (all : List (List (List Answer))) (clock : List ℤ) (before : Option (List (List ℕ))) (earlier : Option (List Heard))
-        → AllEnded desk.old.takers.items → IsUnderWay F.told C.told K.handed T.heard studio all clock before earlier desk.old
-        → IsDone K.handed T.heard studio all clock before earlier desk.new }
+        → AllEnded state.old.readers.items → IsUnderWay F.told C.told K.handed T.heard studio all clock before earlier state.old
+        → IsDone K.handed T.heard studio all clock before earlier state.new }
 {
-    if desk.engine.close().is_err() {
+    if state.engine.close().is_err() {
         return false;
     }
-    desk.tap.closed(&desk.engine);
-    send_rest(&mut desk.engine, &mut desk.sink, &mut desk.counts);
-    desk.engine.settled()
+    state.tap.closed(&state.engine);
+    send_rest(&mut state.engine, &mut state.sink, &mut state.counts);
+    state.engine.settled()
 }

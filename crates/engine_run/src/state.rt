@@ -4,14 +4,14 @@ ghost use Rattle.studio_config.specs.Studio.{Studio};
 ghost use Rattle.studio_io.specs.Answers.{Answer};
 ghost use Rattle.studio_io.specs.Clocks.{time_with};
 ghost use Rattle.engine_run.specs.Runs.{IsTurned, IsUnderWay};
-ghost use Rattle.engine_run.specs.Takes.{AllEnded};
-ghost use Rattle.engine_run.specs.Taps.{Heard};
+ghost use Rattle.engine_run.specs.Intake.{AllEnded};
+ghost use Rattle.engine_run.specs.Observers.{Heard};
 
-use crate::feed_reader::{Taker, have_all_ended};
+use crate::feed_reader::{FeedReader, have_all_ended};
 use crate::intake::take_all;
-use crate::observer::Tap;
+use crate::observer::RunObserver;
 use crate::output::send_due;
-use crate::rest::Rest;
+use crate::rest::IdleWait;
 use path_merge::ClockFault;
 use studio_engine::{ArriveFault, Engine};
 use studio_io::{Clock, Feed, SendCounts, Sink};
@@ -21,35 +21,35 @@ const LATEST: i64 = 1_152_921_504_606_846_976;
 
 /// The engine takes no more: it has taken 2^62 events, or was handed what it lacks a path for.
 #[derive(Clone, Copy, Debug)]
-pub(crate) struct Stopped;
+pub(crate) struct EngineStopped;
 
-impl From<ArriveFault> for Stopped {
-    fn from(_fault: ArriveFault) -> Stopped {
-        Stopped
+impl From<ArriveFault> for EngineStopped {
+    fn from(_fault: ArriveFault) -> EngineStopped {
+        EngineStopped
     }
 }
 
-impl From<ClockFault> for Stopped {
-    fn from(_fault: ClockFault) -> Stopped {
-        Stopped
+impl From<ClockFault> for EngineStopped {
+    fn from(_fault: ClockFault) -> EngineStopped {
+        EngineStopped
     }
 }
 
 /// The engine, its feeds, the clock, the sink and the tap of a run, and what was sent.
 #[derive(Drop)]
-pub(crate) struct Desk<F, C, K, T> {
+pub(crate) struct RunState<F, C, K, T> {
     pub(crate) engine: Engine,
     /// The feeds, stream by stream and path by path.
-    pub(crate) takers: Vec<Vec<Taker<F>>>,
+    pub(crate) readers: Vec<Vec<FeedReader<F>>>,
     pub(crate) clock: C,
     pub(crate) sink: K,
     pub(crate) tap: T,
     pub(crate) counts: SendCounts,
 }
 
-impl<F: Feed, C: Clock, K: Sink, T: Tap<F>> Desk<F, C, K, T> {
+impl<F: Feed, C: Clock, K: Sink, T: RunObserver<F>> RunState<F, C, K, T> {
     /// Reads the clock, and sends what is due by then.
-    fn turn(&mut self) -> Result<(), Stopped>
+    fn turn(&mut self) -> Result<(), EngineStopped>
         ensures on { OnOk result ((studio : Studio) (all : List (List (List Answer))) (clock : List ℤ) (before : Option (List (List ℕ))) (earlier : Option (List Heard))
             → IsUnderWay F.told C.told K.handed T.heard studio all clock before earlier self.old → IsTurned F.told C.told K.handed T.heard studio all clock before earlier self.new) }
     {
@@ -60,7 +60,7 @@ impl<F: Feed, C: Clock, K: Sink, T: Tap<F>> Desk<F, C, K, T> {
     }
 
     /// The same, but where the last reading is new enough to judge by it what came since.
-    fn turn_again(&mut self, is_new: bool) -> Result<(), Stopped>
+    fn turn_if_stale(&mut self, is_new: bool) -> Result<(), EngineStopped>
         ensures on { OnOk result ((studio : Studio) (all : List (List (List Answer))) (clock : List ℤ) (before : Option (List (List ℕ))) (earlier : Option (List Heard))
             → IsTurned F.told C.told K.handed T.heard studio all clock before earlier self.old → IsTurned F.told C.told K.handed T.heard studio all clock before earlier self.new) }
     {
@@ -71,23 +71,23 @@ impl<F: Feed, C: Clock, K: Sink, T: Tap<F>> Desk<F, C, K, T> {
     }
 
     /// Lets the tap look at the engine.
-    fn look(&mut self)
+    fn notify_before_wait(&mut self)
         ensures on { (studio : Studio) (all : List (List (List Answer))) (clock : List ℤ) (before : Option (List (List ℕ))) (earlier : Option (List Heard))
             → IsTurned F.told C.told K.handed T.heard studio all clock before earlier self.old → IsTurned F.told C.told K.handed T.heard studio all clock before earlier self.new }
-        ensures takers { self.new.takers ≡ self.old.takers }
+        ensures readers { self.new.readers ≡ self.old.readers }
     {
-        self.tap.rests(&self.engine);
+        self.tap.before_wait(&self.engine);
     }
 
     /// Takes what the feeds have, and answers for how many sampling instants the run may rest for them.
-    fn take(&mut self, buf: &mut [u8]) -> Result<i64, Stopped>
+    fn take(&mut self, buf: &mut [u8]) -> Result<i64, EngineStopped>
         requires room { length buf.old ≡ 2048 }
         ensures on { OnOk result ((studio : Studio) (all : List (List (List Answer))) (clock : List ℤ) (before : Option (List (List ℕ))) (earlier : Option (List Heard))
             → IsTurned F.told C.told K.handed T.heard studio all clock before earlier self.old → IsUnderWay F.told C.told K.handed T.heard studio all clock before earlier self.new) }
     {
         let most = take_all(
             &mut self.engine,
-            self.takers.as_mut_slice(),
+            self.readers.as_mut_slice(),
             &mut self.tap,
             buf,
         )?;
@@ -97,25 +97,25 @@ impl<F: Feed, C: Clock, K: Sink, T: Tap<F>> Desk<F, C, K, T> {
     /// Reads the clock, sends what is due by then, lets the tap look, rests for so many sampling instants at most, and takes what the feeds
     /// have by the last reading, or by another one where that is old. Answers for how many instants the run may rest
     /// for the feeds; none where all of them had ended before.
-    pub(crate) fn round<P: Rest>(
+    pub(crate) fn round<P: IdleWait>(
         &mut self,
         rest: &mut P,
         most: i64,
         buf: &mut [u8],
-    ) -> Result<Option<i64>, Stopped>
+    ) -> Result<Option<i64>, EngineStopped>
         requires room { length buf.old ≡ 2048 }
         ensures on { OnOk result ((studio : Studio) (all : List (List (List Answer))) (clock : List ℤ) (before : Option (List (List ℕ))) (earlier : Option (List Heard))
             → IsUnderWay F.told C.told K.handed T.heard studio all clock before earlier self.old → IsUnderWay F.told C.told K.handed T.heard studio all clock before earlier self.new) }
-        ensures ended { IfOk result (λ most. most ≡ None → AllEnded self.new.takers.items) }
+        ensures ended { IfOk result (λ most. most ≡ None → AllEnded self.new.readers.items) }
     {
         self.turn()?;
-        if have_all_ended(self.takers.as_slice()) {
+        if have_all_ended(self.readers.as_slice()) {
             return Ok(None);
         }
-        self.look();
+        self.notify_before_wait();
         let most = until_deadline(&self.engine, most);
-        let is_new = rest.rest(&self.engine, most);
-        self.turn_again(is_new)?;
+        let is_new = rest.wait_for_input(&self.engine, most);
+        self.turn_if_stale(is_new)?;
         let most = self.take(buf)?;
         Ok(Some(most))
     }

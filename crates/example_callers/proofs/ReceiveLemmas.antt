@@ -36,7 +36,7 @@ use Rattle.path_merge.specs.Clock.{clock_fault_of}
 use Rattle.path_merge.specs.MergeState.{MergeState}
 use Rattle.path_merge.specs.Run.{HasGiven}
 use Rattle.path_merge.specs.declared.clock.ClockFault.{ClockFault}
-use Rattle.studio_session.proofs.WayLemmas.{in_time}
+use Rattle.studio_session.proofs.ReadingStepsLemmas.{in_time}
 use Rattle.rtp_stream.specs.Reception.{packet_at, reception_by, reception_of}
 use Rattle.studio_session.specs.Session.{Datagram, event_in}
 use Rattle.example_callers.specs.declared.arrival.Arrival.{Arrival}

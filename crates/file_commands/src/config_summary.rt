@@ -6,7 +6,7 @@ use rtp_wire::Enc;
 use std::io;
 use std::io::Write;
 use std::net::Ipv4Addr;
-use studio_config::{Networks, Ports, Senders, StudioSpec};
+use studio_config::{Networks, OutputAddresses, Ports, StudioSpec};
 
 /// Writes a line for each stream and its paths, one for the output and its copies, and the gains by time.
 pub fn write_summary<W: Write>(studio: &StudioSpec, output: &mut W) -> io::Result<()> {
@@ -127,7 +127,11 @@ fn write_output<W: Write>(spec: &OutSpec, output: &mut W) -> io::Result<()> {
 }
 
 /// The ports of the output's copies, each in a line, with what is said of its addresses.
-fn write_copies<W: Write>(ports: &Ports, senders: &Senders, output: &mut W) -> io::Result<()> {
+fn write_copies<W: Write>(
+    ports: &Ports,
+    senders: &OutputAddresses,
+    output: &mut W,
+) -> io::Result<()> {
     for (name, port, to, from) in [
         ("a", ports.to_a, senders.to_a, senders.from_a),
         ("b", ports.to_b, senders.to_b, senders.from_b),

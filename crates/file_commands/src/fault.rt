@@ -1,5 +1,5 @@
 //! The faults of a run: their lines and exit statuses.
-use live_io::HandedFault;
+use live_io::InheritedSocketFault;
 use live_run::LiveFault;
 use pcap_file::{CaptureFault, ReaderFault};
 use pcap_flows::ImportFault;
@@ -7,14 +7,14 @@ use pcap_replay::ReplayFault;
 use std::alloc::{AllocError, AllocFailed};
 use std::io;
 use std::io::Write;
-use studio_config::Kind;
+use studio_config::SpecErrorKind;
 use studio_run::{PlayFault, SpecError, StudioFault, WriteFault};
 use thiserror::Error;
-use wav_file::{FileFault, StreamFault};
+use wav_file::{FileFault, StreamWavFault};
 
 /// Why a run gave no text, or only a part of it.
 #[derive(Debug, Drop, Error)]
-pub enum Fault {
+pub enum CommandFault {
     /// A word of the command line is no text.
     #[error("usage: a word of the command line is not UTF-8")]
     Usage,
@@ -23,7 +23,7 @@ pub enum Fault {
     Address,
     /// The stream of a WAV file is named by no number.
     #[error("usage: STREAM is not a number from 0 to 15")]
-    Stream,
+    StreamNumber,
     /// The offset of International Atomic Time is no number of seconds.
     #[error("usage: --tai-offset is neither seconds nor system")]
     TaiOffset,
@@ -47,16 +47,16 @@ pub enum Fault {
     RecordWrite,
     /// Sockets that were handed over are not taken.
     #[error("{0}")]
-    Handed(#[from] HandedFault),
+    Handed(#[from] InheritedSocketFault),
     /// The capture is at fault.
     #[error("{0}")]
-    Capture(CaptureError),
+    Capture(CaptureInputFault),
     /// A capture was not replayed to its end.
     #[error("{0}")]
     Replay(#[from] ReplayFault),
     /// No WAV file is written of a stream, after the file's path.
     #[error("{0}")]
-    Solo(StreamFault),
+    StreamWav(StreamWavFault),
     /// A WAV file was not made or not written, after its path.
     #[error("{0}")]
     Wav(FileFault),
@@ -87,7 +87,7 @@ pub enum ConfigFault {
 
 /// Why a capture was not told to its end.
 #[derive(Clone, Copy, Debug, PartialEq, Eq, Error)]
-pub enum CaptureError {
+pub enum CaptureInputFault {
     /// It could not be read.
     #[error("device: capture")]
     Unread,
@@ -102,21 +102,30 @@ pub enum CaptureError {
     Import(ImportFault),
 }
 
-impl Fault {
+impl CommandFault {
     /// The exit status of the program.
     pub fn status(&self) -> u8 {
         match self {
-            Fault::Usage | Fault::Address | Fault::Stream | Fault::TaiOffset => 2,
-            Fault::Solo(_) => 2,
-            Fault::Config(ConfigFault::Unread) | Fault::Capture(CaptureError::Unread) => 5,
-            Fault::Capture(_) => 1,
-            Fault::Config(_) => 3,
-            Fault::Play(fault) => play_status(fault),
-            Fault::Replay(fault) => replay_status(fault),
-            Fault::Live(LiveFault::Memory) | Fault::Handed(HandedFault::Memory) | Fault::Memory =>
-                4,
-            Fault::Live(_) | Fault::Handed(_) | Fault::Clock | Fault::Wav(_) | Fault::Write => 5,
-            Fault::Record | Fault::RecordWrite => 5,
+            CommandFault::Usage
+            | CommandFault::Address
+            | CommandFault::StreamNumber
+            | CommandFault::TaiOffset => 2,
+            CommandFault::StreamWav(_) => 2,
+            CommandFault::Config(ConfigFault::Unread)
+            | CommandFault::Capture(CaptureInputFault::Unread) => 5,
+            CommandFault::Capture(_) => 1,
+            CommandFault::Config(_) => 3,
+            CommandFault::Play(fault) => play_status(fault),
+            CommandFault::Replay(fault) => replay_status(fault),
+            CommandFault::Live(LiveFault::Memory)
+            | CommandFault::Handed(InheritedSocketFault::Memory)
+            | CommandFault::Memory => 4,
+            CommandFault::Live(_)
+            | CommandFault::Handed(_)
+            | CommandFault::Clock
+            | CommandFault::Wav(_)
+            | CommandFault::Write => 5,
+            CommandFault::Record | CommandFault::RecordWrite => 5,
         }
     }
 
@@ -127,45 +136,45 @@ impl Fault {
     }
 }
 
-impl From<AllocError> for Fault {
-    fn from(_fault: AllocError) -> Fault {
-        Fault::Memory
+impl From<AllocError> for CommandFault {
+    fn from(_fault: AllocError) -> CommandFault {
+        CommandFault::Memory
     }
 }
 
-impl<T: Drop> From<AllocFailed<T>> for Fault {
-    fn from(_refused: AllocFailed<T>) -> Fault {
-        Fault::Memory
+impl<T: Drop> From<AllocFailed<T>> for CommandFault {
+    fn from(_refused: AllocFailed<T>) -> CommandFault {
+        CommandFault::Memory
     }
 }
 
-impl From<WriteFault> for Fault {
-    fn from(_fault: WriteFault) -> Fault {
-        Fault::Write
+impl From<WriteFault> for CommandFault {
+    fn from(_fault: WriteFault) -> CommandFault {
+        CommandFault::Write
     }
 }
 
-impl From<SpecError> for Fault {
+impl From<SpecError> for CommandFault {
     /// What is wrong with a studio, or want of memory.
-    fn from(fault: SpecError) -> Fault {
+    fn from(fault: SpecError) -> CommandFault {
         match fault.kind {
-            Kind::Memory => Fault::Memory,
-            _ => Fault::Config(ConfigFault::Studio(fault)),
+            SpecErrorKind::Memory => CommandFault::Memory,
+            _ => CommandFault::Config(ConfigFault::Studio(fault)),
         }
     }
 }
 
-impl From<ReaderFault> for Fault {
-    fn from(fault: ReaderFault) -> Fault {
-        Fault::Replay(ReplayFault::from(fault))
+impl From<ReaderFault> for CommandFault {
+    fn from(fault: ReaderFault) -> CommandFault {
+        CommandFault::Replay(ReplayFault::from(fault))
     }
 }
 
 /// What a write to the output came to.
-pub fn written(write: io::Result<()>) -> Result<(), Fault> {
+pub fn output_result(write: io::Result<()>) -> Result<(), CommandFault> {
     match write {
         Ok(()) => Ok(()),
-        Err(_) => Err(Fault::Write),
+        Err(_) => Err(CommandFault::Write),
     }
 }
 
@@ -182,8 +191,8 @@ fn play_status(fault: &PlayFault) -> u8 {
 fn replay_status(fault: &ReplayFault) -> u8 {
     match fault {
         ReplayFault::Memory | ReplayFault::Capture(ReaderFault::Memory) => 4,
-        ReplayFault::Capture(ReaderFault::Unread) | ReplayFault::Write => 5,
+        ReplayFault::Capture(ReaderFault::ReadFailed) | ReplayFault::Write => 5,
         ReplayFault::Run(StudioFault::Memory(_)) => 4,
-        ReplayFault::Capture(_) | ReplayFault::Run(_) | ReplayFault::Full => 1,
+        ReplayFault::Capture(_) | ReplayFault::Run(_) | ReplayFault::TooManyEvents => 1,
     }
 }

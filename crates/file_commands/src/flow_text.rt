@@ -1,6 +1,7 @@
 //! What a capture holds, as a text.
 use pcap_flows::{
-    Flow, FlowKey, Lengths, Pair, Skew, Steps, Stream, Table, fit_of, skews_of, streams_of,
+    Flow, FlowKey, FlowPair, FlowTable, Lengths, Skew, Steps, StreamFlows, channels_that_fit,
+    group_streams, skews_of,
 };
 use std::alloc::{AllocError, Global};
 use std::net::Ipv4Addr;
@@ -13,8 +14,8 @@ const ENCODINGS: [(&str, usize); 2] = [("L16", 2), ("L24", 3)];
 
 /// A line for each flow of a capture's table, stream by stream; behind those of a stream of several paths one for each
 /// further path's skew. The octets are the capture's.
-pub fn text_of(alloc: Global, table: &Table, octets: &[u8]) -> Result<String, AllocError> {
-    let streams = streams_of(alloc, table)?;
+pub fn table_text(alloc: Global, table: &FlowTable, octets: &[u8]) -> Result<String, AllocError> {
+    let streams = group_streams(alloc, table)?;
     let pairs = pairs_of(alloc, table, streams.as_slice())?;
     let skews = skews_of(alloc, octets, pairs.as_slice())?;
     let mut text = String::new(alloc);
@@ -26,8 +27,8 @@ pub fn text_of(alloc: Global, table: &Table, octets: &[u8]) -> Result<String, Al
 /// The lines of each stream, whose skews stand stream by stream.
 fn push_streams(
     text: &mut String,
-    table: &Table,
-    streams: &[Stream],
+    table: &FlowTable,
+    streams: &[StreamFlows],
     skews: &[Option<Skew>],
 ) -> Result<(), AllocError> {
     let mut place = 0usize;
@@ -44,9 +45,9 @@ fn push_streams(
 /// The line of each path.
 fn push_flows(
     text: &mut String,
-    table: &Table,
+    table: &FlowTable,
     number: usize,
-    stream: &Stream,
+    stream: &StreamFlows,
 ) -> Result<(), AllocError> {
     for (name, place) in NAMES.iter().zip(stream.places().iter()) {
         if let Some((key, flow)) = table.flow(*place) {
@@ -114,7 +115,7 @@ fn push_fits(text: &mut String, len: usize, step: u32) -> Result<(), AllocError>
 fn push_encodings(text: &mut String, len: usize, step: u32) -> Result<bool, AllocError> {
     let mut before = "";
     for (name, octets) in ENCODINGS {
-        if let Some(fit) = fit_of(len, step, octets) {
+        if let Some(fit) = channels_that_fit(len, step, octets) {
             let channels = fit.channels;
             write!(text, "{before}{name}, channels {channels}")?;
             before = " or ";
@@ -124,7 +125,11 @@ fn push_encodings(text: &mut String, len: usize, step: u32) -> Result<bool, Allo
 }
 
 /// A stream's first path with each further one, stream by stream.
-fn pairs_of(alloc: Global, table: &Table, streams: &[Stream]) -> Result<Vec<Pair>, AllocError> {
+fn pairs_of(
+    alloc: Global,
+    table: &FlowTable,
+    streams: &[StreamFlows],
+) -> Result<Vec<FlowPair>, AllocError> {
     let mut pairs = Vec::new(alloc);
     for stream in streams.iter() {
         add_pairs(&mut pairs, table, stream.places())?;
@@ -133,7 +138,11 @@ fn pairs_of(alloc: Global, table: &Table, streams: &[Stream]) -> Result<Vec<Pair
 }
 
 /// The first of some flows with each further one.
-fn add_pairs(pairs: &mut Vec<Pair>, table: &Table, places: &[usize]) -> Result<(), AllocError> {
+fn add_pairs(
+    pairs: &mut Vec<FlowPair>,
+    table: &FlowTable,
+    places: &[usize],
+) -> Result<(), AllocError> {
     let Some((first, further)) = places.split_first() else {
         return Ok(());
     };
@@ -146,10 +155,10 @@ fn add_pairs(pairs: &mut Vec<Pair>, table: &Table, places: &[usize]) -> Result<(
 }
 
 /// The flows at two places of a table.
-fn pair_of(table: &Table, first: usize, second: usize) -> Option<Pair> {
+fn pair_of(table: &FlowTable, first: usize, second: usize) -> Option<FlowPair> {
     let (first, _) = table.flow(first)?;
     let (second, _) = table.flow(second)?;
-    Some(Pair { first, second })
+    Some(FlowPair { first, second })
 }
 
 /// A line for the skew of each further path.
@@ -184,8 +193,8 @@ fn push_time(text: &mut String, name: &str, nanoseconds: i64) -> Result<(), Allo
 }
 
 /// What isn't in a flow's line.
-fn push_rest(text: &mut String, table: &Table) -> Result<(), AllocError> {
-    let (beyond, others) = (table.beyond(), table.others());
+fn push_rest(text: &mut String, table: &FlowTable) -> Result<(), AllocError> {
+    let (beyond, others) = (table.untracked(), table.not_rtp());
     if beyond > 0 {
         writeln!(text, "packets of flows beyond the first 256: {beyond}")?;
     }

@@ -1,9 +1,9 @@
 //! A capture as a trace, and the configuration that fits it.
-use crate::asked::ImportOptions;
-use crate::fault::{CaptureError, Fault};
-use crate::files::Configs;
+use crate::cli::args::ImportArgs;
+use crate::fault::{CaptureInputFault, CommandFault};
+use crate::files::Files;
 use crate::streams_command::{capture_of, own_fault};
-use pcap_flows::{ImportFault, Routes, Table, config_text, routes_of, trace_text};
+use pcap_flows::{FlowTable, ImportFault, Routes, config_text, routes_of, trace_text};
 use std::alloc::Global;
 use std::io::Write;
 use std::net::SocketAddrV4;
@@ -11,18 +11,18 @@ use studio_run::write_text;
 
 /// Writes the trace of the capture at a path, or the configuration that fits it. A fault of the capture comes behind them.
 /// How many flows were left out is told where faults go.
-pub fn import_capture<C: Configs, W: Write, E: Write>(
-    configs: &C,
+pub fn run_import<C: Files, W: Write, E: Write>(
+    files: &C,
     alloc: Global,
     path: &str,
-    options: &ImportOptions<'_>,
+    options: &ImportArgs<'_>,
     output: &mut W,
     faults: &mut E,
-) -> Result<(), Fault> {
-    let names = addresses_in(alloc, options.names.as_slice())?;
-    let octets = capture_of(configs, alloc, path)?;
+) -> Result<(), CommandFault> {
+    let names = addresses_in(alloc, options.addresses.as_slice())?;
+    let octets = capture_of(files, alloc, path)?;
     let octets = octets.as_slice();
-    let table = Table::of(alloc, octets)?;
+    let table = FlowTable::of(alloc, octets)?;
     let routes = routed(alloc, &table, names.as_slice())?;
     write_import(alloc, &table, octets, &routes, options, output)?;
     if routes.left_out() > 0 {
@@ -34,9 +34,9 @@ pub fn import_capture<C: Configs, W: Write, E: Write>(
 /// The routes of a capture's flows to these addresses, or of all that fit.
 pub(crate) fn routed(
     alloc: Global,
-    table: &Table,
+    table: &FlowTable,
     names: &[SocketAddrV4],
-) -> Result<Routes, Fault> {
+) -> Result<Routes, CommandFault> {
     match routes_of(alloc, table, names) {
         Ok(routes) => Ok(routes),
         Err(fault) => Err(unrouted(table, fault)),
@@ -44,10 +44,10 @@ pub(crate) fn routed(
 }
 
 /// A capture's own fault, or why it has no routes.
-fn unrouted(table: &Table, fault: ImportFault) -> Fault {
+fn unrouted(table: &FlowTable, fault: ImportFault) -> CommandFault {
     match (fault, table.fault()) {
-        (ImportFault::NoFlow | ImportFault::Unknown, Some(fault)) => {
-            Fault::Capture(CaptureError::Octet(fault))
+        (ImportFault::NoFlow | ImportFault::UnknownAddress, Some(fault)) => {
+            CommandFault::Capture(CaptureInputFault::Octet(fault))
         }
         (fault, _) => fault_of(fault),
     }
@@ -56,12 +56,12 @@ fn unrouted(table: &Table, fault: ImportFault) -> Fault {
 /// Writes what was asked for.
 fn write_import<W: Write>(
     alloc: Global,
-    table: &Table,
+    table: &FlowTable,
     octets: &[u8],
     routes: &Routes,
-    options: &ImportOptions<'_>,
+    options: &ImportArgs<'_>,
     output: &mut W,
-) -> Result<(), Fault> {
+) -> Result<(), CommandFault> {
     if options.config {
         write_config(alloc, table, octets, routes, options, output)
     } else {
@@ -72,12 +72,12 @@ fn write_import<W: Write>(
 /// Writes the configuration that fits a capture's trace.
 fn write_config<W: Write>(
     alloc: Global,
-    table: &Table,
+    table: &FlowTable,
     octets: &[u8],
     routes: &Routes,
-    options: &ImportOptions<'_>,
+    options: &ImportArgs<'_>,
     output: &mut W,
-) -> Result<(), Fault> {
+) -> Result<(), CommandFault> {
     match config_text(alloc, table, octets, routes, options.latency) {
         Ok(text) => Ok(write_text(output, text.as_bytes())?),
         Err(fault) => Err(fault_of(fault)),
@@ -90,7 +90,7 @@ fn write_trace<W: Write>(
     octets: &[u8],
     routes: &Routes,
     output: &mut W,
-) -> Result<(), Fault> {
+) -> Result<(), CommandFault> {
     match trace_text(alloc, octets, routes.list()) {
         Ok(text) => Ok(write_text(output, text.as_slice())?),
         Err(fault) => Err(fault_of(fault)),
@@ -98,19 +98,19 @@ fn write_trace<W: Write>(
 }
 
 /// What is wrong with a capture as a trace, or want of memory.
-fn fault_of(fault: ImportFault) -> Fault {
+fn fault_of(fault: ImportFault) -> CommandFault {
     match fault {
-        ImportFault::Memory => Fault::Memory,
-        other => Fault::Capture(CaptureError::Import(other)),
+        ImportFault::Memory => CommandFault::Memory,
+        other => CommandFault::Capture(CaptureInputFault::Import(other)),
     }
 }
 
 /// The addresses and ports that words say.
-fn addresses_in(alloc: Global, words: &[&str]) -> Result<Vec<SocketAddrV4>, Fault> {
+fn addresses_in(alloc: Global, words: &[&str]) -> Result<Vec<SocketAddrV4>, CommandFault> {
     let mut addresses = Vec::new(alloc);
     for word in words.iter() {
         let Ok(address) = word.parse::<SocketAddrV4>() else {
-            return Err(Fault::Address);
+            return Err(CommandFault::Address);
         };
         addresses.push(address)?;
     }

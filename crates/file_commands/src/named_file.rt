@@ -1,18 +1,18 @@
 //! A file that a word names.
-use crate::files::Configs;
-use wav_file::{FileFault, WavFiles};
+use crate::files::Files;
+use wav_file::{CreateFile, FileFault};
 
 /// A file that is made at a path once it is asked for.
 #[derive(Clone, Copy)]
 pub(crate) struct NamedFile<'a, C> {
-    pub(crate) configs: &'a C,
+    pub(crate) files: &'a C,
     pub(crate) path: &'a str,
 }
 
-impl<C: Configs> WavFiles for NamedFile<'_, C> {
+impl<C: Files> CreateFile for NamedFile<'_, C> {
     type File = C::File;
 
-    fn make(&self) -> Result<C::File, FileFault> {
-        self.configs.create(self.path)
+    fn create(&self) -> Result<C::File, FileFault> {
+        self.files.create(self.path)
     }
 }

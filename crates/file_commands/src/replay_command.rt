@@ -1,14 +1,14 @@
 //! A capture as the report of what it says, with a WAV file and a picture beside it.
 ghost use Rattle.std.specs.Prelude.{[]};
 
-use crate::asked::ReplayWords;
-use crate::fault::{CaptureError, Fault};
-use crate::files::{Configs, studio_of};
+use crate::cli::args::ReplayArgs;
+use crate::fault::{CaptureInputFault, CommandFault};
+use crate::files::{Files, studio_of};
 use crate::import_command::routed;
-use crate::replay_outputs::{Beside, begin_sound, end_sound, write_picture};
-use pcap_flows::{Routes, Table};
-use pcap_replay::{Listener, flows_of, opening_of, replay, replay_record};
-use reception_chart::{Extent, Streams};
+use crate::replay_outputs::{ReplayOutputs, create_wav, finish_wav, write_chart};
+use pcap_flows::{FlowTable, Routes};
+use pcap_replay::{ReplayObserver, record_opening, replay, replay_record, scan_flows};
+use reception_chart::{Extent, StudioTracker};
 use std::alloc::Global;
 use std::io;
 use std::io::Write;
@@ -17,7 +17,7 @@ use studio_run::ReadFault;
 
 /// What is known of a capture before it is replayed.
 #[derive(Drop)]
-enum Known {
+enum CaptureKind {
     /// It is the record of a live run.
     Record,
     /// Its flows have routes.
@@ -26,42 +26,42 @@ enum Known {
 
 /// A capture, and the studio that it is replayed by.
 #[derive(Drop)]
-struct Source<'a> {
+struct ReplaySource<'a> {
     path: &'a str,
     studio: StudioSpec,
-    known: Known,
+    known: CaptureKind,
 }
 
 /// Writes the report of a capture, by the configuration at a path. It reads the front of the capture, up to its first packet,
 /// for whether it is the record of a live run. Over a record it goes once; over another capture twice, first for its flows,
 /// which have to be known before the first event; and once more after the report for a picture. Before a fault of a file
 /// beside it its path is told where faults go.
-pub fn replay_capture<C: Configs, W: Write, E: Write>(
-    configs: &C,
+pub fn run_replay<C: Files, W: Write, E: Write>(
+    files: &C,
     alloc: Global,
     config: &str,
-    words: ReplayWords<'_>,
+    words: ReplayArgs<'_>,
     output: &mut W,
     faults: &mut E,
-) -> Result<(), Fault> {
-    let studio = studio_of(configs, alloc, config)?;
-    let source = source_of(configs, alloc, studio, words.file)?;
-    source.replay(configs, alloc, words, output, faults)
+) -> Result<(), CommandFault> {
+    let studio = studio_of(files, alloc, config)?;
+    let source = source_of(files, alloc, studio, words.file)?;
+    source.replay(files, alloc, words, output, faults)
 }
 
 /// The capture at a path, and the studio for it: of a live run's record that opened when it was.
-fn source_of<'a, C: Configs>(
-    configs: &C,
+fn source_of<'a, C: Files>(
+    files: &C,
     alloc: Global,
     studio: StudioSpec,
     path: &'a str,
-) -> Result<Source<'a>, Fault> {
-    match opening_at(configs, alloc, path)? {
+) -> Result<ReplaySource<'a>, CommandFault> {
+    match opening_at(files, alloc, path)? {
         Some(opening) => recorded(alloc, studio, path, opening),
-        None => Ok(Source {
+        None => Ok(ReplaySource {
             path,
             studio,
-            known: Known::Flows(routes_at(configs, alloc, path)?),
+            known: CaptureKind::Flows(routes_at(files, alloc, path)?),
         }),
     }
 }
@@ -72,72 +72,72 @@ fn recorded<'a>(
     studio: StudioSpec,
     path: &'a str,
     opening: u64,
-) -> Result<Source<'a>, Fault> {
+) -> Result<ReplaySource<'a>, CommandFault> {
     let open_at = i64::try_from(opening).unwrap_or(i64::MAX);
-    Ok(Source {
+    Ok(ReplaySource {
         path,
         studio: studio.shifted(alloc, open_at)?,
-        known: Known::Record,
+        known: CaptureKind::Record,
     })
 }
 
 /// When the studio of a live run was opened, if the capture at a path is the record of one.
-fn opening_at<C: Configs>(configs: &C, alloc: Global, path: &str) -> Result<Option<u64>, Fault> {
-    let mut input = input_at(configs, path)?;
-    Ok(opening_of(alloc, &mut input)?)
+fn opening_at<C: Files>(files: &C, alloc: Global, path: &str) -> Result<Option<u64>, CommandFault> {
+    let mut input = input_at(files, path)?;
+    Ok(record_opening(alloc, &mut input)?)
 }
 
 /// The routes of the flows of the capture at a path.
-fn routes_at<C: Configs>(configs: &C, alloc: Global, path: &str) -> Result<Routes, Fault> {
-    let table = table_at(configs, alloc, path)?;
+fn routes_at<C: Files>(files: &C, alloc: Global, path: &str) -> Result<Routes, CommandFault> {
+    let table = table_at(files, alloc, path)?;
     routed(alloc, &table, &[])
 }
 
 /// The flows of the capture at a path.
-fn table_at<C: Configs>(configs: &C, alloc: Global, path: &str) -> Result<Table, Fault> {
-    let mut input = input_at(configs, path)?;
-    Ok(flows_of(alloc, &mut input)?)
+fn table_at<C: Files>(files: &C, alloc: Global, path: &str) -> Result<FlowTable, CommandFault> {
+    let mut input = input_at(files, path)?;
+    Ok(scan_flows(alloc, &mut input)?)
 }
 
-impl Source<'_> {
+impl ReplaySource<'_> {
     /// Writes the report, and what is asked for beside it.
-    fn replay<C: Configs, W: Write, E: Write>(
+    fn replay<C: Files, W: Write, E: Write>(
         &self,
-        configs: &C,
+        files: &C,
         alloc: Global,
-        words: ReplayWords<'_>,
+        words: ReplayArgs<'_>,
         output: &mut W,
         faults: &mut E,
-    ) -> Result<(), Fault> {
+    ) -> Result<(), CommandFault> {
         let streams = match words.chart {
-            Some(_) => Some(Streams::reach(alloc, &self.studio)?),
+            Some(_) => Some(StudioTracker::measure(alloc, &self.studio)?),
             None => None,
         };
-        let sound = begin_sound(configs, words.wav, self.studio.output(), faults)?;
-        let mut beside = Beside { sound, streams };
-        let played = self.play(configs, alloc, output, &mut beside);
-        let Beside { sound, streams } = beside;
-        end_sound(sound, played, words.wav, faults)?;
+        let sound = create_wav(files, words.wav, self.studio.output(), faults)?;
+        let mut beside = ReplayOutputs { sound, streams };
+        let played = self.play(files, alloc, output, &mut beside);
+        let ReplayOutputs { sound, streams } = beside;
+        finish_wav(sound, played, words.wav, faults)?;
         match (words.chart, streams) {
-            (Some(path), Some(streams)) => self.draw(configs, alloc, &streams, path, faults),
+            (Some(path), Some(streams)) => self.draw(files, alloc, &streams, path, faults),
             _ => Ok(()),
         }
     }
 
     /// Writes the report, and tells a listener.
-    fn play<C: Configs, W: Write, L: Listener>(
+    fn play<C: Files, W: Write, L: ReplayObserver>(
         &self,
-        configs: &C,
+        files: &C,
         alloc: Global,
         output: &mut W,
         listener: &mut L,
-    ) -> Result<(), Fault>
+    ) -> Result<(), CommandFault>
         requires fresh { L.heard listener.old listener.old [] [] }
     {
-        let mut input = input_at(configs, self.path)?;
+        let mut input = input_at(files, self.path)?;
         let played = match &self.known {
-            Known::Record => replay_record(alloc, &self.studio, &mut input, output, listener),
-            Known::Flows(routes) => {
+            CaptureKind::Record => replay_record(alloc, &self.studio, &mut input, output, listener),
+            CaptureKind::Flows(routes) => {
                 replay(
                     alloc,
                     &self.studio,
@@ -152,23 +152,23 @@ impl Source<'_> {
     }
 
     /// Goes over the capture again, and draws what was seen of it to the file at a path.
-    fn draw<C: Configs, E: Write>(
+    fn draw<C: Files, E: Write>(
         &self,
-        configs: &C,
+        files: &C,
         alloc: Global,
-        streams: &Streams<Extent>,
+        streams: &StudioTracker<Extent>,
         path: &str,
         faults: &mut E,
-    ) -> Result<(), Fault> {
-        let mut beside = Beside::<C::File, _> {
+    ) -> Result<(), CommandFault> {
+        let mut beside = ReplayOutputs::<C::File, _> {
             sound: None,
-            streams: Some(streams.again(alloc, &self.studio)?),
+            streams: Some(streams.for_drawing(alloc, &self.studio)?),
         };
-        self.play(configs, alloc, &mut io::sink(), &mut beside)?;
+        self.play(files, alloc, &mut io::sink(), &mut beside)?;
         match &beside.streams {
             Some(seen) => {
-                let picture = seen.picture(alloc)?;
-                write_picture(configs, path, picture.as_slice(), faults)
+                let picture = seen.svg(alloc)?;
+                write_chart(files, path, picture.as_slice(), faults)
             }
             None => Ok(()),
         }
@@ -176,10 +176,10 @@ impl Source<'_> {
 }
 
 /// The capture at a path.
-fn input_at<C: Configs>(configs: &C, path: &str) -> Result<C::Input, Fault> {
-    match configs.open(path) {
+fn input_at<C: Files>(files: &C, path: &str) -> Result<C::Input, CommandFault> {
+    match files.open(path) {
         Ok(input) => Ok(input),
-        Err(ReadFault::Memory) => Err(Fault::Memory),
-        Err(_) => Err(Fault::Capture(CaptureError::Unread)),
+        Err(ReadFault::Memory) => Err(CommandFault::Memory),
+        Err(_) => Err(CommandFault::Capture(CaptureInputFault::Unread)),
     }
 }

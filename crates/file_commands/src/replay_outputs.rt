@@ -1,12 +1,12 @@
 //! What is written of a capture beside its report.
 ghost use Rattle.std.specs.Prelude.{[], IfOk};
-ghost use Rattle.pcap_replay.specs.Sound.{HasSoundedIf};
+ghost use Rattle.pcap_replay.specs.WavObserver.{HasSoundedIf};
 
-use crate::fault::Fault;
-use crate::files::Configs;
+use crate::fault::CommandFault;
+use crate::files::Files;
 use mix_packets::OutSpec;
-use pcap_replay::{Listener, Sound};
-use reception_chart::{Observer, Streams};
+use pcap_replay::{ReplayObserver, WavObserver};
+use reception_chart::{ReceptionObserver, StudioTracker};
 use rtp_stream::Path;
 use std::io::Write;
 use studio_run::write_text;
@@ -14,12 +14,12 @@ use wav_file::{FileFault, Overwrite};
 
 /// The mix's file, and the streams that are watched, where they are asked for.
 #[derive(Drop)]
-pub(crate) struct Beside<F: Overwrite, O> {
-    pub(crate) sound: Option<Sound<F>>,
-    pub(crate) streams: Option<Streams<O>>,
+pub(crate) struct ReplayOutputs<F: Overwrite, O> {
+    pub(crate) sound: Option<WavObserver<F>>,
+    pub(crate) streams: Option<StudioTracker<O>>,
 }
 
-impl<F: Overwrite + Drop, O: Observer + Drop> Listener for Beside<F, O> {
+impl<F: Overwrite + Drop, O: ReceptionObserver + Drop> ReplayObserver for ReplayOutputs<F, O> {
     ghost heard = { λ begun now events datagrams. HasSoundedIf begun.sound now.sound events datagrams };
 
     fn arrived(&mut self, stream: usize, path: Path, octets: &[u8]) {
@@ -49,19 +49,19 @@ impl<F: Overwrite + Drop, O: Observer + Drop> Listener for Beside<F, O> {
 }
 
 /// Begins the mix's file, if one is asked for.
-pub(crate) fn begin_sound<C: Configs, E: Write>(
-    configs: &C,
+pub(crate) fn create_wav<C: Files, E: Write>(
+    files: &C,
     path: Option<&str>,
     output: &OutSpec,
     faults: &mut E,
-) -> Result<Option<Sound<C::File>>, Fault>
+) -> Result<Option<WavObserver<C::File>>, CommandFault>
     ensures { IfOk result (λ sound. HasSoundedIf sound sound [] []) }
 {
     let Some(path) = path else {
         return Ok(None);
     };
-    let begun = match configs.create(path) {
-        Ok(file) => Sound::begin(file, output),
+    let begun = match files.create(path) {
+        Ok(file) => WavObserver::begin(file, output),
         Err(fault) => Err(fault),
     };
     match begun {
@@ -71,12 +71,12 @@ pub(crate) fn begin_sound<C: Configs, E: Write>(
 }
 
 /// Ends the mix's file behind a report, or behind the fault that ended that.
-pub(crate) fn end_sound<F: Overwrite + Drop, E: Write>(
-    sound: Option<Sound<F>>,
-    played: Result<(), Fault>,
+pub(crate) fn finish_wav<F: Overwrite + Drop, E: Write>(
+    sound: Option<WavObserver<F>>,
+    played: Result<(), CommandFault>,
     path: Option<&str>,
     faults: &mut E,
-) -> Result<(), Fault> {
+) -> Result<(), CommandFault> {
     let (Some(sound), Some(path)) = (sound, path) else {
         return played;
     };
@@ -91,13 +91,13 @@ pub(crate) fn end_sound<F: Overwrite + Drop, E: Write>(
 }
 
 /// Writes a picture to the file at a path.
-pub(crate) fn write_picture<C: Configs, E: Write>(
-    configs: &C,
+pub(crate) fn write_chart<C: Files, E: Write>(
+    files: &C,
     path: &str,
     picture: &[u8],
     faults: &mut E,
-) -> Result<(), Fault> {
-    let written = match configs.create(path) {
+) -> Result<(), CommandFault> {
+    let written = match files.create(path) {
         Ok(mut file) => written_picture(&mut file, picture),
         Err(fault) => Err(fault),
     };
@@ -116,7 +116,7 @@ fn written_picture<W: Write>(file: &mut W, picture: &[u8]) -> Result<(), FileFau
 }
 
 /// The fault of a file, whose path is told first.
-fn file_fault<E: Write>(word: &str, path: &str, fault: FileFault, faults: &mut E) -> Fault {
+fn file_fault<E: Write>(word: &str, path: &str, fault: FileFault, faults: &mut E) -> CommandFault {
     let _ = write!(faults, "{word} {path}: ");
-    Fault::Wav(fault)
+    CommandFault::Wav(fault)
 }

@@ -1,40 +1,44 @@
 //! What a capture holds.
-use crate::fault::{CaptureError, Fault};
-use crate::files::Configs;
-use crate::flow_text::text_of;
-use pcap_flows::Table;
+use crate::fault::{CaptureInputFault, CommandFault};
+use crate::files::Files;
+use crate::flow_text::table_text;
+use pcap_flows::FlowTable;
 use std::alloc::Global;
 use std::io::Write;
 use studio_run::{ReadFault, write_text};
 
 /// Writes a line for each RTP flow of the capture at a path, stream by stream. A fault of the capture comes behind them.
-pub fn list_streams<C: Configs, W: Write>(
-    configs: &C,
+pub fn run_streams<C: Files, W: Write>(
+    files: &C,
     alloc: Global,
     path: &str,
     output: &mut W,
-) -> Result<(), Fault> {
-    let octets = capture_of(configs, alloc, path)?;
+) -> Result<(), CommandFault> {
+    let octets = capture_of(files, alloc, path)?;
     write_streams(alloc, octets.as_slice(), output)
 }
 
 /// The octets of the capture at a path.
-pub(crate) fn capture_of<C: Configs>(
-    configs: &C,
+pub(crate) fn capture_of<C: Files>(
+    files: &C,
     alloc: Global,
     path: &str,
-) -> Result<Vec<u8>, Fault> {
-    match configs.octets(alloc, path) {
+) -> Result<Vec<u8>, CommandFault> {
+    match files.read_all(alloc, path) {
         Ok(octets) => Ok(octets),
-        Err(ReadFault::Device) => Err(Fault::Capture(CaptureError::Unread)),
-        Err(ReadFault::TooMany) => Err(Fault::Capture(CaptureError::TooLong)),
-        Err(ReadFault::Memory) => Err(Fault::Memory),
+        Err(ReadFault::Device) => Err(CommandFault::Capture(CaptureInputFault::Unread)),
+        Err(ReadFault::TooMany) => Err(CommandFault::Capture(CaptureInputFault::TooLong)),
+        Err(ReadFault::Memory) => Err(CommandFault::Memory),
     }
 }
 
 /// The same of a capture's octets.
-fn write_streams<W: Write>(alloc: Global, octets: &[u8], output: &mut W) -> Result<(), Fault> {
-    let table = Table::of(alloc, octets)?;
+fn write_streams<W: Write>(
+    alloc: Global,
+    octets: &[u8],
+    output: &mut W,
+) -> Result<(), CommandFault> {
+    let table = FlowTable::of(alloc, octets)?;
     write_table(alloc, &table, octets, output)?;
     own_fault(&table)
 }
@@ -42,18 +46,18 @@ fn write_streams<W: Write>(alloc: Global, octets: &[u8], output: &mut W) -> Resu
 /// Writes the lines of a capture's flows.
 fn write_table<W: Write>(
     alloc: Global,
-    table: &Table,
+    table: &FlowTable,
     octets: &[u8],
     output: &mut W,
-) -> Result<(), Fault> {
-    let text = text_of(alloc, table, octets)?;
+) -> Result<(), CommandFault> {
+    let text = table_text(alloc, table, octets)?;
     Ok(write_text(output, text.as_bytes())?)
 }
 
 /// A capture's own fault, if it has one.
-pub(crate) fn own_fault(table: &Table) -> Result<(), Fault> {
+pub(crate) fn own_fault(table: &FlowTable) -> Result<(), CommandFault> {
     match table.fault() {
-        Some(fault) => Err(Fault::Capture(CaptureError::Octet(fault))),
+        Some(fault) => Err(CommandFault::Capture(CaptureInputFault::Octet(fault))),
         None => Ok(()),
     }
 }

@@ -1,65 +1,65 @@
 //! A report or a listing, with a WAV file of the mix or of a stream beside it.
-use crate::asked::StreamWords;
-use crate::fault::Fault;
-use crate::files::{Configs, studio_of};
+use crate::cli::args::StreamWavArgs;
+use crate::fault::CommandFault;
+use crate::files::{Files, studio_of};
 use crate::named_file::NamedFile;
 use std::alloc::Global;
 use std::io::{Read, Write};
-use wav_file::{RecordFault, list_and_record, play_and_record};
+use wav_file::{WavRunFault, list_to_wav, play_to_wav};
 
 /// Plays the trace by the configuration at a path, and writes the mix to the file at another. Before a fault of that
 /// file its path is told where faults go.
-pub fn play_to_wav<C: Configs, I: Read, W: Write, E: Write>(
-    configs: &C,
+pub fn run_play_to_wav<C: Files, I: Read, W: Write, E: Write>(
+    files: &C,
     alloc: Global,
     config: &str,
     path: &str,
     input: &mut I,
     output: &mut W,
     faults: &mut E,
-) -> Result<(), Fault> {
-    let studio = studio_of(configs, alloc, config)?;
-    let file = NamedFile { configs, path };
-    match play_and_record(alloc, &studio, input, output, &file) {
+) -> Result<(), CommandFault> {
+    let studio = studio_of(files, alloc, config)?;
+    let file = NamedFile { files, path };
+    match play_to_wav(alloc, &studio, input, output, &file) {
         Ok(_file) => Ok(()),
-        Err(fault) => Err(told_of(fault, path, faults)),
+        Err(fault) => Err(wav_fault(fault, path, faults)),
     }
 }
 
 /// Writes a stream's samples to a file, and lists the marks of the trace, by the configuration at a path. Before a fault
 /// of that file its path is told where faults go.
-pub fn list_to_wav<C: Configs, I: Read, W: Write, E: Write>(
-    configs: &C,
+pub fn run_marks_to_wav<C: Files, I: Read, W: Write, E: Write>(
+    files: &C,
     alloc: Global,
     config: &str,
-    words: StreamWords<'_>,
+    words: StreamWavArgs<'_>,
     input: &mut I,
     output: &mut W,
     faults: &mut E,
-) -> Result<(), Fault> {
+) -> Result<(), CommandFault> {
     let Ok(stream) = words.stream.parse::<u8>() else {
-        return Err(Fault::Stream);
+        return Err(CommandFault::StreamNumber);
     };
-    let studio = studio_of(configs, alloc, config)?;
+    let studio = studio_of(files, alloc, config)?;
     let path = words.file;
-    let file = NamedFile { configs, path };
-    match list_and_record(alloc, &studio, stream, input, output, &file) {
+    let file = NamedFile { files, path };
+    match list_to_wav(alloc, &studio, stream, input, output, &file) {
         Ok(_file) => Ok(()),
-        Err(fault) => Err(told_of(fault, path, faults)),
+        Err(fault) => Err(wav_fault(fault, path, faults)),
     }
 }
 
 /// The fault of a run. Of a file's the path is told first.
-fn told_of<E: Write>(fault: RecordFault, path: &str, faults: &mut E) -> Fault {
+fn wav_fault<E: Write>(fault: WavRunFault, path: &str, faults: &mut E) -> CommandFault {
     match fault {
-        RecordFault::Play(fault) => Fault::Play(fault),
-        RecordFault::Stream(fault) => {
+        WavRunFault::Play(fault) => CommandFault::Play(fault),
+        WavRunFault::Stream(fault) => {
             let _ = write!(faults, "wav {path}: ");
-            Fault::Solo(fault)
+            CommandFault::StreamWav(fault)
         }
-        RecordFault::File(fault) => {
+        WavRunFault::File(fault) => {
             let _ = write!(faults, "wav {path}: ");
-            Fault::Wav(fault)
+            CommandFault::Wav(fault)
         }
     }
 }

@@ -5,8 +5,8 @@ use Rattle.std.proofs.lemmas.Option.{get_or_from_slice_get}
 use Rattle.std.specs.List.{slice_get}
 use Rattle.std.proofs.lemmas.Slice.{take-put_mid_below, take-put_mid}
 use borrow.Rule.Slice.PartMut.{put_mid}
-use Rattle.gain_mix.specs.declared.four.FourRows.{FourRows}
-use Rattle.gain_mix.specs.declared.four.FourSums.{FourSums}
+use Rattle.gain_mix.specs.declared.four_rows.FourRows.{FourRows}
+use Rattle.gain_mix.specs.declared.four_rows.FourSums.{FourSums}
 use Rattle.gain_mix.specs.Four.{AreRowsAt, AreWeighted, sample_of, with_four}
 use Rattle.gain_mix.specs.Gain.{ins_of}
 use Rattle.gain_mix.specs.Mix.{frame_at, mixed_frame, output_sample, IsMixed, HasMixed}

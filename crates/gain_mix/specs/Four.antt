@@ -1,8 +1,8 @@
 -- Four outputs side by side: their rows of gains, their sums and their samples.
 use Rattle.std.specs.Prelude.{ℕ, ◌≡◌, ◌+◌, ◌*◌, ◌^◌, ◌≤◌, ℤ, List, Some, take, set, slice_get}
 use Rattle.std.specs.Int.RustNames.{unsigned_abs}
-use Rattle.gain_mix.specs.declared.four.FourRows.{FourRows}
-use Rattle.gain_mix.specs.declared.four.FourSums.{FourSums}
+use Rattle.gain_mix.specs.declared.four_rows.FourRows.{FourRows}
+use Rattle.gain_mix.specs.declared.four_rows.FourSums.{FourSums}
 use Rattle.gain_mix.specs.Gain.{IsRow}
 use Rattle.gain_mix.specs.Mix.{IsWeighted, rounded_sum, saturated_sum, weighted_sum}
 

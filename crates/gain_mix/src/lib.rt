@@ -8,13 +8,13 @@
 //! saturated. Inputs are samples of 24 bits, frame by frame; the shift is 16 for outputs of 24 bits and 24 for outputs of 16. The caller keeps both slices.
 #![tactic(auto)]
 
-mod four;
+mod four_rows;
 mod matrix;
 mod mix;
-mod saturated;
+mod saturation;
 mod schedule;
 
 pub use matrix::{Matrix, MatrixFault};
 pub use mix::{mix_block, mix_frame};
-pub use saturated::mix_counted;
+pub use saturation::mix_counted;
 pub use schedule::{Schedule, ScheduleFault, mix_span};

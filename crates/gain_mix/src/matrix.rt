@@ -4,7 +4,7 @@ ghost use Rattle.gain_mix.specs.Four.{AreRows, AreRowsAt};
 ghost use Rattle.gain_mix.specs.Gain.{IsGain, IsRow, ins_of, rows_of};
 ghost use Rattle.gain_mix.specs.Matrix.{matrix_fault_of, has_shape, has_range};
 
-use crate::four::FourRows;
+use crate::four_rows::FourRows;
 use std::alloc::{AllocError, Global};
 use std::marker::Model;
 use thiserror::Error;

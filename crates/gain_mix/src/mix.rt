@@ -5,7 +5,7 @@ ghost use Rattle.gain_mix.specs.Four.{AreRows, AreSumsTo, IsSumTo, AreWeighted, 
 ghost use Rattle.gain_mix.specs.Gain.{IsGain, IsRow, ins_of};
 ghost use Rattle.gain_mix.specs.Mix.{Is24Bits, IsWeighted, HasMixed, rounded_sum, saturated_sum, mixed_frame, IsMixed};
 
-use crate::four::{FourRows, FourSums};
+use crate::four_rows::{FourRows, FourSums};
 use crate::matrix::Matrix;
 
 /// The sum with one input more. The casts say that both factors have 32 bits: of such a product
@@ -34,7 +34,7 @@ fn add_next(sum: i64, gains: &[i64], input: usize, values: &[i32]) -> i64
 }
 
 /// The sum over all inputs of gain times value.
-pub(crate) fn weigh(gains: &[i64], values: &[i32]) -> i64
+pub(crate) fn weighted_sum(gains: &[i64], values: &[i32]) -> i64
     requires row { IsRow (length values.now) gains.now }
     requires few { length values.now ≤ 1024 }
     requires in_24_bits { All Is24Bits values.now }
@@ -125,7 +125,7 @@ pub(crate) fn saturated(sum: i64, shift: u32) -> i32
 }
 
 /// The sum in output samples: rounded half up, then saturated.
-fn round(sum: i64, shift: u32) -> i32
+fn sample_of(sum: i64, shift: u32) -> i32
     requires bounded { unsigned_abs sum ≤ 2 ^ 53 }
     requires shift { (shift ≡ 16) ⊎ (shift ≡ 24) }
     ensures { result ≡ saturated_sum shift (rounded_sum shift sum) }
@@ -203,10 +203,10 @@ fn put_four(sums: FourSums, outs: &mut [i32], output: usize, shift: u32)
     requires shift { (shift ≡ 16) ⊎ (shift ≡ 24) }
     ensures { outs.new ≡ with_four shift sums output outs.old }
 {
-    outs[output] = round(sums.first, shift);
-    outs[output + 1] = round(sums.second, shift);
-    outs[output + 2] = round(sums.third, shift);
-    outs[output + 3] = round(sums.fourth, shift);
+    outs[output] = sample_of(sums.first, shift);
+    outs[output + 1] = sample_of(sums.second, shift);
+    outs[output + 2] = sample_of(sums.third, shift);
+    outs[output + 3] = sample_of(sums.fourth, shift);
 }
 
 /// Mixes one output, where those before it are mixed.
@@ -218,7 +218,7 @@ fn mix_one(matrix: &Matrix, ins: &[i32], outs: &mut [i32], output: usize, shift:
     requires before { HasMixed matrix.now ins.now shift output outs.old }
     ensures { HasMixed matrix.now ins.now shift (output + 1) outs.new }
 {
-    outs[output] = round(weigh(matrix.row(output), ins), shift);
+    outs[output] = sample_of(weighted_sum(matrix.row(output), ins), shift);
 }
 
 /// Mixes the inputs of so many sampling instants, which stand one after another.

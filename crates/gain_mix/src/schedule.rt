@@ -108,7 +108,7 @@ impl Schedule {
     }
 
     /// A schedule of the same gains.
-    pub fn copied(&self, alloc: Global) -> Result<Schedule, AllocError>
+    pub fn duplicate(&self, alloc: Global) -> Result<Schedule, AllocError>
         ensures { IfOk result (λ copy. copy ≡ self.now) }
     {
         let first = copied_matrix(alloc, &self.first)?;

@@ -16,7 +16,7 @@ ghost use Rattle.lane_align.specs.Lane as state;
 ghost use Rattle.lane_align.specs.Lane.{IsSlot, IsAfter, with_slot};
 
 use crate::cover::Cover;
-use crate::frames::FrameQueue;
+use crate::frame_queue::FrameQueue;
 use crate::last_slot::{
     LastSlot, frames_before, frames_between, frames_left, may_follow_slot, time_reached_by,
 };
@@ -206,7 +206,7 @@ impl Lane {
                 number,
                 media,
                 ..
-            } => self.may_begin(epoch, number, media),
+            } => self.may_take_slot(epoch, number, media),
             MarkKindRef::Quiet { until } => match (self.slot, self.quiet) {
                 (Some(_), _) => false,
                 (None, Some(last)) => last < until,
@@ -217,7 +217,7 @@ impl Lane {
     }
 
     /// Whether a slot may follow the last mark.
-    fn may_begin(&self, epoch: u64, number: u64, media: i64) -> bool
+    fn may_take_slot(&self, epoch: u64, number: u64, media: i64) -> bool
         requires { self.now.ended ≡ false }
         ensures { (body : Body) → result ≡ list.can_follow self.now.format.frames (last_kind self.now.ended self.now.slot self.now.quiet) (Slot epoch number media body) }
     {

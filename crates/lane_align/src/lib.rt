@@ -10,7 +10,7 @@
 #![tactic(auto)]
 
 mod cover;
-mod frames;
+mod frame_queue;
 mod lane;
 mod last_slot;
 mod laws;

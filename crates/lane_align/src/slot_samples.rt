@@ -7,7 +7,7 @@ ghost use Rattle.rtp_stream.specs.MarkRef.{body_from};
 ghost use Rattle.lane_align.specs.HeldValues.{silence};
 ghost use Rattle.lane_align.specs.Lane.{body_samples};
 
-use crate::frames::FrameQueue;
+use crate::frame_queue::FrameQueue;
 use rtp_stream::Format;
 use rtp_wire::read_samples;
 

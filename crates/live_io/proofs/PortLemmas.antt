@@ -9,7 +9,7 @@ use Rattle.studio_config.specs.Studio.{Studio}
 use Rattle.studio_config.specs.declared.ports.Ports.{Ports}
 use Rattle.studio_config.specs.declared.config.keys.Key.{Key}
 use Rattle.studio_config.specs.declared.config.keys.Key.TheVariants as key
-use Rattle.studio_config.specs.declared.config.fault.Place.TheVariants as place
+use Rattle.studio_config.specs.declared.config.fault.ConfigTable.TheVariants as place
 use Rattle.studio_config.specs.declared.config.fault.SpecError.{SpecError}
 use Rattle.live_io.specs.Ports.{AreSaid, Need, first_missing, missing_at, missing_in, needs_of, output_needs, path_need, path_needs, port_key, row_needs}
 

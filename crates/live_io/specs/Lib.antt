@@ -2,5 +2,5 @@ pub mod Addresses
 pub mod Clock
 pub mod Ports
 pub mod Report
-pub mod Puts
-pub mod Passes
+pub mod RecordBlocks
+pub mod RecordWriter

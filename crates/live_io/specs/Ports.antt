@@ -6,15 +6,15 @@ use Rattle.studio_config.specs.Rows.{first_in}
 use Rattle.studio_config.specs.Studio.{Studio}
 use Rattle.studio_config.specs.declared.config.keys.Key.{Key}
 use Rattle.studio_config.specs.declared.config.keys.Key.TheVariants as key
-use Rattle.studio_config.specs.declared.config.fault.Place.{Place}
-use Rattle.studio_config.specs.declared.config.fault.Place.TheVariants as place
-use Rattle.studio_config.specs.declared.config.fault.Kind.TheVariants as kind
+use Rattle.studio_config.specs.declared.config.fault.ConfigTable.{ConfigTable}
+use Rattle.studio_config.specs.declared.config.fault.ConfigTable.TheVariants as place
+use Rattle.studio_config.specs.declared.config.fault.SpecErrorKind.TheVariants as kind
 use Rattle.studio_config.specs.declared.config.fault.SpecError.{SpecError}
 use Rattle.live_io.specs.declared.sockets.ports.LivePorts.{LivePorts}
 
 -- a port that is needed: where the configuration says it, and which it is, if it does
 pub record Need : Type 0 where
-  pub place : Place
+  pub place : ConfigTable
   pub key : Key
   pub port : Option ℕ
 
@@ -51,7 +51,7 @@ abbrev pub needs_of : Studio → List Need
 needs_of studio = path_needs studio.ports.paths 0 studio.streams ++ output_needs studio
 
 -- the port is not there
-abbrev pub missing_at : Place → Key → Option ℕ → Option SpecError
+abbrev pub missing_at : ConfigTable → Key → Option ℕ → Option SpecError
 missing_at place key (Some port) = None
 missing_at place key None = Some (record { place = place; key = Some key; kind = kind.Missing })
 

@@ -1,19 +1,19 @@
 //! The feeds of all paths.
 ghost use Rattle.std.specs.Prelude.{◌≡◌, length, IfOk};
 
-use crate::sockets::feed::{Flags, UdpFeed};
+use crate::sockets::feed::{FeedFlags, UdpFeed};
 use crate::sockets::receiver::Receiver;
-use crate::start::Start;
+use crate::start::RunPeriod;
 use std::alloc::{AllocError, Global};
 use std::time::Clock;
 
 /// A feed for each socket, by the run's clock.
-pub fn feeds_of<'a, R: Clock>(
+pub fn udp_feeds<'a, R: Clock>(
     rt: &'a R,
     alloc: Global,
     receivers: Vec<Receiver<'a>>,
-    start: Start,
-    flags: Flags<'a>,
+    start: RunPeriod,
+    flags: FeedFlags<'a>,
 ) -> Result<Vec<UdpFeed<'a, R>>, AllocError>
     ensures { IfOk result (λ feeds. length feeds.items ≡ length receivers.entry.items) }
 {

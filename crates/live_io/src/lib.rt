@@ -1,17 +1,17 @@
 //! What a live run is made of beside its sockets: what it is set up with, its clock, and the report that it ends with.
 //!
 //! `LivePorts::of` finds the ports that a studio needs, or names the first that is absent; `addresses_of` says where
-//! each path is received, and `Handed::told` which sockets are there already. By `tai_opening` a studio can be opened
-//! now; a `Start` has the clock of the run, and says when that ends its feeds. `write_report` writes what a run came to.
+//! each path is received, and `InheritedSockets::from_env` which sockets are there already. By `tai_now` a studio can be opened
+//! now; a `RunPeriod` has the clock of the run, and says when that ends its feeds. `write_report` writes what a run came to.
 //!
 //! The sockets of a live run.
 //!
-//! `sockets_of` binds a socket for each path, at the address that `addresses_of` says, and two for the output, but for those
-//! that were `Handed` over. `feeds_of` makes a `Feed` of each that receives; the `UdpSink` of those that send is a `Sink`.
+//! `open_sockets` binds a socket for each path, at the address that `addresses_of` says, and two for the output, but for those
+//! that were inherited. `udp_feeds` makes a `Feed` of each that receives; the `UdpSink` of those that send is a `Sink`.
 //!
 //! The record of a live run: a capture of what it received, from which it can be replayed.
 //!
-//! A `Record` has two ends of a ring. The run's thread tells its `RecordTap` of each datagram that came, which puts whole
+//! A `RecordChannel` has two ends of a ring. The run's thread tells its `RecordObserver` of each datagram that came, which puts whole
 //! blocks into the ring and waits for nothing; `write_record`, in a thread beside it, writes what comes through the ring to
 //! the record's file. Where the file doesn't take blocks in time, and the ring is full, the record ends.
 #![tactic(auto)]
@@ -30,23 +30,23 @@ mod tai;
 mod way;
 
 pub use clock::{SystemClock, reading_after};
-pub use feeds::feeds_of;
+pub use feeds::udp_feeds;
 pub use options::LiveOptions;
-pub use places::write_places;
-pub use record::Record;
-pub use record::observer::RecordTap;
-pub use record::writer::{Recorder, Written, write_record};
-pub use recorded::Recorded;
+pub use places::write_addresses;
+pub use record::RecordChannel;
+pub use record::observer::RecordObserver;
+pub use record::writer::{FileResult, RecordWriter, write_record};
+pub use recorded::RecordResult;
 pub use report::write_report;
-pub use setup::{Setup, StreamName};
+pub use setup::{LiveInputs, StreamName};
 pub use sockets::addresses::{PathAddress, addresses_of};
-pub use sockets::feed::{Flags, UdpFeed};
-pub use sockets::inherited::{Handed, HandedFault};
+pub use sockets::feed::{FeedFlags, UdpFeed};
+pub use sockets::inherited::{InheritedSocketFault, InheritedSockets};
 pub use sockets::ports::LivePorts;
 pub use sockets::receiver::Receiver;
 pub use sockets::sink::UdpSink;
-pub use sockets::unexpected::{Source, Strangers};
-pub use sockets::{Sockets, sockets_of};
-pub use start::Start;
-pub use tai::{Opening, TaiOffset, tai_opening};
-pub use way::Way;
+pub use sockets::unexpected::{ExpectedSource, UnexpectedSources};
+pub use sockets::{Sockets, open_sockets};
+pub use start::RunPeriod;
+pub use tai::{TaiOffset, TaiTime, tai_now};
+pub use way::DatagramOrigin;

@@ -7,7 +7,7 @@ use std::ops::Range;
 use studio_config::StudioSpec;
 
 /// Writes where each path is received and where the mix's two copies go, as ` 0a=ADDRESS:PORT .. to_a=.. to_b=..`.
-pub fn write_places<W: Write>(
+pub fn write_addresses<W: Write>(
     studio: &StudioSpec,
     sockets: &Sockets<'_>,
     writer: &mut W,
@@ -31,7 +31,7 @@ fn write_paths<W: Write>(
 ) -> io::Result<()> {
     for (place, letter) in places.zip(["a", "b", "c", "d"]) {
         if let Some(receiver) = sockets.receiving.get(place) {
-            let at = receiver.at;
+            let at = receiver.address;
             write!(writer, " {number}{letter}={at}")?;
         }
     }

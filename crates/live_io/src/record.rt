@@ -1,7 +1,7 @@
 //! Both ends of a record.
 
-use crate::record::observer::RecordTap;
-use crate::record::writer::Recorder;
+use crate::record::observer::RecordObserver;
+use crate::record::writer::RecordWriter;
 use rtrb::RingBuffer;
 use std::alloc::{AllocError, Global};
 use std::io::Write;
@@ -16,18 +16,22 @@ const RING_OCTETS: usize = 8 << 20;
 
 /// What makes a record's blocks, and what writes them.
 #[derive(Drop)]
-pub struct Record<D> {
-    pub tap: RecordTap,
-    pub recorder: Recorder<D>,
+pub struct RecordChannel<D> {
+    pub tap: RecordObserver,
+    pub recorder: RecordWriter<D>,
 }
 
-impl<D: Write + Drop> Record<D> {
+impl<D: Write + Drop> RecordChannel<D> {
     /// The record of a run of this studio, which goes to a file.
-    pub fn new(alloc: Global, studio: &StudioSpec, file: D) -> Result<Record<D>, AllocError> {
+    pub fn new(
+        alloc: Global,
+        studio: &StudioSpec,
+        file: D,
+    ) -> Result<RecordChannel<D>, AllocError> {
         let (producer, consumer) = RingBuffer::new(alloc, RING_OCTETS)?;
-        let recorder = Recorder::new(alloc, consumer, file)?;
-        Ok(Record {
-            tap: RecordTap::new(producer, studio),
+        let recorder = RecordWriter::new(alloc, consumer, file)?;
+        Ok(RecordChannel {
+            tap: RecordObserver::new(producer, studio),
             recorder,
         })
     }

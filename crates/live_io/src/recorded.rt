@@ -4,36 +4,36 @@ use std::sync::atomic::{AtomicBool, AtomicU64, Ordering};
 
 /// How many datagrams a run took, and how many of them its record has. All is told once the run is over.
 #[derive(Drop)]
-pub struct Recorded {
-    came: AtomicU64,
+pub struct RecordResult {
+    received: AtomicU64,
     written: AtomicU64,
     failed: AtomicBool,
 }
 
-impl Recorded {
+impl RecordResult {
     /// Nothing is told yet.
-    pub fn new() -> Recorded {
-        Recorded {
-            came: AtomicU64::new(0),
+    pub fn new() -> RecordResult {
+        RecordResult {
+            received: AtomicU64::new(0),
             written: AtomicU64::new(0),
             failed: AtomicBool::new(false),
         }
     }
 
     /// Tells that so many datagrams were taken.
-    pub fn tell_came(&self, count: u64) {
-        self.came.store(count, Ordering::SeqCst);
+    pub fn set_received(&self, count: u64) {
+        self.received.store(count, Ordering::SeqCst);
     }
 
     /// Tells that so many datagrams were written, and whether a write failed then.
-    pub fn tell_written(&self, count: u64, failed: bool) {
+    pub fn set_written(&self, count: u64, failed: bool) {
         self.written.store(count, Ordering::SeqCst);
         self.failed.store(failed, Ordering::SeqCst);
     }
 
     /// How many datagrams were taken.
-    pub fn came(&self) -> u64 {
-        self.came.load(Ordering::SeqCst)
+    pub fn received(&self) -> u64 {
+        self.received.load(Ordering::SeqCst)
     }
 
     /// How many of them were written.

@@ -1,6 +1,6 @@
 //! All sockets of a run.
 
-use crate::setup::Setup;
+use crate::setup::LiveInputs;
 use crate::sockets::addresses::{PathAddress, addresses_of};
 use crate::sockets::receiver::{Receiver, inherited_socket, receiving_socket};
 use crate::sockets::sink::UdpSink;
@@ -28,13 +28,13 @@ pub struct Sockets<'a> {
 }
 
 /// All sockets of a run: those that were handed over, and others at the studio's addresses.
-pub fn sockets_of<'a, R: Net>(
+pub fn open_sockets<'a, R: Net>(
     rt: &R,
     alloc: Global,
     studio: &StudioSpec,
-    setup: Setup<'a>,
+    setup: LiveInputs<'a>,
 ) -> io::Result<Sockets<'a>> {
-    let receiving = receivers_of(rt, alloc, studio, setup)?;
+    let receiving = open_receivers(rt, alloc, studio, setup)?;
     let output = studio.networks().output;
     let ports = setup.ports;
     let sink = UdpSink::bind(rt, ports.to_a, ports.to_b, &output, setup.handed)?;
@@ -43,20 +43,20 @@ pub fn sockets_of<'a, R: Net>(
 
 /// Where the paths of a run are received: an address and a port for each, and the descriptor of a socket that was handed over.
 #[derive(Drop)]
-struct Places<'a> {
+struct ReceiverPlan<'a> {
     addresses: Vec<PathAddress>,
     descriptors: Vec<Option<i32>>,
-    setup: Setup<'a>,
+    setup: LiveInputs<'a>,
 }
 
 /// A socket for each path.
-fn receivers_of<'a, R: Net>(
+fn open_receivers<'a, R: Net>(
     rt: &R,
     alloc: Global,
     studio: &StudioSpec,
-    setup: Setup<'a>,
+    setup: LiveInputs<'a>,
 ) -> io::Result<Vec<Receiver<'a>>> {
-    let places = Places {
+    let places = ReceiverPlan {
         addresses: addresses_of(alloc, studio)?,
         descriptors: setup.handed.descriptors(alloc, studio.streams())?,
         setup,
@@ -69,7 +69,7 @@ fn receivers_of<'a, R: Net>(
     Ok(receivers)
 }
 
-impl<'a> Places<'a> {
+impl<'a> ReceiverPlan<'a> {
     /// The socket of the path at a place.
     fn receiver<R: Net>(&self, rt: &R, place: usize) -> io::Result<Receiver<'a>> {
         let (Some(address), Some(port)) = (

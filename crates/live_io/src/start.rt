@@ -8,7 +8,7 @@ use studio_config::StudioSpec;
 
 /// When a run began, and when it is to end.
 #[derive(Clone, Copy)]
-pub struct Start {
+pub struct RunPeriod {
     /// Its opening time, in sampling instants.
     open_at: i64,
     /// What the system's clock read then.
@@ -18,11 +18,11 @@ pub struct Start {
     ghost from_zero: { pos 0 ≤ℤ open_at },
 }
 
-impl Start {
+impl RunPeriod {
     /// A run of this studio, whose opening time is where the system's monotonic clock read this.
-    pub fn at(studio: &StudioSpec, began: Option<Duration>, options: &LiveOptions) -> Start {
+    pub fn new(studio: &StudioSpec, began: Option<Duration>, options: &LiveOptions) -> RunPeriod {
         let open_at = studio.open_at();
-        Start {
+        RunPeriod {
             open_at,
             began,
             until: options

@@ -17,7 +17,7 @@ pub enum TaiOffset {
 
 /// A time, and what the system's monotonic clock read then.
 #[derive(Clone, Copy, Debug, PartialEq, Eq)]
-pub struct Opening {
+pub struct TaiTime {
     /// In sampling instants.
     pub at: i64,
     pub began: Duration,
@@ -25,7 +25,7 @@ pub struct Opening {
 
 /// Now by International Atomic Time, in sampling instants since 1970. None, if a clock can't be read, or if the system
 /// is to say how far ahead that time is and wasn't told.
-pub fn tai_opening<R: Clock>(rt: &R, offset: TaiOffset) -> Option<Opening> {
+pub fn tai_now<R: Clock>(rt: &R, offset: TaiOffset) -> Option<TaiTime> {
     let began = rt.monotonic().ok()?;
     let now = match offset {
         TaiOffset::Seconds(ahead) => {
@@ -35,7 +35,7 @@ pub fn tai_opening<R: Clock>(rt: &R, offset: TaiOffset) -> Option<Opening> {
         TaiOffset::System => system_tai()?,
     };
     let at = reading_after(0, now);
-    Some(Opening { at, began })
+    Some(TaiTime { at, began })
 }
 
 /// What the system's clock of International Atomic Time reads. It goes with the time of day where the system wasn't

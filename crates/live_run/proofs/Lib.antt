@@ -1,4 +1,4 @@
-pub mod AskedLemmas
-pub mod SeenLemmas
+pub mod LatestStatsLemmas
+pub mod StreamStatusLemmas
 pub mod FeedLemmas
 pub mod RunLemmas

@@ -2,8 +2,8 @@
 use Rattle.std.proofs.Common.{◌≡◌, refl, sym, subst, Bool, ℕ, List, Option, Result, Ok, Err}
 use Rattle.std.specs.Prelude.{IfErr, IsErrAnd}
 use Rattle.studio_config.specs.Studio.{Studio}
-use Rattle.live_run.specs.LiveRun.{BreaksOffRun, FailsRun}
-use Rattle.live_run.specs.Run.{IsEarly}
+use Rattle.live_run.specs.RunText.{BreaksOffRun, FailsRun}
+use Rattle.live_run.specs.RunResult.{IsEarly}
 use Rattle.live_run.specs.declared.fault.LiveFault.{LiveFault}
 use Rattle.live_run.specs.declared.fault.LiveFault.TheVariants.{Memory, Socket, Page, Thread, Unsettled, Write}
 

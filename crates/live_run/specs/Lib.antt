@@ -1,4 +1,4 @@
-pub mod Run
-pub mod Asked
-pub mod Told
-pub mod LiveRun
+pub mod RunResult
+pub mod LatestStats
+pub mod StreamStatus
+pub mod RunText

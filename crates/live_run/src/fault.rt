@@ -1,6 +1,6 @@
 //! Why a live run came to no report of a settled run.
 ghost use Rattle.std.specs.Prelude.{◌≡◌};
-ghost use Rattle.live_run.specs.Run.{IsEarly};
+ghost use Rattle.live_run.specs.RunResult.{IsEarly};
 ghost use Rattle.live_run.specs.declared.fault.LiveFault.TheVariants.{Write};
 
 use live_status::PageFault;

@@ -1,5 +1,5 @@
 //! The end of standard input.
-use live_status::{INPUT, is_ready};
+use live_status::{STDIN, is_ready};
 
 /// The most reads of one look. They empty a full pipe.
 const MOST_READS: u32 = 1_024;
@@ -8,10 +8,10 @@ const MOST_READS: u32 = 1_024;
 pub(crate) fn has_input_ended() -> bool {
     let mut octets = [0u8; 256];
     for _ in 0..MOST_READS {
-        if !is_ready(INPUT, libc::net::POLLIN) {
+        if !is_ready(STDIN, libc::net::POLLIN) {
             return false;
         }
-        if libc::read(INPUT, &mut octets) <= 0 {
+        if libc::read(STDIN, &mut octets) <= 0 {
             return true;
         }
     }

@@ -1,17 +1,19 @@
 //! A live run in either form, with its page beside it.
 ghost use Rattle.std.specs.Prelude.{IfOk, IfErr};
 ghost use Rattle.std.specs.Thread.{IsSync};
-ghost use Rattle.live_run.specs.Run.{IsEarly, IsRunOf};
+ghost use Rattle.live_run.specs.RunResult.{IsEarly, IsRunOf};
 
-use crate::context::Setting;
+use crate::context::RunContext;
 use crate::fault::LiveFault;
-use crate::scoped_thread::run_beside;
-use crate::single_thread::{Recording, run_in_one_thread};
-use crate::std_fds::open_standard;
-use crate::supervisor::stop_flags::Signs;
+use crate::scoped_thread::with_scoped_thread;
+use crate::single_thread::{RecordOutput, run_in_one_thread};
+use crate::std_fds::open_missing_fds;
+use crate::supervisor::stop_flags::StopFlags;
 use crate::workers::run_in_workers;
-use live_io::{LiveOptions, Record, Recorded, Setup, Sockets, Start, sockets_of};
-use live_status::{Meter, Seen, Serving, Shown, show};
+use live_io::{
+    LiveInputs, LiveOptions, RecordChannel, RecordResult, RunPeriod, Sockets, open_sockets,
+};
+use live_status::{Meter, OpenStatus, PageThread, StatusInputs, open_status};
 use std::alloc::{AllocError, Global};
 use std::io::Write;
 use std::net::Net;
@@ -24,15 +26,15 @@ use studio_io::WorkReport;
 
 /// What a run is started from, beside its studio.
 #[derive(Drop)]
-struct Parts<'a, E, D> {
+struct PreparedRun<'a, E, D> {
     one_thread: bool,
     sockets: Sockets<'a>,
-    setting: Setting<'a, E>,
-    recording: Recording<'a, D>,
+    setting: RunContext<'a, E>,
+    recording: RecordOutput<'a, D>,
 }
 
 /// Takes all that a run needs before its first thread, and runs it.
-pub(crate) fn run_form<
+pub(crate) fn launch_run<
     R: Threads + Wait + Sync + Net + Clock + RandomSource,
     E: Write + Send + Drop,
     D: Write + Send + Drop,
@@ -40,7 +42,7 @@ pub(crate) fn run_form<
     rt: &R,
     alloc: Global,
     studio: &StudioSpec,
-    setup: Setup<'_>,
+    setup: LiveInputs<'_>,
     options: &LiveOptions,
     faults: E,
     file: Option<D>,
@@ -48,14 +50,14 @@ pub(crate) fn run_form<
     ensures run { IfOk result (IsRunOf options.now.one_thread studio.now) }
     ensures early { IfErr result IsEarly }
 {
-    let signs = Signs::new();
+    let signs = StopFlags::new();
     let meter = Meter::new(studio.output().enc(), studio.output().channels());
-    let seen = Seen {
+    let seen = StatusInputs {
         names: setup.names,
         meter: &meter,
     };
     let recording = recording_of(alloc, studio, setup.recorded, file)?;
-    run_seen(
+    bind_and_run(
         rt, alloc, studio, setup, options, seen, &signs, recording, faults,
     )
 }
@@ -64,18 +66,18 @@ pub(crate) fn run_form<
 fn recording_of<'a, D: Write + Drop>(
     alloc: Global,
     studio: &StudioSpec,
-    told: &'a Recorded,
+    told: &'a RecordResult,
     file: Option<D>,
-) -> Result<Recording<'a, D>, AllocError> {
+) -> Result<RecordOutput<'a, D>, AllocError> {
     let record = match file {
-        Some(file) => Some(Record::new(alloc, studio, file)?),
+        Some(file) => Some(RecordChannel::new(alloc, studio, file)?),
         None => None,
     };
-    Ok(Recording { record, told })
+    Ok(RecordOutput { record, told })
 }
 
 /// Binds the sockets of a run and what it is shown through, and runs it.
-fn run_seen<
+fn bind_and_run<
     'a,
     R: Threads + Wait + Sync + Net + Clock + RandomSource,
     E: Write + Send + Drop,
@@ -84,25 +86,25 @@ fn run_seen<
     rt: &'a R,
     alloc: Global,
     studio: &StudioSpec,
-    setup: Setup<'a>,
+    setup: LiveInputs<'a>,
     options: &LiveOptions,
-    seen: Seen<'a>,
-    signs: &'a Signs,
-    recording: Recording<'a, D>,
+    seen: StatusInputs<'a>,
+    signs: &'a StopFlags,
+    recording: RecordOutput<'a, D>,
     faults: E,
 ) -> Result<WorkReport, LiveFault>
     ensures run { IfOk result (IsRunOf options.now.one_thread studio.now) }
     ensures early { IfErr result IsEarly }
 {
-    open_standard();
-    let sockets = sockets_of(rt, alloc, studio, setup)?;
-    let shown = show(rt, alloc, studio, &sockets, options, seen, faults)?;
-    let Shown { serving, showing } = shown;
-    let parts = Parts {
+    open_missing_fds();
+    let sockets = open_sockets(rt, alloc, studio, setup)?;
+    let shown = open_status(rt, alloc, studio, &sockets, options, seen, faults)?;
+    let OpenStatus { serving, showing } = shown;
+    let parts = PreparedRun {
         one_thread: options.one_thread,
         sockets,
-        setting: Setting {
-            start: Start::at(studio, setup.began, options),
+        setting: RunContext {
+            start: RunPeriod::new(studio, setup.began, options),
             until_eof: options.until_eof,
             showing,
             signs,
@@ -111,7 +113,7 @@ fn run_seen<
     };
     match serving {
         Some(serving) => run_with_page(rt, alloc, studio, parts, serving),
-        None => run_parts(rt, alloc, studio, parts),
+        None => run_prepared(rt, alloc, studio, parts),
     }
 }
 
@@ -125,26 +127,26 @@ fn run_with_page<
     rt: &'a R,
     alloc: Global,
     studio: &StudioSpec,
-    parts: Parts<'a, E, D>,
-    serving: Serving,
+    parts: PreparedRun<'a, E, D>,
+    serving: PageThread,
 ) -> Result<WorkReport, LiveFault>
     ensures run { IfOk result (IsRunOf parts.entry.one_thread studio.now) }
     ensures early { IfErr result IsEarly }
 {
-    let (_, ran) = run_beside(
+    let (_, ran) = with_scoped_thread(
         rt,
         move || serving.serve(rt),
         move || -> Result<WorkReport, LiveFault>
             requires sync { IsSync R.row }
             ensures run { IfOk result (IsRunOf parts.entry.one_thread studio.entry.now) }
             ensures early { IfErr result IsEarly }
-        { run_parts(rt, alloc, studio, parts) },
+        { run_prepared(rt, alloc, studio, parts) },
     )?;
     ran
 }
 
 /// Runs a studio in the form that its parts say.
-fn run_parts<
+fn run_prepared<
     'a,
     R: Threads + Wait + Sync + Net + Clock,
     E: Write + Send + Drop,
@@ -153,12 +155,12 @@ fn run_parts<
     rt: &'a R,
     alloc: Global,
     studio: &StudioSpec,
-    parts: Parts<'a, E, D>,
+    parts: PreparedRun<'a, E, D>,
 ) -> Result<WorkReport, LiveFault>
     ensures run { IfOk result (IsRunOf parts.entry.one_thread studio.now) }
     ensures early { IfErr result IsEarly }
 {
-    let Parts {
+    let PreparedRun {
         one_thread,
         sockets,
         setting,

@@ -1,10 +1,10 @@
 //! A live run, and its report.
 ghost use Rattle.std.specs.Prelude.{true, IfErr, OnOk};
-ghost use Rattle.live_run.specs.LiveRun.{FailsRun, WritesRun};
+ghost use Rattle.live_run.specs.RunText.{FailsRun, WritesRun};
 
 use crate::fault::LiveFault;
-use crate::launch::run_form;
-use live_io::{LiveOptions, Setup, write_report};
+use crate::launch::launch_run;
+use live_io::{LiveInputs, LiveOptions, write_report};
 use std::alloc::Global;
 use std::io::Write;
 use std::net::Net;
@@ -35,7 +35,7 @@ pub fn run_studio_live<
     rt: &R,
     alloc: Global,
     studio: &StudioSpec,
-    setup: Setup<'_>,
+    setup: LiveInputs<'_>,
     options: &LiveOptions,
     output: &mut W,
     faults: E,
@@ -45,7 +45,7 @@ pub fn run_studio_live<
     ensures fault { IfErr result (FailsRun options.now.one_thread studio.now (W.contents output.old) (W.contents output.new)) }
 {
     let mut text = TextBuffer::new(alloc)?;
-    let report = run_form(rt, alloc, studio, setup, options, faults, record)?;
+    let report = launch_run(rt, alloc, studio, setup, options, faults, record)?;
     write_report(&mut text, output, &report)?;
     text.finish(output)?;
     if !report.settled {

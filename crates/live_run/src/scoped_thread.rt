@@ -1,6 +1,6 @@
 //! Two things at the same time.
 ghost use Rattle.std.specs.Prelude.{IfOk, IfErr};
-ghost use Rattle.live_run.specs.Run.{IsEarly};
+ghost use Rattle.live_run.specs.RunResult.{IsEarly};
 
 use crate::fault::LiveFault;
 use std::sync::Wait;
@@ -9,7 +9,7 @@ use std::thread::Threads;
 
 /// Calls `run` here and `other` in a thread beside it, and answers what both came to once both have ended. Where no thread
 /// can be started, neither is called.
-pub fn run_beside<
+pub fn with_scoped_thread<
     'a,
     R: Threads + Wait,
     F: FnOnce() -> A + Send + Drop + 'a,

@@ -1,17 +1,20 @@
 //! A live run in one thread, with a watcher beside it.
 ghost use Rattle.std.specs.Prelude.{◌≡◌, true, IfOk, IfErr, length, map};
 ghost use Rattle.std.specs.Thread.{IsSync};
-ghost use Rattle.live_run.specs.Run.{IsEarly, IsRunOf};
+ghost use Rattle.live_run.specs.RunResult.{IsEarly, IsRunOf};
 
-use crate::context::Setting;
+use crate::context::RunContext;
 use crate::fault::LiveFault;
-use crate::pending::all_pending;
-use crate::scoped_thread::run_beside;
-use crate::single_thread::engine_io::{Lone, lone_of};
-use crate::single_thread::observer::LiveTap;
-use crate::supervisor::stop_flags::Signs;
-use crate::supervisor::{Unseen, Watcher, run_watched};
-use live_io::{Flags, Receiver, Record, RecordTap, Recorded, Recorder, Sockets, write_record};
+use crate::ready::ready_flags;
+use crate::scoped_thread::with_scoped_thread;
+use crate::single_thread::engine_io::{SingleThreadRun, prepare_engine_io};
+use crate::single_thread::observer::LiveObserver;
+use crate::supervisor::stop_flags::StopFlags;
+use crate::supervisor::{NoStatusTask, Supervisor, run_supervised};
+use live_io::{
+    FeedFlags, Receiver, RecordChannel, RecordObserver, RecordResult, RecordWriter, Sockets,
+    write_record,
+};
 use std::alloc::Global;
 use std::io::Write;
 use std::sync::Wait;
@@ -27,9 +30,9 @@ mod socket_wait;
 
 /// The record of a run, if there is one, and where it is told what came of it.
 #[derive(Drop)]
-pub struct Recording<'a, D> {
-    pub record: Option<Record<D>>,
-    pub told: &'a Recorded,
+pub struct RecordOutput<'a, D> {
+    pub record: Option<RecordChannel<D>>,
+    pub told: &'a RecordResult,
 }
 
 /// Runs a studio in this thread, beside it the watcher, and beside both what writes a record if there is one. It returns once
@@ -44,23 +47,23 @@ pub fn run_in_one_thread<
     alloc: Global,
     studio: &StudioSpec,
     sockets: Sockets<'a>,
-    setting: Setting<'a, E>,
-    recording: Recording<'a, D>,
+    setting: RunContext<'a, E>,
+    recording: RecordOutput<'a, D>,
 ) -> Result<WorkReport, LiveFault>
     ensures run { IfOk result (IsRunOf true studio.now) }
     ensures early { IfErr result IsEarly }
 {
     let mut sockets = sockets;
     if recording.record.is_some() {
-        tell_sources(sockets.receiving.as_mut_slice());
+        keep_sources(sockets.receiving.as_mut_slice());
     }
-    let pending = all_pending(alloc, sockets.receiving.len())?;
+    let ready = ready_flags(alloc, sockets.receiving.len())?;
     run_on_sockets(
         rt,
         alloc,
         studio,
         sockets,
-        pending.as_slice(),
+        ready.as_slice(),
         setting,
         recording,
     )
@@ -77,29 +80,29 @@ fn run_on_sockets<
     alloc: Global,
     studio: &StudioSpec,
     sockets: Sockets<'a>,
-    pending: &'a [AtomicBool],
-    setting: Setting<'a, E>,
-    recording: Recording<'a, D>,
+    ready: &'a [AtomicBool],
+    setting: RunContext<'a, E>,
+    recording: RecordOutput<'a, D>,
 ) -> Result<WorkReport, LiveFault>
     ensures run { IfOk result (IsRunOf true studio.now) }
     ensures early { IfErr result IsEarly }
 {
-    let Setting {
+    let RunContext {
         start,
         until_eof,
         showing,
         signs,
     } = setting;
     let meter = showing.meter;
-    let Recording { record, told } = recording;
+    let RecordOutput { record, told } = recording;
     let (record, recorder) = ends_of(record);
-    let tap = LiveTap::new(alloc, studio, record, showing)?;
-    let flags = Flags {
+    let tap = LiveObserver::new(alloc, studio, record, showing)?;
+    let flags = FeedFlags {
         stop: &signs.stop,
-        pending,
+        ready,
     };
-    let lone = lone_of(rt, alloc, studio, sockets, start, flags, meter)?;
-    let watched = Watched {
+    let lone = prepare_engine_io(rt, alloc, studio, sockets, start, flags, meter)?;
+    let watched = SupervisedRun {
         lone,
         tap,
         until_eof,
@@ -113,49 +116,51 @@ fn run_on_sockets<
 }
 
 /// Has all sockets tell where datagrams come from, as a record says it.
-fn tell_sources(receivers: &mut [Receiver<'_>]) {
+fn keep_sources(receivers: &mut [Receiver<'_>]) {
     for receiver in receivers.iter_mut() {
-        receiver.tell_sources();
+        receiver.keep_sources();
     }
 }
 
 /// The two ends of a record, if there is one.
-fn ends_of<D: Drop>(record: Option<Record<D>>) -> (Option<RecordTap>, Option<Recorder<D>>) {
+fn ends_of<D: Drop>(
+    record: Option<RecordChannel<D>>,
+) -> (Option<RecordObserver>, Option<RecordWriter<D>>) {
     match record {
-        Some(Record { tap, recorder }) => (Some(tap), Some(recorder)),
+        Some(RecordChannel { tap, recorder }) => (Some(tap), Some(recorder)),
         None => (None, None),
     }
 }
 
 /// A run that is watched.
 #[derive(Drop)]
-struct Watched<'a, R: Wait + Clock, E> {
-    lone: Lone<'a, R>,
-    tap: LiveTap<'a, E>,
+struct SupervisedRun<'a, R: Wait + Clock, E> {
+    lone: SingleThreadRun<'a, R>,
+    tap: LiveObserver<'a, E>,
     until_eof: bool,
-    signs: &'a Signs,
-    told: &'a Recorded,
+    signs: &'a StopFlags,
+    told: &'a RecordResult,
 }
 
-impl<R: Threads + Wait + Sync + Clock, E: Write + Send + Drop> Watched<'_, R, E> {
+impl<R: Threads + Wait + Sync + Clock, E: Write + Send + Drop> SupervisedRun<'_, R, E> {
     /// Runs an engine, and the watcher beside it.
     fn run(self, rt: &R, alloc: Global, studio: &StudioSpec) -> Result<WorkReport, LiveFault>
         requires feeds { map (λ own. length own.items) self.lone.feeds.items ≡ map (λ stream. stream.paths) studio.now.streams }
         ensures run { IfOk result (IsRunOf true studio.now) }
         ensures early { IfErr result IsEarly }
     {
-        let Watched {
+        let SupervisedRun {
             lone,
             tap,
             until_eof,
             signs,
             told,
         } = self;
-        let watcher = Watcher {
+        let watcher = Supervisor {
             until_eof,
-            view: Unseen,
+            view: NoStatusTask,
         };
-        run_watched(
+        run_supervised(
             rt,
             watcher,
             signs,
@@ -178,15 +183,15 @@ fn run_recorded<
     rt: &'a R,
     alloc: Global,
     studio: &StudioSpec,
-    watched: Watched<'a, R, E>,
-    recorder: Recorder<D>,
+    watched: SupervisedRun<'a, R, E>,
+    recorder: RecordWriter<D>,
 ) -> Result<WorkReport, LiveFault>
     requires feeds { map (λ own. length own.items) watched.lone.feeds.items ≡ map (λ stream. stream.paths) studio.now.streams }
     ensures run { IfOk result (IsRunOf true studio.now) }
     ensures early { IfErr result IsEarly }
 {
     let told = watched.told;
-    let (written, ran) = run_beside(
+    let (written, ran) = with_scoped_thread(
         rt,
         move || write_record(rt, recorder),
         move || -> Result<WorkReport, LiveFault>
@@ -196,6 +201,6 @@ fn run_recorded<
             ensures early { IfErr result IsEarly }
         { watched.run(rt, alloc, studio) },
     )?;
-    told.tell_written(written.datagrams, written.failed);
+    told.set_written(written.datagrams, written.failed);
     ran
 }

@@ -2,24 +2,24 @@
 ghost use Rattle.std.specs.Prelude.{◌≡◌, false, length, IfOk, IfErr};
 ghost use Rattle.std.specs.Thread.{IsSync};
 ghost use Rattle.studio_rings.specs.StreamResults.{AreOpenedTogether};
-ghost use Rattle.live_run.specs.Run.{IsEarly, IsRunOf};
+ghost use Rattle.live_run.specs.RunResult.{IsEarly, IsRunOf};
 
-use crate::context::Setting;
+use crate::context::RunContext;
 use crate::fault::LiveFault;
-use crate::supervisor::{Watcher, run_watched};
-use crate::workers::latest_stats::Told;
-use crate::workers::rings::{Rings, rings_of};
-use crate::workers::status_task::WatchView;
-use crate::workers::worker_run::work_of;
-use live_io::{Flags, Sockets, Start};
-use live_status::Board;
+use crate::supervisor::{Supervisor, run_supervised};
+use crate::workers::latest_stats::LatestStats;
+use crate::workers::rings::{Rings, open_rings};
+use crate::workers::status_task::WorkerStatusTask;
+use crate::workers::worker_run::prepare_workers;
+use live_io::{FeedFlags, RunPeriod, Sockets};
+use live_status::StatusPublisher;
 use std::alloc::{AllocError, Global};
 use std::io::Write;
 use std::sync::Wait;
 use std::thread::Threads;
 use std::time::Clock;
 use studio_config::StudioSpec;
-use studio_ends::Watches;
+use studio_ends::StatsReceivers;
 use studio_io::WorkReport;
 
 mod latest_stats;
@@ -35,13 +35,13 @@ pub fn run_in_workers<'a, R: Threads + Wait + Sync + Clock, E: Write + Send + Dr
     alloc: Global,
     studio: &StudioSpec,
     sockets: Sockets<'a>,
-    setting: Setting<'a, E>,
+    setting: RunContext<'a, E>,
 ) -> Result<WorkReport, LiveFault>
     ensures run { IfOk result (IsRunOf false studio.now) }
     ensures early { IfErr result IsEarly }
 {
     let is_shown = setting.showing.board.is_some();
-    let rings = rings_of(alloc, studio, sockets.receiving.len(), is_shown)?;
+    let rings = open_rings(alloc, studio, sockets.receiving.len(), is_shown)?;
     run_on_rings(rt, alloc, studio, rings, sockets, setting)
 }
 
@@ -52,14 +52,14 @@ fn run_on_rings<'a, R: Threads + Wait + Sync + Clock, E: Write + Send + Drop>(
     studio: &StudioSpec,
     rings: Rings,
     sockets: Sockets<'a>,
-    setting: Setting<'a, E>,
+    setting: RunContext<'a, E>,
 ) -> Result<WorkReport, LiveFault>
     requires opened { AreOpenedTogether studio.now 256 rings.ends }
     requires paths { length rings.ends.paths.items ≡ length sockets.receiving.items }
     ensures run { IfOk result (IsRunOf false studio.now) }
     ensures early { IfErr result IsEarly }
 {
-    let Setting {
+    let RunContext {
         start,
         until_eof,
         showing,
@@ -67,13 +67,13 @@ fn run_on_rings<'a, R: Threads + Wait + Sync + Clock, E: Write + Send + Drop>(
     } = setting;
     let Rings { ends, watches } = rings;
     let view = view_of(rt, alloc, watches, start, showing.board)?;
-    let flags = Flags {
+    let flags = FeedFlags {
         stop: &signs.stop,
-        pending: &[],
+        ready: &[],
     };
-    let work = work_of(rt, alloc, ends, sockets, start, flags)?;
-    let watcher = Watcher { until_eof, view };
-    run_watched(
+    let work = prepare_workers(rt, alloc, ends, sockets, start, flags)?;
+    let watcher = Supervisor { until_eof, view };
+    run_supervised(
         rt,
         watcher,
         signs,
@@ -92,14 +92,14 @@ fn run_on_rings<'a, R: Threads + Wait + Sync + Clock, E: Write + Send + Drop>(
 fn view_of<'a, R: Clock, E: Write + Drop>(
     rt: &'a R,
     alloc: Global,
-    watches: Option<Watches>,
-    start: Start,
-    board: Option<Board<E>>,
-) -> Result<Option<WatchView<'a, R, E>>, AllocError> {
+    watches: Option<StatsReceivers>,
+    start: RunPeriod,
+    board: Option<StatusPublisher<E>>,
+) -> Result<Option<WorkerStatusTask<'a, R, E>>, AllocError> {
     match (watches, board) {
         (Some(watches), Some(board)) => {
-            let told = Told::nothing(alloc, watches.paths.len(), watches.streams.len())?;
-            Ok(Some(WatchView {
+            let told = LatestStats::empty(alloc, watches.paths.len(), watches.streams.len())?;
+            Ok(Some(WorkerStatusTask {
                 watches,
                 told,
                 clock: start.clock(rt),

@@ -1,4 +1,4 @@
 pub mod Each
 pub mod Outputs
-pub mod Pulses
-pub mod Viewed
+pub mod Conditions
+pub mod EngineStatus

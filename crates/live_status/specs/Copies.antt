@@ -1,14 +1,14 @@
 -- What is shown of a path's packets.
 use Rattle.std.specs.Prelude.{◌≡◌, ℕ, ◌+◌, ◌-◌, ◌^◌, min, max, List, slice_index, slice_get, Some, option_map}
 use Rattle.rtp_stream.specs.declared.counts.Counts.{Counts}
-use Rattle.rtp_stats.specs.declared.spare.Spare.{Spare}
-use Rattle.rtp_stats.specs.declared.stats.PathNumbers.{PathNumbers}
-use Rattle.status_page.specs.declared.snapshot.Copies.{Copies}
+use Rattle.rtp_stats.specs.declared.spare.ArrivalMargin.{ArrivalMargin}
+use Rattle.rtp_stats.specs.declared.stats.PathStats.{PathStats}
+use Rattle.status_page.specs.declared.snapshot.CopyCounts.{CopyCounts}
 use Rattle.status_page.specs.declared.snapshot.PathState.{PathState}
-use Rattle.status_page.specs.declared.snapshot.Spare as page
+use Rattle.status_page.specs.declared.snapshot.ArrivalMargin as page
 
 -- what it missed, and what its stream lost; what became of the others
-abbrev pub copies_of : PathNumbers → ℕ → Copies
+abbrev pub copies_of : PathStats → ℕ → CopyCounts
 copies_of numbers lost = record {
   lost = min (numbers.tally.missed + lost) (2 ^ 64 - 1);
   double = numbers.tally.double;
@@ -17,14 +17,14 @@ copies_of numbers lost = record {
 }
 
 -- its spare times; the least is no more than the median
-abbrev pub spare_of : Spare → page.Spare
+abbrev pub spare_of : ArrivalMargin → page.ArrivalMargin
 spare_of spare = record { least = spare.least; median = max spare.median spare.least }
 
 -- a path with these numbers, of a stream that lost so many
-abbrev pub with_numbers : PathNumbers → ℕ → PathState → PathState
+abbrev pub with_numbers : PathStats → ℕ → PathState → PathState
 with_numbers numbers lost path = record path { copies = Some (copies_of numbers lost); spare = option_map spare_of numbers.spare }
 
 -- of a path at its place, among these counts and numbers: its first copies, and what became of the others
-abbrev pub IsTold : Counts → List PathNumbers → ℕ → PathState → PathState → Type 0
+abbrev pub IsTold : Counts → List PathStats → ℕ → PathState → PathState → Type 0
 IsTold counts numbers place old new =
-    (of_path : PathNumbers) → slice_get numbers place ≡ Some of_path → new ≡ record (with_numbers of_path counts.lost old) { first = slice_index counts.taken_by place }
+    (of_path : PathStats) → slice_get numbers place ≡ Some of_path → new ≡ record (with_numbers of_path counts.lost old) { first = slice_index counts.taken_by place }

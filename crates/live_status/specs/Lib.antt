@@ -1,9 +1,9 @@
 pub mod Copies
 pub mod Each
 pub mod Engine
-pub mod Noted
+pub mod EngineOffers
 pub mod Outputs
-pub mod Pulses
-pub mod Seen
-pub mod Shown
-pub mod Viewed
+pub mod Conditions
+pub mod StreamStatus
+pub mod Publisher
+pub mod EngineStatus

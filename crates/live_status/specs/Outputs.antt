@@ -1,6 +1,6 @@
 -- What is shown of output channels.
 use Rattle.std.specs.Prelude.{◌≡◌, ℕ, List, slice_get, slice_index_or, MatchOption}
-use Rattle.rtp_stats.specs.declared.stats.MixNumbers.{MixNumbers}
+use Rattle.rtp_stats.specs.declared.stats.MixStats.{MixStats}
 use Rattle.status_page.specs.declared.snapshot.OutputState.{OutputState}
 
 -- a channel of which nothing is counted
@@ -12,7 +12,7 @@ abbrev pub HasCount : List ℕ → ℕ → OutputState → OutputState → Type 
 HasCount saturated place old new = MatchOption (slice_get saturated place) (new ≡ old) (λ count. new ≡ record old { saturated = count })
 
 -- the channel at a place has the peak and the count that stand there, where these do
-abbrev pub HasNumbers : MixNumbers → ℕ → OutputState → OutputState → Type 0
+abbrev pub HasNumbers : MixStats → ℕ → OutputState → OutputState → Type 0
 HasNumbers numbers place old new = new ≡ record { peak = slice_index_or numbers.peaks place old.peak; saturated = slice_index_or numbers.saturated place old.saturated }
 
 -- it has the count that it had, and some peak

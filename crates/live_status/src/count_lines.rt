@@ -2,7 +2,7 @@
 ghost use Rattle.std.specs.Prelude.{◌≡◌, ◌⊎◌, ◌^◌, ◌-◌, ◌*◌, ◌+ℤ◌, IfOk, int_le, pos};
 ghost use Rattle.std.specs.Int.{saturate_to_bits};
 
-use crate::fd_ready::{FAULTS, is_ready};
+use crate::fd_ready::{STDERR, is_ready};
 use status_page::Snapshot;
 use std::alloc::{AllocError, Global};
 use std::io::Write;
@@ -13,21 +13,21 @@ const SECOND: i64 = 48_000;
 
 /// When lines of the streams' counts are due, and what they are written with.
 #[derive(Drop)]
-pub struct Stats {
+pub struct CountLines {
     /// From one telling to the next, in sampling instants.
     every: i64,
     next: i64,
     text: TextBuffer,
 }
 
-impl Stats {
+impl CountLines {
     /// Every so many seconds from a time on, in sampling instants.
-    pub fn new(alloc: Global, from: i64, seconds: u32) -> Result<Stats, AllocError>
+    pub fn new(alloc: Global, from: i64, seconds: u32) -> Result<CountLines, AllocError>
         ensures every { IfOk result (λ stats. stats.every ≡ pos (seconds * 48_000)) }
         ensures next { IfOk result (λ stats. stats.next ≡ saturate_to_bits 63 (from +ℤ stats.every)) }
     {
         let every = i64::from(seconds).saturating_mul(SECOND);
-        Ok(Stats {
+        Ok(CountLines {
             every,
             next: from.saturating_add(every),
             text: TextBuffer::new(alloc)?,
@@ -42,7 +42,7 @@ impl Stats {
     }
 
     /// Writes a line for each stream of a snapshot, at this time. After a write that failed nothing more is written.
-    pub(crate) fn tell<W: Write>(&mut self, now: i64, snapshot: &Snapshot, writer: &mut W)
+    pub(crate) fn write_due<W: Write>(&mut self, now: i64, snapshot: &Snapshot, writer: &mut W)
         ensures next { (self.new.next ≡ saturate_to_bits 63 (now +ℤ self.old.every)) ⊎ (self.new.next ≡ pos (2 ^ 63 - 1)) }
         ensures every { self.new.every ≡ self.old.every }
     {
@@ -62,7 +62,7 @@ impl Stats {
         ensures { self.new.every ≡ self.old.every }
     {
         for (number, stream) in (0u8..).zip(snapshot.streams.iter()) {
-            if !is_ready(FAULTS, libc::net::POLLOUT) {
+            if !is_ready(STDERR, libc::net::POLLOUT) {
                 return Ok(());
             }
             let paths = stream.paths.len() as u8;

@@ -2,51 +2,51 @@
 ghost use Rattle.std.specs.Prelude.{◌≡◌, ◌<◌, ◌≤◌, [], length, true, false, is_some, IfOk, IfSome, IsNone, MatchBool, MatchOption};
 ghost use Rattle.live_status.specs.Each.{AreEach};
 ghost use Rattle.live_status.specs.Engine.{HasEngineBefore, IsEnginePath};
-ghost use Rattle.live_status.specs.Noted.{IsUnheard, Notes};
-ghost use Rattle.live_status.specs.Shown.{is_due_at};
-ghost use Rattle.live_status.specs.Viewed.{IsEngineOutput, IsWatched, SeesStream, ShowsEngine};
+ghost use Rattle.live_status.specs.EngineOffers.{IsUnheard, Notes};
+ghost use Rattle.live_status.specs.Publisher.{is_due_at};
+ghost use Rattle.live_status.specs.EngineStatus.{IsEngineOutput, IsWatched, SeesStream, ShowsEngine};
 
-use crate::copies::see_numbers;
-use crate::engine_offers::{all_watched, note_at, numbers_of};
+use crate::copies::fill_copies;
+use crate::engine_offers::{copy_trackers, note_offer, numbers_of};
 use crate::meter::Meter;
-use crate::publisher::Board;
-use crate::snapshot_fill::{first_at, see_datagrams, see_saturated};
+use crate::publisher::StatusPublisher;
+use crate::snapshot_fill::{fill_datagrams, fill_saturated, first_at};
 use path_merge::Path;
-use rtp_stats::CopyWatch;
+use rtp_stats::CopyTracker;
 use rtp_stream::{Counts, StreamSpec};
 use status_page::{OutputState, PathState, StreamState};
 use std::alloc::{AllocError, Global};
 use std::io::Write;
 use studio_engine::Engine;
-use studio_session::Receipt;
+use studio_session::ArriveOutcome;
 
 /// A board, and what came of each stream's packets where it has a page.
 #[derive(Drop)]
-pub struct EngineView<'a, E> {
-    board: Board<E>,
+pub struct EngineStatus<'a, E> {
+    board: StatusPublisher<E>,
     /// One for each stream, or none at all.
-    watched: Vec<CopyWatch>,
+    watched: Vec<CopyTracker>,
     /// What measures the mix, if anything does.
     meter: Option<&'a Meter>,
 }
 
-impl<'a, E: Write + Drop> EngineView<'a, E> {
+impl<'a, E: Write + Drop> EngineStatus<'a, E> {
     /// A view of an engine of these streams, before anything came. It takes all memory.
     pub fn new(
         alloc: Global,
         streams: &[StreamSpec],
-        board: Board<E>,
+        board: StatusPublisher<E>,
         meter: Option<&'a Meter>,
-    ) -> Result<EngineView<'a, E>, AllocError>
+    ) -> Result<EngineStatus<'a, E>, AllocError>
         ensures board { IfOk result (λ view. view.board ≡ board) }
         ensures watched { IfOk result (λ view. MatchBool (is_some board.page) (AreEach IsUnheard streams.now view.watched.items) (view.watched.items ≡ [])) }
     {
         let watched = if board.has_page() {
-            all_watched(alloc, streams)?
+            copy_trackers(alloc, streams)?
         } else {
             Vec::new(alloc)
         };
-        Ok(EngineView {
+        Ok(EngineStatus {
             board,
             watched,
             meter,
@@ -60,78 +60,83 @@ impl<'a, E: Write + Drop> EngineView<'a, E> {
         stream: usize,
         path: Path,
         octets: &[u8],
-        receipt: Receipt,
+        receipt: ArriveOutcome,
     )
         ensures noted { Notes receipt stream path octets.now engine.now.time self.old.watched.items self.new.watched.items }
         ensures board { self.new.board ≡ self.old.board }
     {
-        let Receipt::Offered(fate) = receipt else {
+        let ArriveOutcome::Offered(fate) = receipt else {
             return;
         };
         if let Some(numbers) = numbers_of(octets) {
             let due = engine.stream_deadline(stream);
             let watched = self.watched.as_mut_slice();
-            note_at(watched, stream, path, numbers, fate, due, engine.time());
+            note_offer(watched, stream, path, numbers, fate, due, engine.time());
         }
     }
 
     /// Shows what is to be seen of the engine, if it is time.
-    pub fn look(&mut self, engine: &Engine)
+    pub fn publish_if_due(&mut self, engine: &Engine)
         ensures shown { MatchBool (is_due_at self.old.board engine.now.time) (ShowsEngine engine.now false self.old.board self.new.board) (self.new.board ≡ self.old.board) }
         ensures watched { self.new.watched ≡ self.old.watched }
     {
         if self.board.is_due(engine.time()) {
-            self.show(engine, false);
+            self.publish(engine, false);
         }
     }
 
     /// Shows what is to be seen of the engine once it is closed.
-    pub fn close(&mut self, engine: &Engine)
+    pub fn publish_last(&mut self, engine: &Engine)
         ensures shown { ShowsEngine engine.now true self.old.board self.new.board }
         ensures watched { self.new.watched ≡ self.old.watched }
     {
-        self.show(engine, true);
+        self.publish(engine, true);
     }
 
     /// Shows what is to be seen of the engine.
-    fn show(&mut self, engine: &Engine, has_ended: bool)
+    fn publish(&mut self, engine: &Engine, has_ended: bool)
         ensures shown { ShowsEngine engine.now has_ended self.old.board self.new.board }
         ensures watched { self.new.watched ≡ self.old.watched }
     {
-        let mut snapshot = self.board.blank();
+        let mut snapshot = self.board.blank_snapshot();
         let streams = snapshot.streams.as_mut_slice();
-        see_streams(engine, self.watched.as_slice(), streams);
-        see_outputs(engine, self.meter, snapshot.outputs.as_mut_slice());
-        self.board.show(engine.time(), snapshot, has_ended);
+        fill_streams(engine, self.watched.as_slice(), streams);
+        fill_engine_outputs(engine, self.meter, snapshot.outputs.as_mut_slice());
+        self.board.publish(engine.time(), snapshot, has_ended);
     }
 }
 
 /// Sees the streams of an engine.
-fn see_streams(engine: &Engine, watched: &[CopyWatch], streams: &mut [StreamState])
+fn fill_streams(engine: &Engine, watched: &[CopyTracker], streams: &mut [StreamState])
     ensures { AreEach (SeesStream engine.now) streams.old streams.new }
 {
     for (number, stream) in streams.iter_mut().enumerate() {
-        see_stream(engine, number, watched.get(number), stream);
+        fill_engine_stream(engine, number, watched.get(number), stream);
     }
 }
 
 /// Sees the output channels of an engine, and what measures them.
-fn see_outputs(engine: &Engine, meter: Option<&Meter>, outputs: &mut [OutputState])
+fn fill_engine_outputs(engine: &Engine, meter: Option<&Meter>, outputs: &mut [OutputState])
     ensures { AreEach (IsEngineOutput engine.now) outputs.old outputs.new }
 {
-    see_saturated(engine.saturated(), outputs);
+    fill_saturated(engine.saturated(), outputs);
     if let Some(meter) = meter {
-        meter.tell(outputs);
+        meter.fill_peaks(outputs);
     }
 }
 
 /// Sees a stream of an engine.
-fn see_stream(engine: &Engine, number: usize, watched: Option<&CopyWatch>, stream: &mut StreamState)
+fn fill_engine_stream(
+    engine: &Engine,
+    number: usize,
+    watched: Option<&CopyTracker>,
+    stream: &mut StreamState,
+)
     ensures { SeesStream engine.now number stream.old stream.new }
 {
     if let Some(counts) = engine.counts(number) {
         stream.counts = counts;
-        see_paths(
+        fill_paths(
             engine,
             number,
             watched,
@@ -142,25 +147,25 @@ fn see_stream(engine: &Engine, number: usize, watched: Option<&CopyWatch>, strea
 }
 
 /// Sees the paths of a stream with these counts.
-fn see_paths(
+fn fill_paths(
     engine: &Engine,
     number: usize,
-    watched: Option<&CopyWatch>,
+    watched: Option<&CopyTracker>,
     counts: &Counts,
     paths: &mut [PathState],
 )
     ensures { number < length engine.now.cursors → AreEach (IsEnginePath engine.now number counts.now) paths.old paths.new }
 {
     for (place, path) in paths.iter_mut().enumerate() {
-        see_path(engine, number, watched, counts, place, path);
+        fill_path(engine, number, watched, counts, place, path);
     }
 }
 
 /// Sees the path at a place of a stream with these counts, if there may be one.
-fn see_path(
+fn fill_path(
     engine: &Engine,
     number: usize,
-    watched: Option<&CopyWatch>,
+    watched: Option<&CopyTracker>,
     counts: &Counts,
     place: usize,
     state: &mut PathState,
@@ -171,28 +176,34 @@ fn see_path(
         return;
     };
     state.first = first_at(counts, place);
-    see_before(engine, number, path, state);
-    see_copies(watched, path, engine.time(), counts.lost, state);
+    fill_before_merge(engine, number, path, state);
+    fill_path_copies(watched, path, engine.time(), counts.lost, state);
 }
 
 /// Sees what became of a path's datagrams before the merge.
-fn see_before(engine: &Engine, number: usize, path: Path, state: &mut PathState)
+fn fill_before_merge(engine: &Engine, number: usize, path: Path, state: &mut PathState)
     ensures before { number < length engine.now.cursors → HasEngineBefore engine.now number path state.new.counts state.new.datagrams }
     ensures first { state.new.first ≡ state.old.first }
 {
     if let Some(counts) = engine.path_counts(number, path) {
-        see_datagrams(counts, state);
+        fill_datagrams(counts, state);
     }
 }
 
 /// Sees what became of a path's packets by this time, where that is tallied, of a stream that lost so many.
-fn see_copies(watched: Option<&CopyWatch>, path: Path, now: i64, lost: u64, state: &mut PathState)
+fn fill_path_copies(
+    watched: Option<&CopyTracker>,
+    path: Path,
+    now: i64,
+    lost: u64,
+    state: &mut PathState,
+)
     ensures copies { MatchOption watched.entry (state.new ≡ state.old) (λ watch. IsWatched path now lost state.old state.new watch.now) }
     ensures rest { (state.new.first ≡ state.old.first) × (state.new.counts ≡ state.old.counts) × (state.new.datagrams ≡ state.old.datagrams) }
 {
     if let Some(watch) = watched {
-        let numbers = watch.numbers(path, now);
-        see_numbers(&numbers, lost, state);
+        let numbers = watch.stats(path, now);
+        fill_copies(&numbers, lost, state);
     }
 }
 

@@ -1,10 +1,10 @@
 //! Whether a descriptor of the process answers at once.
 
 /// Standard input, by its descriptor.
-pub const INPUT: i32 = 0;
+pub const STDIN: i32 = 0;
 
 /// Standard error, by its descriptor.
-pub const FAULTS: i32 = 2;
+pub const STDERR: i32 = 2;
 
 /// Whether a read (`POLLIN`), or a write of at most 4,096 octets (`POLLOUT`), would answer at once, be it by a
 /// fault. It doesn't wait.

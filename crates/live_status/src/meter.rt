@@ -9,7 +9,7 @@ use status_page::OutputState;
 use std::sync::atomic::{AtomicU32, Ordering};
 
 /// The most output channels.
-const MOST: usize = 8;
+const MAX_CHANNELS: usize = 8;
 
 /// How many octets of a datagram of the mix stand before its samples.
 const HEAD: usize = 12;
@@ -20,7 +20,7 @@ pub struct Meter {
     enc: Enc,
     channels: usize,
     /// The peak of each channel since it was told.
-    peaks: [AtomicU32; MOST],
+    peaks: [AtomicU32; MAX_CHANNELS],
     ghost few: { channels ≤ 8 },
 }
 
@@ -31,7 +31,7 @@ impl Meter {
     {
         Meter {
             enc,
-            channels: usize::from(channels).min(MOST),
+            channels: usize::from(channels).min(MAX_CHANNELS),
             peaks: [
                 AtomicU32::new(0),
                 AtomicU32::new(0),
@@ -50,7 +50,7 @@ impl Meter {
         if datagram.len() < HEAD || self.channels == 0 {
             return;
         }
-        let mut peaks = [0u32; MOST];
+        let mut peaks = [0u32; MAX_CHANNELS];
         raise_peaks(&mut peaks[..self.channels], self.enc, &datagram[HEAD..]);
         for (channel, peak) in self.peaks.iter().zip(peaks) {
             channel.fetch_max(peak, Ordering::SeqCst);
@@ -58,7 +58,7 @@ impl Meter {
     }
 
     /// Tells each channel's peak since the last telling.
-    pub(crate) fn tell(&self, outputs: &mut [OutputState])
+    pub(crate) fn fill_peaks(&self, outputs: &mut [OutputState])
         ensures { AreEach KeepsCount outputs.old outputs.new }
     {
         for (channel, output) in outputs.iter_mut().enumerate() {

@@ -1,31 +1,31 @@
 //! What is seen of streams by their names.
 ghost use Rattle.std.specs.Prelude.{◌≡◌, None, IfOk, slice_index_or};
 ghost use Rattle.live_status.specs.Each.{AreEach};
-ghost use Rattle.live_status.specs.Seen.{IsFirstSeenOf};
+ghost use Rattle.live_status.specs.StreamStatus.{IsFirstSeenOf};
 
-use crate::stream_status::Seen;
+use crate::stream_status::StreamStatus;
 use rtp_stream::StreamSpec;
-use status_page::Name;
+use status_page::StreamName;
 use std::alloc::{AllocError, Global};
 
 /// What is seen of streams with these names, before anything came.
 pub(crate) fn all_seen(
     alloc: Global,
     streams: &[StreamSpec],
-    names: &[Option<Name>],
+    names: &[Option<StreamName>],
     now: i64,
-) -> Result<Vec<Seen>, AllocError>
+) -> Result<Vec<StreamStatus>, AllocError>
     ensures { IfOk result (λ seen. AreEach (IsFirstSeenOf names.now now) streams.now seen.items) }
 {
     let mut seen = Vec::with_capacity(alloc, streams.len())?;
     for (number, stream) in streams.iter().enumerate() {
-        seen.push(Seen::new(name_at(names, number), stream, now))?;
+        seen.push(StreamStatus::new(name_at(names, number), stream, now))?;
     }
     Ok(seen)
 }
 
 /// The name at a place, if there is one.
-fn name_at(names: &[Option<Name>], number: usize) -> Option<Name>
+fn name_at(names: &[Option<StreamName>], number: usize) -> Option<StreamName>
     ensures { result ≡ slice_index_or names.now number None }
 {
     match names.get(number) {

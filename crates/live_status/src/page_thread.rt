@@ -17,23 +17,23 @@ const PLACES: usize = 4;
 
 /// What answers the page's clients.
 #[derive(Drop)]
-pub struct Serving {
+pub struct PageThread {
     server: PageServer,
     page: Page,
     source: RingSource,
 }
 
-impl Serving {
+impl PageThread {
     /// Listens at a port of this machine, and answers where the page's snapshots go.
     pub(crate) fn bind<R: Net + RandomSource>(
         rt: &R,
         alloc: Global,
         port: u16,
-    ) -> Result<(Serving, Producer<Snapshot>), PageFault> {
+    ) -> Result<(PageThread, Producer<Snapshot>), PageFault> {
         let (producer, consumer) = RingBuffer::new(alloc, PLACES)?;
         match bound(rt, alloc, port) {
             Ok(server) => Ok((
-                Serving {
+                PageThread {
                     server,
                     page: Page::new(alloc, Snapshot::new()),
                     source: RingSource::new(consumer),
@@ -51,7 +51,7 @@ impl Serving {
 
     /// Answers the page's clients until the run has ended.
     pub fn serve<R: Wait + Clock>(self, rt: &R) {
-        let Serving {
+        let PageThread {
             server,
             page,
             source,

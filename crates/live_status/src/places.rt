@@ -1,21 +1,21 @@
 //! The line that says where a run receives, sends and is shown.
 
-use crate::fd_ready::{FAULTS, is_ready};
-use crate::page_thread::Serving;
-use live_io::{Sockets, write_places};
+use crate::fd_ready::{STDERR, is_ready};
+use crate::page_thread::PageThread;
+use live_io::{Sockets, write_addresses};
 use std::io;
 use std::io::Write;
 use studio_config::StudioSpec;
 
 /// Writes where each path is received, where the mix goes, and where the page is, in one line. It is left out where standard
 /// error doesn't take it at once.
-pub(crate) fn tell_places<W: Write>(
+pub(crate) fn write_address_line<W: Write>(
     studio: &StudioSpec,
     sockets: &Sockets<'_>,
-    serving: &Option<Serving>,
+    serving: &Option<PageThread>,
     writer: &mut W,
 ) {
-    if is_ready(FAULTS, libc::net::POLLOUT) {
+    if is_ready(STDERR, libc::net::POLLOUT) {
         let _ = write_line(studio, sockets, serving, writer);
     }
 }
@@ -24,11 +24,11 @@ pub(crate) fn tell_places<W: Write>(
 fn write_line<W: Write>(
     studio: &StudioSpec,
     sockets: &Sockets<'_>,
-    serving: &Option<Serving>,
+    serving: &Option<PageThread>,
     writer: &mut W,
 ) -> io::Result<()> {
     write!(writer, "live")?;
-    write_places(studio, sockets, writer)?;
+    write_addresses(studio, sockets, writer)?;
     if let Some(serving) = serving {
         write_page(serving, writer)?;
     }
@@ -36,7 +36,7 @@ fn write_line<W: Write>(
 }
 
 /// Writes where the page is.
-fn write_page<W: Write>(serving: &Serving, writer: &mut W) -> io::Result<()> {
+fn write_page<W: Write>(serving: &PageThread, writer: &mut W) -> io::Result<()> {
     let address = serving.address()?;
     write!(writer, " page=http://{address}/")
 }

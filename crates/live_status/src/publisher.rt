@@ -2,29 +2,29 @@
 ghost use Rattle.std.specs.Prelude.{◌≡◌, ◌≤◌, [], min, replicate, length, IfOk, IsNone, IsSome, IsSomeAnd, MatchOption, is_some, ◌≤ℤ◌, ◌+ℤ◌};
 ghost use Rattle.live_status.specs.Each.{AreEach};
 ghost use Rattle.live_status.specs.Outputs.{blank_output};
-ghost use Rattle.live_status.specs.Pulses.{Looks, LooksAt, Stands};
-ghost use Rattle.live_status.specs.Seen.{IsBlankOf, IsFirstSeenOf};
+ghost use Rattle.live_status.specs.Conditions.{Looks, LooksAt, Stands};
+ghost use Rattle.live_status.specs.StreamStatus.{IsBlankOf, IsFirstSeenOf};
 
-use crate::count_lines::Stats;
+use crate::count_lines::CountLines;
 use crate::names::all_seen;
-use crate::stream_status::Seen;
+use crate::stream_status::StreamStatus;
 use rtp_stream::StreamSpec;
 use rtrb::Producer;
-use status_page::{Name, OutputState, Snapshot, StreamState};
+use status_page::{OutputState, Snapshot, StreamName, StreamState};
 use std::alloc::{AllocError, Global};
 use std::io::Write;
 
 /// The most output channels.
-const MOST: usize = 8;
+const MAX_CHANNELS: usize = 8;
 
 /// From one snapshot to the next, in sampling instants: a tenth of a second.
-const TENTH: i64 = 4_800;
+const SNAPSHOT_INTERVAL: i64 = 4_800;
 
 /// What a run tells of itself, to its page and by lines, and when.
 #[derive(Drop)]
-pub struct Board<E> {
-    streams: Vec<Seen>,
-    stats: Option<Stats>,
+pub struct StatusPublisher<E> {
+    streams: Vec<StreamStatus>,
+    stats: Option<CountLines>,
     /// Where snapshots go, if a page is asked for. One that finds no room is dropped.
     page: Option<Producer<Snapshot>>,
     /// When the next snapshot is due, in sampling instants.
@@ -35,34 +35,34 @@ pub struct Board<E> {
     ghost few: { channels ≤ 8 },
 }
 
-impl<E: Write + Drop> Board<E> {
-    ghost use Rattle.rtp_stats.specs.Newest.{Gives};
-    ghost use Rattle.live_status.specs.Shown.{IsBlankSnapshot, Shows, is_due_at};
+impl<E: Write + Drop> StatusPublisher<E> {
+    ghost use Rattle.rtp_stats.specs.Channel.{Gives};
+    ghost use Rattle.live_status.specs.Publisher.{IsBlankSnapshot, Shows, is_due_at};
 
     /// A board of these streams and so many output channels, up to eight, before anything came; `now` is in sampling instants.
     /// It takes all memory.
     pub fn new(
         alloc: Global,
         streams: &[StreamSpec],
-        names: &[Option<Name>],
+        names: &[Option<StreamName>],
         now: i64,
-        stats: Option<Stats>,
+        stats: Option<CountLines>,
         page: Option<Producer<Snapshot>>,
         channels: u8,
         writer: E,
-    ) -> Result<Board<E>, AllocError>
+    ) -> Result<StatusPublisher<E>, AllocError>
         ensures streams { IfOk result (λ board. AreEach (IsFirstSeenOf names.now now) streams.now board.streams.items) }
         ensures next { IfOk result (λ board. board.next ≡ now) }
         ensures page { IfOk result (λ board. (board.page ≡ page) × (board.stats ≡ stats)) }
         ensures channels { IfOk result (λ board. board.channels ≡ min channels 8) }
     {
         let streams = all_seen(alloc, streams, names, now)?;
-        Ok(Board {
+        Ok(StatusPublisher {
             streams,
             stats,
             page,
             next: now,
-            channels: usize::from(channels).min(MOST),
+            channels: usize::from(channels).min(MAX_CHANNELS),
             writer,
         })
     }
@@ -88,7 +88,7 @@ impl<E: Write + Drop> Board<E> {
     }
 
     /// A snapshot in which nothing is counted.
-    pub fn blank(&self) -> Snapshot
+    pub fn blank_snapshot(&self) -> Snapshot
         ensures { IsBlankSnapshot self.now.streams.items self.now.channels result }
     {
         let mut snapshot = Snapshot::new();
@@ -98,13 +98,13 @@ impl<E: Write + Drop> Board<E> {
     }
 
     /// Shows the counts of a snapshot at a time: writes the lines that are due, and hands the snapshot to the page.
-    pub fn show(&mut self, now: i64, mut snapshot: Snapshot, have_ended: bool)
+    pub fn publish(&mut self, now: i64, mut snapshot: Snapshot, have_ended: bool)
         ensures shown { Shows self.old.streams.items now have_ended snapshot self.old.page self.new.page }
         ensures streams { AreEach (Looks snapshot.streams.items now) self.old.streams.items self.new.streams.items }
-        ensures next { IsSome self.old.page → self.new.next ≤ℤ (now +ℤ TENTH) }
+        ensures next { IsSome self.old.page → self.new.next ≤ℤ (now +ℤ SNAPSHOT_INTERVAL) }
     {
         let streams = snapshot.streams.as_mut_slice();
-        tell_conditions(self.streams.as_mut_slice(), now, streams, have_ended);
+        set_conditions(self.streams.as_mut_slice(), now, streams, have_ended);
         self.write_lines(now, &snapshot);
         self.show_page(now, snapshot);
     }
@@ -116,7 +116,7 @@ impl<E: Write + Drop> Board<E> {
     {
         if let Some(stats) = &mut self.stats {
             if stats.is_due(now) {
-                stats.tell(now, snapshot, &mut self.writer);
+                stats.write_due(now, snapshot, &mut self.writer);
             }
         }
     }
@@ -125,17 +125,17 @@ impl<E: Write + Drop> Board<E> {
     fn show_page(&mut self, now: i64, snapshot: Snapshot)
         ensures shown { MatchOption self.old.page (IsNone self.new.page) (λ ring. IsSomeAnd self.new.page (Gives snapshot ring)) }
         ensures streams { self.new.streams ≡ self.old.streams }
-        ensures next { IsSome self.old.page → self.new.next ≤ℤ (now +ℤ TENTH) }
+        ensures next { IsSome self.old.page → self.new.next ≤ℤ (now +ℤ SNAPSHOT_INTERVAL) }
     {
         if let Some(page) = &mut self.page {
-            self.next = now.saturating_add(TENTH);
+            self.next = now.saturating_add(SNAPSHOT_INTERVAL);
             let _ = page.push(snapshot);
         }
     }
 }
 
 /// Adds these streams to a snapshot that has none.
-fn add_streams(snapshot: &mut Snapshot, seen: &[Seen])
+fn add_streams(snapshot: &mut Snapshot, seen: &[StreamStatus])
     requires { snapshot.old.streams.items ≡ [] }
     ensures streams { length seen.now ≤ 16 → AreEach IsBlankOf seen.now snapshot.new.streams.items }
     ensures outputs { snapshot.new.outputs ≡ snapshot.old.outputs }
@@ -158,18 +158,23 @@ fn add_outputs(snapshot: &mut Snapshot, channels: usize)
 }
 
 /// Says where each of these streams stands at a time.
-fn tell_conditions(seen: &mut [Seen], now: i64, streams: &mut [StreamState], have_ended: bool)
+fn set_conditions(
+    seen: &mut [StreamStatus],
+    now: i64,
+    streams: &mut [StreamState],
+    have_ended: bool,
+)
     ensures streams { AreEach (Stands seen.old now have_ended) streams.old streams.new }
     ensures seen { AreEach (Looks streams.old now) seen.old seen.new }
 {
     for (number, stream) in streams.iter_mut().enumerate() {
-        tell_condition_at(seen, number, now, stream, have_ended);
+        set_condition_at(seen, number, now, stream, have_ended);
     }
 }
 
 /// Says where the stream at a place among the seen ones stands at a time.
-fn tell_condition_at(
-    seen: &mut [Seen],
+fn set_condition_at(
+    seen: &mut [StreamStatus],
     number: usize,
     now: i64,
     stream: &mut StreamState,
@@ -179,6 +184,6 @@ fn tell_condition_at(
     ensures seen { LooksAt number stream.old.counts.taken now seen.old seen.new }
 {
     if number < seen.len() {
-        seen[number].tell_condition(now, stream, has_ended);
+        seen[number].set_condition(now, stream, has_ended);
     }
 }

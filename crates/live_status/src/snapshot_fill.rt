@@ -4,37 +4,37 @@ ghost use Rattle.live_status.specs.Copies.{IsTold};
 ghost use Rattle.live_status.specs.Each.{AreEach};
 ghost use Rattle.live_status.specs.Outputs.{HasCount, HasNumbers};
 
-use crate::copies::see_numbers;
-use rtp_stats::{MixNumbers, StreamNumbers};
+use crate::copies::fill_copies;
+use rtp_stats::{MixStats, StreamStats};
 use rtp_stream::{Counts, PathCounts};
 use status_page::{OutputState, PathState, StreamState};
 
 /// Sees what was told of a stream.
-pub fn see_told(numbers: &StreamNumbers, stream: &mut StreamState)
+pub fn fill_stream(numbers: &StreamStats, stream: &mut StreamState)
     ensures counts { stream.new.counts ≡ numbers.now.counts }
     ensures paths { AreEach (IsTold numbers.now.counts numbers.now.paths) stream.old.paths.items stream.new.paths.items }
     ensures rest { (stream.new.name ≡ stream.old.name) × (stream.new.condition ≡ stream.old.condition) × (stream.new.latency ≡ stream.old.latency) }
 {
     stream.counts = numbers.counts;
-    see_paths(numbers, stream.paths.as_mut_slice());
+    fill_paths(numbers, stream.paths.as_mut_slice());
 }
 
 /// Sees what was told of each path.
-fn see_paths(numbers: &StreamNumbers, paths: &mut [PathState])
+fn fill_paths(numbers: &StreamStats, paths: &mut [PathState])
     ensures { AreEach (IsTold numbers.now.counts numbers.now.paths) paths.old paths.new }
 {
     for (place, path) in paths.iter_mut().enumerate() {
-        see_path(numbers, place, path);
+        fill_path(numbers, place, path);
     }
 }
 
 /// Sees what was told of the path at a place.
-fn see_path(numbers: &StreamNumbers, place: usize, path: &mut PathState)
+fn fill_path(numbers: &StreamStats, place: usize, path: &mut PathState)
     ensures { IsTold numbers.now.counts numbers.now.paths place path.old path.new }
 {
     if let Some(of_path) = numbers.paths.get(place) {
         path.first = first_at(&numbers.counts, place);
-        see_numbers(of_path, numbers.counts.lost, path);
+        fill_copies(of_path, numbers.counts.lost, path);
     }
 }
 
@@ -49,7 +49,7 @@ pub(crate) fn first_at(counts: &Counts, place: usize) -> u64
 }
 
 /// Sees what became of a path's datagrams before the merge.
-pub fn see_datagrams(counts: PathCounts, state: &mut PathState)
+pub fn fill_datagrams(counts: PathCounts, state: &mut PathState)
     ensures counts { state.new.counts ≡ Some counts }
     ensures datagrams { state.new.datagrams ≡ counts.offered }
     ensures copies { (state.new.copies ≡ state.old.copies) × (state.new.spare ≡ state.old.spare) × (state.new.first ≡ state.old.first) }
@@ -59,16 +59,16 @@ pub fn see_datagrams(counts: PathCounts, state: &mut PathState)
 }
 
 /// Sees what was told of the mix: each channel's peak, and how many of its samples were saturated.
-pub fn see_mix(numbers: &MixNumbers, outputs: &mut [OutputState])
+pub fn fill_outputs(numbers: &MixStats, outputs: &mut [OutputState])
     ensures { AreEach (HasNumbers numbers.now) outputs.old outputs.new }
 {
     for (channel, output) in outputs.iter_mut().enumerate() {
-        see_channel(numbers, channel, output);
+        fill_channel(numbers, channel, output);
     }
 }
 
 /// Sees what was told of the channel at a place.
-fn see_channel(numbers: &MixNumbers, channel: usize, output: &mut OutputState)
+fn fill_channel(numbers: &MixStats, channel: usize, output: &mut OutputState)
     ensures { HasNumbers numbers.now channel output.old output.new }
 {
     if let Some(peak) = numbers.peaks.get(channel) {
@@ -80,7 +80,7 @@ fn see_channel(numbers: &MixNumbers, channel: usize, output: &mut OutputState)
 }
 
 /// Sees how many samples of each output channel were saturated, as far as that is told.
-pub(crate) fn see_saturated(saturated: &[u64], outputs: &mut [OutputState])
+pub(crate) fn fill_saturated(saturated: &[u64], outputs: &mut [OutputState])
     ensures { AreEach (HasCount saturated.now) outputs.old outputs.new }
 {
     for (channel, output) in outputs.iter_mut().enumerate() {

@@ -1,12 +1,12 @@
 //! What a run is shown through.
 
-use crate::count_lines::Stats;
+use crate::count_lines::CountLines;
 use crate::fault::PageFault;
 use crate::meter::Meter;
-use crate::page_thread::Serving;
-use crate::places::tell_places;
-use crate::publisher::Board;
-use crate::showing::Showing;
+use crate::page_thread::PageThread;
+use crate::places::write_address_line;
+use crate::publisher::StatusPublisher;
+use crate::showing::StatusOutputs;
 use live_io::{LiveOptions, Sockets, StreamName};
 use rtrb::Producer;
 use status_page::Snapshot;
@@ -18,7 +18,7 @@ use studio_config::StudioSpec;
 
 /// What is seen of a run.
 #[derive(Clone, Copy)]
-pub struct Seen<'a> {
+pub struct StatusInputs<'a> {
     /// The name of each stream, if it has one.
     pub names: &'a [Option<StreamName>],
     pub meter: &'a Meter,
@@ -26,36 +26,36 @@ pub struct Seen<'a> {
 
 /// What a run is shown through.
 #[derive(Drop)]
-pub struct Shown<'a, E> {
+pub struct OpenStatus<'a, E> {
     /// What answers the page's clients, if a page is asked for.
-    pub serving: Option<Serving>,
-    pub showing: Showing<'a, E>,
+    pub serving: Option<PageThread>,
+    pub showing: StatusOutputs<'a, E>,
 }
 
 /// Binds the page's port, if a page is asked for, and tells where the run receives, sends and is shown, if it is to show
 /// anything. Lines go to `faults`. It takes all memory.
-pub fn show<'a, R: Net + RandomSource, E: Write + Drop>(
+pub fn open_status<'a, R: Net + RandomSource, E: Write + Drop>(
     rt: &R,
     alloc: Global,
     studio: &StudioSpec,
     sockets: &Sockets<'_>,
     options: &LiveOptions,
-    seen: Seen<'a>,
+    seen: StatusInputs<'a>,
     faults: E,
-) -> Result<Shown<'a, E>, PageFault> {
+) -> Result<OpenStatus<'a, E>, PageFault> {
     let mut faults = faults;
-    let Paged { serving, ring } = page_of(rt, alloc, options.page)?;
+    let PageEnds { serving, ring } = page_of(rt, alloc, options.page)?;
     if options.stats.is_some() || serving.is_some() {
-        tell_places(studio, sockets, &serving, &mut faults);
+        write_address_line(studio, sockets, &serving, &mut faults);
     }
     let showing = showing_of(alloc, studio, options.stats, seen, ring, faults)?;
-    Ok(Shown { serving, showing })
+    Ok(OpenStatus { serving, showing })
 }
 
 /// What answers a page's clients, and where its snapshots go.
 #[derive(Drop)]
-struct Paged {
-    serving: Option<Serving>,
+struct PageEnds {
+    serving: Option<PageThread>,
     ring: Option<Producer<Snapshot>>,
 }
 
@@ -64,15 +64,15 @@ fn page_of<R: Net + RandomSource>(
     rt: &R,
     alloc: Global,
     port: Option<u16>,
-) -> Result<Paged, PageFault> {
+) -> Result<PageEnds, PageFault> {
     let Some(port) = port else {
-        return Ok(Paged {
+        return Ok(PageEnds {
             serving: None,
             ring: None,
         });
     };
-    let (serving, ring) = Serving::bind(rt, alloc, port)?;
-    Ok(Paged {
+    let (serving, ring) = PageThread::bind(rt, alloc, port)?;
+    Ok(PageEnds {
         serving: Some(serving),
         ring: Some(ring),
     })
@@ -83,13 +83,13 @@ fn showing_of<'a, E: Write + Drop>(
     alloc: Global,
     studio: &StudioSpec,
     stats: Option<u32>,
-    seen: Seen<'a>,
+    seen: StatusInputs<'a>,
     ring: Option<Producer<Snapshot>>,
     faults: E,
-) -> Result<Showing<'a, E>, AllocError> {
+) -> Result<StatusOutputs<'a, E>, AllocError> {
     let has_page = ring.is_some();
     let board = board_of(alloc, studio, stats, seen.names, ring, faults)?;
-    Ok(Showing {
+    Ok(StatusOutputs {
         board,
         meter: has_page.then_some(seen.meter),
     })
@@ -103,16 +103,16 @@ fn board_of<E: Write + Drop>(
     names: &[Option<StreamName>],
     ring: Option<Producer<Snapshot>>,
     faults: E,
-) -> Result<Option<Board<E>>, AllocError> {
+) -> Result<Option<StatusPublisher<E>>, AllocError> {
     if ring.is_none() && stats.is_none() {
         return Ok(None);
     }
     let now = studio.open_at();
     let stats = match stats {
-        Some(seconds) => Some(Stats::new(alloc, now, seconds)?),
+        Some(seconds) => Some(CountLines::new(alloc, now, seconds)?),
         None => None,
     };
     let streams = studio.streams();
     let channels = studio.output().channels();
-    Ok(Some(Board::new(alloc, streams, names, now, stats, ring, channels, faults)?))
+    Ok(Some(StatusPublisher::new(alloc, streams, names, now, stats, ring, channels, faults)?))
 }

@@ -2,32 +2,32 @@
 ghost use Rattle.std.specs.Prelude.{◌≡◌, ◌≤◌};
 
 use rtp_stream::StreamSpec;
-use status_page::{Name, PathState, Pulse, StreamState};
+use status_page::{PathState, SignalPresence, StreamName, StreamState};
 
 /// A stream's name, what is fixed of it, and when its packets came.
 #[derive(Drop)]
-pub(crate) struct Seen {
-    name: Option<Name>,
+pub(crate) struct StreamStatus {
+    name: Option<StreamName>,
     latency: u32,
     paths: u8,
-    pulse: Pulse,
+    pulse: SignalPresence,
     ghost few: { paths ≤ 4 },
 }
 
-impl Seen {
+impl StreamStatus {
     ghost use Rattle.status_page.specs.Blank.{IsBlank};
-    ghost use Rattle.live_status.specs.Pulses.{looked, with_condition};
-    ghost use Rattle.live_status.specs.Seen.{IsFirstSeen};
+    ghost use Rattle.live_status.specs.Conditions.{looked, with_condition};
+    ghost use Rattle.live_status.specs.StreamStatus.{IsFirstSeen};
 
     /// What is seen of a stream with a name, before anything came.
-    pub(crate) fn new(name: Option<Name>, stream: &StreamSpec, now: i64) -> Seen
+    pub(crate) fn new(name: Option<StreamName>, stream: &StreamSpec, now: i64) -> StreamStatus
         ensures { IsFirstSeen name now stream.now result }
     {
-        Seen {
+        StreamStatus {
             name,
             latency: stream.latency(),
             paths: stream.paths(),
-            pulse: Pulse::new(now),
+            pulse: SignalPresence::new(now),
         }
     }
 
@@ -45,10 +45,10 @@ impl Seen {
     }
 
     /// Says where the stream stands at a time, by how many of its packets were taken.
-    pub(crate) fn tell_condition(&mut self, now: i64, stream: &mut StreamState, has_ended: bool)
+    pub(crate) fn set_condition(&mut self, now: i64, stream: &mut StreamState, has_ended: bool)
         ensures stream { stream.new ≡ with_condition self.old.pulse now has_ended stream.old }
         ensures seen { self.new ≡ looked stream.old.counts.taken now self.old }
     {
-        stream.condition = self.pulse.look(now, stream.counts.taken, has_ended);
+        stream.condition = self.pulse.update(now, stream.counts.taken, has_ended);
     }
 }

@@ -14,7 +14,7 @@ use Rattle.rtp_stream.specs.Marks.{end_mark, marks_of, slots_at_close, slots_fro
 use Rattle.rtp_stream.specs.MarkList.{has_end, is_end}
 use Rattle.path_merge.specs.MergeState.{MergeState}
 use Rattle.path_merge.specs.Goal.{HasGivenAll}
-use Rattle.path_merge.specs.Next.{anchor_left, next_left, slot_or_end}
+use Rattle.path_merge.specs.NextMark.{anchor_after_close, next_left, slot_or_end}
 use Rattle.path_merge.proofs.HistoryLemmas.{marks_of-in}
 use Rattle.path_merge.proofs.DrainLemmas.{closed_at}
 use Rattle.path_merge.proofs.SlotCountLemmas.{no_end_yet}
@@ -69,7 +69,7 @@ given_all_yet m open_yet stream open_at events k some h = h.all_given (sym h.clo
 pub given_all_left : (m : MergeState) → next_left m ≡ None → HasGivenAll m
 given_all_left m none = by_tests m.closed m.ended refl refl none
   where
-    by_tests : (closed ended : Bool) → m.closed ≡ closed → m.ended ≡ ended → (if closed then (if ended then None else Some (slot_or_end m (anchor_left m))) else None) ≡ None → HasGivenAll m
+    by_tests : (closed ended : Bool) → m.closed ≡ closed → m.ended ≡ ended → (if closed then (if ended then None else Some (slot_or_end m (anchor_after_close m))) else None) ≡ None → HasGivenAll m
     by_tests false ended c e none = given_all_yet m c
     by_tests true true c e none = given_all m e
     by_tests true false c e none = absurd (cc)

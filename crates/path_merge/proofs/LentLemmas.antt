@@ -4,16 +4,16 @@ use Rattle.std.specs.Prelude.{int_lt, nat_eq}
 use Rattle.std.proofs.lemmas.Int.{ints}
 use Rattle.std.proofs.lemmas.List.Elements.{All-head, All-tail}
 use Rattle.path_merge.proofs.HistoryLemmas.{marks_in, marks_of-in}
-use Rattle.path_merge.proofs.KeepUpLemmas.{keep_up, opened, to_come}
+use Rattle.path_merge.proofs.ClockLagLemmas.{keep_up, opened, to_come}
 use Rattle.path_merge.proofs.NextMarkLemmas.{due, next_is}
 use Rattle.path_merge.proofs.RunLemmas.{no_fault}
 use Rattle.path_merge.proofs.SlotCountLemmas.{next_of, slots_counted}
 use Rattle.path_merge.proofs.StepLemmas.{take_all}
 use Rattle.path_merge.specs.Clock.{clock_fault_of}
-use Rattle.path_merge.specs.KeepUp.{IsDue}
+use Rattle.path_merge.specs.ClockLag.{IsDue}
 use Rattle.path_merge.specs.Merge.{HasHistory, IsBaseOf, last_quiet_or, quiet_or, slot_count}
 use Rattle.path_merge.specs.MergeState.{MergeState}
-use Rattle.path_merge.specs.Next.{anchor_due, next_mark, quiet_next, slot_next}
+use Rattle.path_merge.specs.NextMark.{anchor_due, next_mark, quiet_next, slot_next}
 use Rattle.rtp_stream.specs.Anchor.{media_time_of, next_number}
 use Rattle.rtp_stream.specs.Copies.{copies_of_all}
 use Rattle.rtp_stream.specs.Epochs.{anchor_of}

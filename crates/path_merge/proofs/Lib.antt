@@ -31,10 +31,10 @@ pub mod LawLemmas
 pub mod RunLemmas
 pub mod GoalLemmas
 pub mod AgainLemmas
-pub mod WayLemmas
+pub mod ReadingStepsLemmas
 pub mod AnchorLemmas
 pub mod ShapeLemmas
-pub mod KeepUpLemmas
+pub mod ClockLagLemmas
 pub mod AfterCloseLemmas
 pub mod MarkListLemmas
 pub mod SpanLemmas

@@ -16,7 +16,7 @@ use Rattle.path_merge.specs.MergeState.{IsAnchored, IsAnchoredOrNot, IsSound, Me
 use Rattle.rtp_stream.specs.declared.event.Event.{Event}
 use Rattle.rtp_stream.specs.Marks.{quiet_mark}
 use Rattle.path_merge.specs.Merge.{HasHistory}
-use Rattle.path_merge.specs.Next.{anchor_due, anchor_if_due, anchor_if_held, anchor_left, next_left, next_mark, quiet_next, slot_or_end, slot_or_quiet}
+use Rattle.path_merge.specs.NextMark.{anchor_due, anchor_if_due, anchor_if_held, anchor_after_close, next_left, next_mark, quiet_next, slot_or_end, slot_or_quiet}
 use Rattle.path_merge.specs.Clock.{clock_fault_of}
 use Rattle.path_merge.specs.Steps.{Drains, HoldsMore, IsBeforeDeadline, IsLeftStep, IsTimeStep, is_quiet_due, marks_left}
 use Rattle.rtp_stream.specs.declared.stream_spec.Stream.{Stream}
@@ -93,7 +93,7 @@ short_body len (Got payload) has short = omega (arith, has, short)
 short_body len Lost has short = tt
 
 -- a packet is held at the base or later
-pub left_more : (m : MergeState) (a : Anchor) → anchor_left m ≡ Some a → (m.anchor ≡ Some a) × HoldsMore m
+pub left_more : (m : MergeState) (a : Anchor) → anchor_after_close m ≡ Some a → (m.anchor ≡ Some a) × HoldsMore m
 left_more m a is = by_anchor m.anchor refl is
   where
     by_test : (b : Anchor) (t : Bool) → m.anchor ≡ Some b → nat_eq (held_count m.held m.base m.spec.window) 0 ≡ t → (if t then None else Some b) ≡ Some a → (m.anchor ≡ Some a) × HoldsMore m
@@ -111,7 +111,7 @@ in_width : (m : MergeState) (media : ℤ) (a : Anchor) → IsAnchored m media a 
 in_width m media a an n some = omega (arith, an.held_high n some, an.next_low)
 
 -- nothing is held
-pub left_none : (m : MergeState) (media : ℤ) → IsSound m media → anchor_left m ≡ None → (n : ℕ) → IsSome (get m.held n) → n < m.base
+pub left_none : (m : MergeState) (media : ℤ) → IsSound m media → anchor_after_close m ≡ None → (n : ℕ) → IsSome (get m.held n) → n < m.base
 left_none m media s is n some = by_anchor m.anchor s.anchored is
   where
     by_test : (b : Anchor) (t : Bool) → IsAnchored m media b → nat_eq (held_count m.held m.base m.spec.window) 0 ≡ t → (if t then None else Some b) ≡ None → n < m.base
@@ -123,14 +123,14 @@ left_none m media s is n some = by_anchor m.anchor s.anchored is
     by_anchor (Some b) an is = by_test b (nat_eq (held_count m.held m.base m.spec.window) 0) an refl is
 
 -- the answer, by the window's end
-pub left_is : (m : MergeState) (media : ℤ) (a : Anchor) → IsAnchored m media a → m.anchor ≡ Some a → HoldsMore m → Some a ≡ anchor_left m
+pub left_is : (m : MergeState) (media : ℤ) (a : Anchor) → IsAnchored m media a → m.anchor ≡ Some a → HoldsMore m → Some a ≡ anchor_after_close m
 left_is m media a an is_a more = by_test (nat_eq (held_count m.held m.base m.spec.window) 0) refl
   where
-    by_test : (t : Bool) → nat_eq (held_count m.held m.base m.spec.window) 0 ≡ t → Some a ≡ anchor_left m
+    by_test : (t : Bool) → nat_eq (held_count m.held m.base m.spec.window) 0 ≡ t → Some a ≡ anchor_after_close m
     by_test true none = absurd (held_none m.held m.base m.spec.window (grind (arith, nat_tests, none)) more.last more.from_base (in_width m media a an more.last more.is_held) more.is_held)
     by_test false some = rw (is_a, some)
 
-pub left_none_is : (m : MergeState) (media : ℤ) (a : Anchor) → IsAnchored m media a → m.anchor ≡ Some a → ((n : ℕ) → IsSome (get m.held n) → n < m.base) → None ≡ anchor_left m
+pub left_none_is : (m : MergeState) (media : ℤ) (a : Anchor) → IsAnchored m media a → m.anchor ≡ Some a → ((n : ℕ) → IsSome (get m.held n) → n < m.base) → None ≡ anchor_after_close m
 left_none_is m media a an is_a below =
     let count : held_count m.held m.base m.spec.window ≡ 0 = held_count-none m.held m.base m.spec.window (λ n. no_packet (get m.held n) (λ some. absurd (omega (arith, below n some, an.held_low n some)))) in
     let none : nat_eq (held_count m.held m.base m.spec.window) 0 ≡ true = grind (arith, nat_tests, count) in
@@ -143,10 +143,10 @@ next_is m now o is = ap (slot_or_quiet m now) is
 pub ended_is : (m : MergeState) → m.closed ≡ true → m.ended ≡ true → next_left m ≡ None
 ended_is m shut ended = rw (shut, ended)
 
-pub left_mark_is : (m : MergeState) (o : Option Anchor) → m.closed ≡ true → m.ended ≡ false → anchor_left m ≡ o → next_left m ≡ Some (slot_or_end m o)
+pub left_mark_is : (m : MergeState) (o : Option Anchor) → m.closed ≡ true → m.ended ≡ false → anchor_after_close m ≡ o → next_left m ≡ Some (slot_or_end m o)
 left_mark_is m o shut unended is = by_tests m.closed m.ended shut unended ∙ ap (λ a. Some (slot_or_end m a)) is
   where
-    by_tests : (closed ended : Bool) → closed ≡ true → ended ≡ false → (if closed then (if ended then None else Some (slot_or_end m (anchor_left m))) else None) ≡ Some (slot_or_end m (anchor_left m))
+    by_tests : (closed ended : Bool) → closed ≡ true → ended ≡ false → (if closed then (if ended then None else Some (slot_or_end m (anchor_after_close m))) else None) ≡ Some (slot_or_end m (anchor_after_close m))
     by_tests true false c e = refl
     by_tests true true c e = cc
     by_tests false ended c e = cc
@@ -159,7 +159,7 @@ fewer_left m new media a s is_a more step =
     rw (ap (λ (s : MergeState). s.ended) step.changed, ap (λ (s : MergeState). s.spec) step.changed, ap (λ (s : MergeState). s.anchor) step.changed, ap (λ (s : MergeState). s.time) step.changed, ap (λ (s : MergeState). s.base) step.changed, is_a) (omega (arith, below))
 
 -- the end is left alone
-pub drains_end_left : (stream : Stream) (open_at : ℤ) (m : MergeState) (media : ℤ) → IsSound m media → (events : List Event) (k : ℕ) → HasHistory stream open_at m events k → m.closed ≡ true → m.ended ≡ false → anchor_left m ≡ None → Drains stream open_at (record m { ended = true }) events k (next_left m)
+pub drains_end_left : (stream : Stream) (open_at : ℤ) (m : MergeState) (media : ℤ) → IsSound m media → (events : List Event) (k : ℕ) → HasHistory stream open_at m events k → m.closed ≡ true → m.ended ≡ false → anchor_after_close m ≡ None → Drains stream open_at (record m { ended = true }) events k (next_left m)
 drains_end_left stream open_at m media s events k at shut unended none =
     subst (λ o. Drains stream open_at (record m { ended = true }) events k o) (sym (left_mark_is m None shut unended none))
     (end_mark_is stream open_at (record m { ended = true }) events k m.spec at.spec (drains_end stream open_at m media s events k at shut unended m.base (omega arith) (left_none m media s none)))

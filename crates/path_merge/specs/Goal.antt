@@ -9,7 +9,7 @@ use Rattle.path_merge.specs.declared.goal.Goal.TheVariants.{End, Reading}
 use Rattle.path_merge.specs.MergeState.{MergeState}
 use Rattle.path_merge.specs.Merge.{HasHistory}
 use Rattle.path_merge.specs.Clock.{clock_fault_of}
-use Rattle.path_merge.specs.Next.{next_left, next_mark}
+use Rattle.path_merge.specs.NextMark.{next_left, next_mark}
 use Rattle.path_merge.specs.Steps.{Advances, Drains, Moves, marks_left}
 
 -- the reading is in order; to the end there is always a way, on which nothing is given before a close

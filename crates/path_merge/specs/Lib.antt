@@ -27,8 +27,8 @@ pub mod Clock
 pub mod MergeState
 pub mod Merge
 pub mod Steps
-pub mod Next
+pub mod NextMark
 pub mod Goal
-pub mod Way
-pub mod KeepUp
+pub mod ReadingSteps
+pub mod ClockLag
 pub mod Run

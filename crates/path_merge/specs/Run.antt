@@ -5,8 +5,8 @@ use Rattle.rtp_stream.specs.StreamSpec.{Fits}
 use Rattle.rtp_stream.specs.MarkFacts.{MarkView}
 use Rattle.rtp_stream.specs.declared.event.Event.{Event}
 use Rattle.rtp_stream.specs.declared.event.Event.TheVariants.{Arrive, Tick, Close}
-use Rattle.path_merge.specs.declared.run.RunFault.{RunFault}
-use Rattle.path_merge.specs.declared.run.RunFault.TheVariants.{Clock, Memory}
+use Rattle.path_merge.specs.declared.event_list.RunFault.{RunFault}
+use Rattle.path_merge.specs.declared.event_list.RunFault.TheVariants.{Clock, Memory}
 use Rattle.rtp_stream.specs.History.{first_clock_fault}
 use Rattle.rtp_stream.specs.Marks.{marks_of}
 use Rattle.path_merge.specs.MergeState.{MergeState}

@@ -20,9 +20,9 @@ ghost use Rattle.rtp_stream.specs.EpochLaws.{HasSpans};
 ghost use Rattle.rtp_stream.specs.Sent.{BeginsWith, HasEqualCopies, IsOneEpoch, IsWithinReach, OpensNoEpoch, SentEvent, marks_by_number, sent_copies_after, timestamp_in_step, wire_history};
 ghost use Rattle.rtp_stream.specs.Counts.{counts_of};
 ghost use Rattle.path_merge.specs.Merge.{HasHistory};
-ghost use Rattle.path_merge.specs.KeepUp.{IsDue, KeepUp};
+ghost use Rattle.path_merge.specs.ClockLag.{IsDue, KeepUp};
 ghost use Rattle.path_merge.specs.Clock.{clock_fault_of};
-ghost use Rattle.path_merge.specs.Next.{next_mark};
+ghost use Rattle.path_merge.specs.NextMark.{next_mark};
 ghost use Rattle.path_merge.specs.Steps.{IsAlike};
 ghost use Rattle.rtp_stream.specs.Laws.{AreInOrder, IsDeadlineOnTheWay, IsLeastDue, IsOpen, slot_names, slot_times, slots_left, slots_reached};
 

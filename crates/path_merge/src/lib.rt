@@ -24,17 +24,17 @@
 #![tactic(auto)]
 
 mod clock;
+mod event_list;
 mod goal;
 mod laws;
 mod merge;
-mod octets;
-mod run;
-mod slot;
-mod slots;
-mod sorted;
+mod payload_eq;
+mod slot_window;
+mod sorted_window;
 mod window;
 
 pub use clock::{ClockFault, clock_fault};
+pub use event_list::{RunFault, run_merge};
 pub use goal::Goal;
 pub use laws::{
     aliases_are_off_grid, arrivals_change_no_mark, each_epoch_recovers_its_numbers,
@@ -47,7 +47,6 @@ pub use rtp_stream::{
     AdmitFault, Body, Counts, Event, Fate, Format, Mark, MarkKind, MarkKindRef, MarkRef, Packet,
     PacketRef, Path, Probation, Put, SpecFault, Stream, StreamClock, StreamSpec, near16, near32,
 };
-pub use run::{RunFault, run_merge};
-pub use slots::SlotWindow;
-pub use sorted::SortedWindow;
+pub use slot_window::SlotWindow;
+pub use sorted_window::SortedWindow;
 pub use window::Window;

@@ -6,14 +6,14 @@ ghost use Rattle.rtp_stream.specs.declared.event.Event.TheVariants.{Close};
 ghost use Rattle.rtp_stream.specs.Counts.{tally_of};
 ghost use Rattle.rtp_stream.specs.declared.stream_spec.Stream.{Stream};
 
-use crate::slots::SlotWindow;
+use crate::slot_window::SlotWindow;
 use crate::window::Window;
 use rtp_stream::{Anchor, Counts, Probation, StreamSpec};
 use std::alloc::{AllocError, Global};
 use std::marker::Model;
 
-mod arriving;
-mod giving;
+mod marks_out;
+mod packets_in;
 
 /// A stream's paths, merged: each number is handed on once, in order, at its deadline, with the
 /// first copy that came in time or as lost (SMPTE ST 2022-7).

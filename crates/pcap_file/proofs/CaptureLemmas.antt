@@ -2,7 +2,7 @@
 use Rattle.std.proofs.Common.{◌≡◌, ◌≤◌, ◌+◌, ◌-◌, ℕ, zero, suc, List, [], ◌∷◌, length, take, drop, refl, sym, ap, ◌∙◌, arith, option_map, Option, Some, None, Ok, Err, false}
 use Rattle.pcap_file.specs.declared.cursor.Format.TheVariants as format
 use Rattle.pcap_file.specs.declared.decode.pcap.Pcap.{Pcap}
-use Rattle.pcap_file.specs.declared.fault.FaultKind.{FaultKind}
+use Rattle.pcap_file.specs.declared.fault.CaptureFaultKind.{CaptureFaultKind}
 use Rattle.pcap_file.specs.declared.decode.record_mark.RecordMark.{RecordMark}
 use Rattle.pcap_file.specs.declared.decode.Packet.{Packet}
 use Rattle.std.proofs.lemmas.List.{take_rest}
@@ -39,7 +39,7 @@ packets_from-part state place (octet ∷ octets) block some long e =
     ∙ ap (λ n. packets_from next (place + block.part.len) (drop n (octet ∷ octets))) far)
 
 -- a fault comes last
-pub packets_from-fault : (state : State) (place : ℕ) (octets : List ℕ) (kind : FaultKind)
+pub packets_from-fault : (state : State) (place : ℕ) (octets : List ℕ) (kind : CaptureFaultKind)
     → 1 ≤ length octets → part_of state octets ≡ Err kind → packets_from state place octets ≡ Err (record { place = place; kind = kind }) ∷ []
 unfolding packets_past
 packets_from-fault state place [] kind some e = absurd (omega arith)
@@ -84,7 +84,7 @@ packets_from-passed state next place place' len octets octets' found tells is so
     ∙ ap (λ p. with_packet (option_map packet_view p) (packets_from next (place' + len) (take (length octets' - len) (drop len octets')))) is)
 
 -- the same as a call leaves the capture at a fault: with no octets
-pub packets_from-ended : (state next : State) (place place' : ℕ) (octets : List ℕ) (kind : FaultKind)
+pub packets_from-ended : (state next : State) (place place' : ℕ) (octets : List ℕ) (kind : CaptureFaultKind)
     → 1 ≤ length octets → part_of state octets ≡ Err kind → place' ≡ place
     → packets_from state place octets ≡ Err (record { place = place'; kind = kind }) ∷ packets_from next place' []
 packets_from-ended state next place place' octets kind some fault e =

@@ -5,13 +5,13 @@ use Rattle.byteorder.specs.Endian.{little_bytes}
 use Rattle.pcap_file.specs.declared.decode.interface.Interface.{Interface}
 use Rattle.pcap_file.specs.declared.decode.record_mark.RecordMark.{RecordMark}
 use Rattle.pcap_file.specs.declared.decode.record_mark.RecordMark.TheVariants.{Closed}
-use Rattle.pcap_file.specs.declared.decode.endian.Order.TheVariants.{Little}
+use Rattle.pcap_file.specs.declared.decode.endian.Endian.TheVariants.{Little}
 use Rattle.pcap_file.specs.Chain.{and_then}
 use Rattle.pcap_file.specs.Octets.{number_at}
 use Rattle.pcap_file.specs.Interface.{time_of, time_units}
 use Rattle.pcap_file.specs.Mark.{closed_by, mark_of}
 use Rattle.pcap_file.specs.Section.{content_as, content_of, order_of, with_length}
-use Rattle.pcap_file.specs.Blocks.{block_octets, closing_block, closing_held}
+use Rattle.pcap_file.specs.Blocks.{block_octets, closing_block, closing_body}
 use Rattle.pcap_file.proofs.WriteInterfaceLemmas.{raw}
 use Rattle.pcap_file.proofs.OctetLemmas.{number_behind}
 use Rattle.pcap_file.proofs.WholeLemmas.{IsWhole, Tells, not_below, whole_block}
@@ -48,12 +48,12 @@ unfolding front
 front_size = refl
 
 pieces : (time : ℕ) → closing_block time ≡ front ++ (little_bytes 4 (time / 2 ^ 32) ++ (little_bytes 4 (time % 2 ^ 32) ++ little_bytes 4 24))
-unfolding closing_block block_octets closing_held front
+unfolding closing_block block_octets closing_body front
 pieces time = refl
 
 whole_closing : (time : ℕ) → IsWhole (closing_block time)
-unfolding closing_block closing_held
-whole_closing time = whole_block 5 (closing_held time) refl (omega arith)
+unfolding closing_block closing_body
+whole_closing time = whole_block 5 (closing_body time) refl (omega arith)
 
 order_closing : (time : ℕ) → order_of Little (closing_block time) ≡ Ok Little
 unfolding order_of number_at closing_block block_octets
@@ -64,11 +64,11 @@ unfolding number_at closing_block block_octets
 kind_closing time = refl
 
 number_closing : (time : ℕ) → number_at Little 4 8 (closing_block time) ≡ 0
-unfolding number_at closing_block block_octets closing_held
+unfolding number_at closing_block block_octets closing_body
 number_closing time = refl
 
 size_closing : (time : ℕ) → length (closing_block time) ≡ 24
-unfolding closing_block block_octets closing_held
+unfolding closing_block block_octets closing_body
 size_closing time = refl
 
 passes : (interfaces : List Interface) (block : List ℕ) → number_at Little 4 0 block ≡ 5

@@ -4,19 +4,19 @@ use Rattle.std.proofs.lemmas.List.{length-replicate}
 use Rattle.byteorder.specs.Endian.{little_bytes}
 use Rattle.pcap_file.specs.declared.decode.interface.Interface.{Interface}
 use Rattle.pcap_file.specs.declared.decode.record_mark.RecordMark.{RecordMark}
-use Rattle.pcap_file.specs.declared.decode.endian.Order.TheVariants.{Little}
+use Rattle.pcap_file.specs.declared.decode.endian.Endian.TheVariants.{Little}
 use Rattle.pcap_file.specs.Chain.{and_then}
 use Rattle.pcap_file.specs.Octets.{number_at}
 use Rattle.pcap_file.specs.Interface.{time_of, time_units}
-use Rattle.pcap_file.specs.Ipv4.{Ipv4View, ipv4_of}
+use Rattle.pcap_file.specs.UdpPacket.{Ipv4View, ipv4_of}
 use Rattle.pcap_file.specs.Mark.{mark_of}
 use Rattle.pcap_file.specs.Packet.{PacketView, packet_in}
-use Rattle.pcap_file.specs.Link.{ip_place}
+use Rattle.pcap_file.specs.LinkType.{ip_place}
 use Rattle.pcap_file.specs.Section.{SectionView, content_as, content_of, enhanced_of, interface_at, order_of, same_section, with_length}
-use Rattle.pcap_file.specs.Arrival.{ArrivalView}
+use Rattle.pcap_file.specs.RecordedDatagram.{ArrivalView}
 use Rattle.pcap_file.specs.Blocks.{block_octets, datagram_block, datagram_head, padded}
-use Rattle.pcap_file.specs.WritePacket.{checksum_of, header_octets, header_with, udp_octets}
-use Rattle.pcap_file.specs.Record.{IsArrival, packet_of}
+use Rattle.pcap_file.specs.IpHeader.{checksum_of, header_octets, header_with, udp_octets}
+use Rattle.pcap_file.specs.WrittenRecord.{IsArrival, packet_of}
 use Rattle.pcap_file.proofs.ClosingLemmas.{time_raw, units_by}
 use Rattle.pcap_file.proofs.FrameLemmas.{ipv4_back}
 use Rattle.pcap_file.proofs.WriteInterfaceLemmas.{raw}

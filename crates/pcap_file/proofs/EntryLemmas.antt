@@ -4,14 +4,14 @@ use Rattle.std.proofs.lemmas.List.{drop-append-le}
 use Rattle.pcap_file.specs.declared.cursor.Format.TheVariants as format
 use Rattle.pcap_file.specs.declared.decode.record_mark.RecordMark.{RecordMark}
 use Rattle.pcap_file.specs.declared.decode.pcap.Pcap.{Pcap}
-use Rattle.pcap_file.specs.declared.fault.FaultKind.{FaultKind}
+use Rattle.pcap_file.specs.declared.fault.CaptureFaultKind.{CaptureFaultKind}
 use Rattle.pcap_file.specs.Packet.{PacketView}
 use Rattle.pcap_file.specs.Pcap.{pcap_of}
 use Rattle.pcap_file.specs.Section.{Block, no_section}
 use Rattle.pcap_file.specs.Capture.{State, part_of, is_pcapng}
-use Rattle.pcap_file.specs.Parts.{IsEnough, is_cut_as}
+use Rattle.pcap_file.specs.BlockParser.{IsEnough, is_cut_as}
 use Rattle.pcap_file.specs.Entries.{entries_after, entries_in, entries_past, entries_from, entries_behind, entries_of}
-use Rattle.pcap_file.proofs.PartsLemmas.{part_same, same_header}
+use Rattle.pcap_file.proofs.BlockParserLemmas.{part_same, same_header}
 
 -- octets that are passed over are dropped
 entries_past-drop : (count : ℕ) (state : State) (octets : List ℕ) → entries_past count state octets ≡ entries_from state (drop count octets)
@@ -34,7 +34,7 @@ entries_from-part state (octet ∷ octets) block some long e =
     (entries_past-drop (block.part.len - 1) next octets ∙ ap (λ n. entries_from next (drop n (octet ∷ octets))) far)
 
 -- none stands behind a fault
-entries_from-fault : (state : State) (octets : List ℕ) (kind : FaultKind) → 1 ≤ length octets → part_of state octets ≡ Err kind → entries_from state octets ≡ []
+entries_from-fault : (state : State) (octets : List ℕ) (kind : CaptureFaultKind) → 1 ≤ length octets → part_of state octets ≡ Err kind → entries_from state octets ≡ []
 unfolding entries_past
 entries_from-fault state [] kind some e = absurd (omega arith)
 entries_from-fault state (octet ∷ octets) kind some e =
@@ -65,7 +65,7 @@ passed_entries old new len front rest packet tells some long within has whole =
     ∙ ap (λ form. entries_in packet tells ++ entries_from (record { format = form; section = new.section }) (drop len (front ++ rest))) (sym has.1)
     ∙ ap (λ l. entries_in packet tells ++ entries_from new l) (drop-append-le len front rest within)
 
-pub no_entry_behind : (old : State) (front rest : List ℕ) (kind : FaultKind) → 1 ≤ length front → part_of old front ≡ Err kind
+pub no_entry_behind : (old : State) (front rest : List ℕ) (kind : CaptureFaultKind) → 1 ≤ length front → part_of old front ≡ Err kind
     → (is_cut_as old.format old.section.order front ≡ false) ⊎ (rest ≡ []) → entries_from old (front ++ rest) ≡ []
 no_entry_behind old front rest kind some is whole =
     let more = length-append front rest in

@@ -2,12 +2,12 @@
 use Rattle.std.proofs.Common.{◌≡◌, ◌<◌, ◌≤◌, ◌+◌, ◌^◌, ℕ, List, [], ◌∷◌, ◌++◌, length, get_or, slice_range, Some, nat_le, true, refl, sym, ap, ◌∙◌, arith, append_assoc, append-nil, length-append}
 use Rattle.std.proofs.lemmas.Bool.Decides.{nat_tests}
 use Rattle.byteorder.specs.Endian.{big_bytes}
-use Rattle.pcap_file.specs.declared.decode.endian.Order.TheVariants.{Big}
+use Rattle.pcap_file.specs.declared.decode.endian.Endian.TheVariants.{Big}
 use Rattle.pcap_file.specs.Octets.{number_at}
-use Rattle.pcap_file.specs.Ipv4.{UdpView, Whole, address_at, body_of, has_udp_header, ipv4_of, udp_of}
-use Rattle.pcap_file.specs.Arrival.{ArrivalView}
-use Rattle.pcap_file.specs.WritePacket.{header_with, udp_octets}
-use Rattle.pcap_file.specs.Record.{IsArrival, packet_of}
+use Rattle.pcap_file.specs.UdpPacket.{UdpView, Whole, address_at, body_of, has_udp_header, ipv4_of, udp_of}
+use Rattle.pcap_file.specs.RecordedDatagram.{ArrivalView}
+use Rattle.pcap_file.specs.IpHeader.{header_with, udp_octets}
+use Rattle.pcap_file.specs.WrittenRecord.{IsArrival, packet_of}
 use Rattle.pcap_file.proofs.OctetLemmas.{big_behind, midst}
 use Rattle.pcap_file.proofs.WholeLemmas.{not_below}
 

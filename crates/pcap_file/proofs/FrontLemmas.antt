@@ -4,19 +4,19 @@ use Rattle.std.proofs.lemmas.Bool.Decides.{nat_tests}
 use Rattle.std.proofs.lemmas.Bool.{cases_lt}
 use Rattle.std.proofs.lemmas.List.{drop-append-le, take-append-le}
 use Rattle.byteorder.specs.Endian.{big_from, little_from}
-use Rattle.pcap_file.specs.declared.decode.endian.Order.{Order}
-use Rattle.pcap_file.specs.declared.decode.endian.Order.TheVariants.{Big, Little}
+use Rattle.pcap_file.specs.declared.decode.endian.Endian.{Endian}
+use Rattle.pcap_file.specs.declared.decode.endian.Endian.TheVariants.{Big, Little}
 use Rattle.pcap_file.specs.declared.decode.interface.Interface.{Interface}
 use Rattle.pcap_file.specs.declared.decode.pcap.Pcap.{Pcap}
-use Rattle.pcap_file.specs.declared.fault.FaultKind.{FaultKind}
-use Rattle.pcap_file.specs.declared.fault.FaultKind.TheVariants as fault
+use Rattle.pcap_file.specs.declared.fault.CaptureFaultKind.{CaptureFaultKind}
+use Rattle.pcap_file.specs.declared.fault.CaptureFaultKind.TheVariants as fault
 use Rattle.pcap_file.specs.Octets.{number_at}
 use Rattle.pcap_file.specs.Chain.{and_then}
 use Rattle.pcap_file.specs.Packet.{packet_in}
-use Rattle.pcap_file.specs.Part.{PartView}
+use Rattle.pcap_file.specs.CaptureBlock.{PartView}
 use Rattle.pcap_file.specs.Pcap.{record_end, record_of, record_time}
 use Rattle.pcap_file.specs.Section.{SectionView, block_in, block_of, block_within, content_of, length_of, order_of, with_length}
-use Rattle.pcap_file.specs.Parts.{is_block_cut, is_length_cut, is_record_cut}
+use Rattle.pcap_file.specs.BlockParser.{is_block_cut, is_length_cut, is_record_cut}
 
 get_front : (xs ys : List ℕ) (i : ℕ) → i < length xs → get_or (xs ++ ys) i 0 ≡ get_or xs i 0
 get_front [] ys i h = absurd (omega (arith, h))
@@ -36,7 +36,7 @@ little_front (suc n) i xs ys h =
     ∙ ap (λ x. get_or xs i 0 + 256 * x) (little_front n (suc i) xs ys (omega (arith, h)))
 
 -- a number within the front
-pub number_front : (order : Order) (n place : ℕ) (xs ys : List ℕ) → place + n ≤ length xs → number_at order n place (xs ++ ys) ≡ number_at order n place xs
+pub number_front : (order : Endian) (n place : ℕ) (xs ys : List ℕ) → place + n ≤ length xs → number_at order n place (xs ++ ys) ≡ number_at order n place xs
 unfolding number_at
 number_front Big n place xs ys h =
     ap (big_from 0 n) (drop-append-le place xs ys (omega (arith, h))) ∙ big_front n 0 (drop place xs) ys (omega (arith, h, length-drop place xs))
@@ -51,7 +51,7 @@ not_below : (a b : ℕ) → b ≤ a → nat_lt a b ≡ false
 not_below a b h = grind (arith, nat_tests)
 
 -- a whole record
-abbrev record_by : Pcap → ℕ → ℕ → List ℕ → Result PartView FaultKind
+abbrev record_by : Pcap → ℕ → ℕ → List ℕ → Result PartView CaptureFaultKind
 record_by pcap end time frame = Ok (record { len = end; packet = packet_in pcap.link (Some time) 0 frame; mark = None })
 
 record_whole : (pcap : Pcap) (octets : List ℕ) → 16 ≤ length octets → record_end pcap octets ≤ length octets
@@ -79,23 +79,23 @@ record_front pcap xs ys whole =
     ∙ sym (record_whole pcap xs long within)
 
 -- the order of a block's octets
-order_front : (order : Order) (xs ys : List ℕ) → 12 ≤ length xs → order_of order (xs ++ ys) ≡ order_of order xs
+order_front : (order : Endian) (xs ys : List ℕ) → 12 ≤ length xs → order_of order (xs ++ ys) ≡ order_of order xs
 unfolding order_of
 order_front order xs ys long =
     rw (number_front Big 4 0 xs ys (omega (arith, long)), number_front Big 4 8 xs ys (omega (arith, long)), number_front Little 4 8 xs ys (omega (arith, long))) refl
 
 -- its length: three tests, of which the first two need no more than its front
-abbrev length_by : Order → ℕ → List ℕ → Result ℕ FaultKind
+abbrev length_by : Endian → ℕ → List ℕ → Result ℕ CaptureFaultKind
 length_by order n octets =
     cond (nat_lt n 12 || not (n % 4 == 0)) (Err fault.Length)
-    (cond (nat_lt (length octets) n) (Err fault.Cut)
+    (cond (nat_lt (length octets) n) (Err fault.Truncated)
     (cond (number_at order 4 (n - 4) octets == n) (Ok n) (Err fault.Length)))
 
-length_is : (order : Order) (octets : List ℕ) → length_of order octets ≡ length_by order (number_at order 4 4 octets) octets
+length_is : (order : Endian) (octets : List ℕ) → length_of order octets ≡ length_by order (number_at order 4 4 octets) octets
 unfolding length_of
 length_is order octets = refl
 
-length_by-front : (order : Order) (n : ℕ) (xs ys : List ℕ) → ((not (nat_lt n 12) && (n % 4 == 0)) && nat_lt (length xs) n) ≡ false → length_by order n (xs ++ ys) ≡ length_by order n xs
+length_by-front : (order : Endian) (n : ℕ) (xs ys : List ℕ) → ((not (nat_lt n 12) && (n % 4 == 0)) && nat_lt (length xs) n) ≡ false → length_by order n (xs ++ ys) ≡ length_by order n xs
 length_by-front order n xs ys whole = elim (cases_lt (length xs) n) [
   | inl past ↦
       let bad : (nat_lt n 12 || not (n % 4 == 0)) ≡ true = grind (arith, nat_tests, whole, past) in
@@ -114,20 +114,20 @@ length_by-front order n xs ys whole = elim (cases_lt (length xs) n) [
       ]
 ]
 
-length_front : (order : Order) (xs ys : List ℕ) → 12 ≤ length xs → is_length_cut (Ok order) xs ≡ false → length_of order (xs ++ ys) ≡ length_of order xs
+length_front : (order : Endian) (xs ys : List ℕ) → 12 ≤ length xs → is_length_cut (Ok order) xs ≡ false → length_of order (xs ++ ys) ≡ length_of order xs
 length_front order xs ys long whole =
     length_is order (xs ++ ys) ∙ ap (λ n. length_by order n (xs ++ ys)) (number_front order 4 4 xs ys (omega (arith, long)))
     ∙ length_by-front order (number_at order 4 4 xs) xs ys whole ∙ sym (length_is order xs)
 
-one : (r : Result ℕ FaultKind) (x y : ℕ) → r ≡ Ok x → r ≡ Ok y → x ≡ y
+one : (r : Result ℕ CaptureFaultKind) (x y : ℕ) → r ≡ Ok x → r ≡ Ok y → x ≡ y
 one r x y e f = cc
 
-length_within : (order : Order) (octets : List ℕ) (len : ℕ) → length_of order octets ≡ Ok len → len ≤ length octets
+length_within : (order : Endian) (octets : List ℕ) (len : ℕ) → length_of order octets ≡ Ok len → len ≤ length octets
 length_within order octets len is = within (number_at order 4 4 octets) (sym (length_is order octets) ∙ is)
   where
-    by : (n : ℕ) (a b d : Bool) → nat_lt (length octets) n ≡ b → cond a (Err fault.Length) (cond b (Err fault.Cut) (cond d (Ok n) (Err fault.Length))) ≡ Ok len → len ≤ length octets
+    by : (n : ℕ) (a b d : Bool) → nat_lt (length octets) n ≡ b → cond a (Err fault.Length) (cond b (Err fault.Truncated) (cond d (Ok n) (Err fault.Length))) ≡ Ok len → len ≤ length octets
     by n true b d e is = absurd (let f : Err fault.Length ≡ Ok len = is in cc)
-    by n false true d e is = absurd (let f : Err fault.Cut ≡ Ok len = is in cc)
+    by n false true d e is = absurd (let f : Err fault.Truncated ≡ Ok len = is in cc)
     by n false false false e is = absurd (let f : Err fault.Length ≡ Ok len = is in cc)
     by n false false true e is =
         let here : n ≡ len = one (Ok n) n len refl is in
@@ -137,12 +137,12 @@ length_within order octets len is = within (number_at order 4 4 octets) (sym (le
     within : (n : ℕ) → length_by order n octets ≡ Ok len → len ≤ length octets
     within n is = by n (nat_lt n 12 || not (n % 4 == 0)) (nat_lt (length octets) n) (number_at order 4 (n - 4) octets == n) refl is
 
-within_front : (section : SectionView) (xs ys : List ℕ) (r : Result ℕ FaultKind) → ((len : ℕ) → r ≡ Ok len → len ≤ length xs)
+within_front : (section : SectionView) (xs ys : List ℕ) (r : Result ℕ CaptureFaultKind) → ((len : ℕ) → r ≡ Ok len → len ≤ length xs)
     → and_then r (block_within section (xs ++ ys)) ≡ and_then r (block_within section xs)
 within_front section xs ys (Ok len) fits = ap (λ l. and_then (content_of section l) (with_length len l)) (take-append-le len xs ys (fits len refl))
 within_front section xs ys (Err kind) fits = refl
 
-block_in-front : (interfaces : List Interface) (xs ys : List ℕ) (r : Result Order FaultKind) → 12 ≤ length xs → is_length_cut r xs ≡ false
+block_in-front : (interfaces : List Interface) (xs ys : List ℕ) (r : Result Endian CaptureFaultKind) → 12 ≤ length xs → is_length_cut r xs ≡ false
     → and_then r (block_in interfaces (xs ++ ys)) ≡ and_then r (block_in interfaces xs)
 block_in-front interfaces xs ys (Ok order) long whole =
     let section : SectionView = record { order = order; interfaces = interfaces } in

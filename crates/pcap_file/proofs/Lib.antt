@@ -4,13 +4,13 @@ pub mod FrontLemmas
 pub mod InterfaceLemmas
 pub mod EntryLemmas
 pub mod OptionsLemmas
-pub mod PartsLemmas
+pub mod BlockParserLemmas
 pub mod SectionLemmas
-mod WindowLemmas
+mod ReadBufferLemmas
 mod ReaderLemmas
 pub mod ReaderEntryLemmas
 mod PiecesLemmas
-mod PlacesLemmas
+mod OverwritesLemmas
 mod PacketLemmas
 mod OctetLemmas
 mod OptionLemmas
@@ -20,4 +20,4 @@ mod WriteInterfaceLemmas
 mod ClosingLemmas
 mod FrameLemmas
 mod DatagramLemmas
-mod RecordLemmas
+mod WrittenRecordLemmas

@@ -3,7 +3,7 @@ use Rattle.std.proofs.Common.{◌≡◌, ◌<◌, ◌+◌, ◌-◌, ◌^◌, ℕ
 use Rattle.std.proofs.Math.Seq.{drop-append_seam, take-append_seam}
 use Rattle.byteorder.specs.Endian.{big_bytes, big_number, little_bytes, little_number}
 use Rattle.byteorder.specs.Numbers.{big_number-reads_back, little_number-reads_back}
-use Rattle.pcap_file.specs.declared.decode.endian.Order.TheVariants.{Big, Little}
+use Rattle.pcap_file.specs.declared.decode.endian.Endian.TheVariants.{Big, Little}
 use Rattle.pcap_file.specs.Octets.{number_at}
 
 -- what stands behind other octets

@@ -6,14 +6,14 @@ use Rattle.byteorder.specs.Endian.{little_bytes}
 use Rattle.pcap_file.specs.declared.decode.interface.Interface.{Interface}
 use Rattle.pcap_file.specs.declared.decode.record_mark.RecordMark.{RecordMark}
 use Rattle.pcap_file.specs.declared.decode.record_mark.RecordMark.TheVariants.{Opened}
-use Rattle.pcap_file.specs.declared.decode.endian.Order.{Order}
-use Rattle.pcap_file.specs.declared.decode.endian.Order.TheVariants.{Little}
+use Rattle.pcap_file.specs.declared.decode.endian.Endian.{Endian}
+use Rattle.pcap_file.specs.declared.decode.endian.Endian.TheVariants.{Little}
 use Rattle.pcap_file.specs.Chain.{and_then}
 use Rattle.pcap_file.specs.Octets.{number_at}
 use Rattle.pcap_file.specs.Mark.{found_text, mark_of, number_in, opened_by, opening_in, opening_text, section_options, text_at}
 use Rattle.pcap_file.specs.Section.{begun_by, content_as, content_of, order_of, section_begun, section_fault, with_length}
 use Rattle.pcap_file.proofs.DecimalLemmas.{number_in-is}
-use Rattle.pcap_file.specs.Blocks.{block_octets, option_octets, options_end, section_block, section_held}
+use Rattle.pcap_file.specs.Blocks.{block_octets, option_octets, options_end, section_block, section_body}
 use Rattle.pcap_file.proofs.OctetLemmas.{midst}
 use Rattle.pcap_file.proofs.OptionLemmas.{length-option, option_found, option_passed}
 use Rattle.pcap_file.proofs.WholeLemmas.{IsWhole, Tells, not_below, whole_block}
@@ -35,12 +35,12 @@ writer = option_octets 4 (codes "darbexum")
 abbrev options : ℕ → List ℕ
 options n = comment n ++ writer ++ options_end
 
-pieces : (n : ℕ) → section_block n ≡ front (12 + length (section_held n)) ++ (options n ++ little_bytes 4 (12 + length (section_held n)))
-unfolding section_block block_octets section_held front
+pieces : (n : ℕ) → section_block n ≡ front (12 + length (section_body n)) ++ (options n ++ little_bytes 4 (12 + length (section_body n)))
+unfolding section_block block_octets section_body front
 pieces n = refl
 
-size : (n : ℕ) → length (section_held n) ≡ 16 + length (options n)
-unfolding section_held
+size : (n : ℕ) → length (section_body n) ≡ 16 + length (options n)
+unfolding section_body
 size n = omega arith
 
 digits : (n : ℕ) → n < 2 ^ 63 → length (decimal n) ≤ 20
@@ -56,26 +56,26 @@ pub whole_opening : (n : ℕ) → n < 2 ^ 63 → IsWhole (section_block n)
 unfolding section_block
 whole_opening n small =
     let sizes = length-option 1 (opening_text n) in
-    whole_block 0x0a0d0d0a (section_held n) (omega (arith, size n, options_size n, sizes)) (omega (arith, size n, options_size n, sizes, text_size n, digits n small))
+    whole_block 0x0a0d0d0a (section_body n) (omega (arith, size n, options_size n, sizes)) (omega (arith, size n, options_size n, sizes, text_size n, digits n small))
 
-order_opening : (order : Order) (n : ℕ) → order_of order (section_block n) ≡ Ok Little
-unfolding order_of number_at section_block block_octets section_held
+order_opening : (order : Endian) (n : ℕ) → order_of order (section_block n) ≡ Ok Little
+unfolding order_of number_at section_block block_octets section_body
 order_opening order n = refl
 
 kind_opening : (n : ℕ) → number_at Little 4 0 (section_block n) ≡ 0x0a0d0d0a
-unfolding number_at section_block block_octets section_held
+unfolding number_at section_block block_octets section_body
 kind_opening n = refl
 
 major : (n : ℕ) → number_at Little 2 12 (section_block n) ≡ 1
-unfolding number_at section_block block_octets section_held
+unfolding number_at section_block block_octets section_body
 major n = refl
 
 minor : (n : ℕ) → number_at Little 2 14 (section_block n) ≡ 0
-unfolding number_at section_block block_octets section_held
+unfolding number_at section_block block_octets section_body
 minor n = refl
 
 long_opening : (n : ℕ) → 28 ≤ length (section_block n)
-long_opening n = omega (arith, ap length (pieces n), front_size (12 + length (section_held n)), length-append (front (12 + length (section_held n))) (options n ++ little_bytes 4 (12 + length (section_held n))), length-append (options n) (little_bytes 4 (12 + length (section_held n))), options_size n)
+long_opening n = omega (arith, ap length (pieces n), front_size (12 + length (section_body n)), length-append (front (12 + length (section_body n))) (options n ++ little_bytes 4 (12 + length (section_body n))), length-append (options n) (little_bytes 4 (12 + length (section_body n))), options_size n)
 
 -- its version is one that is read
 no_fault : (block : List ℕ) → 28 ≤ length block → number_at Little 2 12 block ≡ 1 → number_at Little 2 14 block ≡ 0 → section_fault Little block ≡ None
@@ -90,7 +90,7 @@ begins interfaces block kind fault = rw kind (ap (section_begun (record { order 
 -- its options
 options_are : (n : ℕ) → section_options (section_block n) ≡ options n
 options_are n =
-    let len : ℕ = 12 + length (section_held n) in
+    let len : ℕ = 12 + length (section_body n) in
     midst 24 (length (section_block n) - 4) (front len) (options n) (little_bytes 4 len) (section_block n) (pieces n) (front_size len)
     (omega (arith, ap length (pieces n), front_size len, length-append (front len) (options n ++ little_bytes 4 len), length-append (options n) (little_bytes 4 len)))
 
@@ -124,7 +124,7 @@ mark_opening : (n : ℕ) → n < 2 ^ 63 → mark_of Little [] (section_block n) 
 mark_opening n small =
     rw (kind_opening n) (opened n (section_block n) (long_opening n) (writer_is n small) (comment_is n small) (opening_back n small))
 
-pub tells_opening : (order : Order) (interfaces : List Interface) (n : ℕ) → n < 2 ^ 63 → Tells order interfaces [] (section_block n) None (Some (Opened n))
+pub tells_opening : (order : Endian) (interfaces : List Interface) (n : ℕ) → n < 2 ^ 63 → Tells order interfaces [] (section_block n) None (Some (Opened n))
 tells_opening order interfaces n small =
     let block : List ℕ = section_block n in
     let fault = no_fault block (long_opening n) (major n) (minor n) in

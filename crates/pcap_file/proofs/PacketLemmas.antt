@@ -2,8 +2,8 @@
 use Rattle.std.proofs.Common.{◌≡◌, ◌<◌, ◌≤◌, ◌+◌, ◌-◌, ◌*◌, ◌/◌, ◌%◌, ◌^◌, ℕ, List, [], ◌∷◌, ◌++◌, length, get_or, inl, inr, refl, ap, ◌∙◌, arith}
 use Rattle.std.proofs.lemmas.Bool.{cases_lt}
 use Rattle.std.specs.List.{All}
-use Rattle.pcap_file.specs.Arrival.{ArrivalView}
-use Rattle.pcap_file.specs.WritePacket.{HasAddresses, carried, checksum_of, header_octets, header_with, words_sum}
+use Rattle.pcap_file.specs.RecordedDatagram.{ArrivalView}
+use Rattle.pcap_file.specs.IpHeader.{HasAddresses, carried, checksum_of, header_octets, header_with, words_sum}
 
 -- those of four octets
 pub words_sum-four : (xs : List ℕ) → length xs ≡ 4 → words_sum xs ≡ get_or xs 0 0 * 256 + get_or xs 1 0 + (get_or xs 2 0 * 256 + get_or xs 3 0)

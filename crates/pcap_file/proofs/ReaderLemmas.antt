@@ -6,15 +6,15 @@ use Rattle.std.proofs.KnownBytes.{Consumes-trans}
 use Rattle.std.proofs.lemmas.List.{drop-append-le, drop_all, length-take, map-append, take_all}
 use Rattle.pcap_file.specs.declared.cursor.Format.{Format}
 use Rattle.pcap_file.specs.declared.cursor.Format.TheVariants as format
-use Rattle.pcap_file.specs.declared.decode.endian.Order.{Order}
-use Rattle.pcap_file.specs.declared.parts.Parts.{Parts}
+use Rattle.pcap_file.specs.declared.decode.endian.Endian.{Endian}
+use Rattle.pcap_file.specs.declared.parts.BlockParser.{BlockParser}
 use Rattle.pcap_file.specs.declared.fault.CaptureFault.{CaptureFault}
 use Rattle.pcap_file.specs.declared.decode.record_mark.RecordMark.{RecordMark}
 use Rattle.pcap_file.specs.Packet.{PacketView}
 use Rattle.pcap_file.specs.Capture.{Item, packets_of, packets_past, with_packet}
 use Rattle.pcap_file.specs.Entries.{Entry, entries_at, entries_in, entries_of, entries_past}
-use Rattle.pcap_file.specs.Parts.{IsEnough, is_cut_as, is_cut_in, items_at}
-use Rattle.pcap_file.specs.Window.{Reads}
+use Rattle.pcap_file.specs.BlockParser.{IsEnough, is_cut_as, is_cut_in, items_at}
+use Rattle.pcap_file.specs.ReadBuffer.{Reads}
 use Rattle.pcap_file.specs.Reader.{HasEntries, HasOpened, HasTold, IsFaultBehind, IsFilled, packets_among}
 use Rattle.pcap_file.proofs.ReaderEntryLemmas.{among_more}
 
@@ -36,7 +36,7 @@ pub at_end : (left : Option (List ℕ)) (rest : List ℕ) → left ≡ Some rest
 at_end left rest e end = subst IsAtEnd e end
 
 -- more octets came
-pub told_more : (file : List ℕ) (entries : List Entry) (left then : Option (List ℕ)) (parts : Parts) (held longer : List ℕ) (ended now : Bool)
+pub told_more : (file : List ℕ) (entries : List Entry) (left then : Option (List ℕ)) (parts : BlockParser) (held longer : List ℕ) (ended now : Bool)
     → HasTold file entries left parts held ended → Reads left then held longer now → HasTold file entries then parts longer now
 told_more file entries left then parts held longer ended now told reads =
     let came = consumed left then told.rest reads.octets told.left_is reads.read in
@@ -50,15 +50,15 @@ told_more file entries left then parts held longer ended now told reads =
     }
 
 -- nothing is a record, or a block
-pub cut_none : (form : Format) (order : Order) → is_cut_as form order [] ≡ true
+pub cut_none : (form : Format) (order : Endian) → is_cut_as form order [] ≡ true
 cut_none (format.Pcap header) order = refl
 cut_none format.Pcapng order = refl
 
-items_none : (parts : Parts) → items_at parts [] ≡ []
+items_none : (parts : BlockParser) → items_at parts [] ≡ []
 unfolding packets_past
 items_none parts = refl
 
-entries_none : (parts : Parts) → entries_at parts [] ≡ []
+entries_none : (parts : BlockParser) → entries_at parts [] ≡ []
 unfolding entries_past
 entries_none parts = refl
 
@@ -67,7 +67,7 @@ none_taken [] e = refl
 none_taken (x ∷ held) e = absurd (let f : x ∷ take 983039 held ≡ [] = e in cc)
 
 -- no octet is left
-pub told_end : (file : List ℕ) (entries : List Entry) (left : Option (List ℕ)) (parts : Parts) (held : List ℕ) (ended : Bool)
+pub told_end : (file : List ℕ) (entries : List Entry) (left : Option (List ℕ)) (parts : BlockParser) (held : List ℕ) (ended : Bool)
     → take 983040 held ≡ [] → IsFilled parts held ended → HasTold file entries left parts held ended → HasEntries file entries
 told_end file entries left parts held ended empty filled told =
     let none = none_taken held empty in
@@ -88,7 +88,7 @@ with_more packets None items = ap (λ l. map Ok l ++ items) (sym (append-nil pac
 with_more packets (Some p) items = sym (append_assoc (map Ok packets) (Ok p ∷ []) items) ∙ ap (λ l. l ++ items) (sym (map-append Ok packets (p ∷ [])))
 
 -- the octets behind those that are lent
-pub behind : (parts : Parts) (held : List ℕ) (rest : List ℕ) (ended : Bool) → IsFilled parts held ended → (ended ≡ true → rest ≡ [])
+pub behind : (parts : BlockParser) (held : List ℕ) (rest : List ℕ) (ended : Bool) → IsFilled parts held ended → (ended ≡ true → rest ≡ [])
     → (is_cut_in parts (take 983040 held) ≡ false) ⊎ (drop 983040 held ++ rest ≡ [])
 behind parts held rest ended (inl whole) end = inl whole
 behind parts held rest ended (inr short) end = inr (ap (λ l. l ++ rest) (drop_all 983040 held (omega (arith, short.1))) ∙ end short.0)
@@ -102,7 +102,7 @@ left_of len held rest within =
     ∙ ap (λ l. l ++ rest) (sym (drop-append-le len (take 983040 held) (drop 983040 held) within) ∙ ap (drop len) (take-append-drop 983040 held))
 
 -- what holds of what is lent holds of what is held
-lent_as : {X : Type 0} (f : List ℕ → X) (x : List ℕ → X) (parts : Parts) (held rest : List ℕ) (ended : Bool) (front : List ℕ) → front ≡ take 983040 held → IsFilled parts held ended → (ended ≡ true → rest ≡ [])
+lent_as : {X : Type 0} (f : List ℕ → X) (x : List ℕ → X) (parts : BlockParser) (held rest : List ℕ) (ended : Bool) (front : List ℕ) → front ≡ take 983040 held → IsFilled parts held ended → (ended ≡ true → rest ≡ [])
     → ((rest : List ℕ) → (is_cut_in parts front ≡ false) ⊎ (rest ≡ []) → f (front ++ rest) ≡ x rest) → f (held ++ rest) ≡ x (drop 983040 held ++ rest)
 lent_as f x parts held rest ended front is filled end says =
     let next : (rest : List ℕ) → (is_cut_in parts (take 983040 held) ≡ false) ⊎ (rest ≡ []) → f (take 983040 held ++ rest) ≡ x rest =
@@ -110,7 +110,7 @@ lent_as f x parts held rest ended front is filled end says =
     ap f (lent held rest) ∙ next (drop 983040 held ++ rest) (behind parts held rest ended filled end)
 
 -- a record or a block is passed over
-pub told_next : (file : List ℕ) (entries : List Entry) (left : Option (List ℕ)) (parts then : Parts) (held : List ℕ) (ended : Bool) (len : ℕ) (packet : Option PacketView) (tells : Option RecordMark) (front : List ℕ) → front ≡ take 983040 held
+pub told_next : (file : List ℕ) (entries : List Entry) (left : Option (List ℕ)) (parts then : BlockParser) (held : List ℕ) (ended : Bool) (len : ℕ) (packet : Option PacketView) (tells : Option RecordMark) (front : List ℕ) → front ≡ take 983040 held
     → IsFilled parts held ended → len ≤ length front
     → ((rest : List ℕ) → (is_cut_in parts front ≡ false) ⊎ (rest ≡ []) → items_at parts (front ++ rest) ≡ with_packet packet (items_at then (drop len front ++ rest)))
     → ((rest : List ℕ) → (is_cut_in parts front ≡ false) ⊎ (rest ≡ []) → entries_at parts (front ++ rest) ≡ entries_in packet tells ++ entries_at then (drop len front ++ rest))
@@ -135,7 +135,7 @@ told_next file entries left parts then held ended len packet tells front is fill
     }
 
 -- or it is at fault
-pub told_fault : (file : List ℕ) (entries : List Entry) (left : Option (List ℕ)) (parts : Parts) (held : List ℕ) (ended : Bool) (fault : CaptureFault) (front : List ℕ) → front ≡ take 983040 held
+pub told_fault : (file : List ℕ) (entries : List Entry) (left : Option (List ℕ)) (parts : BlockParser) (held : List ℕ) (ended : Bool) (fault : CaptureFault) (front : List ℕ) → front ≡ take 983040 held
     → IsFilled parts held ended
     → ((rest : List ℕ) → (is_cut_in parts front ≡ false) ⊎ (rest ≡ []) → items_at parts (front ++ rest) ≡ Err fault ∷ [])
     → ((rest : List ℕ) → (is_cut_in parts front ≡ false) ⊎ (rest ≡ []) → entries_at parts (front ++ rest) ≡ [])
@@ -150,7 +150,7 @@ pub shown : (held rest : List ℕ) (ended : Bool) → (ended ≡ false → 24 �
 shown held rest true enough few end = inr (end refl)
 shown held rest false enough few end = inl (subst (λ l. 24 ≤ length l) (sym (take_all 983040 held (omega (arith, few)))) (enough refl))
 
-pub told_open : (file : List ℕ) (left then : Option (List ℕ)) (parts : Parts) (held : List ℕ) (ended : Bool) (front : List ℕ) → front ≡ take 983040 held → left ≡ Some file → HasOpened left then held ended
+pub told_open : (file : List ℕ) (left then : Option (List ℕ)) (parts : BlockParser) (held : List ℕ) (ended : Bool) (front : List ℕ) → front ≡ take 983040 held → left ≡ Some file → HasOpened left then held ended
     → ((rest : List ℕ) → IsEnough front rest → packets_of (front ++ rest) ≡ items_at parts (drop parts.place (front ++ rest)))
     → ((rest : List ℕ) → IsEnough front rest → entries_of (front ++ rest) ≡ entries_at parts (drop parts.place (front ++ rest)))
     → parts.place ≤ length front → HasTold file [] then parts (drop parts.place held) ended

@@ -6,17 +6,17 @@ use Rattle.byteorder.specs.Endian.{little_bytes}
 use Rattle.pcap_file.specs.declared.cursor.Format.TheVariants as format
 use Rattle.pcap_file.specs.declared.decode.interface.Interface.{Interface}
 use Rattle.pcap_file.specs.declared.decode.record_mark.RecordMark.{RecordMark}
-use Rattle.pcap_file.specs.declared.decode.endian.Order.{Order}
-use Rattle.pcap_file.specs.declared.decode.endian.Order.TheVariants.{Little}
+use Rattle.pcap_file.specs.declared.decode.endian.Endian.{Endian}
+use Rattle.pcap_file.specs.declared.decode.endian.Endian.TheVariants.{Little}
 use Rattle.pcap_file.specs.Chain.{and_then}
 use Rattle.pcap_file.specs.Octets.{number_at}
 use Rattle.pcap_file.specs.Packet.{PacketView}
 use Rattle.pcap_file.specs.Section.{SectionView, block_in, block_of, block_within, content_of, length_of, order_of, with_length}
 use Rattle.pcap_file.specs.Capture.{State, packets_from, part_as, with_packet}
 use Rattle.pcap_file.specs.Entries.{entries_from, entries_in}
-use Rattle.pcap_file.specs.Parts.{is_block_cut}
+use Rattle.pcap_file.specs.BlockParser.{is_block_cut}
 use Rattle.pcap_file.proofs.EntryLemmas.{passed_entries}
-use Rattle.pcap_file.proofs.PartsLemmas.{passed_part}
+use Rattle.pcap_file.proofs.BlockParserLemmas.{passed_part}
 use Rattle.pcap_file.specs.Blocks.{block_octets}
 use Rattle.pcap_file.proofs.OctetLemmas.{number_behind}
 
@@ -58,7 +58,7 @@ whole_block kind held words fits =
     }
 
 -- what it holds is read of all of it
-pub read_whole : (order : Order) (interfaces : List Interface) (octets : List ℕ) → order_of order octets ≡ Ok Little → IsWhole octets
+pub read_whole : (order : Endian) (interfaces : List Interface) (octets : List ℕ) → order_of order octets ≡ Ok Little → IsWhole octets
     → block_of (record { order = order; interfaces = interfaces }) octets
     ≡ and_then (content_of (record { order = Little; interfaces = interfaces }) octets) (with_length (length octets) octets)
 unfolding block_of
@@ -68,7 +68,7 @@ read_whole order interfaces octets is whole =
     (ap (λ r. and_then r (block_in interfaces octets)) is ∙ ap (λ r. and_then r (block_within section octets)) whole.length_is
     ∙ ap (λ l. and_then (content_of section l) (with_length (length octets) l)) (take-length octets))
 
-uncut : (order : Order) (octets : List ℕ) → order_of order octets ≡ Ok Little → IsWhole octets → is_block_cut order octets ≡ false
+uncut : (order : Endian) (octets : List ℕ) → order_of order octets ≡ Ok Little → IsWhole octets → is_block_cut order octets ≡ false
 uncut order octets is whole = rw (is, whole.first, not_below (length octets) 12 whole.long, not_below (length octets) (length octets) (omega arith), same_as (length octets % 4) 0 whole.words) refl
 
 -- a place in a record
@@ -76,16 +76,16 @@ abbrev pub at : List Interface → State
 at interfaces = record { format = format.Pcapng; section = record { order = Little; interfaces = interfaces } }
 
 -- a block tells its packet and its mark before those behind it
-pub record Tells (order : Order) (old new : List Interface) (octets : List ℕ) (packet : Option PacketView) (tells : Option RecordMark) : Type 0 where
+pub record Tells (order : Endian) (old new : List Interface) (octets : List ℕ) (packet : Option PacketView) (tells : Option RecordMark) : Type 0 where
   pub order_is : order_of order octets ≡ Ok Little
   pub whole : IsWhole octets
   pub holds : and_then (content_of (record { order = Little; interfaces = old }) octets) (with_length (length octets) octets)
       ≡ Ok (record { part = record { len = length octets; packet = packet; mark = tells }; section = record { order = Little; interfaces = new } })
 
-abbrev pub from : Order → List Interface → State
+abbrev pub from : Endian → List Interface → State
 from order interfaces = record { format = format.Pcapng; section = record { order = order; interfaces = interfaces } }
 
-pub told_packet : (order : Order) (old new : List Interface) (octets rest : List ℕ) (packet : Option PacketView) (tells : Option RecordMark) (place : ℕ)
+pub told_packet : (order : Endian) (old new : List Interface) (octets rest : List ℕ) (packet : Option PacketView) (tells : Option RecordMark) (place : ℕ)
     → Tells order old new octets packet tells
     → packets_from (from order old) place (octets ++ rest) ≡ with_packet packet (packets_from (at new) (place + length octets) rest)
 unfolding part_as
@@ -94,7 +94,7 @@ told_packet order old new octets rest packet tells place told =
     (read_whole order old octets told.order_is told.whole ∙ told.holds, refl) refl (inl (uncut order octets told.order_is told.whole))
     ∙ ap (λ l. with_packet packet (packets_from (at new) (place + length octets) (l ++ rest))) (drop-length octets)
 
-pub told_entries : (order : Order) (old new : List Interface) (octets rest : List ℕ) (packet : Option PacketView) (tells : Option RecordMark)
+pub told_entries : (order : Endian) (old new : List Interface) (octets rest : List ℕ) (packet : Option PacketView) (tells : Option RecordMark)
     → Tells order old new octets packet tells
     → entries_from (from order old) (octets ++ rest) ≡ entries_in packet tells ++ entries_from (at new) rest
 unfolding part_as

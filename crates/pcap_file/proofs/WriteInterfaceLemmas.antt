@@ -5,15 +5,15 @@ use Rattle.std.proofs.lemmas.Bool.Decides.{nat_tests}
 use Rattle.std.proofs.lemmas.Fmt.{length-decimal-le}
 use Rattle.byteorder.specs.Endian.{little_bytes}
 use Rattle.pcap_file.specs.declared.decode.interface.Interface.{Interface}
-use Rattle.pcap_file.specs.declared.decode.link.Link.TheVariants.{Raw}
+use Rattle.pcap_file.specs.declared.decode.link.LinkType.TheVariants.{Raw}
 use Rattle.pcap_file.specs.declared.decode.record_mark.RecordMark.{RecordMark}
-use Rattle.pcap_file.specs.declared.decode.endian.Order.TheVariants.{Little}
+use Rattle.pcap_file.specs.declared.decode.endian.Endian.TheVariants.{Little}
 use Rattle.pcap_file.specs.Chain.{and_then}
 use Rattle.pcap_file.specs.Octets.{number_at}
 use Rattle.pcap_file.specs.Interface.{interface_of, interface_options, offset_of, offset_value, resolution_of, resolution_value}
 use Rattle.pcap_file.specs.Mark.{mark_of}
 use Rattle.pcap_file.specs.Section.{content_as, content_of, described_by, order_of, with_length}
-use Rattle.pcap_file.specs.Blocks.{block_octets, interface_block, interface_held, interface_text, option_octets, options_end}
+use Rattle.pcap_file.specs.Blocks.{block_octets, interface_block, interface_body, interface_text, option_octets, options_end}
 use Rattle.pcap_file.proofs.OctetLemmas.{midst}
 use Rattle.pcap_file.proofs.OptionLemmas.{length-option, option_found, option_none, option_passed}
 use Rattle.pcap_file.proofs.WholeLemmas.{IsWhole, Tells, not_below, whole_block}
@@ -39,12 +39,12 @@ abbrev options : ℕ → ℕ → List ℕ
 options stream letter = name stream letter ++ resolution ++ options_end
 
 pieces : (stream letter : ℕ) → interface_block stream letter
-    ≡ front (12 + length (interface_held stream letter)) ++ (options stream letter ++ little_bytes 4 (12 + length (interface_held stream letter)))
-unfolding interface_block block_octets interface_held front
+    ≡ front (12 + length (interface_body stream letter)) ++ (options stream letter ++ little_bytes 4 (12 + length (interface_body stream letter)))
+unfolding interface_block block_octets interface_body front
 pieces stream letter = refl
 
-size : (stream letter : ℕ) → length (interface_held stream letter) ≡ 8 + length (options stream letter)
-unfolding interface_held
+size : (stream letter : ℕ) → length (interface_body stream letter) ≡ 8 + length (options stream letter)
+unfolding interface_body
 size stream letter = omega arith
 
 digits : (n : ℕ) → n < 2 ^ 16 → length (decimal n) ≤ 5
@@ -60,7 +60,7 @@ pub whole_interface : (stream letter : ℕ) → stream < 2 ^ 16 → IsWhole (int
 unfolding interface_block
 whole_interface stream letter small =
     let sizes = length-option 2 (interface_text stream letter) in
-    whole_block 1 (interface_held stream letter) (omega (arith, size stream letter, options_size stream letter, sizes))
+    whole_block 1 (interface_body stream letter) (omega (arith, size stream letter, options_size stream letter, sizes))
     (omega (arith, size stream letter, options_size stream letter, sizes, text_size stream letter, digits stream small))
 
 order_interface : (stream letter : ℕ) → order_of Little (interface_block stream letter) ≡ Ok Little
@@ -72,22 +72,22 @@ unfolding number_at interface_block block_octets
 kind_interface stream letter = refl
 
 link_number : (stream letter : ℕ) → number_at Little 2 8 (interface_block stream letter) ≡ 101
-unfolding number_at interface_block block_octets interface_held
+unfolding number_at interface_block block_octets interface_body
 link_number stream letter = refl
 
 limit_is : (stream letter : ℕ) → number_at Little 4 12 (interface_block stream letter) ≡ 0
-unfolding number_at interface_block block_octets interface_held
+unfolding number_at interface_block block_octets interface_body
 limit_is stream letter = refl
 
 long_interface : (stream letter : ℕ) → 20 ≤ length (interface_block stream letter)
 long_interface stream letter =
-    let len : ℕ = 12 + length (interface_held stream letter) in
+    let len : ℕ = 12 + length (interface_body stream letter) in
     omega (arith, ap length (pieces stream letter), front_size len, length-append (front len) (options stream letter ++ little_bytes 4 len), length-append (options stream letter) (little_bytes 4 len), options_size stream letter)
 
 -- its options
 options_are : (stream letter : ℕ) → interface_options (interface_block stream letter) ≡ options stream letter
 options_are stream letter =
-    let len : ℕ = 12 + length (interface_held stream letter) in
+    let len : ℕ = 12 + length (interface_body stream letter) in
     midst 16 (length (interface_block stream letter) - 4) (front len) (options stream letter) (little_bytes 4 len) (interface_block stream letter) (pieces stream letter) (front_size len)
     (omega (arith, ap length (pieces stream letter), front_size len, length-append (front len) (options stream letter ++ little_bytes 4 len), length-append (options stream letter) (little_bytes 4 len)))
 

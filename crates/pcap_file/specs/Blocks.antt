@@ -2,8 +2,8 @@
 use Rattle.std.specs.Prelude.{ℕ, ◌+◌, ◌-◌, ◌*◌, ◌/◌, ◌%◌, ◌^◌, List, [], ◌∷◌, ◌++◌, length, replicate, codes, decimal}
 use Rattle.byteorder.specs.Endian.{little_bytes}
 use Rattle.pcap_file.specs.Mark.{opening_text}
-use Rattle.pcap_file.specs.Arrival.{ArrivalView}
-use Rattle.pcap_file.specs.WritePacket.{header_octets, udp_octets}
+use Rattle.pcap_file.specs.RecordedDatagram.{ArrivalView}
+use Rattle.pcap_file.specs.IpHeader.{header_octets, udp_octets}
 
 -- octets, and zeros up to whole words of four
 unfoldable pub padded : List ℕ → List ℕ
@@ -22,26 +22,26 @@ abbrev pub options_end : List ℕ
 options_end = little_bytes 4 0
 
 -- what a section header holds: the magic number of its order, version 1.0, no stated length, its comment, and who wrote it
-unfoldable pub section_held : ℕ → List ℕ
-section_held open_at =
+unfoldable pub section_body : ℕ → List ℕ
+section_body open_at =
     little_bytes 4 0x1a2b3c4d ++ little_bytes 2 1 ++ little_bytes 2 0 ++ little_bytes 8 (2 ^ 64 - 1)
     ++ option_octets 1 (opening_text open_at) ++ option_octets 4 (codes "darbexum") ++ options_end
 
 unfoldable pub section_block : ℕ → List ℕ
-section_block open_at = block_octets 0x0a0d0d0a (section_held open_at)
+section_block open_at = block_octets 0x0a0d0d0a (section_body open_at)
 
 -- an interface's name: its stream's number, a space and its path's letter
 abbrev pub interface_text : ℕ → ℕ → List ℕ
 interface_text stream letter = decimal stream ++ 32 ∷ letter ∷ []
 
 -- what the description of an interface of IP packets holds: no limit, its name, and that its times are in nanoseconds
-unfoldable pub interface_held : ℕ → ℕ → List ℕ
-interface_held stream letter =
+unfoldable pub interface_body : ℕ → ℕ → List ℕ
+interface_body stream letter =
     little_bytes 2 101 ++ little_bytes 2 0 ++ little_bytes 4 0
     ++ option_octets 2 (interface_text stream letter) ++ option_octets 9 (9 ∷ []) ++ options_end
 
 unfoldable pub interface_block : ℕ → ℕ → List ℕ
-interface_block stream letter = block_octets 1 (interface_held stream letter)
+interface_block stream letter = block_octets 1 (interface_body stream letter)
 
 -- a time as two words, the high one first
 abbrev pub time_octets : ℕ → List ℕ
@@ -58,8 +58,8 @@ unfoldable pub datagram_block : ArrivalView → List ℕ
 datagram_block a = block_octets 6 (datagram_head a ++ padded a.octets)
 
 -- what an interface statistics block of the first interface holds: its time, and nothing else
-unfoldable pub closing_held : ℕ → List ℕ
-closing_held nanoseconds = little_bytes 4 0 ++ time_octets nanoseconds
+unfoldable pub closing_body : ℕ → List ℕ
+closing_body nanoseconds = little_bytes 4 0 ++ time_octets nanoseconds
 
 unfoldable pub closing_block : ℕ → List ℕ
-closing_block nanoseconds = block_octets 5 (closing_held nanoseconds)
+closing_block nanoseconds = block_octets 5 (closing_body nanoseconds)

@@ -5,12 +5,12 @@ use Rattle.pcap_file.specs.declared.cursor.Format.{Format}
 use Rattle.pcap_file.specs.declared.cursor.Format.TheVariants as format
 use Rattle.pcap_file.specs.declared.cursor.Capture.{Capture}
 use Rattle.pcap_file.specs.declared.decode.pcap.Pcap.{Pcap}
-use Rattle.pcap_file.specs.declared.block_parser.Part.{Part}
+use Rattle.pcap_file.specs.declared.block_parser.CaptureBlock.{CaptureBlock}
 use Rattle.pcap_file.specs.declared.decode.Packet.{Packet}
-use Rattle.pcap_file.specs.declared.fault.FaultKind.{FaultKind}
+use Rattle.pcap_file.specs.declared.fault.CaptureFaultKind.{CaptureFaultKind}
 use Rattle.pcap_file.specs.declared.fault.CaptureFault.{CaptureFault}
 use Rattle.pcap_file.specs.Packet.{PacketView, packet_view}
-use Rattle.pcap_file.specs.Part.{PartView, part_view}
+use Rattle.pcap_file.specs.CaptureBlock.{PartView, part_view}
 use Rattle.pcap_file.specs.Pcap.{pcap_of, record_of}
 use Rattle.pcap_file.specs.Section.{SectionView, Block, no_section, is_section_header, block_of, section_view}
 
@@ -24,16 +24,16 @@ pub record State : Type 0 where
   pub section : SectionView
 
 -- a pcap record leaves the section
-abbrev pub record_in : SectionView → Result PartView FaultKind → Result Block FaultKind
+abbrev pub record_in : SectionView → Result PartView CaptureFaultKind → Result Block CaptureFaultKind
 record_in section (Ok part) = Ok (record { part = part; section = section })
 record_in section (Err kind) = Err kind
 
 -- the record or the block that octets begin with
-unfoldable pub part_as : Format → SectionView → List ℕ → Result Block FaultKind
+unfoldable pub part_as : Format → SectionView → List ℕ → Result Block CaptureFaultKind
 part_as (format.Pcap pcap) section octets = record_in section (record_of pcap octets)
 part_as format.Pcapng section octets = block_of section octets
 
-abbrev pub part_of : State → List ℕ → Result Block FaultKind
+abbrev pub part_of : State → List ℕ → Result Block CaptureFaultKind
 part_of state octets = part_as state.format state.section octets
 
 -- a packet, if there is one, before others
@@ -42,7 +42,7 @@ with_packet None items = items
 with_packet (Some packet) items = Ok packet ∷ items
 
 -- a part's packet before those of the octets behind it, or its fault at its place
-abbrev pub items_after : ℕ → (Block → List Item) → Result Block FaultKind → List Item
+abbrev pub items_after : ℕ → (Block → List Item) → Result Block CaptureFaultKind → List Item
 items_after place rest (Ok block) = with_packet block.part.packet (rest block)
 items_after place rest (Err kind) = Err (record { place = place; kind = kind }) ∷ []
 
@@ -60,7 +60,7 @@ abbrev pub packets_from : State → ℕ → List ℕ → List Item
 packets_from state place octets = packets_past 0 state place octets
 
 -- what a file holds behind a pcap header
-abbrev pub packets_behind : List ℕ → Result Pcap FaultKind → List Item
+abbrev pub packets_behind : List ℕ → Result Pcap CaptureFaultKind → List Item
 packets_behind octets (Ok pcap) = packets_from (record { format = format.Pcap pcap; section = no_section }) 24 (drop 24 octets)
 packets_behind octets (Err kind) = Err (record { place = 0; kind = kind }) ∷ []
 
@@ -86,7 +86,7 @@ abbrev pub item_view : Result Packet CaptureFault → Item
 item_view item = result_map_both packet_view (λ fault. fault) item
 
 -- a call read the part that octets begin with, and left the state after it, or answered its fault
-abbrev pub HasRead : State → State → List ℕ → Result Part FaultKind → Type 0
+abbrev pub HasRead : State → State → List ℕ → Result CaptureBlock CaptureFaultKind → Type 0
 HasRead old new octets result =
     MatchResult result
     (λ part. (part_of old octets ≡ Ok (record { part = part_view part; section = new.section })) × (new.format ≡ old.format))

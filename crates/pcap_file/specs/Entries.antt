@@ -2,15 +2,15 @@
 use Rattle.std.specs.Prelude.{◌-◌, ℕ, zero, suc, List, [], ◌∷◌, ◌++◌, map, drop, Option, Result, Ok, Err, if◌then◌else◌}
 use Rattle.std.specs.Option.{option_to_list}
 use Rattle.pcap_file.specs.declared.cursor.Format.TheVariants as format
-use Rattle.pcap_file.specs.declared.fault.FaultKind.{FaultKind}
+use Rattle.pcap_file.specs.declared.fault.CaptureFaultKind.{CaptureFaultKind}
 use Rattle.pcap_file.specs.declared.decode.record_mark.RecordMark.{RecordMark}
-use Rattle.pcap_file.specs.declared.parts.Parts.{Parts}
+use Rattle.pcap_file.specs.declared.parts.BlockParser.{BlockParser}
 use Rattle.pcap_file.specs.declared.decode.pcap.Pcap.{Pcap}
 use Rattle.pcap_file.specs.Packet.{PacketView}
 use Rattle.pcap_file.specs.Pcap.{pcap_of}
 use Rattle.pcap_file.specs.Section.{Block, no_section}
 use Rattle.pcap_file.specs.Capture.{State, is_pcapng, part_of}
-use Rattle.pcap_file.specs.Parts.{state_at}
+use Rattle.pcap_file.specs.BlockParser.{state_at}
 
 -- a packet, or what a block tells of a record
 pub data Entry : Type 0 where
@@ -22,7 +22,7 @@ abbrev pub entries_in : Option PacketView → Option RecordMark → List Entry
 entries_in packet mark = map Packet (option_to_list packet) ++ map Mark (option_to_list mark)
 
 -- those of a block before those of the octets behind it; none behind a fault
-abbrev pub entries_after : (Block → List Entry) → Result Block FaultKind → List Entry
+abbrev pub entries_after : (Block → List Entry) → Result Block CaptureFaultKind → List Entry
 entries_after rest (Ok block) = entries_in block.part.packet block.part.mark ++ rest block
 entries_after rest (Err kind) = []
 
@@ -40,7 +40,7 @@ abbrev pub entries_from : State → List ℕ → List Entry
 entries_from state octets = entries_past 0 state octets
 
 -- those of a file behind a pcap header
-abbrev pub entries_behind : List ℕ → Result Pcap FaultKind → List Entry
+abbrev pub entries_behind : List ℕ → Result Pcap CaptureFaultKind → List Entry
 entries_behind octets (Ok pcap) = entries_from (record { format = format.Pcap pcap; section = no_section }) (drop 24 octets)
 entries_behind octets (Err kind) = []
 
@@ -52,5 +52,5 @@ entries_of octets =
     else entries_behind octets (pcap_of octets)
 
 -- those of a capture whose octets from the place on are these
-abbrev pub entries_at : Parts → List ℕ → List Entry
+abbrev pub entries_at : BlockParser → List ℕ → List Entry
 entries_at parts octets = entries_from (state_at parts) octets

@@ -1,10 +1,10 @@
 -- Numbers of several octets, in either order.
 use Rattle.std.specs.Prelude.{ℕ, List, drop}
 use Rattle.byteorder.specs.Endian.{big_number, little_number}
-use Rattle.pcap_file.specs.declared.decode.endian.Order.{Order}
-use Rattle.pcap_file.specs.declared.decode.endian.Order.TheVariants.{Big, Little}
+use Rattle.pcap_file.specs.declared.decode.endian.Endian.{Endian}
+use Rattle.pcap_file.specs.declared.decode.endian.Endian.TheVariants.{Big, Little}
 
 -- the number that so many octets spell from a place on
-unfoldable pub number_at : Order → ℕ → ℕ → List ℕ → ℕ
+unfoldable pub number_at : Endian → ℕ → ℕ → List ℕ → ℕ
 number_at Big count place octets = big_number count (drop place octets)
 number_at Little count place octets = little_number count (drop place octets)

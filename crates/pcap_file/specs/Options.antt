@@ -2,23 +2,23 @@
 use Rattle.std.specs.Prelude.{◌+◌, ◌*◌, ◌/◌, ℕ, zero, suc, List, length, drop, slice_range, Option, Some, None, option_map, Result, Ok, Err, nat_lt, ◌==◌, if◌then◌else◌}
 use Rattle.std.specs.Borrow.{Bor}
 use Rattle.std.specs.Result.{result_map_both}
-use Rattle.pcap_file.specs.declared.decode.endian.Order.{Order}
-use Rattle.pcap_file.specs.declared.fault.FaultKind.{FaultKind}
-use Rattle.pcap_file.specs.declared.fault.FaultKind.TheVariants as fault
+use Rattle.pcap_file.specs.declared.decode.endian.Endian.{Endian}
+use Rattle.pcap_file.specs.declared.fault.CaptureFaultKind.{CaptureFaultKind}
+use Rattle.pcap_file.specs.declared.fault.CaptureFaultKind.TheVariants as fault
 use Rattle.pcap_file.specs.Octets.{number_at}
 
 -- an option's code, where its value ends, and where the next option begins
-abbrev pub code_of : Order → List ℕ → ℕ
+abbrev pub code_of : Endian → List ℕ → ℕ
 code_of order options = number_at order 2 0 options
 
-abbrev pub value_end : Order → List ℕ → ℕ
+abbrev pub value_end : Endian → List ℕ → ℕ
 value_end order options = 4 + number_at order 2 2 options
 
-abbrev pub option_end : Order → List ℕ → ℕ
+abbrev pub option_end : Endian → List ℕ → ℕ
 option_end order options = 4 * ((value_end order options + 3) / 4)
 
 -- the value of the first option with a code, among at most so many options; the code 0 ends them, and so does the block
-unfoldable pub option_among : ℕ → Order → ℕ → List ℕ → Result (Option (List ℕ)) FaultKind
+unfoldable pub option_among : ℕ → Endian → ℕ → List ℕ → Result (Option (List ℕ)) CaptureFaultKind
 option_among zero order code options = Ok None
 option_among (suc count) order code options =
     if nat_lt (length options) 4 then Ok None
@@ -28,9 +28,9 @@ option_among (suc count) order code options =
     else option_among count order code (drop (option_end order options) options))))
 
 -- the same among all: there are no more than octets
-abbrev pub option_of : Order → ℕ → List ℕ → Result (Option (List ℕ)) FaultKind
+abbrev pub option_of : Endian → ℕ → List ℕ → Result (Option (List ℕ)) CaptureFaultKind
 option_of order code options = option_among (length options) order code options
 
 -- what the code's value stands for
-abbrev pub value_view : Result (Option (Bor (List ℕ))) FaultKind → Result (Option (List ℕ)) FaultKind
+abbrev pub value_view : Result (Option (Bor (List ℕ))) CaptureFaultKind → Result (Option (List ℕ)) CaptureFaultKind
 value_view value = result_map_both (option_map (λ octets. octets.now)) (λ kind. kind) value

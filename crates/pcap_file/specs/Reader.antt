@@ -3,14 +3,14 @@ use Rattle.std.specs.Prelude.{◌≡◌, ◌⊎◌, ℕ, ◌≤◌, ◌<◌, ◌
 use Rattle.std.specs.Option.{option_to_list}
 use Rattle.std.specs.Io.KnownBytes.{Consumes, IsAtEnd}
 use Rattle.pcap_file.specs.declared.fault.CaptureFault.{CaptureFault}
-use Rattle.pcap_file.specs.declared.block_parser.Part.{Part}
-use Rattle.pcap_file.specs.declared.parts.Parts.{Parts}
+use Rattle.pcap_file.specs.declared.block_parser.CaptureBlock.{CaptureBlock}
+use Rattle.pcap_file.specs.declared.parts.BlockParser.{BlockParser}
 use Rattle.pcap_file.specs.Packet.{PacketView, packet_view}
 use Rattle.pcap_file.specs.Capture.{packets_of}
-use Rattle.pcap_file.specs.Parts.{is_cut_in, items_at}
+use Rattle.pcap_file.specs.BlockParser.{is_cut_in, items_at}
 use Rattle.pcap_file.specs.Entries.{Entry, Packet, Mark, entries_at, entries_in, entries_of}
 use Rattle.pcap_file.specs.declared.reader_fault.ReaderFault.{ReaderFault}
-use Rattle.pcap_file.specs.declared.reader_fault.ReaderFault.TheVariants.{Unread, Capture, Long, Memory}
+use Rattle.pcap_file.specs.declared.reader_fault.ReaderFault.TheVariants.{ReadFailed, Capture, TooLong, Memory}
 
 -- the packets among entries
 abbrev pub packets_among : List Entry → List PacketView
@@ -20,7 +20,7 @@ packets_among (Mark mark ∷ entries) = packets_among entries
 
 -- the first entries of a file are these, and their packets its first packets; the others are those of the octets that are held and
 -- of what is left of the file
-pub record HasTold (file : List ℕ) (entries : List Entry) (left : Option (List ℕ)) (parts : Parts) (held : List ℕ) (ended : Bool) : Type 0 where
+pub record HasTold (file : List ℕ) (entries : List Entry) (left : Option (List ℕ)) (parts : BlockParser) (held : List ℕ) (ended : Bool) : Type 0 where
   pub rest : List ℕ
   pub left_is : left ≡ Some rest
   pub packets : packets_of file ≡ map Ok (packets_among entries) ++ items_at parts (held ++ rest)
@@ -38,11 +38,11 @@ pub record IsFaultBehind (file : List ℕ) (entries : List Entry) (fault : Captu
   pub all : entries_of file ≡ entries
 
 -- the packet of a record or a block, if it has one
-abbrev pub packets_in : Part → List PacketView
+abbrev pub packets_in : CaptureBlock → List PacketView
 packets_in part = option_to_list (option_map packet_view part.packet)
 
 -- its packet and its mark
-abbrev pub part_entries : Part → List Entry
+abbrev pub part_entries : CaptureBlock → List Entry
 part_entries part = entries_in (option_map packet_view part.packet) part.mark
 
 -- the octets show the header of a file, or all of the file
@@ -53,25 +53,25 @@ pub record HasOpened (left left_then : Option (List ℕ)) (held : List ℕ) (end
   pub end : ended ≡ true → IsAtEnd left_then
 
 -- what comes next is whole within the octets that are lent, or they are all
-abbrev pub IsFilled : Parts → List ℕ → Bool → Type 0
+abbrev pub IsFilled : BlockParser → List ℕ → Bool → Type 0
 IsFilled parts held ended = (is_cut_in parts (take 983040 held) ≡ false) ⊎ ((ended ≡ true) × (length held < 983040))
 
 -- something comes next
-pub record IsNext (parts : Parts) (held : List ℕ) (ended : Bool) : Type 0 where
+pub record IsNext (parts : BlockParser) (held : List ℕ) (ended : Bool) : Type 0 where
   pub some : 1 ≤ length held
   pub filled : IsFilled parts held ended
   pub place : parts.place ≤ 2 ^ 63
 
 -- a read failed, or what comes next is too long
 abbrev pub IsLong : ReaderFault → Type 0
-IsLong Unread = Unit {0}
+IsLong ReadFailed = Unit {0}
 IsLong (Capture fault) = ⊥
-IsLong (Long place) = Unit {0}
+IsLong (TooLong place) = Unit {0}
 IsLong Memory = ⊥
 
 -- why a file was not opened: its fault, a read failed, or memory was refused
 abbrev pub IsOpenFault : List ℕ → ReaderFault → Type 0
-IsOpenFault file Unread = Unit {0}
+IsOpenFault file ReadFailed = Unit {0}
 IsOpenFault file (Capture fault) = packets_of file ≡ Err fault ∷ []
-IsOpenFault file (Long place) = ⊥
+IsOpenFault file (TooLong place) = ⊥
 IsOpenFault file Memory = Unit {0}

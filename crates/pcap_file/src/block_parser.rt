@@ -4,7 +4,7 @@ use crate::decode::record_mark::RecordMark;
 
 /// What stands at the front of the octets that are left.
 #[derive(Clone, Copy, Debug, PartialEq, Eq)]
-pub struct Part<'a> {
+pub struct CaptureBlock<'a> {
     /// How many octets it takes.
     pub len: usize,
     /// The UDP packet in it, if it has one.

@@ -3,13 +3,13 @@ ghost use Rattle.std.specs.Prelude.{◌≡◌, ◌<◌, ◌≤◌, [], ◌∷◌
 ghost use Rattle.pcap_file.specs.Capture as spec;
 ghost use Rattle.pcap_file.specs.Capture.{HasRead, item_view, packets_left, packets_of, state_of};
 
-use crate::block_parser::Part;
+use crate::block_parser::CaptureBlock;
 use crate::cursor::{Capture, Format};
 use crate::decode::Packet;
-use crate::decode::endian::Order;
+use crate::decode::endian::Endian;
 use crate::decode::pcap::{FILE_HEADER, read_header, read_record};
 use crate::decode::pcapng::{SECTION_HEADER, Section};
-use crate::fault::{CaptureFault, FaultKind};
+use crate::fault::{CaptureFault, CaptureFaultKind};
 
 /// Opens a capture, of which `octets` are the whole file.
 #[tactic(auto, unfolding(crate::specs::Capture::packets_of))]
@@ -40,13 +40,13 @@ pub fn open(octets: &[u8]) -> Result<Capture<'_>, CaptureFault>
 pub(crate) fn is_pcapng(octets: &[u8]) -> bool
     ensures { result ≡ spec.is_pcapng octets.now }
 {
-    octets.len() >= 4 && Order::Big.read_u32(octets, 0) == SECTION_HEADER
+    octets.len() >= 4 && Endian::Big.read_u32(octets, 0) == SECTION_HEADER
 }
 
 impl<'a> Capture<'a> {
     /// Reads the record or the block that comes next.
     #[tactic(auto, unfolding(crate::specs::Capture::part_as))]
-    fn read_part(&mut self) -> Result<Part<'a>, FaultKind>
+    fn read_part(&mut self) -> Result<CaptureBlock<'a>, CaptureFaultKind>
         ensures part { HasRead (state_of self.old) (state_of self.new) self.old.octets.now result }
         ensures bounds { IfOk result (λ part. (1 ≤ part.len) × (part.len ≤ length self.old.octets.now)) }
         ensures octets { self.new.octets ≡ self.old.octets }

@@ -3,8 +3,8 @@ ghost use Rattle.std.specs.Prelude.{◌≡◌, option_map};
 ghost use Rattle.pcap_file.specs.Packet as spec;
 ghost use Rattle.pcap_file.specs.Packet.{packet_view};
 
-use crate::decode::ipv4::{Ipv4, read_ipv4};
-use crate::decode::link::{Link, ip_octets};
+use crate::decode::ipv4::{UdpPacket, read_ipv4};
+use crate::decode::link::{LinkType, ip_octets};
 
 pub(crate) mod endian;
 pub(crate) mod interface;
@@ -22,13 +22,13 @@ pub struct Packet<'a> {
     pub time: Option<u64>,
     /// The interface's number in its section, from 0; 0 in a pcap file.
     pub interface: u32,
-    pub ip: Ipv4<'a>,
+    pub ip: UdpPacket<'a>,
 }
 
 /// The UDP packet in a frame of a link, if there is one.
 #[tactic(auto, unfolding(crate::specs::Packet::packet_in))]
 pub(crate) fn packet_in(
-    link: Link,
+    link: LinkType,
     time: Option<u64>,
     interface: u32,
     frame: &[u8],

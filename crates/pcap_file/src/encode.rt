@@ -1,28 +1,28 @@
 //! The blocks of a record.
 ghost use Rattle.std.specs.Prelude.{◌≡◌, ◌+◌, ◌*◌, ◌%◌, ◌≤◌, ◌++◌, length, drop};
-ghost use Rattle.pcap_file.specs.Arrival.{arrival_view};
+ghost use Rattle.pcap_file.specs.RecordedDatagram.{arrival_view};
 ghost use Rattle.pcap_file.specs.Blocks.{block_octets, closing_block, datagram_block, interface_block, padded, section_block};
 
-use crate::encode::datagram::Arrival;
-use crate::heads::{closing_held, datagram_held, interface_held, section_held};
-use crate::places::put;
+use crate::encode::datagram::RecordedDatagram;
+use crate::heads::{closing_body, datagram_body, interface_body, section_body};
+use crate::places::write_at;
 
 pub(crate) mod body;
 pub(crate) mod datagram;
 pub(crate) mod ip_header;
 
 /// The most octets of a block.
-pub const BLOCK_ROOM: usize = 2_108;
+pub const MAX_BLOCK_LEN: usize = 2_108;
 
 /// Writes the section header of a record, whose studio was opened at this time in sampling instants. Answers its length.
 #[tactic(auto, unfolding(crate::specs::Blocks::section_block, crate::specs::Blocks::padded))]
-pub fn write_opening(open_at: u64, out: &mut [u8]) -> usize
+pub fn write_section_header(open_at: u64, out: &mut [u8]) -> usize
     requires { 2108 ≤ length out.old }
     ensures written { out.new ≡ section_block open_at ++ drop result out.old }
     ensures len { result ≡ length (section_block open_at) }
     ensures short { result ≤ 2108 }
 {
-    write_block(0x0a0d_0d0a, section_held(open_at).as_slice(), &[], out)
+    write_block(0x0a0d_0d0a, section_body(open_at).as_slice(), &[], out)
 }
 
 /// Writes the description of a path's interface, by its stream's number and its letter. Answers its length.
@@ -33,30 +33,30 @@ pub fn write_interface(stream: u16, letter: u8, out: &mut [u8]) -> usize
     ensures len { result ≡ length (interface_block stream letter) }
     ensures short { result ≤ 2108 }
 {
-    write_block(1, interface_held(stream, letter).as_slice(), &[], out)
+    write_block(1, interface_body(stream, letter).as_slice(), &[], out)
 }
 
 /// Writes the packet of a datagram that came. Answers its length.
 #[tactic(auto, unfolding(crate::specs::Blocks::datagram_block))]
-pub fn write_datagram(arrival: &Arrival<'_>, out: &mut [u8]) -> usize
+pub fn write_packet(arrival: &RecordedDatagram<'_>, out: &mut [u8]) -> usize
     requires few { length arrival.now.octets.now ≤ 2048 }
     requires room { 2108 ≤ length out.old }
     ensures written { out.new ≡ datagram_block (arrival_view arrival.now) ++ drop result out.old }
     ensures len { result ≡ length (datagram_block (arrival_view arrival.now)) }
     ensures short { result ≤ 2108 }
 {
-    write_block(6, datagram_held(arrival).as_slice(), arrival.octets, out)
+    write_block(6, datagram_body(arrival).as_slice(), arrival.octets, out)
 }
 
 /// Writes that the studio was closed so many nanoseconds after it was opened. Answers its length.
 #[tactic(auto, unfolding(crate::specs::Blocks::closing_block, crate::specs::Blocks::padded))]
-pub fn write_closing(nanoseconds: u64, out: &mut [u8]) -> usize
+pub fn write_statistics(nanoseconds: u64, out: &mut [u8]) -> usize
     requires { 2108 ≤ length out.old }
     ensures written { out.new ≡ closing_block nanoseconds ++ drop result out.old }
     ensures len { result ≡ length (closing_block nanoseconds) }
     ensures short { result ≤ 2108 }
 {
-    write_block(5, closing_held(nanoseconds).as_slice(), &[], out)
+    write_block(5, closing_body(nanoseconds).as_slice(), &[], out)
 }
 
 /// Writes a block of a type, which holds these octets, and others behind them up to whole words.
@@ -69,10 +69,10 @@ fn write_block(kind: u32, head: &[u8], octets: &[u8], out: &mut [u8]) -> usize
 {
     let zeros = 3 * octets.len() % 4;
     let len = (12 + head.len() + octets.len() + zeros) as u32;
-    let place = put(out, 0, &kind.to_le_bytes());
-    let place = put(out, place, &len.to_le_bytes());
-    let place = put(out, place, head);
-    let place = put(out, place, octets);
-    let place = put(out, place, &[0; 3][..zeros]);
-    put(out, place, &len.to_le_bytes())
+    let place = write_at(out, 0, &kind.to_le_bytes());
+    let place = write_at(out, place, &len.to_le_bytes());
+    let place = write_at(out, place, head);
+    let place = write_at(out, place, octets);
+    let place = write_at(out, place, &[0; 3][..zeros]);
+    write_at(out, place, &len.to_le_bytes())
 }

@@ -3,13 +3,13 @@ use thiserror::Error;
 
 /// What is wrong where a capture's header, record or block should stand.
 #[derive(Clone, Copy, Debug, PartialEq, Eq, Error)]
-pub enum FaultKind {
+pub enum CaptureFaultKind {
     /// The first four octets are those of neither format.
     #[error("neither pcap nor pcapng")]
     Format,
     /// The header's, the record's or the block's octets end after the file.
     #[error("it is cut")]
-    Cut,
+    Truncated,
     /// The magic number of a section's order of octets is wrong.
     #[error("the order of octets is unknown")]
     ByteOrder,
@@ -39,5 +39,5 @@ pub enum FaultKind {
 pub struct CaptureFault {
     /// Where the header, the record or the block begins: how many octets stand before it.
     pub place: usize,
-    pub kind: FaultKind,
+    pub kind: CaptureFaultKind,
 }

@@ -1,9 +1,9 @@
 //! Octets on their way from a file to who is lent them, 983,040 at most.
 ghost use Rattle.std.specs.Prelude.{◌≡◌, ◌≤◌, ◌<◌, ◌+◌, ◌++◌, [], length, take, drop, vec_len, IfOk, IfErr, OnOk, OnErr, true, false};
-ghost use Rattle.pcap_file.specs.Window.{octets_of, Reads};
-ghost use Rattle.pcap_file.specs.declared.reader_fault.ReaderFault.TheVariants.{Unread};
+ghost use Rattle.pcap_file.specs.ReadBuffer.{octets_of, Reads};
+ghost use Rattle.pcap_file.specs.declared.reader_fault.ReaderFault.TheVariants.{ReadFailed};
 
-use crate::reader::buffer::Window;
+use crate::reader::buffer::ReadBuffer;
 use crate::reader_fault::ReaderFault;
 use std::alloc::{AllocError, Global};
 use std::io::Read;
@@ -17,14 +17,14 @@ const MOST_READ: usize = 65_536;
 /// The most octets that are held.
 const MOST_HELD: usize = MOST_LENT + MOST_READ;
 
-impl Window {
+impl ReadBuffer {
     /// Before the first octet.
-    pub(crate) fn new(alloc: Global) -> Result<Window, AllocError>
+    pub(crate) fn new(alloc: Global) -> Result<ReadBuffer, AllocError>
         ensures none { IfOk result (λ window. octets_of window ≡ []) }
         ensures going { IfOk result (λ window. window.ended ≡ false) }
     {
         let held = Vec::with_capacity(alloc, MOST_HELD)?;
-        Ok(Window {
+        Ok(ReadBuffer {
             held,
             passed: 0,
             ended: false,
@@ -55,7 +55,7 @@ impl Window {
     }
 
     /// Passes over octets: the length of what was answered.
-    pub fn pass(&mut self, count: usize)
+    pub fn consume(&mut self, count: usize)
         requires { count ≤ length (octets_of self.old) }
         ensures octets { octets_of self.new ≡ drop count (octets_of self.old) }
         ensures ended { self.new.ended ≡ self.old.ended }
@@ -64,10 +64,10 @@ impl Window {
     }
 
     /// Reads on once.
-    pub(crate) fn read_on<R: Read>(&mut self, reader: &mut R) -> Result<(), ReaderFault>
+    pub(crate) fn read_more<R: Read>(&mut self, reader: &mut R) -> Result<(), ReaderFault>
         requires { length (octets_of self.old) < 983040 }
         ensures ok { OnOk result (Reads (R.remaining reader.old) (R.remaining reader.new) (octets_of self.old) (octets_of self.new) self.new.ended) }
-        ensures unread { IfErr result (λ fault. fault ≡ Unread) }
+        ensures unread { IfErr result (λ fault. fault ≡ ReadFailed) }
     {
         let mut chunk = [0u8; MOST_READ];
         match reader.read(&mut chunk) {
@@ -76,7 +76,7 @@ impl Window {
                 self.ended = count == 0;
                 Ok(())
             }
-            Err(_) => Err(ReaderFault::Unread),
+            Err(_) => Err(ReaderFault::ReadFailed),
         }
     }
 

@@ -4,9 +4,9 @@ ghost use Rattle.std.specs.List.{All};
 ghost use Rattle.pcap_file.specs.Capture.{packets_of};
 ghost use Rattle.pcap_file.specs.Entries.{Mark, entries_of};
 ghost use Rattle.pcap_file.specs.declared.decode.record_mark.RecordMark.TheVariants.{Closed, Opened};
-ghost use Rattle.pcap_file.specs.Arrival.{ArrivalView};
-ghost use Rattle.pcap_file.specs.WritePacket.{HasAddresses, carried, header_octets, words_sum};
-ghost use Rattle.pcap_file.specs.Record.{IsArrival, IsName, Name, closed_record, items_of, open_record, packet_entries};
+ghost use Rattle.pcap_file.specs.RecordedDatagram.{ArrivalView};
+ghost use Rattle.pcap_file.specs.IpHeader.{HasAddresses, carried, header_octets, words_sum};
+ghost use Rattle.pcap_file.specs.WrittenRecord.{IsArrival, IsName, Name, closed_record, items_of, open_record, packet_entries};
 ghost use Rattle.pcap_file.specs.Times.{instants_in, nanoseconds_of};
 
 /// Sampling instants that are written as nanoseconds come back.

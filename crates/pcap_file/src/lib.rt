@@ -6,7 +6,7 @@
 //! as an item of its own, with its place; then nothing more comes. A UDP datagram comes whole with its
 //! time, interface, addresses and ports; that one is a fragment or cut is told, and anything else is passed over.
 //!
-//! Where the octets come piece by piece, `Parts` is the place among them: its calls are lent those from there on, as many
+//! Where the octets come piece by piece, `BlockParser` is the place among them: its calls are lent those from there on, as many
 //! as came. While `is_cut` says that more are needed, more are read; `next` passes over a record or a block. It also tells a
 //! block's `mark`: that a live run's record begins, with the time of the opening, or the time of an interface's statistics.
 //!
@@ -16,16 +16,16 @@
 //!
 //! The UDP packets of a capture of any length, read from a file in memory that its length doesn't change.
 //!
-//! `open` takes all memory, 1 MiB, and reads the file's header. `has_next` reads on until the record or the block that comes
-//! next is whole, and answers whether one comes. Then `next` answers it, with the packet in it if there is one, and
-//! `Window::pass` passes over it. The first fault ends it. What is told is `packets_of` the file, and in order with its marks
+//! `open_reader` takes all memory, 1 MiB, and reads the file's header. `has_block` reads on until the record or the block that comes
+//! next is whole, and answers whether one comes. Then `next_block` answers it, with the packet in it if there is one, and
+//! `ReadBuffer::consume` passes over it. The first fault ends it. What is told is `packets_of` the file, and in order with its marks
 //! `entries_of` it, as of one in memory.
 //!
 //! The record of a live run, written block by block: a pcapng file of the datagrams that came, to be replayed.
 //!
-//! `write_opening` writes the section header, with the time at which the studio was opened; `write_interface` then describes a
-//! path, stream by stream and path by path; `write_datagram` writes what came, as an IPv4 packet; and `write_closing` the
-//! time of the close. Each writes one block to the front of the caller's slice, which has room for any, `BLOCK_ROOM`, and
+//! `write_section_header` writes the section header, with the time at which the studio was opened; `write_interface` then describes a
+//! path, stream by stream and path by path; `write_packet` writes what came, as an IPv4 packet; and `write_statistics` the
+//! time of the close. Each writes one block to the front of the caller's slice, which has room for any, `MAX_BLOCK_LEN`, and
 //! answers its length. Times are in nanoseconds since the opening: `nanoseconds_after` so many sampling instants.
 //!
 //! Nothing here takes memory or writes a file. What is written are `section_block`, `interface_block`, `datagram_block` and
@@ -48,18 +48,20 @@ mod reader;
 mod reader_fault;
 mod times;
 
-pub use block_parser::Part;
+pub use block_parser::CaptureBlock;
 pub use capture::open;
 pub use cursor::Capture;
 pub use decode::Packet;
-pub use decode::ipv4::{Body, Datagram, Ipv4};
+pub use decode::ipv4::{UdpBody, UdpDatagram, UdpPacket};
 pub use decode::record_mark::RecordMark;
-pub use encode::datagram::{Arrival, MOST_OCTETS};
-pub use encode::{BLOCK_ROOM, write_closing, write_datagram, write_interface, write_opening};
-pub use fault::{CaptureFault, FaultKind};
+pub use encode::datagram::{MOST_OCTETS, RecordedDatagram};
+pub use encode::{
+    MAX_BLOCK_LEN, write_interface, write_packet, write_section_header, write_statistics,
+};
+pub use fault::{CaptureFault, CaptureFaultKind};
 pub use laws::{checksums_are_right, instants_come_back, records_are_read_back};
-pub use parts::Parts;
-pub use reader::buffer::Window;
-pub use reader::{has_next, next, open as reader_open};
+pub use parts::BlockParser;
+pub use reader::buffer::ReadBuffer;
+pub use reader::{has_block, next_block, open_reader};
 pub use reader_fault::ReaderFault;
 pub use times::nanoseconds_after;

@@ -3,41 +3,41 @@ ghost use Rattle.std.specs.Prelude.{◌≡◌, ◌⊎◌, ◌+◌, ◌<◌, ◌�
 ghost use Rattle.pcap_file.specs.Capture.{HasRead, packets_of, with_packet};
 ghost use Rattle.pcap_file.specs.Packet.{packet_view};
 ghost use Rattle.pcap_file.specs.Entries.{entries_at, entries_in, entries_of};
-ghost use Rattle.pcap_file.specs.Parts.{IsEnough, is_cut_in, items_at, state_at};
+ghost use Rattle.pcap_file.specs.BlockParser.{IsEnough, is_cut_in, items_at, state_at};
 
-use crate::block_parser::Part;
+use crate::block_parser::CaptureBlock;
 use crate::capture::is_pcapng;
 use crate::cursor::Format;
 use crate::decode::pcap::{FILE_HEADER, is_record_cut, read_header, read_record};
 use crate::decode::pcapng::{Section, is_block_cut};
-use crate::fault::{CaptureFault, FaultKind};
+use crate::fault::{CaptureFault, CaptureFaultKind};
 
 /// A place in a capture. The octets from there on are the caller's, who lends as many as came so far.
 #[derive(Drop)]
-pub struct Parts {
+pub struct BlockParser {
     pub(crate) format: Format,
     pub(crate) section: Section,
     /// How many octets stand before it.
     pub(crate) place: usize,
 }
 
-impl Parts {
+impl BlockParser {
     /// The place of the first record or block, of a capture that begins with these octets: at least 24, or all that there are.
-    pub fn open(front: &[u8]) -> Result<Parts, CaptureFault>
+    pub fn open(front: &[u8]) -> Result<BlockParser, CaptureFault>
         ensures parts { IfOk result (λ parts. (rest : List ℕ) → IsEnough front.now rest → packets_of (front.now ++ rest) ≡ items_at parts (drop parts.place (front.now ++ rest))) }
         ensures entries { IfOk result (λ parts. (rest : List ℕ) → IsEnough front.now rest → entries_of (front.now ++ rest) ≡ entries_at parts (drop parts.place (front.now ++ rest))) }
         ensures place { IfOk result (λ parts. parts.place ≤ length front.now) }
         ensures fault { IfErr result (λ fault. (rest : List ℕ) → IsEnough front.now rest → packets_of (front.now ++ rest) ≡ Err fault ∷ []) }
     {
         if is_pcapng(front) {
-            return Ok(Parts {
+            return Ok(BlockParser {
                 format: Format::Pcapng,
                 section: Section::new(),
                 place: 0,
             });
         }
         match read_header(front) {
-            Ok(pcap) => Ok(Parts {
+            Ok(pcap) => Ok(BlockParser {
                 format: Format::Pcap(pcap),
                 section: Section::new(),
                 place: FILE_HEADER,
@@ -65,7 +65,7 @@ impl Parts {
 
     /// Reads the record or the block that these octets begin with.
     #[tactic(auto, unfolding(crate::specs::Capture::part_as))]
-    fn read<'a>(&mut self, front: &'a [u8]) -> Result<Part<'a>, FaultKind>
+    fn read<'a>(&mut self, front: &'a [u8]) -> Result<CaptureBlock<'a>, CaptureFaultKind>
         ensures part { HasRead (state_at self.old) (state_at self.new) front.now result }
         ensures bounds { IfOk result (λ part. (1 ≤ part.len) × (part.len ≤ length front.now)) }
         ensures place { self.new.place ≡ self.old.place }
@@ -77,7 +77,7 @@ impl Parts {
     }
 
     /// Passes over the record or the block that these octets begin with: all that there are, where it is cut.
-    pub fn next<'a>(&mut self, front: &'a [u8]) -> Result<Part<'a>, CaptureFault>
+    pub fn next<'a>(&mut self, front: &'a [u8]) -> Result<CaptureBlock<'a>, CaptureFault>
         requires some { 1 ≤ length front.now }
         requires place { self.old.place + length front.now < 2 ^ 64 }
         ensures part { IfOk result (λ part. (rest : List ℕ) → (is_cut_in self.old front.now ≡ false) ⊎ (rest ≡ [])

@@ -1,14 +1,14 @@
 //! A capture's records and blocks, one by one.
 ghost use Rattle.std.specs.Prelude.{◌≡◌, ℕ, ◌≤◌, ◌<◌, ◌++◌, List, [], Option, length, false, true, take, drop, IfOk, IfErr, OnOk, IfSome};
 ghost use Rattle.pcap_file.specs.Entries.{Entry};
-ghost use Rattle.pcap_file.specs.Window.{octets_of, Reads};
+ghost use Rattle.pcap_file.specs.ReadBuffer.{octets_of, Reads};
 ghost use Rattle.pcap_file.specs.Reader.{HasEntries, HasOpened, HasTold, IsFaultBehind, IsFilled, IsLong, IsNext, IsOpenFault, part_entries};
-ghost use Rattle.pcap_file.specs.declared.reader_fault.ReaderFault.TheVariants.{Unread};
+ghost use Rattle.pcap_file.specs.declared.reader_fault.ReaderFault.TheVariants.{ReadFailed};
 
-use crate::block_parser::Part;
+use crate::block_parser::CaptureBlock;
 use crate::fault::CaptureFault;
-use crate::parts::Parts;
-use crate::reader::buffer::Window;
+use crate::parts::BlockParser;
+use crate::reader::buffer::ReadBuffer;
 use crate::reader_fault::ReaderFault;
 use std::alloc::Global;
 use std::io::Read;
@@ -25,15 +25,18 @@ const FILE_HEADER: usize = 24;
 const MOST_READS: u32 = 1_000_000;
 
 /// Opens a capture by the header of its file.
-pub fn open<R: Read>(alloc: Global, reader: &mut R) -> Result<(Window, Parts), ReaderFault>
+pub fn open_reader<R: Read>(
+    alloc: Global,
+    reader: &mut R,
+) -> Result<(ReadBuffer, BlockParser), ReaderFault>
     ensures told { IfOk result (λ opened. IfSome (R.remaining reader.old) (λ file. HasTold file [] (R.remaining reader.new) opened.1 (octets_of opened.0) opened.0.ended)) }
     ensures fault { IfErr result (λ fault. IfSome (R.remaining reader.old) (λ file. IsOpenFault file fault)) }
 {
-    let mut window = Window::new(alloc)?;
-    read_header(&mut window, reader)?;
-    match Parts::open(window.front()) {
+    let mut window = ReadBuffer::new(alloc)?;
+    fill_header(&mut window, reader)?;
+    match BlockParser::open(window.front()) {
         Ok(parts) => {
-            window.pass(parts.place());
+            window.consume(parts.place());
             Ok((window, parts))
         }
         Err(fault) => Err(ReaderFault::Capture(fault)),
@@ -41,17 +44,17 @@ pub fn open<R: Read>(alloc: Global, reader: &mut R) -> Result<(Window, Parts), R
 }
 
 /// Reads on until the header of a file is there, or the file ends.
-fn read_header<R: Read>(window: &mut Window, reader: &mut R) -> Result<(), ReaderFault>
+fn fill_header<R: Read>(window: &mut ReadBuffer, reader: &mut R) -> Result<(), ReaderFault>
     requires first { octets_of window.old ≡ [] }
     requires going { window.old.ended ≡ false }
     ensures ok { OnOk result (HasOpened (R.remaining reader.old) (R.remaining reader.new) (octets_of window.new) window.new.ended) }
-    ensures unread { IfErr result (λ fault. fault ≡ Unread) }
+    ensures unread { IfErr result (λ fault. fault ≡ ReadFailed) }
 {
     'reads: for _turn in 0..FILE_HEADER {
         if window.front().len() >= FILE_HEADER {
             return Ok(());
         }
-        window.read_on(reader)?;
+        window.read_more(reader)?;
         if window.is_ended() {
             return Ok(());
         }
@@ -60,9 +63,9 @@ fn read_header<R: Read>(window: &mut Window, reader: &mut R) -> Result<(), Reade
 }
 
 /// Reads on until the record or the block that comes next is whole, or the file ends. Answers whether one comes.
-pub fn has_next<R: Read>(
-    parts: &Parts,
-    window: &mut Window,
+pub fn has_block<R: Read>(
+    parts: &BlockParser,
+    window: &mut ReadBuffer,
     reader: &mut R,
 ) -> Result<bool, ReaderFault>
     ensures told { OnOk result ((file : List ℕ) (entries : List Entry) → HasTold file entries (R.remaining reader.old) parts.now (octets_of window.old) window.old.ended
@@ -77,13 +80,17 @@ pub fn has_next<R: Read>(
         return Ok(false);
     }
     if parts.place() > MOST_PLACE {
-        return Err(ReaderFault::Long(parts.place()));
+        return Err(ReaderFault::TooLong(parts.place()));
     }
     Ok(true)
 }
 
 /// Reads on until the record or the block that comes next is whole, or the file ends.
-fn fill<R: Read>(parts: &Parts, window: &mut Window, reader: &mut R) -> Result<(), ReaderFault>
+fn fill<R: Read>(
+    parts: &BlockParser,
+    window: &mut ReadBuffer,
+    reader: &mut R,
+) -> Result<(), ReaderFault>
     ensures told { OnOk result ((file : List ℕ) (entries : List Entry) → HasTold file entries (R.remaining reader.old) parts.now (octets_of window.old) window.old.ended
         → HasTold file entries (R.remaining reader.new) parts.now (octets_of window.new) window.new.ended) }
     ensures filled { OnOk result (IsFilled parts.now (octets_of window.new) window.new.ended) }
@@ -94,18 +101,21 @@ fn fill<R: Read>(parts: &Parts, window: &mut Window, reader: &mut R) -> Result<(
             return Ok(());
         }
         if window.is_full() {
-            return Err(ReaderFault::Long(parts.place()));
+            return Err(ReaderFault::TooLong(parts.place()));
         }
         if window.is_ended() {
             return Ok(());
         }
-        window.read_on(reader)?;
+        window.read_more(reader)?;
     }
-    Err(ReaderFault::Unread)
+    Err(ReaderFault::ReadFailed)
 }
 
 /// The record or the block that comes next, to be passed over by its length.
-pub fn next<'a>(parts: &mut Parts, window: &'a Window) -> Result<Part<'a>, CaptureFault>
+pub fn next_block<'a>(
+    parts: &mut BlockParser,
+    window: &'a ReadBuffer,
+) -> Result<CaptureBlock<'a>, CaptureFault>
     requires { IsNext parts.old (octets_of window.now) window.now.ended }
     ensures len { IfOk result (λ part. part.len ≤ length (octets_of window.now)) }
     ensures told { IfOk result (λ part. (file : List ℕ) (entries : List Entry) (left : Option (List ℕ)) → HasTold file entries left parts.old (octets_of window.now) window.now.ended

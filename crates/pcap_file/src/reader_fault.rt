@@ -11,13 +11,13 @@ use thiserror::Error;
 pub enum ReaderFault {
     /// A read failed.
     #[error("device: capture")]
-    Unread,
+    ReadFailed,
     /// The first fault of the capture.
     #[error("capture {0}")]
     Capture(CaptureFault),
     /// The record or block behind so many octets is longer than 983,040, or begins past 2^63.
     #[error("capture octet {0}: it is too long")]
-    Long(usize),
+    TooLong(usize),
     /// Memory was refused.
     #[error("out of memory")]
     Memory,

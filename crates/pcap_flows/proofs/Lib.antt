@@ -1,2 +1,2 @@
-pub mod TableLemmas
+pub mod FlowTableLemmas
 pub mod TraceLemmas

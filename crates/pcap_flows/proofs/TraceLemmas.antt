@@ -4,7 +4,7 @@ use Rattle.pcap_file.specs.declared.fault.CaptureFault.{CaptureFault}
 use Rattle.pcap_file.specs.Capture.{Item}
 use Rattle.pcap_flows.specs.declared.route.Route.{Route}
 use Rattle.pcap_flows.specs.declared.import.clock.CaptureClock.{CaptureClock}
-use Rattle.pcap_flows.specs.Lines.{close_line}
+use Rattle.pcap_flows.specs.TraceLines.{close_line}
 use Rattle.pcap_flows.specs.Trace.{events_from, item_clock, item_events, item_text, text_from}
 
 pub text_from_none : (routes : List Route) (clock : CaptureClock) → text_from routes clock [] ≡ close_line

@@ -1,10 +1,10 @@
 -- A flow's packets, counted.
 use Rattle.std.specs.Prelude.{ℕ, ◌+◌, ◌-◌, ◌%◌, ◌^◌, Bool, false, min, max, Option, Some, None, ◌==◌, not, ◌||◌, if◌then◌else◌}
-use Rattle.pcap_flows.specs.declared.packet.Sighting.{Sighting}
+use Rattle.pcap_flows.specs.declared.packet.FlowPacket.{FlowPacket}
 use Rattle.pcap_flows.specs.declared.lengths.Lengths.{Lengths}
 use Rattle.pcap_flows.specs.declared.steps.Steps.{Steps}
 use Rattle.pcap_flows.specs.declared.flow.Flow.{Flow}
-use Rattle.pcap_flows.specs.Numbers.{NumbersView, numbers_first, numbers_with, numbers_view, one_more, span_of}
+use Rattle.pcap_flows.specs.ReceivedNumbers.{NumbersView, numbers_first, numbers_with, numbers_view, one_more, span_of}
 
 pub record FlowView : Type 0 where
   pub packets : ℕ
@@ -40,7 +40,7 @@ steps_with s seq ts =
     else record { seq = seq; ts = ts; first = s.first; varies = s.varies }
 
 -- a flow of one packet
-abbrev pub flow_first : Sighting → FlowView
+abbrev pub flow_first : FlowPacket → FlowView
 flow_first s = record {
   packets = 1;
   numbers = numbers_first s.seq;
@@ -49,7 +49,7 @@ flow_first s = record {
 }
 
 -- with one more packet
-abbrev pub flow_with : FlowView → Sighting → FlowView
+abbrev pub flow_with : FlowView → FlowPacket → FlowView
 flow_with f s = record {
   packets = one_more f.packets;
   numbers = numbers_with f.numbers s.seq;

@@ -1,7 +1,7 @@
-pub mod Sighting
-pub mod Numbers
+pub mod FlowPacket
+pub mod ReceivedNumbers
 pub mod Flow
-pub mod Table
+pub mod FlowTable
 pub mod Clock
-pub mod Lines
+pub mod TraceLines
 pub mod Trace

@@ -1,33 +1,33 @@
 -- The trace of a capture: its datagrams of the flows that have a route, in order, at readings of the clock.
 use Rattle.std.specs.Prelude.{◌+◌, nat_lt, if◌then◌else◌, List, [], ◌∷◌, ◌++◌, ℕ, Option, Some, None, Ok, Err, Bool, position, slice_get, option_and_then}
-use Rattle.pcap_file.specs.Ipv4.{BodyView, Whole, Part, Cut}
+use Rattle.pcap_file.specs.UdpPacket.{BodyView, Whole, Part, Truncated}
 use Rattle.pcap_file.specs.Packet.{PacketView}
 use Rattle.pcap_file.specs.Capture.{Item}
 use Rattle.pcap_flows.specs.declared.packet.FlowKey.{FlowKey}
-use Rattle.pcap_flows.specs.declared.packet.Sighting.{Sighting}
-use Rattle.pcap_flows.specs.Sighting.{sighting_of, same_flow}
+use Rattle.pcap_flows.specs.declared.packet.FlowPacket.{FlowPacket}
+use Rattle.pcap_flows.specs.FlowPacket.{flow_packet_of, same_flow}
 use Rattle.pcap_flows.specs.declared.route.Route.{Route}
 use Rattle.pcap_flows.specs.declared.import.clock.CaptureClock.{CaptureClock}
 use Rattle.pcap_flows.specs.Clock.{clock_begun, clock_with}
-use Rattle.pcap_flows.specs.Lines.{tick_text, arrival_line, close_line}
+use Rattle.pcap_flows.specs.TraceLines.{tick_text, arrival_line, close_line}
 
 -- a flow's route is the first that names it
 abbrev pub is_route_of : FlowKey → Route → Bool
 is_route_of key route = same_flow key route.key
 
-abbrev pub route_for : List Route → Option Sighting → Option Route
+abbrev pub route_for : List Route → Option FlowPacket → Option Route
 route_for routes None = None
 route_for routes (Some s) = option_and_then (slice_get routes) (position (is_route_of s.key) routes)
 
 -- the route of a packet, if it is an RTP packet of a flow that has one
 unfoldable pub route_of : List Route → PacketView → Option Route
-route_of routes packet = route_for routes (sighting_of packet)
+route_of routes packet = route_for routes (flow_packet_of packet)
 
 -- the octets of a whole datagram
 abbrev pub octets_of : BodyView → List ℕ
 octets_of (Whole udp) = udp.payload
 octets_of Part = []
-octets_of Cut = []
+octets_of Truncated = []
 
 -- a datagram's line, after that of the clock where it goes on
 abbrev pub packet_text : CaptureClock → PacketView → Option Route → List ℕ

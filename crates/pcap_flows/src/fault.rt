@@ -10,7 +10,7 @@ use thiserror::Error;
 pub enum ImportFault {
     /// No flow goes to an address that was named.
     #[error("no flow goes to a named address")]
-    Unknown,
+    UnknownAddress,
     /// No flow fits a stream.
     #[error("no flow fits a stream")]
     NoFlow,
@@ -19,19 +19,19 @@ pub enum ImportFault {
     Streams,
     /// The packets of a stream that was named fit none.
     #[error("a named flow fits no stream")]
-    Unfit,
+    NoFormat,
     /// No window spans the latency.
     #[error("the latency is too long for a window")]
     Latency,
     /// A datagram has more than 2,045 octets, for which a line has no room.
     #[error("a datagram is too long for a trace")]
-    Line,
+    DatagramTooLong,
     /// There are more than 1,000,000 events.
     #[error("more than 1000000 events")]
-    Events,
+    TooManyEvents,
     /// The text has more than 67,108,864 octets.
     #[error("more than 67108864 octets of trace")]
-    Text,
+    TooLong,
     /// Memory was refused.
     #[error("out of memory")]
     Memory,

@@ -8,7 +8,7 @@ pub struct Fit {
 }
 
 /// How many channels of samples of so many octets fill a payload of `len` octets with `frames` sampling instants, if any.
-pub fn fit_of(len: usize, frames: u32, octets: usize) -> Option<Fit> {
+pub fn channels_that_fit(len: usize, frames: u32, octets: usize) -> Option<Fit> {
     let count = usize::try_from(frames).unwrap_or(0);
     if count == 0 || octets == 0 {
         return None;

@@ -1,11 +1,11 @@
 //! One flow and its counts.
 ghost use Rattle.std.specs.Prelude.{◌≡◌, IfOk};
 ghost use Rattle.pcap_flows.specs.Flow.{flow_first, flow_view, flow_with, lost_of};
-ghost use Rattle.pcap_flows.specs.Numbers.{numbers_view};
+ghost use Rattle.pcap_flows.specs.ReceivedNumbers.{numbers_view};
 
 use crate::lengths::Lengths;
-use crate::packet::Sighting;
-use crate::received_numbers::Numbers;
+use crate::packet::FlowPacket;
+use crate::received_numbers::ReceivedNumbers;
 use crate::steps::Steps;
 use std::alloc::{AllocError, Global};
 
@@ -13,17 +13,17 @@ use std::alloc::{AllocError, Global};
 #[derive(Drop)]
 pub struct Flow {
     packets: u64,
-    numbers: Numbers,
+    numbers: ReceivedNumbers,
     lengths: Lengths,
     steps: Steps,
 }
 
 impl Flow {
     /// A flow's first packet.
-    pub fn new(alloc: Global, first: &Sighting) -> Result<Flow, AllocError>
+    pub fn new(alloc: Global, first: &FlowPacket) -> Result<Flow, AllocError>
         ensures { IfOk result (λ flow. flow_view flow ≡ flow_first first.now) }
     {
-        let numbers = Numbers::new(alloc, first.seq)?;
+        let numbers = ReceivedNumbers::new(alloc, first.seq)?;
         Ok(Flow {
             packets: 1,
             numbers,
@@ -33,7 +33,7 @@ impl Flow {
     }
 
     /// Takes in a packet of the flow.
-    pub fn add(&mut self, next: &Sighting)
+    pub fn add(&mut self, next: &FlowPacket)
         ensures { flow_view self.new ≡ flow_with (flow_view self.old) next.now }
     {
         self.packets = self.packets.saturating_add(1);
@@ -50,7 +50,7 @@ impl Flow {
     }
 
     /// Its numbers.
-    pub fn numbers(&self) -> &Numbers
+    pub fn numbers(&self) -> &ReceivedNumbers
         ensures { result.now ≡ self.now.numbers }
     {
         &self.numbers

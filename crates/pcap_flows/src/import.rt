@@ -3,15 +3,15 @@ ghost use Rattle.std.specs.Prelude.{◌≡◌, ◌+◌, ◌++◌, ◌<◌, ◌�
 ghost use Rattle.pcap_file.specs.Capture.{item_view, packets_left, packets_of};
 ghost use Rattle.pcap_file.specs.Packet.{packet_view};
 ghost use Rattle.pcap_flows.specs.Clock.{clock_begun};
-ghost use Rattle.pcap_flows.specs.Lines.{close_line};
+ghost use Rattle.pcap_flows.specs.TraceLines.{close_line};
 ghost use Rattle.pcap_flows.specs.Trace.{event_count, events_from, item_events, packet_events, is_route_of, route_of, item_clock, item_text, octets_of, packet_clock, packet_text, text_from, trace_of};
 
 use crate::fault::ImportFault;
 use crate::import::clock::CaptureClock;
 use crate::import::trace_lines::{push_arrival, push_close, push_tick};
-use crate::packet::{FlowKey, sighting_in};
+use crate::packet::{FlowKey, flow_packet};
 use crate::route::Route;
-use pcap_file::{Body, Capture, CaptureFault, Packet, open};
+use pcap_file::{Capture, CaptureFault, Packet, UdpBody, open};
 use std::alloc::Global;
 
 pub(crate) mod clock;
@@ -107,7 +107,7 @@ impl Trace {
         self.clock.read(packet.time);
         let reading = self.clock.reading();
         push_tick(&mut self.text, earlier, reading)?;
-        push_arrival(&mut self.text, route, octets_in(packet))?;
+        push_arrival(&mut self.text, route, datagram_octets(packet))?;
         self.count(if earlier < reading { 2 } else { 1 })
     }
 
@@ -120,10 +120,10 @@ impl Trace {
     {
         self.events = self.events.saturating_add(events);
         if self.events >= MOST_EVENTS {
-            return Err(ImportFault::Events);
+            return Err(ImportFault::TooManyEvents);
         }
         if self.text.len() > MOST_OCTETS - 6 {
-            return Err(ImportFault::Text);
+            return Err(ImportFault::TooLong);
         }
         Ok(())
     }
@@ -136,7 +136,7 @@ impl Trace {
         let mut text = self.text;
         push_close(&mut text)?;
         if text.len() > MOST_OCTETS {
-            return Err(ImportFault::Text);
+            return Err(ImportFault::TooLong);
         }
         Ok(text)
     }
@@ -147,7 +147,7 @@ impl Trace {
 pub fn route_in(routes: &[Route], packet: &Packet<'_>) -> Option<Route>
     ensures { result ≡ route_of routes.now (packet_view packet.now) }
 {
-    let next = sighting_in(packet)?;
+    let next = flow_packet(packet)?;
     let place = place_of(routes, &next.key)?;
     routes.get(place).copied()
 }
@@ -160,11 +160,11 @@ fn place_of(routes: &[Route], key: &FlowKey) -> Option<usize>
 }
 
 /// The octets of a whole datagram.
-pub fn octets_in<'a>(packet: &Packet<'a>) -> &'a [u8]
+pub fn datagram_octets<'a>(packet: &Packet<'a>) -> &'a [u8]
     ensures { result.now ≡ octets_of (packet_view packet.now).ip.body }
 {
     match packet.ip.body {
-        Body::Datagram(datagram) => datagram.payload,
-        Body::Fragment | Body::Cut => &[],
+        UdpBody::Datagram(datagram) => datagram.payload,
+        UdpBody::Fragment | UdpBody::Truncated => &[],
     }
 }

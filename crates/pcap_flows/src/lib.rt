@@ -1,7 +1,7 @@
 //! The RTP flows of a capture: which there are, what was lost of each, and which are paths of one stream.
 //!
-//! `Table::of` reads a capture once and answers a `Table` of its flows, in the order of their first packets, with the counts
-//! of each; `fit_of` tells what fits a flow's packets. Flows of one source that share numbers are paths of one stream: `streams_of`
+//! `FlowTable::of` reads a capture once and answers a `FlowTable` of its flows, in the order of their first packets, with the counts
+//! of each; `channels_that_fit` tells what fits a flow's packets. Flows of one source that share numbers are paths of one stream: `group_streams`
 //! finds them, and `skews_of` reads the capture once more for the times between them.
 //!
 //! The capture's octets are the caller's. Memory is taken for the table, and for the times of 16 pairs of paths at most.
@@ -30,18 +30,18 @@ mod streams;
 mod table;
 
 pub use fault::ImportFault;
-pub use fit::{Fit, fit_of};
+pub use fit::{Fit, channels_that_fit};
 pub use flow::Flow;
 pub use import::clock::CaptureClock;
 pub use import::config::config_text;
-pub use import::{MOST_EVENTS, MOST_OCTETS, octets_in, route_in, trace_text};
+pub use import::{MOST_EVENTS, MOST_OCTETS, datagram_octets, route_in, trace_text};
 pub use lengths::Lengths;
-pub use packet::{FlowKey, Sighting, sighting_in};
-pub use packet_format::{Form, form_of};
-pub use received_numbers::Numbers;
+pub use packet::{FlowKey, FlowPacket, flow_packet};
+pub use packet_format::{PacketFormat, format_of};
+pub use received_numbers::ReceivedNumbers;
 pub use route::Route;
 pub use routes::{Routes, routes_of};
-pub use skew::{Pair, Skew, skew_of, skews_of};
+pub use skew::{FlowPair, Skew, skew_of, skews_of};
 pub use steps::Steps;
-pub use streams::{Stream, streams_of};
-pub use table::{MOST_FLOWS, Table};
+pub use streams::{StreamFlows, group_streams};
+pub use table::{FlowTable, MOST_FLOWS};

@@ -1,9 +1,9 @@
 //! An RTP packet as it was captured.
 ghost use Rattle.std.specs.Prelude.{◌≡◌};
 ghost use Rattle.pcap_file.specs.Packet.{packet_view};
-ghost use Rattle.pcap_flows.specs.Sighting.{same_flow, sighting_of};
+ghost use Rattle.pcap_flows.specs.FlowPacket.{same_flow, flow_packet_of};
 
-use pcap_file::{Body, Packet};
+use pcap_file::{Packet, UdpBody};
 use rtp_wire::read;
 
 /// What tells flows apart: where packets come from and go to, their source and their payload type. An address is its
@@ -36,7 +36,7 @@ impl FlowKey {
 
 /// An RTP packet of a flow.
 #[derive(Clone, Copy)]
-pub struct Sighting {
+pub struct FlowPacket {
     pub key: FlowKey,
     pub seq: u16,
     /// In sampling instants.
@@ -48,17 +48,17 @@ pub struct Sighting {
 }
 
 /// The RTP packet in a captured one, unless it is cut, a fragment or no RTP.
-#[tactic(auto, unfolding(crate::specs::Sighting::sighting_of))]
-pub fn sighting_in(packet: &Packet<'_>) -> Option<Sighting>
-    ensures { result ≡ sighting_of (packet_view packet.now) }
+#[tactic(auto, unfolding(crate::specs::FlowPacket::flow_packet_of))]
+pub fn flow_packet(packet: &Packet<'_>) -> Option<FlowPacket>
+    ensures { result ≡ flow_packet_of (packet_view packet.now) }
 {
-    let Body::Datagram(datagram) = packet.ip.body else {
+    let UdpBody::Datagram(datagram) = packet.ip.body else {
         return None;
     };
     let Ok(view) = read(datagram.payload) else {
         return None;
     };
-    Some(Sighting {
+    Some(FlowPacket {
         key: FlowKey {
             from: u32::from_be_bytes(packet.ip.source.octets()),
             from_port: datagram.source_port,

@@ -1,12 +1,12 @@
 //! The form of a flow's packets, as a stream's.
-use crate::fit::fit_of;
+use crate::fit::channels_that_fit;
 use crate::flow::Flow;
 use rtp_stream::{StreamClock, StreamSpec};
 use rtp_wire::Enc;
 
 /// Samples, channels and sampling instants of each packet, as a stream may have them.
 #[derive(Clone, Copy, PartialEq, Eq)]
-pub struct Form {
+pub struct PacketFormat {
     pub enc: Enc,
     pub channels: u8,
     pub frames: u16,
@@ -14,7 +14,7 @@ pub struct Form {
     pub pt: u8,
 }
 
-impl Form {
+impl PacketFormat {
     /// Whether a stream has this form, with so much latency, window and so many paths, and an offset of 0.
     pub(crate) fn is_stream(&self, latency: u32, window: u16, paths: u8) -> bool {
         let clock = StreamClock::Media { offset: 0 };
@@ -27,7 +27,7 @@ impl Form {
 }
 
 /// The form that a flow's packets fit: all of one length, and one step of their timestamps. Where L24 and L16 fit it is L24.
-pub fn form_of(pt: u8, flow: &Flow) -> Option<Form> {
+pub fn format_of(pt: u8, flow: &Flow) -> Option<PacketFormat> {
     let (lengths, steps) = (flow.lengths(), flow.steps());
     let step = steps.first?;
     if steps.varies || lengths.least != lengths.greatest {
@@ -41,9 +41,9 @@ pub fn form_of(pt: u8, flow: &Flow) -> Option<Form> {
 }
 
 /// The form of samples of so many octets.
-fn form_with(pt: u8, enc: Enc, octets: usize, len: usize, step: u32) -> Option<Form> {
-    let fit = fit_of(len, step, octets)?;
-    let form = Form {
+fn form_with(pt: u8, enc: Enc, octets: usize, len: usize, step: u32) -> Option<PacketFormat> {
+    let fit = channels_that_fit(len, step, octets)?;
+    let form = PacketFormat {
         enc,
         channels: u8::try_from(fit.channels).ok()?,
         frames: u16::try_from(fit.frames).ok()?,

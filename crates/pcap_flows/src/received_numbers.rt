@@ -6,30 +6,30 @@ use std::alloc::{AllocError, Global};
 
 /// Which numbers of a flow came, and how often one came again.
 #[derive(Drop)]
-pub struct Numbers {
+pub struct ReceivedNumbers {
     least: u64,
     greatest: u64,
     repeated: u64,
     /// For each 16 bits the number that came last with them, or 0.
-    seen: Vec<u64>,
-    ghost filled: { vec_len seen ≡ 65536 },
+    last_seen: Vec<u64>,
+    ghost filled: { vec_len last_seen ≡ 65536 },
 }
 
-impl Numbers {
-    ghost use Rattle.pcap_flows.specs.Numbers.{numbers_first, numbers_view, numbers_with, span_of};
+impl ReceivedNumbers {
+    ghost use Rattle.pcap_flows.specs.ReceivedNumbers.{numbers_first, numbers_view, numbers_with, span_of};
 
     /// That of one packet.
-    pub fn new(alloc: Global, seq: u16) -> Result<Numbers, AllocError>
+    pub fn new(alloc: Global, seq: u16) -> Result<ReceivedNumbers, AllocError>
         ensures { IfOk result (λ numbers. numbers_view numbers ≡ numbers_first seq) }
     {
-        let mut seen = no_numbers(alloc)?;
+        let mut last_seen = no_numbers(alloc)?;
         let first = first_number(seq);
-        seen[usize::from(seq)] = first;
-        Ok(Numbers {
+        last_seen[usize::from(seq)] = first;
+        Ok(ReceivedNumbers {
             least: first,
             greatest: first,
             repeated: 0,
-            seen,
+            last_seen,
         })
     }
 
@@ -38,10 +38,10 @@ impl Numbers {
         ensures { numbers_view self.new ≡ numbers_with (numbers_view self.old) seq }
     {
         let number = number_near(self.greatest, seq);
-        if self.seen[usize::from(seq)] == number {
+        if self.last_seen[usize::from(seq)] == number {
             self.repeated = self.repeated.saturating_add(1);
         }
-        self.seen[usize::from(seq)] = number;
+        self.last_seen[usize::from(seq)] = number;
         self.least = self.least.min(number);
         self.greatest = self.greatest.max(number);
     }
@@ -61,8 +61,8 @@ impl Numbers {
     }
 
     /// Whether both flows have a packet of the same 16 bits.
-    pub fn meets(&self, other: &Numbers) -> bool {
-        for (a, b) in self.seen.iter().zip(other.seen.iter()) {
+    pub fn overlaps(&self, other: &ReceivedNumbers) -> bool {
+        for (a, b) in self.last_seen.iter().zip(other.last_seen.iter()) {
             if *a != 0 && *b != 0 {
                 return true;
             }

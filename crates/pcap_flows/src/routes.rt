@@ -1,10 +1,10 @@
 //! The routes of a capture's flows.
 use crate::fault::ImportFault;
 use crate::packet::FlowKey;
-use crate::packet_format::{Form, form_of};
+use crate::packet_format::{PacketFormat, format_of};
 use crate::route::Route;
-use crate::streams::{Stream, streams_of};
-use crate::table::Table;
+use crate::streams::{StreamFlows, group_streams};
+use crate::table::FlowTable;
 use std::alloc::Global;
 use std::net::SocketAddrV4;
 
@@ -35,10 +35,10 @@ impl Routes {
 }
 
 /// Routes of the flows to these addresses, or of all that fit a stream where none is named. The streams are those that
-/// `streams_of` finds.
+/// `group_streams` finds.
 pub fn routes_of(
     alloc: Global,
-    table: &Table,
+    table: &FlowTable,
     names: &[SocketAddrV4],
 ) -> Result<Routes, ImportFault> {
     check_names(table, names)?;
@@ -47,7 +47,7 @@ pub fn routes_of(
         streams: 0,
         left_out: 0,
     };
-    let streams = streams_of(alloc, table)?;
+    let streams = group_streams(alloc, table)?;
     for stream in streams.iter() {
         routes.add(table, names, stream)?;
     }
@@ -59,10 +59,10 @@ pub fn routes_of(
 }
 
 /// Tests whether each name is that of a flow.
-fn check_names(table: &Table, names: &[SocketAddrV4]) -> Result<(), ImportFault> {
+fn check_names(table: &FlowTable, names: &[SocketAddrV4]) -> Result<(), ImportFault> {
     for name in names.iter() {
         if !table.keys().iter().any(|key| is_named(key, name)) {
-            return Err(ImportFault::Unknown);
+            return Err(ImportFault::UnknownAddress);
         }
     }
     Ok(())
@@ -77,9 +77,9 @@ impl Routes {
     /// Adds those of a stream's paths that are wanted.
     fn add(
         &mut self,
-        table: &Table,
+        table: &FlowTable,
         names: &[SocketAddrV4],
-        stream: &Stream,
+        stream: &StreamFlows,
     ) -> Result<(), ImportFault> {
         if names.is_empty() && form_in(table, stream).is_none() {
             return Ok(());
@@ -117,10 +117,10 @@ impl Routes {
 }
 
 /// The form of the first of a stream's flows that has one.
-fn form_in(table: &Table, stream: &Stream) -> Option<Form> {
+fn form_in(table: &FlowTable, stream: &StreamFlows) -> Option<PacketFormat> {
     for place in stream.places().iter() {
         if let Some((key, flow)) = table.flow(*place)
-            && let Some(form) = form_of(key.pt, flow)
+            && let Some(form) = format_of(key.pt, flow)
         {
             return Some(form);
         }

@@ -1,6 +1,6 @@
 //! Extended sequence numbers (RFC 3550, A.1).
 ghost use Rattle.std.specs.Prelude.{◌≡◌, IfOk, vec_len};
-ghost use Rattle.pcap_flows.specs.Numbers as spec;
+ghost use Rattle.pcap_flows.specs.ReceivedNumbers as spec;
 
 use std::alloc::{AllocError, Global};
 
@@ -15,7 +15,7 @@ pub(crate) fn first_number(seq: u16) -> u64
 }
 
 /// The extended number nearest to the greatest so far, of which the low 16 bits are `seq`.
-#[tactic(auto, unfolding(crate::specs::Numbers::number_near))]
+#[tactic(auto, unfolding(crate::specs::ReceivedNumbers::number_near))]
 pub(crate) fn number_near(greatest: u64, seq: u16) -> u64
     ensures { result ≡ spec.number_near greatest seq }
 {
@@ -28,11 +28,11 @@ pub(crate) fn number_near(greatest: u64, seq: u16) -> u64
 }
 
 /// No number came.
-#[tactic(auto, unfolding(crate::specs::Numbers::no_numbers))]
+#[tactic(auto, unfolding(crate::specs::ReceivedNumbers::no_numbers))]
 pub(crate) fn no_numbers(alloc: Global) -> Result<Vec<u64>, AllocError>
-    ensures items { IfOk result (λ seen. seen.items ≡ spec.no_numbers) }
-    ensures len { IfOk result (λ seen. vec_len seen ≡ 65536) }
+    ensures items { IfOk result (λ last_seen. last_seen.items ≡ spec.no_numbers) }
+    ensures len { IfOk result (λ last_seen. vec_len last_seen ≡ 65536) }
 {
-    let seen = Vec::from_elem(alloc, 0u64, CYCLE)?;
-    Ok(seen)
+    let last_seen = Vec::from_elem(alloc, 0u64, CYCLE)?;
+    Ok(last_seen)
 }

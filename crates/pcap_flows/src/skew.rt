@@ -1,5 +1,5 @@
 //! The times between the arrivals of the same number on two paths.
-use crate::packet::{FlowKey, Sighting, sighting_in};
+use crate::packet::{FlowKey, FlowPacket, flow_packet};
 use crate::sequence::{CYCLE, first_number, number_near};
 use pcap_file::{Capture, open};
 use std::alloc::{AllocError, Global};
@@ -23,7 +23,7 @@ struct Times {
 
 /// Two flows.
 #[derive(Clone, Copy)]
-pub struct Pair {
+pub struct FlowPair {
     pub first: FlowKey,
     pub second: FlowKey,
 }
@@ -33,23 +33,23 @@ const MOST_PAIRS: usize = 16;
 
 /// What is kept of a pair while the capture is read.
 #[derive(Drop)]
-struct Notes {
-    pair: Pair,
+struct PairTimes {
+    pair: FlowPair,
     times: Vec<Times>,
     greatest: Option<u64>,
     skews: Vec<i64>,
 }
 
-impl Notes {
+impl PairTimes {
     /// Before the first packet.
-    fn new(alloc: Global, pair: Pair) -> Result<Notes, AllocError> {
+    fn new(alloc: Global, pair: FlowPair) -> Result<PairTimes, AllocError> {
         let none = Times {
             number: 0,
             first: None,
             second: None,
         };
         let times = Vec::from_elem(alloc, none, CYCLE)?;
-        Ok(Notes {
+        Ok(PairTimes {
             pair,
             times,
             greatest: None,
@@ -58,7 +58,7 @@ impl Notes {
     }
 
     /// Notes a packet, if it is of one of the flows.
-    fn note(&mut self, next: &Sighting) -> Result<(), AllocError> {
+    fn note(&mut self, next: &FlowPacket) -> Result<(), AllocError> {
         let on_first = next.key.is_same(&self.pair.first);
         if !on_first && !next.key.is_same(&self.pair.second) {
             return Ok(());
@@ -70,7 +70,7 @@ impl Notes {
         self.greatest = Some(self.greatest.unwrap_or(number).max(number));
         if let Some(place) = self.times.get_mut(usize::from(next.seq))
             && let Some(time) = next.time
-            && let Some(skew) = noted(place, number, on_first, time)
+            && let Some(skew) = set_time(place, number, on_first, time)
         {
             self.skews.push(skew)?;
         }
@@ -91,16 +91,16 @@ pub fn skew_of(
     first: &FlowKey,
     second: &FlowKey,
 ) -> Result<Option<Skew>, AllocError> {
-    let pair = Pair {
+    let pair = FlowPair {
         first: *first,
         second: *second,
     };
-    let mut notes = Notes::new(alloc, pair)?;
+    let mut notes = PairTimes::new(alloc, pair)?;
     for item in capture {
         let Ok(packet) = item else {
             break;
         };
-        if let Some(next) = sighting_in(&packet) {
+        if let Some(next) = flow_packet(&packet) {
             notes.note(&next)?;
         }
     }
@@ -111,12 +111,12 @@ pub fn skew_of(
 pub fn skews_of(
     alloc: Global,
     octets: &[u8],
-    pairs: &[Pair],
+    pairs: &[FlowPair],
 ) -> Result<Vec<Option<Skew>>, AllocError> {
     let mut skews = Vec::new(alloc);
     let mut notes = Vec::new(alloc);
     for pair in pairs.iter() {
-        notes.push(Notes::new(alloc, *pair)?)?;
+        notes.push(PairTimes::new(alloc, *pair)?)?;
         if notes.len() == MOST_PAIRS {
             note_all(&mut notes, octets)?;
             take_skews(&mut notes, &mut skews)?;
@@ -128,7 +128,7 @@ pub fn skews_of(
 }
 
 /// Notes all packets of a capture.
-fn note_all(notes: &mut Vec<Notes>, octets: &[u8]) -> Result<(), AllocError> {
+fn note_all(notes: &mut Vec<PairTimes>, octets: &[u8]) -> Result<(), AllocError> {
     if notes.is_empty() {
         return Ok(());
     }
@@ -139,7 +139,7 @@ fn note_all(notes: &mut Vec<Notes>, octets: &[u8]) -> Result<(), AllocError> {
         let Ok(packet) = item else {
             break;
         };
-        if let Some(next) = sighting_in(&packet) {
+        if let Some(next) = flow_packet(&packet) {
             for pair in notes.iter_mut() {
                 pair.note(&next)?;
             }
@@ -149,7 +149,7 @@ fn note_all(notes: &mut Vec<Notes>, octets: &[u8]) -> Result<(), AllocError> {
 }
 
 /// Adds the skews of what was noted, and lets it go.
-fn take_skews(notes: &mut Vec<Notes>, skews: &mut Vec<Option<Skew>>) -> Result<(), AllocError> {
+fn take_skews(notes: &mut Vec<PairTimes>, skews: &mut Vec<Option<Skew>>) -> Result<(), AllocError> {
     for pair in notes.iter_mut() {
         skews.push(pair.skew())?;
     }
@@ -158,7 +158,7 @@ fn take_skews(notes: &mut Vec<Notes>, skews: &mut Vec<Option<Skew>>) -> Result<(
 }
 
 /// Notes a time, and answers the skew of its number where this is the second of its first two.
-fn noted(times: &mut Times, number: u64, on_first: bool, time: u64) -> Option<i64> {
+fn set_time(times: &mut Times, number: u64, on_first: bool, time: u64) -> Option<i64> {
     if times.number != number {
         *times = Times {
             number,

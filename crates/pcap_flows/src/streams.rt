@@ -1,7 +1,7 @@
 //! Flows that are paths of one stream (SMPTE ST 2022-7).
 use crate::flow::Flow;
 use crate::packet::FlowKey;
-use crate::table::Table;
+use crate::table::FlowTable;
 use std::alloc::{AllocError, Global};
 
 /// The most paths of a stream.
@@ -9,12 +9,12 @@ const MOST_PATHS: usize = 4;
 
 /// The paths of a stream: places of its flows in the table, in their order; a flow alone is a stream of one path.
 #[derive(Clone, Copy)]
-pub struct Stream {
+pub struct StreamFlows {
     places: [usize; 4],
     len: usize,
 }
 
-impl Stream {
+impl StreamFlows {
     /// The places of its flows.
     pub fn places(&self) -> &[usize] {
         self.places.get(..self.len).unwrap_or(&[])
@@ -30,13 +30,13 @@ impl Stream {
 }
 
 /// Whether two flows carry the same packets: one source and payload type, other addresses, and a number in common.
-fn are_paths(a: (FlowKey, &Flow), b: (FlowKey, &Flow)) -> bool {
+fn carry_same_packets(a: (FlowKey, &Flow), b: (FlowKey, &Flow)) -> bool {
     let ((one, counts), (other, others)) = (a, b);
-    one.ssrc == other.ssrc && one.pt == other.pt && counts.numbers().meets(others.numbers())
+    one.ssrc == other.ssrc && one.pt == other.pt && counts.numbers().overlaps(others.numbers())
 }
 
 /// The streams of flows, in the order of their first paths. A fifth path begins a stream of its own.
-pub fn streams_of(alloc: Global, table: &Table) -> Result<Vec<Stream>, AllocError> {
+pub fn group_streams(alloc: Global, table: &FlowTable) -> Result<Vec<StreamFlows>, AllocError> {
     let mut taken = Vec::from_elem(alloc, false, table.flows().len())?;
     let mut streams = Vec::new(alloc);
     for place in 0..table.flows().len() {
@@ -50,8 +50,13 @@ pub fn streams_of(alloc: Global, table: &Table) -> Result<Vec<Stream>, AllocErro
 }
 
 /// The stream of which a flow is the first path; its flows are taken.
-fn stream_from(table: &Table, taken: &mut [bool], first: usize, flow: (FlowKey, &Flow)) -> Stream {
-    let mut stream = Stream {
+fn stream_from(
+    table: &FlowTable,
+    taken: &mut [bool],
+    first: usize,
+    flow: (FlowKey, &Flow),
+) -> StreamFlows {
+    let mut stream = StreamFlows {
         places: [first; 4],
         len: 1,
     };
@@ -60,7 +65,7 @@ fn stream_from(table: &Table, taken: &mut [bool], first: usize, flow: (FlowKey, 
             && let Some(is_taken) = taken.get_mut(place)
             && !*is_taken
             && stream.len < MOST_PATHS
-            && are_paths(flow, other)
+            && carry_same_packets(flow, other)
         {
             stream.add(place);
             *is_taken = true;

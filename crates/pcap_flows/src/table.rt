@@ -1,10 +1,10 @@
 //! All flows of a capture.
 ghost use Rattle.std.specs.Prelude.{◌≡◌, ◌≤◌, IfOk, OnOk, length, vec_len, position};
 ghost use Rattle.pcap_file.specs.Capture.{item_view, packets_left, packets_of};
-ghost use Rattle.pcap_flows.specs.Sighting.{same_flow};
+ghost use Rattle.pcap_flows.specs.FlowPacket.{same_flow};
 
 use crate::flow::Flow;
-use crate::packet::{FlowKey, Sighting, sighting_in};
+use crate::packet::{FlowKey, FlowPacket, flow_packet};
 use pcap_file::{Capture, CaptureFault, Packet, open};
 use std::alloc::{AllocError, Global};
 
@@ -13,27 +13,27 @@ pub const MOST_FLOWS: usize = 256;
 
 /// The flows of a capture, in the order of their first packets.
 #[derive(Drop)]
-pub struct Table {
+pub struct FlowTable {
     keys: Vec<FlowKey>,
     flows: Vec<Flow>,
     /// Packets of flows beyond the table's.
-    beyond: u64,
+    untracked: u64,
     /// UDP packets that are cut, fragments or no RTP.
-    others: u64,
+    not_rtp: u64,
     /// What is wrong with the capture behind what was found.
     fault: Option<CaptureFault>,
     ghost same: { vec_len flows ≡ vec_len keys },
 }
 
-impl Table {
-    ghost use Rattle.pcap_flows.specs.Table.{no_table, table_after, table_begun, table_seeing, table_view, table_with};
+impl FlowTable {
+    ghost use Rattle.pcap_flows.specs.FlowTable.{no_table, table_after, table_begun, table_seeing, table_view, table_with};
 
     /// The flows of the capture that octets are, up to its end or its fault.
-    #[tactic(auto, using(crate::proofs::TableLemmas::table_after_fault))]
-    pub fn of(alloc: Global, octets: &[u8]) -> Result<Table, AllocError>
+    #[tactic(auto, using(crate::proofs::FlowTableLemmas::table_after_fault))]
+    pub fn of(alloc: Global, octets: &[u8]) -> Result<FlowTable, AllocError>
         ensures { IfOk result (λ table. table_view table ≡ table_after no_table (packets_of octets.now)) }
     {
-        let mut table = Table::new(alloc);
+        let mut table = FlowTable::new(alloc);
         match open(octets) {
             Ok(capture) => {
                 table.read(alloc, capture)?;
@@ -47,21 +47,21 @@ impl Table {
     }
 
     /// Nothing was seen.
-    pub fn new(alloc: Global) -> Table
+    pub fn new(alloc: Global) -> FlowTable
         ensures { table_view result ≡ no_table }
     {
-        Table {
+        FlowTable {
             keys: Vec::new(alloc),
             flows: Vec::new(alloc),
-            beyond: 0,
-            others: 0,
+            untracked: 0,
+            not_rtp: 0,
             fault: None,
         }
     }
 
     /// Takes in a packet of a flow.
-    #[tactic(auto, unfolding(crate::specs::Table::table_seeing))]
-    pub fn add(&mut self, alloc: Global, next: &Sighting) -> Result<(), AllocError>
+    #[tactic(auto, unfolding(crate::specs::FlowTable::table_seeing))]
+    pub fn add(&mut self, alloc: Global, next: &FlowPacket) -> Result<(), AllocError>
         ensures { OnOk result (table_view self.new ≡ table_seeing (table_view self.old) next.now) }
     {
         match place_of(&self.keys, &next.key) {
@@ -69,16 +69,16 @@ impl Table {
                 self.flows[place].add(next);
                 Ok(())
             }
-            None if self.keys.len() < MOST_FLOWS => self.begin(alloc, next),
+            None if self.keys.len() < MOST_FLOWS => self.add_flow(alloc, next),
             None => {
-                self.beyond = self.beyond.saturating_add(1);
+                self.untracked = self.untracked.saturating_add(1);
                 Ok(())
             }
         }
     }
 
     /// Begins a flow with its first packet.
-    fn begin(&mut self, alloc: Global, first: &Sighting) -> Result<(), AllocError>
+    fn add_flow(&mut self, alloc: Global, first: &FlowPacket) -> Result<(), AllocError>
         ensures { OnOk result (table_view self.new ≡ table_begun (table_view self.old) first.now) }
     {
         self.keys.reserve(1)?;
@@ -90,7 +90,7 @@ impl Table {
     }
 
     /// Takes in what is told of a capture: a packet, or the fault that comes last.
-    #[tactic(auto, unfolding(crate::specs::Table::table_with))]
+    #[tactic(auto, unfolding(crate::specs::FlowTable::table_with))]
     pub fn take(
         &mut self,
         alloc: Global,
@@ -99,9 +99,9 @@ impl Table {
         ensures { OnOk result (table_view self.new ≡ table_with (table_view self.old) (item_view item.entry)) }
     {
         match item {
-            Ok(packet) => match sighting_in(&packet) {
+            Ok(packet) => match flow_packet(&packet) {
                 Some(next) => self.add(alloc, &next)?,
-                None => self.others = self.others.saturating_add(1),
+                None => self.not_rtp = self.not_rtp.saturating_add(1),
             },
             Err(fault) => self.fault = Some(fault),
         }
@@ -109,7 +109,7 @@ impl Table {
     }
 
     /// Takes in what is left of a capture.
-    #[tactic(auto, using(crate::proofs::TableLemmas::table_after_none, crate::proofs::TableLemmas::table_after_next))]
+    #[tactic(auto, using(crate::proofs::FlowTableLemmas::table_after_none, crate::proofs::FlowTableLemmas::table_after_next))]
     fn read(&mut self, alloc: Global, mut capture: Capture<'_>) -> Result<(), AllocError>
         ensures { OnOk result (table_view self.new ≡ table_after (table_view self.old) (packets_left capture.entry)) }
     {
@@ -139,17 +139,17 @@ impl Table {
     }
 
     /// How many packets are of flows beyond the table's.
-    pub fn beyond(&self) -> u64
-        ensures { result ≡ self.now.beyond }
+    pub fn untracked(&self) -> u64
+        ensures { result ≡ self.now.untracked }
     {
-        self.beyond
+        self.untracked
     }
 
     /// How many UDP packets are cut, fragments or no RTP.
-    pub fn others(&self) -> u64
-        ensures { result ≡ self.now.others }
+    pub fn not_rtp(&self) -> u64
+        ensures { result ≡ self.now.not_rtp }
     {
-        self.others
+        self.not_rtp
     }
 
     /// What is wrong with the capture behind what was found.

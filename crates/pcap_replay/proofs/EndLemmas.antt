@@ -23,11 +23,11 @@ use Rattle.studio_run.specs.StudioReport.{IsReport}
 use Rattle.studio_run.proofs.BufferLemmas.{BreaksOff-finished, BreaksOff-later, PassesOn-finished, PassesOn-trans}
 use Rattle.studio_run.proofs.StudioReportLemmas.{report_alone}
 use Rattle.pcap_replay.specs.declared.fault.ReplayFault.{ReplayFault}
-use Rattle.pcap_replay.specs.declared.fault.ReplayFault.TheVariants.{Memory, Capture, Run as RunOf, Full, Write}
-use Rattle.pcap_replay.specs.declared.state.Run.{Run}
+use Rattle.pcap_replay.specs.declared.fault.ReplayFault.TheVariants.{Memory, Capture, Run as RunOf, TooManyEvents, Write}
+use Rattle.pcap_replay.specs.declared.state.ReplayState.{ReplayState}
 use Rattle.pcap_replay.specs.Lines.{Hearing}
 use Rattle.pcap_replay.specs.Events.{events_told, file_events}
-use Rattle.pcap_replay.specs.Plan.{PlanView}
+use Rattle.pcap_replay.specs.Routing.{PlanView}
 use Rattle.pcap_replay.specs.Replay.{BreaksOffReplay, BreaksReport, EndsBehind, HasHeardAll, HasReplayed, IsReason, StopsAt, StopsFile, WritesFront}
 use Rattle.pcap_replay.proofs.CaseLemmas.{some_maps}
 use Rattle.pcap_replay.proofs.EventLemmas.{first_longer, first_more}
@@ -35,12 +35,12 @@ use Rattle.pcap_replay.proofs.ReplayLemmas.{broke_part, broke_whole, heard_first
 
 -- a file was not opened
 open_reason : (file : List ℕ) (fault : ReaderFault) → IsOpenFault file fault → IsReason file [] (Capture fault)
-open_reason file reader.Unread is = tt
+open_reason file reader.ReadFailed is = tt
 open_reason file (reader.Capture fault) is = is
-open_reason file (reader.Long place) is = tt
+open_reason file (reader.TooLong place) is = tt
 open_reason file reader.Memory is = tt
 
-pub unopened : (studio : Studio) (plan : PlanView) (first a : Option (List ℕ)) (H : Hearing) (run : Run) (fault : ReaderFault) → HasReplayed studio [] a run a H → IfSome first (λ file. IsOpenFault file fault)
+pub unopened : (studio : Studio) (plan : PlanView) (first a : Option (List ℕ)) (H : Hearing) (run : ReplayState) (fault : ReaderFault) → HasReplayed studio [] a run a H → IfSome first (λ file. IsOpenFault file fault)
     → BreaksOffReplay studio plan first a a H (Capture fault)
 unopened studio plan first a H run fault r is = record {
   entries = [];
@@ -51,7 +51,7 @@ unopened studio plan first a H run fault r is = record {
 }
 
 -- a fault came on the way, and what was held is written
-ends_front : (studio : Studio) (plan : PlanView) (first a b c : Option (List ℕ)) (H : Hearing) (run : Run) (fault : ReplayFault) (s : StopsFile studio plan first a run b H fault)
+ends_front : (studio : Studio) (plan : PlanView) (first a b c : Option (List ℕ)) (H : Hearing) (run : ReplayState) (fault : ReplayFault) (s : StopsFile studio plan first a run b H fault)
     → BreaksReport studio s.stops.events a c H → WritesFront studio plan first a c H fault
 ends_front studio plan first a b c H run fault s front = record {
   entries = s.entries;
@@ -61,20 +61,20 @@ ends_front studio plan first a b c H run fault s front = record {
   front = front;
 }
 
-ends_whole : (studio : Studio) (plan : PlanView) (first a b c : Option (List ℕ)) (H : Hearing) (run : Run) (fault : ReplayFault) → (fault ≡ Write → ⊥) → StopsFile studio plan first a run b H fault
+ends_whole : (studio : Studio) (plan : PlanView) (first a b c : Option (List ℕ)) (H : Hearing) (run : ReplayState) (fault : ReplayFault) → (fault ≡ Write → ⊥) → StopsFile studio plan first a run b H fault
     → Appends b c run.text → BreaksOffReplay studio plan first a c H fault
 ends_whole studio plan first a b c H run Memory other s rest = absurd s.stops.at
 ends_whole studio plan first a b c H run (Capture fault) other s rest = ends_front studio plan first a b c H run (Capture fault) s (inl (broke_whole studio s.stops.events a b c H run s.stops.at rest))
 ends_whole studio plan first a b c H run (RunOf fault) other s rest = ends_front studio plan first a b c H run (RunOf fault) s (inl (broke_whole studio s.stops.events a b c H run s.stops.at rest))
-ends_whole studio plan first a b c H run Full other s rest = ends_front studio plan first a b c H run Full s (inl (broke_whole studio s.stops.events a b c H run s.stops.at rest))
+ends_whole studio plan first a b c H run TooManyEvents other s rest = ends_front studio plan first a b c H run TooManyEvents s (inl (broke_whole studio s.stops.events a b c H run s.stops.at rest))
 ends_whole studio plan first a b c H run Write other s rest = absurd (other refl)
 
 -- or a write of it failed
-held_at : (studio : Studio) (events : List TraceEvent) (a b : Option (List ℕ)) (H : Hearing) (run : Run) (fault : ReplayFault) → (fault ≡ Write → ⊥) → StopsAt studio events a run b H fault → HasReplayed studio events a run b H
+held_at : (studio : Studio) (events : List TraceEvent) (a b : Option (List ℕ)) (H : Hearing) (run : ReplayState) (fault : ReplayFault) → (fault ≡ Write → ⊥) → StopsAt studio events a run b H fault → HasReplayed studio events a run b H
 held_at studio events a b H run Memory other at = absurd at
 held_at studio events a b H run (Capture fault) other at = at
 held_at studio events a b H run (RunOf fault) other at = at
-held_at studio events a b H run Full other at = at
+held_at studio events a b H run TooManyEvents other at = at
 held_at studio events a b H run Write other at = absurd (other refl)
 
 as_write : (studio : Studio) (plan : PlanView) (first a c : Option (List ℕ)) (H : Hearing) (fault : ReplayFault) → WritesFront studio plan first a c H fault → BreaksOffReplay studio plan first a c H Write
@@ -86,13 +86,13 @@ as_write studio plan first a c H fault w = record {
   front = w.front;
 }
 
-ends_part : (studio : Studio) (plan : PlanView) (first a b c : Option (List ℕ)) (H : Hearing) (run : Run) (fault : ReplayFault) → (fault ≡ Write → ⊥) → StopsFile studio plan first a run b H fault
+ends_part : (studio : Studio) (plan : PlanView) (first a b c : Option (List ℕ)) (H : Hearing) (run : ReplayState) (fault : ReplayFault) → (fault ≡ Write → ⊥) → StopsFile studio plan first a run b H fault
     → (n : ℕ) × (n < length run.text) × Appends b c (take n run.text) → BreaksOffReplay studio plan first a c H Write
 ends_part studio plan first a b c H run fault other s part =
     as_write studio plan first a c H fault (ends_front studio plan first a b c H run fault s
     (inl (broke_part studio s.stops.events a b c H run (held_at studio s.stops.events a b H run fault other s.stops.at) part)))
 
-ends_write : (studio : Studio) (plan : PlanView) (first a c : Option (List ℕ)) (H : Hearing) (run : Run) (fault : ReplayFault) → fault ≡ Write → StopsFile studio plan first a run c H fault
+ends_write : (studio : Studio) (plan : PlanView) (first a c : Option (List ℕ)) (H : Hearing) (run : ReplayState) (fault : ReplayFault) → fault ≡ Write → StopsFile studio plan first a run c H fault
     → BreaksOffReplay studio plan first a c H Write
 ends_write studio plan first a c H run fault is s =
     as_write studio plan first a c H fault (ends_front studio plan first a c c H run fault s (inl (subst (StopsAt studio s.stops.events a run c H) is s.stops.at)))
@@ -101,7 +101,7 @@ ends_write studio plan first a c H run fault is s =
 pub heard_all : (studio : Studio) (events : List TraceEvent) (datagrams : List (List ℕ)) (H : Hearing) → AreDatagrams studio events datagrams → H events datagrams → HasHeardAll studio events H
 heard_all studio events datagrams H ready told = record { datagrams = datagrams; given = ready; told = told }
 
-pub ends_behind : (studio : Studio) (plan : PlanView) (first a b c : Option (List ℕ)) (H : Hearing) (run : Run) (fault result : ReplayFault) → EndsBehind run.text b c fault result
+pub ends_behind : (studio : Studio) (plan : PlanView) (first a b c : Option (List ℕ)) (H : Hearing) (run : ReplayState) (fault result : ReplayFault) → EndsBehind run.text b c fault result
     → StopsFile studio plan first a run b H fault → BreaksOffReplay studio plan first a c H result
 ends_behind studio plan first a b c H run fault result (inl write) s =
     subst (BreaksOffReplay studio plan first a c H) (sym write.1) (ends_write studio plan first a c H run fault write.0 (subst (λ o. StopsFile studio plan first a run o H fault) (sym write.2) s))
@@ -151,7 +151,7 @@ shut_open true events e = absurd (false≢true (sym e))
 shut_open false events e = refl
 
 -- a run that is closed has its events, and the close
-pub closed_session : (studio : Studio) (run : Run) (engine : EngineState) (events : List TraceEvent) (a b : Option (List ℕ)) (H : Hearing) (r : HasReplayed studio events a run b H)
+pub closed_session : (studio : Studio) (run : ReplayState) (engine : EngineState) (events : List TraceEvent) (a b : Option (List ℕ)) (H : Hearing) (r : HasReplayed studio events a run b H)
     → HasSession studio engine (shut run.engine.closed events) r.datagrams → HasSession studio engine (events ++ Closing ∷ []) r.datagrams
 closed_session studio run engine events a b H r s =
     subst (λ l. HasSession studio engine l r.datagrams) (shut_open run.engine.closed events (r.session.closed ∙ r.open_yet)) s

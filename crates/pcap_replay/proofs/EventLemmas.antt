@@ -11,8 +11,8 @@ use Rattle.studio_engine.specs.Session.{turned}
 use Rattle.studio_session.proofs.FaultLemmas.{closed_more}
 use Rattle.studio_engine.proofs.EngineLemmas.{turned_same}
 use Rattle.pcap_replay.specs.Events.{AreFirst, clock_after, events_after, events_with, read_at}
-use Rattle.pcap_replay.specs.Plan.{PlanView, clock_past, opening_of, target_of}
-use Rattle.pcap_replay.specs.declared.routing.Target.{Target}
+use Rattle.pcap_replay.specs.Routing.{PlanView, clock_past, opening_of, target_of}
+use Rattle.pcap_replay.specs.declared.routing.StreamPath.{StreamPath}
 
 pub events_more : (open_at : ℤ) (plan : PlanView) (clock : CaptureClock) (events : List TraceEvent) (packets : List PacketView) (packet : PacketView)
     → events_after open_at plan clock events (packets ++ packet ∷ [])
@@ -59,7 +59,7 @@ pub first_read : (open_at : ℤ) (from : ℕ) (events : List TraceEvent) (earlie
 first_read open_at from events earlier reading =
     first_if (nat_lt earlier reading) events (turned (time_at open_at events) (pos (from + reading)) events) (first_turned (time_at open_at events) (pos (from + reading)) events)
 
-pub first_with : (open_at : ℤ) (from : ℕ) (clock : CaptureClock) (events : List TraceEvent) (packet : PacketView) (o : Option Target) → AreFirst events (events_with open_at from clock events packet o)
+pub first_with : (open_at : ℤ) (from : ℕ) (clock : CaptureClock) (events : List TraceEvent) (packet : PacketView) (o : Option StreamPath) → AreFirst events (events_with open_at from clock events packet o)
 first_with open_at from clock events packet None = first_same events
 first_with open_at from clock events packet (Some target) =
     first_longer events (read_at open_at from events clock.reading (clock_with clock packet.time).reading) _ (first_read open_at from events clock.reading (clock_with clock packet.time).reading)

@@ -6,7 +6,7 @@ use Rattle.pcap_file.specs.declared.decode.record_mark.RecordMark.{RecordMark}
 use Rattle.pcap_file.specs.Entries.{Entry, entries_in}
 use Rattle.pcap_file.specs.Packet.{PacketView}
 use Rattle.pcap_file.specs.Capture.{Item, packets_of}
-use Rattle.pcap_flows.specs.Table.{TableView, no_table, table_after, table_with}
+use Rattle.pcap_flows.specs.FlowTable.{TableView, no_table, table_after, table_with}
 use Rattle.pcap_file.specs.Reader.{HasEntries, IsFaultBehind, packets_among}
 use Rattle.pcap_file.proofs.ReaderEntryLemmas.{among_more}
 

@@ -4,8 +4,8 @@ mod EventLemmas
 mod FlowLemmas
 mod LineLemmas
 mod ReplayLemmas
-mod PlanLemmas
+mod RoutingLemmas
 mod RecordLemmas
-mod RecordedLemmas
-mod SoundLemmas
-mod ImportedLemmas
+mod RecordPacketsLemmas
+mod WavObserverLemmas
+mod ImportLinesLemmas

@@ -2,7 +2,7 @@
 use Rattle.std.proofs.Common.{◌≡◌, ℕ, Bool, List, [], ◌∷◌, ◌++◌, Option, Some, None, refl, ap, ◌∙◌}
 use Rattle.pcap_file.specs.declared.decode.record_mark.RecordMark.{RecordMark}
 use Rattle.pcap_file.specs.declared.decode.record_mark.RecordMark.TheVariants.{Opened, Closed}
-use Rattle.pcap_file.specs.declared.parts.Parts.{Parts}
+use Rattle.pcap_file.specs.declared.parts.BlockParser.{BlockParser}
 use Rattle.pcap_file.specs.Packet.{PacketView}
 use Rattle.pcap_file.specs.Entries.{Entry, Packet, Mark, entries_at, entries_in, entries_of}
 use Rattle.pcap_file.specs.Reader.{HasTold}
@@ -31,6 +31,6 @@ decided (Packet p ∷ entries) later given is = let e : None ≡ given = cc in e
 decided (Mark mark ∷ entries) later given is = let e : opening_in (Mark mark ∷ entries) ≡ given = cc in e
 
 -- a file that told them first is a record by them, or is none
-pub opening_told : (file : List ℕ) (entries : List Entry) (given : Option ℕ) (left : Option (List ℕ)) (parts : Parts) (held : List ℕ) (ended : Bool) → opening_decided entries ≡ Some given
+pub opening_told : (file : List ℕ) (entries : List Entry) (given : Option ℕ) (left : Option (List ℕ)) (parts : BlockParser) (held : List ℕ) (ended : Bool) → opening_decided entries ≡ Some given
     → HasTold file entries left parts held ended → opening_in (entries_of file) ≡ given
 opening_told file entries given left parts held ended is told = ap opening_in told.all ∙ decided entries (entries_at parts (held ++ told.rest)) given is

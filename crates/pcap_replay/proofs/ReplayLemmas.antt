@@ -4,11 +4,11 @@ use Rattle.std.specs.Prelude.{⊤}
 use Rattle.std.specs.Io.KnownBytes.{Appends}
 use Rattle.std.proofs.Math.Seq.{take-length}
 use Rattle.std.proofs.lemmas.List.{length-map}
-use Rattle.pcap_file.specs.declared.parts.Parts.{Parts}
-use Rattle.pcap_file.specs.declared.block_parser.Part.{Part}
+use Rattle.pcap_file.specs.declared.parts.BlockParser.{BlockParser}
+use Rattle.pcap_file.specs.declared.block_parser.CaptureBlock.{CaptureBlock}
 use Rattle.pcap_file.specs.Entries.{Entry, entries_at}
 use Rattle.pcap_file.specs.Packet.{PacketView, packet_view}
-use Rattle.pcap_file.specs.Parts.{items_at}
+use Rattle.pcap_file.specs.BlockParser.{items_at}
 use Rattle.pcap_file.specs.declared.reader_fault.ReaderFault.{ReaderFault}
 use Rattle.pcap_file.specs.declared.reader_fault.ReaderFault.TheVariants as reader
 use Rattle.pcap_file.specs.Reader.{HasEntries, HasTold, IsLong, packets_among, packets_in, part_entries}
@@ -24,12 +24,12 @@ use Rattle.studio_run.specs.Buffer.{BreaksOff, PassesOn}
 use Rattle.studio_run.specs.Listing.{datagrams_text}
 use Rattle.studio_run.proofs.BufferLemmas.{BreaksOff-finished, BreaksOff-later, PassesOn-none, PassesOn-finished, PassesOn-trans}
 use Rattle.pcap_replay.specs.declared.fault.ReplayFault.{ReplayFault}
-use Rattle.pcap_replay.specs.declared.fault.ReplayFault.TheVariants.{Memory, Capture, Run as RunOf, Full, Write}
-use Rattle.pcap_replay.specs.declared.state.Run.{Run}
+use Rattle.pcap_replay.specs.declared.fault.ReplayFault.TheVariants.{Memory, Capture, Run as RunOf, TooManyEvents, Write}
+use Rattle.pcap_replay.specs.declared.state.ReplayState.{ReplayState}
 use Rattle.pcap_replay.specs.Lines.{BreaksLines, Hearing}
 use Rattle.pcap_replay.specs.Replay.{BeginsWith, BreaksAt, HasBegun, HasComeToClose, HasGoneOver, HasHeardFirst, HasReplayed, HasTaken, IsReason, IsReplaying, IsRun, IsOwn, Stops, StopsAt, StopsFile}
 use Rattle.pcap_replay.specs.Events.{AreFirst, clock_after, clock_of, closed_events, events_of, events_told, events_with, read_at}
-use Rattle.pcap_replay.specs.Plan.{PlanView, clock_before, clock_past, closing_of, opening_of, target_of}
+use Rattle.pcap_replay.specs.Routing.{PlanView, clock_before, clock_past, closing_of, opening_of, target_of}
 use Rattle.pcap_replay.specs.Record.{closing_in, closing_with}
 use Rattle.pcap_replay.proofs.CaseLemmas.{some_maps}
 use Rattle.pcap_replay.proofs.EventLemmas.{clock_more, events_more, first_longer, first_read, first_same}
@@ -55,11 +55,11 @@ broke_more studio engine events earlier a b c h H K datagrams first early told b
     }
 
 -- what a listener was told of so far
-pub heard_first : (studio : Studio) (events : List TraceEvent) (a b : Option (List ℕ)) (H : Hearing) (run : Run) → HasReplayed studio events a run b H → HasHeardFirst studio events H
+pub heard_first : (studio : Studio) (events : List TraceEvent) (a b : Option (List ℕ)) (H : Hearing) (run : ReplayState) → HasReplayed studio events a run b H → HasHeardFirst studio events H
 heard_first studio events a b H run r = record { earlier = events; early = first_same events; datagrams = r.datagrams; first = r.session.given.first; told = r.told }
 
 -- before the first event
-pub begun_replayed : (studio : Studio) (a : Option (List ℕ)) (H : Hearing) (run : Run) → HasBegun studio run → H [] [] → HasReplayed studio [] a run a H
+pub begun_replayed : (studio : Studio) (a : Option (List ℕ)) (H : Hearing) (run : ReplayState) → HasBegun studio run → H [] [] → HasReplayed studio [] a run a H
 begun_replayed studio a H run b told = record {
   datagrams = [];
   session = b.session;
@@ -70,11 +70,11 @@ begun_replayed studio a H run b told = record {
 }
 
 -- whoever listens
-pub unheard : (studio : Studio) (events : List TraceEvent) (a b : Option (List ℕ)) (H : Hearing) (run : Run) → HasReplayed studio events a run b H → HasReplayed studio events a run b (λ _ _. ⊤)
+pub unheard : (studio : Studio) (events : List TraceEvent) (a b : Option (List ℕ)) (H : Hearing) (run : ReplayState) → HasReplayed studio events a run b H → HasReplayed studio events a run b (λ _ _. ⊤)
 unheard studio events a b H run r = record { datagrams = r.datagrams; session = r.session; rested = r.rested; open_yet = r.open_yet; wrote = r.wrote; told = tt }
 
 -- what was held is written
-pub broke_whole : (studio : Studio) (events : List TraceEvent) (a b c : Option (List ℕ)) (H : Hearing) (run : Run) → HasReplayed studio events a run b H → Appends b c run.text → BreaksAt studio events a c H
+pub broke_whole : (studio : Studio) (events : List TraceEvent) (a b c : Option (List ℕ)) (H : Hearing) (run : ReplayState) → HasReplayed studio events a run b H → Appends b c run.text → BreaksAt studio events a c H
 broke_whole studio events a b c H run r rest = record {
   datagrams = r.datagrams;
   first = r.session.given.first;
@@ -83,22 +83,22 @@ broke_whole studio events a b c H run r rest = record {
   told = heard_first studio events a b H run r;
 }
 
-pub broke_part : (studio : Studio) (events : List TraceEvent) (a b c : Option (List ℕ)) (H : Hearing) (run : Run) → HasReplayed studio events a run b H
+pub broke_part : (studio : Studio) (events : List TraceEvent) (a b c : Option (List ℕ)) (H : Hearing) (run : ReplayState) → HasReplayed studio events a run b H
     → (n : ℕ) × (n < length run.text) × Appends b c (take n run.text) → BreaksAt studio events a c H
 broke_part studio events a b c H run r part =
     let broken = BreaksOff-finished a b c run.text (datagrams_text r.datagrams) r.wrote part in
     record { datagrams = r.datagrams; first = r.session.given.first; count = broken.count; wrote = broken.wrote; told = heard_first studio events a b H run r }
 
 -- a fault of an event, where all that was given is written or held
-pub stops_at_run : (studio : Studio) (events : List TraceEvent) (a b : Option (List ℕ)) (H : Hearing) (run : Run) (fault : ReplayFault) → IsRun fault → HasReplayed studio events a run b H → StopsAt studio events a run b H fault
+pub stops_at_run : (studio : Studio) (events : List TraceEvent) (a b : Option (List ℕ)) (H : Hearing) (run : ReplayState) (fault : ReplayFault) → IsRun fault → HasReplayed studio events a run b H → StopsAt studio events a run b H fault
 stops_at_run studio events a b H run Memory kind r = absurd kind
 stops_at_run studio events a b H run (Capture fault) kind r = absurd kind
 stops_at_run studio events a b H run (RunOf fault) kind r = r
-stops_at_run studio events a b H run Full kind r = r
+stops_at_run studio events a b H run TooManyEvents kind r = r
 stops_at_run studio events a b H run Write kind r = absurd kind
 
 -- what stops before some events stops before more
-pub stops_longer : (studio : Studio) (all longer : List TraceEvent) (a c : Option (List ℕ)) (H : Hearing) (run : Run) (fault : ReplayFault) → AreFirst all longer
+pub stops_longer : (studio : Studio) (all longer : List TraceEvent) (a c : Option (List ℕ)) (H : Hearing) (run : ReplayState) (fault : ReplayFault) → AreFirst all longer
     → Stops studio all a run c H fault → Stops studio longer a run c H fault
 stops_longer studio all longer a c H run fault first stops = record { events = stops.events; first = first_longer stops.events all longer stops.first first; at = stops.at }
 
@@ -110,7 +110,7 @@ streams_of_session studio engine events datagrams s =
     ap length (sym played.fed.streams) ∙ length-map played.feeds (λ (feed : Feed). feed.stream) ∙ sym played.count
 
 -- a file that told entries begins with them
-pub begins : (file : List ℕ) (entries : List Entry) (left : Option (List ℕ)) (parts : Parts) (held : List ℕ) (ended : Bool) → HasTold file entries left parts held ended → BeginsWith file entries
+pub begins : (file : List ℕ) (entries : List Entry) (left : Option (List ℕ)) (parts : BlockParser) (held : List ℕ) (ended : Bool) → HasTold file entries left parts held ended → BeginsWith file entries
 begins file entries left parts held ended told = record { items = items_at parts (held ++ told.rest); packets = told.packets; later = entries_at parts (held ++ told.rest); all = told.all }
 
 pub begins_whole : (file : List ℕ) (entries : List Entry) → HasEntries file entries → BeginsWith file entries
@@ -125,13 +125,13 @@ pub own_reason : (file : List ℕ) (entries : List Entry) (fault : ReplayFault) 
 own_reason file entries Memory kind = tt
 own_reason file entries (Capture fault) kind = absurd kind
 own_reason file entries (RunOf fault) kind = tt
-own_reason file entries Full kind = tt
+own_reason file entries TooManyEvents kind = tt
 own_reason file entries Write kind = tt
 
 pub long_reason : (file : List ℕ) (entries : List Entry) (fault : ReaderFault) → IsLong fault → IsReason file entries (Capture fault)
-long_reason file entries reader.Unread kind = tt
+long_reason file entries reader.ReadFailed kind = tt
 long_reason file entries (reader.Capture fault) kind = absurd kind
-long_reason file entries (reader.Long place) kind = tt
+long_reason file entries (reader.TooLong place) kind = tt
 long_reason file entries reader.Memory kind = absurd kind
 
 -- one packet more was taken
@@ -141,7 +141,7 @@ next_events studio plan packets packet clock is =
     ap (λ k. events_with studio.open_at (opening_of plan) k (events_of studio plan packets) packet (target_of plan packet)) is
     ∙ sym (events_more studio.open_at plan (clock_before plan) [] packets packet)
 
-pub taken_more : (studio : Studio) (plan : PlanView) (packets : List PacketView) (packet : PacketView) (a b c : Option (List ℕ)) (H K : Hearing) (old new : Run) → HasTaken studio plan packets a old b H
+pub taken_more : (studio : Studio) (plan : PlanView) (packets : List PacketView) (packet : PacketView) (a b c : Option (List ℕ)) (H K : Hearing) (old new : ReplayState) → HasTaken studio plan packets a old b H
     → new.clock ≡ clock_past old.clock packet (target_of plan packet)
     → HasReplayed studio (events_with studio.open_at (opening_of plan) old.clock (events_of studio plan packets) packet (target_of plan packet)) a new c K
     → HasTaken studio plan (packets ++ packet ∷ []) a new c K
@@ -150,16 +150,16 @@ taken_more studio plan packets packet a b c H K old new taken clock replayed = r
   replayed = subst (λ l. HasReplayed studio l a new c K) (next_events studio plan packets packet old.clock taken.clock) replayed;
 }
 
-pub stops_more : (studio : Studio) (plan : PlanView) (packets : List PacketView) (packet : PacketView) (a b c : Option (List ℕ)) (H K : Hearing) (old new : Run) (fault : ReplayFault) → HasTaken studio plan packets a old b H
+pub stops_more : (studio : Studio) (plan : PlanView) (packets : List PacketView) (packet : PacketView) (a b c : Option (List ℕ)) (H K : Hearing) (old new : ReplayState) (fault : ReplayFault) → HasTaken studio plan packets a old b H
     → Stops studio (events_with studio.open_at (opening_of plan) old.clock (events_of studio plan packets) packet (target_of plan packet)) a new c K fault
     → Stops studio (events_of studio plan (packets ++ packet ∷ [])) a new c K fault
 stops_more studio plan packets packet a b c H K old new fault taken stops = subst (λ l. Stops studio l a new c K fault) (next_events studio plan packets packet old.clock taken.clock) stops
 
-pub taken_same : (studio : Studio) (plan : PlanView) (packets : List PacketView) (a c : Option (List ℕ)) (H : Hearing) (run : Run) → HasTaken studio plan packets a run c H → HasTaken studio plan (packets ++ []) a run c H
+pub taken_same : (studio : Studio) (plan : PlanView) (packets : List PacketView) (a c : Option (List ℕ)) (H : Hearing) (run : ReplayState) → HasTaken studio plan packets a run c H → HasTaken studio plan (packets ++ []) a run c H
 taken_same studio plan packets a c H run taken = subst (λ l. HasTaken studio plan l a run c H) (sym (append-nil packets)) taken
 
 -- a file told the same entries, as more of it was read
-pub replaying_read : (studio : Studio) (plan : PlanView) (first a : Option (List ℕ)) (run : Run) (parts : Parts) (held held' : List ℕ) (ended ended' : Bool) (left left' c : Option (List ℕ)) (H : Hearing) (closing : Option ℕ)
+pub replaying_read : (studio : Studio) (plan : PlanView) (first a : Option (List ℕ)) (run : ReplayState) (parts : BlockParser) (held held' : List ℕ) (ended ended' : Bool) (left left' c : Option (List ℕ)) (H : Hearing) (closing : Option ℕ)
     → ((file : List ℕ) (entries : List Entry) → HasTold file entries left parts held ended → HasTold file entries left' parts held' ended')
     → IsReplaying studio plan first a run parts held ended left c H closing → IsReplaying studio plan first a run parts held' ended' left' c H closing
 replaying_read studio plan first a run parts held held' ended ended' left left' c H closing reads r = record {
@@ -170,7 +170,7 @@ replaying_read studio plan first a run parts held held' ended ended' left left' 
 }
 
 -- before the first entry
-pub replaying_none : (studio : Studio) (plan : PlanView) (first a : Option (List ℕ)) (run : Run) (parts : Parts) (held : List ℕ) (ended : Bool) (left : Option (List ℕ)) (H : Hearing)
+pub replaying_none : (studio : Studio) (plan : PlanView) (first a : Option (List ℕ)) (run : ReplayState) (parts : BlockParser) (held : List ℕ) (ended : Bool) (left : Option (List ℕ)) (H : Hearing)
     → IfSome first (λ file. HasTold file [] left parts held ended) → run.clock ≡ clock_before plan → HasReplayed studio [] a run a H → IsReplaying studio plan first a run parts held ended left a H None
 replaying_none studio plan first a run parts held ended left H told clock replayed = record {
   entries = [];
@@ -183,7 +183,7 @@ replaying_none studio plan first a run parts held ended left H told clock replay
 closing_same : (plan : PlanView) (entries : List Entry) (told closing : Option ℕ) → closing ≡ closing_of plan told → told ≡ closing_in entries → closing ≡ closing_of plan (closing_in entries)
 closing_same plan entries told closing same closes = same ∙ ap (closing_of plan) closes
 
-pub come_to_close : (studio : Studio) (plan : PlanView) (told closing : Option ℕ) (from : ℕ) (first a b c : Option (List ℕ)) (H K : Hearing) (old new : Run) → from ≡ opening_of plan → closing ≡ closing_of plan told
+pub come_to_close : (studio : Studio) (plan : PlanView) (told closing : Option ℕ) (from : ℕ) (first a b c : Option (List ℕ)) (H K : Hearing) (old new : ReplayState) → from ≡ opening_of plan → closing ≡ closing_of plan told
     → (gone : HasGoneOver studio plan first a old b H told)
     → ((events : List TraceEvent) → HasReplayed studio events a old b H → HasReplayed studio (read_at studio.open_at from events old.clock.reading (clock_with old.clock closing).reading) a new c K)
     → HasComeToClose studio plan first a new c K
@@ -198,7 +198,7 @@ come_to_close studio plan told closing from first a b c H K old new same closes 
           (subst (λ k. HasReplayed studio (read_at studio.open_at from events k.reading (clock_with k closing).reading) a new c K) gone.taken.clock (reads events gone.taken.replayed)));
     }
 
-pub stops_at_close : (studio : Studio) (plan : PlanView) (told closing : Option ℕ) (from : ℕ) (first a b c : Option (List ℕ)) (H K : Hearing) (old new : Run) (fault : ReplayFault) → from ≡ opening_of plan → closing ≡ closing_of plan told
+pub stops_at_close : (studio : Studio) (plan : PlanView) (told closing : Option ℕ) (from : ℕ) (first a b c : Option (List ℕ)) (H K : Hearing) (old new : ReplayState) (fault : ReplayFault) → from ≡ opening_of plan → closing ≡ closing_of plan told
     → IsOwn fault → (gone : HasGoneOver studio plan first a old b H told)
     → ((events : List TraceEvent) → HasReplayed studio events a old b H → Stops studio (read_at studio.open_at from events old.clock.reading (clock_with old.clock closing).reading) a new c K fault)
     → StopsFile studio plan first a new c K fault
@@ -220,7 +220,7 @@ before_close studio plan entries =
     first_read studio.open_at (opening_of plan) (events_of studio plan packets) (clock_of plan packets).reading (clock_with (clock_of plan packets) (closing_of plan (closing_in entries))).reading
 
 -- a fault comes behind the entries that were told
-pub stops_behind : (studio : Studio) (plan : PlanView) (first a : Option (List ℕ)) (run : Run) (parts : Parts) (held : List ℕ) (ended : Bool) (left c : Option (List ℕ)) (H : Hearing) (closing : Option ℕ) (fault : ReplayFault)
+pub stops_behind : (studio : Studio) (plan : PlanView) (first a : Option (List ℕ)) (run : ReplayState) (parts : BlockParser) (held : List ℕ) (ended : Bool) (left c : Option (List ℕ)) (H : Hearing) (closing : Option ℕ) (fault : ReplayFault)
     (r : IsReplaying studio plan first a run parts held ended left c H closing) → ((file : List ℕ) → HasTold file r.entries left parts held ended → IsReason file r.entries fault)
     → ((events : List TraceEvent) → HasReplayed studio events a run c H → StopsAt studio events a run c H fault) → StopsFile studio plan first a run c H fault
 stops_behind studio plan first a run parts held ended left c H closing fault r reason at = record {
@@ -230,7 +230,7 @@ stops_behind studio plan first a run parts held ended left c H closing fault r r
 }
 
 -- a record or a block more was told
-pub replaying_more : (studio : Studio) (plan : PlanView) (first a : Option (List ℕ)) (run : Run) (parts : Parts) (held : List ℕ) (ended : Bool) (left c : Option (List ℕ)) (H : Hearing) (closing : Option ℕ) (entries : List Entry) (part : Part)
+pub replaying_more : (studio : Studio) (plan : PlanView) (first a : Option (List ℕ)) (run : ReplayState) (parts : BlockParser) (held : List ℕ) (ended : Bool) (left c : Option (List ℕ)) (H : Hearing) (closing : Option ℕ) (entries : List Entry) (part : CaptureBlock)
     → IfSome first (λ file. HasTold file (entries ++ part_entries part) left parts held ended) → HasTaken studio plan (packets_among entries ++ packets_in part) a run c H → closing ≡ closing_in entries
     → IsReplaying studio plan first a run parts held ended left c H (closing_with closing part.mark)
 replaying_more studio plan first a run parts held ended left c H closing entries part told taken closes = record {
@@ -241,7 +241,7 @@ replaying_more studio plan first a run parts held ended left c H closing entries
 }
 
 -- or its packet's events stopped
-pub stops_among : (studio : Studio) (plan : PlanView) (first a : Option (List ℕ)) (run : Run) (c : Option (List ℕ)) (H : Hearing) (fault : ReplayFault) (entries : List Entry) (part : Part)
+pub stops_among : (studio : Studio) (plan : PlanView) (first a : Option (List ℕ)) (run : ReplayState) (c : Option (List ℕ)) (H : Hearing) (fault : ReplayFault) (entries : List Entry) (part : CaptureBlock)
     → IfSome first (λ file. BeginsWith file (entries ++ part_entries part)) → IsOwn fault → Stops studio (events_of studio plan (packets_among entries ++ packets_in part)) a run c H fault
     → StopsFile studio plan first a run c H fault
 stops_among studio plan first a run c H fault entries part begins kind stops =

@@ -10,16 +10,16 @@ use Rattle.studio_config.specs.Studio.{Studio}
 use Rattle.studio_session.specs.Event.{TraceEvent, Arrival, Closing}
 use Rattle.studio_session.specs.Fault.{time_at}
 use Rattle.studio_engine.specs.Session.{turned}
-use Rattle.pcap_replay.specs.Plan.{PlanView, clock_before, clock_past, closing_of, opening_of, target_of}
+use Rattle.pcap_replay.specs.Routing.{PlanView, clock_before, clock_past, closing_of, opening_of, target_of}
 use Rattle.pcap_replay.specs.Record.{closing_in}
-use Rattle.pcap_replay.specs.declared.routing.Target.{Target}
+use Rattle.pcap_replay.specs.declared.routing.StreamPath.{StreamPath}
 
 -- a reading, counted from a time, that is later than the one before is an event, but where it repeats the opening time
 abbrev pub read_at : ℤ → ℕ → List TraceEvent → ℕ → ℕ → List TraceEvent
 read_at open_at from events earlier reading = if nat_lt earlier reading then turned (time_at open_at events) (pos (from + reading)) events else events
 
 -- a datagram that goes to a path arrives at the reading of the clock at its time
-abbrev pub events_with : ℤ → ℕ → CaptureClock → List TraceEvent → PacketView → Option Target → List TraceEvent
+abbrev pub events_with : ℤ → ℕ → CaptureClock → List TraceEvent → PacketView → Option StreamPath → List TraceEvent
 events_with open_at from clock events packet None = events
 events_with open_at from clock events packet (Some target) =
     read_at open_at from events clock.reading (clock_with clock packet.time).reading ++ Arrival target.stream target.path (octets_of packet.ip.body) ∷ []

@@ -1,7 +1,7 @@
 -- The report of a capture, and how far it was written.
 use Rattle.std.specs.Prelude.{◌≡◌, ◌≢◌, ◌⊎◌, ◌<◌, ℕ, ◌++◌, Bool, false, List, [], ◌∷◌, length, take, map, Option, Ok, Err, IfSome, ⊤}
 use Rattle.std.specs.Io.KnownBytes.{Appends}
-use Rattle.pcap_file.specs.declared.parts.Parts.{Parts}
+use Rattle.pcap_file.specs.declared.parts.BlockParser.{BlockParser}
 use Rattle.pcap_file.specs.Entries.{Entry, entries_of}
 use Rattle.pcap_file.specs.Packet.{PacketView}
 use Rattle.pcap_file.specs.Capture.{Item, packets_of}
@@ -20,15 +20,15 @@ use Rattle.studio_run.specs.Listing.{datagrams_text}
 use Rattle.studio_run.specs.Play.{WritesEvents}
 use Rattle.studio_run.specs.StudioReport.{IsReport}
 use Rattle.pcap_replay.specs.declared.fault.ReplayFault.{ReplayFault}
-use Rattle.pcap_replay.specs.declared.fault.ReplayFault.TheVariants.{Memory, Capture, Run as RunOf, Full, Write}
-use Rattle.pcap_replay.specs.declared.state.Run.{Run}
+use Rattle.pcap_replay.specs.declared.fault.ReplayFault.TheVariants.{Memory, Capture, Run as RunOf, TooManyEvents, Write}
+use Rattle.pcap_replay.specs.declared.state.ReplayState.{ReplayState}
 use Rattle.pcap_replay.specs.Lines.{Hearing}
 use Rattle.pcap_replay.specs.Events.{AreFirst, clock_of, events_of, events_told, file_events}
-use Rattle.pcap_replay.specs.Plan.{PlanView}
+use Rattle.pcap_replay.specs.Routing.{PlanView}
 use Rattle.pcap_replay.specs.Record.{closing_in}
 
 -- the engine took these events, the lines of what it gave were written or are held, and a listener was told of both
-pub record HasReplayed (studio : Studio) (events : List TraceEvent) (written : Option (List ℕ)) (run : Run) (written_then : Option (List ℕ)) (heard : Hearing) : Type 0 where
+pub record HasReplayed (studio : Studio) (events : List TraceEvent) (written : Option (List ℕ)) (run : ReplayState) (written_then : Option (List ℕ)) (heard : Hearing) : Type 0 where
   pub datagrams : List (List ℕ)
   pub session : HasSession studio run.engine events datagrams
   pub rested : run.engine.turning ≡ false
@@ -37,7 +37,7 @@ pub record HasReplayed (studio : Studio) (events : List TraceEvent) (written : O
   pub told : heard events datagrams
 
 -- before the first event
-pub record HasBegun (studio : Studio) (run : Run) : Type 0 where
+pub record HasBegun (studio : Studio) (run : ReplayState) : Type 0 where
   pub session : HasSession studio run.engine [] []
   pub rested : run.engine.turning ≡ false
   pub none : run.text ≡ []
@@ -59,15 +59,15 @@ pub record BreaksAt (studio : Studio) (events : List TraceEvent) (written writte
   pub told : HasHeardFirst studio events heard
 
 -- a fault came after these events: what is written is a part from the front, or what is written and held is whole
-abbrev pub StopsAt : Studio → List TraceEvent → Option (List ℕ) → Run → Option (List ℕ) → Hearing → ReplayFault → Type 0
+abbrev pub StopsAt : Studio → List TraceEvent → Option (List ℕ) → ReplayState → Option (List ℕ) → Hearing → ReplayFault → Type 0
 StopsAt studio events written run written_then heard Memory = ⊥
 StopsAt studio events written run written_then heard (Capture fault) = HasReplayed studio events written run written_then heard
 StopsAt studio events written run written_then heard (RunOf fault) = HasReplayed studio events written run written_then heard
-StopsAt studio events written run written_then heard Full = HasReplayed studio events written run written_then heard
+StopsAt studio events written run written_then heard TooManyEvents = HasReplayed studio events written run written_then heard
 StopsAt studio events written run written_then heard Write = BreaksAt studio events written written_then heard
 
 -- it came before all of these events were taken
-pub record Stops (studio : Studio) (all : List TraceEvent) (written : Option (List ℕ)) (run : Run) (written_then : Option (List ℕ)) (heard : Hearing) (fault : ReplayFault) : Type 0 where
+pub record Stops (studio : Studio) (all : List TraceEvent) (written : Option (List ℕ)) (run : ReplayState) (written_then : Option (List ℕ)) (heard : Hearing) (fault : ReplayFault) : Type 0 where
   pub events : List TraceEvent
   pub first : AreFirst events all
   pub at : StopsAt studio events written run written_then heard fault
@@ -80,46 +80,46 @@ pub record BeginsWith (file : List ℕ) (entries : List Entry) : Type 0 where
   pub all : entries_of file ≡ entries ++ later
 
 -- the events of these packets were taken, and the clock is theirs
-pub record HasTaken (studio : Studio) (plan : PlanView) (packets : List PacketView) (written : Option (List ℕ)) (run : Run) (written_then : Option (List ℕ)) (heard : Hearing) : Type 0 where
+pub record HasTaken (studio : Studio) (plan : PlanView) (packets : List PacketView) (written : Option (List ℕ)) (run : ReplayState) (written_then : Option (List ℕ)) (heard : Hearing) : Type 0 where
   pub clock : run.clock ≡ clock_of plan packets
   pub replayed : HasReplayed studio (events_of studio plan packets) written run written_then heard
 
 -- the packets among the entries that a file told so far were replayed, and this is known of the close
-pub record IsReplaying (studio : Studio) (plan : PlanView) (first : Option (List ℕ)) (written : Option (List ℕ)) (run : Run) (parts : Parts) (held : List ℕ) (ended : Bool) (left written_then : Option (List ℕ)) (heard : Hearing) (closing : Option ℕ) : Type 0 where
+pub record IsReplaying (studio : Studio) (plan : PlanView) (first : Option (List ℕ)) (written : Option (List ℕ)) (run : ReplayState) (parts : BlockParser) (held : List ℕ) (ended : Bool) (left written_then : Option (List ℕ)) (heard : Hearing) (closing : Option ℕ) : Type 0 where
   pub entries : List Entry
   pub told : IfSome first (λ file. HasTold file entries left parts held ended)
   pub taken : HasTaken studio plan (packets_among entries) written run written_then heard
   pub closes : closing ≡ closing_in entries
 
 -- those of a whole file were, which has no fault
-pub record HasGoneOver (studio : Studio) (plan : PlanView) (first : Option (List ℕ)) (written : Option (List ℕ)) (run : Run) (written_then : Option (List ℕ)) (heard : Hearing) (closing : Option ℕ) : Type 0 where
+pub record HasGoneOver (studio : Studio) (plan : PlanView) (first : Option (List ℕ)) (written : Option (List ℕ)) (run : ReplayState) (written_then : Option (List ℕ)) (heard : Hearing) (closing : Option ℕ) : Type 0 where
   pub entries : List Entry
   pub told : IfSome first (λ file. HasEntries file entries)
   pub taken : HasTaken studio plan (packets_among entries) written run written_then heard
   pub closes : closing ≡ closing_in entries
 
 -- and a reading at the time of the close, if its marks tell one
-pub record HasComeToClose (studio : Studio) (plan : PlanView) (first : Option (List ℕ)) (written : Option (List ℕ)) (run : Run) (written_then : Option (List ℕ)) (heard : Hearing) : Type 0 where
+pub record HasComeToClose (studio : Studio) (plan : PlanView) (first : Option (List ℕ)) (written : Option (List ℕ)) (run : ReplayState) (written_then : Option (List ℕ)) (heard : Hearing) : Type 0 where
   pub entries : List Entry
   pub told : IfSome first (λ file. HasEntries file entries)
   pub replayed : HasReplayed studio (events_told studio plan entries) written run written_then heard
 
 -- a file's fault is the one behind its packets
 abbrev pub IsFileFault : List ℕ → List Entry → ReaderFault → Type 0
-IsFileFault file entries reader.Unread = Unit {0}
+IsFileFault file entries reader.ReadFailed = Unit {0}
 IsFileFault file entries (reader.Capture fault) = packets_of file ≡ map Ok (packets_among entries) ++ Err fault ∷ []
-IsFileFault file entries (reader.Long place) = Unit {0}
+IsFileFault file entries (reader.TooLong place) = Unit {0}
 IsFileFault file entries reader.Memory = Unit {0}
 
 abbrev pub IsReason : List ℕ → List Entry → ReplayFault → Type 0
 IsReason file entries Memory = Unit {0}
 IsReason file entries (Capture fault) = IsFileFault file entries fault
 IsReason file entries (RunOf fault) = Unit {0}
-IsReason file entries Full = Unit {0}
+IsReason file entries TooManyEvents = Unit {0}
 IsReason file entries Write = Unit {0}
 
 -- a fault came among the events of a file's first entries
-pub record StopsFile (studio : Studio) (plan : PlanView) (first : Option (List ℕ)) (written : Option (List ℕ)) (run : Run) (written_then : Option (List ℕ)) (heard : Hearing) (fault : ReplayFault) : Type 0 where
+pub record StopsFile (studio : Studio) (plan : PlanView) (first : Option (List ℕ)) (written : Option (List ℕ)) (run : ReplayState) (written_then : Option (List ℕ)) (heard : Hearing) (fault : ReplayFault) : Type 0 where
   pub entries : List Entry
   pub told : IfSome first (λ file. BeginsWith file entries × IsReason file entries fault)
   pub stops : Stops studio (events_told studio plan entries) written run written_then heard fault
@@ -156,7 +156,7 @@ abbrev pub BreaksOffReplay : Studio → PlanView → Option (List ℕ) → Optio
 BreaksOffReplay studio plan left written written_then heard Memory = (written_then ≡ written) × heard [] []
 BreaksOffReplay studio plan left written written_then heard (Capture fault) = WritesFront studio plan left written written_then heard (Capture fault)
 BreaksOffReplay studio plan left written written_then heard (RunOf fault) = WritesFront studio plan left written written_then heard (RunOf fault)
-BreaksOffReplay studio plan left written written_then heard Full = WritesFront studio plan left written written_then heard Full
+BreaksOffReplay studio plan left written written_then heard TooManyEvents = WritesFront studio plan left written written_then heard TooManyEvents
 BreaksOffReplay studio plan left written written_then heard Write = WritesFront studio plan left written written_then heard Write
 
 -- behind a fault what was held is written: all of it, or a part, which is a fault of its own; nothing behind a write that failed
@@ -171,7 +171,7 @@ abbrev pub IsRun : ReplayFault → Type 0
 IsRun Memory = ⊥
 IsRun (Capture fault) = ⊥
 IsRun (RunOf fault) = Unit {0}
-IsRun Full = Unit {0}
+IsRun TooManyEvents = Unit {0}
 IsRun Write = ⊥
 
 -- or a write failed
@@ -179,11 +179,11 @@ abbrev pub IsOwn : ReplayFault → Type 0
 IsOwn Memory = ⊥
 IsOwn (Capture fault) = ⊥
 IsOwn (RunOf fault) = Unit {0}
-IsOwn Full = Unit {0}
+IsOwn TooManyEvents = Unit {0}
 IsOwn Write = Unit {0}
 
 -- the run took some events, and may be closed
-pub record CanClose (studio : Studio) (run : Run) (written_then : Option (List ℕ)) : Type 0 where
+pub record CanClose (studio : Studio) (run : ReplayState) (written_then : Option (List ℕ)) : Type 0 where
   pub events : List TraceEvent
   pub written : Option (List ℕ)
   pub replayed : HasReplayed studio events written run written_then (λ _ _. ⊤)

@@ -1,40 +1,42 @@
 //! The events of a capture, packet by packet.
 ghost use Rattle.std.specs.Prelude.{◌≡◌, ◌≤◌, ◌<◌, ◌+◌, ◌^◌, ◌∷◌, ◌++◌, [], ℕ, pos, List, Option, None, length, drop, false, is_some, IfOk, IfErr, IfSome, OnOk};
 ghost use Rattle.pcap_file.specs.Packet.{PacketView, packet_view};
-ghost use Rattle.pcap_file.specs.Window.{octets_of};
+ghost use Rattle.pcap_file.specs.ReadBuffer.{octets_of};
 ghost use Rattle.pcap_file.specs.Reader.{IsNext, packets_in};
 ghost use Rattle.pcap_flows.specs.Clock.{clock_with};
 ghost use Rattle.path_merge.specs.Clock.{clock_fault_of};
 ghost use Rattle.studio_config.specs.Studio.{Studio};
 ghost use Rattle.studio_session.specs.Event.{TraceEvent, Arrival};
 ghost use Rattle.pcap_replay.specs.Events.{events_of, events_with, read_at};
-ghost use Rattle.pcap_replay.specs.Plan.{clock_past, opening_of, plan_view, target_of};
+ghost use Rattle.pcap_replay.specs.Routing.{clock_past, opening_of, plan_view, target_of};
 ghost use Rattle.pcap_replay.specs.Record.{closing_with};
 ghost use Rattle.pcap_replay.specs.Replay.{HasGoneOver, HasReplayed, HasTaken, IsOwn, IsReplaying, IsRun, Stops, StopsFile};
 ghost use Rattle.studio_session.specs.Fault.{time_at};
 ghost use Rattle.studio_engine.specs.Session.{turned};
 
 use crate::fault::ReplayFault;
-use crate::observer::Listener;
+use crate::observer::ReplayObserver;
 use crate::output::write_turn;
-use crate::record_times::closed_at;
-use crate::routing::{Plan, Target};
-use crate::state::Run;
+use crate::record_times::first_close;
+use crate::routing::{Routing, StreamPath};
+use crate::state::ReplayState;
 use path_merge::{Path, clock_fault};
-use pcap_file::{Packet, Part, Parts, ReaderFault, RecordMark, Window, has_next, next};
-use pcap_flows::octets_in;
+use pcap_file::{
+    BlockParser, CaptureBlock, Packet, ReadBuffer, ReaderFault, RecordMark, has_block, next_block,
+};
+use pcap_flows::datagram_octets;
 use std::io::{Read, Write};
 use studio_engine::{ArriveFault, Engine};
 use studio_session::StudioFault;
 
-impl Run {
+impl ReplayState {
     /// Takes the events of what is left of a capture, up to its end. Answers when the studio was closed, in nanoseconds, by the
     /// first mark that tells it.
-    pub(crate) fn go_over<R: Read, W: Write, L: Listener>(
+    pub(crate) fn run_events<R: Read, W: Write, L: ReplayObserver>(
         &mut self,
-        plan: &Plan<'_>,
-        parts: &mut Parts,
-        window: &mut Window,
+        plan: &Routing<'_>,
+        parts: &mut BlockParser,
+        window: &mut ReadBuffer,
         reader: &mut R,
         writer: &mut W,
         listener: &mut L,
@@ -48,22 +50,22 @@ impl Run {
     {
         let mut closing = None;
         'parts: for _ in 0..u64::MAX {
-            if !has_next(parts, window, reader)? {
+            if !has_block(parts, window, reader)? {
                 return Ok(closing);
             }
             let (len, mark) = self.take_next(plan, parts, window, writer, listener)?;
-            closing = closed_at(closing, mark);
-            window.pass(len);
+            closing = first_close(closing, mark);
+            window.consume(len);
         }
-        Err(ReplayFault::Full)
+        Err(ReplayFault::TooManyEvents)
     }
 
     /// Takes the events of what comes next, and answers its length and its mark.
-    fn take_next<W: Write, L: Listener>(
+    fn take_next<W: Write, L: ReplayObserver>(
         &mut self,
-        plan: &Plan<'_>,
-        parts: &mut Parts,
-        window: &Window,
+        plan: &Routing<'_>,
+        parts: &mut BlockParser,
+        window: &ReadBuffer,
         writer: &mut W,
         listener: &mut L,
     ) -> Result<(usize, Option<RecordMark>), ReplayFault>
@@ -76,7 +78,7 @@ impl Run {
             → IsReplaying studio (plan_view plan.now) first written self.old parts.old (octets_of window.now) window.now.ended left (W.contents writer.old) (L.heard begun listener.old) closing
             → StopsFile studio (plan_view plan.now) first written self.new (W.contents writer.new) (L.heard begun listener.new) fault) }
     {
-        match next(parts, window) {
+        match next_block(parts, window) {
             Ok(part) => {
                 self.take_part(plan, &part, writer, listener)?;
                 Ok((part.len, part.mark))
@@ -86,10 +88,10 @@ impl Run {
     }
 
     /// Takes the events of a record or a block: those of its packet, if it has one.
-    fn take_part<W: Write, L: Listener>(
+    fn take_part<W: Write, L: ReplayObserver>(
         &mut self,
-        plan: &Plan<'_>,
-        part: &Part<'_>,
+        plan: &Routing<'_>,
+        part: &CaptureBlock<'_>,
         writer: &mut W,
         listener: &mut L,
     ) -> Result<(), ReplayFault>
@@ -106,9 +108,9 @@ impl Run {
     }
 
     /// Takes the events of a packet.
-    fn take<W: Write, L: Listener>(
+    fn take<W: Write, L: ReplayObserver>(
         &mut self,
-        plan: &Plan<'_>,
+        plan: &Routing<'_>,
         packet: &Packet<'_>,
         writer: &mut W,
         listener: &mut L,
@@ -124,11 +126,11 @@ impl Run {
             return Ok(());
         };
         self.read(plan.opening(), packet.time, writer, listener)?;
-        self.arrive(target, octets_in(packet), listener)
+        self.arrive(target, datagram_octets(packet), listener)
     }
 
     /// Reads the clock, counted from an opening, at a time. A reading that isn't later is no event.
-    pub(crate) fn read<W: Write, L: Listener>(
+    pub(crate) fn read<W: Write, L: ReplayObserver>(
         &mut self,
         from: u64,
         time: Option<u64>,
@@ -152,7 +154,7 @@ impl Run {
     }
 
     /// Moves the engine on to a reading. One that repeats its time is no event.
-    fn turn<W: Write, L: Listener>(
+    fn turn<W: Write, L: ReplayObserver>(
         &mut self,
         from: u64,
         reading: u64,
@@ -180,9 +182,9 @@ impl Run {
     }
 
     /// Takes a datagram that goes to a path, and tells of it.
-    fn arrive<L: Listener>(
+    fn arrive<L: ReplayObserver>(
         &mut self,
-        target: Target,
+        target: StreamPath,
         octets: &[u8],
         listener: &mut L,
     ) -> Result<(), ReplayFault>
@@ -194,7 +196,7 @@ impl Run {
         ensures clock { self.new.clock ≡ self.old.clock }
     {
         let Some(path) = Path::new(target.path) else {
-            return Err(self.pathless(target.stream));
+            return Err(self.path_fault_of(target.stream));
         };
         match self.engine.arrive(target.stream, path, octets) {
             Ok(_receipt) => {
@@ -207,7 +209,7 @@ impl Run {
     }
 
     /// The fault of a datagram on a path that no stream has.
-    fn pathless(&self, stream: usize) -> ReplayFault
+    fn path_fault_of(&self, stream: usize) -> ReplayFault
         ensures { IsRun result }
     {
         if stream < self.engine.streams() {
@@ -228,7 +230,7 @@ fn instants_at(from: u64, reading: u64) -> Option<i64>
 }
 
 /// Tells of a reading that is not the one before.
-fn tell_reading<L: Listener>(listener: &mut L, before: i64, now: i64)
+fn tell_reading<L: ReplayObserver>(listener: &mut L, before: i64, now: i64)
     ensures { (begun : L) (events : List TraceEvent) (datagrams : List (List ℕ)) → L.heard begun listener.old events datagrams → L.heard begun listener.new (turned before now events) datagrams }
 {
     if before != now {
@@ -250,6 +252,6 @@ fn fault_at(place: usize, fault: ArriveFault) -> ReplayFault
     match fault {
         ArriveFault::Stream => ReplayFault::Run(StudioFault::Stream(place)),
         ArriveFault::Path => ReplayFault::Run(StudioFault::Path(place)),
-        ArriveFault::Unfinished | ArriveFault::Full => ReplayFault::Full,
+        ArriveFault::Unfinished | ArriveFault::Full => ReplayFault::TooManyEvents,
     }
 }

@@ -22,7 +22,7 @@ pub enum ReplayFault {
     Run(StudioFault),
     /// The capture says more than 2^62 events.
     #[error("capture: too many events")]
-    Full,
+    TooManyEvents,
     /// A write failed, or took no octet.
     #[error("device: write")]
     Write,

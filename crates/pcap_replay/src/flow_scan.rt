@@ -1,23 +1,25 @@
 //! The flows of a capture that is read from a file.
 ghost use Rattle.std.specs.Prelude.{◌≡◌, ◌≤◌, ◌++◌, ℕ, List, map, length, drop, Option, None, Ok, IfOk, IfSome, OnOk};
 ghost use Rattle.pcap_file.specs.Entries.{Entry};
-ghost use Rattle.pcap_file.specs.Window.{octets_of};
+ghost use Rattle.pcap_file.specs.ReadBuffer.{octets_of};
 ghost use Rattle.pcap_file.specs.Reader.{HasTold, IsNext, packets_among, part_entries};
 ghost use Rattle.pcap_replay.specs.Flows.{HasTable};
 ghost use Rattle.pcap_file.specs.Capture.{packets_of};
-ghost use Rattle.pcap_flows.specs.Table.{no_table, table_after, table_view};
+ghost use Rattle.pcap_flows.specs.FlowTable.{no_table, table_after, table_view};
 
-use pcap_file::{Part, Parts, ReaderFault, Window, has_next, next, reader_open as open};
-use pcap_flows::Table;
+use pcap_file::{
+    BlockParser, CaptureBlock, ReadBuffer, ReaderFault, has_block, next_block, open_reader,
+};
+use pcap_flows::FlowTable;
 use std::alloc::{AllocError, Global};
 use std::io::Read;
 
-/// The flows of a capture, up to its end or its fault, as `Table::of` answers them of one in memory.
-pub fn flows_of<R: Read>(alloc: Global, reader: &mut R) -> Result<Table, ReaderFault>
+/// The flows of a capture, up to its end or its fault, as `FlowTable::of` answers them of one in memory.
+pub fn scan_flows<R: Read>(alloc: Global, reader: &mut R) -> Result<FlowTable, ReaderFault>
     ensures { IfOk result (λ table. IfSome (R.remaining reader.old) (λ file. table_view table ≡ table_after no_table (packets_of file))) }
 {
-    let mut table = Table::new(alloc);
-    match open(alloc, reader) {
+    let mut table = FlowTable::new(alloc);
+    match open_reader(alloc, reader) {
         Ok((mut window, mut parts)) => {
             add_all(alloc, &mut table, &mut parts, &mut window, reader)?;
             Ok(table)
@@ -33,32 +35,32 @@ pub fn flows_of<R: Read>(alloc: Global, reader: &mut R) -> Result<Table, ReaderF
 /// Takes in the packets of what is left of a capture, and its fault.
 fn add_all<R: Read>(
     alloc: Global,
-    table: &mut Table,
-    parts: &mut Parts,
-    window: &mut Window,
+    table: &mut FlowTable,
+    parts: &mut BlockParser,
+    window: &mut ReadBuffer,
     reader: &mut R,
 ) -> Result<(), ReaderFault>
     ensures { OnOk result ((file : List ℕ) (entries : List Entry) → HasTold file entries (R.remaining reader.old) parts.old (octets_of window.old) window.old.ended
         → table_view table.old ≡ table_after no_table (map Ok (packets_among entries)) → table_view table.new ≡ table_after no_table (packets_of file)) }
 {
     'parts: for _ in 0..u64::MAX {
-        if !has_next(parts, window, reader)? {
+        if !has_block(parts, window, reader)? {
             return Ok(());
         }
         match add_next(alloc, table, parts, window)? {
-            Some(len) => window.pass(len),
+            Some(len) => window.consume(len),
             None => return Ok(()),
         }
     }
-    Err(ReaderFault::Unread)
+    Err(ReaderFault::ReadFailed)
 }
 
 /// Takes in what comes next, and answers its length; none where the capture is at fault.
 fn add_next(
     alloc: Global,
-    table: &mut Table,
-    parts: &mut Parts,
-    window: &Window,
+    table: &mut FlowTable,
+    parts: &mut BlockParser,
+    window: &ReadBuffer,
 ) -> Result<Option<usize>, AllocError>
     requires { IsNext parts.old (octets_of window.now) window.now.ended }
     ensures len { IfOk result (λ given. IfSome given (λ len. len ≤ length (octets_of window.now))) }
@@ -68,7 +70,7 @@ fn add_next(
     ensures fault { IfOk result (λ given. given ≡ None → (file : List ℕ) (entries : List Entry) (left : Option (List ℕ)) → HasTold file entries left parts.old (octets_of window.now) window.now.ended
         → table_view table.old ≡ table_after no_table (map Ok (packets_among entries)) → table_view table.new ≡ table_after no_table (packets_of file)) }
 {
-    match next(parts, window) {
+    match next_block(parts, window) {
         Ok(part) => {
             add_part(alloc, table, &part)?;
             Ok(Some(part.len))
@@ -81,7 +83,7 @@ fn add_next(
 }
 
 /// Takes in the packet of a record or a block, if it has one.
-fn add_part(alloc: Global, table: &mut Table, part: &Part<'_>) -> Result<(), AllocError>
+fn add_part(alloc: Global, table: &mut FlowTable, part: &CaptureBlock<'_>) -> Result<(), AllocError>
     ensures { OnOk result ((entries : List Entry) → table_view table.old ≡ table_after no_table (map Ok (packets_among entries))
         → table_view table.new ≡ table_after no_table (map Ok (packets_among (entries ++ part_entries part.now)))) }
 {

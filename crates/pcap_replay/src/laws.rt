@@ -9,9 +9,9 @@ ghost use Rattle.studio_session.specs.Fault.{session_fault_of};
 ghost use Rattle.studio_session.specs.Pruned.{pruned_events};
 ghost use Rattle.studio_run.specs.Trace.{trace_events};
 ghost use Rattle.pcap_replay.specs.Events.{replay_events};
-ghost use Rattle.pcap_replay.specs.Imported.{AreLines};
-ghost use Rattle.pcap_replay.specs.Plan.{Flows, places_of};
-ghost use Rattle.pcap_replay.specs.Recorded.{AreRecorded, AreRising};
+ghost use Rattle.pcap_replay.specs.ImportLines.{AreLines};
+ghost use Rattle.pcap_replay.specs.Routing.{Flows, places_of};
+ghost use Rattle.pcap_replay.specs.RecordPackets.{AreRecorded, AreRising};
 
 /// The packets of a run's arrivals and the time of its close say the events of the run, but for each reading that another
 /// one follows directly, which `studio_session::readings_may_be_left_out` says to change no datagram and no count.

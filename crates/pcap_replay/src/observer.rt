@@ -1,12 +1,12 @@
 //! Who is told what a replay takes and gives.
 ghost use Rattle.std.specs.Prelude.{◌≡◌, ◌≤◌, ◌∷◌, ◌++◌, [], ⊤, ℕ, List, length};
 ghost use Rattle.studio_session.specs.Event.{TraceEvent, Arrival, Closing, Reading};
-ghost use Rattle.pcap_replay.specs.Heard.{HasHeardIf};
+ghost use Rattle.pcap_replay.specs.Observed.{HasHeardIf};
 
 use path_merge::Path;
 
 /// Is told each event that a replay takes, and each datagram that it gives. What it does with them delays the replay.
-pub trait Listener {
+pub trait ReplayObserver {
     /// Since it was the first of these, the second was told of these events and these datagrams, in order.
     ghost heard: { Self → Self → List TraceEvent → List (List ℕ) → Type 0 };
 
@@ -31,9 +31,9 @@ pub trait Listener {
 
 /// A listener that does nothing with what it is told.
 #[derive(Clone, Copy, Debug)]
-pub struct Deaf;
+pub struct NoObserver;
 
-impl Listener for Deaf {
+impl ReplayObserver for NoObserver {
     ghost heard = { λ _ _ _ _. ⊤ };
 
     fn arrived(&mut self, _stream: usize, _path: Path, _octets: &[u8]) {}
@@ -46,7 +46,7 @@ impl Listener for Deaf {
 }
 
 /// A listener that there may not be.
-impl<L: Listener> Listener for Option<L> {
+impl<L: ReplayObserver> ReplayObserver for Option<L> {
     ghost heard = { λ begun now events datagrams. HasHeardIf L.heard begun now events datagrams };
 
     fn arrived(&mut self, stream: usize, path: Path, octets: &[u8]) {

@@ -7,14 +7,14 @@ ghost use Rattle.studio_session.specs.Event.{TraceEvent};
 ghost use Rattle.studio_engine.specs.Session.{HasSession, turned};
 ghost use Rattle.pcap_replay.specs.Lines.{BreaksLines, GivesLines};
 
-use crate::observer::Listener;
+use crate::observer::ReplayObserver;
 use std::io::Write;
 use studio_engine::Engine;
 use studio_run::{TextBuffer, WriteFault, write_datagram};
 use studio_session::MOST_OUTPUT_OCTETS;
 
 /// Moves an engine on to a reading, tells of the datagrams that it gives, and writes their lines.
-pub(crate) fn write_turn<W: Write, L: Listener>(
+pub(crate) fn write_turn<W: Write, L: ReplayObserver>(
     engine: &mut Engine,
     now: i64,
     text: &mut TextBuffer,
@@ -49,7 +49,7 @@ pub(crate) fn write_turn<W: Write, L: Listener>(
 }
 
 /// Tells of the datagrams that are left after a close, and writes their lines.
-pub(crate) fn write_rest<W: Write, L: Listener>(
+pub(crate) fn write_drained<W: Write, L: ReplayObserver>(
     engine: &mut Engine,
     text: &mut TextBuffer,
     writer: &mut W,

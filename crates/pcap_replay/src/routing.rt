@@ -1,8 +1,8 @@
 //! Where the datagrams of a capture go, and from when its readings count.
 ghost use Rattle.std.specs.Prelude.{◌≡◌, Some};
-ghost use Rattle.pcap_replay.specs.Plan as spec;
+ghost use Rattle.pcap_replay.specs.Routing as spec;
 ghost use Rattle.pcap_file.specs.Packet.{packet_view};
-ghost use Rattle.pcap_replay.specs.Plan.{clock_before, closing_of, opening_of, plan_view, target_of};
+ghost use Rattle.pcap_replay.specs.Routing.{clock_before, closing_of, opening_of, plan_view, target_of};
 
 use path_merge::StreamSpec;
 use pcap_file::Packet;
@@ -10,11 +10,11 @@ use pcap_flows::{CaptureClock, Route, route_in};
 
 /// What is known of a capture before its first packet.
 #[derive(Clone, Copy)]
-pub(crate) enum Plan<'a> {
+pub(crate) enum Routing<'a> {
     /// Flows have routes, and readings count from the first packet's time.
     Flows(&'a [Route]),
     /// Interfaces are the places of the paths of these streams, and readings count from an opening time.
-    Places {
+    Interfaces {
         streams: &'a [StreamSpec],
         open_at: u64,
     },
@@ -22,19 +22,19 @@ pub(crate) enum Plan<'a> {
 
 /// A path of a stream, by their numbers.
 #[derive(Clone, Copy)]
-pub(crate) struct Target {
+pub(crate) struct StreamPath {
     pub(crate) stream: usize,
     pub(crate) path: u8,
 }
 
-impl Plan<'_> {
+impl Routing<'_> {
     /// Where a packet goes, if it goes anywhere.
-    pub(crate) fn target(&self, packet: &Packet<'_>) -> Option<Target>
+    pub(crate) fn target(&self, packet: &Packet<'_>) -> Option<StreamPath>
         ensures { result ≡ target_of (plan_view self.now) (packet_view packet.now) }
     {
         match self {
-            Plan::Flows(routes) => Some(target_by(&route_in(routes, packet)?)),
-            Plan::Places { streams, .. } => Some(path_at(streams, packet.interface)),
+            Routing::Flows(routes) => Some(path_of_route(&route_in(routes, packet)?)),
+            Routing::Interfaces { streams, .. } => Some(path_at(streams, packet.interface)),
         }
     }
 
@@ -43,8 +43,8 @@ impl Plan<'_> {
         ensures { result ≡ opening_of (plan_view self.now) }
     {
         match self {
-            Plan::Flows(_) => 0,
-            Plan::Places { open_at, .. } => *open_at,
+            Routing::Flows(_) => 0,
+            Routing::Interfaces { open_at, .. } => *open_at,
         }
     }
 
@@ -53,8 +53,8 @@ impl Plan<'_> {
         ensures { result ≡ closing_of (plan_view self.now) told }
     {
         match self {
-            Plan::Flows(_) => None,
-            Plan::Places { .. } => told,
+            Routing::Flows(_) => None,
+            Routing::Interfaces { .. } => told,
         }
     }
 
@@ -64,39 +64,39 @@ impl Plan<'_> {
     {
         let mut clock = CaptureClock::new();
         match self {
-            Plan::Flows(_) => {}
-            Plan::Places { .. } => clock.read(Some(0)),
+            Routing::Flows(_) => {}
+            Routing::Interfaces { .. } => clock.read(Some(0)),
         }
         clock
     }
 }
 
 /// The path that a route names.
-fn target_by(route: &Route) -> Target
-    ensures { Some result ≡ spec.target_by (Some route.now) }
+fn path_of_route(route: &Route) -> StreamPath
+    ensures { Some result ≡ spec.path_of_route (Some route.now) }
 {
-    Target {
+    StreamPath {
         stream: usize::from(route.stream),
         path: route.letter.saturating_sub(b'a'),
     }
 }
 
 /// The path at a place among those of all streams.
-fn path_at(streams: &[StreamSpec], place: u32) -> Target
+fn path_at(streams: &[StreamSpec], place: u32) -> StreamPath
     ensures { result ≡ spec.path_at 0 streams.now place }
 {
     let mut left = place;
     for number in 0..streams.len() {
         let paths = u32::from(streams[number].paths());
         if left < paths {
-            return Target {
+            return StreamPath {
                 stream: number,
                 path: left as u8,
             };
         }
         left -= paths;
     }
-    Target {
+    StreamPath {
         stream: streams.len(),
         path: 0,
     }

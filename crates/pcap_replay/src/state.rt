@@ -8,7 +8,7 @@ use studio_run::TextBuffer;
 
 /// What was heard of a capture so far, and the text that is not written yet.
 #[derive(Drop)]
-pub(crate) struct Run {
+pub(crate) struct ReplayState {
     pub(crate) engine: Engine,
     pub(crate) clock: CaptureClock,
     /// How many events came, for the place of the next.

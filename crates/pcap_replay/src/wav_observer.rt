@@ -2,10 +2,10 @@
 ghost use Rattle.std.specs.Prelude.{◌≡◌, ◌≤◌, ◌∷◌, ◌++◌, [], ℕ, List, Some, IfOk, length};
 ghost use Rattle.mix_packets.specs.declared.out_spec.Output.{Output};
 ghost use Rattle.wav_file.specs.File.{wav_octets};
-ghost use Rattle.wav_file.specs.WavSamples.{output_format, samples_in};
-ghost use Rattle.pcap_replay.specs.Sound.{HasFront, HasHead, HasSounded, SoundState};
+ghost use Rattle.wav_file.specs.MixSamples.{output_format, samples_in};
+ghost use Rattle.pcap_replay.specs.WavObserver.{HasFront, HasHead, HasSounded, SoundState};
 
-use crate::observer::Listener;
+use crate::observer::ReplayObserver;
 use mix_packets::OutSpec;
 use path_merge::Path;
 use std::io::Write;
@@ -14,26 +14,26 @@ use wav_file::{FileFault, Overwrite, WavFormat, WavWriter};
 
 /// Writes the samples of the datagrams that it is told of to a WAV file. After a write that failed it writes no more.
 ///
-/// Input: as a `Listener`. Output: `finish`, once the replay came to its end, or `break_off` after a fault.
+/// Input: as a `ReplayObserver`. Output: `finish`, once the replay came to its end, or `break_off` after a fault.
 #[derive(Drop)]
-pub struct Sound<F: Overwrite> {
+pub struct WavObserver<F: Overwrite> {
     file: F,
     wav: WavWriter,
     /// Whether a write failed.
     failed: bool,
 }
 
-impl<F: Overwrite> Model for Sound<F> {
-    ghost use Rattle.pcap_replay.specs.Sound.{SoundState};
+impl<F: Overwrite> Model for WavObserver<F> {
+    ghost use Rattle.pcap_replay.specs.WavObserver.{SoundState};
 
     ghost Value = { SoundState };
 
     ghost view = { λ s. record { made = F.Write.contents s.file; wav = s.wav; failed = s.failed } };
 }
 
-impl<F: Overwrite + Drop> Sound<F> {
+impl<F: Overwrite + Drop> WavObserver<F> {
     /// Begins the file of an output's samples, in a file that holds nothing.
-    pub fn begin(file: F, output: &OutSpec) -> Result<Sound<F>, FileFault>
+    pub fn begin(file: F, output: &OutSpec) -> Result<WavObserver<F>, FileFault>
         ensures head { IfOk result (λ sound. F.Write.contents file ≡ Some [] → HasHead sound) }
         ensures format { IfOk result (λ sound. sound.wav.format ≡ output_format output.now) }
         ensures fresh { IfOk result (λ sound. HasSounded sound sound []) }
@@ -44,7 +44,7 @@ impl<F: Overwrite + Drop> Sound<F> {
             channels: output.channels(),
         };
         match WavWriter::begin(format, &mut file) {
-            Ok(wav) => Ok(Sound {
+            Ok(wav) => Ok(WavObserver {
                 file,
                 wav,
                 failed: false,
@@ -90,14 +90,14 @@ impl<F: Overwrite + Drop> Sound<F> {
             → HasFront begun.wav.format (F.Write.contents file) datagrams) }
     {
         let mut file = self.file;
-        match self.wav.break_off(&mut file) {
+        match self.wav.finish_partial(&mut file) {
             Ok(()) => Ok(file),
             Err(_) => Err(FileFault::Write),
         }
     }
 }
 
-impl<F: Overwrite + Drop> Listener for Sound<F> {
+impl<F: Overwrite + Drop> ReplayObserver for WavObserver<F> {
     ghost heard = { λ begun now _ datagrams. HasSounded begun now datagrams };
 
     fn arrived(&mut self, _stream: usize, _path: Path, _octets: &[u8]) {}

@@ -1,2 +1,2 @@
 pub mod BinsLemmas
-pub mod PictureLemmas
+pub mod ChartLemmas

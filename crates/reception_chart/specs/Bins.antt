@@ -2,13 +2,13 @@
 use Rattle.std.specs.Prelude.{◌≡◌, ◌<◌, ◌+◌, ◌*◌, ℕ, ℤ, Bool, ◌&&◌, nat_eq, List, get_or, count_by}
 use Rattle.reception_chart.specs.Axis.{span_of}
 use Rattle.reception_chart.specs.declared.reception.axis.Axis.{Axis}
-use Rattle.reception_chart.specs.declared.reception.Kind.{Kind}
-use Rattle.reception_chart.specs.declared.reception.Kind.TheVariants.{Taken, Double, Late, Refused, Lost, Restart}
+use Rattle.reception_chart.specs.declared.reception.ReceptionKind.{ReceptionKind}
+use Rattle.reception_chart.specs.declared.reception.ReceptionKind.TheVariants.{Taken, Double, Late, Refused, Lost, Restart}
 
 -- one thing that was seen, and when
 pub record Seen : Type 0 where
   pub time : ℤ
-  pub kind : Kind
+  pub kind : ReceptionKind
 
 -- what contracts see of bins: a count for each row of each span
 pub record BinsState : Type 0 where
@@ -16,7 +16,7 @@ pub record BinsState : Type 0 where
   pub counts : List ℕ
 
 -- the row of a kind: of a packet that was taken that of its path
-abbrev pub row_of : Kind → ℕ
+abbrev pub row_of : ReceptionKind → ℕ
 row_of (Taken path) = path
 row_of Double = 4
 row_of Late = 5

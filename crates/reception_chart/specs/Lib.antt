@@ -1,3 +1,3 @@
 pub mod Axis
 pub mod Bins
-pub mod Picture
+pub mod Chart

@@ -34,19 +34,19 @@ const STYLE: &str = "<style>\n\
     </style>\n";
 
 /// A text that found no room is want of memory.
-pub(crate) fn line(written: io::Result<()>) -> Result<(), AllocError> {
+pub(crate) fn fmt_result(written: io::Result<()>) -> Result<(), AllocError> {
     written.map_err(|_| AllocError)
 }
 
 /// Begins a picture of this height.
 pub(crate) fn push_head(svg: &mut Vec<u8>, height: u32, streams: usize) -> Result<(), AllocError> {
-    line(write!(
+    fmt_result(write!(
         svg,
         "<svg xmlns=\"http://www.w3.org/2000/svg\" viewBox=\"0 0 {WIDTH} {height}\" width=\"{WIDTH}\" height=\"{height}\" \
         role=\"img\">\n<title>Reception of {streams} streams by their paths, over media time</title>\n"
     ))?;
     svg.extend_from_slice(STYLE.as_bytes())?;
-    line(write!(
+    fmt_result(write!(
         svg,
         "<rect class=\"paper\" width=\"{WIDTH}\" height=\"{height}\"/>\n\
         <text class=\"title\" x=\"24\" y=\"30\">What each path gave</text>\n"
@@ -66,7 +66,7 @@ pub(crate) fn push_text(
     y: u32,
     text: &str,
 ) -> Result<(), AllocError> {
-    line(write!(
+    fmt_result(write!(
         svg,
         "<text class=\"{class}\" x=\"{x}\" y=\"{y}\">{text}</text>\n"
     ))

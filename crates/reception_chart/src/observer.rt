@@ -1,8 +1,8 @@
 //! Who is told what is seen of a stream.
-use crate::reception::Sighting;
+use crate::reception::ReceptionEvent;
 
 /// Who is told what is seen.
-pub trait Observer {
+pub trait ReceptionObserver {
     /// One thing more was seen.
-    fn see(&mut self, sighting: &Sighting);
+    fn observe(&mut self, event: &ReceptionEvent);
 }

@@ -25,7 +25,7 @@ pub const RESTART_ROW: usize = 8;
 
 /// What a strip counts.
 #[derive(Clone, Copy, Debug, PartialEq, Eq)]
-pub enum Kind {
+pub enum ReceptionKind {
     /// A packet was taken from a path.
     Taken(Path),
     /// A further copy of a packet came, as the first.
@@ -40,26 +40,26 @@ pub enum Kind {
     Restart,
 }
 
-impl Kind {
+impl ReceptionKind {
     /// Its row in a strip: of a packet that was taken its path's.
     pub fn row(self) -> usize
         ensures value { result ≡ row_of self }
         ensures within { result < 9 }
     {
         match self {
-            Kind::Taken(path) => usize::from(path.number()),
-            Kind::Double => DOUBLE_ROW,
-            Kind::Late => LATE_ROW,
-            Kind::Lost => LOST_ROW,
-            Kind::Refused => REFUSED_ROW,
-            Kind::Restart => RESTART_ROW,
+            ReceptionKind::Taken(path) => usize::from(path.number()),
+            ReceptionKind::Double => DOUBLE_ROW,
+            ReceptionKind::Late => LATE_ROW,
+            ReceptionKind::Lost => LOST_ROW,
+            ReceptionKind::Refused => REFUSED_ROW,
+            ReceptionKind::Restart => RESTART_ROW,
         }
     }
 }
 
 /// A copy that came in time or late.
 #[derive(Clone, Copy, Debug, PartialEq, Eq)]
-pub struct Copied {
+pub struct CopyTiming {
     pub path: Path,
     /// From its arrival to its deadline, in sampling instants; of one that came late it says nothing.
     pub spare: i64,
@@ -67,9 +67,9 @@ pub struct Copied {
 
 /// One thing that was seen of a stream.
 #[derive(Clone, Copy, Debug, PartialEq, Eq)]
-pub struct Sighting {
+pub struct ReceptionEvent {
     /// The media time of the packet or slot; the reading of the clock for a packet off the grid, or before the first.
     pub time: i64,
-    pub kind: Kind,
-    pub copied: Option<Copied>,
+    pub kind: ReceptionKind,
+    pub copied: Option<CopyTiming>,
 }

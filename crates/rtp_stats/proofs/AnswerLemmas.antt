@@ -6,12 +6,12 @@ use Rattle.std.proofs.lemmas.Int.{ints}
 use Rattle.std.proofs.lemmas.List.Elements.{All-head, All-tail}
 use Rattle.rtp_stats.proofs.MedianLemmas.{median_is}
 use Rattle.rtp_stats.proofs.SecondLemmas.{none_yet}
-use Rattle.rtp_stats.specs.Second.{HasSecond, HasSpares, IsSpareOf, place_of}
-use Rattle.rtp_stats.specs.Spare.{IsLatest, IsLeast, IsMedian, is_in, last_spares, second_of, spare_at, spares_before, spares_in}
+use Rattle.rtp_stats.specs.MarginSecond.{HasSecond, HasSpares, IsSpareOf, place_of}
+use Rattle.rtp_stats.specs.Margins.{IsLatest, IsLeast, IsMedian, is_in, last_spares, second_of, spare_at, spares_before, spares_in}
 use Rattle.rtp_stats.specs.Tally.{HasSeconds}
 use Rattle.rtp_stats.specs.Offer.{Offer}
-use Rattle.rtp_stats.specs.declared.spare.Spare.{Spare}
-use Rattle.rtp_stats.specs.declared.tally.margins.Second.{Second}
+use Rattle.rtp_stats.specs.declared.spare.ArrivalMargin.{ArrivalMargin}
+use Rattle.rtp_stats.specs.declared.tally.margins.MarginSecond.{MarginSecond}
 
 -- the seconds of a clock don't go back
 second_of-le : (t u : ℤ) → t ≤ℤ u → second_of t ≤ second_of u
@@ -47,18 +47,18 @@ last_is path second now offers e = ap (λ n. spares_before path n offers) e
 pub last_none : (path : ℕ) (now : ℤ) (offers : List Offer) → second_of now ≡ 0 → last_spares path now offers ≡ []
 last_none path now offers e = ap (λ n. spares_before path n offers) e
 
-module _ (path parity second : ℕ) (offers : List Offer) (s : Second) (has : HasSecond path parity offers s) where
+module _ (path parity second : ℕ) (offers : List Offer) (s : MarginSecond) (has : HasSecond path parity offers s) where
   same_spares : s.second ≡ second → HasSpares (spares_in path second offers) s
   same_spares is = subst (λ n. HasSpares (spares_in path n offers) s) is has.spares
 
-  pub least_is : (spare : Spare) → IsSpareOf s second spare → IsLeast (spares_in path second offers) spare.least
+  pub least_is : (spare : ArrivalMargin) → IsSpareOf s second spare → IsLeast (spares_in path second offers) spare.least
   least_is spare of =
       let known = same_spares of.second in
       let count : s.count ≡ min (length (spares_in path second offers)) (2 ^ 32 - 1) = known.count in
       let some : 0 < length (spares_in path second offers) = omega (arith, count, of.some) in
       subst (IsLeast (spares_in path second offers)) (sym of.least) (record { one = known.some some; below_all = known.least })
 
-  pub median_of : (spare : Spare) → IsSpareOf s second spare → length (spares_in path second offers) < 2 ^ 32 → IsMedian (spares_in path second offers) spare.median
+  pub median_of : (spare : ArrivalMargin) → IsSpareOf s second spare → length (spares_in path second offers) < 2 ^ 32 → IsMedian (spares_in path second offers) spare.median
   median_of spare of few = median_is (spares_in path second offers) s (same_spares of.second) few spare.median of.median of.middle
 
   -- where there is nothing of the second before this reading, no packet came in it
@@ -87,7 +87,7 @@ module _ (path parity second : ℕ) (offers : List Offer) (s : Second) (has : Ha
           absurd (omega (arith, count, zero, some))
 
 -- the second that is asked for
-module _ (path second k : ℕ) (now : ℤ) (offers : List Offer) (seconds : List Second) (s : Second) (has : HasSeconds offers seconds) (is : second ≡ second_of now) (some : second ≢ 0) (place : k ≡ place_of path (second - 1)) (few : k < 8) (read : s ≡ slice_index_or seconds k s) where
+module _ (path second k : ℕ) (now : ℤ) (offers : List Offer) (seconds : List MarginSecond) (s : MarginSecond) (has : HasSeconds offers seconds) (is : second ≡ second_of now) (some : second ≢ 0) (place : k ≡ place_of path (second - 1)) (few : k < 8) (read : s ≡ slice_index_or seconds k s) where
   held : HasSecond path ((second - 1) % 2) offers s
   held =
       let on : k / 2 ≡ path = omega (arith, place) in
@@ -97,17 +97,17 @@ module _ (path second k : ℕ) (now : ℤ) (offers : List Offer) (seconds : List
   next : second_of now ≡ suc (second - 1)
   next = omega (arith, is, some)
 
-  pub least_answer : (r : Option Spare) → MatchOption r (s.second ≡ second - 1 → s.count ≡ 0) (IsSpareOf s (second - 1)) → IfSome r (λ spare. IsLeast (last_spares path now offers) spare.least)
+  pub least_answer : (r : Option ArrivalMargin) → MatchOption r (s.second ≡ second - 1 → s.count ≡ 0) (IsSpareOf s (second - 1)) → IfSome r (λ spare. IsLeast (last_spares path now offers) spare.least)
   least_answer None none = tt
   least_answer (Some spare) of = subst (λ xs. IsLeast xs spare.least) (sym (last_is path (second - 1) now offers next)) (least_is path ((second - 1) % 2) (second - 1) offers s held spare of)
 
-  pub median_answer : (r : Option Spare) → MatchOption r (s.second ≡ second - 1 → s.count ≡ 0) (IsSpareOf s (second - 1)) → length (last_spares path now offers) < 2 ^ 32 → IfSome r (λ spare. IsMedian (last_spares path now offers) spare.median)
+  pub median_answer : (r : Option ArrivalMargin) → MatchOption r (s.second ≡ second - 1 → s.count ≡ 0) (IsSpareOf s (second - 1)) → length (last_spares path now offers) < 2 ^ 32 → IfSome r (λ spare. IsMedian (last_spares path now offers) spare.median)
   median_answer None none short = tt
   median_answer (Some spare) of short =
       let same = last_is path (second - 1) now offers next in
       subst (λ xs. IsMedian xs spare.median) (sym same) (median_of path ((second - 1) % 2) (second - 1) offers s held spare of (subst (λ xs. length xs < 2 ^ 32) same short))
 
-  pub none_answer : (r : Option Spare) → MatchOption r (s.second ≡ second - 1 → s.count ≡ 0) (IsSpareOf s (second - 1)) → IsLatest now offers → IsNone r → last_spares path now offers ≡ []
+  pub none_answer : (r : Option ArrivalMargin) → MatchOption r (s.second ≡ second - 1 → s.count ≡ 0) (IsSpareOf s (second - 1)) → IsLatest now offers → IsNone r → last_spares path now offers ≡ []
   none_answer None none latest is_none = last_is path (second - 1) now offers next ∙ none_is path ((second - 1) % 2) (second - 1) offers s held now next refl latest none
   none_answer (Some spare) of latest is_none = absurd (no_none is_none)
     where

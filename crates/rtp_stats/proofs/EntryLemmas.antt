@@ -5,9 +5,9 @@ use Rattle.std.proofs.lemmas.Bool.{and_from, and_parts, eq-eqb, eqb-false, eqb-t
 use Rattle.std.proofs.lemmas.List.{get_or-set_other, get_or-set_same, length-set}
 use Rattle.rtp_stream.specs.Counts.{is_double, is_late, is_taken_fate, is_unlike}
 use Rattle.rtp_stats.proofs.CountLemmas.{and_false}
-use Rattle.rtp_stats.specs.Entry.{HasEntry, empty_entry, entry_after, entry_of, misses, no_path, with_copy}
+use Rattle.rtp_stats.specs.WindowCopies.{HasEntry, empty_entry, entry_after, entry_of, misses, no_path, with_copy}
 use Rattle.rtp_stats.specs.Missed.{has_brought, is_copy_fate, is_copy_on, is_without, taken_last, takes}
-use Rattle.rtp_stats.specs.declared.tally.window_copies.Entry.{Entry}
+use Rattle.rtp_stats.specs.declared.tally.window_copies.WindowCopies.{WindowCopies}
 use Rattle.rtp_stats.specs.Offer.{Offer}
 
 some_inside : (a b : ℕ) → Some a ≡ Some b → a ≡ b
@@ -77,11 +77,11 @@ module _ (window place : ℕ) (o : Offer) (offers : List Offer) where
   not_taken : is_taken_fate o.fate ≡ false → takes window place o ≡ false
   not_taken lacks = ap (λ b. b && nat_eq (o.seq % window) place) lacks
 
-  kept_number : (e : Entry) → HasEntry window place offers e → e.taken ≡ true → taken_last window place offers ≡ Some e.seq
+  kept_number : (e : WindowCopies) → HasEntry window place offers e → e.taken ≡ true → taken_last window place offers ≡ Some e.seq
   kept_number e has taken = sym has.number ∙ ap (λ b. if b then Some e.seq else None) taken
 
   -- an offer at another place
-  pub entry_elsewhere : (e : Entry) → o.seq % window ≢ place → HasEntry window place offers e → HasEntry window place (o ∷ offers) e
+  pub entry_elsewhere : (e : WindowCopies) → o.seq % window ≢ place → HasEntry window place offers e → HasEntry window place (o ∷ offers) e
   entry_elsewhere e ne has = record {
     four = has.four;
     number = has.number ∙ sym (last_skipped out);
@@ -114,7 +114,7 @@ module _ (window place : ℕ) (o : Offer) (offers : List Offer) where
           get_or-set_other no_path o.path p true false (λ e. other (sym e)) ∙ none_of_no_path p ∙ sym (brought_not p o.seq (other_path p o.seq other) here)
 
   -- a further copy here
-  entry_copied : (e : Entry) → is_taken_fate o.fate ≡ false → is_copy_fate o.fate ≡ true → o.path < 4 → HasEntry window place offers e → HasEntry window place (o ∷ offers) (with_copy o.path o.seq e)
+  entry_copied : (e : WindowCopies) → is_taken_fate o.fate ≡ false → is_copy_fate o.fate ≡ true → o.path < 4 → HasEntry window place offers e → HasEntry window place (o ∷ offers) (with_copy o.path o.seq e)
   entry_copied e lacks copy few has = by_test (e.taken && nat_eq e.seq o.seq) refl
     where
       out : takes window place o ≡ false
@@ -147,7 +147,7 @@ module _ (window place : ℕ) (o : Offer) (offers : List Offer) where
           unequal taken same = true_is_false (sym (and_from e.taken (nat_eq e.seq o.seq) taken (eq-eqb e.seq o.seq same)) ∙ is)
 
   -- an offer here
-  pub entry_here : (e : Entry) → o.path < 4 → o.seq % window ≡ place → HasEntry window place offers e → HasEntry window place (o ∷ offers) (entry_after o.path o.fate o.seq e)
+  pub entry_here : (e : WindowCopies) → o.path < 4 → o.seq % window ≡ place → HasEntry window place offers e → HasEntry window place (o ∷ offers) (entry_after o.path o.fate o.seq e)
   entry_here e few at has = by_fate (is_taken_fate o.fate) (is_copy_fate o.fate) refl refl
     where
       by_fate : (t c : Bool) → is_taken_fate o.fate ≡ t → is_copy_fate o.fate ≡ c → HasEntry window place (o ∷ offers) (if t then entry_of o.path o.seq else if c then with_copy o.path o.seq e else e)
@@ -160,7 +160,7 @@ module _ (window place : ℕ) (o : Offer) (offers : List Offer) where
       }
 
 -- what the number that is kept lacks
-pub without_is : (window place p : ℕ) (offers : List Offer) (e : Entry) → HasEntry window place offers e → p < 4 → is_without window place p (taken_last window place offers) offers ≡ misses e p
+pub without_is : (window place p : ℕ) (offers : List Offer) (e : WindowCopies) → HasEntry window place offers e → p < 4 → is_without window place p (taken_last window place offers) offers ≡ misses e p
 without_is window place p offers e has lt = by_taken e.taken refl
   where
     by_taken : (b : Bool) → e.taken ≡ b → is_without window place p (taken_last window place offers) offers ≡ (b && not (slice_index_or e.brought p false))

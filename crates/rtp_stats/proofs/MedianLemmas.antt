@@ -3,9 +3,9 @@ use Rattle.std.proofs.Common.{◌≡◌, ℕ, zero, suc, ◌+◌, ◌-◌, ◌*�
 use Rattle.std.specs.Prelude.{cond, count_by, nat_eq, nat_lt, slice_index, sum}
 use Rattle.std.proofs.lemmas.Bool.Decides.{nat_tests}
 use Rattle.std.proofs.lemmas.List.Sums.{count_by-le-length, sum_by-cons, sum_by_more}
-use Rattle.rtp_stats.specs.Second.{HasSpares, IsMiddle, bin_of, count_in}
-use Rattle.rtp_stats.specs.Spare.{IsMedian}
-use Rattle.rtp_stats.specs.declared.tally.margins.Second.{Second}
+use Rattle.rtp_stats.specs.MarginSecond.{HasSpares, IsMiddle, bin_of, count_in}
+use Rattle.rtp_stats.specs.Margins.{IsMedian}
+use Rattle.rtp_stats.specs.declared.tally.margins.MarginSecond.{MarginSecond}
 
 -- how many spare times are less
 abbrev pub less_than : ℕ → List ℕ → ℕ
@@ -32,7 +32,7 @@ none_less (x ∷ xs) =
     let first : nat_lt x 0 ≡ false = grind (arith, nat_tests) in
     less_than-first 0 x xs ∙ ap (λ b. cond b 1 0 + less_than 0 xs) first ∙ ap (λ n. 0 + n) (none_less xs)
 
-module _ (xs : List ℕ) (s : Second) (has : HasSpares xs s) (few : length xs < 2 ^ 32) where
+module _ (xs : List ℕ) (s : MarginSecond) (has : HasSpares xs s) (few : length xs < 2 ^ 32) where
   bin_exact : (bin : ℕ) → bin < 1024 → slice_index s.bins bin ≡ count_in bin xs
   bin_exact bin lt =
       let most : count_in bin xs ≤ length xs = count_by-le-length (λ x. nat_eq (bin_of x) bin) xs in

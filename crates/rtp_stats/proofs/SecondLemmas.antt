@@ -8,10 +8,10 @@ use Rattle.std.proofs.lemmas.List.{get_or-replicate, get_or-set_other, get_or-se
 use Rattle.std.proofs.lemmas.List.Elements.{All-cons, All-head, All-tail}
 use Rattle.std.proofs.lemmas.List.Sums.{sum_by-cons}
 use Rattle.rtp_stats.proofs.CountLemmas.{and_false}
-use Rattle.rtp_stats.specs.Second.{HasSecond, HasSpares, bin_of, count_in, count_in_32_bits, empty_second, second_after, with_spare}
-use Rattle.rtp_stats.specs.Spare.{is_in, second_of, spare_at, spares_in}
+use Rattle.rtp_stats.specs.MarginSecond.{HasSecond, HasSpares, bin_of, count_in, count_in_32_bits, empty_second, second_after, with_spare}
+use Rattle.rtp_stats.specs.Margins.{is_in, second_of, spare_at, spares_in}
 use Rattle.rtp_stats.specs.Offer.{Offer}
-use Rattle.rtp_stats.specs.declared.tally.margins.Second.{Second}
+use Rattle.rtp_stats.specs.declared.tally.margins.MarginSecond.{MarginSecond}
 
 some_is_none : (x : ℕ) → Some x ≡ None → ⊥
 some_is_none x e = cc
@@ -35,7 +35,7 @@ spares_none second = record {
   bins = λ bin lt. get_or-replicate {A = ℕ} 1024 bin 0 0 lt;
 }
 
-module _ (x : ℕ) (xs : List ℕ) (s : Second) (has : HasSpares xs s) where
+module _ (x : ℕ) (xs : List ℕ) (s : MarginSecond) (has : HasSpares xs s) where
   first_or_less : (b : Bool) → (nat_eq s.count 0 || nat_lt x s.least) ≡ b → (0 < length (x ∷ xs) → Contains (x ∷ xs) (if b then x else s.least)) × All (λ y. (if b then x else s.least) ≤ y) (x ∷ xs)
   first_or_less true is = (λ some. (0, omega arith, refl), All-cons (λ y. x ≤ y) x xs (omega arith) all)
     where
@@ -120,7 +120,7 @@ second_none path parity even = record {
   spares = spares_none parity;
 }
 
-module _ (path parity : ℕ) (o : Offer) (offers : List Offer) (s : Second) (has : HasSecond path parity offers s) where
+module _ (path parity : ℕ) (o : Offer) (offers : List Offer) (s : MarginSecond) (has : HasSecond path parity offers s) where
   -- an offer that changes nothing in the second that is kept
   kept : (second_of o.now ≢ s.second) ⊎ ((o.path ≢ path) ⊎ (o.spare ≡ None)) → IsLatestIn path parity s.second o → HasSecond path parity (o ∷ offers) s
   kept out latest = record {

@@ -4,7 +4,7 @@ use Rattle.rtp_stream.specs.declared.fate.Fate.{Fate}
 use Rattle.rtp_stream.specs.declared.fate.Fate.TheVariants.{Double, Late, Restarted, Taken, Unlike}
 use Rattle.rtp_stats.specs.Missed.{missed_of}
 use Rattle.rtp_stats.specs.Offers.{double_of, first_of}
-use Rattle.rtp_stats.specs.Spare.{last_spares}
+use Rattle.rtp_stats.specs.Margins.{last_spares}
 use Rattle.rtp_stats.specs.Offer.{Offer}
 
 abbrev offer : ℕ → Fate → ℕ → Offer

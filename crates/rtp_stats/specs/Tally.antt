@@ -2,30 +2,30 @@
 use Rattle.std.specs.Prelude.{◌≡◌, ℕ, ◌/◌, ◌%◌, ◌<◌, List, length, slice_index_or}
 use Rattle.rtp_stream.specs.declared.stream_spec.Stream.{Stream}
 use Rattle.rtp_stats.specs.declared.tally.fate_counts.FateCounts.{FateCounts}
-use Rattle.rtp_stats.specs.declared.tally.window_copies.Entry.{Entry}
-use Rattle.rtp_stats.specs.declared.tally.margins.Second.{Second}
+use Rattle.rtp_stats.specs.declared.tally.window_copies.WindowCopies.{WindowCopies}
+use Rattle.rtp_stats.specs.declared.tally.margins.MarginSecond.{MarginSecond}
 use Rattle.rtp_stats.specs.Offer.{Offer}
 use Rattle.rtp_stats.specs.Counts.{AreCounts, HasFates}
-use Rattle.rtp_stats.specs.Entry.{HasEntry}
+use Rattle.rtp_stats.specs.WindowCopies.{HasEntry}
 use Rattle.rtp_stats.specs.Missed.{missed_of}
-use Rattle.rtp_stats.specs.Second.{HasSecond}
+use Rattle.rtp_stats.specs.MarginSecond.{HasSecond}
 
 -- what contracts see of a tally
 pub record TallyState : Type 0 where
   pub counts : FateCounts
   pub missed : List ℕ
-  pub entries : List Entry
-  pub seconds : List Second
+  pub entries : List WindowCopies
+  pub seconds : List MarginSecond
 
 -- what is kept at each place of a window
-pub record HasEntries (window : ℕ) (offers : List Offer) (entries : List Entry) : Type 0 where
+pub record HasEntries (window : ℕ) (offers : List Offer) (entries : List WindowCopies) : Type 0 where
   pub width : length entries ≡ window
-  pub each : (place : ℕ) (d : Entry) → place < window → HasEntry window place offers (slice_index_or entries place d)
+  pub each : (place : ℕ) (d : WindowCopies) → place < window → HasEntry window place offers (slice_index_or entries place d)
 
 -- what is kept of each path's even seconds, and then of its odd ones
-pub record HasSeconds (offers : List Offer) (seconds : List Second) : Type 0 where
+pub record HasSeconds (offers : List Offer) (seconds : List MarginSecond) : Type 0 where
   pub eight : length seconds ≡ 8
-  pub each : (k : ℕ) (d : Second) → k < 8 → HasSecond (k / 2) (k % 2) offers (slice_index_or seconds k d)
+  pub each : (k : ℕ) (d : MarginSecond) → k < 8 → HasSecond (k / 2) (k % 2) offers (slice_index_or seconds k d)
 
 -- the tally of a stream was told these offers
 pub record HasTally (stream : Stream) (offers : List Offer) (tally : TallyState) : Type 0 where

@@ -1,7 +1,7 @@
 //! Values through a ring, of which the newest counts.
 ghost use Rattle.std.specs.Prelude.{◌≡◌, true, false};
 ghost use Rattle.rtrb.specs.Ring.{SameConsumer, SameProducer};
-ghost use Rattle.rtp_stats.specs.Newest.{Gives, GoesThrough, HasNoPlace, IsNewest};
+ghost use Rattle.rtp_stats.specs.Channel.{Gives, GoesThrough, HasNoPlace, IsNewest};
 
 use rtrb::{Consumer, Producer};
 
@@ -11,7 +11,7 @@ pub(crate) mod path;
 pub(crate) mod stream;
 
 /// Gives a value, if there is room, and says whether it went through.
-pub(crate) fn give<T: Drop>(ring: &mut Producer<T>, value: T) -> bool
+pub(crate) fn try_send<T: Drop>(ring: &mut Producer<T>, value: T) -> bool
     ensures given { Gives value ring.old ring.new }
     ensures through { result ≡ true → GoesThrough value ring.old ring.new }
     ensures full { result ≡ false → HasNoPlace ring.old ring.new }
@@ -21,7 +21,7 @@ pub(crate) fn give<T: Drop>(ring: &mut Producer<T>, value: T) -> bool
 }
 
 /// Takes out what waits, so many at most, and answers the newest.
-pub(crate) fn newest<T: Drop>(ring: &mut Consumer<T>, most: usize) -> Option<T>
+pub(crate) fn take_newest<T: Drop>(ring: &mut Consumer<T>, most: usize) -> Option<T>
     ensures newest { IsNewest most result ring.old ring.new }
     ensures ring { SameConsumer ring.old ring.new }
 {

@@ -3,27 +3,27 @@ ghost use Rattle.std.specs.Prelude.{◌≡◌, ℕ, ◌∷◌, [], List, Option,
 ghost use Rattle.rtp_stream.specs.declared.stream_spec.Stream.{Stream};
 ghost use Rattle.rtp_stats.specs.Offer.{Offer};
 ghost use Rattle.rtp_stats.specs.Tally.{HasTally};
-ghost use Rattle.rtp_stats.specs.Numbers.{AreNumbers};
+ghost use Rattle.rtp_stats.specs.Stats.{AreNumbers};
 
-use crate::deadlines::{Deadlines, spare_before};
-use crate::stats::PathNumbers;
+use crate::deadlines::{Deadlines, margin_before};
+use crate::stats::PathStats;
 use crate::tally::StreamTally;
 use rtp_stream::{Fate, Path, StreamSpec};
 use std::alloc::{AllocError, Global};
 
 /// What came of a stream's packets, path by path.
 #[derive(Drop)]
-pub struct CopyWatch {
+pub struct CopyTracker {
     deadlines: Deadlines,
     tally: StreamTally,
 }
 
-impl CopyWatch {
+impl CopyTracker {
     /// A stream of which nothing was offered. It takes all memory.
-    pub fn new(alloc: Global, spec: &StreamSpec) -> Result<CopyWatch, AllocError>
+    pub fn new(alloc: Global, spec: &StreamSpec) -> Result<CopyTracker, AllocError>
         ensures { IfOk result (λ watch. HasTally spec.now [] watch.tally) }
     {
-        Ok(CopyWatch {
+        Ok(CopyTracker {
             deadlines: Deadlines::new(),
             tally: StreamTally::new(alloc, spec)?,
         })
@@ -36,17 +36,17 @@ impl CopyWatch {
             × HasTally stream (record { path = path; fate = fate; seq = seq; spare = spare; now = now } ∷ offers) self.new.tally }
     {
         let spare = match self.deadlines.deadline(fate, ts, due) {
-            Some(deadline) => spare_before(deadline, now),
+            Some(deadline) => margin_before(deadline, now),
             None => None,
         };
         self.tally.add(path, fate, seq, spare, now);
     }
 
     /// What became of a path's packets, at a reading of the clock.
-    pub fn numbers(&self, path: Path, now: i64) -> PathNumbers
+    pub fn stats(&self, path: Path, now: i64) -> PathStats
         ensures { (stream : Stream) (offers : List Offer) → HasTally stream offers self.now.tally → AreNumbers stream offers path now result }
     {
-        PathNumbers {
+        PathStats {
             tally: self.tally.path(path),
             spare: self.tally.spare(path, now),
         }

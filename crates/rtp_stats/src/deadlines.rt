@@ -11,7 +11,7 @@ use rtp_stream::{Fate, near32};
 use std::marker::Model;
 
 /// How long before a deadline it is at a reading of the clock, in sampling instants; none from the deadline on.
-pub fn spare_before(deadline: i64, now: i64) -> Option<u32>
+pub fn margin_before(deadline: i64, now: i64) -> Option<u32>
     ensures { MatchOption result ((deadline ≤ℤ now) ⊎ ((now +ℤ pos (2 ^ 32)) ≤ℤ deadline)) (IsSpareBefore deadline now) }
 {
     let left = deadline.saturating_sub(now);
@@ -80,9 +80,9 @@ impl Deadlines {
         ensures unknown { self.old ≡ None → is_opening self.old fate ≡ false → result ≡ None }
     {
         match fate {
-            Fate::Restarted => self.open(ts, due),
-            Fate::Taken => self.take(ts, due),
-            Fate::Double | Fate::Unlike => self.beside(ts),
+            Fate::Restarted => self.of_first(ts, due),
+            Fate::Taken => self.of_taken(ts, due),
+            Fate::Double | Fate::Unlike => self.of_copy(ts),
             Fate::Closed
             | Fate::CountersFull
             | Fate::WrongSource
@@ -93,7 +93,7 @@ impl Deadlines {
     }
 
     /// The deadline of a packet that was taken, which is known from then on.
-    fn take(&mut self, ts: u32, due: Option<i64>) -> Option<i64>
+    fn of_taken(&mut self, ts: u32, due: Option<i64>) -> Option<i64>
         ensures opening { self.old ≡ None → (result ≡ due) × (self.new ≡ known_from ts due) }
         ensures in_step { (stream : Stream) (anchor : Anchor) (before number : ℕ) (known : KnownDeadline) →
             self.old ≡ Some known → IsDeadlineOf stream anchor before known →
@@ -105,7 +105,7 @@ impl Deadlines {
             IfSome self.new (IsDeadlineOf stream anchor number) }
     {
         if !self.known {
-            return self.open(ts, due);
+            return self.of_first(ts, due);
         }
         self.at = deadline_from(self.ts, self.at, ts);
         self.ts = ts;
@@ -113,7 +113,7 @@ impl Deadlines {
     }
 
     /// The deadline of a further copy.
-    fn beside(&self, ts: u32) -> Option<i64>
+    fn of_copy(&self, ts: u32) -> Option<i64>
         ensures in_step { (stream : Stream) (anchor : Anchor) (before number : ℕ) (known : KnownDeadline) →
             self.now ≡ Some known → IsDeadlineOf stream anchor before known →
             is_on_grid stream anchor number ts ≡ true → IsNearby stream before number → IsShortTime (deadline_of stream anchor number) →
@@ -127,7 +127,7 @@ impl Deadlines {
     }
 
     /// Takes the deadline of an epoch's first packet.
-    fn open(&mut self, ts: u32, due: Option<i64>) -> Option<i64>
+    fn of_first(&mut self, ts: u32, due: Option<i64>) -> Option<i64>
         ensures result { result ≡ due }
         ensures new { self.new ≡ known_from ts due }
     {

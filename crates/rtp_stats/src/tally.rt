@@ -2,18 +2,18 @@
 ghost use Rattle.std.specs.Prelude.{◌≡◌, ◌^◌, ◌<◌, List, [], ◌∷◌, length, replicate, slice_index_or, slice_set, IfOk, IfSome, IsNone};
 ghost use Rattle.rtp_stream.specs.declared.stream_spec.Stream.{Stream};
 ghost use Rattle.rtp_stats.specs.Offer.{Offer};
-ghost use Rattle.rtp_stats.specs.declared.tally.margins.Second.{Second};
-ghost use Rattle.rtp_stats.specs.Entry.{empty_entry};
+ghost use Rattle.rtp_stats.specs.declared.tally.margins.MarginSecond.{MarginSecond};
+ghost use Rattle.rtp_stats.specs.WindowCopies.{empty_entry};
 ghost use Rattle.rtp_stats.specs.Missed.{missed_of};
 ghost use Rattle.rtp_stats.specs.Offers.{count_in_64_bits, double_of, first_of, late_of, unlike_of};
-ghost use Rattle.rtp_stats.specs.Second.{AreNewSeconds, place_of, second_after};
-ghost use Rattle.rtp_stats.specs.Spare.{IsLatest, IsLeast, IsMedian, last_spares, second_of};
+ghost use Rattle.rtp_stats.specs.MarginSecond.{AreNewSeconds, place_of, second_after};
+ghost use Rattle.rtp_stats.specs.Margins.{IsLatest, IsLeast, IsMedian, last_spares, second_of};
 
 use crate::path_tally::PathTally;
-use crate::spare::Spare;
+use crate::spare::ArrivalMargin;
 use crate::tally::fate_counts::FateCounts;
-use crate::tally::margins::{Second, second_of};
-use crate::tally::window_copies::{Entry, note};
+use crate::tally::margins::{MarginSecond, second_of};
+use crate::tally::window_copies::{WindowCopies, note_copy};
 use rtp_stream::{Fate, Path, StreamSpec};
 use std::alloc::{AllocError, Global};
 use std::marker::Model;
@@ -30,9 +30,9 @@ pub struct StreamTally {
     counts: FateCounts,
     missed: [u64; 4],
     /// A place for each number of the window.
-    entries: Vec<Entry>,
+    entries: Vec<WindowCopies>,
     /// Of each path the latest even second in which a packet came, and the latest odd one.
-    seconds: Vec<Second>,
+    seconds: Vec<MarginSecond>,
 }
 
 impl Model for StreamTally {
@@ -47,23 +47,23 @@ impl Model for StreamTally {
 }
 
 /// The places of a window.
-fn new_entries(alloc: Global, window: u16) -> Result<Vec<Entry>, AllocError>
+fn new_entries(alloc: Global, window: u16) -> Result<Vec<WindowCopies>, AllocError>
     ensures { IfOk result (λ entries. entries.items ≡ replicate window empty_entry) }
 {
     let mut entries = Vec::with_capacity(alloc, usize::from(window))?;
     for _ in 0..window {
-        entries.push(Entry::new())?;
+        entries.push(WindowCopies::new())?;
     }
     Ok(entries)
 }
 
 /// The seconds of four paths, each path's even one first.
-fn new_seconds(alloc: Global) -> Result<Vec<Second>, AllocError>
+fn new_seconds(alloc: Global) -> Result<Vec<MarginSecond>, AllocError>
     ensures { IfOk result (λ seconds. AreNewSeconds 8 seconds.items) }
 {
     let mut seconds = Vec::with_capacity(alloc, 8)?;
     for place in 0..8_u64 {
-        seconds.push(Second::new(place % 2))?;
+        seconds.push(MarginSecond::new(place % 2))?;
     }
     Ok(seconds)
 }
@@ -79,9 +79,9 @@ fn place_of(path: Path, second: u64) -> usize
 
 /// Notes the spare time of a path's packet.
 #[inline(always)]
-fn note_spare(seconds: &mut [Second], path: Path, spare: u32, now: i64)
+fn note_spare(seconds: &mut [MarginSecond], path: Path, spare: u32, now: i64)
     requires { length seconds.old ≡ 8 }
-    ensures { (d : Second) → seconds.new ≡ slice_set seconds.old (place_of path (second_of now))
+    ensures { (d : MarginSecond) → seconds.new ≡ slice_set seconds.old (place_of path (second_of now))
         (second_after (second_of now) spare (slice_index_or seconds.old (place_of path (second_of now)) d)) }
 {
     let second = second_of(now);
@@ -115,7 +115,7 @@ impl StreamTally {
             → HasTally stream (record { path = path; fate = fate; seq = seq; spare = spare; now = now } ∷ offers) self.new }
     {
         self.counts.add(path, fate);
-        note(
+        note_copy(
             self.entries.as_mut_slice(),
             &mut self.missed,
             path,
@@ -147,7 +147,7 @@ impl StreamTally {
 
     /// The least and the median spare time of a path's packets in the whole second before this reading's; none
     /// where there was none, and none of an earlier second where the clock went back.
-    pub fn spare(&self, path: Path, now: i64) -> Option<Spare>
+    pub fn spare(&self, path: Path, now: i64) -> Option<ArrivalMargin>
         ensures least { (stream : Stream) (offers : List Offer) → HasTally stream offers self.now → IfSome result (λ spare. IsLeast (last_spares path now offers) spare.least) }
         ensures median { (stream : Stream) (offers : List Offer) → HasTally stream offers self.now → length (last_spares path now offers) < 2 ^ 32 → IfSome result (λ spare. IsMedian (last_spares path now offers) spare.median) }
         ensures none { (stream : Stream) (offers : List Offer) → HasTally stream offers self.now → IsLatest now offers → IsNone result → last_spares path now offers ≡ [] }
@@ -156,6 +156,6 @@ impl StreamTally {
         if second == 0 {
             return None;
         }
-        self.seconds[place_of(path, second - 1)].spare_in(second - 1)
+        self.seconds[place_of(path, second - 1)].margin_in(second - 1)
     }
 }

@@ -5,7 +5,7 @@ ghost use Rattle.rtp_stream.specs.declared.stream_spec.Stream.{Stream};
 ghost use Rattle.rtp_stream.specs.Anchor.{media_time_of, first_media_time, is_source_wanted, restart_media_time};
 ghost use Rattle.rtp_stream.specs.Grid.{extended_number, is_on_grid};
 
-use crate::nearest::{near16, near32};
+use crate::extend::{near16, near32};
 use crate::packet::PacketRef;
 use crate::stream_spec::StreamClock;
 
@@ -84,7 +84,7 @@ pub fn is_in_step(anchor: &Anchor, media: i64, ts: u32) -> bool
 }
 
 /// Whether a packet of this source may be the first of an epoch.
-pub fn is_wanted(wanted: Option<u32>, source: u32) -> bool
+pub fn is_wanted_source(wanted: Option<u32>, source: u32) -> bool
     ensures { result ≡ is_source_wanted wanted source }
 {
     match wanted {

@@ -10,7 +10,7 @@ ghost use Rattle.rtp_stream.specs.declared.stream_spec.Stream.{Stream};
 ghost use Rattle.rtp_stream.specs.declared.anchor.Anchor.{Anchor};
 ghost use Rattle.rtp_stream.specs.declared.packet.Packet.{Packet};
 
-use crate::anchor::{Anchor, is_in_step, is_wanted, number_of};
+use crate::anchor::{Anchor, is_in_step, is_wanted_source, number_of};
 use crate::fate::Fate;
 use crate::packet::PacketRef;
 use crate::put::Put;
@@ -109,7 +109,7 @@ pub fn fate_of_first(spec: &StreamSpec, time: i64, media: i64, source: u32) -> F
     requires high { time ≤ℤ pos (2 ^ 60) }
     ensures { (packet : Packet) → packet.ssrc ≡ source → media ≡ first_media_time spec.now.clock packet.ts time → result ≡ first_fate spec.now time packet }
 {
-    if !is_wanted(spec.ssrc(), source) {
+    if !is_wanted_source(spec.ssrc(), source) {
         return Fate::WrongSource;
     }
     match reach_fault(spec, time, media) {

@@ -48,7 +48,7 @@ impl Packet {
 
     /// Becomes a packet that is lent: its samples alone are copied.
     #[inline(always)]
-    pub fn become_copy(&mut self, packet: PacketRef<'_>)
+    pub fn copy_from(&mut self, packet: PacketRef<'_>)
         requires { length packet.payload.now ≤ 1440 }
         ensures { self.new ≡ packet_of packet.entry }
     {
@@ -85,13 +85,13 @@ fn refill(payload: &mut Payload, octets: &[u8])
     if payload.len() == octets.len() {
         payload.as_mut_slice().copy_from_slice(octets);
     } else {
-        fill_anew(payload, octets);
+        refill_cold(payload, octets);
     }
 }
 
 /// Becomes these octets, of another number than before: in most slots once.
 #[inline(never)]
-fn fill_anew(payload: &mut Payload, octets: &[u8])
+fn refill_cold(payload: &mut Payload, octets: &[u8])
     requires { length octets.now ≤ 1440 }
     ensures { payload.new.items ≡ octets.now }
 {

@@ -5,7 +5,7 @@ ghost use Rattle.rtp_stream.specs.Anchor.{is_source_wanted};
 ghost use Rattle.rtp_stream.specs.PathProbation.{is_complete, probation_at, probation_heard};
 ghost use Rattle.rtp_stream.specs.declared.stream_spec.Stream.{Stream};
 
-use crate::anchor::is_wanted;
+use crate::anchor::is_wanted_source;
 use crate::packet::PacketRef;
 use crate::path::Path;
 use crate::stream_spec::StreamSpec;
@@ -40,7 +40,7 @@ impl Probation {
 
     /// Hears a packet, and whether it is off.
     #[inline(always)]
-    pub fn hear(&mut self, frames: u32, off: bool, packet: &PacketRef<'_>)
+    pub fn update(&mut self, frames: u32, off: bool, packet: &PacketRef<'_>)
         requires { frames ≤ 192 }
         ensures { (stream : Stream) → stream.frames ≡ frames → self.new ≡ probation_after stream self.old (off, packet_of packet.now) }
     {
@@ -77,7 +77,7 @@ impl Probation {
 
 /// Hears a packet on its path, unless the stream asks for another source, and answers whether it completes that path's probation.
 #[inline(always)]
-pub fn hear_on(
+pub fn update_probation(
     probations: &mut [Probation; 4],
     path: Path,
     spec: &StreamSpec,
@@ -88,12 +88,12 @@ pub fn hear_on(
     ensures others { (other : ℕ) → nat_eq other path ≡ false → probation_at probations.new other ≡ probation_at probations.old other }
     ensures complete { result ≡ is_source_wanted spec.now.ssrc packet.now.ssrc && is_complete (probation_at probations.new path) }
 {
-    if !is_wanted(spec.ssrc(), packet.ssrc) {
+    if !is_wanted_source(spec.ssrc(), packet.ssrc) {
         return false;
     }
     let place = usize::from(path.number());
     let mut probation = probations[place];
-    probation.hear(u32::from(spec.frames()), off, packet);
+    probation.update(u32::from(spec.frames()), off, packet);
     probations[place] = probation;
     probation.is_complete()
 }

@@ -1,1 +1,1 @@
-pub mod AnsweredLemmas
+pub mod ConnectionsLemmas

@@ -9,8 +9,8 @@ use Rattle.status_page.specs.declared.fields.stream.StreamField.{StreamField}
 use Rattle.status_page.specs.declared.fields.stream.StreamField.TheVariants as Stream
 use Rattle.status_page.specs.declared.fields.output.OutputField.{OutputField}
 use Rattle.status_page.specs.declared.fields.output.OutputField.TheVariants as Output
-use Rattle.status_page.specs.declared.fields.Kind.{Kind}
-use Rattle.status_page.specs.declared.fields.Kind.TheVariants.{Counter, Gauge}
+use Rattle.status_page.specs.declared.fields.MetricKind.{MetricKind}
+use Rattle.status_page.specs.declared.fields.MetricKind.TheVariants.{Counter, Gauge}
 
 -- how a number of a path is called
 abbrev pub path_key : PathField → List ℕ
@@ -29,7 +29,7 @@ path_key Path.SpareLeast = codes "spare_least"
 path_key Path.SpareMedian = codes "spare_median"
 
 -- whether it only rises
-abbrev pub path_kind : PathField → Kind
+abbrev pub path_kind : PathField → MetricKind
 path_kind Path.Datagrams = Counter
 path_kind Path.First = Counter
 path_kind Path.Sent = Counter
@@ -76,7 +76,7 @@ stream_key Stream.Restarts = codes "restarts"
 stream_key Stream.Latency = codes "latency"
 
 -- whether it only rises
-abbrev pub stream_kind : StreamField → Kind
+abbrev pub stream_kind : StreamField → MetricKind
 stream_kind Stream.Got = Counter
 stream_kind Stream.Lost = Counter
 stream_kind Stream.Arrived = Counter
@@ -111,7 +111,7 @@ output_key Output.Peak = codes "peak"
 output_key Output.Saturated = codes "saturated"
 
 -- whether it only rises
-abbrev pub output_kind : OutputField → Kind
+abbrev pub output_kind : OutputField → MetricKind
 output_kind Output.Peak = Gauge
 output_kind Output.Saturated = Counter
 

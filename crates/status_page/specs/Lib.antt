@@ -1,7 +1,7 @@
-pub mod Answer
-pub mod Answered
 pub mod Blank
+pub mod Condition
+pub mod Connections
 pub mod Fields
 pub mod Metrics
-pub mod Pulse
+pub mod Responses
 pub mod State

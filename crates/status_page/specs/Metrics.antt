@@ -3,13 +3,13 @@ use Rattle.std.specs.Prelude.{ℕ, suc, List, [], ◌∷◌, ◌++◌, Option, S
 use Rattle.std.specs.Fmt.{decimal}
 use Rattle.arrayvec.specs.ArrayString.{ArrayString}
 use Rattle.status_page.specs.declared.snapshot.Condition.{Condition}
-use Rattle.status_page.specs.declared.snapshot.Condition.TheVariants.{NoPacket, Running, Lost, Ended}
+use Rattle.status_page.specs.declared.snapshot.Condition.TheVariants.{NoPacket, Running, SignalLost, Ended}
 use Rattle.status_page.specs.declared.snapshot.PathState.{PathState}
 use Rattle.status_page.specs.declared.snapshot.StreamState.{StreamState}
 use Rattle.status_page.specs.declared.snapshot.OutputState.{OutputState}
 use Rattle.status_page.specs.declared.snapshot.Snapshot.{Snapshot}
-use Rattle.status_page.specs.declared.fields.Kind.{Kind}
-use Rattle.status_page.specs.declared.fields.Kind.TheVariants.{Counter, Gauge}
+use Rattle.status_page.specs.declared.fields.MetricKind.{MetricKind}
+use Rattle.status_page.specs.declared.fields.MetricKind.TheVariants.{Counter, Gauge}
 use Rattle.status_page.specs.declared.fields.path.PathField.{PathField}
 use Rattle.status_page.specs.declared.fields.stream.StreamField.{StreamField}
 use Rattle.status_page.specs.declared.fields.output.OutputField.{OutputField}
@@ -29,21 +29,21 @@ label_text [] = []
 label_text (octet ∷ octets) = label_octet octet ++ label_text octets
 
 -- what ends the name of a metric: that of a counter ends in `_total`
-abbrev pub suffix : Kind → List ℕ
+abbrev pub suffix : MetricKind → List ℕ
 suffix Counter = codes "_total"
 suffix Gauge = codes ""
 
 -- the name of a metric
-unfoldable pub metric_text : List ℕ → List ℕ → Kind → List ℕ
+unfoldable pub metric_text : List ℕ → List ℕ → MetricKind → List ℕ
 metric_text group key kind = codes "darbexum_" ++ group ++ key ++ suffix kind
 
 -- what ends the line of a metric's type
-abbrev pub kind_text : Kind → List ℕ
+abbrev pub kind_text : MetricKind → List ℕ
 kind_text Counter = codes " counter\n"
 kind_text Gauge = codes " gauge\n"
 
 -- the lines before a metric's samples
-unfoldable pub header_text : List ℕ → List ℕ → Kind → List ℕ → List ℕ
+unfoldable pub header_text : List ℕ → List ℕ → MetricKind → List ℕ → List ℕ
 header_text group key kind help =
     codes "# HELP " ++ metric_text group key kind ++ codes " " ++ help ++ codes "\n# TYPE " ++ metric_text group key kind ++ kind_text kind
 
@@ -80,7 +80,7 @@ state_header = header_text (codes "stream_") (codes "state") Gauge (codes "Where
 abbrev pub condition_text : Condition → List ℕ
 condition_text NoPacket = codes "no_packet"
 condition_text Running = codes "running"
-condition_text Lost = codes "lost"
+condition_text SignalLost = codes "lost"
 condition_text Ended = codes "ended"
 
 -- the letter of a path
@@ -114,7 +114,7 @@ path_sample field number stream path (Some value) =
 abbrev pub has_condition : Condition → Condition → ℕ
 has_condition NoPacket NoPacket = 1
 has_condition Running Running = 1
-has_condition Lost Lost = 1
+has_condition SignalLost SignalLost = 1
 has_condition Ended Ended = 1
 has_condition _ _ = 0
 

@@ -8,7 +8,7 @@ use crate::snapshot::Condition;
 pub const CONDITIONS: [Condition; 4] = [
     Condition::NoPacket,
     Condition::Running,
-    Condition::Lost,
+    Condition::SignalLost,
     Condition::Ended,
 ];
 
@@ -20,7 +20,7 @@ impl Condition {
         match self {
             Condition::NoPacket => "no_packet",
             Condition::Running => "running",
-            Condition::Lost => "lost",
+            Condition::SignalLost => "lost",
             Condition::Ended => "ended",
         }
     }
@@ -32,7 +32,7 @@ impl Condition {
         match (self, other) {
             (Condition::NoPacket, Condition::NoPacket)
             | (Condition::Running, Condition::Running)
-            | (Condition::Lost, Condition::Lost)
+            | (Condition::SignalLost, Condition::SignalLost)
             | (Condition::Ended, Condition::Ended) => 1,
             _ => 0,
         }

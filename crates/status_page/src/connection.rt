@@ -2,7 +2,7 @@
 ghost use Rattle.std.specs.Prelude.{◌≡◌};
 ghost use Rattle.http_server.specs.Connection.{config_of, history};
 ghost use Rattle.http_server.specs.History.{new_history};
-ghost use Rattle.status_page.specs.Answer.{IsGuarded};
+ghost use Rattle.status_page.specs.Responses.{IsGuarded};
 
 use http_server::{Config, Connection};
 use http1::Limits;
@@ -14,7 +14,7 @@ const MOST_OCTETS: usize = 8192;
 
 /// A client's connection, to which nothing came yet. A longer head or body is refused, and while an answer waits to be
 /// sent no request is read.
-pub fn open(alloc: Global, keys: RandomState) -> Connection
+pub fn new_connection(alloc: Global, keys: RandomState) -> Connection
     ensures limits { IsGuarded (config_of result) }
     ensures new { history result ≡ new_history }
 {

@@ -6,7 +6,7 @@ pub(crate) mod stream;
 
 /// How a number changes.
 #[derive(Clone, Copy, Debug, PartialEq, Eq)]
-pub enum Kind {
+pub enum MetricKind {
     /// It only rises, from 0 at the start.
     Counter,
     /// It may fall.

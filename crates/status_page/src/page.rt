@@ -3,14 +3,14 @@ ghost use Rattle.std.specs.Prelude.{◌≡◌, [], OnOk, IfOk};
 ghost use Rattle.http_server.specs.Connection.{config_of, history};
 ghost use Rattle.http_server.specs.History.{IsServed, Rests};
 ghost use Rattle.http_server.specs.Response.{IsBlank, IsResponse};
-ghost use Rattle.status_page.specs.Answered.{page_answers, AnswersMore};
-ghost use Rattle.status_page.specs.Answer.{is_read, content_of, shown_fields, refused_fields};
+ghost use Rattle.status_page.specs.Connections.{page_answers, AnswersMore};
+ghost use Rattle.status_page.specs.Responses.{is_read, content_of, shown_fields, refused_fields};
 ghost use Rattle.status_page.specs.declared.page.resource.Resource.TheVariants.{State};
 
 use crate::page::html::page_html;
-use crate::page::metrics::metrics_of;
+use crate::page::metrics::metrics_text;
 use crate::page::resource::Resource;
-use crate::page::state::state_of;
+use crate::page::state::state_json;
 use crate::snapshot::Snapshot;
 use bytes::Bytes;
 use http::{HeaderName, HeaderValue, Method, Request, StatusCode};
@@ -39,7 +39,7 @@ impl Model for Page {
     ghost use Rattle.std.specs.Prelude.{◌≡◌, IfSome};
     ghost use Rattle.status_page.specs.declared.snapshot.Snapshot as shown;
     ghost use Rattle.status_page.specs.declared.page.resource.Resource.TheVariants.{State};
-    ghost use Rattle.status_page.specs.Answer.{content_of};
+    ghost use Rattle.status_page.specs.Responses.{content_of};
 
     ghost Value = { shown.Snapshot };
 
@@ -61,7 +61,7 @@ impl Page {
     }
 
     /// Answers from a newer snapshot from now on.
-    pub fn renew(&mut self, snapshot: Snapshot)
+    pub fn update(&mut self, snapshot: Snapshot)
         ensures { self.new ≡ snapshot }
     {
         self.snapshot = snapshot;
@@ -104,7 +104,7 @@ impl Page {
         match resource {
             Resource::Page => Ok(Bytes::from_static(page_html().as_bytes())),
             Resource::State => self.state(),
-            Resource::Metrics => shared(metrics_of(self.alloc, &self.snapshot)?),
+            Resource::Metrics => shared(metrics_text(self.alloc, &self.snapshot)?),
         }
     }
 
@@ -116,7 +116,7 @@ impl Page {
         if let Some(state) = &self.state {
             return state.clone();
         }
-        let state = shared(state_of(self.alloc, &self.snapshot)?)?;
+        let state = shared(state_json(self.alloc, &self.snapshot)?)?;
         self.state = Some(state.clone()?);
         Ok(state)
     }

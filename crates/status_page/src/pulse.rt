@@ -1,25 +1,25 @@
 //! Where a stream stands, by when its packets came.
 ghost use Rattle.std.specs.Prelude.{◌≡◌, if◌then◌else◌, ◌==◌};
-ghost use Rattle.status_page.specs.Pulse.{condition_of, is_silent};
+ghost use Rattle.status_page.specs.Condition.{condition_of, is_silent};
 
 use crate::snapshot::Condition;
 
 /// After so many sampling instants with no packet a stream is lost: a second.
-const SILENCE: i64 = 48_000;
+const LOST_AFTER: i64 = 48_000;
 
 /// How many packets of a stream were taken, and since when there are so many.
 #[derive(Clone, Copy, Debug)]
-pub struct Pulse {
+pub struct SignalPresence {
     taken: u64,
     since: i64,
 }
 
-impl Pulse {
+impl SignalPresence {
     /// No packet was taken by this time, in sampling instants.
-    pub fn new(now: i64) -> Pulse
+    pub fn new(now: i64) -> SignalPresence
         ensures { (result.taken ≡ 0) × (result.since ≡ now) }
     {
-        Pulse {
+        SignalPresence {
             taken: 0,
             since: now,
         }
@@ -27,7 +27,7 @@ impl Pulse {
 
     /// Notes how many packets were taken by this time, in sampling instants, and answers where a stream stands whose end is
     /// told or isn't.
-    pub fn look(&mut self, now: i64, taken: u64, has_ended: bool) -> Condition
+    pub fn update(&mut self, now: i64, taken: u64, has_ended: bool) -> Condition
         ensures condition { result ≡ condition_of has_ended taken (is_silent self.new.since now) }
         ensures taken { self.new.taken ≡ taken }
         ensures since { self.new.since ≡ (if taken == self.old.taken then self.old.since else now) }
@@ -42,8 +42,8 @@ impl Pulse {
         if taken == 0 {
             return Condition::NoPacket;
         }
-        if now.saturating_sub(self.since) >= SILENCE {
-            return Condition::Lost;
+        if now.saturating_sub(self.since) >= LOST_AFTER {
+            return Condition::SignalLost;
         }
         Condition::Running
     }

@@ -1,5 +1,5 @@
 //! The sockets of the page.
-use crate::connection::open;
+use crate::connection::new_connection;
 use crate::page::Page;
 use crate::server::client::{Client, Progress};
 use mio::net::{TcpListener, TcpStream};
@@ -80,7 +80,7 @@ impl PageServer {
     fn has_more(&self) -> bool {
         for place in 0..MOST_CLIENTS {
             if let Some(client) = self.clients.get(place) {
-                if client.progress == Progress::GoesOn {
+                if client.progress == Progress::Ready {
                     return true;
                 }
             }
@@ -100,7 +100,7 @@ impl PageServer {
     /// Gives the client of a place its turn, and lets it go where it is done with.
     fn turn_at(&mut self, place: usize, page: &mut Page, now: Duration) {
         if is_done_at(&mut self.clients, place, page, now) {
-            let_go(&mut self.clients, place);
+            remove_client(&mut self.clients, place);
         }
     }
 
@@ -108,7 +108,7 @@ impl PageServer {
     fn note_ready(&mut self) {
         for event in self.events.iter() {
             if let Some(client) = self.clients.get_mut(event.token().0) {
-                client.progress = Progress::GoesOn;
+                client.progress = Progress::Ready;
             }
         }
     }
@@ -127,14 +127,14 @@ impl PageServer {
 
     /// Takes a client, if memory and the system allow it; else it is let go.
     fn take(&mut self, mut stream: TcpStream, now: Duration) {
-        if self.is_told_of(&mut stream) {
-            let client = Client::new(stream, open(self.alloc, self.keys), now);
+        if self.register_client(&mut stream) {
+            let client = Client::new(stream, new_connection(self.alloc, self.keys), now);
             keep(&mut self.clients, client);
         }
     }
 
     /// Asks to be told of a client that gets the next free place; false where the system refuses.
-    fn is_told_of(&self, stream: &mut TcpStream) -> bool {
+    fn register_client(&self, stream: &mut TcpStream) -> bool {
         let token = Token(self.clients.vacant_key());
         let both = Interest::READABLE | Interest::WRITABLE;
         self.poll.registry().register(stream, token, both).is_ok()
@@ -144,13 +144,13 @@ impl PageServer {
 /// Gives the client of a place its turn; answers whether there is one that is to be let go then.
 fn is_done_at(clients: &mut Slab<Client>, place: usize, page: &mut Page, now: Duration) -> bool {
     match clients.get_mut(place) {
-        Some(client) => client.is_done_after(page, now),
+        Some(client) => client.run_turn(page, now),
         None => false,
     }
 }
 
 /// Lets the client of a place go.
-fn let_go(clients: &mut Slab<Client>, place: usize) {
+fn remove_client(clients: &mut Slab<Client>, place: usize) {
     let _ = clients.try_remove(place);
 }
 

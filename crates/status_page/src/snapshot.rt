@@ -6,7 +6,7 @@ use arrayvec::{ArrayString, ArrayVec};
 use rtp_stream::{Counts, PathCounts};
 
 /// The name of a stream: a text of at most 64 octets.
-pub type Name = ArrayString<64>;
+pub type StreamName = ArrayString<64>;
 
 /// Where a stream stands.
 #[derive(Clone, Copy, Debug, PartialEq, Eq)]
@@ -16,14 +16,14 @@ pub enum Condition {
     /// Its packets come.
     Running,
     /// None comes any more.
-    Lost,
+    SignalLost,
     /// It was closed.
     Ended,
 }
 
 /// How long before their deadlines a path's packets came in the last second, in sampling instants.
 #[derive(Clone, Copy, Debug, PartialEq, Eq)]
-pub struct Spare {
+pub struct ArrivalMargin {
     pub least: u64,
     /// Rounded down to 6; past 6,138 it may be more.
     pub median: u64,
@@ -31,7 +31,7 @@ pub struct Spare {
 
 /// What became of a path's packets beside those of the stream's other paths.
 #[derive(Clone, Copy, Debug, PartialEq, Eq)]
-pub struct Copies {
+pub struct CopyCounts {
     /// The numbers of the span that it never brought.
     pub lost: u64,
     /// Its packets that were doubles, unlike the first copy, or late.
@@ -49,9 +49,9 @@ pub struct PathState {
     pub first: u64,
     /// Its datagrams, by what became of them before the merge.
     pub counts: Option<PathCounts>,
-    pub copies: Option<Copies>,
+    pub copies: Option<CopyCounts>,
     /// None, too, where no packet came in the last second.
-    pub spare: Option<Spare>,
+    pub spare: Option<ArrivalMargin>,
 }
 
 impl Default for PathState {
@@ -72,7 +72,7 @@ impl Default for PathState {
 /// What is seen of a stream.
 #[derive(Drop)]
 pub struct StreamState {
-    pub name: Option<Name>,
+    pub name: Option<StreamName>,
     pub condition: Condition,
     /// From a packet's media time to its deadline, in sampling instants.
     pub latency: u64,

@@ -7,9 +7,9 @@ use Rattle.studio_config.specs.Rows.{Row, required, whole, few_tables, a_table, 
 use Rattle.studio_config.specs.NetworkTable.{path_rows, sender_rows}
 use Rattle.studio_config.specs.StreamTable.{packet_rows, source_rows, wait_rows, port_rows, name_rows, stream_rows, stream_fault}
 use Rattle.studio_config.specs.OutputTable.{number_rows, gains_row, change_row, address_rows, output_rows, output_of, each_fault, change_fault, schedule_fault, output_fault}
-use Rattle.studio_config.specs.declared.config.fault.Place.{Place}
-use Rattle.studio_config.specs.declared.config.fault.Place.TheVariants as at
-use Rattle.studio_config.specs.declared.config.fault.Kind.TheVariants as kind
+use Rattle.studio_config.specs.declared.config.fault.ConfigTable.{ConfigTable}
+use Rattle.studio_config.specs.declared.config.fault.ConfigTable.TheVariants as at
+use Rattle.studio_config.specs.declared.config.fault.SpecErrorKind.TheVariants as kind
 use Rattle.studio_config.specs.declared.config.keys.Key.TheVariants as key
 use Rattle.studio_config.specs.Values.{number_or, tables_at, table_at}
 use Rattle.mix_packets.specs.OutSpec.{out_fault_of}
@@ -20,17 +20,17 @@ first_of-first_of (Some e) b c = refl
 first_of-first_of None b c = refl
 
 -- rows after other rows
-pub rows_fault-append : (place : Place) (m : Members) (rows more : List Row) → rows_fault place m (rows ++ more) ≡ first_of (rows_fault place m rows) (rows_fault place m more)
+pub rows_fault-append : (place : ConfigTable) (m : Members) (rows more : List Row) → rows_fault place m (rows ++ more) ≡ first_of (rows_fault place m rows) (rows_fault place m more)
 rows_fault-append place m [] more = refl
 rows_fault-append place m (row ∷ rows) more = ap (first_of (row_fault place m row)) (rows_fault-append place m rows more) ∙ first_of-first_of (row_fault place m row) (rows_fault place m rows) (rows_fault place m more)
 
 -- the rows of a stream's table, group by group
-abbrev stream_parts : Place → Members → Option SpecError
+abbrev stream_parts : ConfigTable → Members → Option SpecError
 stream_parts place m =
     first_of (rows_fault place m packet_rows) (first_of (rows_fault place m source_rows) (first_of (rows_fault place m wait_rows)
     (first_of (rows_fault place m port_rows) (first_of (rows_fault place m path_rows) (rows_fault place m name_rows)))))
 
-pub stream_rows-fault : (place : Place) (m : Members) → rows_fault place m stream_rows ≡ stream_parts place m
+pub stream_rows-fault : (place : ConfigTable) (m : Members) → rows_fault place m stream_rows ≡ stream_parts place m
 stream_rows-fault place m =
     rows_fault-append place m packet_rows (source_rows ++ wait_rows ++ port_rows ++ path_rows ++ name_rows)
     ∙ ap (first_of (rows_fault place m packet_rows)) (rows_fault-append place m source_rows (wait_rows ++ port_rows ++ path_rows ++ name_rows)
@@ -39,7 +39,7 @@ stream_rows-fault place m =
     ∙ ap (first_of (rows_fault place m port_rows)) (rows_fault-append place m path_rows name_rows))))
 
 -- a fault of a key is that of the stream
-pub stream_fault-rows : (place : Place) (m : Members) (e : SpecError) → stream_parts place m ≡ Some e → stream_fault place m ≡ Some e
+pub stream_fault-rows : (place : ConfigTable) (m : Members) (e : SpecError) → stream_parts place m ≡ Some e → stream_fault place m ≡ Some e
 stream_fault-rows place m e faulty =
     let rows : rows_fault place m stream_rows ≡ Some e = stream_rows-fault place m ∙ faulty in
     rw rows

@@ -11,8 +11,8 @@ use Rattle.studio_config.specs.NetworkTable.{binds_of, sender_addresses_of, send
 use Rattle.studio_config.specs.StreamTable.{stream_of, ports_of, stream_fault}
 use Rattle.studio_config.specs.OutputTable.{output_of, schedule_of, each_fault, output_fault}
 use Rattle.studio_config.specs.declared.config.keys.Key.TheVariants as key
-use Rattle.studio_config.specs.declared.config.fault.Place.TheVariants as place
-use Rattle.studio_config.specs.declared.config.fault.Kind.TheVariants as kind
+use Rattle.studio_config.specs.declared.config.fault.ConfigTable.TheVariants as place
+use Rattle.studio_config.specs.declared.config.fault.SpecErrorKind.TheVariants as kind
 use Rattle.studio_config.specs.declared.config.fault.SpecError.{SpecError}
 
 abbrev pub top_rows : List Row

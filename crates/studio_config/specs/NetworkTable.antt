@@ -4,7 +4,7 @@ use Rattle.std.specs.declared.net.ipv4_addr.Ipv4Addr.{Ipv4Addr}
 use Rattle.toml.specs.Data.{Members}
 use Rattle.studio_config.specs.Values.{number_at, address_at}
 use Rattle.studio_config.specs.Rows.{Row, optional, whole, an_address}
-use Rattle.studio_config.specs.declared.networks.Senders.{Senders}
+use Rattle.studio_config.specs.declared.networks.OutputAddresses.{OutputAddresses}
 use Rattle.studio_config.specs.declared.config.keys.Key.TheVariants as key
 
 -- the address at which each path of a stream is received
@@ -58,7 +58,7 @@ sender_rows =
     ∷ []
 
 -- the senders that the output's table says
-abbrev pub senders_of : Members → Senders
+abbrev pub senders_of : Members → OutputAddresses
 senders_of members = record {
   from_a = address_at members key.FromA;
   from_b = address_at members key.FromB;

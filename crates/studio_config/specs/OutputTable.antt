@@ -15,9 +15,9 @@ use Rattle.studio_config.specs.Rows.{Row, required, optional, whole, tables, gai
 use Rattle.studio_config.specs.NetworkTable.{sender_rows}
 use Rattle.studio_config.specs.StreamTable.{packet_rows}
 use Rattle.studio_config.specs.declared.config.keys.Key.TheVariants as key
-use Rattle.studio_config.specs.declared.config.fault.Place.{Place}
-use Rattle.studio_config.specs.declared.config.fault.Place.TheVariants as place
-use Rattle.studio_config.specs.declared.config.fault.Kind.TheVariants as kind
+use Rattle.studio_config.specs.declared.config.fault.ConfigTable.{ConfigTable}
+use Rattle.studio_config.specs.declared.config.fault.ConfigTable.TheVariants as place
+use Rattle.studio_config.specs.declared.config.fault.SpecErrorKind.TheVariants as kind
 use Rattle.studio_config.specs.declared.config.fault.SpecError.{SpecError}
 
 -- the source of the packets, and the numbers of the first one
@@ -97,7 +97,7 @@ abbrev pub change_fault : ℕ → Members → Option SpecError
 change_fault n members = table_fault (place.Change n) change_rows members
 
 -- the fault of the gains of a table, for so many outputs and inputs
-abbrev pub matrix_fault : ℕ → ℕ → Place → Members → Option SpecError
+abbrev pub matrix_fault : ℕ → ℕ → ConfigTable → Members → Option SpecError
 matrix_fault outs ins place members = at_key place key.Gains (option_map kind.Gains (gains_fault outs ins (gains_at members key.Gains)))
 
 -- the first fault of the gains and their changes, once all of them are arrays of arrays of numbers

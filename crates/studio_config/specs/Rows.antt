@@ -7,9 +7,9 @@ use Rattle.studio_config.specs.Address.{address_of}
 use Rattle.studio_config.specs.Keys.{name_of}
 use Rattle.studio_config.specs.Values.{items_in, is_table, are_tables, are_gains, value_at}
 use Rattle.studio_config.specs.declared.config.keys.Key.{Key}
-use Rattle.studio_config.specs.declared.config.fault.Place.{Place}
-use Rattle.studio_config.specs.declared.config.fault.Kind.{Kind}
-use Rattle.studio_config.specs.declared.config.fault.Kind.TheVariants.{Missing, WrongKind, OutOfRange, Unknown}
+use Rattle.studio_config.specs.declared.config.fault.ConfigTable.{ConfigTable}
+use Rattle.studio_config.specs.declared.config.fault.SpecErrorKind.{SpecErrorKind}
+use Rattle.studio_config.specs.declared.config.fault.SpecErrorKind.TheVariants.{Missing, WrongKind, OutOfRange, Unknown}
 use Rattle.studio_config.specs.declared.config.fault.SpecError.{SpecError}
 
 -- what the value of a key has to be
@@ -58,36 +58,36 @@ first_in [] = None
 first_in (fault ∷ faults) = first_of fault (first_in faults)
 
 -- the fault of a value that is of its kind, or isn't
-abbrev pub kind_fault : Bool → Option Kind
+abbrev pub kind_fault : Bool → Option SpecErrorKind
 kind_fault fits = if fits then None else Some WrongKind
 
 -- the fault of a value that is in its range, or isn't
-abbrev pub range_fault : Bool → Option Kind
+abbrev pub range_fault : Bool → Option SpecErrorKind
 range_fault fits = if fits then None else Some OutOfRange
 
 -- the fault of an integer that has to be from the first number to the second
-abbrev pub whole_fault : ℕ → ℕ → Option ℤ → Option Kind
+abbrev pub whole_fault : ℕ → ℕ → Option ℤ → Option SpecErrorKind
 whole_fault least greatest (Some (pos n)) = range_fault (nat_le least n && nat_le n greatest)
 whole_fault least greatest (Some (negsuc n)) = Some OutOfRange
 whole_fault least greatest None = Some WrongKind
 
 -- the fault of a text that has to be one of these
-abbrev pub text_fault : List (List ℕ) → Option (List ℕ) → Option Kind
+abbrev pub text_fault : List (List ℕ) → Option (List ℕ) → Option SpecErrorKind
 text_fault texts (Some text) = range_fault (list_any (λ t. bytes_eq text t) texts)
 text_fault texts None = Some WrongKind
 
 -- the fault of a text that has to be an IPv4 address
-abbrev pub address_fault : Option (List ℕ) → Option Kind
+abbrev pub address_fault : Option (List ℕ) → Option SpecErrorKind
 address_fault (Some text) = range_fault (is_some (address_of text))
 address_fault None = Some WrongKind
 
 -- the fault of a text that has to have at most so many octets
-abbrev pub length_fault : ℕ → Option (List ℕ) → Option Kind
+abbrev pub length_fault : ℕ → Option (List ℕ) → Option SpecErrorKind
 length_fault most (Some text) = range_fault (nat_le (length text) most)
 length_fault most None = Some WrongKind
 
 -- the first fault of a value: its kind, then its range
-abbrev pub value_fault : Range → Data → Option Kind
+abbrev pub value_fault : Range → Data → Option SpecErrorKind
 value_fault (whole least greatest) d = whole_fault least greatest (as_integer d)
 value_fault (one_of texts) d = text_fault texts (as_str d)
 value_fault an_address d = address_fault (as_str d)
@@ -99,30 +99,30 @@ value_fault (few_tables least greatest) d =
 value_fault gains d = kind_fault (are_gains d)
 
 -- a fault of a key, in a table at this place
-abbrev pub at_key : Place → Key → Option Kind → Option SpecError
+abbrev pub at_key : ConfigTable → Key → Option SpecErrorKind → Option SpecError
 at_key place key (Some kind) = Some (record { place = place; key = Some key; kind = kind })
 at_key place key None = None
 
 -- a fault of a table itself
-abbrev pub at_table : Place → Option Kind → Option SpecError
+abbrev pub at_table : ConfigTable → Option SpecErrorKind → Option SpecError
 at_table place (Some kind) = Some (record { place = place; key = None; kind = kind })
 at_table place None = None
 
-abbrev pub required_fault : Range → Option Data → Option Kind
+abbrev pub required_fault : Range → Option Data → Option SpecErrorKind
 required_fault range (Some d) = value_fault range d
 required_fault range None = Some Missing
 
-abbrev pub optional_fault : Range → Option Data → Option Kind
+abbrev pub optional_fault : Range → Option Data → Option SpecErrorKind
 optional_fault range (Some d) = value_fault range d
 optional_fault range None = None
 
 -- the fault of a table by one row
-abbrev pub row_fault : Place → Members → Row → Option SpecError
+abbrev pub row_fault : ConfigTable → Members → Row → Option SpecError
 row_fault place members (required key range) = at_key place key (required_fault range (value_at members key))
 row_fault place members (optional key range) = at_key place key (optional_fault range (value_at members key))
 
 -- the first fault by these rows
-abbrev pub rows_fault : Place → Members → List Row → Option SpecError
+abbrev pub rows_fault : ConfigTable → Members → List Row → Option SpecError
 rows_fault place members rows = first_in (map (row_fault place members) rows)
 
 -- the names of all members
@@ -135,9 +135,9 @@ abbrev pub is_known : List Key → List ℕ → Bool
 is_known keys name = list_any (λ key. bytes_eq (name_of key) name) keys
 
 -- the fault of a member that has none of these keys
-abbrev pub unknown_fault : Place → List Key → Members → Option SpecError
+abbrev pub unknown_fault : ConfigTable → List Key → Members → Option SpecError
 unknown_fault place keys members = at_table place (if list_all (is_known keys) (names_of members) then None else Some Unknown)
 
 -- the first fault of a table: by its rows in their order, then that of a key without a row
-abbrev pub table_fault : Place → List Row → Members → Option SpecError
+abbrev pub table_fault : ConfigTable → List Row → Members → Option SpecError
 table_fault place rows members = first_of (rows_fault place members rows) (unknown_fault place (map key_of rows) members)

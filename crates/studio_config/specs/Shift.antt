@@ -5,7 +5,7 @@ use Rattle.mix_packets.specs.OutSpec.{is_start}
 use Rattle.studio_config.specs.Studio.{Studio}
 use Rattle.studio_config.specs.Rows.{first_in, at_key, range_fault}
 use Rattle.studio_config.specs.declared.config.keys.Key.TheVariants as key
-use Rattle.studio_config.specs.declared.config.fault.Place.TheVariants as place
+use Rattle.studio_config.specs.declared.config.fault.ConfigTable.TheVariants as place
 use Rattle.studio_config.specs.declared.config.fault.SpecError.{SpecError}
 
 -- a change that comes so many sampling instants later

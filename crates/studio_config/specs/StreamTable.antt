@@ -9,8 +9,8 @@ use Rattle.studio_config.specs.Values.{number_at, number_or, text_at, encoding_a
 use Rattle.studio_config.specs.NetworkTable.{path_rows}
 use Rattle.studio_config.specs.Rows.{Row, required, optional, whole, a_text, one_of, encodings, clocks, first_of, at_table, table_fault}
 use Rattle.studio_config.specs.declared.config.keys.Key.TheVariants as key
-use Rattle.studio_config.specs.declared.config.fault.Place.{Place}
-use Rattle.studio_config.specs.declared.config.fault.Kind.TheVariants as kind
+use Rattle.studio_config.specs.declared.config.fault.ConfigTable.{ConfigTable}
+use Rattle.studio_config.specs.declared.config.fault.SpecErrorKind.TheVariants as kind
 use Rattle.studio_config.specs.declared.config.fault.SpecError.{SpecError}
 
 -- how packets lie, in the table of a stream and of the output
@@ -77,6 +77,6 @@ abbrev pub ports_of : Members → List (Option ℕ)
 ports_of members = number_at members key.PortA ∷ number_at members key.PortB ∷ number_at members key.PortC ∷ number_at members key.PortD ∷ []
 
 -- the first fault of a stream's table: of its keys, then of the stream that it says
-abbrev pub stream_fault : Place → Members → Option SpecError
+abbrev pub stream_fault : ConfigTable → Members → Option SpecError
 stream_fault place members =
     first_of (table_fault place stream_rows members) (at_table place (option_map kind.Stream (spec_fault_of (stream_of members))))

@@ -1,22 +1,22 @@
 //! A studio's specification, read from the tables of its configuration.
-mod addresses;
-mod change;
+mod document;
+mod enums;
 mod fault;
 mod gain_rows;
-mod gains;
+mod integers;
+mod ipv4;
 mod keys;
-mod known;
 mod lookup;
+mod matrix;
 mod name;
-mod networks;
-mod numbers;
+mod network_keys;
 mod output;
-mod packets;
+mod packet_format;
+mod schedule;
 mod stream;
 mod tables;
-mod top;
-mod words;
+mod unknown_keys;
 
-pub use fault::{Kind, Place, SpecError};
+pub use document::channel_total;
+pub use fault::{ConfigTable, SpecError, SpecErrorKind};
 pub use keys::Key;
-pub use top::channel_total;

@@ -10,7 +10,7 @@ mod networks;
 mod ports;
 mod studio;
 
-pub use config::{Key, Kind, Place, SpecError, channel_total};
-pub use networks::{Networks, Senders};
+pub use config::{ConfigTable, Key, SpecError, SpecErrorKind, channel_total};
+pub use networks::{Networks, OutputAddresses};
 pub use ports::Ports;
 pub use studio::StudioSpec;

@@ -13,12 +13,12 @@ pub struct Networks {
     /// From which address alone each path of each stream takes datagrams.
     pub sources: [[Option<Ipv4Addr>; 4]; 16],
     /// How the output is sent.
-    pub output: Senders,
+    pub output: OutputAddresses,
 }
 
 /// How the two copies of the output are sent, as far as it is known.
 #[derive(Clone, Copy, Debug, PartialEq, Eq)]
-pub struct Senders {
+pub struct OutputAddresses {
     /// The sender's own address of the first copy.
     pub from_a: Option<Ipv4Addr>,
     /// The sender's own address of the second copy.
@@ -46,7 +46,7 @@ impl Networks {
         Networks {
             paths: [[None; 4]; 16],
             sources: [[None; 4]; 16],
-            output: Senders {
+            output: OutputAddresses {
                 from_a: None,
                 from_b: None,
                 to_a: None,
@@ -57,7 +57,7 @@ impl Networks {
     }
 
     /// Writes down at which addresses the paths of a stream are received, and from which.
-    pub(crate) fn set_rows(&mut self, stream: usize, addresses: PathAddresses)
+    pub(crate) fn set_path_addresses(&mut self, stream: usize, addresses: PathAddresses)
         requires paths { stream < length self.old.paths }
         requires sources { stream < length self.old.sources }
         ensures paths { self.new.paths ≡ slice_set self.old.paths stream addresses.binds }

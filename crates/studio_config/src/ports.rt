@@ -30,7 +30,7 @@ impl Ports {
     }
 
     /// Writes down where the paths of a stream come in.
-    pub(crate) fn set_row(&mut self, stream: usize, row: [Option<u16>; 4])
+    pub(crate) fn set_path_ports(&mut self, stream: usize, row: [Option<u16>; 4])
         requires { stream < length self.old.paths }
         ensures { self.new.paths ≡ slice_set self.old.paths stream row }
     {

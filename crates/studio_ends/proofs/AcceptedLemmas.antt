@@ -14,8 +14,8 @@ use Rattle.studio_mix.specs.Mixer.{MixerState, HasFeeds}
 use Rattle.lane_align.specs.AcceptedMarks.{accepted_after, accepted_with}
 use Rattle.lane_align.specs.Cover.{covers, cover_of}
 use Rattle.mix_packets.specs.Block.{block_start}
-use Rattle.studio_ends.specs.Mixes.{TakesMarks, TakesWanted, fed_more}
-use Rattle.studio_ends.specs.declared.rings.Side.{Side}
+use Rattle.studio_ends.specs.MarksIn.{TakesMarks, TakesWanted, fed_more}
+use Rattle.studio_ends.specs.declared.rings.TokenConsumer.{TokenConsumer}
 use Rattle.studio_ends.proofs.TurnLemmas.{consumers}
 
 pub accepted_after-append : (format : Format) (before xs ys : List MarkView) → accepted_after format before (xs ++ ys) ≡ accepted_after format (accepted_after format before xs) ys
@@ -36,7 +36,7 @@ there feeds i a feed is =
     let lt : i < length feeds = slice_get_within feeds i feed is in
     slice_get_read (set feeds i a) (length feeds) i a (sym (length-set feeds i a)) lt (sym (get_or-set_same feeds i a a lt))
 
-pub took-none : (s : Side MarkView) (m : MixerState) (stream : ℕ) → TakesMarks s s m m stream 0 0
+pub took-none : (s : TokenConsumer MarkView) (m : MixerState) (stream : ℕ) → TakesMarks s s m m stream 0 0
 took-none s m stream = record {
   more = [];
   ring = ((refl, refl, refl, refl), refl);
@@ -55,7 +55,7 @@ by_kept false false xs x e = refl
 by_kept true false xs x e = absurd (cc)
 by_kept false true xs x e = absurd (cc)
 
-pub took-more : (s t u : Side MarkView) (m w v : MixerState) (stream taken strange odd : ℕ) (mark : MarkView) (kept : Bool)
+pub took-more : (s t u : TokenConsumer MarkView) (m w v : MixerState) (stream taken strange odd : ℕ) (mark : MarkView) (kept : Bool)
     → TakesMarks s t m w stream taken strange → SameConsumer t.ring u.ring → u.done ≡ t.done → received u.ring ≡ received t.ring ++ mark ∷ []
     → ((studio : Studio) (feeds : List Feed) (number : ℕ) (feed : Feed) → HasFeeds studio w feeds number → slice_get feeds stream ≡ Some feed → HasFeeds studio v (slice_set feeds stream (fed_more feed (mark ∷ []))) number)
     → ((studio : Studio) (feeds : List Feed) (number : ℕ) (feed : Feed) → HasFeeds studio w feeds number → slice_get feeds stream ≡ Some feed → kept ≡ is_mark_list (format_of feed.stream) (feed.marks ++ mark ∷ []))
@@ -102,11 +102,11 @@ at_most_one true odd e = omega (arith, e)
 at_most_one false odd e = omega (arith, e)
 
 -- why no more are taken: 64 were, none is known, or none is wanted
-module _ (s t : Side MarkView) (m w : MixerState) (stream taken strange : ℕ) (h : TakesMarks s t m w stream taken strange) (most : taken ≤ 64) (odd : strange ≤ taken) where
+module _ (s t : TokenConsumer MarkView) (m w : MixerState) (stream taken strange : ℕ) (h : TakesMarks s t m w stream taken strange) (most : taken ≤ 64) (odd : strange ≤ taken) where
   pub stops_full : taken ≡ 64 → TakesWanted s t m w stream taken strange
   stops_full all = record { takes = h; most = most; some_strange = odd; stop = λ studio feeds number feed f is. inl all }
 
-  pub stops_empty : (u : Side MarkView) → SameConsumer t.ring u.ring → u.done ≡ t.done → received u.ring ≡ received t.ring → known_items u.ring ≡ [] → TakesWanted s u m w stream taken strange
+  pub stops_empty : (u : TokenConsumer MarkView) → SameConsumer t.ring u.ring → u.done ≡ t.done → received u.ring ≡ received t.ring → known_items u.ring ≡ [] → TakesWanted s u m w stream taken strange
   stops_empty u ring done same none = record {
     takes = record {
       more = h.more;

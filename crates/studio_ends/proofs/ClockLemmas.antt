@@ -8,15 +8,15 @@ use Rattle.rtp_stream.specs.declared.event.Event.{Event}
 use Rattle.rtp_stream.specs.declared.event.Event.TheVariants.{Tick}
 use Rattle.rtp_stream.specs.Marks.{marks_of}
 use Rattle.path_merge.specs.Merge.{HasHistory}
-use Rattle.studio_ends.specs.Stop.{StopsFor}
+use Rattle.studio_ends.specs.StopReasons.{StopsFor}
 use Rattle.studio_ends.specs.Streams.{AllDelivered, ReadsClock, packets_by}
-use Rattle.studio_ends.specs.Turns.{PushesMarks}
-use Rattle.studio_ends.specs.declared.rings.Side.{Side}
+use Rattle.studio_ends.specs.StreamTurns.{PushesMarks}
+use Rattle.studio_ends.specs.declared.rings.TokenConsumer.{TokenConsumer}
 use Rattle.studio_ends.specs.declared.stream_end.StreamEnd.{StreamEnd}
 use Rattle.studio_ends.specs.declared.stream_end.marks_out.StopReason.{StopReason}
 use Rattle.studio_ends.proofs.StreamLemmas.{packets_by-append}
 
-delivered-tick : (stream : Stream) (n : ℕ) (sides : List (Side Packet)) (es : List Event) (u : ℤ) → AllDelivered stream n sides es → AllDelivered stream n sides (es ++ Tick u ∷ [])
+delivered-tick : (stream : Stream) (n : ℕ) (sides : List (TokenConsumer Packet)) (es : List Event) (u : ℤ) → AllDelivered stream n sides es → AllDelivered stream n sides (es ++ Tick u ∷ [])
 delivered-tick stream n [] es u h = λ other le. packets_by-append other es (Tick u ∷ []) ∙ (append-nil (packets_by other es) ∙ h other le)
 delivered-tick stream n (side ∷ sides) es u h = (packets_by-append n es (Tick u ∷ []) ∙ (append-nil (packets_by n es) ∙ h.0), delivered-tick stream (suc n) sides es u h.1)
 
@@ -49,7 +49,7 @@ clock-read s t now why count pushed few stop sides monitor spec = record {
       record {
         some_frames = h.some_frames;
         merge = stands;
-        delivered = delivered-tick stream 0 t.sides.items events t.merge.time (subst (λ l. AllDelivered stream 0 l events) (sym (ap (λ (v : Rattle.std.specs.declared.vec.Vec.Vec (Side Packet) _). v.items) sides)) h.delivered);
+        delivered = delivered-tick stream 0 t.sides.items events t.merge.time (subst (λ l. AllDelivered stream 0 l events) (sym (ap (λ (v : Rattle.std.specs.declared.vec.Vec.Vec (TokenConsumer Packet) _). v.items) sides)) h.delivered);
         marks = now_is ∙ (sym (take-length (marks_of stream open_at all)) ∙ ap (λ n. take n (marks_of stream open_at all)) (sym whole));
       };
 }

@@ -9,22 +9,22 @@ use Rattle.rtp_stream.specs.declared.event.Event.TheVariants.{Close}
 use Rattle.rtp_stream.specs.History.{is_closed}
 use Rattle.rtp_stream.specs.Marks.{marks_of}
 use Rattle.path_merge.specs.Merge.{HasHistory}
-use Rattle.studio_ends.specs.Looks.{AllLookAt}
+use Rattle.studio_ends.specs.DrainedRings.{AllLookAt}
 use Rattle.studio_ends.specs.Fitting.{fitting}
 use Rattle.studio_ends.specs.Streams.{AllDelivered, StreamHasHistory, packets_by}
-use Rattle.studio_ends.specs.declared.rings.Side.{Side}
+use Rattle.studio_ends.specs.declared.rings.TokenConsumer.{TokenConsumer}
 use Rattle.studio_ends.specs.declared.stream_end.StreamEnd.{StreamEnd}
 use Rattle.path_merge.proofs.LawLemmas.{marks_stay}
 use Rattle.studio_ends.proofs.StreamLemmas.{packets_by-append}
 
 -- what came in stays
-pub delivered-looked : (stream : Stream) (n : ℕ) (olds news : List (Side Packet)) (es : List Event) → AllLookAt olds news → AllDelivered stream n olds es → AllDelivered stream n news es
+pub delivered-looked : (stream : Stream) (n : ℕ) (olds news : List (TokenConsumer Packet)) (es : List Event) → AllLookAt olds news → AllDelivered stream n olds es → AllDelivered stream n news es
 delivered-looked stream n [] [] es l h = h
 delivered-looked stream n (old ∷ olds) (new ∷ news) es l h = (h.0 ∙ ap (fitting stream) (sym l.0.received_is), delivered-looked stream (suc n) olds news es l.1 h.1)
 delivered-looked stream n [] (new ∷ news) es l h = absurd l
 delivered-looked stream n (old ∷ olds) [] es l h = absurd l
 
-pub delivered-close : (stream : Stream) (n : ℕ) (sides : List (Side Packet)) (es : List Event) → AllDelivered stream n sides es → AllDelivered stream n sides (es ++ Close ∷ [])
+pub delivered-close : (stream : Stream) (n : ℕ) (sides : List (TokenConsumer Packet)) (es : List Event) → AllDelivered stream n sides es → AllDelivered stream n sides (es ++ Close ∷ [])
 delivered-close stream n [] es h = λ other le. packets_by-append other es (Close ∷ []) ∙ (append-nil (packets_by other es) ∙ h other le)
 delivered-close stream n (side ∷ sides) es h = (packets_by-append n es (Close ∷ []) ∙ (append-nil (packets_by n es) ∙ h.0), delivered-close stream (suc n) sides es h.1)
 

@@ -21,13 +21,13 @@ use Rattle.studio_mix.specs.Ready.{is_ready}
 use Rattle.studio_mix.proofs.LawLemmas.{datagram_longer, ready_covered, ready_longer}
 use Rattle.studio_mix.specs.Blocks.{AreFirstBlocks}
 use Rattle.studio_mix.proofs.FirstBlockLemmas.{first_all, first_more, written_is}
-use Rattle.studio_ends.specs.Side.{IsDrained}
-use Rattle.studio_ends.specs.Looks.{AllDrained}
-use Rattle.studio_ends.specs.Mixes.{AllTakeSome}
+use Rattle.studio_ends.specs.DrainedRing.{IsDrained}
+use Rattle.studio_ends.specs.DrainedRings.{AllDrained}
+use Rattle.studio_ends.specs.MarksIn.{AllTakeSome}
 use Rattle.studio_ends.specs.AcceptedFeeds.{accepted_feeds}
 use Rattle.studio_ends.specs.MixEnds.{MixHasFeeds, MixesBlock, given}
 use Rattle.studio_ends.specs.Datagrams.{AllTell, AreAllGiven, HasGiven, given_after}
-use Rattle.studio_ends.specs.declared.rings.Side.{Side}
+use Rattle.studio_ends.specs.declared.rings.TokenConsumer.{TokenConsumer}
 use Rattle.studio_ends.specs.declared.mix.MixNote.{MixNote}
 use Rattle.studio_ends.specs.declared.mix_end.MixEnd.{MixEnd}
 use Rattle.studio_ends.proofs.AcceptedLemmas.{accepted_after-append}
@@ -55,7 +55,7 @@ longer-cons feed long feeds longer one rest = record { count = ap suc rest.count
         subst (λ (x : Feed). IsLonger x l) a (subst (λ (x : Feed). IsLonger feed x) b one)
     by_place (suc i) f l e e' = rest.each i f l e e'
 
-feeds-longer : (streams : List Stream) (olds news : List (Side MarkView)) → AllTakeSome olds news → AreLonger (accepted_feeds streams olds) (accepted_feeds streams news)
+feeds-longer : (streams : List Stream) (olds news : List (TokenConsumer MarkView)) → AllTakeSome olds news → AreLonger (accepted_feeds streams olds) (accepted_feeds streams news)
 feeds-longer [] olds news h = longer-none
 feeds-longer (s ∷ ss) [] [] h = longer-none
 feeds-longer (s ∷ ss) [] (n ∷ ns) h = absurd h
@@ -144,7 +144,7 @@ module _ (marks : List MarkView) where
   drained_tells ring None h told = absurd h
   drained_tells ring (Some done) h told = h ∙ told
 
-told_feeds : (sides : List (Side MarkView)) (feeds : List Feed) → AllDrained sides → AllTell sides feeds → accepted_feeds (map (λ (feed : Feed). feed.stream) feeds) sides ≡ feeds
+told_feeds : (sides : List (TokenConsumer MarkView)) (feeds : List Feed) → AllDrained sides → AllTell sides feeds → accepted_feeds (map (λ (feed : Feed). feed.stream) feeds) sides ≡ feeds
 told_feeds [] [] h told = refl
 told_feeds [] (feed ∷ feeds) h told = absurd told
 told_feeds (side ∷ sides) [] h told = absurd told
@@ -155,6 +155,6 @@ told_feeds (side ∷ sides) (feed ∷ feeds) h told =
     ∙ ap (λ (l : List Feed). feed ∷ l) (told_feeds sides feeds h.1 told.1)
 
 -- where all is received, all that the tokens tell was accepted
-pub told-all : (studio : Studio) (sides : List (Side MarkView)) (feeds : List Feed) → map (λ (feed : Feed). feed.stream) feeds ≡ studio.streams → AllDrained sides → AllTell sides feeds
+pub told-all : (studio : Studio) (sides : List (TokenConsumer MarkView)) (feeds : List Feed) → map (λ (feed : Feed). feed.stream) feeds ≡ studio.streams → AllDrained sides → AllTell sides feeds
     → accepted_feeds studio.streams sides ≡ feeds
 told-all studio sides feeds e h told = ap (λ ss. accepted_feeds ss sides) (sym e) ∙ told_feeds sides feeds h told

@@ -10,7 +10,7 @@ use Rattle.rtp_stream.specs.Marks.{marks_of}
 use Rattle.path_merge.specs.MergeState.{MergeState}
 use Rattle.path_merge.specs.Merge.{HasHistory}
 use Rattle.path_merge.specs.Steps.{Drains}
-use Rattle.studio_ends.specs.Turns.{DrainsMarks}
+use Rattle.studio_ends.specs.StreamTurns.{DrainsMarks}
 use Rattle.studio_ends.proofs.TurnLemmas.{producers}
 
 -- one mark more of some

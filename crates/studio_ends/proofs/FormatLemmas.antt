@@ -7,7 +7,7 @@ use Rattle.rtp_stream.specs.declared.anchor.Anchor.{Anchor}
 use Rattle.rtp_stream.specs.declared.mark.Format.{Format}
 use Rattle.path_merge.specs.Goal.{next_to}
 use Rattle.path_merge.specs.MergeState.{MergeState}
-use Rattle.path_merge.specs.Next.{anchor_due, anchor_left, slot_or_end, slot_or_quiet}
+use Rattle.path_merge.specs.NextMark.{anchor_due, anchor_after_close, slot_or_end, slot_or_quiet}
 use Rattle.path_merge.specs.declared.goal.Goal.{Goal}
 use Rattle.path_merge.specs.declared.goal.Goal.TheVariants.{End, Reading}
 
@@ -35,7 +35,7 @@ left format false ended mark h = refl
 
 next_or : (m : MergeState) (goal : Goal) → format_or (format_of m.spec) (next_to m goal) ≡ format_of m.spec
 next_or m (Reading now) = at_reading m now (anchor_due m now)
-next_or m End = left (format_of m.spec) m.closed m.ended (slot_or_end m (anchor_left m)) (at_end m (anchor_left m))
+next_or m End = left (format_of m.spec) m.closed m.ended (slot_or_end m (anchor_after_close m)) (at_end m (anchor_after_close m))
 
 -- it is that of the stream
 pub next_format : (m : MergeState) (goal : Goal) (mark : MarkView) → next_to m goal ≡ Some mark → mark.format ≡ format_of m.spec

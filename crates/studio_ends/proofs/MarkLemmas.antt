@@ -10,9 +10,9 @@ use Rattle.rtp_stream.specs.declared.event.Event.{Event}
 use Rattle.path_merge.specs.MergeState.{MergeState}
 use Rattle.path_merge.specs.Merge.{HasHistory}
 use Rattle.path_merge.specs.Steps.{Advances, Moves, MovesBy, is_slot_mark}
-use Rattle.path_merge.specs.Way.{IsOnWay}
-use Rattle.path_merge.proofs.WayLemmas.{way_goes_on, way_marks, way_stands, way_starts}
-use Rattle.studio_ends.specs.Turns.{PushesMarks}
+use Rattle.path_merge.specs.ReadingSteps.{IsOnWay}
+use Rattle.path_merge.proofs.ReadingStepsLemmas.{way_goes_on, way_marks, way_stands, way_starts}
+use Rattle.studio_ends.specs.StreamTurns.{PushesMarks}
 use Rattle.studio_ends.proofs.TurnLemmas.{producers}
 
 -- marks were pushed, and the merge is on its way to the time

@@ -7,7 +7,7 @@ use Rattle.studio_mix.specs.Mixer.{HasFeeds, MixerState}
 use Rattle.studio_mix.specs.Ready.{is_ready}
 use Rattle.studio_mix.specs.Output.{datagram_of}
 use Rattle.studio_ends.specs.AcceptedFeeds.{accepted_feeds}
-use Rattle.studio_ends.specs.Mixes.{TakesAllMarks}
+use Rattle.studio_ends.specs.MarksIn.{TakesAllMarks}
 use Rattle.studio_ends.specs.MixEnds.{MixHasFeeds, MixesBlock, given}
 use Rattle.studio_ends.specs.declared.mix.MixNote.{MixNote}
 use Rattle.studio_ends.specs.declared.mix_end.MixEnd.{MixEnd}

@@ -14,36 +14,36 @@ use Rattle.studio_config.specs.Studio.{Studio}
 use Rattle.studio_mix.specs.Feed.{Feed}
 use Rattle.studio_mix.specs.Mixer.{MixerState, HasFeeds}
 use Rattle.studio_ends.specs.AcceptedFeeds.{accepted_feeds, accepted_total, received_total}
-use Rattle.studio_ends.specs.Mixes.{AllStopTaking, AllTakeSome, StopsTaking, TakesAllMarks, TakesSome, TakesWanted, fed_more}
-use Rattle.studio_ends.specs.declared.rings.Side.{Side}
+use Rattle.studio_ends.specs.MarksIn.{AllStopTaking, AllTakeSome, StopsTaking, TakesAllMarks, TakesSome, TakesWanted, fed_more}
+use Rattle.studio_ends.specs.declared.rings.TokenConsumer.{TokenConsumer}
 use Rattle.studio_ends.proofs.AcceptedLemmas.{accepted_after-append}
 
-all_take-snoc : (olds news : List (Side MarkView)) (old new : Side MarkView) → AllTakeSome olds news → TakesSome old new → AllTakeSome (olds ++ old ∷ []) (news ++ new ∷ [])
+all_take-snoc : (olds news : List (TokenConsumer MarkView)) (old new : TokenConsumer MarkView) → AllTakeSome olds news → TakesSome old new → AllTakeSome (olds ++ old ∷ []) (news ++ new ∷ [])
 all_take-snoc [] [] old new h t = (t, tt)
 all_take-snoc (o ∷ os) (n ∷ ns) old new h t = (h.0, all_take-snoc os ns old new h.1 t)
 all_take-snoc [] (n ∷ ns) old new h t = absurd h
 all_take-snoc (o ∷ os) [] old new h t = absurd h
 
-same_there : (xs ys : List (Side MarkView)) (n : ℕ) (d : Side MarkView) → drop n xs ≡ drop n ys → get_or xs n d ≡ get_or ys n d
+same_there : (xs ys : List (TokenConsumer MarkView)) (n : ℕ) (d : TokenConsumer MarkView) → drop n xs ≡ drop n ys → get_or xs n d ≡ get_or ys n d
 same_there xs ys n d e =
     let z : n + 0 ≡ n = omega arith in
     ap (λ k. get_or xs k d) (sym z) ∙ (sym (get_or-drop n xs 0 d) ∙ (ap (λ l. get_or l 0 d) e ∙ (get_or-drop n ys 0 d ∙ ap (λ k. get_or ys k d) z)))
 
 -- the feed of a ring, and what more marks of it make of all feeds
-record FeedAt (streams : List Stream) (items : List (Side MarkView)) (n : ℕ) (old : Side MarkView) : Type 0 where
+record FeedAt (streams : List Stream) (items : List (TokenConsumer MarkView)) (n : ℕ) (old : TokenConsumer MarkView) : Type 0 where
   stream : Stream
   stream_is : stream ≡ get_or streams n stream
   is : slice_get (accepted_feeds streams items) n ≡ Some (record { stream = stream; marks = accepted_marks (format_of stream) (received old.ring) })
-  more : (new : Side MarkView) (marks : List MarkView) → received new.ring ≡ received old.ring ++ marks
+  more : (new : TokenConsumer MarkView) (marks : List MarkView) → received new.ring ≡ received old.ring ++ marks
       → accepted_feeds streams (set items n new) ≡ slice_set (accepted_feeds streams items) n (fed_more (record { stream = stream; marks = accepted_marks (format_of stream) (received old.ring) }) marks)
 
-feed_at : (streams : List Stream) (items : List (Side MarkView)) (n : ℕ) (old : Side MarkView) → n < length (accepted_feeds streams items) → old ≡ get_or items n old → FeedAt streams items n old
+feed_at : (streams : List Stream) (items : List (TokenConsumer MarkView)) (n : ℕ) (old : TokenConsumer MarkView) → n < length (accepted_feeds streams items) → old ≡ get_or items n old → FeedAt streams items n old
 feed_at [] items n old lt is = absurd (omega (arith, lt))
 feed_at (st ∷ sts) [] n old lt is = absurd (omega (arith, lt))
 feed_at (st ∷ sts) (i ∷ is) zero old lt same = record {
   stream = st;
   stream_is = refl;
-  is = ap (λ (s : Side MarkView). Some (record { stream = st; marks = accepted_marks (format_of st) (received s.ring) })) (sym same);
+  is = ap (λ (s : TokenConsumer MarkView). Some (record { stream = st; marks = accepted_marks (format_of st) (received s.ring) })) (sym same);
   more = λ new marks got. ap (λ (l : List MarkView). record { stream = st; marks = l } ∷ accepted_feeds sts is) (ap (accepted_marks (format_of st)) got ∙ accepted_after-append (format_of st) [] (received old.ring) marks);
 }
 feed_at (st ∷ sts) (i ∷ is) (suc n) old lt same =
@@ -56,7 +56,7 @@ feed_at (st ∷ sts) (i ∷ is) (suc n) old lt same =
     }
 
 -- one stream more stops
-stops-more : (streams : List Stream) (end : ℤ) (olds items : List (Side MarkView)) (n taken : ℕ) (stream : Stream) (old new : Side MarkView)
+stops-more : (streams : List Stream) (end : ℤ) (olds items : List (TokenConsumer MarkView)) (n taken : ℕ) (stream : Stream) (old new : TokenConsumer MarkView)
     → stream ≡ get_or streams n stream → old ≡ get_or olds n old → length (received new.ring) ≡ length (received old.ring) + taken
     → StopsTaking taken new stream (accepted_marks (format_of stream) (received new.ring)) end
     → AllStopTaking (take n streams) end olds items → AllStopTaking (take (n + 1) streams) end olds (set items n new)
@@ -64,16 +64,16 @@ stops-more streams end olds items n taken stream old new at is longer stops h =
     let e : n + 1 ≡ suc n = omega arith in
     subst (λ k. AllStopTaking (take k streams) end olds (set items n new)) (sym e) (by_place streams olds items n at is h)
   where
-    by_place : (streams : List Stream) (olds items : List (Side MarkView)) (n : ℕ) → stream ≡ get_or streams n stream → old ≡ get_or olds n old
+    by_place : (streams : List Stream) (olds items : List (TokenConsumer MarkView)) (n : ℕ) → stream ≡ get_or streams n stream → old ≡ get_or olds n old
         → AllStopTaking (take n streams) end olds items → AllStopTaking (take (suc n) streams) end olds (set items n new)
     by_place [] olds items n at is h = tt
     by_place (s ∷ ss) [] items n at is h = tt
     by_place (s ∷ ss) (o ∷ os) [] n at is h = tt
     by_place (s ∷ ss) (o ∷ os) (i ∷ its) zero at is h =
-        ((taken, longer ∙ ap (λ (r : Side MarkView). length (received r.ring) + taken) is, subst (λ (t : Stream). StopsTaking taken new t (accepted_marks (format_of t) (received new.ring)) end) at stops), tt)
+        ((taken, longer ∙ ap (λ (r : TokenConsumer MarkView). length (received r.ring) + taken) is, subst (λ (t : Stream). StopsTaking taken new t (accepted_marks (format_of t) (received new.ring)) end) at stops), tt)
     by_place (s ∷ ss) (o ∷ os) (i ∷ its) (suc n) at is h = (h.0, by_place ss os its n at is h.1)
 
-stops-all : (streams : List Stream) (end : ℤ) (olds items : List (Side MarkView)) (n : ℕ) → length olds ≤ n → AllStopTaking (take n streams) end olds items → AllStopTaking streams end olds items
+stops-all : (streams : List Stream) (end : ℤ) (olds items : List (TokenConsumer MarkView)) (n : ℕ) → length olds ≤ n → AllStopTaking (take n streams) end olds items → AllStopTaking streams end olds items
 stops-all [] end olds items n le h = tt
 stops-all (s ∷ ss) end [] items n le h = tt
 stops-all (s ∷ ss) end (o ∷ os) [] n le h = tt
@@ -81,7 +81,7 @@ stops-all (s ∷ ss) end (o ∷ os) (i ∷ its) zero le h = absurd (omega (arith
 stops-all (s ∷ ss) end (o ∷ os) (i ∷ its) (suc n) le h = (h.0, stops-all ss end os its n (omega (arith, le)) h.1)
 
 -- the loop over the streams
-pub record TakesThrough (olds items : List (Side MarkView)) (m w : MixerState) (n taken strange : ℕ) : Type 0 where
+pub record TakesThrough (olds items : List (TokenConsumer MarkView)) (m w : MixerState) (n taken strange : ℕ) : Type 0 where
   pub count : length items ≡ length olds
   pub later : drop n items ≡ drop n olds
   pub all : AllTakeSome (take n olds) (take n items)
@@ -94,7 +94,7 @@ pub record TakesThrough (olds items : List (Side MarkView)) (m w : MixerState) (
   pub stop : (studio : Studio) (number : ℕ) → HasFeeds studio m (accepted_feeds studio.streams olds) number
       → AllStopTaking (take n studio.streams) (block_start studio.output (number + 1)) olds items
 
-pub through-none : (olds : List (Side MarkView)) (m : MixerState) → TakesThrough olds olds m m 0 0 0
+pub through-none : (olds : List (TokenConsumer MarkView)) (m : MixerState) → TakesThrough olds olds m m 0 0 0
 through-none olds m = record {
   count = refl;
   later = refl;
@@ -107,7 +107,7 @@ through-none olds m = record {
   stop = λ studio number h. tt;
 }
 
-module _ (olds items : List (Side MarkView)) (m w v : MixerState) (n taken strange some odd : ℕ) (old new : Side MarkView) (h : TakesThrough olds items m w n taken strange) (lt : n < length olds) (all : length olds ≡ length m.lanes) (is : old ≡ get_or items n old) (one : TakesWanted old new w v n some odd) where
+module _ (olds items : List (TokenConsumer MarkView)) (m w v : MixerState) (n taken strange some odd : ℕ) (old new : TokenConsumer MarkView) (h : TakesThrough olds items m w n taken strange) (lt : n < length olds) (all : length olds ≡ length m.lanes) (is : old ≡ get_or items n old) (one : TakesWanted old new w v n some odd) where
   feed : (studio : Studio) (number : ℕ) → HasFeeds studio m (accepted_feeds studio.streams olds) number → FeedAt studio.streams items n old
   feed studio number s =
       let len : length w.lanes ≡ length (accepted_feeds studio.streams items) = (h.stands studio number s).lanes.count in
@@ -119,8 +119,8 @@ module _ (olds items : List (Side MarkView)) (m w v : MixerState) (n taken stran
 
   total_more : received_total (set items n new) ≡ received_total olds + (taken + some)
   total_more =
-      let sums = sum_by-set (λ (side : Side MarkView). length (received side.ring)) items n new old (let c = h.count in omega (arith, lt, c)) in
-      let at : length (received (get_or items n old).ring) ≡ length (received old.ring) = ap (λ (side : Side MarkView). length (received side.ring)) (sym is) in
+      let sums = sum_by-set (λ (side : TokenConsumer MarkView). length (received side.ring)) items n new old (let c = h.count in omega (arith, lt, c)) in
+      let at : length (received (get_or items n old).ring) ≡ length (received old.ring) = ap (λ (side : TokenConsumer MarkView). length (received side.ring)) (sym is) in
       let got : length (received new.ring) ≡ length (received old.ring) + some = ap length one.takes.received_are ∙ (length-append (received old.ring) one.takes.more ∙ ap (λ k. length (received old.ring) + k) one.takes.count_is) in
       let was = h.total in
       omega (arith, sums, at, got, was)
@@ -152,7 +152,7 @@ module _ (olds items : List (Side MarkView)) (m w v : MixerState) (n taken stran
 
   all_more : AllTakeSome (take (n + 1) olds) (take (n + 1) (set items n new))
   all_more =
-      let e : take (n + 1) olds ≡ take n olds ++ old ∷ [] = take_more olds n old lt ∙ ap (λ (s : Side MarkView). take n olds ++ s ∷ []) (sym old_is) in
+      let e : take (n + 1) olds ≡ take n olds ++ old ∷ [] = take_more olds n old lt ∙ ap (λ (s : TokenConsumer MarkView). take n olds ++ s ∷ []) (sym old_is) in
       let f : take (n + 1) (set items n new) ≡ take n items ++ new ∷ [] = take_more_set items n new (let c = h.count in omega (arith, lt, c)) in
       let t = one.takes in
       let most : length t.more ≤ 64 = let c = t.count_is in let k = one.most in omega (arith, c, k) in
@@ -174,7 +174,7 @@ module _ (olds items : List (Side MarkView)) (m w v : MixerState) (n taken stran
     stop = stop_more;
   }
 
-pub through-all : (olds items : List (Side MarkView)) (m w : MixerState) (n taken strange : ℕ) → n ≡ length olds → TakesThrough olds items m w n taken strange → TakesAllMarks olds items m w taken strange
+pub through-all : (olds items : List (TokenConsumer MarkView)) (m w : MixerState) (n taken strange : ℕ) → n ≡ length olds → TakesThrough olds items m w n taken strange → TakesAllMarks olds items m w taken strange
 through-all olds items m w n taken strange is h =
     let a : take n olds ≡ olds = ap (λ k. take k olds) is ∙ take-length olds in
     let b : take n items ≡ items = ap (λ k. take k items) (is ∙ sym h.count) ∙ take-length items in

@@ -18,13 +18,13 @@ use Rattle.studio_ends.specs.Streams.{AllDelivered, StreamHasHistory}
 use Rattle.studio_ends.specs.AcceptedFeeds.{accepted_feeds}
 use Rattle.studio_ends.specs.FreshEnds.{AllFreshPaths, AllFreshRings, AllFreshStreams, AreFreshRings, IsFreshPath, IsFreshStream}
 use Rattle.studio_ends.specs.Opening.{AddsStream, AllUnread, AreFreshEnds}
-use Rattle.studio_ends.specs.declared.rings.Side.{Side}
+use Rattle.studio_ends.specs.declared.rings.TokenConsumer.{TokenConsumer}
 use Rattle.studio_ends.specs.declared.path_end.PathEnd.{PathEnd}
 use Rattle.studio_ends.specs.declared.stream_end.StreamEnd.{StreamEnd}
 use Rattle.studio_ends.specs.declared.monitor_end.MonitorEnd.{MonitorEnd}
 use Rattle.studio_ends.specs.declared.opening.StreamEnds.{StreamEnds}
 
-pub fresh_paths-snoc : (stream : Stream) (places : ℕ) (paths : List PathEnd) (sides : List (Side Packet)) (path : PathEnd) (side : Side Packet)
+pub fresh_paths-snoc : (stream : Stream) (places : ℕ) (paths : List PathEnd) (sides : List (TokenConsumer Packet)) (path : PathEnd) (side : TokenConsumer Packet)
     → AllFreshPaths stream places paths sides → IsFreshPath stream places path side → AllFreshPaths stream places (paths ++ path ∷ []) (sides ++ side ∷ [])
 fresh_paths-snoc stream places [] [] path side h f = (f, tt)
 fresh_paths-snoc stream places (p ∷ ps) (s ∷ ss) path side h f = (h.0, fresh_paths-snoc stream places ps ss path side h.1 f)
@@ -39,7 +39,7 @@ fresh_streams-snoc open_at places (s ∷ ss) paths own (e ∷ es) stream end h f
 fresh_streams-snoc open_at places [] paths own (e ∷ es) stream end h f = absurd h
 fresh_streams-snoc open_at places (s ∷ ss) paths own [] stream end h f = absurd h
 
-fresh_rings-snoc : (places : ℕ) (ends : List StreamEnd) (monitors : List MonitorEnd) (sides : List (Side MarkView)) (end : StreamEnd) (monitor : MonitorEnd) (side : Side MarkView)
+fresh_rings-snoc : (places : ℕ) (ends : List StreamEnd) (monitors : List MonitorEnd) (sides : List (TokenConsumer MarkView)) (end : StreamEnd) (monitor : MonitorEnd) (side : TokenConsumer MarkView)
     → AllFreshRings places ends monitors sides → AreFreshRings places end monitor side → AllFreshRings places (ends ++ end ∷ []) (monitors ++ monitor ∷ []) (sides ++ side ∷ [])
 fresh_rings-snoc places [] [] [] end monitor side h f = (f, tt)
 fresh_rings-snoc places (e ∷ es) (m ∷ ms) (s ∷ ss) end monitor side h f = (h.0, fresh_rings-snoc places es ms ss end monitor side h.1 f)
@@ -49,7 +49,7 @@ fresh_rings-snoc places (e ∷ es) [] sides end monitor side h f = absurd h
 fresh_rings-snoc places (e ∷ es) (m ∷ ms) [] end monitor side h f = absurd h
 
 -- a stream with the empty history
-delivered-fresh : (stream : Stream) (places path : ℕ) (own : List PathEnd) (sides : List (Side Packet)) → AllFreshPaths stream places own sides → AllDelivered stream path sides []
+delivered-fresh : (stream : Stream) (places path : ℕ) (own : List PathEnd) (sides : List (TokenConsumer Packet)) → AllFreshPaths stream places own sides → AllDelivered stream path sides []
 delivered-fresh stream places path [] [] h = λ other le. refl
 delivered-fresh stream places path (p ∷ ps) (s ∷ ss) h = (sym (ap (fitting stream) h.0.none_received), delivered-fresh stream places (suc path) ps ss h.1)
 delivered-fresh stream places path [] (s ∷ ss) h = absurd h
@@ -77,7 +77,7 @@ pub ends-all : (open_at : ℤ) (places : ℕ) (streams : List Stream) (n : ℕ) 
 ends-all open_at places streams n ends is h = subst (λ l. AreFreshEnds open_at places l ends) (ap (λ k. take k streams) is ∙ take-length streams) h
 
 -- of fresh rings nothing was received
-pub unread : (open_at : ℤ) (places : ℕ) (streams : List Stream) (paths : List PathEnd) (ends : List StreamEnd) (monitors : List MonitorEnd) (sides : List (Side MarkView))
+pub unread : (open_at : ℤ) (places : ℕ) (streams : List Stream) (paths : List PathEnd) (ends : List StreamEnd) (monitors : List MonitorEnd) (sides : List (TokenConsumer MarkView))
     → AllFreshStreams open_at places streams paths ends → AllFreshRings places ends monitors sides → AllUnread streams sides
 unread open_at places [] paths [] [] [] h r = tt
 unread open_at places (s ∷ ss) paths (e ∷ es) (m ∷ ms) (side ∷ sides) h r = (r.0.none_received, unread open_at places ss h.1 es ms sides h.4 r.1)
@@ -88,7 +88,7 @@ unread open_at places [] paths [] (m ∷ ms) sides h r = absurd r
 unread open_at places (s ∷ ss) paths (e ∷ es) [] sides h r = absurd r
 unread open_at places (s ∷ ss) paths (e ∷ es) (m ∷ ms) [] h r = absurd r
 
-unread_feeds : (streams : List Stream) (sides : List (Side MarkView)) → AllUnread streams sides → accepted_feeds streams sides ≡ unfed streams
+unread_feeds : (streams : List Stream) (sides : List (TokenConsumer MarkView)) → AllUnread streams sides → accepted_feeds streams sides ≡ unfed streams
 unread_feeds [] [] h = refl
 unread_feeds (s ∷ ss) (side ∷ sides) h =
     ap (λ l. record { stream = s; marks = accepted_marks (format_of s) l } ∷ accepted_feeds ss sides) h.0
@@ -96,17 +96,17 @@ unread_feeds (s ∷ ss) (side ∷ sides) h =
 unread_feeds [] (side ∷ sides) h = absurd h
 unread_feeds (s ∷ ss) [] h = absurd h
 
-pub unread_count : (streams : List Stream) (sides : List (Side MarkView)) → AllUnread streams sides → length sides ≡ length streams
+pub unread_count : (streams : List Stream) (sides : List (TokenConsumer MarkView)) → AllUnread streams sides → length sides ≡ length streams
 unread_count [] [] h = refl
 unread_count (s ∷ ss) (side ∷ sides) h = ap suc (unread_count ss sides h.1)
 unread_count [] (side ∷ sides) h = absurd h
 unread_count (s ∷ ss) [] h = absurd h
 
-pub feeds-unread : (studio : Studio) (sides : List (Side MarkView)) (mixer : MixerState) → AllUnread studio.streams sides → HasFeeds studio mixer (unfed studio.streams) 0 → HasFeeds studio mixer (accepted_feeds studio.streams sides) 0
+pub feeds-unread : (studio : Studio) (sides : List (TokenConsumer MarkView)) (mixer : MixerState) → AllUnread studio.streams sides → HasFeeds studio mixer (unfed studio.streams) 0 → HasFeeds studio mixer (accepted_feeds studio.streams sides) 0
 feeds-unread studio sides mixer none h = subst (λ feeds. HasFeeds studio mixer feeds 0) (sym (unread_feeds studio.streams sides none)) h
 
 -- a lane for each ring
-pub lanes_count : (studio : Studio) (sides : List (Side MarkView)) (mixer : MixerState) → AllUnread studio.streams sides → HasFeeds studio mixer (unfed studio.streams) 0 → length sides ≡ length mixer.lanes
+pub lanes_count : (studio : Studio) (sides : List (TokenConsumer MarkView)) (mixer : MixerState) → AllUnread studio.streams sides → HasFeeds studio mixer (unfed studio.streams) 0 → length sides ≡ length mixer.lanes
 lanes_count studio sides mixer none h = unread_count studio.streams sides none ∙ sym (h.lanes.count ∙ length-map studio.streams (λ stream. record { stream = stream; marks = [] }))
 
 pub fresh_at : (t u : ℤ) (places : ℕ) (ss us : List Stream) (paths : List PathEnd) (ends : List StreamEnd) → t ≡ u → ss ≡ us → AllFreshStreams t places ss paths ends → AllFreshStreams u places us paths ends

@@ -8,8 +8,8 @@ use Rattle.rtp_stream.specs.declared.mark.Format.{Format}
 use Rattle.rtp_stream.specs.declared.mark.Body.TheVariants.{Got, Lost}
 use Rattle.rtp_stream.specs.declared.mark.MarkKind.{MarkKind}
 use Rattle.rtp_stream.specs.declared.mark.MarkKind.TheVariants.{Slot, Quiet, End}
-use Rattle.studio_ends.specs.MarkRooms.{IsWithin}
-use Rattle.studio_ends.specs.Rooms.{IsRoom, taken_length}
+use Rattle.studio_ends.specs.MarkCells.{IsWithin}
+use Rattle.studio_ends.specs.PayloadCells.{IsRoom, taken_length}
 
 -- the room's length is that of what is in it
 pub length_is : (size len : ℕ) (before value : List ℕ) → IsRoom size len before → take len before ≡ value → len ≡ length value

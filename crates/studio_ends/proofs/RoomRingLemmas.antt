@@ -9,9 +9,9 @@ use Rattle.path_merge.specs.MergeState.{MergeState}
 use Rattle.rtp_stream.specs.MarkFacts.{MarkView, payload_length}
 use Rattle.rtp_stream.specs.StreamSpecFacts.{format_of}
 use Rattle.studio_mix.specs.Mixer.{MixerState}
-use Rattle.studio_ends.specs.Mixes.{TakesWanted}
+use Rattle.studio_ends.specs.MarksIn.{TakesWanted}
 use Rattle.studio_ends.specs.RoomRings.{AreRoomy, HasRoomFor, done_with, named, side_with}
-use Rattle.studio_ends.specs.declared.rings.Side.{Side}
+use Rattle.studio_ends.specs.declared.rings.TokenConsumer.{TokenConsumer}
 
 -- what fits each of the three rooms
 pub fits_short : (len : ℕ) (names : Names) → AreRoomy len (named 0 names) → len ≤ 64
@@ -33,7 +33,7 @@ pub roomy_on : (m w : MergeState) (a b : Producer MarkView Global AnyItems) → 
 roomy_on m w a b spec same h = roomy_kept (payload_length (format_of w.spec)) a b same (rw spec h)
 
 -- what was taken of a side, whatever its rooms
-pub wanted_with : (room : ℕ) (old new : Side MarkView) (m w : MixerState) (stream taken strange : ℕ)
+pub wanted_with : (room : ℕ) (old new : TokenConsumer MarkView) (m w : MixerState) (stream taken strange : ℕ)
     → TakesWanted old new m w stream taken strange → TakesWanted (side_with room old) (side_with room new) m w stream taken strange
 wanted_with room old new m w stream taken strange h =
     let t = h.takes in
@@ -55,7 +55,7 @@ wanted_with room old new m w stream taken strange h =
     }
 
 -- as it is seen
-pub wanted_seen : (room : ℕ) (from to old new : Side MarkView) (m w v : MixerState) (stream : ℕ) (p q : ℕ × ℕ)
+pub wanted_seen : (room : ℕ) (from to old new : TokenConsumer MarkView) (m w v : MixerState) (stream : ℕ) (p q : ℕ × ℕ)
     → old ≡ side_with room from → new ≡ side_with room to → v ≡ w → q ≡ p
     → TakesWanted from to m w stream p.0 p.1 → TakesWanted old new m v stream q.0 q.1
 wanted_seen room from to old new m w v stream p q before after mixer result h =

@@ -11,11 +11,11 @@ use Rattle.path_merge.specs.Merge.{HasHistory}
 use Rattle.rtp_stream.specs.declared.packet.Packet.{Packet}
 use Rattle.rtp_stream.specs.declared.event.Event.{Event}
 use Rattle.rtp_stream.specs.declared.event.Event.TheVariants.{Arrive, Tick, Close}
-use Rattle.studio_ends.specs.Stop.{StopsFor}
+use Rattle.studio_ends.specs.StopReasons.{StopsFor}
 use Rattle.studio_ends.specs.Fitting.{fitting}
-use Rattle.studio_ends.specs.Turns.{AllTakePackets, Joins, PushesMarks, arrivals_by, arrivals_from}
+use Rattle.studio_ends.specs.StreamTurns.{AllTakePackets, Joins, PushesMarks, arrivals_by, arrivals_from}
 use Rattle.studio_ends.specs.Streams.{AllDelivered, ShowsCounts, TakesTurn, packets_by}
-use Rattle.studio_ends.specs.declared.rings.Side.{Side}
+use Rattle.studio_ends.specs.declared.rings.TokenConsumer.{TokenConsumer}
 use Rattle.studio_ends.specs.declared.stream_end.StreamEnd.{StreamEnd}
 use Rattle.studio_ends.specs.declared.stream_end.marks_out.TurnNote.{TurnNote}
 use Rattle.studio_ends.proofs.FittingLemmas.{fitting-append}
@@ -73,7 +73,7 @@ says_tick : (stream : Stream) (n : ℕ) (more : List Event) (u : ℤ) (taken : L
 says_tick stream n more u [] h = λ other le. packets_by-append other more (Tick u ∷ []) ∙ (append-nil (packets_by other more) ∙ h other le)
 says_tick stream n more u (xs ∷ taken) h = (packets_by-append n more (Tick u ∷ []) ∙ (append-nil (packets_by n more) ∙ h.0), says_tick stream (suc n) more u taken h.1)
 
-delivered-more : (stream : Stream) (n : ℕ) (olds news : List (Side Packet)) (taken : List (List Packet)) (es more : List Event)
+delivered-more : (stream : Stream) (n : ℕ) (olds news : List (TokenConsumer Packet)) (taken : List (List Packet)) (es more : List Event)
     → AllTakePackets olds news taken → AllDelivered stream n olds es → Says stream n more taken → AllDelivered stream n news (es ++ more)
 delivered-more stream n [] [] [] es more t h s = λ other le. packets_by-append other es more ∙ (ap (λ l. l ++ packets_by other more) (h other le) ∙ s other le)
 delivered-more stream n (old ∷ olds) (new ∷ news) (xs ∷ taken) es more t h s = (

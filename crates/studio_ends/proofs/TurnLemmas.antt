@@ -16,9 +16,9 @@ use Rattle.rtp_stream.specs.declared.packet.Packet.{Packet}
 use Rattle.rtp_stream.specs.declared.fate.Fate.{Fate}
 use Rattle.rtp_stream.specs.declared.event.Event.{Event}
 use Rattle.rtp_stream.specs.declared.event.Event.TheVariants.{Arrive}
-use Rattle.studio_ends.specs.declared.rings.Side.{Side}
+use Rattle.studio_ends.specs.declared.rings.TokenConsumer.{TokenConsumer}
 use Rattle.studio_ends.specs.Fitting.{fitting}
-use Rattle.studio_ends.specs.Turns.{AllTakePackets, Joins, TakesPackets, TakesSoFar, arrivals_by, arrivals_from}
+use Rattle.studio_ends.specs.StreamTurns.{AllTakePackets, Joins, TakesPackets, TakesSoFar, arrivals_by, arrivals_from}
 use Rattle.studio_ends.proofs.FittingLemmas.{fitting-append, fitting-none, fitting-one}
 
 pub arrivals_by-append : (path : ℕ) (xs ys : List Packet) → arrivals_by path (xs ++ ys) ≡ arrivals_by path xs ++ arrivals_by path ys
@@ -94,10 +94,10 @@ looked_and_passed c d e x look same pass =
 pub prefix_short : {X : Type 0} (xs ys : List X) → IsPrefix xs ys → length xs ≤ length ys
 prefix_short xs ys (more, is) = let e = ap length is in omega (arith, e, length-append xs more)
 
-pub took-none : (s : Side Packet) → TakesSoFar s s []
+pub took-none : (s : TokenConsumer Packet) → TakesSoFar s s []
 took-none s = record { ring = ((refl, refl, refl, refl), refl); done = refl; received_are = sym (append-nil (received s.ring)); left = omega arith }
 
-pub took-more : (s t u : Side Packet) (xs : List Packet) (x : Packet) → TakesSoFar s t xs → SameConsumer t.ring u.ring → u.done ≡ t.done
+pub took-more : (s t u : TokenConsumer Packet) (xs : List Packet) (x : Packet) → TakesSoFar s t xs → SameConsumer t.ring u.ring → u.done ≡ t.done
     → received u.ring ≡ received t.ring ++ x ∷ [] → IsPrefix (known_items t.ring) (x ∷ known_items u.ring) → TakesSoFar s u (xs ++ x ∷ [])
 took-more s t u xs x h ring done got known = record {
   ring = consumers s.ring t.ring u.ring h.ring ring;
@@ -123,7 +123,7 @@ arrivals_from-snoc stream path (ys ∷ taken) xs =
     ap (λ l. arrivals_by path (fitting stream ys) ++ l) (arrivals_from-snoc stream (suc path) taken xs ∙ ap (λ n. arrivals_from stream (suc path) taken ++ arrivals_by n (fitting stream xs)) e)
     ∙ sym (append_assoc (arrivals_by path (fitting stream ys)) (arrivals_from stream (suc path) taken) (arrivals_by (path + suc (length taken)) (fitting stream xs)))
 
-pub all_took-snoc : (olds news : List (Side Packet)) (taken : List (List Packet)) (old new : Side Packet) (xs : List Packet)
+pub all_took-snoc : (olds news : List (TokenConsumer Packet)) (taken : List (List Packet)) (old new : TokenConsumer Packet) (xs : List Packet)
     → AllTakePackets olds news taken → TakesPackets old new xs → AllTakePackets (olds ++ old ∷ []) (news ++ new ∷ []) (taken ++ xs ∷ [])
 all_took-snoc [] [] [] old new xs h t = (t, tt)
 all_took-snoc (o ∷ os) (n ∷ ns) (ys ∷ yss) old new xs h t = (h.0, all_took-snoc os ns yss old new xs h.1 t)
@@ -138,21 +138,21 @@ pub joined-path : (m w v : MergeState) (number : ℕ) (taken : List (List Packet
 joined-path m w v number taken xs e a b = joined-trans m w v (λ stream. arrivals_from stream 0 taken) (λ stream. arrivals_by number (fitting stream xs)) (λ stream. arrivals_from stream 0 (taken ++ xs ∷ []))
     (λ stream. arrivals_from-snoc stream 0 taken xs ∙ ap (λ n. arrivals_from stream 0 taken ++ arrivals_by n (fitting stream xs)) (let z : 0 + length taken ≡ length taken = omega arith in z ∙ e)) a b
 
-same_there : (xs ys : List (Side Packet)) (n : ℕ) (d : Side Packet) → drop n xs ≡ drop n ys → get_or xs n d ≡ get_or ys n d
+same_there : (xs ys : List (TokenConsumer Packet)) (n : ℕ) (d : TokenConsumer Packet) → drop n xs ≡ drop n ys → get_or xs n d ≡ get_or ys n d
 same_there xs ys n d e =
     let z : n + 0 ≡ n = omega arith in
     ap (λ k. get_or xs k d) (sym z) ∙ (sym (get_or-drop n xs 0 d) ∙ (ap (λ l. get_or l 0 d) e ∙ (get_or-drop n ys 0 d ∙ ap (λ k. get_or ys k d) z)))
 
-pub all_took-more : (initial items : List (Side Packet)) (n : ℕ) (old new : Side Packet) (taken : List (List Packet)) (xs : List Packet)
+pub all_took-more : (initial items : List (TokenConsumer Packet)) (n : ℕ) (old new : TokenConsumer Packet) (taken : List (List Packet)) (xs : List Packet)
     → n < length initial → length items ≡ length initial → drop n items ≡ drop n initial → old ≡ get_or items n old
     → AllTakePackets (take n initial) (take n items) taken → TakesPackets old new xs
     → AllTakePackets (take (n + 1) initial) (take (n + 1) (set items n new)) (taken ++ xs ∷ [])
 all_took-more initial items n old new taken xs lt len same is all one =
-    let e : take (n + 1) initial ≡ take n initial ++ old ∷ [] = take_more initial n old lt ∙ ap (λ (s : Side Packet). take n initial ++ s ∷ []) (sym (is ∙ same_there items initial n old same)) in
+    let e : take (n + 1) initial ≡ take n initial ++ old ∷ [] = take_more initial n old lt ∙ ap (λ (s : TokenConsumer Packet). take n initial ++ s ∷ []) (sym (is ∙ same_there items initial n old same)) in
     let f : take (n + 1) (set items n new) ≡ take n items ++ new ∷ [] = take_more_set items n new (omega (arith, lt, len)) in
     rw (e, f) (all_took-snoc (take n initial) (take n items) taken old new xs all one)
 
-pub later_same : (initial items : List (Side Packet)) (n : ℕ) (new : Side Packet) → drop n items ≡ drop n initial → drop (n + 1) (set items n new) ≡ drop (n + 1) initial
+pub later_same : (initial items : List (TokenConsumer Packet)) (n : ℕ) (new : TokenConsumer Packet) → drop n items ≡ drop n initial → drop (n + 1) (set items n new) ≡ drop (n + 1) initial
 later_same initial items n new same = drop-set-lt (n + 1) items n new (omega arith) ∙ (sym (drop-drop 1 n items) ∙ (ap (drop 1) same ∙ drop-drop 1 n initial))
 
 -- how many were taken of each path
@@ -174,7 +174,7 @@ counts_more from taken xs n count four lt len same all i = elim (cases_eq i n) [
 ]
 
 -- the loop over the paths
-pub record TakesUpTo (olds items : List (Side Packet)) (from : List ℕ) (m w : MergeState) (n : ℕ) : Type 0 where
+pub record TakesUpTo (olds items : List (TokenConsumer Packet)) (from : List ℕ) (m w : MergeState) (n : ℕ) : Type 0 where
   pub count : length items ≡ length olds
   pub four : length from ≡ 4
   pub later : drop n items ≡ drop n olds
@@ -184,17 +184,17 @@ pub record TakesUpTo (olds items : List (Side Packet)) (from : List ℕ) (m w : 
   pub counts : (i : ℕ) → get_or from i 0 ≡ length (get_or taken i [])
   pub joined : Joins m w (λ stream. arrivals_from stream 0 taken)
 
-pub took_to-none : (olds : List (Side Packet)) (from : List ℕ) (m : MergeState) → length from ≡ 4 → ((i : ℕ) → get_or from i 0 ≡ 0) → TakesUpTo olds olds from m m 0
+pub took_to-none : (olds : List (TokenConsumer Packet)) (from : List ℕ) (m : MergeState) → length from ≡ 4 → ((i : ℕ) → get_or from i 0 ≡ 0) → TakesUpTo olds olds from m m 0
 took_to-none olds from m four zeros = record { count = refl; four = four; later = refl; taken = []; taken_of = refl; all = tt; counts = zeros; joined = joined-none m }
 
 -- what one path gave
-pub record TakesPath (old new : Side Packet) (m w : MergeState) (path count : ℕ) : Type 0 where
+pub record TakesPath (old new : TokenConsumer Packet) (m w : MergeState) (path count : ℕ) : Type 0 where
   pub packets : List Packet
   pub of : TakesPackets old new packets
   pub count_is : length packets ≡ count
   pub joined : Joins m w (λ stream. arrivals_by path (fitting stream packets))
 
-pub took_to-more : (olds items : List (Side Packet)) (from : List ℕ) (m w v : MergeState) (n place path count : ℕ) (old new : Side Packet)
+pub took_to-more : (olds items : List (TokenConsumer Packet)) (from : List ℕ) (m w v : MergeState) (n place path count : ℕ) (old new : TokenConsumer Packet)
     → place ≡ n → path ≡ n → n < length olds → length olds ≤ 4 → old ≡ get_or items place old
     → TakesUpTo olds items from m w n → TakesPath old new w v path count
     → TakesUpTo olds (set items place new) (set from place count) m v (n + 1)

@@ -6,17 +6,17 @@ use Rattle.rtp_stream.specs.MarkFacts.{MarkView}
 use Rattle.rtrb.specs.Ring.{received}
 use Rattle.lane_align.specs.AcceptedMarks.{accepted_marks}
 use Rattle.studio_mix.specs.Feed.{Feed}
-use Rattle.studio_ends.specs.declared.rings.Side.{Side}
+use Rattle.studio_ends.specs.declared.rings.TokenConsumer.{TokenConsumer}
 
 -- each stream, with the marks that were accepted of those that its ring delivered
-abbrev pub accepted_feeds : List Stream → List (Side MarkView) → List Feed
+abbrev pub accepted_feeds : List Stream → List (TokenConsumer MarkView) → List Feed
 accepted_feeds [] sides = []
 accepted_feeds (stream ∷ streams) [] = []
 accepted_feeds (stream ∷ streams) (side ∷ sides) = record { stream = stream; marks = accepted_marks (format_of stream) (received side.ring) } ∷ accepted_feeds streams sides
 
 -- how many marks came of all streams
-abbrev pub received_total : List (Side MarkView) → ℕ
-received_total sides = sum_by (λ (side : Side MarkView). length (received side.ring)) sides
+abbrev pub received_total : List (TokenConsumer MarkView) → ℕ
+received_total sides = sum_by (λ (side : TokenConsumer MarkView). length (received side.ring)) sides
 
 -- how many were accepted
 abbrev pub accepted_total : List Feed → ℕ

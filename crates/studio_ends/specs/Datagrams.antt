@@ -9,7 +9,7 @@ use Rattle.studio_mix.specs.Feed.{Feed}
 use Rattle.studio_mix.specs.Blocks.{AreBlocks, AreFirstBlocks}
 use Rattle.studio_ends.specs.AcceptedFeeds.{accepted_feeds}
 use Rattle.studio_ends.specs.MixEnds.{MixHasFeeds}
-use Rattle.studio_ends.specs.declared.rings.Side.{Side}
+use Rattle.studio_ends.specs.declared.rings.TokenConsumer.{TokenConsumer}
 use Rattle.studio_ends.specs.declared.mix_end.MixEnd.{MixEnd}
 
 -- the mixer was fed what was accepted, and these datagrams were given: of the first blocks, which are ready
@@ -28,7 +28,7 @@ abbrev pub AreAllGiven : Studio → MixEnd → List (List ℕ) → Type 0
 AreAllGiven studio s datagrams = AreBlocks studio (accepted_feeds studio.streams s.sides.items) datagrams
 
 -- each ring's token tells the marks of its feed, and they are a mark list
-abbrev pub AllTell : List (Side MarkView) → List Feed → Type 0
+abbrev pub AllTell : List (TokenConsumer MarkView) → List Feed → Type 0
 AllTell [] [] = Unit {0}
 AllTell (side ∷ sides) (feed ∷ feeds) =
     (IfSome side.done (λ done. all_sent done ≡ feed.marks) × (is_mark_list (format_of feed.stream) feed.marks ≡ true)) × AllTell sides feeds

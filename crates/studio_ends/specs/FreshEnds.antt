@@ -7,7 +7,7 @@ use Rattle.rtp_stream.specs.declared.packet.Packet.{Packet}
 use Rattle.studio_config.specs.Studio.{Studio}
 use Rattle.studio_ends.specs.Streams.{StreamHasHistory}
 use Rattle.studio_ends.specs.Datagrams.{HasGiven}
-use Rattle.studio_ends.specs.declared.rings.Side.{Side}
+use Rattle.studio_ends.specs.declared.rings.TokenConsumer.{TokenConsumer}
 use Rattle.studio_ends.specs.declared.path_end.PathEnd.{PathEnd}
 use Rattle.studio_ends.specs.declared.stream_end.StreamEnd.{StreamEnd}
 use Rattle.studio_ends.specs.declared.monitor_end.MonitorEnd.{MonitorEnd}
@@ -20,7 +20,7 @@ abbrev pub open_fault_of : ℕ → OpenFault
 open_fault_of places = if nat_lt places 1 || nat_lt 65536 places then RingLength else Memory
 
 -- both ends of a path's ring of so many places, with nothing sent, received or counted
-pub record IsFreshPath (stream : Stream) (places : ℕ) (path : PathEnd) (side : Side Packet) : Type 0 where
+pub record IsFreshPath (stream : Stream) (places : ℕ) (path : PathEnd) (side : TokenConsumer Packet) : Type 0 where
   pub pair : IsPair path.ring side.ring
   pub spec : path.spec ≡ stream
   pub none_sent : sent path.ring ≡ []
@@ -29,7 +29,7 @@ pub record IsFreshPath (stream : Stream) (places : ℕ) (path : PathEnd) (side :
   pub none_received : received side.ring ≡ []
   pub not_done : side.done ≡ None
 
-abbrev pub AllFreshPaths : Stream → ℕ → List PathEnd → List (Side Packet) → Type 0
+abbrev pub AllFreshPaths : Stream → ℕ → List PathEnd → List (TokenConsumer Packet) → Type 0
 AllFreshPaths stream places [] [] = Unit {0}
 AllFreshPaths stream places (path ∷ paths) (side ∷ sides) = IsFreshPath stream places path side × AllFreshPaths stream places paths sides
 AllFreshPaths stream places [] (side ∷ sides) = ⊥
@@ -53,7 +53,7 @@ AllFreshStreams open_at places [] paths (s ∷ ss) = ⊥
 AllFreshStreams open_at places (stream ∷ streams) paths [] = ⊥
 
 -- both ends of a stream's rings of marks and of counts, with nothing sent or received
-pub record AreFreshRings (places : ℕ) (s : StreamEnd) (monitor : MonitorEnd) (side : Side MarkView) : Type 0 where
+pub record AreFreshRings (places : ℕ) (s : StreamEnd) (monitor : MonitorEnd) (side : TokenConsumer MarkView) : Type 0 where
   pub marks : IsPair s.marks side.ring
   pub marks_free : known_free s.marks ≡ places
   pub none_received : received side.ring ≡ []
@@ -63,7 +63,7 @@ pub record AreFreshRings (places : ℕ) (s : StreamEnd) (monitor : MonitorEnd) (
   pub none_shown : sent s.monitor ≡ []
   pub none_seen : received monitor.ring ≡ []
 
-abbrev pub AllFreshRings : ℕ → List StreamEnd → List MonitorEnd → List (Side MarkView) → Type 0
+abbrev pub AllFreshRings : ℕ → List StreamEnd → List MonitorEnd → List (TokenConsumer MarkView) → Type 0
 AllFreshRings places [] [] [] = Unit {0}
 AllFreshRings places (s ∷ ss) (monitor ∷ monitors) (side ∷ sides) = AreFreshRings places s monitor side × AllFreshRings places ss monitors sides
 AllFreshRings places [] [] (side ∷ sides) = ⊥

@@ -5,25 +5,25 @@ use Rattle.rtrb.specs.declared.finished.Finished.{Finished}
 use Rattle.rtrb.specs.declared.producer.Producer.{Producer}
 use Rattle.rtp_stream.specs.MarkFacts.{MarkView}
 use Rattle.studio_ends.specs.RoomRings.{finished_with, producer_with, side_with}
-use Rattle.studio_ends.specs.declared.rings.marks.Senders.{Senders}
-use Rattle.studio_ends.specs.declared.rings.marks.Senders.TheVariants as sender
-use Rattle.studio_ends.specs.declared.rings.marks.Sides.{Sides}
-use Rattle.studio_ends.specs.declared.rings.marks.Sides.TheVariants as side
-use Rattle.studio_ends.specs.declared.rings.marks.Tokens.{Tokens}
-use Rattle.studio_ends.specs.declared.rings.marks.Tokens.TheVariants as token
-use Rattle.studio_ends.specs.declared.rings.Side.{Side}
+use Rattle.studio_ends.specs.declared.rings.marks.ProducerBySize.{ProducerBySize}
+use Rattle.studio_ends.specs.declared.rings.marks.ProducerBySize.TheVariants as sender
+use Rattle.studio_ends.specs.declared.rings.marks.ConsumerBySize.{ConsumerBySize}
+use Rattle.studio_ends.specs.declared.rings.marks.ConsumerBySize.TheVariants as side
+use Rattle.studio_ends.specs.declared.rings.marks.TokenBySize.{TokenBySize}
+use Rattle.studio_ends.specs.declared.rings.marks.TokenBySize.TheVariants as token
+use Rattle.studio_ends.specs.declared.rings.TokenConsumer.{TokenConsumer}
 
-abbrev pub sender_in : Senders → Producer MarkView Global AnyItems
+abbrev pub sender_in : ProducerBySize → Producer MarkView Global AnyItems
 sender_in (sender.Short end) = producer_with 0 end
 sender_in (sender.Middle end) = producer_with 1 end
 sender_in (sender.Long end) = producer_with 2 end
 
-abbrev pub side_in : Sides → Side MarkView
+abbrev pub side_in : ConsumerBySize → TokenConsumer MarkView
 side_in (side.Short end) = side_with 0 end
 side_in (side.Middle end) = side_with 1 end
 side_in (side.Long end) = side_with 2 end
 
-abbrev pub token_in : Tokens → Finished MarkView Global AnyItems
+abbrev pub token_in : TokenBySize → Finished MarkView Global AnyItems
 token_in (token.Short done) = finished_with 0 done
 token_in (token.Middle done) = finished_with 1 done
 token_in (token.Long done) = finished_with 2 done

@@ -7,7 +7,7 @@ use Rattle.studio_mix.specs.Mixer.{HasFeeds}
 use Rattle.studio_mix.specs.Ready.{is_ready}
 use Rattle.studio_mix.specs.Output.{datagram_of}
 use Rattle.studio_ends.specs.AcceptedFeeds.{accepted_feeds, accepted_total}
-use Rattle.studio_ends.specs.Mixes.{AllStopTaking}
+use Rattle.studio_ends.specs.MarksIn.{AllStopTaking}
 use Rattle.studio_ends.specs.declared.mix.MixNote.{MixNote}
 use Rattle.studio_ends.specs.declared.mix_end.MixEnd.{MixEnd}
 

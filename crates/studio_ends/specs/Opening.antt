@@ -4,7 +4,7 @@ use Rattle.rtrb.specs.Ring.{received}
 use Rattle.rtp_stream.specs.declared.stream_spec.Stream.{Stream}
 use Rattle.rtp_stream.specs.MarkFacts.{MarkView}
 use Rattle.studio_ends.specs.FreshEnds.{AllFreshRings, AllFreshStreams, AreFreshRings, IsFreshStream}
-use Rattle.studio_ends.specs.declared.rings.Side.{Side}
+use Rattle.studio_ends.specs.declared.rings.TokenConsumer.{TokenConsumer}
 use Rattle.studio_ends.specs.declared.path_end.PathEnd.{PathEnd}
 use Rattle.studio_ends.specs.declared.stream_end.StreamEnd.{StreamEnd}
 use Rattle.studio_ends.specs.declared.monitor_end.MonitorEnd.{MonitorEnd}
@@ -20,7 +20,7 @@ pub record AddsStream (open_at : ℤ) (places : ℕ) (stream : Stream) (old new 
   pub own : List PathEnd
   pub end : StreamEnd
   pub monitor : MonitorEnd
-  pub side : Side MarkView
+  pub side : TokenConsumer MarkView
   pub paths : new.paths.items ≡ old.paths.items ++ own
   pub streams : new.streams.items ≡ old.streams.items ++ end ∷ []
   pub monitors : new.monitors.items ≡ old.monitors.items ++ monitor ∷ []
@@ -29,7 +29,7 @@ pub record AddsStream (open_at : ℤ) (places : ℕ) (stream : Stream) (old new 
   pub rings : AreFreshRings places end monitor side
 
 -- a ring for each stream, of which nothing was received
-abbrev pub AllUnread : List Stream → List (Side MarkView) → Type 0
+abbrev pub AllUnread : List Stream → List (TokenConsumer MarkView) → Type 0
 AllUnread [] [] = Unit {0}
 AllUnread (stream ∷ streams) (side ∷ sides) = (received side.ring ≡ []) × AllUnread streams sides
 AllUnread [] (side ∷ sides) = ⊥

@@ -7,7 +7,7 @@ use Rattle.rtrb.specs.declared.AnyItems.{AnyItems}
 use Rattle.rtrb.specs.declared.consumer.Consumer.{Consumer}
 use Rattle.rtrb.specs.declared.finished.Finished.{Finished}
 use Rattle.rtrb.specs.declared.producer.Producer.{Producer}
-use Rattle.studio_ends.specs.declared.rings.Side.{Side}
+use Rattle.studio_ends.specs.declared.rings.TokenConsumer.{TokenConsumer}
 
 -- rooms are short: 0, middle: 1, or long: 2
 abbrev pub named : ℕ → Names → Names
@@ -42,5 +42,5 @@ module _ {T : Type 0} where
   mine_with room ring None h = h
   mine_with room ring (Some done) h = (h.0, h.1, ap (named room) h.2, h.3)
 
-  abbrev pub side_with : ℕ → Side T → Side T
+  abbrev pub side_with : ℕ → TokenConsumer T → TokenConsumer T
   side_with room side = record { ring = consumer_with room side.ring; done = done_with room side.done; mine = mine_with room side.ring side.done side.mine }

@@ -11,10 +11,10 @@ use Rattle.rtp_stream.specs.declared.counts.Counts.{Counts}
 use Rattle.rtp_stream.specs.declared.packet.Packet.{Packet}
 use Rattle.rtp_stream.specs.declared.event.Event.{Event}
 use Rattle.rtp_stream.specs.declared.event.Event.TheVariants.{Arrive, Tick, Close}
-use Rattle.studio_ends.specs.Stop.{StopsFor}
+use Rattle.studio_ends.specs.StopReasons.{StopsFor}
 use Rattle.studio_ends.specs.Fitting.{fitting}
-use Rattle.studio_ends.specs.Turns.{AllTakePackets, turn_events}
-use Rattle.studio_ends.specs.declared.rings.Side.{Side}
+use Rattle.studio_ends.specs.StreamTurns.{AllTakePackets, turn_events}
+use Rattle.studio_ends.specs.declared.rings.TokenConsumer.{TokenConsumer}
 use Rattle.studio_ends.specs.declared.stream_end.StreamEnd.{StreamEnd}
 use Rattle.studio_ends.specs.declared.stream_end.marks_out.StopReason.{StopReason}
 use Rattle.studio_ends.specs.declared.stream_end.marks_out.TurnNote.{TurnNote}
@@ -27,7 +27,7 @@ packets_by path (Tick u ∷ events) = packets_by path events
 packets_by path (Close ∷ events) = packets_by path events
 
 -- the arrivals are just what the rings delivered, from this path on: those that have the stream's length
-abbrev pub AllDelivered : Stream → ℕ → List (Side Packet) → List Event → Type 0
+abbrev pub AllDelivered : Stream → ℕ → List (TokenConsumer Packet) → List Event → Type 0
 AllDelivered stream path [] events = (other : ℕ) → path ≤ other → packets_by other events ≡ []
 AllDelivered stream path (side ∷ sides) events = (packets_by path events ≡ fitting stream (received side.ring)) × AllDelivered stream (suc path) sides events
 

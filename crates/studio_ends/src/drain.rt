@@ -5,15 +5,15 @@ ghost use Rattle.path_merge.specs.Goal.{HasGivenAll};
 ghost use Rattle.rtp_stream.specs.MarkFacts.{payload_length};
 ghost use Rattle.rtp_stream.specs.StreamSpecFacts.{format_of};
 ghost use Rattle.studio_ends.specs.RoomRings.{HasRoomFor};
-ghost use Rattle.studio_ends.specs.Turns.{DrainsMarks};
+ghost use Rattle.studio_ends.specs.StreamTurns.{DrainsMarks};
 
-use crate::rings::marks::MarkIn;
+use crate::rings::marks::MarkProducer;
 use crate::stream_end::marks_out::push_next;
 use crate::stream_end::packets_in::BATCH;
 use path_merge::{Goal, Merge, SlotWindow};
 
 /// Pushes what is left, while there is room, and says whether the end is among what was pushed by now.
-pub(crate) fn drain_marks(marks: &mut MarkIn, merge: &mut Merge<SlotWindow>) -> bool
+pub(crate) fn drain_marks(marks: &mut MarkProducer, merge: &mut Merge<SlotWindow>) -> bool
     requires closed { merge.old.closed ≡ true }
     requires roomy { HasRoomFor (payload_length (format_of merge.old.spec)) marks.old }
     ensures drained { DrainsMarks marks.old merge.old marks.new merge.new }

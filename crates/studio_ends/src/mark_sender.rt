@@ -3,7 +3,7 @@ ghost use Rattle.std.specs.Prelude.{◌≡◌, ◌+◌, ◌<◌, ◌≤◌, ◌+
 ghost use Rattle.rtrb.specs.Ring.{Finishes, ProducerLooked, SameProducer, known_free, sent};
 ghost use Rattle.rtp_stream.specs.MarkFacts.{payload_length};
 
-use crate::rings::mark_cell::MarkRoom;
+use crate::rings::mark_cell::MarkCell;
 use path_merge::{Format, MarkRef};
 use rtrb::{Finished, Producer};
 use std::marker::Model;
@@ -11,12 +11,12 @@ use std::marker::Model;
 /// The pushing end of a ring of marks, and a room that each mark is written to before it is pushed.
 /// Contracts see it as that end.
 #[derive(Drop)]
-pub(crate) struct MarkSender<const N: usize> {
-    ring: Producer<MarkRoom<N>>,
-    room: MarkRoom<N>,
+pub(crate) struct SizedMarkProducer<const N: usize> {
+    ring: Producer<MarkCell<N>>,
+    room: MarkCell<N>,
 }
 
-impl<const N: usize> Model for MarkSender<N> {
+impl<const N: usize> Model for SizedMarkProducer<N> {
     ghost use Rattle.std.specs.declared.alloc.Global.{Global};
     ghost use Rattle.rtrb.specs.declared.AnyItems.{AnyItems};
     ghost use Rattle.rtrb.specs.declared.producer.Producer.{Producer};
@@ -27,13 +27,13 @@ impl<const N: usize> Model for MarkSender<N> {
     ghost view = { λ s. s.ring };
 }
 
-impl<const N: usize> MarkSender<N> {
-    pub(crate) fn new(ring: Producer<MarkRoom<N>>, format: Format) -> MarkSender<N>
+impl<const N: usize> SizedMarkProducer<N> {
+    pub(crate) fn new(ring: Producer<MarkCell<N>>, format: Format) -> SizedMarkProducer<N>
         ensures { result ≡ ring.entry }
     {
-        MarkSender {
+        SizedMarkProducer {
             ring,
-            room: MarkRoom::new(format),
+            room: MarkCell::new(format),
         }
     }
 
@@ -58,10 +58,10 @@ impl<const N: usize> MarkSender<N> {
     }
 
     /// The token of the end. None where the other end is gone.
-    pub(crate) fn finish(self) -> Option<Finished<MarkRoom<N>>>
+    pub(crate) fn finish(self) -> Option<Finished<MarkCell<N>>>
         ensures { IfSome result (λ done. Finishes self.entry done) }
     {
-        let MarkSender { ring, room: _ } = self;
+        let SizedMarkProducer { ring, room: _ } = self;
         ring.finish()
     }
 }

@@ -8,20 +8,20 @@ ghost use Rattle.studio_config.specs.Studio.{Studio};
 ghost use Rattle.studio_mix.specs.Feed.{Feed};
 ghost use Rattle.studio_mix.specs.Blocks.{AreBlocks};
 ghost use Rattle.studio_mix.specs.Saturated.{AreSaturated};
-ghost use Rattle.studio_ends.specs.declared.rings.Side.{Side};
+ghost use Rattle.studio_ends.specs.declared.rings.TokenConsumer.{TokenConsumer};
 ghost use Rattle.studio_ends.specs.AcceptedFeeds.{accepted_feeds, received_total};
-ghost use Rattle.studio_ends.specs.Looks.{AllDrained, AllLookAt};
-ghost use Rattle.studio_ends.specs.Mixes.{AllTakeSome};
+ghost use Rattle.studio_ends.specs.DrainedRings.{AllDrained, AllLookAt};
+ghost use Rattle.studio_ends.specs.MarksIn.{AllTakeSome};
 ghost use Rattle.studio_ends.specs.MixEnds.{MixHasFeeds, MixesBlock};
 ghost use Rattle.studio_ends.specs.Datagrams.{AreAllGiven, AreAllTold, HasGiven, given_after};
-ghost use Rattle.studio_ends.specs.Told.{Measures, TellsCounts};
+ghost use Rattle.studio_ends.specs.Stats.{Measures, TellsCounts};
 ghost use Rattle.studio_ends.specs.Tokens.{HandsIn};
 
 use crate::mix_end::MixEnd;
 use crate::mix_end::marks_in::take_streams;
-use crate::rings::drained::look_at_streams;
+use crate::rings::drained::any_stream_open;
 use crate::stream_end::turns::StreamDone;
-use rtp_stats::MixTeller;
+use rtp_stats::MixStatsSender;
 
 /// What a turn of the mixer's end did.
 #[derive(Clone, Copy, Debug)]
@@ -36,7 +36,12 @@ pub struct MixNote {
 
 /// Tells how many samples were saturated, and how loud it is, once a datagram was written to the front of `out`, if somebody
 /// is to be told.
-fn tell(teller: &mut Option<MixTeller>, given: Option<usize>, saturated: &[u64], out: &[u8])
+fn send_stats(
+    teller: &mut Option<MixStatsSender>,
+    given: Option<usize>,
+    saturated: &[u64],
+    out: &[u8],
+)
     requires room { IfSome given (λ len. len ≤ length out.now) }
     ensures told { IfSome given (λ len. TellsCounts saturated.now (take len out.now) teller.old teller.new) }
     ensures measures { (output : Output) → Measures teller.old output → Measures teller.new output }
@@ -45,7 +50,7 @@ fn tell(teller: &mut Option<MixTeller>, given: Option<usize>, saturated: &[u64],
         return;
     };
     if let Some(teller) = teller {
-        teller.tell(saturated, &out[..len]);
+        teller.send(saturated, &out[..len]);
     }
 }
 
@@ -85,7 +90,7 @@ impl MixEnd {
     {
         let (taken, strange) = take_streams(&mut self.sides, &mut self.mixer);
         let len = self.mixer.next_block(out);
-        tell(&mut self.teller, len, self.mixer.saturated(), out);
+        send_stats(&mut self.teller, len, self.mixer.saturated(), out);
         MixNote {
             taken,
             strange,
@@ -96,7 +101,7 @@ impl MixEnd {
     /// Takes the proof that a stream has finished.
     pub fn stream_done(&mut self, stream: usize, done: StreamDone)
         requires stream { stream < vec_len self.old.sides }
-        requires token { (side : Side MarkView) → slice_get self.old.sides.items stream ≡ Some side → IsFinishedOf done.token side.ring }
+        requires token { (side : TokenConsumer MarkView) → slice_get self.old.sides.items stream ≡ Some side → IsFinishedOf done.token side.ring }
         ensures sides { HandsIn self.old.sides.items stream (all_sent done.token) self.new.sides.items }
         ensures mixer { self.new.mixer ≡ self.old.mixer }
         ensures stands { (studio : Studio) (number : ℕ) → MixHasFeeds studio self.old number → MixHasFeeds studio self.new number }
@@ -119,6 +124,6 @@ impl MixEnd {
             → AreAllGiven studio self.old datagrams → AreBlocks studio feeds datagrams }
     {
         let mut open_yet = [false; 16];
-        !look_at_streams(&mut self.sides, &mut open_yet)
+        !any_stream_open(&mut self.sides, &mut open_yet)
     }
 }

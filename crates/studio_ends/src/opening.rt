@@ -10,9 +10,9 @@ use crate::ends::{Ends, OpenFault};
 use crate::mix_end::MixEnd;
 use crate::monitor_end::MonitorEnd;
 use crate::path_end::PathEnd;
-use crate::rings::marks::{MarkOut, open_marks};
-use crate::rings::packets::{PacketOut, open_packets};
-use crate::stats_channels::{Tellers, Watches};
+use crate::rings::marks::{MarkConsumer, open_marks};
+use crate::rings::packets::{PacketConsumer, open_packets};
+use crate::stats_channels::{StatsChannels, StatsReceivers};
 use crate::stream_end::StreamEnd;
 use path_merge::{Merge, StreamSpec};
 use rtp_stream::PathCounts;
@@ -27,7 +27,7 @@ pub(crate) struct StreamEnds {
     pub(crate) paths: Vec<PathEnd>,
     pub(crate) streams: Vec<StreamEnd>,
     pub(crate) monitors: Vec<MonitorEnd>,
-    pub(crate) marks: Vec<MarkOut>,
+    pub(crate) marks: Vec<MarkConsumer>,
 }
 
 /// A path's ring, with both ends.
@@ -35,11 +35,11 @@ fn open_path(
     alloc: Global,
     spec: &StreamSpec,
     ring_len: usize,
-    tellers: &mut Tellers,
-) -> Result<(PathEnd, PacketOut), AllocError>
+    tellers: &mut StatsChannels,
+) -> Result<(PathEnd, PacketConsumer), AllocError>
     ensures { IfOk result (λ r. IsFreshPath spec.now ring_len r.0 r.1) }
 {
-    let teller = tellers.of_path(alloc)?;
+    let teller = tellers.path_channel(alloc)?;
     let (ring, side) = open_packets(alloc, spec.payload_len(), ring_len)?;
     let end = PathEnd {
         spec: *spec,
@@ -56,8 +56,8 @@ fn open_paths(
     spec: &StreamSpec,
     ring_len: usize,
     paths: &mut Vec<PathEnd>,
-    tellers: &mut Tellers,
-) -> Result<Vec<PacketOut>, AllocError>
+    tellers: &mut StatsChannels,
+) -> Result<Vec<PacketConsumer>, AllocError>
     ensures { IfOk result (λ sides. (own : List PathEnd) × (paths.new.items ≡ paths.old.items ++ own)
         × (length own ≡ spec.now.paths) × (vec_len sides ≡ spec.now.paths) × AllFreshPaths spec.now ring_len own sides.items) }
 {
@@ -75,10 +75,10 @@ fn open_stream(
     alloc: Global,
     spec: &StreamSpec,
     open_at: i64,
-    sides: Vec<PacketOut>,
+    sides: Vec<PacketConsumer>,
     ring_len: usize,
-    tellers: &mut Tellers,
-) -> Result<(StreamEnd, MonitorEnd, MarkOut), AllocError>
+    tellers: &mut StatsChannels,
+) -> Result<(StreamEnd, MonitorEnd, MarkConsumer), AllocError>
     requires not_low { pos 0 ≤ℤ open_at }
     requires not_high { open_at ≤ℤ pos (2 ^ 60) }
     requires paths { vec_len sides ≡ spec.now.paths }
@@ -86,7 +86,7 @@ fn open_stream(
         → IfOk result (λ r. IsFreshStream open_at ring_len spec.now own r.0) }
     ensures rings { IfOk result (λ r. AreFreshRings ring_len r.0 r.1 r.2) }
 {
-    let teller = tellers.of_stream(alloc, spec)?;
+    let teller = tellers.stream_channel(alloc, spec)?;
     let merge = Merge::new(alloc, *spec, open_at)?;
     let _len = spec.payload_len();
     let format = spec.format();
@@ -110,7 +110,7 @@ fn add_stream(
     open_at: i64,
     ring_len: usize,
     ends: &mut StreamEnds,
-    tellers: &mut Tellers,
+    tellers: &mut StatsChannels,
 ) -> Result<(), AllocError>
     requires not_low { pos 0 ≤ℤ open_at }
     requires not_high { open_at ≤ℤ pos (2 ^ 60) }
@@ -130,7 +130,7 @@ fn open_streams(
     specs: &[StreamSpec],
     open_at: i64,
     ring_len: usize,
-    tellers: &mut Tellers,
+    tellers: &mut StatsChannels,
 ) -> Result<StreamEnds, AllocError>
     requires not_low { pos 0 ≤ℤ open_at }
     requires not_high { open_at ≤ℤ pos (2 ^ 60) }
@@ -152,15 +152,15 @@ fn open_streams(
 fn open_mix(
     alloc: Global,
     studio: &StudioSpec,
-    sides: Vec<MarkOut>,
-    tellers: &mut Tellers,
+    sides: Vec<MarkConsumer>,
+    tellers: &mut StatsChannels,
 ) -> Result<MixEnd, AllocError>
     requires sound { IsStudio studio.now }
     requires unread { AllUnread studio.now.streams sides.items }
     ensures { IfOk result (λ mix. (mix.sides ≡ sides) × HasGiven studio.now mix []) }
 {
     let output = studio.output();
-    let teller = tellers.of_mix(alloc, output)?;
+    let teller = tellers.mix_channel(alloc, output)?;
     let mixer = Mixer::new(alloc, studio)?;
     let _frames = output.frames();
     Ok(MixEnd {
@@ -175,7 +175,7 @@ fn open_ends(
     alloc: Global,
     studio: &StudioSpec,
     ring_len: usize,
-    tellers: &mut Tellers,
+    tellers: &mut StatsChannels,
 ) -> Result<Ends, AllocError>
     ensures { IfOk result (λ ends. AreOpened studio.now ring_len ends) }
 {
@@ -202,20 +202,25 @@ pub fn open(alloc: Global, studio: &StudioSpec, ring_len: usize) -> Result<Ends,
     ensures places { IfOk result (λ ends. (1 ≤ ring_len) × (ring_len ≤ 65536)) }
     ensures fault { IfErr result (λ fault. fault ≡ open_fault_of ring_len) }
 {
-    open_with(alloc, studio, ring_len, &mut Tellers::new(alloc, false))
+    open_with(
+        alloc,
+        studio,
+        ring_len,
+        &mut StatsChannels::new(alloc, false),
+    )
 }
 
 /// The same, with watches, which are told what becomes of each path's packets and of the mix.
-pub fn open_watched(
+pub fn open_with_stats(
     alloc: Global,
     studio: &StudioSpec,
     ring_len: usize,
-) -> Result<(Ends, Watches), OpenFault>
+) -> Result<(Ends, StatsReceivers), OpenFault>
     ensures opened { IfOk result (λ r. AreOpened studio.now ring_len r.0) }
     ensures places { IfOk result (λ r. (1 ≤ ring_len) × (ring_len ≤ 65536)) }
     ensures fault { IfErr result (λ fault. fault ≡ open_fault_of ring_len) }
 {
-    let mut tellers = Tellers::new(alloc, true);
+    let mut tellers = StatsChannels::new(alloc, true);
     let ends = open_with(alloc, studio, ring_len, &mut tellers)?;
     Ok((ends, tellers.watches))
 }
@@ -225,7 +230,7 @@ fn open_with(
     alloc: Global,
     studio: &StudioSpec,
     ring_len: usize,
-    tellers: &mut Tellers,
+    tellers: &mut StatsChannels,
 ) -> Result<Ends, OpenFault>
     ensures opened { IfOk result (λ ends. AreOpened studio.now ring_len ends) }
     ensures places { IfOk result (λ ends. (1 ≤ ring_len) × (ring_len ≤ 65536)) }

@@ -3,7 +3,7 @@ ghost use Rattle.std.specs.Prelude.{◌≡◌, ◌+◌, ◌<◌, ◌≤◌, ◌+
 ghost use Rattle.rtrb.specs.Ring.{Finishes, ProducerLooked, SameProducer, known_free, sent};
 ghost use Rattle.rtp_stream.specs.PacketRef.{packet_of};
 
-use crate::rings::packet_cell::PacketRoom;
+use crate::rings::packet_cell::PacketCell;
 use path_merge::PacketRef;
 use rtrb::{Finished, Producer};
 use std::marker::Model;
@@ -11,12 +11,12 @@ use std::marker::Model;
 /// The pushing end of a ring of packets, and a room that each packet is written to before it is pushed.
 /// Contracts see it as that end.
 #[derive(Drop)]
-pub(crate) struct PacketSender<const N: usize> {
-    ring: Producer<PacketRoom<N>>,
-    room: PacketRoom<N>,
+pub(crate) struct SizedPacketProducer<const N: usize> {
+    ring: Producer<PacketCell<N>>,
+    room: PacketCell<N>,
 }
 
-impl<const N: usize> Model for PacketSender<N> {
+impl<const N: usize> Model for SizedPacketProducer<N> {
     ghost use Rattle.std.specs.declared.alloc.Global.{Global};
     ghost use Rattle.rtrb.specs.declared.AnyItems.{AnyItems};
     ghost use Rattle.rtrb.specs.declared.producer.Producer.{Producer};
@@ -27,13 +27,13 @@ impl<const N: usize> Model for PacketSender<N> {
     ghost view = { λ s. s.ring };
 }
 
-impl<const N: usize> PacketSender<N> {
-    pub(crate) fn new(ring: Producer<PacketRoom<N>>) -> PacketSender<N>
+impl<const N: usize> SizedPacketProducer<N> {
+    pub(crate) fn new(ring: Producer<PacketCell<N>>) -> SizedPacketProducer<N>
         ensures { result ≡ ring.entry }
     {
-        PacketSender {
+        SizedPacketProducer {
             ring,
-            room: PacketRoom::new(),
+            room: PacketCell::new(),
         }
     }
 
@@ -57,10 +57,10 @@ impl<const N: usize> PacketSender<N> {
     }
 
     /// The token of the end. None where the other end is gone.
-    pub(crate) fn finish(self) -> Option<Finished<PacketRoom<N>>>
+    pub(crate) fn finish(self) -> Option<Finished<PacketCell<N>>>
         ensures { IfSome result (λ done. Finishes self.entry done) }
     {
-        let PacketSender { ring, room: _ } = self;
+        let SizedPacketProducer { ring, room: _ } = self;
         ring.finish()
     }
 }

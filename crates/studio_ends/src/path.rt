@@ -9,8 +9,8 @@ ghost use Rattle.studio_ends.specs.Paths.{Offers};
 ghost use Rattle.studio_ends.specs.declared.path.Offer.TheVariants as offer;
 
 use crate::path_end::PathEnd;
-use crate::rings::packets::{PacketIn, PacketToken};
-use rtp_stats::PathTeller;
+use crate::rings::packets::{PacketProducer, PacketToken};
+use rtp_stats::PathCountsSender;
 use rtp_stream::{PathCounts, ReceptionRef, receive_ref};
 
 /// What became of a datagram: the first of these that holds.
@@ -36,7 +36,7 @@ pub struct PathDone {
 }
 
 /// Whether this is a packet, and no free place is seen for it.
-fn lacks_room(ring: &mut PacketIn, reception: ReceptionRef<'_>) -> bool
+fn lacks_room(ring: &mut PacketProducer, reception: ReceptionRef<'_>) -> bool
     ensures ring { ProducerLooked ring.old ring.new }
     ensures full { result ≡ true → ((packet : Packet) × (reception_from reception.entry ≡ Received packet)) × (known_free ring.new ≡ 0) }
     ensures room { result ≡ false → (packet : Packet) → reception_from reception.entry ≡ Received packet → 0 < known_free ring.new }
@@ -50,9 +50,9 @@ fn lacks_room(ring: &mut PacketIn, reception: ReceptionRef<'_>) -> bool
 }
 
 /// Tells counts, if somebody is to be told.
-fn tell(teller: &mut Option<PathTeller>, counts: PathCounts) {
+fn send_stats(teller: &mut Option<PathCountsSender>, counts: PathCounts) {
     if let Some(teller) = teller {
-        teller.tell(counts);
+        teller.send(counts);
     }
 }
 
@@ -71,11 +71,11 @@ impl PathEnd {
         let reception = receive_ref(&self.spec, datagram);
         if lacks_room(&mut self.ring, reception) {
             self.counts.add_full();
-            tell(&mut self.teller, self.counts);
+            send_stats(&mut self.teller, self.counts);
             return Offer::Full;
         }
         self.counts.add_ref(reception);
-        tell(&mut self.teller, self.counts);
+        send_stats(&mut self.teller, self.counts);
         match reception {
             ReceptionRef::Sent(packet) => {
                 self.ring.push(packet);
@@ -88,10 +88,10 @@ impl PathEnd {
     }
 
     /// Tells its watch what became of the datagrams, if it has one: where none comes for now.
-    pub fn tell(&mut self)
+    pub fn send_counts(&mut self)
         ensures { self.new ≡ record self.old { teller = self.new.teller } }
     {
-        tell(&mut self.teller, self.counts);
+        send_stats(&mut self.teller, self.counts);
     }
 
     /// Gives up the end: the proof of it, and what became of the datagrams. No proof where the other

@@ -6,9 +6,9 @@ ghost use Rattle.rtp_stream.specs.StreamSpecFacts.{format_of};
 ghost use Rattle.studio_ends.specs.Fitting.{fitting};
 ghost use Rattle.studio_ends.specs.RoomRings.{HasRoomFor};
 
-use crate::rings::packets::PacketIn;
+use crate::rings::packets::PacketProducer;
 use path_merge::StreamSpec;
-use rtp_stats::PathTeller;
+use rtp_stats::PathCountsSender;
 use rtp_stream::PathCounts;
 
 /// The end of a path: its datagrams go in.
@@ -17,10 +17,10 @@ use rtp_stream::PathCounts;
 #[derive(Drop)]
 pub struct PathEnd {
     pub(crate) spec: StreamSpec,
-    pub(crate) ring: PacketIn,
+    pub(crate) ring: PacketProducer,
     pub(crate) counts: PathCounts,
     /// Who is told these counts, if anybody is.
-    pub(crate) teller: Option<PathTeller>,
+    pub(crate) teller: Option<PathCountsSender>,
     ghost few: { counts.offered ≤ 2 ^ 62 },
     ghost all_counted: { counts.sent ≡ length (sent ring) },
     ghost roomy: { HasRoomFor (payload_length (format_of spec)) ring },

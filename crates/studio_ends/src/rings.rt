@@ -2,7 +2,7 @@
 ghost use Rattle.std.specs.Prelude.{◌≡◌, ◌+◌, ◌<◌, [], ◌∷◌, ◌++◌, IfSome, IsSomeAnd, MatchOption, length, IsTrue, true, false, ◌↔◌, None, Some};
 ghost use Rattle.rtrb.specs.Ring.{received, known_items, ConsumerLooked, IsFinishedOf, all_sent, SameConsumer};
 ghost use mathlib.Core.List.{IsPrefix};
-ghost use Rattle.studio_ends.specs.Side.{IsDrained};
+ghost use Rattle.studio_ends.specs.DrainedRing.{IsDrained};
 ghost use Rattle.std.proofs.Props.{props};
 
 use rtrb::{Consumer, Finished};
@@ -16,17 +16,17 @@ mod payload_cell;
 
 /// The popping end of a ring, with the token of the pushing end once that was handed in.
 #[derive(Drop)]
-pub struct Side<T> {
+pub struct TokenConsumer<T> {
     pub(crate) ring: Consumer<T>,
     pub(crate) done: Option<Finished<T>>,
     ghost mine: { IfSome done (λ d. IsFinishedOf d ring) } by { Prim.hlevel props },
 }
 
-impl<T: Drop> Side<T> {
-    pub(crate) fn new(ring: Consumer<T>) -> Side<T>
+impl<T: Drop> TokenConsumer<T> {
+    pub(crate) fn new(ring: Consumer<T>) -> TokenConsumer<T>
         ensures { (result.ring ≡ ring) × (result.done ≡ None) }
     {
-        Side { ring, done: None }
+        TokenConsumer { ring, done: None }
     }
 
     /// Takes the token of the pushing end.
@@ -37,7 +37,7 @@ impl<T: Drop> Side<T> {
         self.done = Some(done);
     }
 
-    /// Whether no item is seen. One that is seen is looked at by `next`, and then passed by `pass`.
+    /// Whether no item is seen. One that is seen is looked at by `peek`, and then passed by `drop_next`.
     pub(crate) fn is_empty(&mut self) -> bool
         ensures ring { ConsumerLooked self.old.ring self.new.ring }
         ensures done { self.new.done ≡ self.old.done }
@@ -48,7 +48,7 @@ impl<T: Drop> Side<T> {
     }
 
     /// The next item, in its place in the ring.
-    pub(crate) fn next(&self) -> &T
+    pub(crate) fn peek(&self) -> &T
         requires { 0 < length (known_items self.now.ring) }
         ensures { IsPrefix (result.now ∷ []) (known_items self.now.ring) }
     {
@@ -56,7 +56,7 @@ impl<T: Drop> Side<T> {
     }
 
     /// Takes the next item out of the ring, and drops it.
-    pub(crate) fn pass(&mut self)
+    pub(crate) fn drop_next(&mut self)
         requires { 0 < length (known_items self.old.ring) }
         ensures ring { SameConsumer self.old.ring self.new.ring }
         ensures done { self.new.done ≡ self.old.done }

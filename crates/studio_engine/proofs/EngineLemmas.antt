@@ -14,7 +14,7 @@ use Rattle.studio_mix.specs.Room.{rooms_of}
 use Rattle.studio_session.specs.Event.{TraceEvent, Arrival, Reading}
 use Rattle.studio_session.specs.Fault.{closed_after, closed_at, event_fault, session_fault_of, time_after}
 use Rattle.studio_session.specs.Cursor.{CursorState, HasPulled}
-use Rattle.studio_session.specs.Handed.{AreHanded, HaveTaken}
+use Rattle.studio_session.specs.PushedEvents.{AreHanded, HaveTaken}
 use Rattle.studio_session.specs.Play.{AreNew, HasPlayed, IsRunnableBy, SessionState}
 use Rattle.studio_session.specs.Run.{HasGivenBlocks}
 use Rattle.studio_session.proofs.FaultLemmas.{arrival_fault, closed_more, lawful_more, runnable_more, time_more}

@@ -29,7 +29,7 @@ use Rattle.studio_session.specs.Event.{TraceEvent, Arrival, Reading, Closing}
 use Rattle.studio_session.specs.Session.{Datagram, Other, event_in, stream_history}
 use Rattle.studio_session.specs.Fault.{closed_at}
 use Rattle.studio_session.specs.Cursor.{CursorState}
-use Rattle.studio_session.specs.Handed.{HaveTaken}
+use Rattle.studio_session.specs.PushedEvents.{HaveTaken}
 use Rattle.studio_session.specs.Play.{HasFilled, HasPlayed, IsFinal, IsRunnableBy, PlaysFinal, PlaysOut, SessionState, feeds_of, stream_marks}
 use Rattle.studio_session.specs.Run.{HasGivenBlocks, blocks_left}
 use Rattle.studio_session.proofs.PlayLemmas.{plays_all}

@@ -10,9 +10,9 @@ use Rattle.rtp_stream.specs.declared.stream_spec.Stream.{Stream}
 use Rattle.studio_session.specs.Event.{TraceEvent, Arrival}
 use Rattle.studio_session.specs.Session.{Other, step_of}
 use Rattle.studio_session.specs.Cursor.{CursorState, HasPulled}
-use Rattle.studio_session.specs.Handed.{AreHanded, IsHanded}
-use Rattle.studio_session.specs.Receipt.{receipt_of}
-use Rattle.studio_session.specs.declared.receipt.Receipt.{Receipt}
+use Rattle.studio_session.specs.PushedEvents.{AreHanded, IsHanded}
+use Rattle.studio_session.specs.ArriveOutcome.{receipt_of}
+use Rattle.studio_session.specs.declared.receipt.ArriveOutcome.{ArriveOutcome}
 use Rattle.studio_engine.specs.Engine.{HaveCome}
 
 -- none was handed it yet
@@ -73,13 +73,13 @@ is_other stream path number octets ne spec =
     rw no
 
 -- what became of the datagram for this stream, by the cursors before
-abbrev pub Tells : List CursorState → ℕ → ℕ → ℕ → List ℕ → Receipt → Type 0
+abbrev pub Tells : List CursorState → ℕ → ℕ → ℕ → List ℕ → ArriveOutcome → Type 0
 Tells first stream count path octets receipt = (cursor : CursorState) (spec : Stream) (number : ℕ) (open_at : ℤ) (events : List TraceEvent) (k : ℕ)
     → slice_get first stream ≡ Some cursor → count ≡ length events → HasPulled spec number open_at events cursor k
     → receipt ≡ receipt_of spec number open_at events path octets
 
 -- it is told by the stream's own cursor
-pub tells_own : (first : List CursorState) (old : CursorState) (i stream count path : ℕ) (octets : List ℕ) (d : CursorState) (o : Option Receipt) → i < length first → old ≡ get_or first i d → HaveCome count first
+pub tells_own : (first : List CursorState) (old : CursorState) (i stream count path : ℕ) (octets : List ℕ) (d : CursorState) (o : Option ArriveOutcome) → i < length first → old ≡ get_or first i d → HaveCome count first
     → IfSome o (λ receipt. i ≡ stream)
     → IfSome o (λ receipt. (spec : Stream) (s : ℕ) (open_at : ℤ) (events : List TraceEvent) (k : ℕ) → old.place ≡ length events → HasPulled spec s open_at events old k → receipt ≡ receipt_of spec s open_at events path octets)
     → IfSome o (Tells first stream count path octets)
@@ -91,10 +91,10 @@ tells_own first old i stream count path octets d (Some receipt) within is come o
     told spec number open_at events k place (subst (λ c. HasPulled spec number open_at events c k) (sym same) pulled)
 
 -- of two answers, the first that there is
-pub either_tells : (P : Receipt → Type 0) (o p : Option Receipt) → IfSome o P → IfSome p P → IfSome (option_or o p) P
+pub either_tells : (P : ArriveOutcome → Type 0) (o p : Option ArriveOutcome) → IfSome o P → IfSome p P → IfSome (option_or o p) P
 either_tells P None p h g = g
 either_tells P (Some receipt) p h g = h
 
-pub neither : (o p : Option Receipt) → option_or o p ≡ None → (o ≡ None) × (p ≡ None)
+pub neither : (o p : Option ArriveOutcome) → option_or o p ≡ None → (o ≡ None) × (p ≡ None)
 neither None p e = (refl, e)
 neither (Some receipt) p e = absurd (let f : Some receipt ≡ None = e in cc)

@@ -22,12 +22,12 @@ use Rattle.rtp_stream.specs.MarkFacts.{MarkView}
 use Rattle.rtp_stream.specs.MarkList.{has_end, is_end}
 use Rattle.rtp_stream.specs.Reception.{reception_of}
 use Rattle.rtp_stream.specs.StreamSpecFacts.{format_of}
-use Rattle.path_merge.specs.KeepUp.{IsDue, KeepUp, LastReaches}
+use Rattle.path_merge.specs.ClockLag.{IsDue, KeepUp, LastReaches}
 use Rattle.path_merge.specs.Goal.{next_to}
 use Rattle.path_merge.specs.MergeState.{MergeState}
-use Rattle.path_merge.specs.Next.{next_left}
+use Rattle.path_merge.specs.NextMark.{next_left}
 use Rattle.path_merge.proofs.HistoryLemmas.{time_of-append}
-use Rattle.path_merge.proofs.KeepUpLemmas.{keep_up}
+use Rattle.path_merge.proofs.ClockLagLemmas.{keep_up}
 use Rattle.path_merge.proofs.LentLemmas.{lent_is_due}
 use Rattle.lane_align.specs.Cover.{cover_of, cover_to, covers, last_quiet, last_slot, quiet_of, slot_of, time_reached}
 use Rattle.lane_align.specs.Lane.{LaneState, frames_to, has_room_for, natural}
@@ -37,13 +37,13 @@ use Rattle.studio_config.specs.Studio.{Studio}
 use Rattle.studio_mix.specs.Feed.{Feed}
 use Rattle.studio_mix.specs.Mixer.{HasFeeds, MixerState, has_room_of, holds_of}
 use Rattle.studio_mix.specs.Ready.{are_covered, have_ended}
-use Rattle.studio_mix.specs.Room.{greatest_lag, lag_of, room_beside, room_of}
+use Rattle.studio_mix.specs.Room.{greatest_lag, lag_of, capacity_for, room_of}
 use Rattle.studio_mix.proofs.MixerLemmas.{next_start}
 use Rattle.studio_session.specs.Cursor.{CursorState, IsRunnable, goal_of, next_of}
 use Rattle.studio_session.specs.Event.{Arrival, Closing, Reading, TraceEvent}
 use Rattle.studio_session.specs.Fault.{closed_at, time_at}
 use Rattle.studio_session.specs.Play.{Plays, feeds_from, feeds_of, stream_marks}
-use Rattle.studio_session.specs.Way.{IsOnWay}
+use Rattle.studio_session.specs.ReadingSteps.{IsOnWay}
 use Rattle.studio_session.specs.Session.{Datagram, Other, event_in, stream_history}
 use Rattle.studio_session.proofs.PlayLemmas.{set_here, stream_at}
 use Rattle.studio_engine.specs.Near.{HasRooms, IsAwaited, MarksAreNear}
@@ -175,7 +175,7 @@ at_most (pos k) n le = omega (arith, ints, le)
 at_most (negsuc k) n le = omega arith
 
 -- a lane that lags no more has room for a mark that is due
-room_for : (stream : Stream) (lane : LaneState) (lag block : ℕ) (open_at time begins : ℤ) (mark : MarkView) → lane.format ≡ format_of stream → lane.position ≡ begins → lane.room ≡ room_beside lag block stream
+room_for : (stream : Stream) (lane : LaneState) (lag block : ℕ) (open_at time begins : ℤ) (mark : MarkView) → lane.format ≡ format_of stream → lane.position ≡ begins → lane.room ≡ capacity_for lag block stream
     → (time -ℤ pos lag) <ℤ (begins +ℤ pos block) → IsDue stream open_at time mark.kind → has_room_for lane mark ≡ true
 room_for stream lane lag block open_at time begins mark format position room near due = by_kind mark.kind due
   where

@@ -6,7 +6,7 @@ use Rattle.studio_mix.specs.Ready.{is_ready}
 use Rattle.studio_session.specs.Event.{TraceEvent, Reading}
 use Rattle.studio_session.specs.Fault.{closed_at, time_at}
 use Rattle.studio_session.specs.Cursor.{CursorState}
-use Rattle.studio_session.specs.Handed.{HaveTaken}
+use Rattle.studio_session.specs.PushedEvents.{HaveTaken}
 use Rattle.studio_session.specs.Play.{HasPlayed, IsRunnableBy, feeds_of}
 use Rattle.studio_engine.specs.Engine.{AreAtRest}
 

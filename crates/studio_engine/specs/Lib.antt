@@ -19,8 +19,8 @@ pub use Rattle.studio_session.specs.Event
 pub use Rattle.studio_session.specs.Cursor
 pub use Rattle.studio_session.specs.Counts
 pub use Rattle.studio_session.specs.Fault
-pub use Rattle.studio_session.specs.Handed
-pub use Rattle.studio_session.specs.Receipt
+pub use Rattle.studio_session.specs.PushedEvents
+pub use Rattle.studio_session.specs.ArriveOutcome
 pub use Rattle.studio_session.specs.Play
 pub use Rattle.studio_session.specs.Run
 pub use Rattle.studio_session.specs.Report

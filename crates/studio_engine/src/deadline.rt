@@ -20,7 +20,7 @@ pub(crate) fn reading_past(time: i64, mixer: &Mixer, cursors: &[Cursor]) -> Opti
     ensures never { result ≡ None → (studio : Studio) (events : List TraceEvent) (next : ℕ)
         → IsAtRest studio events mixer.now cursors.now time next → IsUnreadyBefore studio events next (pos (2 ^ 60 + 1)) }
 {
-    let reading = latest_past(time, mixer, cursors);
+    let reading = latest_reading(time, mixer, cursors);
     match clock_fault(time, false, reading) {
         None => Some(reading),
         Some(_) => None,
@@ -28,7 +28,7 @@ pub(crate) fn reading_past(time: i64, mixer: &Mixer, cursors: &[Cursor]) -> Opti
 }
 
 /// The latest of these streams' readings, and at least the next one.
-fn latest_past(time: i64, mixer: &Mixer, cursors: &[Cursor]) -> i64
+fn latest_reading(time: i64, mixer: &Mixer, cursors: &[Cursor]) -> i64
     requires streams { length cursors.now ≡ length mixer.now.lanes }
     requires not_late { time ≤ℤ pos (2 ^ 60) }
     ensures later { time <ℤ result }

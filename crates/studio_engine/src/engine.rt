@@ -7,7 +7,7 @@ ghost use Rattle.studio_config.specs.Studio.{Studio};
 ghost use Rattle.studio_session.specs.Event.{TraceEvent, Arrival, Reading, Closing};
 ghost use Rattle.studio_mix.specs.Saturated.{AreSaturated};
 ghost use Rattle.studio_session.specs.Play.{feeds_of};
-ghost use Rattle.studio_session.specs.Receipt.{receipt_of};
+ghost use Rattle.studio_session.specs.ArriveOutcome.{receipt_of};
 ghost use Rattle.studio_session.specs.Counts as received;
 ghost use Rattle.studio_session.specs.Report.{merge_tally_of};
 ghost use Rattle.studio_session.specs.Run.{blocks_left};
@@ -18,10 +18,10 @@ ghost use Rattle.studio_engine.specs.Engine.{HasAllMarks, arrive_fault_of, path_
 ghost use Rattle.studio_engine.specs.Session.{Gives, HasGivenReady, HasSession, shut, turned};
 
 use crate::deadline::reading_past;
+use crate::dispatch::{push_close, push_datagram, push_reading};
+use crate::early_marks::keep_early_marks;
 use crate::fault::{ArriveFault, Unfinished};
-use crate::fill::give;
-use crate::hand::{hand_close, hand_datagram, hand_reading};
-use crate::keep::keep;
+use crate::next_block::next_datagram;
 use mix_packets::OutSpec;
 use path_merge::{ClockFault, Counts, Path, clock_fault};
 use rtp_stream::PathCounts;
@@ -29,7 +29,7 @@ use std::alloc::{AllocError, Global};
 use std::marker::Model;
 use studio_config::StudioSpec;
 use studio_mix::Mixer;
-use studio_session::{Cursor, Receipt, is_runnable, studio_cursors};
+use studio_session::{ArriveOutcome, Cursor, is_runnable, studio_cursors};
 
 /// No more arrivals are taken once so many events were.
 const MOST_EVENTS: usize = 4_611_686_018_427_387_904;
@@ -95,7 +95,7 @@ impl Engine {
         stream: usize,
         path: Path,
         octets: &[u8],
-    ) -> Result<Receipt, ArriveFault>
+    ) -> Result<ArriveOutcome, ArriveFault>
         ensures stands { OnOk result ((studio : Studio) (events : List TraceEvent) (datagrams : List (List ℕ))
             → HasSession studio self.old events datagrams
             → HasSession studio self.new (events ++ Arrival stream path octets.now ∷ []) datagrams) }
@@ -112,7 +112,7 @@ impl Engine {
             return Err(fault);
         }
         let cursors = self.cursors.as_mut_slice();
-        let Some(receipt) = hand_datagram(cursors, self.count, stream, path, octets) else {
+        let Some(receipt) = push_datagram(cursors, self.count, stream, path, octets) else {
             unreachable!()
         };
         self.count += 1;
@@ -157,7 +157,7 @@ impl Engine {
         if let Some(fault) = clock_fault(self.time, self.closed, now) {
             return Err(fault);
         }
-        if let Some(len) = self.go_on(out) {
+        if let Some(len) = self.continue_turn(out) {
             return Ok(Some(len));
         }
         // No engine that has a session comes here.
@@ -168,7 +168,7 @@ impl Engine {
             return Ok(None);
         }
         self.set_out(now);
-        Ok(self.go_on(out))
+        Ok(self.continue_turn(out))
     }
 
     /// Sets out for a later reading.
@@ -183,14 +183,14 @@ impl Engine {
         ensures closed { self.new.closed ≡ false }
         ensures packer { self.new.mixer.packer ≡ self.old.mixer.packer }
     {
-        hand_reading(self.cursors.as_mut_slice(), self.count, now);
+        push_reading(self.cursors.as_mut_slice(), self.count, now);
         self.time = now;
         self.turning = true;
         self.count += 1;
     }
 
     /// Goes on to the reading, and gives the next datagram.
-    fn go_on(&mut self, out: &mut [u8]) -> Option<usize>
+    fn continue_turn(&mut self, out: &mut [u8]) -> Option<usize>
         requires room { datagram_length self.old.mixer.packer.spec ≤ length out.old }
         requires open_yet { self.old.closed ≡ false }
         ensures some { IfSome result (λ len. (studio : Studio) (events : List TraceEvent) (datagrams : List (List ℕ))
@@ -207,9 +207,9 @@ impl Engine {
         ensures closed { self.new.closed ≡ self.old.closed }
         ensures output { self.new.mixer.packer.spec ≡ self.old.mixer.packer.spec }
     {
-        let given = give(&mut self.mixer, self.cursors.as_mut_slice(), out);
+        let given = next_datagram(&mut self.mixer, self.cursors.as_mut_slice(), out);
         if given.is_none() {
-            let there = keep(&mut self.mixer, self.cursors.as_mut_slice());
+            let there = keep_early_marks(&mut self.mixer, self.cursors.as_mut_slice());
             self.turning = !there;
         }
         given
@@ -229,7 +229,7 @@ impl Engine {
             return Err(Unfinished);
         }
         if !self.closed {
-            hand_close(self.cursors.as_mut_slice(), self.count);
+            push_close(self.cursors.as_mut_slice(), self.count);
             self.closed = true;
             self.count += 1;
         }
@@ -254,7 +254,7 @@ impl Engine {
         if !self.closed {
             return None;
         }
-        let given = give(&mut self.mixer, self.cursors.as_mut_slice(), out);
+        let given = next_datagram(&mut self.mixer, self.cursors.as_mut_slice(), out);
         self.settled = given.is_none();
         given
     }

@@ -9,13 +9,13 @@
 #![tactic(auto)]
 
 mod deadline;
+mod dispatch;
+mod early_marks;
 mod engine;
 mod fault;
-mod fill;
 mod given;
-mod hand;
-mod keep;
 mod laws;
+mod next_block;
 
 pub use engine::Engine;
 pub use fault::{ArriveFault, Unfinished};

@@ -1,9 +1,9 @@
 //! Live runs, from the octets of a configuration.
 use crate::names::names_in;
-use file_commands::{Configs, Fault, LiveWords, config_of, studio_in, written};
+use file_commands::{CommandFault, Files, LiveArgs, output_result, parse_studio, read_config};
 use live_io::{
-    Handed, LiveOptions, LivePorts, Opening, Recorded, Setup, Strangers, StreamName, TaiOffset,
-    tai_opening,
+    InheritedSockets, LiveInputs, LiveOptions, LivePorts, RecordResult, StreamName, TaiOffset,
+    TaiTime, UnexpectedSources, tai_now,
 };
 use live_run::{LiveFault, run_studio_live};
 use rtp_stream::Path;
@@ -19,7 +19,7 @@ use studio_config::StudioSpec;
 
 /// A studio, and what the system's monotonic clock reads at its opening time.
 #[derive(Drop)]
-struct Started {
+struct OpenedStudio {
     studio: StudioSpec,
     began: Option<Duration>,
 }
@@ -27,43 +27,43 @@ struct Started {
 /// Runs the studio of the configuration at a path.
 pub(crate) fn run_live<
     R: Threads + Wait + Sync + Net + Clock + RandomSource + Env + AllocGlobal,
-    C: Configs,
+    C: Files,
     W: Write,
     E: Write + Send,
 >(
     rt: &R,
-    configs: &C,
+    files: &C,
     alloc: Global,
     path: &str,
-    words: LiveWords<'_>,
+    words: LiveArgs<'_>,
     output: &mut W,
     faults: &mut E,
-) -> Result<(), Fault> {
-    let config = config_of(configs, alloc, path)?;
-    run_config(rt, configs, alloc, config.as_slice(), words, output, faults)
+) -> Result<(), CommandFault> {
+    let config = read_config(files, alloc, path)?;
+    run_live_config(rt, files, alloc, config.as_slice(), words, output, faults)
 }
 
 /// Runs the studio that a configuration says, whose report goes to `output`. Where counts are asked for
 /// while it runs, they go where faults go. The file of its record is made before the first socket is bound.
-pub fn run_config<
+pub fn run_live_config<
     R: Threads + Wait + Sync + Net + Clock + RandomSource + Env + AllocGlobal,
-    C: Configs,
+    C: Files,
     W: Write,
     E: Write + Send,
 >(
     rt: &R,
-    configs: &C,
+    files: &C,
     alloc: Global,
     config: &[u8],
-    words: LiveWords<'_>,
+    words: LiveArgs<'_>,
     output: &mut W,
     faults: &mut E,
-) -> Result<(), Fault> {
-    let started = opened(rt, alloc, studio_in(alloc, config)?, words.tai_offset)?;
+) -> Result<(), CommandFault> {
+    let started = opened(rt, alloc, parse_studio(alloc, config)?, words.tai_offset)?;
     let given = given_of(rt, alloc, &started.studio, config, words.listen_fds)?;
-    let record = record_of(configs, words.record)?;
-    let recorded = Recorded::new();
-    let setup = Setup {
+    let record = record_of(files, words.record)?;
+    let recorded = RecordResult::new();
+    let setup = LiveInputs {
         ports: &given.ports,
         handed: &given.handed,
         names: given.names.as_slice(),
@@ -81,16 +81,16 @@ pub fn run_config<
         &mut *faults,
         record,
     );
-    end(ran, &started.studio, setup, words, output)
+    finish(ran, &started.studio, setup, words, output)
 }
 
 /// What a run is given beside its studio.
 #[derive(Drop)]
-struct Given {
+struct LoadedInputs {
     ports: LivePorts,
-    handed: Handed,
+    handed: InheritedSockets,
     names: Vec<Option<StreamName>>,
-    strangers: Strangers,
+    strangers: UnexpectedSources,
 }
 
 /// What a run of a configuration's studio is given.
@@ -100,12 +100,12 @@ fn given_of<R: Env + AllocGlobal>(
     studio: &StudioSpec,
     config: &[u8],
     listen_fds: bool,
-) -> Result<Given, Fault> {
+) -> Result<LoadedInputs, CommandFault> {
     let ports = LivePorts::of(alloc, studio)?;
     let handed = handed_of(rt, alloc, studio, listen_fds)?;
     let names = names_in(alloc, config)?;
-    let strangers = Strangers::none(alloc, studio)?;
-    Ok(Given {
+    let strangers = UnexpectedSources::new(alloc, studio)?;
+    Ok(LoadedInputs {
         ports,
         handed,
         names,
@@ -119,33 +119,33 @@ fn handed_of<R: Env + AllocGlobal>(
     alloc: Global,
     studio: &StudioSpec,
     listen_fds: bool,
-) -> Result<Handed, Fault> {
+) -> Result<InheritedSockets, CommandFault> {
     if !listen_fds {
-        return Ok(Handed::nothing());
+        return Ok(InheritedSockets::none());
     }
-    Ok(Handed::told(rt, alloc, studio.streams())?)
+    Ok(InheritedSockets::from_env(rt, alloc, studio.streams())?)
 }
 
 /// Writes what follows the report, where there is one, and answers what the run came to.
-fn end<W: Write>(
+fn finish<W: Write>(
     ran: Result<(), LiveFault>,
     studio: &StudioSpec,
-    setup: Setup<'_>,
-    words: LiveWords<'_>,
+    setup: LiveInputs<'_>,
+    words: LiveArgs<'_>,
     output: &mut W,
-) -> Result<(), Fault> {
+) -> Result<(), CommandFault> {
     if matches!(ran, Ok(()) | Err(LiveFault::Unsettled)) {
-        write_beside(studio, setup, words, output)?;
+        write_after_report(studio, setup, words, output)?;
     }
     ran?;
     if setup.recorded.has_failed() {
-        return Err(Fault::RecordWrite);
+        return Err(CommandFault::RecordWrite);
     }
     Ok(())
 }
 
 /// How the run ends, what it tells while it goes on, and in which form it runs.
-fn options_of(words: LiveWords<'_>) -> LiveOptions {
+fn options_of(words: LiveArgs<'_>) -> LiveOptions {
     LiveOptions {
         instants: words.instants,
         stats: words.stats,
@@ -156,38 +156,41 @@ fn options_of(words: LiveWords<'_>) -> LiveOptions {
 }
 
 /// A file at the path of a record, if one is asked for.
-fn record_of<C: Configs>(configs: &C, path: Option<&str>) -> Result<Option<C::File>, Fault> {
+fn record_of<C: Files>(files: &C, path: Option<&str>) -> Result<Option<C::File>, CommandFault> {
     match path {
-        Some(path) => match configs.create(path) {
+        Some(path) => match files.create(path) {
             Ok(file) => Ok(Some(file)),
-            Err(_) => Err(Fault::Record),
+            Err(_) => Err(CommandFault::Record),
         },
         None => Ok(None),
     }
 }
 
 /// Writes what follows the report: when the run was opened, if the system said so, the strangers, and what came of the record.
-fn write_beside<W: Write>(
+fn write_after_report<W: Write>(
     studio: &StudioSpec,
-    setup: Setup<'_>,
-    words: LiveWords<'_>,
+    setup: LiveInputs<'_>,
+    words: LiveArgs<'_>,
     output: &mut W,
-) -> Result<(), Fault> {
+) -> Result<(), CommandFault> {
     if words.tai_offset.is_some() {
         let open_at = studio.open_at();
-        written(writeln!(output, "open_at {open_at}"))?;
+        output_result(writeln!(output, "open_at {open_at}"))?;
     }
-    write_strangers(studio, setup.strangers, output)?;
+    write_unexpected(studio, setup.strangers, output)?;
     if words.record.is_some() {
-        write_recorded(setup.recorded, output)?;
+        write_record_line(setup.recorded, output)?;
     }
     Ok(())
 }
 
 /// Writes how many datagrams the record has of those that came.
-fn write_recorded<W: Write>(recorded: &Recorded, output: &mut W) -> Result<(), Fault> {
-    let (count, came) = (recorded.written(), recorded.came());
-    written(writeln!(output, "record {count} of {came}"))
+fn write_record_line<W: Write>(
+    recorded: &RecordResult,
+    output: &mut W,
+) -> Result<(), CommandFault> {
+    let (count, came) = (recorded.written(), recorded.received());
+    output_result(writeln!(output, "record {count} of {came}"))
 }
 
 /// The studio at its opening time, or, where an offset is said, opened now by International Atomic Time.
@@ -196,50 +199,50 @@ fn opened<R: Clock>(
     alloc: Global,
     studio: StudioSpec,
     tai_offset: Option<&str>,
-) -> Result<Started, Fault> {
+) -> Result<OpenedStudio, CommandFault> {
     let Some(word) = tai_offset else {
         let began = rt.monotonic().ok();
-        return Ok(Started { studio, began });
+        return Ok(OpenedStudio { studio, began });
     };
     let opening = opening_of(rt, word)?;
     let studio = studio.shifted(alloc, opening.at)?;
-    Ok(Started {
+    Ok(OpenedStudio {
         studio,
         began: Some(opening.began),
     })
 }
 
 /// Now by International Atomic Time, which is as far ahead as a word says.
-fn opening_of<R: Clock>(rt: &R, word: &str) -> Result<Opening, Fault> {
-    match tai_opening(rt, offset_of(word)?) {
+fn opening_of<R: Clock>(rt: &R, word: &str) -> Result<TaiTime, CommandFault> {
+    match tai_now(rt, offset_of(word)?) {
         Some(opening) => Ok(opening),
-        None => Err(Fault::Clock),
+        None => Err(CommandFault::Clock),
     }
 }
 
 /// The offset that a word says.
-fn offset_of(word: &str) -> Result<TaiOffset, Fault> {
+fn offset_of(word: &str) -> Result<TaiOffset, CommandFault> {
     if word == "system" {
         return Ok(TaiOffset::System);
     }
     match word.parse::<u32>() {
         Ok(seconds) => Ok(TaiOffset::Seconds(seconds)),
-        Err(_) => Err(Fault::TaiOffset),
+        Err(_) => Err(CommandFault::TaiOffset),
     }
 }
 
 /// Writes how many datagrams came from elsewhere, for each path that has a source.
-fn write_strangers<W: Write>(
+fn write_unexpected<W: Write>(
     studio: &StudioSpec,
-    strangers: &Strangers,
+    strangers: &UnexpectedSources,
     output: &mut W,
-) -> Result<(), Fault> {
+) -> Result<(), CommandFault> {
     let mut place = 0;
     for (number, stream) in studio.streams().iter().enumerate() {
         for (path, name) in (0..stream.paths()).zip(["a", "b", "c", "d"]) {
             if has_source(studio, number, path) {
                 let count = strangers.count(place);
-                written(writeln!(output, "strangers {number} {name} {count}"))?;
+                output_result(writeln!(output, "strangers {number} {name} {count}"))?;
             }
             place = place.saturating_add(1);
         }

@@ -1,7 +1,7 @@
 //! The program's commands: to run a studio live, and those over files.
 //!
 //! `run` is the whole: from the words of a command line to its exit status. Where configurations, captures and WAV files lie is the
-//! caller's: it hands in `Configs`.
+//! caller's: it hands in `Files`.
 //!
 //! The program, over the host's words, files and streams.
 #![tactic(auto)]
@@ -11,8 +11,8 @@ mod names;
 mod program;
 mod told;
 
-pub use file_commands::{CaptureError, ConfigFault, Configs, Fault};
-pub use live_command::run_config;
+pub use file_commands::{CaptureInputFault, CommandFault, ConfigFault, Files};
+pub use live_command::run_live_config;
 pub use program::run;
 use std::alloc::Global;
 use std::env::Args;
@@ -21,16 +21,16 @@ use std::process::ExitCode;
 use std::rt::Env;
 use std::{env, fs};
 use studio_run::{ReadFault, read_text};
-use wav_file::{FileFault, OverFile};
+use wav_file::{FileFault, SeekFile};
 
 /// The files of the host.
 #[derive(Clone, Copy)]
-struct HostConfigs<'a> {
+struct HostFiles<'a> {
     rt: &'a HostRuntime,
 }
 
-impl Configs for HostConfigs<'_> {
-    type File = OverFile<fs::File>;
+impl Files for HostFiles<'_> {
+    type File = SeekFile<fs::File>;
 
     type Input = fs::File;
 
@@ -41,17 +41,17 @@ impl Configs for HostConfigs<'_> {
         }
     }
 
-    fn octets(&self, alloc: Global, path: &str) -> Result<Vec<u8>, ReadFault> {
+    fn read_all(&self, alloc: Global, path: &str) -> Result<Vec<u8>, ReadFault> {
         let Ok(mut file) = fs::open(self.rt, path) else {
             return Err(ReadFault::Device);
         };
         read_text(alloc, &mut file)
     }
 
-    fn create(&self, path: &str) -> Result<OverFile<fs::File>, FileFault> {
+    fn create(&self, path: &str) -> Result<SeekFile<fs::File>, FileFault> {
         match fs::create(self.rt, path) {
-            Ok(file) => Ok(OverFile::new(file)),
-            Err(_) => Err(FileFault::Unmade),
+            Ok(file) => Ok(SeekFile::new(file)),
+            Err(_) => Err(FileFault::NotCreated),
         }
     }
 }
@@ -59,10 +59,10 @@ impl Configs for HostConfigs<'_> {
 fn main(rt: HostRuntime) -> ExitCode {
     let alloc = rt.alloc();
     let mut faults = rt.stderr();
-    let status = match words_of(&rt) {
+    let status = match program_args(&rt) {
         Ok(words) => run(
             &rt,
-            &HostConfigs { rt: &rt },
+            &HostFiles { rt: &rt },
             alloc,
             words.as_slice(),
             &mut rt.stdin(),
@@ -75,7 +75,7 @@ fn main(rt: HostRuntime) -> ExitCode {
 }
 
 /// The words of the command line, without the program's name.
-fn words_of(rt: &(impl Env + AllocGlobal)) -> Result<Vec<String>, Fault> {
+fn program_args(rt: &(impl Env + AllocGlobal)) -> Result<Vec<String>, CommandFault> {
     match env::args(rt) {
         Ok(all) => words_in(rt.alloc(), all),
         Err(fault) => Err(fault_of(fault.kind())),
@@ -83,7 +83,7 @@ fn words_of(rt: &(impl Env + AllocGlobal)) -> Result<Vec<String>, Fault> {
 }
 
 /// All words but the first, which is the program's name.
-fn words_in(alloc: Global, all: Args) -> Result<Vec<String>, Fault> {
+fn words_in(alloc: Global, all: Args) -> Result<Vec<String>, CommandFault> {
     let mut words = Vec::new(alloc);
     for word in all.skip(1) {
         words.push(word)?;
@@ -92,9 +92,9 @@ fn words_in(alloc: Global, all: Args) -> Result<Vec<String>, Fault> {
 }
 
 /// Why the words of the command line are not known.
-fn fault_of(kind: ErrorKind) -> Fault {
+fn fault_of(kind: ErrorKind) -> CommandFault {
     match kind {
-        ErrorKind::OutOfMemory => Fault::Memory,
-        _ => Fault::Usage,
+        ErrorKind::OutOfMemory => CommandFault::Memory,
+        _ => CommandFault::Usage,
     }
 }

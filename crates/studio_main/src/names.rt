@@ -1,11 +1,14 @@
 //! The names of a configuration's streams, which are for people alone.
-use file_commands::{Fault, table_in};
+use file_commands::{CommandFault, table_in};
 use live_io::StreamName;
 use std::alloc::Global;
 use toml::Value;
 
 /// The name of each stream of a configuration that says a studio, if it has one.
-pub(crate) fn names_in(alloc: Global, octets: &[u8]) -> Result<Vec<Option<StreamName>>, Fault> {
+pub(crate) fn names_in(
+    alloc: Global,
+    octets: &[u8],
+) -> Result<Vec<Option<StreamName>>, CommandFault> {
     let table = table_in(alloc, octets)?;
     let mut names = Vec::new(alloc);
     let Some(value) = table.get("stream") else {

@@ -1,9 +1,10 @@
 //! From the words of a command line to its exit status.
 use crate::live_command::run_live;
-use crate::told::told;
+use crate::told::report_usage;
 use file_commands::{
-    Asked, Configs, Fault, asked_for, check, draw, import_capture, list, list_standard,
-    list_streams, list_to_wav, list_with_counts, play_to_wav, play_trace, replay_capture,
+    CliCommand, CommandFault, Files, parse_args, run_chart, run_check, run_import, run_marks,
+    run_marks_to_wav, run_marks_with_counts, run_play, run_play_to_wav, run_quick_start,
+    run_replay, run_streams,
 };
 use std::alloc::Global;
 use std::io::{Read, Write};
@@ -18,67 +19,67 @@ use std::time::Clock;
 /// exit status.
 pub fn run<
     R: Threads + Wait + Sync + Net + Clock + RandomSource + Env + AllocGlobal,
-    C: Configs,
+    C: Files,
     I: Read,
     W: Write,
     E: Write + Send,
 >(
     rt: &R,
-    configs: &C,
+    files: &C,
     alloc: Global,
     words: &[String],
     input: &mut I,
     output: &mut W,
     faults: &mut E,
 ) -> u8 {
-    let asked = match asked_for(alloc, words) {
-        Ok(asked) => asked,
-        Err(error) => return told(&error, output, faults),
+    let command = match parse_args(alloc, words) {
+        Ok(command) => command,
+        Err(error) => return report_usage(&error, output, faults),
     };
-    match answer(rt, configs, alloc, asked, input, output, faults) {
+    match dispatch(rt, files, alloc, command, input, output, faults) {
         Ok(()) => 0,
         Err(fault) => fault.tell(faults),
     }
 }
 
 /// Does what the words ask for. Counts that are told beside a listing go where faults go.
-fn answer<
+fn dispatch<
     R: Threads + Wait + Sync + Net + Clock + RandomSource + Env + AllocGlobal,
-    C: Configs,
+    C: Files,
     I: Read,
     W: Write,
     E: Write + Send,
 >(
     rt: &R,
-    configs: &C,
+    files: &C,
     alloc: Global,
-    asked: Asked<'_>,
+    command: CliCommand<'_>,
     input: &mut I,
     output: &mut W,
     faults: &mut E,
-) -> Result<(), Fault> {
-    match asked {
-        Asked::Standard => list_standard(alloc, input, output),
-        Asked::Marks(path) => list(configs, alloc, path, input, output),
-        Asked::MarksAndCounts(path) => {
-            list_with_counts(configs, alloc, path, input, output, faults)
+) -> Result<(), CommandFault> {
+    match command {
+        CliCommand::QuickStart => run_quick_start(alloc, input, output),
+        CliCommand::Marks(path) => run_marks(files, alloc, path, input, output),
+        CliCommand::MarksAndCounts(path) => {
+            run_marks_with_counts(files, alloc, path, input, output, faults)
         }
-        Asked::MarksToWav(path, words) => {
-            list_to_wav(configs, alloc, path, words, input, output, faults)
+        CliCommand::MarksToWav(path, words) => {
+            run_marks_to_wav(files, alloc, path, words, input, output, faults)
         }
-        Asked::Play(path) => play_trace(configs, alloc, path, input, output),
-        Asked::PlayToWav(path, file) => {
-            play_to_wav(configs, alloc, path, file, input, output, faults)
+        CliCommand::Play(path) => run_play(files, alloc, path, input, output),
+        CliCommand::PlayToWav(path, file) => {
+            run_play_to_wav(files, alloc, path, file, input, output, faults)
         }
-        Asked::Chart(path) => draw(configs, alloc, path, input, output),
-        Asked::Check(path) => check(configs, alloc, path, output),
-        Asked::Streams(path) => list_streams(configs, alloc, path, output),
-        Asked::Import(path, options) => {
-            import_capture(configs, alloc, path, &options, output, faults)
+        CliCommand::Chart(path) => run_chart(files, alloc, path, input, output),
+        CliCommand::Check(path) => run_check(files, alloc, path, output),
+        CliCommand::Streams(path) => run_streams(files, alloc, path, output),
+        CliCommand::Import(path, options) => {
+            run_import(files, alloc, path, &options, output, faults)
         }
-        Asked::Replay(config, words) => {
-            replay_capture(configs, alloc, config, words, output, faults)
+        CliCommand::Replay(config, words) => {
+            run_replay(files, alloc, config, words, output, faults)
         }
-        Asked::Live(path, words) => run_live(rt, configs, alloc, path, words, output, faults),
+        CliCommand::Live(path, words) => run_live(rt, files, alloc, path, words, output, faults),
     }
 }

@@ -1,20 +1,24 @@
 //! What is told in place of a run.
 use clap::Error;
 use clap::error::ErrorKind;
-use file_commands::Fault;
+use file_commands::CommandFault;
 use std::io::Write;
 
 /// Tells what the words ask for in place of a run, or what is wrong with them. Answers the status.
-pub(crate) fn told<W: Write, E: Write>(error: &Error, output: &mut W, faults: &mut E) -> u8 {
+pub(crate) fn report_usage<W: Write, E: Write>(
+    error: &Error,
+    output: &mut W,
+    faults: &mut E,
+) -> u8 {
     if error.kind() == ErrorKind::OutOfMemory {
-        return Fault::Memory.tell(faults);
+        return CommandFault::Memory.tell(faults);
     }
     if error.use_stderr() {
         let _ = write!(faults, "{error}");
-        return Fault::Usage.status();
+        return CommandFault::Usage.status();
     }
     match write!(output, "{error}") {
         Ok(()) => 0,
-        Err(_) => Fault::Write.tell(faults),
+        Err(_) => CommandFault::Write.tell(faults),
     }
 }

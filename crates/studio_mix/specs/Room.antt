@@ -14,12 +14,12 @@ greatest_lag [] = 0
 greatest_lag (stream ∷ streams) = max (lag_of stream) (greatest_lag streams)
 
 -- by so much may a stream's marks lie before those of a stream of this lag, and a packet and a block
-abbrev pub room_beside : ℕ → ℕ → Stream → ℕ
-room_beside lag block stream = lag - stream.latency + stream.frames + block
+abbrev pub capacity_for : ℕ → ℕ → Stream → ℕ
+capacity_for lag block stream = lag - stream.latency + stream.frames + block
 
 -- the room that a stream's lane needs in a studio
 abbrev pub room_of : Studio → Stream → ℕ
-room_of studio stream = room_beside (greatest_lag studio.streams) studio.output.frames stream
+room_of studio stream = capacity_for (greatest_lag studio.streams) studio.output.frames stream
 
 -- the room of each lane
 abbrev pub rooms_of : List LaneState → List ℕ

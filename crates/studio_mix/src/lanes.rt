@@ -7,11 +7,11 @@ ghost use Rattle.lane_align.specs.Lane.{LaneState, cover_at};
 ghost use Rattle.gain_mix.specs.Mix.{Is24Bits};
 ghost use Rattle.studio_config.specs.Studio.{channel_total};
 ghost use Rattle.studio_mix.specs.Feed.{unfed};
-ghost use Rattle.studio_mix.specs.Room.{room_beside, rooms_of};
+ghost use Rattle.studio_mix.specs.Room.{capacity_for, rooms_of};
 ghost use Rattle.studio_mix.specs.Lanes.{AreFed, AreRead, IsLaneAt, IsReadyLane, lane_channels, reaches_past};
 
-use crate::lay::lay_stream;
-use crate::room::room_beside;
+use crate::interleave::lay_stream;
+use crate::lane_capacity::capacity_for;
 use lane_align::{Cover, Lane};
 use rtp_stream::StreamSpec;
 use std::alloc::{AllocError, Global};
@@ -32,11 +32,11 @@ pub(crate) fn new_lanes(
     ensures each { IfOk result (λ lanes. All (IsLaneAt block start) lanes.items) }
     ensures channels { IfOk result (λ lanes. lane_channels lanes.items ≡ channel_total streams.now) }
     ensures count { IfOk result (λ lanes. length lanes.items ≡ length streams.now) }
-    ensures rooms { IfOk result (λ lanes. rooms_of lanes.items ≡ map (room_beside lag block) streams.now) }
+    ensures rooms { IfOk result (λ lanes. rooms_of lanes.items ≡ map (capacity_for lag block) streams.now) }
 {
     let mut lanes = Vec::new(alloc);
     for stream in streams {
-        let room = room_beside(stream, block, lag);
+        let room = capacity_for(stream, block, lag);
         let lane = Lane::with_room(alloc, *stream, start, block, room)?;
         let _format = lane.format();
         lanes.push(lane)?;

@@ -9,11 +9,11 @@
 //! A mixer of `Mixer::with_room` also keeps marks before they are wanted: by `keep_ref`, where it `has_room`.
 #![tactic(auto)]
 
+mod interleave;
+mod lane_capacity;
 mod lanes;
 mod laws;
-mod lay;
 mod mixer;
-mod room;
 
 pub use laws::ready_blocks_stay;
 pub use mixer::Mixer;

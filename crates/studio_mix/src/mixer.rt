@@ -6,15 +6,15 @@ ghost use Rattle.lane_align.specs.Cover.{covers, cover_of};
 ghost use Rattle.mix_packets.specs.OutSpec.{datagram_length};
 ghost use Rattle.mix_packets.specs.Block.{block_start};
 ghost use Rattle.studio_mix.specs.Lanes.{IsReadyLane};
-ghost use Rattle.studio_mix.specs.Room.{room_beside, room_of, rooms_of};
+ghost use Rattle.studio_mix.specs.Room.{capacity_for, room_of, rooms_of};
 ghost use Rattle.studio_config.specs.Studio.{Studio};
 ghost use Rattle.studio_mix.specs.Feed.{Feed, unfed};
 ghost use Rattle.studio_mix.specs.Ready.{is_ready};
 ghost use Rattle.studio_mix.specs.Output.{datagram_of};
 ghost use Rattle.studio_mix.specs.Saturated.{AreSaturated};
 
+use crate::lane_capacity::greatest_lag;
 use crate::lanes::{are_covered, new_lanes, reach_past, read_lanes};
-use crate::room::greatest_lag;
 use gain_mix::{Schedule, mix_counted};
 use lane_align::Lane;
 use mix_packets::{OutSpec, Packer};
@@ -61,7 +61,7 @@ impl Mixer {
     pub fn new(alloc: Global, spec: &StudioSpec) -> Result<Mixer, AllocError>
         ensures { IfOk result (λ mixer. HasFeeds spec.now mixer (unfed spec.now.streams) 0) }
     {
-        Mixer::beside(alloc, spec, 0)
+        Mixer::with_lag(alloc, spec, 0)
     }
 
     /// As `new`, with room for what the streams' merges give up to one time, though only some of it is wanted.
@@ -72,23 +72,23 @@ impl Mixer {
         ensures stands { IfOk result (λ mixer. HasFeeds spec.now mixer (unfed spec.now.streams) 0) }
         ensures rooms { IfOk result (λ mixer. rooms_of mixer.lanes ≡ map (room_of spec.now) spec.now.streams) }
     {
-        Mixer::beside(alloc, spec, greatest_lag(spec.streams()))
+        Mixer::with_lag(alloc, spec, greatest_lag(spec.streams()))
     }
 
     /// A mixer with room in each lane beside a stream of this lag, in frames.
-    fn beside(alloc: Global, spec: &StudioSpec, lag: u32) -> Result<Mixer, AllocError>
+    fn with_lag(alloc: Global, spec: &StudioSpec, lag: u32) -> Result<Mixer, AllocError>
         requires short { lag ≤ 2 ^ 23 }
         ensures stands { IfOk result (λ mixer. HasFeeds spec.now mixer (unfed spec.now.streams) 0) }
-        ensures rooms { IfOk result (λ mixer. rooms_of mixer.lanes ≡ map (room_beside lag spec.now.output.frames) spec.now.streams) }
+        ensures rooms { IfOk result (λ mixer. rooms_of mixer.lanes ≡ map (capacity_for lag spec.now.output.frames) spec.now.streams) }
     {
         let output = *spec.output();
         let start = output.start();
         let frames = usize::from(output.frames());
         let lanes = new_lanes(alloc, spec.streams(), start, output.frames(), lag)?;
-        let schedule = spec.schedule().copied(alloc)?;
-        let one = silence(alloc, frames * 64)?;
-        let ins = silence(alloc, frames * schedule.ins())?;
-        let outs = silence(alloc, frames * usize::from(output.channels()))?;
+        let schedule = spec.schedule().duplicate(alloc)?;
+        let one = zeroed(alloc, frames * 64)?;
+        let ins = zeroed(alloc, frames * schedule.ins())?;
+        let outs = zeroed(alloc, frames * usize::from(output.channels()))?;
         let saturated = Vec::from_elem(alloc, 0u64, usize::from(output.channels()))?;
         Ok(Mixer {
             lanes,
@@ -286,7 +286,7 @@ impl Mixer {
 }
 
 /// So many samples of silence.
-fn silence(alloc: Global, samples: usize) -> Result<Vec<i32>, AllocError>
+fn zeroed(alloc: Global, samples: usize) -> Result<Vec<i32>, AllocError>
     ensures { IfOk result (λ values. values.items ≡ replicate samples (pos 0)) }
 {
     let mut values = Vec::new(alloc);

@@ -7,8 +7,8 @@ use Rattle.studio_ends.specs.declared.stream_end.StreamEnd.{StreamEnd}
 use Rattle.studio_ends.proofs.TurnLemmas.{producers}
 use Rattle.studio_io.specs.Clocks.{GoByClock, events_in}
 use Rattle.studio_rings.specs.Turns.{Closes, GoesOn, KeepsTokens}
-use Rattle.studio_rings.specs.declared.worker.clocked_stream.TimedStream.{TimedStream}
-use Rattle.studio_rings.specs.Ends.{ClosesLater}
+use Rattle.studio_rings.specs.declared.worker.clocked_stream.ClockedStream.{ClockedStream}
+use Rattle.studio_rings.specs.StreamClose.{ClosesLater}
 
 -- no turn goes by any clock
 none_made : (stream : Stream) (open_at : ℤ) (places : ℕ) (time : ℤ) (told : List ℤ) (before : List Event) → GoByClock stream open_at places time told before []
@@ -16,7 +16,7 @@ none_made stream open_at places time [] before = tt
 none_made stream open_at places time (answer ∷ told) before = tt
 
 -- a stream that went on and was closed
-pub closes-later : {C : Type 0} (told : C → List ℤ) (s t : TimedStream C) (u : StreamEnd) → GoesOn told s t → KeepsTokens s.end.sides.items t.end.sides.items → Closes t.end u → ClosesLater told s u
+pub closes-later : {C : Type 0} (told : C → List ℤ) (s t : ClockedStream C) (u : StreamEnd) → GoesOn told s t → KeepsTokens s.end.sides.items t.end.sides.items → Closes t.end u → ClosesLater told s u
 closes-later told s t u goes tokens closes = record {
   marks = producers s.end.marks t.end.marks u.marks goes.marks closes.marks;
   history = λ stream open_at events lists all h.

@@ -25,21 +25,21 @@ use Rattle.studio_ends.specs.Fitting.{fitting}
 use Rattle.studio_ends.specs.FreshEnds.{AllFreshPaths, IsFreshPath, IsFreshStream}
 use Rattle.studio_ends.specs.Streams.{StreamHasHistory, packets_by}
 use Rattle.studio_ends.specs.declared.path.PathDone.{PathDone}
-use Rattle.studio_ends.specs.declared.rings.Side.{Side}
+use Rattle.studio_ends.specs.declared.rings.TokenConsumer.{TokenConsumer}
 use Rattle.studio_ends.specs.declared.stream_end.turns.StreamDone.{StreamDone}
 use Rattle.studio_ends.specs.declared.stream_end.StreamEnd.{StreamEnd}
 use Rattle.studio_ends.proofs.StreamLemmas.{packets_by-append}
 use Rattle.studio_io.specs.Answers.{Answer, CountsOthers, IsPartOf, reaches_end, told_datagrams, told_packets}
 use Rattle.studio_io.specs.Clocks.{GoByClock, events_in}
-use Rattle.studio_rings.specs.Paths.{IsPathResult, SendsFeed}
+use Rattle.studio_rings.specs.PathWorkers.{IsPathResult, SendsFeed}
 use Rattle.studio_rings.specs.Runs.{HasPathHistory, HavePathHistories, sent_total}
 use Rattle.studio_rings.specs.Turns.{GoesOn, HaveArrived, HaveTold}
 use Rattle.studio_rings.proofs.StreamTurnLemmas.{events-joined}
 use Rattle.studio_rings.specs.declared.path_job.PathJob.{PathJob}
 use Rattle.studio_rings.specs.declared.path_job.PathResult.{PathResult}
-use Rattle.studio_rings.specs.declared.worker.clocked_stream.TimedStream.{TimedStream}
-use Rattle.studio_rings.specs.WorkersStreams.{EndsStream, HasEnded, HasMarks, PathsGiveTokens, IsStreamResult, all_told, ends_of, told_by, told_of}
-use Rattle.studio_rings.specs.Ends.{ClosesLater, Drains}
+use Rattle.studio_rings.specs.declared.worker.clocked_stream.ClockedStream.{ClockedStream}
+use Rattle.studio_rings.specs.StreamWorkers.{EndsStream, HasEnded, HasMarks, PathsGiveTokens, IsStreamResult, all_told, ends_of, told_by, told_of}
+use Rattle.studio_rings.specs.StreamClose.{ClosesLater, Drains}
 use Rattle.studio_rings.proofs.ZipLemmas.{zip-length}
 use Rattle.studio_rings.specs.declared.stream_job.StreamJob.{StreamJob}
 use Rattle.studio_rings.specs.declared.stream_job.StreamResult.{StreamResult}
@@ -49,7 +49,7 @@ pub same_token : {T A P : Type 0} (p q : Producer T A P) (done : Finished T A P)
 same_token p q done same fin = (fin.0 ∙ same.0.0, fin.1 ∙ same.0.1, fin.2 ∙ same.0.2, fin.3 ∙ same.0.3)
 
 -- the stream went on to the second, was closed as the third and drained as the fourth
-pub ended : {C : Type 0} (clock_told : C → List ℤ) (s t : TimedStream C) (u v : StreamEnd) (results : List PathResult) (result : StreamResult) (marks : List MarkView)
+pub ended : {C : Type 0} (clock_told : C → List ℤ) (s t : ClockedStream C) (u v : StreamEnd) (results : List PathResult) (result : StreamResult) (marks : List MarkView)
     → GoesOn clock_told s t → HaveTold t.end.sides.items (map told_by results) → ClosesLater clock_told t u → Drains u v → tally_of result.counts.merge ≡ v.merge.counts → marks ≡ sent v.marks
     → (stream : Stream) (open_at : ℤ) (events : List Event) → StreamHasHistory stream open_at s.end events → HasEnded clock_told stream open_at s events (map told_by results) result marks
 ended clock_told s t u v results result marks goes told closes drains counts marks_are stream open_at events h =
@@ -152,11 +152,11 @@ tells told p r is some =
 
 module _ {F : Type 0} (told : F → List Answer) (stream : Stream) (places : ℕ) where
   -- what arrived on a path is what its token tells
-  arrived_is : (p : PathJob F) (side : Side Packet) (r : PathResult) (path : ℕ) (events : List Event) → IsFreshPath stream places p.end side → Tells told p r
+  arrived_is : (p : PathJob F) (side : TokenConsumer Packet) (r : PathResult) (path : ℕ) (events : List Event) → IsFreshPath stream places p.end side → Tells told p r
       → packets_by path events ≡ fitting stream (told_by r) → packets_by path events ≡ told_by r
   arrived_is p side r path events fresh t e = e ∙ (ap (λ (s : Stream). fitting s (told_by r)) (sym fresh.spec) ∙ t.fit)
 
-  counted : (path : ℕ) (paths : List (PathJob F)) (sides : List (Side Packet)) (results : List PathResult) (events : List Event) → AllFreshPaths stream places (ends_of paths) sides → AllZip (IsPathResult told) paths results → PathsGiveTokens results
+  counted : (path : ℕ) (paths : List (PathJob F)) (sides : List (TokenConsumer Packet)) (results : List PathResult) (events : List Event) → AllFreshPaths stream places (ends_of paths) sides → AllZip (IsPathResult told) paths results → PathsGiveTokens results
       → HaveArrived stream path (map told_by results) events → count_from path events ≡ sent_total (map (λ (r : PathResult). r.counts) results)
   counted path [] sides [] events fresh zip given h = count_none path events h
   counted path [] sides (r ∷ rs) events fresh zip given h = absurd zip
@@ -170,7 +170,7 @@ module _ {F : Type 0} (told : F → List Answer) (stream : Stream) (places : ℕ
       let sum : sent_total (map (λ (x : PathResult). x.counts) (r ∷ rs)) ≡ r.counts.sent + sent_total (map (λ (x : PathResult). x.counts) rs) = sum_by-cons (λ (x : PathCounts). x.sent) r.counts (map (λ (x : PathResult). x.counts) rs) in
       omega (arith, here, rest, split, sum)
 
-  path_history : (p : PathJob F) (side : Side Packet) (r : PathResult) (path : ℕ) (events : List Event) → IsFreshPath stream places p.end side → Tells told p r
+  path_history : (p : PathJob F) (side : TokenConsumer Packet) (r : PathResult) (path : ℕ) (events : List Event) → IsFreshPath stream places p.end side → Tells told p r
       → packets_by path events ≡ told_by r → HasPathHistory stream path (told p.feed) r.counts events
   path_history p side r path events fresh t is = record {
     sent = t.count ∙ sym (ap length is);
@@ -202,7 +202,7 @@ module _ {F : Type 0} (told : F → List Answer) (stream : Stream) (places : ℕ
         };
   }
 
-  path_histories : (path : ℕ) (paths : List (PathJob F)) (sides : List (Side Packet)) (results : List PathResult) (events : List Event) → AllFreshPaths stream places (ends_of paths) sides → AllZip (IsPathResult told) paths results → PathsGiveTokens results
+  path_histories : (path : ℕ) (paths : List (PathJob F)) (sides : List (TokenConsumer Packet)) (results : List PathResult) (events : List Event) → AllFreshPaths stream places (ends_of paths) sides → AllZip (IsPathResult told) paths results → PathsGiveTokens results
       → HaveArrived stream path (map told_by results) events → HavePathHistories stream path (told_of told paths) (map (λ (r : PathResult). r.counts) results) (events ++ Close ∷ [])
   path_histories path [] sides [] events fresh zip given h = tt
   path_histories path [] sides (r ∷ rs) events fresh zip given h = absurd zip
@@ -225,7 +225,7 @@ arrived_count stream open_at before shut few =
     ap length same ∙ (counted_arrivals stream open_at before shut ∙ omega (arith, few))
 
 module _ {F : Type 0} (told : F → List Answer) where
-  has_marks : {C : Type 0} (clock_told : C → List ℤ) (stream : Stream) (open_at : ℤ) (places room : ℕ) (paths : List (PathJob F)) (s : StreamEnd) (t : TimedStream C) (after : List Event) (results : List PathResult) (result : StreamResult) (marks : List MarkView) (clock : List ℤ) (turns : List (List Event))
+  has_marks : {C : Type 0} (clock_told : C → List ℤ) (stream : Stream) (open_at : ℤ) (places room : ℕ) (paths : List (PathJob F)) (s : StreamEnd) (t : ClockedStream C) (after : List Event) (results : List PathResult) (result : StreamResult) (marks : List MarkView) (clock : List ℤ) (turns : List (List Event))
       → IsFreshStream open_at places stream (ends_of paths) s → AllZip (IsPathResult told) paths results → PathsGiveTokens results → result.counts.paths.items ≡ map (λ (r : PathResult). r.counts) results
       → (e : HasEnded clock_told stream open_at t after (map told_by results) result marks) → e.before ≡ events_in turns → GoByClock stream open_at room open_at clock [] turns
       → HasMarks open_at room stream (told_of told paths) clock result marks
@@ -255,7 +255,7 @@ module _ {F : Type 0} (told : F → List Answer) where
   by_token (Some d) says results P given h f = f d given h
 
   -- the stream's worker, of its parts: it began as the first, and went on to the second
-  stream-result : {C : Type 0} (clock_told : C → List ℤ) (paths : List (PathJob F)) (end : StreamEnd) (clock : C) (s t : TimedStream C) (results : List PathResult) (result : StreamResult) → s.end ≡ end → s.clock ≡ clock → s.now ≡ end.merge.time
+  stream-result : {C : Type 0} (clock_told : C → List ℤ) (paths : List (PathJob F)) (end : StreamEnd) (clock : C) (s t : ClockedStream C) (results : List PathResult) (result : StreamResult) → s.end ≡ end → s.clock ≡ clock → s.now ≡ end.merge.time
       → AllZip (IsPathResult told) paths results → GoesOn clock_told s t → EndsStream clock_told t results result
       → IfSome result.done (λ done. (stream : Stream) (open_at : ℤ) (places : ℕ) → IsFreshStream open_at places stream (ends_of paths) end → HasMarks open_at (producer_capacity end.marks) stream (told_of told paths) (clock_told clock) result (all_sent done.token))
   stream-result {C = C} clock_told paths end clock s t results result end_is clock_is now_is zip goes ends =
@@ -272,7 +272,7 @@ module _ {F : Type 0} (told : F → List Answer) where
       has_marks clock_told stream open_at places room paths end t after results result (all_sent d.token) (clock_told clock) (goes.turns stream ++ e.turns) fresh zip given ends.paths e
       (e.before_is ∙ sym (events-joined (goes.turns stream) e.turns)) timed)
 
-pub is-stream-result : {F C : Type 0} (told : F → List Answer) (clock_told : C → List ℤ) (job : StreamJob F C) (s t : TimedStream C) (results : List PathResult) (result : StreamResult) → s.end ≡ job.end → s.clock ≡ job.clock → s.now ≡ job.end.merge.time
+pub is-stream-result : {F C : Type 0} (told : F → List Answer) (clock_told : C → List ℤ) (job : StreamJob F C) (s t : ClockedStream C) (results : List PathResult) (result : StreamResult) → s.end ≡ job.end → s.clock ≡ job.clock → s.now ≡ job.end.merge.time
     → AllZip (IsPathResult told) job.paths.items results → GoesOn clock_told s t → EndsStream clock_told t results result → IsStreamResult told clock_told job result
 is-stream-result told clock_told job s t results result end_is clock_is now_is zip goes ends = record {
   faults = ends.faults ∙ sym (zip-length _ job.paths.items results zip);

@@ -19,7 +19,7 @@ use Rattle.studio_io.proofs.AnswerLemmas.{told-next}
 use Rattle.studio_io.specs.Answers.{Answer, CountsOthers, Tells, reaches_end, received_as, told_datagrams, told_packets, IsPartOf, packet_in, packets_in, packets_of}
 use Rattle.studio_io.specs.declared.feed.FeedAnswer.{FeedAnswer}
 use Rattle.studio_io.specs.declared.feed.FeedAnswer.TheVariants.{Datagram, Nothing, Fault, Ended}
-use Rattle.studio_rings.specs.Paths.{OffersAgain, SendsSoFar, SendsFeed}
+use Rattle.studio_rings.specs.PathWorkers.{OffersAgain, SendsSoFar, SendsFeed}
 
 none_other : (o : Reception) → is_sent o ≡ true → (is_bad o ≡ false) × (is_wrong_type o ≡ false) × (is_wrong_length o ≡ false)
 none_other (Sent packet) e = (refl, refl, refl)

@@ -5,10 +5,10 @@ use Rattle.rtrb.specs.declared.consumer.Consumer.{Consumer}
 use Rattle.rtp_stream.specs.MarkFacts.{MarkView}
 use Rattle.mix_packets.specs.OutSpec.{datagram_length}
 use Rattle.studio_config.specs.Studio.{Studio}
-use Rattle.studio_ends.specs.Mixes.{AllTakeSome}
+use Rattle.studio_ends.specs.MarksIn.{AllTakeSome}
 use Rattle.studio_ends.specs.MixEnds.{MixHasFeeds, MixesBlock}
 use Rattle.studio_ends.specs.Datagrams.{AreAllGiven, HasGiven, given_after}
-use Rattle.studio_ends.specs.declared.rings.Side.{Side}
+use Rattle.studio_ends.specs.declared.rings.TokenConsumer.{TokenConsumer}
 use Rattle.studio_ends.specs.declared.mix.MixNote.{MixNote}
 use Rattle.studio_ends.specs.declared.mix_end.MixEnd.{MixEnd}
 use Rattle.studio_io.specs.Sinks.{Hands}
@@ -18,17 +18,17 @@ consumers : {T A P : Type 0} (a b c : Consumer T A P) → SameConsumer a b → S
 consumers a b c f g = ((g.0.0 ∙ f.0.0, g.0.1 ∙ f.0.1, g.0.2 ∙ f.0.2, g.0.3 ∙ f.0.3), g.1 ∙ f.1)
 
 -- the same rings as they were
-rings-self : (ss : List (Side MarkView)) → AreSameSides ss ss
+rings-self : (ss : List (TokenConsumer MarkView)) → AreSameSides ss ss
 rings-self [] = tt
 rings-self (s ∷ ss) = ((((refl, refl, refl, refl), refl), refl), rings-self ss)
 
-rings-taken : (olds news : List (Side MarkView)) → AllTakeSome olds news → AreSameSides olds news
+rings-taken : (olds news : List (TokenConsumer MarkView)) → AllTakeSome olds news → AreSameSides olds news
 rings-taken [] [] h = tt
 rings-taken [] (n ∷ ns) h = absurd h
 rings-taken (o ∷ os) [] h = absurd h
 rings-taken (o ∷ os) (n ∷ ns) h = ((h.0.ring, h.0.done), rings-taken os ns h.1)
 
-rings-trans : (xs ys zs : List (Side MarkView)) → AreSameSides xs ys → AreSameSides ys zs → AreSameSides xs zs
+rings-trans : (xs ys zs : List (TokenConsumer MarkView)) → AreSameSides xs ys → AreSameSides ys zs → AreSameSides xs zs
 rings-trans [] [] [] h k = tt
 rings-trans [] [] (z ∷ zs) h k = absurd k
 rings-trans [] (y ∷ ys) zs h k = absurd h

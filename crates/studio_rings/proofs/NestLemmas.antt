@@ -1,7 +1,7 @@
 -- The jobs of the streams, the last of them taken off.
 use Rattle.std.proofs.Common.{◌≡◌, List, [], ◌∷◌, ◌++◌, Option, Some, None, IfSome, subst, append-nil, ◌∙◌}
 use Rattle.std.specs.Option.{option_to_list}
-use Rattle.studio_rings.specs.WorkersStreams.{AllReady, IsReady}
+use Rattle.studio_rings.specs.StreamWorkers.{AllReady, IsReady}
 use Rattle.studio_rings.specs.declared.stream_job.StreamJob.{StreamJob}
 
 module _ {F C : Type 0} where

@@ -20,7 +20,7 @@ use Rattle.studio_ends.specs.FreshEnds.{AllFreshPaths, AllFreshRings, AllFreshSt
 use Rattle.studio_ends.specs.declared.ends.Ends.{Ends}
 use Rattle.studio_ends.specs.declared.monitor_end.MonitorEnd.{MonitorEnd}
 use Rattle.studio_ends.specs.declared.path_end.PathEnd.{PathEnd}
-use Rattle.studio_ends.specs.declared.rings.Side.{Side}
+use Rattle.studio_ends.specs.declared.rings.TokenConsumer.{TokenConsumer}
 use Rattle.studio_ends.specs.declared.stream_end.turns.StreamDone.{StreamDone}
 use Rattle.studio_ends.specs.declared.stream_end.StreamEnd.{StreamEnd}
 use Rattle.studio_ends.specs.declared.mix_end.MixEnd.{MixEnd}
@@ -33,14 +33,14 @@ use Rattle.studio_rings.specs.declared.path_job.PathJob.{PathJob}
 use Rattle.studio_rings.proofs.StreamTokenLemmas.{AreTokensFor}
 use Rattle.studio_rings.specs.Jobs.{AreJobsOf, HaveRoom, feeds_in}
 use Rattle.studio_rings.specs.StreamResults.{AreOpenedTogether, counts_in, dones_in, fault_numbers}
-use Rattle.studio_rings.specs.WorkersStreams.{AllReady, ArePairs, HasMarks, IsStreamResult, ends_of, told_of}
+use Rattle.studio_rings.specs.StreamWorkers.{AllReady, ArePairs, HasMarks, IsStreamResult, ends_of, told_of}
 use Rattle.studio_rings.specs.declared.stream_job.StreamJob.{StreamJob}
 use Rattle.studio_rings.specs.declared.stream_job.StreamResult.{StreamResult}
 use Rattle.studio_rings.proofs.EndLemmas.{some_of}
 use Rattle.studio_rings.proofs.JobLemmas.{cut_once, map_length}
 
 module _ {F : Type 0} where
-  pairs_of : (stream : Stream) (places : ℕ) (paths : List (PathJob F)) (sides : List (Side Packet)) → AllFreshPaths stream places (ends_of paths) sides → ArePairs paths sides
+  pairs_of : (stream : Stream) (places : ℕ) (paths : List (PathJob F)) (sides : List (TokenConsumer Packet)) → AllFreshPaths stream places (ends_of paths) sides → ArePairs paths sides
   pairs_of stream places [] [] h = tt
   pairs_of stream places [] (side ∷ sides) h = absurd h
   pairs_of stream places (p ∷ ps) [] h = absurd h
@@ -59,14 +59,14 @@ abbrev pub HavePlaces : ℕ → List StreamEnd → Type 0
 HavePlaces places [] = Unit {0}
 HavePlaces places (end ∷ ends) = (producer_capacity end.marks ≡ places) × HavePlaces places ends
 
-fresh_places : (open_at : ℤ) (places : ℕ) (stream : Stream) (own : List PathEnd) (s : StreamEnd) (monitor : MonitorEnd) (side : Side MarkView) → IsFreshStream open_at places stream own s → AreFreshRings places s monitor side → producer_capacity s.marks ≡ places
+fresh_places : (open_at : ℤ) (places : ℕ) (stream : Stream) (own : List PathEnd) (s : StreamEnd) (monitor : MonitorEnd) (side : TokenConsumer MarkView) → IsFreshStream open_at places stream own s → AreFreshRings places s monitor side → producer_capacity s.marks ≡ places
 fresh_places open_at places stream own s monitor side fresh rings =
     let none : length (sent s.marks) ≡ 0 = fresh.stands.merge.all_given refl ∙ ap length (marks_of-none stream open_at) in
     let free : s.marks.end.limit - length s.marks.end.past ≡ places = rings.marks_free in
     let counts = s.marks.counts in
     omega (arith, none, free, counts.0, counts.1, counts.2)
 
-pub have-places : (open_at : ℤ) (places : ℕ) (specs : List Stream) (paths : List PathEnd) (ends : List StreamEnd) (monitors : List MonitorEnd) (sides : List (Side MarkView)) → AllFreshStreams open_at places specs paths ends → AllFreshRings places ends monitors sides → HavePlaces places ends
+pub have-places : (open_at : ℤ) (places : ℕ) (specs : List Stream) (paths : List PathEnd) (ends : List StreamEnd) (monitors : List MonitorEnd) (sides : List (TokenConsumer MarkView)) → AllFreshStreams open_at places specs paths ends → AllFreshRings places ends monitors sides → HavePlaces places ends
 have-places open_at places specs paths [] monitors sides fresh rings = tt
 have-places open_at places [] paths (end ∷ ends) monitors sides fresh rings = absurd fresh
 have-places open_at places (stream ∷ specs) paths (end ∷ ends) [] sides fresh rings = absurd rings

@@ -13,12 +13,12 @@ use Rattle.path_merge.specs.Clock.{clock_fault_of}
 use Rattle.path_merge.specs.declared.clock.ClockFault.{ClockFault}
 use Rattle.path_merge.proofs.RunLemmas.{still_no_fault}
 use Rattle.studio_ends.specs.Fitting.{fitting}
-use Rattle.studio_ends.specs.Side.{IsDrained}
-use Rattle.studio_ends.specs.Looks.{AllDrained, AllLookAt}
-use Rattle.studio_ends.specs.Stop.{StopsFor}
-use Rattle.studio_ends.specs.Turns.{AllTakePackets, arrivals_from, turn_events}
+use Rattle.studio_ends.specs.DrainedRing.{IsDrained}
+use Rattle.studio_ends.specs.DrainedRings.{AllDrained, AllLookAt}
+use Rattle.studio_ends.specs.StopReasons.{StopsFor}
+use Rattle.studio_ends.specs.StreamTurns.{AllTakePackets, arrivals_from, turn_events}
 use Rattle.studio_ends.specs.Streams.{AllDelivered, ReadsClock, StreamHasHistory, TakesTurn}
-use Rattle.studio_ends.specs.declared.rings.Side.{Side}
+use Rattle.studio_ends.specs.declared.rings.TokenConsumer.{TokenConsumer}
 use Rattle.studio_ends.specs.declared.stream_end.StreamEnd.{StreamEnd}
 use Rattle.studio_ends.specs.declared.stream_end.marks_out.StopReason.{StopReason}
 use Rattle.studio_ends.specs.declared.stream_end.marks_out.StopReason.TheVariants.{CaughtUp, Batch, NoRoom}
@@ -27,18 +27,18 @@ use Rattle.studio_ends.proofs.CloseLemmas.{delivered-looked}
 use Rattle.studio_ends.proofs.TurnLemmas.{producers}
 use Rattle.studio_io.specs.Clocks.{GoByClock, IsTurnAt, TellsTime, events_in, time_with}
 use Rattle.studio_rings.specs.Turns.{AreSameRings, GoesOn, HaveArrived, HaveTold, KeepsTokens, ReadsFirst}
-use Rattle.studio_rings.specs.declared.worker.clocked_stream.TimedStream.{TimedStream}
+use Rattle.studio_rings.specs.declared.worker.clocked_stream.ClockedStream.{ClockedStream}
 
 -- rings that are the same as ones that are the same
 pub consumers : {T A P : Type 0} (a b c : Consumer T A P) → SameConsumer a b → SameConsumer b c → SameConsumer a c
 consumers a b c f g = ((g.0.0 ∙ f.0.0, g.0.1 ∙ f.0.1, g.0.2 ∙ f.0.2, g.0.3 ∙ f.0.3), g.1 ∙ f.1)
 
 module _ {T : Type 0} where
-  pub rings-self : (sides : List (Side T)) → AreSameRings sides sides
+  pub rings-self : (sides : List (TokenConsumer T)) → AreSameRings sides sides
   rings-self [] = tt
   rings-self (side ∷ sides) = (((refl, refl, refl, refl), refl), rings-self sides)
 
-  pub rings-trans : (xs ys zs : List (Side T)) → AreSameRings xs ys → AreSameRings ys zs → AreSameRings xs zs
+  pub rings-trans : (xs ys zs : List (TokenConsumer T)) → AreSameRings xs ys → AreSameRings ys zs → AreSameRings xs zs
   rings-trans [] [] [] f g = tt
   rings-trans (x ∷ xs) (y ∷ ys) (z ∷ zs) f g = (consumers x.ring y.ring z.ring f.0 g.0, rings-trans xs ys zs f.1 g.1)
   rings-trans [] [] (z ∷ zs) f g = absurd g
@@ -46,7 +46,7 @@ module _ {T : Type 0} where
   rings-trans (x ∷ xs) [] zs f g = absurd f
   rings-trans (x ∷ xs) (y ∷ ys) [] f g = absurd g
 
-  pub rings-looked : (olds news : List (Side T)) → AllLookAt olds news → AreSameRings olds news
+  pub rings-looked : (olds news : List (TokenConsumer T)) → AllLookAt olds news → AreSameRings olds news
   rings-looked [] [] h = tt
   rings-looked (o ∷ os) (n ∷ ns) h = (h.0.ring, rings-looked os ns h.1)
   rings-looked [] (n ∷ ns) h = absurd h
@@ -58,7 +58,7 @@ module _ {T : Type 0} where
   told_looked all (Some d) None m h = tt
   told_looked all (Some d) (Some e) m h = m ∙ h
 
-  pub tokens-looked : (olds news : List (Side T)) → AllLookAt olds news → KeepsTokens olds news
+  pub tokens-looked : (olds news : List (TokenConsumer T)) → AllLookAt olds news → KeepsTokens olds news
   tokens-looked [] [] l lists h = h
   tokens-looked [] (n ∷ ns) l lists h = absurd l
   tokens-looked (o ∷ os) [] l lists h = absurd l
@@ -69,7 +69,7 @@ module _ {T : Type 0} where
   done_self None = refl
   done_self (Some d) = refl
 
-  looks_self : (sides : List (Side T)) → AllLookAt sides sides
+  looks_self : (sides : List (TokenConsumer T)) → AllLookAt sides sides
   looks_self [] = tt
   looks_self (side ∷ sides) = (record { ring = ((refl, refl, refl, refl), refl); received_is = refl; done = done_self side.done }, looks_self sides)
 
@@ -83,7 +83,7 @@ pub looked-either : (s t : StreamEnd) → AllLookAt s.sides.items t.sides.items 
 looked-either s t (inl looked) = looked
 looked-either s t (inr same) = subst (λ (x : StreamEnd). AllLookAt s.sides.items x.sides.items) (sym same) (looks_self s.sides.items)
 
-pub rings-taken : (olds news : List (Side Packet)) (taken : List (List Packet)) → AllTakePackets olds news taken → AreSameRings olds news
+pub rings-taken : (olds news : List (TokenConsumer Packet)) (taken : List (List Packet)) → AllTakePackets olds news taken → AreSameRings olds news
 rings-taken [] [] [] h = tt
 rings-taken (o ∷ os) (n ∷ ns) (packets ∷ more) h = (h.0.ring, rings-taken os ns more h.1)
 rings-taken [] (n ∷ ns) taken h = absurd h
@@ -93,9 +93,9 @@ rings-taken (o ∷ os) (n ∷ ns) [] h = absurd h
 
 -- where the rings were left as they were first
 pub took-first : (s m t : StreamEnd) (taken : List (List Packet)) → m.sides ≡ s.sides → AllTakePackets m.sides.items t.sides.items taken → AllTakePackets s.sides.items t.sides.items taken
-took-first s m t taken same took = subst (λ (v : Vec (Side Packet) _). AllTakePackets v.items t.sides.items taken) same took
+took-first s m t taken same took = subst (λ (v : Vec (TokenConsumer Packet) _). AllTakePackets v.items t.sides.items taken) same took
 
-pub tokens-taken : (olds news : List (Side Packet)) (taken : List (List Packet)) → AllTakePackets olds news taken → KeepsTokens olds news
+pub tokens-taken : (olds news : List (TokenConsumer Packet)) (taken : List (List Packet)) → AllTakePackets olds news taken → KeepsTokens olds news
 tokens-taken [] [] [] h lists told = told
 tokens-taken (o ∷ os) (n ∷ ns) (packets ∷ more) h [] told = absurd told
 tokens-taken (o ∷ os) (n ∷ ns) (packets ∷ more) h (all ∷ lists) told =
@@ -178,7 +178,7 @@ is-turn-at stream open_at places s m t now note events f n shut room h =
 
 module _ {C : Type 0} (told : C → List ℤ) where
   -- the history, the clock and the time are as they were
-  pub goes-still : (s t : TimedStream C) → AreSameRings s.end.sides.items t.end.sides.items → SameProducer s.end.marks t.end.marks → t.end.spec ≡ s.end.spec → t.now ≡ s.now → t.clock ≡ s.clock
+  pub goes-still : (s t : ClockedStream C) → AreSameRings s.end.sides.items t.end.sides.items → SameProducer s.end.marks t.end.marks → t.end.spec ≡ s.end.spec → t.now ≡ s.now → t.clock ≡ s.clock
       → ((stream : Stream) (open_at : ℤ) (events : List Event) → StreamHasHistory stream open_at s.end events → StreamHasHistory stream open_at t.end events) → GoesOn told s t
   goes-still s t rings marks spec now clock stands = record {
     rings = rings;
@@ -192,10 +192,10 @@ module _ {C : Type 0} (told : C → List ℤ) where
         (subst (λ (c : C). GoByClock stream open_at places t.now (told c) (events ++ []) later) clock g));
   }
 
-  pub goes-none : (s : TimedStream C) → GoesOn told s s
+  pub goes-none : (s : ClockedStream C) → GoesOn told s s
   goes-none s = goes-still s s (rings-self s.end.sides.items) ((refl, refl, refl, refl), refl) refl refl refl (λ stream open_at events h. h)
 
-  pub goes-trans : (s t u : TimedStream C) → GoesOn told s t → GoesOn told t u → GoesOn told s u
+  pub goes-trans : (s t u : ClockedStream C) → GoesOn told s t → GoesOn told t u → GoesOn told s u
   goes-trans s t u f g = record {
     rings = rings-trans s.end.sides.items t.end.sides.items u.end.sides.items f.rings g.rings;
     marks = producers s.end.marks t.end.marks u.end.marks f.marks g.marks;
@@ -213,7 +213,7 @@ module _ {C : Type 0} (told : C → List ℤ) where
       whole stream events = append_assoc events (events_in (f.turns stream)) (events_in (g.turns stream)) ∙ ap (λ l. events ++ l) (sym (events-joined (f.turns stream) (g.turns stream)))
 
   -- a turn at the clock's next answer, and what came first
-  pub goes-turn : (s t : TimedStream C) (m : StreamEnd) (answer first_at now : ℤ) (note : TurnNote) → TellsTime (told s.clock) answer (told t.clock) → t.now ≡ time_with s.now answer → first_at ≡ t.now → now ≡ t.now → ReadsFirst s.end first_at m → TakesTurn m now note t.end → GoesOn told s t
+  pub goes-turn : (s t : ClockedStream C) (m : StreamEnd) (answer first_at now : ℤ) (note : TurnNote) → TellsTime (told s.clock) answer (told t.clock) → t.now ≡ time_with s.now answer → first_at ≡ t.now → now ≡ t.now → ReadsFirst s.end first_at m → TakesTurn m now note t.end → GoesOn told s t
   goes-turn s t m answer first_at now note tells is first_same same first' n' =
       let f : ReadsFirst s.end t.now m = subst (λ u. ReadsFirst s.end u m) first_same first' in
       let n : TakesTurn m t.now note t.end = subst (λ u. TakesTurn m u note t.end) same n' in
@@ -231,7 +231,7 @@ module _ {C : Type 0} (told : C → List ℤ) where
       }
 
   -- a look that found a path open
-  pub goes-look : (s t : TimedStream C) → AllLookAt s.end.sides.items t.end.sides.items → t.end.merge ≡ s.end.merge → t.end.marks ≡ s.end.marks → t.end.spec ≡ s.end.spec → t.now ≡ s.now → t.clock ≡ s.clock → GoesOn told s t
+  pub goes-look : (s t : ClockedStream C) → AllLookAt s.end.sides.items t.end.sides.items → t.end.merge ≡ s.end.merge → t.end.marks ≡ s.end.marks → t.end.spec ≡ s.end.spec → t.now ≡ s.now → t.clock ≡ s.clock → GoesOn told s t
   goes-look s t looked merge marks spec now clock = goes-still s t (rings-looked s.end.sides.items t.end.sides.items looked) (rw marks (((refl, refl, refl, refl), refl))) spec now clock
       (λ stream open_at events h. record {
         some_frames = h.some_frames;
@@ -241,7 +241,7 @@ module _ {C : Type 0} (told : C → List ℤ) where
       })
 
 -- all that was told arrived, where all was received
-arrived : (stream : Stream) (path : ℕ) (olds news : List (Side Packet)) (lists : List (List Packet)) (events : List Event)
+arrived : (stream : Stream) (path : ℕ) (olds news : List (TokenConsumer Packet)) (lists : List (List Packet)) (events : List Event)
     → AllLookAt olds news → AllDrained news → HaveTold olds lists → AllDelivered stream path olds events → HaveArrived stream path lists events
 arrived stream path [] [] [] events l d told h = h
 arrived stream path [] [] (all ∷ lists) events l d told h = absurd told

@@ -3,7 +3,7 @@ use Rattle.std.specs.Prelude.{◌≡◌, ◌≤◌, List, [], ◌∷◌, ◌++�
 use Rattle.studio_ends.specs.declared.path_end.PathEnd.{PathEnd}
 use Rattle.studio_ends.specs.declared.stream_end.StreamEnd.{StreamEnd}
 use Rattle.studio_rings.specs.declared.path_job.PathJob.{PathJob}
-use Rattle.studio_rings.specs.WorkersStreams.{ends_of}
+use Rattle.studio_rings.specs.StreamWorkers.{ends_of}
 use Rattle.studio_rings.specs.declared.stream_job.StreamJob.{StreamJob}
 
 module _ {F : Type 0} where

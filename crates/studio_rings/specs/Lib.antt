@@ -1,4 +1,4 @@
-pub mod Paths
+pub mod PathWorkers
 pub mod Turns
 pub mod MixWorker
 pub mod StreamTokens
@@ -16,8 +16,8 @@ pub use Rattle.studio_mix.specs.Feed
 pub use Rattle.studio_mix.specs.Blocks
 pub use Rattle.studio_ends.specs.Streams
 pub use Rattle.studio_ends.specs.Datagrams
-pub mod Ends
-pub mod WorkersStreams
+pub mod StreamClose
+pub mod StreamWorkers
 pub mod Jobs
 pub mod StreamResults
 pub use Rattle.studio_io.specs.Balances

@@ -4,12 +4,12 @@ use Rattle.rtrb.specs.Ring.{SameConsumer}
 use Rattle.rtp_stream.specs.MarkFacts.{MarkView}
 use Rattle.studio_config.specs.Studio.{Studio}
 use Rattle.studio_ends.specs.Datagrams.{AreAllGiven, HasGiven}
-use Rattle.studio_ends.specs.declared.rings.Side.{Side}
+use Rattle.studio_ends.specs.declared.rings.TokenConsumer.{TokenConsumer}
 use Rattle.studio_ends.specs.declared.mix_end.MixEnd.{MixEnd}
 use Rattle.studio_io.specs.Sinks.{Hands}
 
 -- the same rings, with the same tokens
-abbrev pub AreSameSides : List (Side MarkView) → List (Side MarkView) → Type 0
+abbrev pub AreSameSides : List (TokenConsumer MarkView) → List (TokenConsumer MarkView) → Type 0
 AreSameSides [] [] = Unit {0}
 AreSameSides (old ∷ olds) (new ∷ news) = (SameConsumer old.ring new.ring × (new.done ≡ old.done)) × AreSameSides olds news
 AreSameSides [] (new ∷ news) = ⊥

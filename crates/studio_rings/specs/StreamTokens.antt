@@ -7,23 +7,23 @@ use Rattle.rtp_stream.specs.MarkList.{is_mark_list}
 use Rattle.studio_config.specs.Studio.{Studio}
 use Rattle.studio_mix.specs.Feed.{Feed}
 use Rattle.studio_ends.specs.Tokens.{HasToken}
-use Rattle.studio_ends.specs.declared.rings.Side.{Side}
+use Rattle.studio_ends.specs.declared.rings.TokenConsumer.{TokenConsumer}
 use Rattle.studio_ends.specs.declared.stream_end.turns.StreamDone.{StreamDone}
 
 -- each token is of the ring at its place, and no ring has one yet
-abbrev pub AreTokensOf : List (Option StreamDone) → List (Side MarkView) → Type 0
+abbrev pub AreTokensOf : List (Option StreamDone) → List (TokenConsumer MarkView) → Type 0
 AreTokensOf [] [] = Unit {0}
 AreTokensOf (one ∷ dones) (side ∷ sides) = (IfSome one (λ d. IsFinishedOf d.token side.ring) × (side.done ≡ None)) × AreTokensOf dones sides
 AreTokensOf [] (side ∷ sides) = ⊥
 AreTokensOf (one ∷ dones) [] = ⊥
 
 -- a ring's end has the token, if there is one
-abbrev pub HasTokenOf : Option StreamDone → Side MarkView → Side MarkView → Type 0
+abbrev pub HasTokenOf : Option StreamDone → TokenConsumer MarkView → TokenConsumer MarkView → Type 0
 HasTokenOf None old new = new ≡ old
 HasTokenOf (Some done) old new = HasToken old (all_sent done.token) new
 
 -- the first ends have the tokens, and the others are as they were
-abbrev pub HaveTokens : List (Option StreamDone) → List (Side MarkView) → List (Side MarkView) → Type 0
+abbrev pub HaveTokens : List (Option StreamDone) → List (TokenConsumer MarkView) → List (TokenConsumer MarkView) → Type 0
 HaveTokens [] olds news = news ≡ olds
 HaveTokens (one ∷ dones) (old ∷ olds) (new ∷ news) = HasTokenOf one old new × HaveTokens dones olds news
 HaveTokens (one ∷ dones) [] news = ⊥
@@ -35,7 +35,7 @@ AllGiveTokens [] = Unit {0}
 AllGiveTokens (one ∷ dones) = IsSome one × AllGiveTokens dones
 
 -- each stream gave a token, and all that it tells came
-abbrev pub AreAllDrained : List (Option StreamDone) → List (Side MarkView) → Type 0
+abbrev pub AreAllDrained : List (Option StreamDone) → List (TokenConsumer MarkView) → Type 0
 AreAllDrained [] [] = Unit {0}
 AreAllDrained (one ∷ dones) (side ∷ sides) = IsSomeAnd one (λ d. received side.ring ≡ all_sent d.token) × AreAllDrained dones sides
 AreAllDrained [] (side ∷ sides) = ⊥

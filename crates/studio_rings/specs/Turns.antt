@@ -7,28 +7,28 @@ use Rattle.rtp_stream.specs.declared.event.Event.{Event}
 use Rattle.rtp_stream.specs.declared.event.Event.TheVariants.{Close}
 use Rattle.studio_ends.specs.Fitting.{fitting}
 use Rattle.studio_ends.specs.Streams.{StreamHasHistory, packets_by}
-use Rattle.studio_ends.specs.declared.rings.Side.{Side}
+use Rattle.studio_ends.specs.declared.rings.TokenConsumer.{TokenConsumer}
 use Rattle.studio_ends.specs.declared.stream_end.StreamEnd.{StreamEnd}
 use Rattle.studio_io.specs.Clocks.{GoByClock, events_in}
-use Rattle.studio_rings.specs.declared.worker.clocked_stream.TimedStream.{TimedStream}
+use Rattle.studio_rings.specs.declared.worker.clocked_stream.ClockedStream.{ClockedStream}
 
 module _ {T : Type 0} where
   -- each ring is the one that it was
-  abbrev pub AreSameRings : List (Side T) → List (Side T) → Type 0
+  abbrev pub AreSameRings : List (TokenConsumer T) → List (TokenConsumer T) → Type 0
   AreSameRings [] [] = Unit {0}
   AreSameRings (old ∷ olds) (new ∷ news) = SameConsumer old.ring new.ring × AreSameRings olds news
   AreSameRings [] (new ∷ news) = ⊥
   AreSameRings (old ∷ olds) [] = ⊥
 
   -- what each ring's token tells, where it was handed in
-  abbrev pub HaveTold : List (Side T) → List (List T) → Type 0
+  abbrev pub HaveTold : List (TokenConsumer T) → List (List T) → Type 0
   HaveTold [] [] = Unit {0}
   HaveTold (side ∷ sides) (all ∷ more) = IfSome side.done (λ done. all_sent done ≡ all) × HaveTold sides more
   HaveTold [] (all ∷ more) = ⊥
   HaveTold (side ∷ sides) [] = ⊥
 
   -- what was told stays told
-  abbrev pub KeepsTokens : List (Side T) → List (Side T) → Type 0
+  abbrev pub KeepsTokens : List (TokenConsumer T) → List (TokenConsumer T) → Type 0
   KeepsTokens olds news = (lists : List (List T)) → HaveTold olds lists → HaveTold news lists
 
 -- the arrivals are just these packets, path by path from this one on: those that have the stream's length
@@ -57,7 +57,7 @@ pub record ReadsFirst (s : StreamEnd) (now : ℤ) (t : StreamEnd) : Type 0 where
 
 module _ {C : Type 0} where
   -- a stream that is not closed went on: its history grew by turns that go by its clock
-  pub record GoesOn (told : C → List ℤ) (s t : TimedStream C) : Type 0 where
+  pub record GoesOn (told : C → List ℤ) (s t : ClockedStream C) : Type 0 where
     pub rings : AreSameRings s.end.sides.items t.end.sides.items
     pub marks : SameProducer s.end.marks t.end.marks
     pub spec : t.end.spec ≡ s.end.spec

@@ -4,7 +4,7 @@ ghost use Rattle.std.specs.Vec.Iter.{into_iter_items, into_iter_len};
 ghost use Rattle.rtp_stream.specs.declared.stream_spec.Stream.{Stream};
 ghost use Rattle.studio_ends.specs.FreshEnds.{AllFreshStreams};
 ghost use Rattle.studio_rings.specs.Jobs.{AreJobsOf, HasRoom, HaveRoom, feeds_in};
-ghost use Rattle.studio_rings.specs.WorkersStreams.{ends_of};
+ghost use Rattle.studio_rings.specs.StreamWorkers.{ends_of};
 
 use crate::path_job::{PathJob, PathResult};
 use crate::stream_job::StreamJob;

@@ -1,6 +1,6 @@
 //! What each worker of a studio does by itself, in whatever thread it runs.
 //!
-//! `run_path` sends what a path's feed gives until it ends, and comes to the token of its ring. A `TimedStream` is a stream's
+//! `run_path` sends what a path's feed gives until it ends, and comes to the token of its ring. A `ClockedStream` is a stream's
 //! end with its clock: each `turn` goes by the greatest answer so far, and `try_close` closes it once all that its paths
 //! sent was taken. `run_mixer` hands the sink each datagram that the mixer gives, and `settle` says whether all that the
 //! streams' tokens tell came to it. `studio_workers` runs them side by side.
@@ -27,8 +27,8 @@ mod worker;
 pub use path_job::{PathJob, PathResult};
 pub use run::run_workers;
 pub use studio_io::{Clock, Feed, FeedAnswer, SendAnswer, SendCounts, Sink, WorkFault, WorkReport};
-pub use tokens::settle;
-pub use worker::Pause;
-pub use worker::clocked_stream::TimedStream;
+pub use tokens::is_settled_with;
+pub use worker::Backoff;
+pub use worker::clocked_stream::ClockedStream;
 pub use worker::mixer::{MixResult, run_mixer};
 pub use worker::path::run_path;

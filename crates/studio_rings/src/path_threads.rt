@@ -2,11 +2,11 @@
 ghost use Rattle.std.specs.Prelude.{◌≡◌, ◌+◌, ◌≤◌, ◌++◌, [], ◌∷◌, List, length, vec_len, vec_capacity, IfOk};
 ghost use Rattle.std.specs.Thread.{IsSync};
 ghost use Rattle.std.specs.List.{AllZip};
-ghost use Rattle.studio_rings.specs.Paths.{IsPathResult};
+ghost use Rattle.studio_rings.specs.PathWorkers.{IsPathResult};
 ghost use Rattle.studio_rings.specs.Turns.{GoesOn};
 
 use crate::path_job::{PathJob, PathResult};
-use crate::worker::clocked_stream::TimedStream;
+use crate::worker::clocked_stream::ClockedStream;
 use crate::worker::path::run_path;
 use std::snapshot::Snapshot;
 use std::sync::Wait;
@@ -17,15 +17,15 @@ use studio_io::{Clock, Feed};
 
 /// A worker couldn't be started, and the others were told to stop.
 #[derive(Clone, Copy, Debug)]
-pub(crate) struct Stopped;
+pub(crate) struct WorkerStopped;
 
 /// Makes turns until all paths have ended, or until the workers are to stop.
 fn run_turns<R: Wait, C: Clock>(
     rt: &R,
-    stream: TimedStream<C>,
+    stream: ClockedStream<C>,
     ended: &[AtomicBool],
     stop: &AtomicBool,
-) -> TimedStream<C>
+) -> ClockedStream<C>
     ensures { GoesOn C.told stream result }
 {
     let mut stream = stream;
@@ -55,10 +55,10 @@ pub(crate) fn run_paths<R: Threads + Wait + Sync, F: Feed + Send, C: Clock>(
     rt: &R,
     jobs: Vec<PathJob<F>>,
     results: Vec<PathResult>,
-    stream: TimedStream<C>,
+    stream: ClockedStream<C>,
     ended: &[AtomicBool],
     stop: &AtomicBool,
-) -> Result<(Vec<PathResult>, TimedStream<C>), Stopped>
+) -> Result<(Vec<PathResult>, ClockedStream<C>), WorkerStopped>
     requires room { vec_len results + vec_len jobs ≤ vec_capacity results }
     requires flags { vec_len jobs ≤ length ended.now }
     ensures results { IfOk result (λ r. (own : List PathResult) × (r.0.items ≡ results.items ++ own) × AllZip (IsPathResult F.told) jobs.items own) }
@@ -78,7 +78,7 @@ pub(crate) fn run_paths<R: Threads + Wait + Sync, F: Feed + Send, C: Clock>(
     thread::scope(
         thread::scope_env(),
         rt,
-        move |scope| -> Result<(Vec<PathResult>, TimedStream<C>), Stopped>
+        move |scope| -> Result<(Vec<PathResult>, ClockedStream<C>), WorkerStopped>
             requires sync { IsSync R.row }
             requires room { vec_len results + vec_len jobs + 1 ≤ vec_capacity results }
             requires flags { vec_len jobs ≤ length ended.now }
@@ -90,7 +90,7 @@ pub(crate) fn run_paths<R: Threads + Wait + Sync, F: Feed + Send, C: Clock>(
         {
             let Ok(child) = scope.spawn_with(promise, move || run_path(rt, job, flag, stop)) else {
                 stop.store(true, Ordering::SeqCst);
-                return Err(Stopped);
+                return Err(WorkerStopped);
             };
             let rest = run_paths(rt, jobs, results, stream, ended, stop);
             let result = child.join(rt);

@@ -9,18 +9,18 @@ use studio_ends::StreamDone;
 
 /// The tokens of the streams, their counts, and the number of each feed's faults.
 #[derive(Drop)]
-pub(crate) struct Parts {
+pub(crate) struct RunResults {
     pub(crate) dones: Vec<Option<StreamDone>>,
     pub(crate) streams: Vec<StreamCounts>,
     pub(crate) feed_faults: Vec<u64>,
 }
 
 /// Room for the parts of so many streams and feeds.
-pub(crate) fn room_for_parts(
+pub(crate) fn reserve_results(
     alloc: Global,
     streams: usize,
     feeds: usize,
-) -> Result<Parts, AllocError>
+) -> Result<RunResults, AllocError>
     ensures dones { IfOk result (λ parts. (vec_len parts.dones ≡ 0) × (streams ≤ vec_capacity parts.dones)) }
     ensures streams { IfOk result (λ parts. (vec_len parts.streams ≡ 0) × (streams ≤ vec_capacity parts.streams)) }
     ensures feeds { IfOk result (λ parts. (vec_len parts.feed_faults ≡ 0) × (feeds ≤ vec_capacity parts.feed_faults)) }
@@ -28,7 +28,7 @@ pub(crate) fn room_for_parts(
     let dones = Vec::with_capacity(alloc, streams)?;
     let counts = Vec::with_capacity(alloc, streams)?;
     let feed_faults = Vec::with_capacity(alloc, feeds)?;
-    Ok(Parts {
+    Ok(RunResults {
         dones,
         streams: counts,
         feed_faults,
@@ -36,7 +36,7 @@ pub(crate) fn room_for_parts(
 }
 
 /// Takes the results apart. The room for all was taken before, so nothing grows.
-pub(crate) fn take_apart(results: Vec<StreamResult>, parts: Parts) -> Parts
+pub(crate) fn collect_results(results: Vec<StreamResult>, parts: RunResults) -> RunResults
     requires dones { (vec_len parts.dones ≡ 0) × (vec_len results ≤ vec_capacity parts.dones) }
     requires streams { (vec_len parts.streams ≡ 0) × (vec_len results ≤ vec_capacity parts.streams) }
     requires faults { (vec_len parts.feed_faults ≡ 0) × (fault_numbers results.items ≤ vec_capacity parts.feed_faults) }
@@ -44,7 +44,7 @@ pub(crate) fn take_apart(results: Vec<StreamResult>, parts: Parts) -> Parts
     ensures streams { result.streams.items ≡ counts_in results.items }
     ensures faults { vec_len result.feed_faults ≡ fault_numbers results.items }
 {
-    let Parts {
+    let RunResults {
         mut dones,
         mut streams,
         mut feed_faults,
@@ -61,7 +61,7 @@ pub(crate) fn take_apart(results: Vec<StreamResult>, parts: Parts) -> Parts
             unreachable!();
         };
     }
-    Parts {
+    RunResults {
         dones,
         streams,
         feed_faults,

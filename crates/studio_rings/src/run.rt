@@ -13,10 +13,10 @@ ghost use Rattle.studio_rings.specs.Jobs.{AreJobsOf, HaveRoom};
 ghost use Rattle.studio_rings.specs.StreamResults.{AreOpenedTogether};
 
 use crate::jobs::{stream_jobs, unset_flags};
-use crate::results::{Parts, room_for_parts, take_apart};
+use crate::results::{RunResults, collect_results, reserve_results};
 use crate::stream_job::{StreamJob, StreamResult};
 use crate::stream_threads::run_streams;
-use crate::tokens::settle;
+use crate::tokens::is_settled_with;
 use crate::worker::mixer::MixResult;
 use std::alloc::{AllocError, Global};
 use std::sync::Wait;
@@ -27,21 +27,21 @@ use studio_io::{Clock, Feed, Sink, WorkFault, WorkReport};
 
 /// All that the workers start from, and room for all that they come to.
 #[derive(Drop)]
-struct Memory<F, C> {
+struct RunMemory<F, C> {
     jobs: Vec<StreamJob<F, C>>,
     results: Vec<StreamResult>,
     ended: Vec<AtomicBool>,
-    parts: Parts,
+    parts: RunResults,
 }
 
 /// Takes all memory of a run.
-fn take_memory<F: Drop, C: Drop>(
+fn reserve_memory<F: Drop, C: Drop>(
     alloc: Global,
     paths: Vec<PathEnd>,
     feeds: Vec<F>,
     streams: Vec<StreamEnd>,
     clocks: Vec<C>,
-) -> Result<Memory<F, C>, AllocError>
+) -> Result<RunMemory<F, C>, AllocError>
     requires streams { (open_at : ℤ) × (places : ℕ) × (specs : List Stream) × AllFreshStreams open_at places specs paths.items streams.items }
     requires feeds { length feeds.items ≡ length paths.items }
     requires clocks { length clocks.items ≡ length streams.items }
@@ -53,11 +53,11 @@ fn take_memory<F: Drop, C: Drop>(
     ensures faults { IfOk result (λ m. (vec_len m.parts.feed_faults ≡ 0) × (vec_len feeds ≤ vec_capacity m.parts.feed_faults)) }
 {
     let count = streams.len();
-    let parts = room_for_parts(alloc, count, feeds.len())?;
+    let parts = reserve_results(alloc, count, feeds.len())?;
     let results = Vec::with_capacity(alloc, count)?;
     let ended = unset_flags(alloc, count)?;
     let jobs = stream_jobs(alloc, paths, feeds, streams, clocks)?;
-    Ok(Memory {
+    Ok(RunMemory {
         jobs,
         results,
         ended,
@@ -66,7 +66,7 @@ fn take_memory<F: Drop, C: Drop>(
 }
 
 /// What came of a run, and its sink.
-fn report<K: Drop>(mixed: MixResult<K>, parts: Parts) -> (WorkReport, K)
+fn report<K: Drop>(mixed: MixResult<K>, parts: RunResults) -> (WorkReport, K)
     requires tokens { AreTokensOf parts.dones.items mixed.end.sides.items }
     ensures balance { Balances result.0.blocks result.0.sent_a result.0.fault_a result.0.sent_b result.0.fault_b }
     ensures streams { result.0.streams ≡ parts.streams }
@@ -79,12 +79,12 @@ fn report<K: Drop>(mixed: MixResult<K>, parts: Parts) -> (WorkReport, K)
         → AreAllGiven studio mixed.end datagrams → AreBlocks studio feeds datagrams }
 {
     let MixResult { end, sink, counts } = mixed;
-    let Parts {
+    let RunResults {
         dones,
         streams,
         feed_faults,
     } = parts;
-    let settled = settle(end, dones);
+    let settled = is_settled_with(end, dones);
     let report = WorkReport {
         streams,
         feed_faults,
@@ -126,8 +126,8 @@ pub fn run_workers<R: Threads + Wait + Sync, F: Feed + Send, C: Clock + Send, K:
         monitors: _,
         mix,
     } = ends;
-    let memory = take_memory(alloc, paths, feeds, streams, clocks)?;
-    let Memory {
+    let memory = reserve_memory(alloc, paths, feeds, streams, clocks)?;
+    let RunMemory {
         jobs,
         results,
         ended,
@@ -137,6 +137,6 @@ pub fn run_workers<R: Threads + Wait + Sync, F: Feed + Send, C: Clock + Send, K:
     let Ok((results, mixed)) = run_streams(rt, jobs, results, mix, sink, &ended, &stop) else {
         return Err(WorkFault::Start);
     };
-    let parts = take_apart(results, parts);
+    let parts = collect_results(results, parts);
     Ok(report(mixed, parts))
 }

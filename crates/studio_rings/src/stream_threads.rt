@@ -4,9 +4,9 @@ ghost use Rattle.std.specs.Option.{option_to_list};
 ghost use Rattle.std.specs.Thread.{IsSync};
 ghost use Rattle.std.specs.List.{AllZip};
 ghost use Rattle.studio_rings.specs.MixWorker.{Mixes};
-ghost use Rattle.studio_rings.specs.WorkersStreams.{AllReady, IsReady, IsStreamResult};
+ghost use Rattle.studio_rings.specs.StreamWorkers.{AllReady, IsReady, IsStreamResult};
 
-use crate::path_threads::Stopped;
+use crate::path_threads::WorkerStopped;
 use crate::stream_job::{StreamJob, StreamResult};
 use crate::worker::mixer::{MixResult, run_mixer};
 use crate::worker::stream::run_stream;
@@ -24,7 +24,7 @@ struct StreamPromise<F, C> {
     job: Snapshot<StreamJob<F, C>>,
 }
 
-impl<F: Feed, C: Clock> Promise<Result<StreamResult, Stopped>> for StreamPromise<F, C> {
+impl<F: Feed, C: Clock> Promise<Result<StreamResult, WorkerStopped>> for StreamPromise<F, C> {
     ghost kept_by = { λ p r. IfOk r (λ result. IsStreamResult F.told C.told p.job.value result) };
 }
 
@@ -49,7 +49,7 @@ pub(crate) fn run_streams<R: Threads + Wait + Sync, F: Feed + Send, C: Clock + S
     sink: K,
     ended: &[AtomicBool],
     stop: &AtomicBool,
-) -> Result<(Vec<StreamResult>, MixResult<K>), Stopped>
+) -> Result<(Vec<StreamResult>, MixResult<K>), WorkerStopped>
     requires ready { AllReady jobs.items }
     requires room { vec_len results + vec_len jobs ≤ vec_capacity results }
     requires flags { vec_len jobs ≤ length ended.now }
@@ -70,7 +70,7 @@ pub(crate) fn run_streams<R: Threads + Wait + Sync, F: Feed + Send, C: Clock + S
     thread::scope(
         thread::scope_env(),
         rt,
-        move |scope| -> Result<(Vec<StreamResult>, MixResult<K>), Stopped>
+        move |scope| -> Result<(Vec<StreamResult>, MixResult<K>), WorkerStopped>
             requires sync { IsSync R.row }
             requires ready { AllReady jobs.items }
             requires own { IsReady job }
@@ -84,14 +84,14 @@ pub(crate) fn run_streams<R: Threads + Wait + Sync, F: Feed + Send, C: Clock + S
         {
             let Ok(child) = scope.spawn_with(
                 promise,
-                move || -> Result<StreamResult, Stopped>
+                move || -> Result<StreamResult, WorkerStopped>
                     requires sync { IsSync R.row }
                     requires own { IsReady job }
                     ensures { IfOk result (λ r. IsStreamResult F.told C.told job r) }
                 { run_stream(rt, job, flag, stop) },
             ) else {
                 stop.store(true, Ordering::SeqCst);
-                return Err(Stopped);
+                return Err(WorkerStopped);
             };
             let rest = run_streams(rt, jobs, results, mix, sink, ended, stop);
             let result = child.join(rt);

@@ -24,7 +24,7 @@ fn hand_in_all(end: &mut MixEnd, dones: Vec<Option<StreamDone>>)
 }
 
 /// Whether all streams have finished, and all their marks were taken.
-pub fn settle(end: MixEnd, dones: Vec<Option<StreamDone>>) -> bool
+pub fn is_settled_with(end: MixEnd, dones: Vec<Option<StreamDone>>) -> bool
     requires { AreTokensOf dones.items end.sides.items }
     ensures exactly { IsTrue result ↔ AreAllDrained dones.items end.sides.items }
     ensures tokens { result ≡ true → AllGiveTokens dones.items }

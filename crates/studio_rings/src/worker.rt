@@ -15,22 +15,22 @@ const FIRST: u64 = 1_000;
 
 /// Pauses that grow while nothing comes: each is twice the one before, up to a longest.
 #[derive(Drop)]
-pub struct Pause {
+pub struct Backoff {
     parker: Parker,
     first: u64,
     next: u64,
     longest: u64,
 }
 
-impl Pause {
+impl Backoff {
     /// Pauses of at most so many microseconds.
-    pub fn up_to(longest: u64) -> Pause {
-        Pause::between(FIRST.min(longest), longest)
+    pub fn up_to(longest: u64) -> Backoff {
+        Backoff::between(FIRST.min(longest), longest)
     }
 
     /// Pauses from one length to another, in microseconds.
-    pub(crate) fn between(first: u64, longest: u64) -> Pause {
-        Pause {
+    pub(crate) fn between(first: u64, longest: u64) -> Backoff {
+        Backoff {
             parker: Parker::new(),
             first,
             next: first,
@@ -39,13 +39,13 @@ impl Pause {
     }
 
     /// Waits. It may end early.
-    pub fn rest<R: Wait>(&mut self, rt: &R) {
+    pub fn snooze<R: Wait>(&mut self, rt: &R) {
         self.wait(rt, self.next);
     }
 
     /// Waits until the clock, which reads this in sampling instants, comes to a multiple of the pause. So
     /// workers that have the same pause wake together, which costs the machine less. It may end early.
-    pub(crate) fn rest_in_step<R: Wait>(&mut self, rt: &R, now: i64) {
+    pub(crate) fn snooze_aligned<R: Wait>(&mut self, rt: &R, now: i64) {
         // There are 6 sampling instants in 125 microseconds.
         let length = (self.next.saturating_mul(6) / 125).max(1);
         let gone = now.unsigned_abs() % length;
@@ -60,7 +60,7 @@ impl Pause {
     }
 
     /// Something came: the next pause is the first again.
-    pub(crate) fn restart(&mut self) {
+    pub(crate) fn reset(&mut self) {
         self.next = self.first;
     }
 }

@@ -5,9 +5,9 @@ use Rattle.std.proofs.Math.Seq.{take-append_seam, drop-append_seam}
 use Rattle.studio_session.specs.Event.{Arrival}
 use Rattle.studio_run.specs.Trace.{octets_of}
 use Rattle.studio_run.specs.LineEvent.{IsLast, IsLineOf, said_in, octets_by}
-use Rattle.studio_run.specs.Places.{event_at, IsPlace, place_in, digits_in}
-use Rattle.studio_run.specs.declared.line.LineEvent.{LineEvent}
-use Rattle.studio_run.specs.declared.line.LineEvent.TheVariants.{Arrive, Tick, Close}
+use Rattle.studio_run.specs.Places.{event_at, IsPlace, text_event, digits_in}
+use Rattle.studio_run.specs.declared.trace.line.LineEvent.{LineEvent}
+use Rattle.studio_run.specs.declared.trace.line.LineEvent.TheVariants.{Arrive, Tick, Close}
 
 -- a part between two others
 range-middle : (front middle back : List ℕ) → slice_range (front ++ (middle ++ back)) (length front) (length front + length middle) ≡ middle
@@ -17,8 +17,8 @@ range-middle front middle back =
 
 -- where the digits of a line's event stand
 pub record Stands (text : List ℕ) (event : LineEvent) (end : ℕ) : Type 0 where
-  pub said : event_at text (place_in end event) ≡ said_in event
-  pub place : IsPlace text (place_in end event)
+  pub said : event_at text (text_event end event) ≡ said_in event
+  pub place : IsPlace text (text_event end event)
   pub digits : digits_in event ≤ end
 
 Stands-at : (text front line after : List ℕ) (event : LineEvent) (end : ℕ) → text ≡ front ++ (line ++ after) → end ≡ length front + length line → length line ≤ 4096 → IsLast line event → Stands text event end

@@ -7,11 +7,11 @@ use Rattle.studio_config.specs.Studio.{Studio}
 use Rattle.studio_session.specs.Event.{TraceEvent}
 use Rattle.studio_session.specs.Fault.{session_fault_of}
 use Rattle.studio_run.specs.Trace.{BeginsWithEvents, fault_in, lines_of, lines_said, trace_events}
-use Rattle.studio_run.specs.Play.{FailsOf, FailsOn, FailsWriting, StopsAt, StopsReading, stop_for}
+use Rattle.studio_run.specs.Play.{FailsOf, FailsOn, FailsWriting, StopsAt, StopsReading, play_fault}
 use Rattle.studio_run.proofs.WantLemmas.{IsFaultOfText, IsOfText, of_trace}
-use Rattle.studio_run.specs.declared.trace.TraceFault.{TraceFault}
-use Rattle.studio_run.specs.declared.trace.TraceKind.{TraceKind}
-use Rattle.studio_run.specs.declared.trace.TraceKind.TheVariants.{TooLong, Cut, Word, Fields, Number, Hex, TooMany, Memory as NoMemory}
+use Rattle.studio_run.specs.declared.trace.fault.TraceFault.{TraceFault}
+use Rattle.studio_run.specs.declared.trace.fault.TraceFaultKind.{TraceFaultKind}
+use Rattle.studio_run.specs.declared.trace.fault.TraceFaultKind.TheVariants.{TooLong, Cut, Word, Fields, Number, Hex, TooMany, Memory as NoMemory}
 use Rattle.studio_run.specs.declared.player.PlayFault.{PlayFault}
 use Rattle.studio_run.specs.declared.player.PlayFault.TheVariants.{Read, Memory, Trace, Run, Write}
 
@@ -21,7 +21,7 @@ module _ {T : Type 0} where
   told P fault (Ok it) is holds = absurd is
   told P fault (Err answer) is holds = subst P (sym is) holds
 
-stops_by_kind : (studio : Studio) (trace : List ℕ) (fault : TraceFault) (kind : TraceKind) → IsOfText kind → trace_events trace ≡ Err fault → StopsAt studio trace (stop_for kind fault)
+stops_by_kind : (studio : Studio) (trace : List ℕ) (fault : TraceFault) (kind : TraceFaultKind) → IsOfText kind → trace_events trace ≡ Err fault → StopsAt studio trace (play_fault kind fault)
 stops_by_kind studio trace fault TooLong of is = is
 stops_by_kind studio trace fault Cut of is = is
 stops_by_kind studio trace fault Word of is = is
@@ -33,8 +33,8 @@ stops_by_kind studio trace fault NoMemory of is = absurd of
 
 -- a trace with no events in memory
 pub stops_at_trace : (studio : Studio) (trace : List ℕ) (fault : TraceFault) → ((fault ≡ fault_in 0 NoMemory) × BeginsWithEvents trace) ⊎ (trace_events trace ≡ Err fault)
-    → StopsAt studio trace (stop_for fault.kind fault)
-stops_at_trace studio trace fault (inl want) = subst (λ (f : TraceFault). StopsAt studio trace (stop_for f.kind f)) (sym want.0) want.1
+    → StopsAt studio trace (play_fault fault.kind fault)
+stops_at_trace studio trace fault (inl want) = subst (λ (f : TraceFault). StopsAt studio trace (play_fault f.kind f)) (sym want.0) want.1
 stops_at_trace studio trace fault (inr is) = stops_by_kind studio trace fault fault.kind (subst (λ r. IfErr r IsFaultOfText) is (of_trace trace)) is
 
 -- nothing was written yet

@@ -4,7 +4,7 @@ use Rattle.std.proofs.lemmas.Bool.{le-ltb}
 use Rattle.std.proofs.lemmas.List.{take_all}
 use Rattle.studio_session.specs.Event.{TraceEvent}
 use Rattle.studio_run.specs.Trace.{BeginsWithEvents, FailsInLine, GivesEvents, HasEvents, ReadsLine, fault_in, lines_of, lines_said, prepend, trace_events}
-use Rattle.studio_run.specs.declared.trace.TraceKind.{TraceKind}
+use Rattle.studio_run.specs.declared.trace.fault.TraceFaultKind.{TraceFaultKind}
 use Rattle.studio_run.proofs.ReadLineLemmas.{prepend-none, prepend-prepend}
 
 -- nothing was read yet
@@ -38,7 +38,7 @@ gives-all text at lines count events gives few ended =
     gives-alone text lines count events (subst (λ t. GivesEvents t lines count events) (take_all at text ended) gives) few
 
 -- the next line is at fault
-pub gives-fault : (text rest : List ℕ) (at lines count : ℕ) (events : List TraceEvent) (kind : TraceKind) → GivesEvents (take at text) lines count events → length text ≤ 67108864 → rest ≡ drop at text → FailsInLine rest count kind → trace_events text ≡ Err (fault_in (lines + 1) kind)
+pub gives-fault : (text rest : List ℕ) (at lines count : ℕ) (events : List TraceEvent) (kind : TraceFaultKind) → GivesEvents (take at text) lines count events → length text ≤ 67108864 → rest ≡ drop at text → FailsInLine rest count kind → trace_events text ≡ Err (fault_in (lines + 1) kind)
 gives-fault text rest at lines count events kind gives few from fails =
     said-few text few ∙ ap (λ t. lines_said 1 0 (lines_of t)) (sym (ap (λ r. take at text ++ r) from ∙ take-append-drop at text)) ∙ gives rest ∙ ap (prepend events) (fails (lines + 1))
 

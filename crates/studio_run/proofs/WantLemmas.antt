@@ -5,12 +5,12 @@ use Rattle.std.specs.Str.{bytes_eq}
 use Rattle.studio_session.specs.Event.{TraceEvent}
 use Rattle.studio_run.specs.Fields.{fields_of}
 use Rattle.studio_run.specs.Trace.{arrival, arrival_of, arrival_on, close_of, fields_said, fault_in, is_silent, line_and_rest, line_said, lines_of, lines_said, number_of, octets_of, path_of, prepend, reading, tick_of, trace_events, with_event}
-use Rattle.studio_run.specs.declared.trace.TraceFault.{TraceFault}
-use Rattle.studio_run.specs.declared.trace.TraceKind.{TraceKind}
-use Rattle.studio_run.specs.declared.trace.TraceKind.TheVariants.{TooLong, Cut, Word, Fields, Number, Hex, TooMany, Memory}
+use Rattle.studio_run.specs.declared.trace.fault.TraceFault.{TraceFault}
+use Rattle.studio_run.specs.declared.trace.fault.TraceFaultKind.{TraceFaultKind}
+use Rattle.studio_run.specs.declared.trace.fault.TraceFaultKind.TheVariants.{TooLong, Cut, Word, Fields, Number, Hex, TooMany, Memory}
 
 -- a kind of fault that a text can have
-abbrev pub IsOfText : TraceKind → Type 0
+abbrev pub IsOfText : TraceFaultKind → Type 0
 IsOfText TooLong = Unit {0}
 IsOfText Cut = Unit {0}
 IsOfText Word = Unit {0}
@@ -57,7 +57,7 @@ of_fields : (fields : List (List ℕ)) → IfErr (fields_said fields) IsOfText
 of_fields [] = tt
 of_fields (word ∷ rest) = of_either IsOfText (bytes_eq word (codes "tick")) _ _ (of_tick rest) (of_either IsOfText (bytes_eq word (codes "close")) _ _ (of_close rest) (of_path (path_of word) rest))
 
-of_event : (said : Result TraceEvent TraceKind) → IfErr said IsOfText → IfErr (with_event said) IsOfText
+of_event : (said : Result TraceEvent TraceFaultKind) → IfErr said IsOfText → IfErr (with_event said) IsOfText
 of_event (Ok event) is = tt
 of_event (Err kind) is = is
 
@@ -71,7 +71,7 @@ of_more : (events : List TraceEvent) (said : Result (List TraceEvent) TraceFault
 of_more events (Ok more) is = tt
 of_more events (Err fault) is = is
 
-of_rest : (number count : ℕ) (said : Result (Option TraceEvent) TraceKind) (silent given : Result (List TraceEvent) TraceFault) → IfErr said IsOfText → IfErr silent IsFaultOfText → IfErr given IsFaultOfText → IfErr (line_and_rest number count said silent given) IsFaultOfText
+of_rest : (number count : ℕ) (said : Result (Option TraceEvent) TraceFaultKind) (silent given : Result (List TraceEvent) TraceFault) → IfErr said IsOfText → IfErr silent IsFaultOfText → IfErr given IsFaultOfText → IfErr (line_and_rest number count said silent given) IsFaultOfText
 of_rest number count (Err kind) silent given is first second = is
 of_rest number count (Ok None) silent given is first second = first
 of_rest number count (Ok (Some event)) silent given is first second = of_either IsFaultOfText (nat_lt count 1000000) _ _ (of_more (event ∷ []) given second) tt

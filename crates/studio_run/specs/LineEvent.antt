@@ -4,9 +4,9 @@ use Rattle.std.specs.Borrow.{Bor}
 use Rattle.studio_run.specs.Fields.{EndsWith}
 use Rattle.studio_session.specs.Event.{TraceEvent, Arrival, Reading, Closing}
 use Rattle.studio_run.specs.Trace.{octets_of, ReadsLine}
-use Rattle.studio_run.specs.declared.line.LineEvent.{LineEvent}
-use Rattle.studio_run.specs.declared.line.LineEvent.TheVariants.{Arrive, Tick, Close}
-use Rattle.studio_run.specs.declared.trace.TraceKind.{TraceKind}
+use Rattle.studio_run.specs.declared.trace.line.LineEvent.{LineEvent}
+use Rattle.studio_run.specs.declared.trace.line.LineEvent.TheVariants.{Arrive, Tick, Close}
+use Rattle.studio_run.specs.declared.trace.fault.TraceFaultKind.{TraceFaultKind}
 
 -- the octets that digits spell, where they spell some
 abbrev pub octets_by : List ℕ → List ℕ
@@ -19,12 +19,12 @@ said_in (Tick time) = Reading time
 said_in Close = Closing
 
 -- an answer to what fields say
-abbrev pub event_of : Result LineEvent TraceKind → Result TraceEvent TraceKind
+abbrev pub event_of : Result LineEvent TraceFaultKind → Result TraceEvent TraceFaultKind
 event_of (Ok event) = Ok (said_in event)
 event_of (Err kind) = Err kind
 
 -- an answer to what a line says, which may be nothing
-abbrev pub line_event_of : Result (Option LineEvent) TraceKind → Result (Option TraceEvent) TraceKind
+abbrev pub line_event_of : Result (Option LineEvent) TraceFaultKind → Result (Option TraceEvent) TraceFaultKind
 line_event_of (Ok None) = Ok None
 line_event_of (Ok (Some event)) = Ok (Some (said_in event))
 line_event_of (Err kind) = Err kind

@@ -3,28 +3,28 @@ use Rattle.std.specs.Prelude.{ℕ, ◌+◌, ◌-◌, ◌≤◌, List, [], ◌∷
 use Rattle.studio_session.specs.Event.{TraceEvent, Arrival, Reading, Closing}
 use Rattle.studio_run.specs.Trace.{octets_of}
 use Rattle.studio_run.specs.LineEvent.{octets_by}
-use Rattle.studio_run.specs.declared.line.LineEvent.{LineEvent}
-use Rattle.studio_run.specs.declared.line.LineEvent.TheVariants.{Arrive as LineArrive, Tick as LineTick, Close as LineClose}
-use Rattle.studio_run.specs.declared.places.Place.{Place}
-use Rattle.studio_run.specs.declared.places.Place.TheVariants.{Arrive, Tick, Close}
+use Rattle.studio_run.specs.declared.trace.line.LineEvent.{LineEvent}
+use Rattle.studio_run.specs.declared.trace.line.LineEvent.TheVariants.{Arrive as LineArrive, Tick as LineTick, Close as LineClose}
+use Rattle.studio_run.specs.declared.trace.text_events.TextEvent.{TextEvent}
+use Rattle.studio_run.specs.declared.trace.text_events.TextEvent.TheVariants.{Arrive, Tick, Close}
 
 -- the event of a place
-abbrev pub event_at : List ℕ → Place → TraceEvent
+abbrev pub event_at : List ℕ → TextEvent → TraceEvent
 event_at text (Arrive stream path start end) = Arrival stream path (octets_by (slice_range text start end))
 event_at text (Tick time) = Reading time
 event_at text Close = Closing
 
 -- the place is one of the text, and its digits spell a datagram, of no more than a line
-abbrev pub IsPlace : List ℕ → Place → Type 0
+abbrev pub IsPlace : List ℕ → TextEvent → Type 0
 IsPlace text (Arrive stream path start end) = (start ≤ end) × (end ≤ length text) × (end ≤ start + 4096) × IsSome (octets_of (slice_range text start end))
 IsPlace text (Tick time) = Unit {0}
 IsPlace text Close = Unit {0}
 
 -- the place of a line's event, where the line ends here
-abbrev pub place_in : ℕ → LineEvent → Place
-place_in end (LineArrive stream path digits) = Arrive stream path (end - length digits.now) end
-place_in end (LineTick time) = Tick time
-place_in end LineClose = Close
+abbrev pub text_event : ℕ → LineEvent → TextEvent
+text_event end (LineArrive stream path digits) = Arrive stream path (end - length digits.now) end
+text_event end (LineTick time) = Tick time
+text_event end LineClose = Close
 
 -- how many digits of a datagram the event has
 abbrev pub digits_in : LineEvent → ℕ
@@ -33,6 +33,6 @@ digits_in (LineTick time) = 0
 digits_in LineClose = 0
 
 -- the event of a place, if there is one
-abbrev pub said_at : List ℕ → Option Place → List TraceEvent
+abbrev pub said_at : List ℕ → Option TextEvent → List TraceEvent
 said_at text None = []
 said_at text (Some place) = event_at text place ∷ []

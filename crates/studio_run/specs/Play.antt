@@ -8,9 +8,9 @@ use Rattle.studio_run.specs.Buffer.{BreaksOff}
 use Rattle.studio_run.specs.Trace.{BeginsWithEvents, trace_events}
 use Rattle.studio_run.specs.Listing.{listing_text}
 use Rattle.studio_run.specs.StudioReport.{IsReport}
-use Rattle.studio_run.specs.declared.trace.TraceFault.{TraceFault}
-use Rattle.studio_run.specs.declared.trace.TraceKind.{TraceKind}
-use Rattle.studio_run.specs.declared.trace.TraceKind.TheVariants.{TooLong, Cut, Word, Fields, Number, Hex, TooMany, Memory as NoMemory}
+use Rattle.studio_run.specs.declared.trace.fault.TraceFault.{TraceFault}
+use Rattle.studio_run.specs.declared.trace.fault.TraceFaultKind.{TraceFaultKind}
+use Rattle.studio_run.specs.declared.trace.fault.TraceFaultKind.TheVariants.{TooLong, Cut, Word, Fields, Number, Hex, TooMany, Memory as NoMemory}
 use Rattle.studio_run.specs.declared.player.PlayFault.{PlayFault}
 use Rattle.studio_run.specs.declared.player.PlayFault.TheVariants.{Read, Memory, Trace, Run, Write}
 use Rattle.studio_run.specs.declared.player.TextKind.{TextKind}
@@ -47,15 +47,15 @@ StopsAt studio trace (Run fault) = (events : List TraceEvent) × (trace_events t
 StopsAt studio trace Write = ⊥
 
 -- the fault of a trace, by its kind
-abbrev pub stop_for : TraceKind → TraceFault → PlayFault
-stop_for TooLong fault = Trace fault
-stop_for Cut fault = Trace fault
-stop_for Word fault = Trace fault
-stop_for Fields fault = Trace fault
-stop_for Number fault = Trace fault
-stop_for Hex fault = Trace fault
-stop_for TooMany fault = Trace fault
-stop_for NoMemory fault = Memory
+abbrev pub play_fault : TraceFaultKind → TraceFault → PlayFault
+play_fault TooLong fault = Trace fault
+play_fault Cut fault = Trace fault
+play_fault Word fault = Trace fault
+play_fault Fields fault = Trace fault
+play_fault Number fault = Trace fault
+play_fault Hex fault = Trace fault
+play_fault TooMany fault = Trace fault
+play_fault NoMemory fault = Memory
 
 -- the trace's events run, and their text was written
 pub record WritesText (studio : Studio) (IsText : Studio → List TraceEvent → List ℕ → Type 0) (trace : List ℕ) (written written_then : Option (List ℕ)) : Type 0 where

@@ -2,7 +2,7 @@
 use Rattle.std.specs.Prelude.{List, take}
 use Rattle.studio_session.specs.Event.{TraceEvent}
 use Rattle.studio_run.specs.Trace.{GivesEvents}
-use Rattle.studio_run.specs.declared.reader.TraceReader.{TraceReader}
+use Rattle.studio_run.specs.declared.trace.reader.TraceReader.{TraceReader}
 
 -- the text before a reader's place gives these events, and no fault, whatever follows it
 abbrev pub HasRead : TraceReader → List TraceEvent → Type 0

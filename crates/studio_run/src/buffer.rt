@@ -4,7 +4,7 @@ ghost use Rattle.std.specs.Io.KnownBytes.{Appends};
 ghost use Rattle.hex.specs.Hex.{encode_lower};
 ghost use Rattle.studio_run.specs.Buffer.{PassesOn, BreaksOff};
 
-use crate::device::{WriteFault, write_text};
+use crate::text_io::{WriteFault, write_text};
 use itoa::Integer;
 use std::alloc::{AllocError, Global};
 use std::io::Write;

@@ -4,16 +4,16 @@ ghost use Rattle.std.specs.Io.KnownBytes.{Consumes, IsAtEnd};
 ghost use Rattle.studio_session.specs.Fault.{session_fault_of};
 ghost use Rattle.studio_session.specs.Play.{HasPathsBy, IsRunnableBy};
 ghost use Rattle.studio_run.specs.Trace.{trace_events};
-ghost use Rattle.studio_run.specs.Play.{FailsOf, FailsOn, FailsWriting, IsListing, IsTextOf, StopsAt, StopsReading, WritesEvents, WritesText, WritesTextOf, stop_for};
+ghost use Rattle.studio_run.specs.Play.{FailsOf, FailsOn, FailsWriting, IsListing, IsTextOf, StopsAt, StopsReading, WritesEvents, WritesText, WritesTextOf, play_fault};
 ghost use Rattle.studio_run.specs.StudioReport.{IsReport};
 ghost use Rattle.studio_run.specs.declared.player.PlayFault.TheVariants as fault;
 
 use crate::buffer::TextBuffer;
-use crate::device::{ReadFault, WriteFault, read_text};
-use crate::studio_listing::write_whole_listing;
-use crate::studio_report::write_whole_report;
-use crate::trace::{TraceFault, TraceKind};
-use crate::traced_events::TracedEvents;
+use crate::outputs::listing::write_whole_listing;
+use crate::outputs::report::write_whole_report;
+use crate::text_io::{ReadFault, WriteFault, read_text};
+use crate::trace::fault::{TraceFault, TraceFaultKind};
+use crate::trace::traced_events::TracedEvents;
 use std::alloc::{AllocError, Global};
 use std::io::{Read, Write};
 use studio_config::StudioSpec;
@@ -119,7 +119,7 @@ pub fn read_all<R: Read>(alloc: Global, reader: &mut R) -> Result<Vec<u8>, PlayF
         Err(ReadFault::Memory) => Err(PlayFault::Memory),
         Err(ReadFault::TooMany) => Err(PlayFault::Trace(TraceFault {
             line: 0,
-            kind: TraceKind::TooMany,
+            kind: TraceFaultKind::TooMany,
         })),
     }
 }
@@ -154,7 +154,7 @@ pub fn runnable_events<'a>(
 {
     let events = match TracedEvents::new(alloc, trace) {
         Ok(events) => events,
-        Err(fault) => return Err(stop_for(fault)),
+        Err(fault) => return Err(play_fault(fault)),
     };
     match first_fault(spec, &events) {
         None => Ok(events),
@@ -163,11 +163,11 @@ pub fn runnable_events<'a>(
 }
 
 /// The fault of a trace, or want of memory.
-fn stop_for(fault: TraceFault) -> PlayFault
-    ensures { result ≡ stop_for fault.kind fault }
+fn play_fault(fault: TraceFault) -> PlayFault
+    ensures { result ≡ play_fault fault.kind fault }
 {
     match fault.kind {
-        TraceKind::Memory => PlayFault::Memory,
+        TraceFaultKind::Memory => PlayFault::Memory,
         _ => PlayFault::Trace(fault),
     }
 }

@@ -13,18 +13,18 @@ use Rattle.path_merge.proofs.JoinLemmas.{alike-refl}
 use Rattle.lane_align.proofs.MarkListLemmas.{both_left}
 use Rattle.path_merge.specs.Steps.{Drains, is_slot_mark}
 use Rattle.path_merge.specs.Goal.{CanReach, Gives, HasGivenAll, MovesTo}
-use Rattle.studio_session.proofs.WayLemmas.{in_time, next_in_whole, went_on}
+use Rattle.studio_session.proofs.ReadingStepsLemmas.{in_time, next_in_whole, went_on}
 use Rattle.path_merge.proofs.HistoryLemmas.{is_well_timed_from-append}
 use Rattle.rtp_stream.specs.declared.event.Event.TheVariants.{Tick}
 use Rattle.path_merge.specs.MergeState.{MergeState}
 use Rattle.path_merge.specs.Merge.{HasHistory}
-use Rattle.studio_session.specs.Way.{IsOnWay, WentOn, on_way_after}
+use Rattle.studio_session.specs.ReadingSteps.{IsOnWay, WentOn, on_way_after}
 use Rattle.studio_session.specs.Cursor.{IsRunnable, CursorState, HasPulled, IsOnTheWay, goal_of, next_of}
 use Rattle.std.proofs.lemmas.Bool.Decides.{nat_tests}
 use Rattle.rtp_stream.specs.History.{is_well_timed}
 use Rattle.studio_session.specs.Event.{TraceEvent, Arrival, Reading, Closing, outline_of}
-use Rattle.studio_session.specs.declared.event.Outline.{Outline}
-use Rattle.studio_session.specs.declared.event.Outline.TheVariants.{Arrive as ArriveOf, Tick as TickOf, Close as CloseOf}
+use Rattle.studio_session.specs.declared.event.EventHeader.{EventHeader}
+use Rattle.studio_session.specs.declared.event.EventHeader.TheVariants.{Arrive as ArriveOf, Tick as TickOf, Close as CloseOf}
 use Rattle.rtp_stream.specs.Reception.{reception_of}
 use Rattle.studio_session.specs.Session.{Other, Datagram, step_of, event_in, stream_history}
 use Rattle.studio_session.specs.Counts.{AreTallies, HasCounted}
@@ -177,17 +177,17 @@ none_due stream number open_at events cursor k run pulled none all =
     sym (ap (take 1) (drop_all k (marks_of stream open_at h) (omega (arith, whole))))
 
 -- an event by its outline
-abbrev stream_in : Outline → ℕ
+abbrev stream_in : EventHeader → ℕ
 stream_in (ArriveOf s p) = s
 stream_in (TickOf u) = 0
 stream_in CloseOf = 0
 
-abbrev path_in : Outline → ℕ
+abbrev path_in : EventHeader → ℕ
 path_in (ArriveOf s p) = p
 path_in (TickOf u) = 0
 path_in CloseOf = 0
 
-abbrev reading_in : Outline → ℤ → ℤ
+abbrev reading_in : EventHeader → ℤ → ℤ
 reading_in (ArriveOf s p) d = d
 reading_in (TickOf u) d = u
 reading_in CloseOf d = d

@@ -11,7 +11,7 @@ use Rattle.mix_packets.specs.OutSpec.{IsOutput}
 use Rattle.studio_config.specs.Studio.{Studio}
 use Rattle.studio_session.specs.Play.{HasPathsBy, IsRunnableBy}
 use Rattle.studio_session.specs.Event.{TraceEvent, Arrival, Reading, Closing, outline_of}
-use Rattle.studio_session.specs.declared.event.Outline.{Outline}
+use Rattle.studio_session.specs.declared.event.EventHeader.{EventHeader}
 use Rattle.studio_session.specs.declared.fault.StudioFault.{StudioFault}
 use Rattle.studio_session.specs.declared.fault.StudioFault.TheVariants.{Clock, Memory, Path as NoPath, Stream as NoStream}
 use Rattle.rtp_stream.specs.declared.reception.Reception.{Reception}
@@ -102,7 +102,7 @@ drop_here (e ∷ events) zero event at = ap (λ x. x ∷ events) (here e event a
 drop_here (e ∷ events) (suc place) event at = drop_here events place event at
 
 -- an event with no fault is passed
-pub fault_past : (streams : List Stream) (place : ℕ) (time : ℤ) (closed : Bool) (events : List TraceEvent) (event : TraceEvent) (outline : Outline) → slice_get events place ≡ Some event → outline ≡ outline_of event
+pub fault_past : (streams : List Stream) (place : ℕ) (time : ℤ) (closed : Bool) (events : List TraceEvent) (event : TraceEvent) (outline : EventHeader) → slice_get events place ≡ Some event → outline ≡ outline_of event
     → outline_fault streams place time closed outline ≡ None
     → session_fault_from streams place time closed (drop place events) ≡ session_fault_from streams (place + 1) (time_past time outline) (closed_past closed outline) (drop (place + 1) events)
 fault_past streams place time closed events event outline at is none =
@@ -117,7 +117,7 @@ pub fault_here : (streams : List Stream) (place : ℕ) (time : ℤ) (closed : Bo
 fault_here streams place time closed event events fault is = ap (λ o. or_later o (session_fault_from streams (suc place) (time_after time event) (closed_after closed event) events)) is
 
 -- an event at fault is the first
-pub fault_found : (streams : List Stream) (place : ℕ) (time : ℤ) (closed : Bool) (events : List TraceEvent) (event : TraceEvent) (outline : Outline) (fault : StudioFault) → slice_get events place ≡ Some event → outline ≡ outline_of event
+pub fault_found : (streams : List Stream) (place : ℕ) (time : ℤ) (closed : Bool) (events : List TraceEvent) (event : TraceEvent) (outline : EventHeader) (fault : StudioFault) → slice_get events place ≡ Some event → outline ≡ outline_of event
     → outline_fault streams place time closed outline ≡ Some fault → session_fault_from streams place time closed (drop place events) ≡ Some fault
 fault_found streams place time closed events event outline fault at is found =
     ap (session_fault_from streams place time closed) (drop_here events place event at)

@@ -14,7 +14,7 @@ use Rattle.studio_mix.specs.Blocks.{AreFirstBlocks}
 use Rattle.studio_mix.specs.Feed.{Feed, AreLonger, IsLonger}
 use Rattle.studio_mix.specs.Mixer.{MixerState}
 use Rattle.studio_mix.proofs.LawLemmas.{ready_longer, ready_covered, datagram_longer}
-use Rattle.studio_session.specs.Handed.{AreHanded, HaveTaken}
+use Rattle.studio_session.specs.PushedEvents.{AreHanded, HaveTaken}
 use Rattle.studio_session.specs.Play.{HasPlayed, IsGiven, IsRunnableBy, feeds_of, stream_marks}
 use Rattle.studio_session.proofs.PlayLemmas.{stream_at}
 use Rattle.studio_session.proofs.SessionLemmas.{length_whole, whole_at}
@@ -22,7 +22,7 @@ use Rattle.rtp_stream.specs.declared.stream_spec.Stream.{Stream}
 use Rattle.studio_session.specs.Event.{TraceEvent}
 use Rattle.studio_session.specs.Session.{event_in, step_of, stream_history}
 use Rattle.studio_session.specs.Counts.{AreTallies}
-use Rattle.studio_session.specs.Way.{IsOnWay}
+use Rattle.studio_session.specs.ReadingSteps.{IsOnWay}
 use Rattle.studio_session.specs.Cursor.{CursorState, HasPulled, IsRunnable}
 
 -- what was taken of a list was taken of a longer one

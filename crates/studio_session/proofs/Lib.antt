@@ -1,5 +1,5 @@
 pub mod BlocksLemmas
-pub mod WayLemmas
+pub mod ReadingStepsLemmas
 pub mod CountsLemmas
 pub mod CursorLemmas
 pub mod PlayLemmas

@@ -19,7 +19,7 @@ use Rattle.studio_mix.proofs.BlockLemmas.{feed_at}
 use Rattle.studio_session.proofs.PlayLemmas.{stream_at}
 use Rattle.studio_session.specs.Play.{HasPlayed, SessionState}
 use Rattle.studio_session.specs.Report.{ArePulled, HasCounts, HasPulledAll, merge_tally_of}
-use Rattle.studio_session.specs.Way.{IsOnWay}
+use Rattle.studio_session.specs.ReadingSteps.{IsOnWay}
 
 -- none after the first k is none more
 pub all_taken : {X : Type 0} (k : ℕ) (xs : List X) → [] ≡ take 1 (drop k xs) → take k xs ≡ xs

@@ -15,7 +15,7 @@ use Rattle.lane_align.specs.Lane.{natural}
 use Rattle.studio_session.specs.Session.{stream_history}
 use Rattle.rtp_stream.specs.PathCounts.{PathTally}
 use Rattle.studio_session.specs.Counts.{AreTallies}
-use Rattle.studio_session.specs.Way.{IsOnWay}
+use Rattle.studio_session.specs.ReadingSteps.{IsOnWay}
 
 pub record CursorState : Type 0 where
   pub spec : Stream

@@ -2,8 +2,8 @@
 use Rattle.std.specs.Prelude.{ℕ, ℤ, List}
 use Rattle.studio_session.specs.declared.event.StudioEvent.{StudioEvent}
 use Rattle.studio_session.specs.declared.event.StudioEvent.TheVariants.{Arrive, Tick, Close}
-use Rattle.studio_session.specs.declared.event.Outline.{Outline}
-use Rattle.studio_session.specs.declared.event.Outline.TheVariants.{Arrive as ArriveOf, Tick as TickOf, Close as CloseOf}
+use Rattle.studio_session.specs.declared.event.EventHeader.{EventHeader}
+use Rattle.studio_session.specs.declared.event.EventHeader.TheVariants.{Arrive as ArriveOf, Tick as TickOf, Close as CloseOf}
 
 -- what an event says: an arrival's stream, path and octets, a reading of the clock, or the close
 pub data TraceEvent : Type 0 where
@@ -18,7 +18,7 @@ said_by (Tick time) = Reading time
 said_by Close = Closing
 
 -- what happened, without the octets
-abbrev pub outline_of : TraceEvent → Outline
+abbrev pub outline_of : TraceEvent → EventHeader
 outline_of (Arrival stream path octets) = ArriveOf stream path
 outline_of (Reading time) = TickOf time
 outline_of Closing = CloseOf

@@ -4,8 +4,8 @@ use Rattle.rtp_stream.specs.declared.stream_spec.Stream.{Stream}
 use Rattle.rtp_stream.specs.History.{is_tick_in_order}
 use Rattle.studio_config.specs.Studio.{Studio}
 use Rattle.studio_session.specs.Event.{TraceEvent, outline_of}
-use Rattle.studio_session.specs.declared.event.Outline.{Outline}
-use Rattle.studio_session.specs.declared.event.Outline.TheVariants.{Arrive, Tick, Close}
+use Rattle.studio_session.specs.declared.event.EventHeader.{EventHeader}
+use Rattle.studio_session.specs.declared.event.EventHeader.TheVariants.{Arrive, Tick, Close}
 use Rattle.studio_session.specs.declared.fault.StudioFault.{StudioFault}
 use Rattle.studio_session.specs.declared.fault.StudioFault.TheVariants.{Clock, Stream as NoStream, Path as NoPath, Memory}
 
@@ -19,17 +19,17 @@ clock_fault place true = None
 clock_fault place false = Some (Clock place)
 
 -- what is wrong with the event at a place, after which time and close
-abbrev pub outline_fault : List Stream → ℕ → ℤ → Bool → Outline → Option StudioFault
+abbrev pub outline_fault : List Stream → ℕ → ℤ → Bool → EventHeader → Option StudioFault
 outline_fault streams place time closed (Arrive stream path) = path_fault place (slice_get streams stream) path
 outline_fault streams place time closed (Tick u) = clock_fault place (is_tick_in_order time closed u)
 outline_fault streams place time closed Close = None
 
-abbrev pub time_past : ℤ → Outline → ℤ
+abbrev pub time_past : ℤ → EventHeader → ℤ
 time_past time (Arrive stream path) = time
 time_past time (Tick u) = u
 time_past time Close = time
 
-abbrev pub closed_past : Bool → Outline → Bool
+abbrev pub closed_past : Bool → EventHeader → Bool
 closed_past closed (Arrive stream path) = closed
 closed_past closed (Tick u) = closed
 closed_past closed Close = true

@@ -2,10 +2,10 @@ pub mod Event
 pub mod Session
 pub mod Counts
 pub mod Fault
-pub mod Way
+pub mod ReadingSteps
 pub mod Cursor
-pub mod Handed
-pub mod Receipt
+pub mod PushedEvents
+pub mod ArriveOutcome
 pub mod Play
 pub mod Run
 pub mod Report

@@ -14,11 +14,11 @@ ghost use Rattle.rtp_stream.specs.PathCounts.{path_tally_of, tallies_of};
 ghost use Rattle.studio_session.specs.Counts.{HasCounted};
 ghost use Rattle.studio_session.specs.Cursor.{HasPulled, HaveFew, IsReadyFor, IsSameCursor, IsRunnable, IsOnTheWay, next_of, way_left, events_left};
 ghost use Rattle.studio_session.specs.Cursor as goal;
-ghost use Rattle.studio_session.specs.Handed.{IsHanded};
-ghost use Rattle.studio_session.specs.Receipt.{receipt_in, receipt_of};
+ghost use Rattle.studio_session.specs.PushedEvents.{IsHanded};
+ghost use Rattle.studio_session.specs.ArriveOutcome.{receipt_in, receipt_of};
 
-use crate::event::Outline;
-use crate::receipt::Receipt;
+use crate::event::EventHeader;
+use crate::receipt::ArriveOutcome;
 use crate::source::{DatagramRoom, EventSource};
 use path_merge::{Counts, Goal, MarkRef, Merge, Path, SlotWindow, StreamSpec};
 use rtp_stream::{PathCounts, ReceptionRef, receive_ref};
@@ -27,8 +27,8 @@ use std::marker::Model;
 
 /// A stream of a run.
 ///
-/// `take_event` goes on in the events; where they come one by one, and not from a source, `hand_datagram`,
-/// `hand_over`, `hand_reading` and `hand_close` take the next. What an event gives is lent mark by mark: by
+/// `take_event` goes on in the events; where they come one by one, and not from a source, `push_datagram`,
+/// `skip`, `push_reading` and `push_close` take the next. What an event gives is lent mark by mark: by
 /// `mark` until `pass` answers that no more may follow.
 #[derive(Drop)]
 pub struct Cursor {
@@ -213,20 +213,20 @@ impl Cursor {
             return;
         }
         match source.outline(self.place) {
-            Outline::Arrive { stream, path } => {
+            EventHeader::Arrive { stream, path } => {
                 if stream == self.number {
                     let _ = self.take_datagram(path, source.octets(self.place, room));
                 } else {
                     self.pass_over();
                 }
             }
-            Outline::Tick(now) => self.set_out(now),
-            Outline::Close => self.close(),
+            EventHeader::Tick(now) => self.set_out(now),
+            EventHeader::Close => self.close(),
         }
     }
 
     /// Takes a datagram of the stream, and answers what became of it.
-    fn take_datagram(&mut self, path: Path, octets: &[u8]) -> Receipt
+    fn take_datagram(&mut self, path: Path, octets: &[u8]) -> ArriveOutcome
         requires settled { self.old.reading ≡ None }
         requires place { self.old.place < usize.MAX }
         requires path { path < self.old.spec.paths }
@@ -249,7 +249,7 @@ impl Cursor {
     }
 
     /// Takes a datagram of the stream that comes after all events so far, and answers what became of it.
-    pub fn hand_datagram(&mut self, path: Path, octets: &[u8]) -> Receipt
+    pub fn push_datagram(&mut self, path: Path, octets: &[u8]) -> ArriveOutcome
         requires settled { self.old.reading ≡ None }
         requires place { self.old.place < usize.MAX }
         requires path { path < self.old.spec.paths }
@@ -264,7 +264,7 @@ impl Cursor {
     }
 
     /// Passes over another stream's datagram that comes after all events so far.
-    pub fn hand_over(&mut self)
+    pub fn skip(&mut self)
         requires place { self.old.place < usize.MAX }
         ensures place { self.new.place ≡ self.old.place + 1 }
         ensures handed { (number : ℕ) (event : TraceEvent) → ((stream : Stream) → step_of stream number event ≡ Other)
@@ -275,7 +275,7 @@ impl Cursor {
     }
 
     /// Sets out for a reading of the clock that comes after all events so far.
-    pub fn hand_reading(&mut self, now: i64)
+    pub fn push_reading(&mut self, now: i64)
         requires settled { self.old.reading ≡ None }
         requires place { self.old.place < usize.MAX }
         ensures place { self.new.place ≡ self.old.place + 1 }
@@ -285,7 +285,7 @@ impl Cursor {
     }
 
     /// Takes a close that comes after all events so far.
-    pub fn hand_close(&mut self)
+    pub fn push_close(&mut self)
         requires settled { self.old.reading ≡ None }
         requires place { self.old.place < usize.MAX }
         ensures place { self.new.place ≡ self.old.place + 1 }
@@ -340,7 +340,11 @@ fn count_on(paths: &mut [PathCounts; 4], path: Path, reception: ReceptionRef<'_>
 }
 
 /// Offers the packet of a datagram to the merge, if it is one.
-fn offer_received(merge: &mut Merge<SlotWindow>, path: Path, reception: ReceptionRef<'_>) -> Receipt
+fn offer_received(
+    merge: &mut Merge<SlotWindow>,
+    path: Path,
+    reception: ReceptionRef<'_>,
+) -> ArriveOutcome
     requires path { path < merge.old.spec.paths }
     requires fits { FitsReception merge.old.spec (reception_from reception) }
     ensures spec { merge.new.spec ≡ merge.old.spec }
@@ -352,10 +356,10 @@ fn offer_received(merge: &mut Merge<SlotWindow>, path: Path, reception: Receptio
         → result ≡ receipt_in stream open_at events path (reception_from reception.entry) }
 {
     match reception {
-        ReceptionRef::Sent(packet) => Receipt::Offered(merge.offer_ref(path, packet)),
-        ReceptionRef::Bad => Receipt::Bad,
-        ReceptionRef::WrongType => Receipt::WrongType,
-        ReceptionRef::WrongLength => Receipt::WrongLength,
+        ReceptionRef::Sent(packet) => ArriveOutcome::Offered(merge.offer_ref(path, packet)),
+        ReceptionRef::Bad => ArriveOutcome::Bad,
+        ReceptionRef::WrongType => ArriveOutcome::WrongType,
+        ReceptionRef::WrongLength => ArriveOutcome::WrongLength,
     }
 }
 
@@ -381,12 +385,12 @@ fn goal_of(reading: Option<i64>) -> Goal
 }
 
 /// Whether an event is another stream's datagram.
-fn is_of_another(event: Outline, number: u8) -> bool
+fn is_of_another(event: EventHeader, number: u8) -> bool
     ensures { result ≡ true → (stream : Stream) (said : TraceEvent) → event ≡ outline_of said → step_of stream number said ≡ Other }
 {
     match event {
-        Outline::Arrive { stream, .. } => stream != number,
-        Outline::Tick(_) => false,
-        Outline::Close => false,
+        EventHeader::Arrive { stream, .. } => stream != number,
+        EventHeader::Tick(_) => false,
+        EventHeader::Close => false,
     }
 }

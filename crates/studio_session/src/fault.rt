@@ -8,7 +8,7 @@ ghost use Rattle.studio_session.specs.Fault as spec;
 ghost use Rattle.studio_session.specs.Fault.{closed_past, outline_fault, session_fault_from, session_fault_of, time_past};
 ghost use Rattle.studio_session.specs.Play.{HasPathsBy, IsRunnableBy};
 
-use crate::event::Outline;
+use crate::event::EventHeader;
 use crate::source::EventSource;
 use mix_packets::OutSpec;
 use path_merge::{Path, StreamSpec};
@@ -96,23 +96,23 @@ fn event_fault(
     place: usize,
     time: i64,
     closed: bool,
-    event: &Outline,
+    event: &EventHeader,
 ) -> Option<StudioFault>
     ensures { result ≡ outline_fault streams.now place time closed event.now }
 {
     match event {
-        Outline::Arrive { stream, path } => match streams.get(*stream as usize) {
+        EventHeader::Arrive { stream, path } => match streams.get(*stream as usize) {
             Some(stream) => path_fault(place, stream, *path),
             None => Some(StudioFault::Stream(place)),
         },
-        Outline::Tick(now) => {
+        EventHeader::Tick(now) => {
             if in_order(time, closed, *now) {
                 None
             } else {
                 Some(StudioFault::Clock(place))
             }
         }
-        Outline::Close => None,
+        EventHeader::Close => None,
     }
 }
 
@@ -134,20 +134,20 @@ fn in_order(time: i64, closed: bool, now: i64) -> bool
     path_merge::clock_fault(time, closed, now).is_none()
 }
 
-fn time_after(time: i64, event: &Outline) -> i64
+fn time_after(time: i64, event: &EventHeader) -> i64
     ensures { result ≡ time_past time event.now }
 {
     match event {
-        Outline::Tick(now) => *now,
+        EventHeader::Tick(now) => *now,
         _ => time,
     }
 }
 
-fn closed_after(closed: bool, event: &Outline) -> bool
+fn closed_after(closed: bool, event: &EventHeader) -> bool
     ensures { result ≡ closed_past closed event.now }
 {
     match event {
-        Outline::Close => true,
+        EventHeader::Close => true,
         _ => closed,
     }
 }

@@ -3,7 +3,7 @@ use path_merge::Fate;
 
 /// What became of a datagram: the merge's answer to its packet, or why it is none of the stream's.
 #[derive(Clone, Copy, Debug, PartialEq, Eq)]
-pub enum Receipt {
+pub enum ArriveOutcome {
     /// A packet of the stream, and its fate.
     Offered(Fate),
     /// No RTP packet.

@@ -11,9 +11,9 @@ ghost use Rattle.studio_session.specs.Report.{AreCounts, ArePulled};
 ghost use Rattle.studio_session.specs.Play.{AreNew, HasFilled, HasPathsBy, HasPlayed, IsRunnableBy, feeds_of};
 
 use crate::cursor::Cursor;
-use crate::pull::pull;
+use crate::feed_mixer::pull;
 use crate::source::{DatagramRoom, EventSource, MOST_ARRIVAL_OCTETS};
-use crate::tally::all_counts;
+use crate::stream_counts::all_counts;
 use path_merge::StreamSpec;
 use rtp_stream::StreamCounts;
 use std::alloc::{AllocError, Global};

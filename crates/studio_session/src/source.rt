@@ -2,7 +2,7 @@
 ghost use Rattle.std.specs.Prelude.{◌≡◌, ◌<◌, ℕ, List, length, slice_get, Some, map};
 ghost use Rattle.studio_session.specs.Event.{TraceEvent, Arrival, outline_of, said_by};
 
-use crate::event::{Outline, StudioEvent};
+use crate::event::{EventHeader, StudioEvent};
 
 /// The most octets of a datagram that arrives.
 pub const MOST_ARRIVAL_OCTETS: usize = 2048;
@@ -20,7 +20,7 @@ pub trait EventSource {
         ensures { result ≡ length (events self.now) };
 
     /// An event without the octets of its datagram.
-    fn outline(&self, place: usize) -> Outline
+    fn outline(&self, place: usize) -> EventHeader
         requires { place < length (events self.now) }
         ensures { (event : TraceEvent) → slice_get (events self.now) place ≡ Some event → result ≡ outline_of event };
 
@@ -43,7 +43,7 @@ impl<'a> EventSource for EventList<'a> {
         self.events.len()
     }
 
-    fn outline(&self, place: usize) -> Outline {
+    fn outline(&self, place: usize) -> EventHeader {
         outline_at(&self.events[place])
     }
 
@@ -53,16 +53,16 @@ impl<'a> EventSource for EventList<'a> {
 }
 
 /// An event without the octets of its datagram.
-fn outline_at(event: &StudioEvent) -> Outline
+fn outline_at(event: &StudioEvent) -> EventHeader
     ensures { result ≡ outline_of (said_by event.now) }
 {
     match event {
-        StudioEvent::Arrive { stream, path, .. } => Outline::Arrive {
+        StudioEvent::Arrive { stream, path, .. } => EventHeader::Arrive {
             stream: *stream,
             path: *path,
         },
-        StudioEvent::Tick(now) => Outline::Tick(*now),
-        StudioEvent::Close => Outline::Close,
+        StudioEvent::Tick(now) => EventHeader::Tick(*now),
+        StudioEvent::Close => EventHeader::Close,
     }
 }
 

@@ -15,8 +15,8 @@ use Rattle.studio_run.specs.Listing.{counts_text_of, datagrams_text}
 use Rattle.studio_run.specs.StudioReport.{HasReported, IsReport, IsReporting}
 use Rattle.studio_run.proofs.StudioReportLemmas.{Gives, first_blocks, report_alone, report_broken, report_unfinished, report_whole, reporting_broken, reporting_more}
 use Rattle.wav_file.specs.File.{WavState}
-use Rattle.wav_file.specs.Recording.{HasBoth, HasRecorded, IsRecording}
-use Rattle.wav_file.specs.Play.{WritesFront}
+use Rattle.wav_file.specs.MixWav.{HasBoth, HasRecorded, IsRecording}
+use Rattle.wav_file.specs.MixRun.{WritesFront}
 
 -- it broke off
 pub front_broken : (a b : Option (List ℕ)) (h xs : List ℕ) → BreaksOff a h b xs → WritesFront a h b xs

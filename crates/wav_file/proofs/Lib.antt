@@ -3,7 +3,7 @@ pub mod HeadLemmas
 pub mod SamplesLemmas
 pub mod SilenceLemmas
 pub mod FrontLemmas
-pub mod ListingLemmas
-pub mod PlayLemmas
-pub mod RecordingLemmas
-pub mod TrackLemmas
+pub mod StreamRunLemmas
+pub mod MixRunLemmas
+pub mod MixWavLemmas
+pub mod StreamTrackLemmas

@@ -1,9 +1,9 @@
 pub mod Samples
 pub mod Head
 pub mod File
-pub mod WavSamples
-pub mod Recording
-pub mod Play
+pub mod MixSamples
+pub mod MixWav
+pub mod MixRun
 pub mod StreamSamples
-pub mod Track
-pub mod StreamListing
+pub mod StreamTrack
+pub mod StreamRun

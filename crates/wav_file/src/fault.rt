@@ -1,7 +1,7 @@
 //! Why a run was not recorded.
 ghost use Rattle.std.specs.Prelude.{◌≡◌};
 ghost use Rattle.studio_run.specs.declared.player.PlayFault.TheVariants as play;
-ghost use Rattle.wav_file.specs.declared.fault.RecordFault.TheVariants as fault;
+ghost use Rattle.wav_file.specs.declared.fault.WavRunFault.TheVariants as fault;
 ghost use Rattle.wav_file.specs.declared.fault.FileFault.TheVariants as file;
 
 use crate::writer::WavFault;
@@ -14,7 +14,7 @@ use thiserror::Error;
 pub enum FileFault {
     /// It could not be made.
     #[error("not made")]
-    Unmade,
+    NotCreated,
     /// A write failed, or took no octet, or it has too many.
     #[error("write")]
     Write,
@@ -22,7 +22,7 @@ pub enum FileFault {
 
 /// Why no file is written of a stream.
 #[derive(Clone, Copy, Debug, PartialEq, Eq, Error)]
-pub enum StreamFault {
+pub enum StreamWavFault {
     /// The studio has no stream of this number.
     #[error("no stream")]
     Unknown,
@@ -33,62 +33,62 @@ pub enum StreamFault {
 
 /// Why a report or a listing, and a WAV file, were not written whole.
 #[derive(Debug, Drop, Error)]
-pub enum RecordFault {
+pub enum WavRunFault {
     /// The report's or the listing's fault.
     #[error("{0}")]
     Play(PlayFault),
     /// That of the stream that a file was to be written of.
     #[error("{0}")]
-    Stream(StreamFault),
+    Stream(StreamWavFault),
     /// The file's.
     #[error("{0}")]
     File(FileFault),
 }
 
-impl From<PlayFault> for RecordFault {
+impl From<PlayFault> for WavRunFault {
     ghost from_gives = { λ from to. to ≡ fault.Play from };
 
-    fn from(fault: PlayFault) -> RecordFault {
-        RecordFault::Play(fault)
+    fn from(fault: PlayFault) -> WavRunFault {
+        WavRunFault::Play(fault)
     }
 }
 
-impl From<AllocError> for RecordFault {
+impl From<AllocError> for WavRunFault {
     ghost from_gives = { λ _ to. to ≡ fault.Play play.Memory };
 
-    fn from(_error: AllocError) -> RecordFault {
-        RecordFault::Play(PlayFault::Memory)
+    fn from(_error: AllocError) -> WavRunFault {
+        WavRunFault::Play(PlayFault::Memory)
     }
 }
 
-impl From<WriteFault> for RecordFault {
+impl From<WriteFault> for WavRunFault {
     ghost from_gives = { λ _ to. to ≡ fault.Play play.Write };
 
-    fn from(_fault: WriteFault) -> RecordFault {
-        RecordFault::Play(PlayFault::Write)
+    fn from(_fault: WriteFault) -> WavRunFault {
+        WavRunFault::Play(PlayFault::Write)
     }
 }
 
-impl From<WavFault> for RecordFault {
+impl From<WavFault> for WavRunFault {
     ghost from_gives = { λ _ to. to ≡ fault.File file.Write };
 
-    fn from(_fault: WavFault) -> RecordFault {
-        RecordFault::File(FileFault::Write)
+    fn from(_fault: WavFault) -> WavRunFault {
+        WavRunFault::File(FileFault::Write)
     }
 }
 
-impl From<FileFault> for RecordFault {
+impl From<FileFault> for WavRunFault {
     ghost from_gives = { λ from to. to ≡ fault.File from };
 
-    fn from(fault: FileFault) -> RecordFault {
-        RecordFault::File(fault)
+    fn from(fault: FileFault) -> WavRunFault {
+        WavRunFault::File(fault)
     }
 }
 
-impl From<StreamFault> for RecordFault {
+impl From<StreamWavFault> for WavRunFault {
     ghost from_gives = { λ from to. to ≡ fault.Stream from };
 
-    fn from(fault: StreamFault) -> RecordFault {
-        RecordFault::Stream(fault)
+    fn from(fault: StreamWavFault) -> WavRunFault {
+        WavRunFault::Stream(fault)
     }
 }

@@ -6,11 +6,11 @@ use crate::fault::FileFault;
 use crate::overwrite::Overwrite;
 
 /// Makes a file.
-pub trait WavFiles {
+pub trait CreateFile {
     /// What is written.
     type File: Overwrite + Drop;
 
     /// A file that holds nothing.
-    fn make(&self) -> Result<Self::File, FileFault>
+    fn create(&self) -> Result<Self::File, FileFault>
         ensures empty { IfOk result (λ file. Holds (Self.File.Write.contents file) []) };
 }

@@ -7,19 +7,19 @@ use crate::header::WavFormat;
 use arrayvec::ArrayVec;
 
 /// The octets of a head.
-type Head = ArrayVec<u8, 80>;
+type Header = ArrayVec<u8, 80>;
 
 /// The head of a file whose data has so many octets.
-pub(crate) fn head_of(format: WavFormat, count: u64) -> Head
+pub(crate) fn header_octets(format: WavFormat, count: u64) -> Header
     requires { count < 2 ^ 63 }
     ensures head { result.items ≡ head_octets format count }
     ensures length { array_vec_len result ≡ 80 }
 {
-    let mut head = Head::new();
+    let mut head = Header::new();
     push(&mut head, if is_long(count) { b"RF64" } else { b"RIFF" });
     push_size(&mut head, count, riff_size(count));
     push(&mut head, b"WAVE");
-    push_room(&mut head, format, count);
+    push_ds64_or_junk(&mut head, format, count);
     push_format(&mut head, format);
     push(&mut head, b"data");
     push_size(&mut head, count, count);
@@ -52,7 +52,7 @@ fn frames_in(format: WavFormat, count: u64) -> u64
 }
 
 /// Adds octets.
-fn push(head: &mut Head, octets: &[u8])
+fn push(head: &mut Header, octets: &[u8])
     requires { array_vec_len head.old + length octets.now ≤ 80 }
     ensures items { head.new.items ≡ head.old.items ++ octets.now }
     ensures length { array_vec_len head.new ≡ array_vec_len head.old + length octets.now }
@@ -63,7 +63,7 @@ fn push(head: &mut Head, octets: &[u8])
 }
 
 /// Adds a size of 32 bits.
-fn push_size(head: &mut Head, count: u64, size: u64)
+fn push_size(head: &mut Header, count: u64, size: u64)
     requires room { array_vec_len head.old + 4 ≤ 80 }
     requires count { count < 2 ^ 63 }
     requires size { size ≤ riff_size count }
@@ -79,7 +79,7 @@ fn push_size(head: &mut Head, count: u64, size: u64)
 }
 
 /// Adds the chunk that keeps room for the sizes of a long file, and has them there.
-fn push_room(head: &mut Head, format: WavFormat, count: u64)
+fn push_ds64_or_junk(head: &mut Header, format: WavFormat, count: u64)
     requires room { array_vec_len head.old + 36 ≤ 80 }
     requires count { count < 2 ^ 63 }
     ensures items { head.new.items ≡ head.old.items ++ room_octets format count }
@@ -99,7 +99,7 @@ fn push_room(head: &mut Head, format: WavFormat, count: u64)
 }
 
 /// Adds a chunk of this name, with the sizes of a long file and its sampling instants.
-fn push_sizes(head: &mut Head, name: &[u8; 4], all: u64, count: u64, frames: u64)
+fn push_sizes(head: &mut Header, name: &[u8; 4], all: u64, count: u64, frames: u64)
     requires room { array_vec_len head.old + 36 ≤ 80 }
     ensures items { head.new.items ≡ head.old.items ++ room_chunk name.now all count frames }
     ensures length { array_vec_len head.new ≡ array_vec_len head.old + 36 }
@@ -113,7 +113,7 @@ fn push_sizes(head: &mut Head, name: &[u8; 4], all: u64, count: u64, frames: u64
 }
 
 /// Adds the chunk of the format.
-fn push_format(head: &mut Head, format: WavFormat)
+fn push_format(head: &mut Header, format: WavFormat)
     requires { array_vec_len head.old + 24 ≤ 80 }
     ensures items { head.new.items ≡ head.old.items ++ format_octets format }
     ensures length { array_vec_len head.new ≡ array_vec_len head.old + 24 }

@@ -1,12 +1,12 @@
 //! From a trace to its report, with a WAV file beside it.
 ghost use Rattle.std.specs.Prelude.{◌≡◌, IfErr, IfOk};
-ghost use Rattle.wav_file.specs.Play.{FailsRecording, RecordsTextOf};
-ghost use Rattle.wav_file.specs.WavSamples.{output_format};
+ghost use Rattle.wav_file.specs.MixRun.{FailsRecording, RecordsTextOf};
+ghost use Rattle.wav_file.specs.MixSamples.{output_format};
 
-use crate::fault::RecordFault;
-use crate::files::WavFiles;
+use crate::fault::WavRunFault;
+use crate::files::CreateFile;
 use crate::header::WavFormat;
-use crate::recorder::write_recorded;
+use crate::recorder::write_mix_wav;
 use std::alloc::Global;
 use std::io::{Read, Write};
 use studio_config::StudioSpec;
@@ -15,13 +15,13 @@ use studio_session::Session;
 
 /// Reads a trace to its end, writes its report as `play` does, and the samples of its datagrams to a file, which is made
 /// once nothing but a write can fail.
-pub fn play_and_record<R: Read, W: Write, M: WavFiles>(
+pub fn play_to_wav<R: Read, W: Write, M: CreateFile>(
     alloc: Global,
     spec: &StudioSpec,
     reader: &mut R,
     writer: &mut W,
     files: &M,
-) -> Result<M::File, RecordFault>
+) -> Result<M::File, WavRunFault>
     ensures ok { IfOk result (λ file. RecordsTextOf spec.now (R.remaining reader.old) (R.remaining reader.new) (W.contents writer.old) (W.contents writer.new) (M.File.Write.contents file)) }
     ensures fault { IfErr result (FailsRecording spec.now (R.remaining reader.old) (R.remaining reader.new) (W.contents writer.old) (W.contents writer.new)) }
 {
@@ -29,9 +29,9 @@ pub fn play_and_record<R: Read, W: Write, M: WavFiles>(
     let events = runnable_events(alloc, spec, trace.as_slice())?;
     let session = Session::new(alloc, spec)?;
     let mut text = TextBuffer::new(alloc)?;
-    let mut file = files.make()?;
+    let mut file = files.create()?;
     let format = format_of(spec);
-    write_recorded(&mut text, writer, format, &mut file, &events, session)?;
+    write_mix_wav(&mut text, writer, format, &mut file, &events, session)?;
     Ok(file)
 }
 

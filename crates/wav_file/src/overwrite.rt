@@ -14,18 +14,18 @@ pub trait Overwrite: Write {
 
 /// A file, or another writer that seeks, from its beginning. It doesn't tell its octets.
 #[derive(Drop)]
-pub struct OverFile<F> {
+pub struct SeekFile<F> {
     file: F,
 }
 
-impl<F: Write + Seek> OverFile<F> {
+impl<F: Write + Seek> SeekFile<F> {
     /// What is written to a file that is empty.
     pub fn new(file: F) -> Self {
-        OverFile { file }
+        SeekFile { file }
     }
 }
 
-impl<F: Write + Seek> Write for OverFile<F> {
+impl<F: Write + Seek> Write for SeekFile<F> {
     fn write(&mut self, buf: &[u8]) -> io::Result<usize> {
         self.file.write(buf)
     }
@@ -35,7 +35,7 @@ impl<F: Write + Seek> Write for OverFile<F> {
     }
 }
 
-impl<F: Write + Seek> Overwrite for OverFile<F> {
+impl<F: Write + Seek> Overwrite for SeekFile<F> {
     fn overwrite(&mut self, octets: &[u8]) -> io::Result<()> {
         self.file.seek(SeekFrom::Start(0))?;
         self.file.write_all(octets)?;

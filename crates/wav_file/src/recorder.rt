@@ -4,13 +4,13 @@ ghost use Rattle.mix_packets.specs.OutSpec.{datagram_length};
 ghost use Rattle.studio_config.specs.Studio.{Studio};
 ghost use Rattle.studio_session.specs.Cursor.{IsReadyFor};
 ghost use Rattle.studio_session.specs.Play.{HasPlayed, IsRunnableBy};
-ghost use Rattle.wav_file.specs.Recording.{HasBoth, HasRecorded, Records};
+ghost use Rattle.wav_file.specs.MixWav.{HasBoth, HasRecorded, Records};
 ghost use Rattle.studio_session.specs.Run.{AreDatagrams};
 ghost use Rattle.studio_run.specs.Listing.{datagrams_text};
 ghost use Rattle.studio_run.specs.StudioReport.{IsReport};
-ghost use Rattle.wav_file.specs.Play.{IsOfWriters, WritesFront};
+ghost use Rattle.wav_file.specs.MixRun.{IsOfWriters, WritesFront};
 
-use crate::fault::RecordFault;
+use crate::fault::WavRunFault;
 use crate::header::WavFormat;
 use crate::overwrite::Overwrite;
 use crate::writer::WavWriter;
@@ -19,14 +19,14 @@ use studio_run::{TextBuffer, write_counts, write_datagram};
 use studio_session::{EventSource, MOST_OUTPUT_OCTETS, Session};
 
 /// Writes the report of a session before its first event, and its samples to a file that holds nothing.
-pub fn write_recorded<E: EventSource, W: Write, F: Overwrite>(
+pub fn write_mix_wav<E: EventSource, W: Write, F: Overwrite>(
     text: &mut TextBuffer,
     writer: &mut W,
     format: WavFormat,
     file: &mut F,
     source: &E,
     session: Session,
-) -> Result<(), RecordFault>
+) -> Result<(), WavRunFault>
     requires empty { text.old ≡ [] }
     requires short { datagram_length session.mixer.packer.spec ≤ 1452 }
     requires some { 0 < session.mixer.packer.spec.frames }
@@ -44,7 +44,7 @@ pub fn write_recorded<E: EventSource, W: Write, F: Overwrite>(
             Ok(())
         }
         Err(fault) => {
-            let _ = wav.break_off(file);
+            let _ = wav.finish_partial(file);
             Err(fault)
         }
     }
@@ -58,7 +58,7 @@ fn write_both<E: EventSource, W: Write, F: Write>(
     file: &mut F,
     source: &E,
     session: Session,
-) -> Result<(), RecordFault>
+) -> Result<(), WavRunFault>
     requires empty { text.old ≡ [] }
     requires short { datagram_length session.mixer.packer.spec ≤ 1452 }
     requires some { 0 < session.mixer.packer.spec.frames }
@@ -85,7 +85,7 @@ fn record_datagrams<E: EventSource, W: Write, F: Write>(
     file: &mut F,
     source: &E,
     session: &mut Session,
-) -> Result<(), RecordFault>
+) -> Result<(), WavRunFault>
     requires short { datagram_length session.old.mixer.packer.spec ≤ 1452 }
     requires some { 0 < session.old.mixer.packer.spec.frames }
     requires ready { All (IsReadyFor (E.events source.now)) session.old.cursors }

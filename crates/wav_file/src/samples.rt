@@ -5,18 +5,18 @@ ghost use Rattle.wav_file.specs.Samples.{little_16, little_24, little_samples};
 use rtp_wire::{Enc, Payload};
 
 /// The whole samples of a payload, least significant octet first.
-pub(crate) fn swap(enc: Enc, octets: &[u8]) -> Payload
+pub(crate) fn to_little_endian(enc: Enc, octets: &[u8]) -> Payload
     requires { length octets.now ≤ 1440 }
     ensures { result.items ≡ little_samples enc octets.now }
 {
     match enc {
-        Enc::L16 => swap_16(octets),
-        Enc::L24 => swap_24(octets),
+        Enc::L16 => to_little_endian_16(octets),
+        Enc::L24 => to_little_endian_24(octets),
     }
 }
 
 /// Those of 16 bits.
-fn swap_16(octets: &[u8]) -> Payload
+fn to_little_endian_16(octets: &[u8]) -> Payload
     requires { length octets.now ≤ 1440 }
     ensures { result.items ≡ little_16 octets.now }
 {
@@ -29,7 +29,7 @@ fn swap_16(octets: &[u8]) -> Payload
 }
 
 /// Those of 24 bits.
-fn swap_24(octets: &[u8]) -> Payload
+fn to_little_endian_24(octets: &[u8]) -> Payload
     requires { length octets.now ≤ 1440 }
     ensures { result.items ≡ little_24 octets.now }
 {

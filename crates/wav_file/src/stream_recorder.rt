@@ -6,19 +6,19 @@ ghost use Rattle.studio_session.specs.Cursor.{HasPulled, IsReadyFor, IsRunnable,
 ghost use Rattle.studio_session.specs.Play.{stream_marks};
 ghost use Rattle.wav_file.specs.File.{Becomes, Holds, wav_octets};
 ghost use Rattle.wav_file.specs.StreamSamples.{stream_format, stream_samples};
-ghost use Rattle.wav_file.specs.Track.{HasTaken, HasTakenAll, HasTracked};
-ghost use Rattle.wav_file.specs.declared.stream_track.Track.{Track};
+ghost use Rattle.wav_file.specs.StreamTrack.{HasTaken, HasTakenAll, HasTracked};
+ghost use Rattle.wav_file.specs.declared.stream_track.StreamTrack.{StreamTrack};
 
 use crate::header::WavFormat;
 use crate::overwrite::Overwrite;
-use crate::stream_track::Track;
+use crate::stream_track::StreamTrack;
 use crate::writer::{WavFault, WavWriter};
 use std::io::Write;
 use studio_session::{Cursor, EventSource, MOST_ARRIVAL_OCTETS};
 
 /// Writes the file of the samples of all marks of a stream, before whose first event the cursor is, to a file that holds
 /// nothing: packets that are lost, and times between epochs, as silence.
-pub fn write_stream<E: EventSource, F: Overwrite>(
+pub fn write_stream_wav<E: EventSource, F: Overwrite>(
     file: &mut F,
     source: &E,
     cursor: &mut Cursor,
@@ -37,7 +37,7 @@ pub fn write_stream<E: EventSource, F: Overwrite>(
     };
     let wav = WavWriter::begin(format, file)?;
     let frames = spec.frames();
-    let mut track = Track {
+    let mut track = StreamTrack {
         wav,
         frames,
         end: None,
@@ -45,7 +45,7 @@ pub fn write_stream<E: EventSource, F: Overwrite>(
     match add_marks(&mut track, file, source, cursor) {
         Ok(()) => track.wav.finish(file),
         Err(fault) => {
-            let _ = track.wav.break_off(file);
+            let _ = track.wav.finish_partial(file);
             Err(fault)
         }
     }
@@ -53,7 +53,7 @@ pub fn write_stream<E: EventSource, F: Overwrite>(
 
 /// Adds the samples of all marks of a stream.
 fn add_marks<E: EventSource, F: Write>(
-    track: &mut Track,
+    track: &mut StreamTrack,
     file: &mut F,
     source: &E,
     cursor: &mut Cursor,
@@ -73,8 +73,12 @@ fn add_marks<E: EventSource, F: Write>(
 }
 
 /// Adds the samples of the marks of the events that were taken.
-fn add_taken<F: Write>(track: &mut Track, file: &mut F, cursor: &mut Cursor) -> Result<(), WavFault>
-    ensures ok { OnOk result ((stream : Stream) (number : ℕ) (open_at : ℤ) (events : List TraceEvent) (made : Option (List ℕ)) (first : Track)
+fn add_taken<F: Write>(
+    track: &mut StreamTrack,
+    file: &mut F,
+    cursor: &mut Cursor,
+) -> Result<(), WavFault>
+    ensures ok { OnOk result ((stream : Stream) (number : ℕ) (open_at : ℤ) (events : List TraceEvent) (made : Option (List ℕ)) (first : StreamTrack)
         → IsRunnable stream number open_at events → HasTaken stream number open_at events made first cursor.old (F.contents file.old) track.old
         → HasTakenAll stream number open_at events made first cursor.new (F.contents file.new) track.new) }
     ensures settled { OnOk result (cursor.new.reading ≡ None) }

@@ -4,9 +4,9 @@ ghost use Rattle.std.specs.Option.{option_to_list};
 ghost use Rattle.rtp_stream.specs.MarkFacts.{IsTime};
 ghost use Rattle.rtp_stream.specs.MarkRef.{body_from, IsShort};
 ghost use Rattle.lane_align.specs.Lane.{frames_between};
-ghost use Rattle.wav_file.specs.Recording.{HasAdded};
+ghost use Rattle.wav_file.specs.MixWav.{HasAdded};
 ghost use Rattle.wav_file.specs.StreamSamples.{body_samples, gap_samples};
-ghost use Rattle.wav_file.specs.Track.{HasTracked};
+ghost use Rattle.wav_file.specs.StreamTrack.{HasTracked};
 
 use crate::writer::{WavFault, WavWriter};
 use path_merge::{MarkKindRef, MarkRef};
@@ -14,7 +14,7 @@ use std::io::Write;
 
 /// A stream's file while its samples are written.
 #[derive(Drop)]
-pub(crate) struct Track {
+pub(crate) struct StreamTrack {
     pub(crate) wav: WavWriter,
     /// Sampling instants per packet.
     pub(crate) frames: u16,
@@ -22,7 +22,7 @@ pub(crate) struct Track {
     pub(crate) end: Option<i64>,
 }
 
-impl Track {
+impl StreamTrack {
     /// Adds the samples of the next mark, if there is one.
     pub(crate) fn add_next<F: Write>(
         &mut self,

@@ -2,11 +2,11 @@
 ghost use Rattle.std.specs.Prelude.{◌≡◌, ◌<◌, ◌≤◌, Some, None, slice_get, IfErr, IfOk};
 ghost use Rattle.rtp_stream.specs.declared.stream_spec.Stream.{Stream};
 ghost use Rattle.studio_session.specs.Play.{HasPathsBy, IsRunnableBy};
-ghost use Rattle.wav_file.specs.StreamListing.{FailsBoth, FailsListing, IsUnfit, ListsAndRecords, ListsAndRecordsTextOf};
+ghost use Rattle.wav_file.specs.StreamRun.{FailsBoth, FailsListing, IsUnfit, ListsAndRecords, ListsAndRecordsTextOf};
 
-use crate::fault::{RecordFault, StreamFault};
-use crate::files::WavFiles;
-use crate::stream_recorder::write_stream;
+use crate::fault::{StreamWavFault, WavRunFault};
+use crate::files::CreateFile;
+use crate::stream_recorder::write_stream_wav;
 use path_merge::StreamSpec;
 use std::alloc::Global;
 use std::io::{Read, Write};
@@ -19,14 +19,14 @@ const MOST_CHANNELS: u8 = 8;
 
 /// Reads a trace to its end, writes the samples of one stream to a file, and then the listing of all marks as
 /// `list_marks` does. The file is made once nothing but a write can fail.
-pub fn list_and_record<R: Read, W: Write, M: WavFiles>(
+pub fn list_to_wav<R: Read, W: Write, M: CreateFile>(
     alloc: Global,
     spec: &StudioSpec,
     number: u8,
     reader: &mut R,
     writer: &mut W,
     files: &M,
-) -> Result<M::File, RecordFault>
+) -> Result<M::File, WavRunFault>
     ensures ok { IfOk result (λ file. ListsAndRecordsTextOf spec.now number (R.remaining reader.old) (R.remaining reader.new) (W.contents writer.old) (W.contents writer.new) (M.File.Write.contents file)) }
     ensures fault { IfErr result (FailsListing spec.now number (R.remaining reader.old) (R.remaining reader.new) (W.contents writer.old) (W.contents writer.new)) }
 {
@@ -38,19 +38,19 @@ pub fn list_and_record<R: Read, W: Write, M: WavFiles>(
 }
 
 /// The stream of a number, if a file can be written of it.
-fn stream_at(spec: &StudioSpec, number: u8) -> Result<StreamSpec, StreamFault>
+fn stream_at(spec: &StudioSpec, number: u8) -> Result<StreamSpec, StreamWavFault>
     ensures ok { IfOk result (λ stream. slice_get spec.now.streams number ≡ Some stream) }
     ensures fault { IfErr result (IsUnfit spec.now number) }
 {
     match spec.streams().get(usize::from(number)) {
-        None => Err(StreamFault::Unknown),
-        Some(stream) if stream.channels() > MOST_CHANNELS => Err(StreamFault::Channels),
+        None => Err(StreamWavFault::Unknown),
+        Some(stream) if stream.channels() > MOST_CHANNELS => Err(StreamWavFault::Channels),
         Some(stream) => Ok(*stream),
     }
 }
 
 /// Writes the samples of a stream, and the listing of events of which none is at fault. All memory is taken before.
-fn write_both<W: Write, M: WavFiles>(
+fn write_both<W: Write, M: CreateFile>(
     alloc: Global,
     spec: &StudioSpec,
     stream: StreamSpec,
@@ -58,7 +58,7 @@ fn write_both<W: Write, M: WavFiles>(
     events: &TracedEvents<'_>,
     writer: &mut W,
     files: &M,
-) -> Result<M::File, RecordFault>
+) -> Result<M::File, WavRunFault>
     requires is { slice_get spec.now.streams number ≡ Some stream }
     requires runnable { IsRunnableBy spec.now events.now }
     requires paths { HasPathsBy spec.now events.now }
@@ -68,8 +68,8 @@ fn write_both<W: Write, M: WavFiles>(
     let mut cursors = studio_cursors(alloc, spec)?;
     let mut cursor = Cursor::new(alloc, stream, number, spec.open_at())?;
     let mut text = TextBuffer::new(alloc)?;
-    let mut file = files.make()?;
-    write_stream(&mut file, events, &mut cursor)?;
+    let mut file = files.create()?;
+    write_stream_wav(&mut file, events, &mut cursor)?;
     write_whole_listing(&mut text, writer, events, cursors.as_mut_slice())?;
     Ok(file)
 }

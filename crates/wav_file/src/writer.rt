@@ -5,10 +5,10 @@ ghost use Rattle.wav_file.specs.Samples.{little_samples};
 ghost use Rattle.wav_file.specs.Head.{head_octets};
 ghost use Rattle.wav_file.specs.File.{Becomes, HasBroken, IsBegun, pad_octets, silent_octets, wav_octets};
 
-use crate::head::head_of;
+use crate::head::header_octets;
 use crate::header::WavFormat;
 use crate::overwrite::Overwrite;
-use crate::samples::swap;
+use crate::samples::to_little_endian;
 use std::io::Write;
 use std::marker::Model;
 use thiserror::Error;
@@ -26,7 +26,7 @@ pub struct WavFault;
 
 /// A file whose head was written, and says no data yet.
 ///
-/// Input: `push`. Output: `finish`, after the last of them, or `break_off` after one that failed.
+/// Input: `push`. Output: `finish`, after the last of them, or `finish_partial` after one that failed.
 #[derive(Debug, Drop)]
 pub struct WavWriter {
     format: WavFormat,
@@ -52,7 +52,7 @@ impl WavWriter {
         ensures fault { OnErr result ((n : ℕ) × Appends (W.contents writer.old) (W.contents writer.new) (take n (head_octets format 0))) }
         ensures empty { IfOk result (λ wav. wav ≡ record { format = format; count = 0 }) }
     {
-        write_octets(writer, head_of(format, 0).as_slice())?;
+        write_octets(writer, header_octets(format, 0).as_slice())?;
         Ok(WavWriter { format, count: 0 })
     }
 
@@ -67,7 +67,7 @@ impl WavWriter {
         if self.count > MOST_OCTETS {
             return Err(WavFault);
         }
-        let samples = swap(self.format.enc, payload);
+        let samples = to_little_endian(self.format.enc, payload);
         write_octets(writer, samples.as_slice())?;
         self.count += samples.len() as u64;
         Ok(())
@@ -100,15 +100,15 @@ impl WavWriter {
             → Becomes (W.Write.contents writer.old) (W.Write.contents writer.new) (wav_octets self.format octets)) }
     {
         self.pad(writer)?;
-        self.break_off(writer)
+        self.finish_partial(writer)
     }
 
     /// Sets the sizes to those of the data, whatever stands behind it: a part of a payload, after a fault.
-    pub fn break_off<W: Overwrite>(self, writer: &mut W) -> Result<(), WavFault>
+    pub fn finish_partial<W: Overwrite>(self, writer: &mut W) -> Result<(), WavFault>
         ensures { OnOk result ((octets rest : List ℕ) → IsBegun (W.Write.contents writer.old) self octets rest
             → Becomes (W.Write.contents writer.old) (W.Write.contents writer.new) (head_octets self.format (length octets) ++ octets ++ rest)) }
     {
-        let head = head_of(self.format, self.count);
+        let head = header_octets(self.format, self.count);
         match writer.overwrite(head.as_slice()) {
             Ok(()) => Ok(()),
             Err(_) => Err(WavFault),

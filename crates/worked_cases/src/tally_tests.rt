@@ -1,6 +1,6 @@
 //! A stream of two paths with a window of eight packets, and payloads.
 
-use rtp_stats::{Deadlines, Spare, StreamTally, raise_peaks, spare_before};
+use rtp_stats::{ArrivalMargin, Deadlines, StreamTally, margin_before, raise_peaks};
 use rtp_stream::{Fate, Path, StreamClock, StreamSpec};
 use rtp_wire::Enc;
 use std::alloc::Global;
@@ -53,21 +53,21 @@ fn a_second_tells_its_spare_times_once_it_is_over(rt: HostRuntime) {
     assert!(rt; tally.spare(a, 95_999) == None, "the second is not over");
     assert!(rt;
         tally.spare(a, 96_001)
-            == Some(Spare {
+            == Some(ArrivalMargin {
                 least: 47,
                 median: 66
             })
     );
     assert!(rt;
         tally.spare(b, 143_999)
-            == Some(Spare {
+            == Some(ArrivalMargin {
                 least: 3,
                 median: 0
             })
     );
     assert!(rt;
         tally.spare(a, 144_000)
-            == Some(Spare {
+            == Some(ArrivalMargin {
                 least: 9,
                 median: 6
             })
@@ -83,7 +83,7 @@ fn a_median_is_at_most_that_of_the_last_bin(rt: HostRuntime) {
     tally.add(a, Fate::Taken, 1, Some(20_000), 0);
     assert!(rt;
         tally.spare(a, 48_000)
-            == Some(Spare {
+            == Some(ArrivalMargin {
                 least: 20_000,
                 median: 6_138
             })
@@ -120,6 +120,6 @@ fn timestamps_tell_deadlines(rt: HostRuntime) {
     assert!(rt; deadlines.deadline(Fate::Late, 0, Some(192)) == None);
     assert!(rt; deadlines.deadline(Fate::Restarted, 7, Some(1_000)) == Some(1_000));
     assert!(rt; deadlines.deadline(Fate::Double, 7, Some(1_000)) == Some(1_000));
-    assert!(rt; spare_before(96, 90) == Some(6));
-    assert!(rt; spare_before(96, 96) == None, "the deadline has come");
+    assert!(rt; margin_before(96, 90) == Some(6));
+    assert!(rt; margin_before(96, 96) == None, "the deadline has come");
 }

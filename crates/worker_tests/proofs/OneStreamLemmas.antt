@@ -10,7 +10,7 @@ use Rattle.rtp_stream.specs.declared.packet.Packet.{Packet}
 use Rattle.studio_ends.specs.FreshEnds.{AllFreshPaths, AllFreshRings, AllFreshStreams}
 use Rattle.worker_tests.specs.OneStream.{AreOfOneStream}
 use Rattle.studio_ends.specs.Tokens.{HandsIn}
-use Rattle.studio_ends.specs.declared.rings.Side.{Side}
+use Rattle.studio_ends.specs.declared.rings.TokenConsumer.{TokenConsumer}
 use Rattle.studio_ends.specs.declared.path_end.PathEnd.{PathEnd}
 use Rattle.studio_ends.specs.declared.stream_end.StreamEnd.{StreamEnd}
 use Rattle.studio_ends.specs.declared.monitor_end.MonitorEnd.{MonitorEnd}
@@ -22,12 +22,12 @@ token_of p q done c d pair same other fin =
     let f = fin.0 in
     (other.0.0 ∙ (pair.0 ∙ (sym same.0.0 ∙ sym f.0)), other.0.1 ∙ (pair.1 ∙ (sym same.0.1 ∙ sym f.1)), other.0.2 ∙ (pair.2 ∙ (sym same.0.2 ∙ sym f.2)), other.0.3 ∙ (pair.3 ∙ (sym same.0.3 ∙ sym f.3)))
 
-record AreTwo (first second : PathEnd) (sides : List (Side Packet)) : Type 0 where
+record AreTwo (first second : PathEnd) (sides : List (TokenConsumer Packet)) : Type 0 where
   two : length sides ≡ 2
-  first_is : (side : Side Packet) → slice_get sides 0 ≡ Some side → IsPair first.ring side.ring
-  second_is : (side : Side Packet) → slice_get sides 1 ≡ Some side → IsPair second.ring side.ring
+  first_is : (side : TokenConsumer Packet) → slice_get sides 0 ≡ Some side → IsPair first.ring side.ring
+  second_is : (side : TokenConsumer Packet) → slice_get sides 1 ≡ Some side → IsPair second.ring side.ring
 
-two_paths : (stream : Stream) (places : ℕ) (own : List PathEnd) (sides : List (Side Packet)) (first second : PathEnd) → own ≡ first ∷ second ∷ [] → AllFreshPaths stream places own sides → AreTwo first second sides
+two_paths : (stream : Stream) (places : ℕ) (own : List PathEnd) (sides : List (TokenConsumer Packet)) (first second : PathEnd) → own ≡ first ∷ second ∷ [] → AllFreshPaths stream places own sides → AreTwo first second sides
 two_paths stream places [] sides first second e h = absurd (let l = ap length e in omega (arith, l))
 two_paths stream places (p ∷ []) sides first second e h = absurd (let l = ap length e in omega (arith, l))
 two_paths stream places (p ∷ q ∷ r ∷ more) sides first second e h = absurd (let l = ap length e in omega (arith, l))
@@ -41,17 +41,17 @@ two_paths stream places (p ∷ q ∷ []) (a ∷ b ∷ []) first second e h =
       two = refl;
       first_is = λ side at.
           let at' : a ≡ side = ap (λ o. unwrap_or o a) at in
-          subst (λ (s : Side Packet). IsPair first.ring s.ring) at' (subst (λ (x : PathEnd). IsPair x.ring a.ring) is h.0.pair);
+          subst (λ (s : TokenConsumer Packet). IsPair first.ring s.ring) at' (subst (λ (x : PathEnd). IsPair x.ring a.ring) is h.0.pair);
       second_is = λ side at.
           let at' : b ≡ side = ap (λ o. unwrap_or o b) at in
-          subst (λ (s : Side Packet). IsPair second.ring s.ring) at' (subst (λ (x : PathEnd). IsPair x.ring b.ring) is' h.1.0.pair);
+          subst (λ (s : TokenConsumer Packet). IsPair second.ring s.ring) at' (subst (λ (x : PathEnd). IsPair x.ring b.ring) is' h.1.0.pair);
     }
 
-record IsOnly (s : StreamEnd) (sides : List (Side MarkView)) : Type 0 where
+record IsOnly (s : StreamEnd) (sides : List (TokenConsumer MarkView)) : Type 0 where
   one : length sides ≡ 1
-  marks : (side : Side MarkView) → slice_get sides 0 ≡ Some side → IsPair s.marks side.ring
+  marks : (side : TokenConsumer MarkView) → slice_get sides 0 ≡ Some side → IsPair s.marks side.ring
 
-only_ring : (places : ℕ) (s : StreamEnd) (monitors : List MonitorEnd) (sides : List (Side MarkView)) → AllFreshRings places (s ∷ []) monitors sides → IsOnly s sides
+only_ring : (places : ℕ) (s : StreamEnd) (monitors : List MonitorEnd) (sides : List (TokenConsumer MarkView)) → AllFreshRings places (s ∷ []) monitors sides → IsOnly s sides
 only_ring places s [] sides h = absurd h
 only_ring places s (m ∷ ms) [] h = absurd h
 only_ring places s (m ∷ n ∷ ms) (a ∷ sides) h = absurd h.1
@@ -60,7 +60,7 @@ only_ring places s (m ∷ []) (a ∷ []) h = record {
   one = refl;
   marks = λ side at.
       let at' : a ≡ side = ap (λ o. unwrap_or o a) at in
-      subst (λ (x : Side MarkView). IsPair s.marks x.ring) at' h.0.marks;
+      subst (λ (x : TokenConsumer MarkView). IsPair s.marks x.ring) at' h.0.marks;
 }
 
 pub only_stream : (open_at : ℤ) (places : ℕ) (streams : List Stream) (paths : List PathEnd) (ends : List StreamEnd) (monitors : List MonitorEnd) (first second : PathEnd) (s : StreamEnd) (mix : MixEnd)
@@ -89,7 +89,7 @@ module _ {A : Type 0} where
   one_popped xs (y ∷ ys) a e l = absurd (let m = ap length e in omega (arith, l, m, length-append (y ∷ ys) (a ∷ [])))
 
 -- what was handed in at the first place leaves the second
-pub second-handed : {T : Type 0} (olds news : List (Side T)) (all : List T) (side : Side T) → HandsIn olds 0 all news → slice_get news 1 ≡ Some side → slice_get olds 1 ≡ Some side
+pub second-handed : {T : Type 0} (olds news : List (TokenConsumer T)) (all : List T) (side : TokenConsumer T) → HandsIn olds 0 all news → slice_get news 1 ≡ Some side → slice_get olds 1 ≡ Some side
 second-handed (o ∷ os) (n ∷ ns) all side h at = ap (λ l. slice_get l 0) (sym h.1) ∙ at
 second-handed [] news all side h at = absurd h
 second-handed (o ∷ os) [] all side h at = absurd h

@@ -3,7 +3,7 @@ use Rattle.std.specs.Prelude.{◌≡◌, length, slice_get, Some}
 use Rattle.rtrb.specs.Ring.{IsPair}
 use Rattle.rtp_stream.specs.MarkFacts.{MarkView}
 use Rattle.rtp_stream.specs.declared.packet.Packet.{Packet}
-use Rattle.studio_ends.specs.declared.rings.Side.{Side}
+use Rattle.studio_ends.specs.declared.rings.TokenConsumer.{TokenConsumer}
 use Rattle.studio_ends.specs.declared.path_end.PathEnd.{PathEnd}
 use Rattle.studio_ends.specs.declared.stream_end.StreamEnd.{StreamEnd}
 use Rattle.studio_ends.specs.declared.mix_end.MixEnd.{MixEnd}
@@ -11,7 +11,7 @@ use Rattle.studio_ends.specs.declared.mix_end.MixEnd.{MixEnd}
 -- the paths' ends are those of the stream's rings, in order, and the stream's end is that of the mixer's first ring
 pub record AreOfOneStream (first second : PathEnd) (stream : StreamEnd) (mix : MixEnd) : Type 0 where
   pub two : length stream.sides.items ≡ 2
-  pub first_is : (side : Side Packet) → slice_get stream.sides.items 0 ≡ Some side → IsPair first.ring side.ring
-  pub second_is : (side : Side Packet) → slice_get stream.sides.items 1 ≡ Some side → IsPair second.ring side.ring
+  pub first_is : (side : TokenConsumer Packet) → slice_get stream.sides.items 0 ≡ Some side → IsPair first.ring side.ring
+  pub second_is : (side : TokenConsumer Packet) → slice_get stream.sides.items 1 ≡ Some side → IsPair second.ring side.ring
   pub one : length mix.sides.items ≡ 1
-  pub marks : (side : Side MarkView) → slice_get mix.sides.items 0 ≡ Some side → IsPair stream.marks side.ring
+  pub marks : (side : TokenConsumer MarkView) → slice_get mix.sides.items 0 ≡ Some side → IsPair stream.marks side.ring

@@ -7,10 +7,10 @@ use crate::small_studios::six_and_forty_eight as studio;
 use path_merge::{ClockFault, Fate, Path};
 use std::process::Abort;
 use studio_engine::{ArriveFault, Engine, Unfinished};
-use studio_session::Receipt;
+use studio_session::ArriveOutcome;
 
 /// What is told of a packet that is taken.
-pub const TAKEN: Result<Receipt, ArriveFault> = Ok(Receipt::Offered(Fate::Taken));
+pub const TAKEN: Result<ArriveOutcome, ArriveFault> = Ok(ArriveOutcome::Offered(Fate::Taken));
 
 const BLOCK_BY_BLOCK: [Step; 6] = [
     Step::Hand(0, 1, TAKEN),
@@ -34,7 +34,7 @@ const BETWEEN_TURNS: [Step; 7] = [
     Step::Hand(1, 2, TAKEN),
     Step::Give(18, 1, 2),
     Step::Turn(18, Ok(None)),
-    Step::Hand(0, 2, Ok(Receipt::Offered(Fate::Late))),
+    Step::Hand(0, 2, Ok(ArriveOutcome::Offered(Fate::Late))),
 ];
 
 /// A packet that comes between two turns is in the second one's datagram; one that comes after its deadline is late.
@@ -85,9 +85,9 @@ fn long_packet() -> [u8; 31] {
 fn what_is_no_packet_has_a_name(rt: HostRuntime) {
     let engine = &mut six(&rt, rt.alloc());
     let path = path(&rt, 1);
-    assert!(rt; engine.arrive(0, path, &[]) == Ok(Receipt::Bad));
-    assert!(rt; engine.arrive(0, path, &block_of_six(1, 1)) == Ok(Receipt::WrongType));
-    assert!(rt; engine.arrive(0, path, &long_packet()) == Ok(Receipt::WrongLength));
+    assert!(rt; engine.arrive(0, path, &[]) == Ok(ArriveOutcome::Bad));
+    assert!(rt; engine.arrive(0, path, &block_of_six(1, 1)) == Ok(ArriveOutcome::WrongType));
+    assert!(rt; engine.arrive(0, path, &long_packet()) == Ok(ArriveOutcome::WrongLength));
     let counts = engine.path_counts(0, path).expect(&rt, "the stream");
     assert!(rt; counts.offered == 3 && counts.bad == 1);
     assert!(rt; counts.wrong_type == 1 && counts.wrong_length == 1);
@@ -134,7 +134,7 @@ const SETTLED: [Step; 7] = [
     Step::DrainOne(0, 1),
     Step::DrainNone,
     Step::Counts(1, 1, 0),
-    Step::Hand(0, 1, Ok(Receipt::Offered(Fate::Closed))),
+    Step::Hand(0, 1, Ok(ArriveOutcome::Offered(Fate::Closed))),
     Step::Settled(true),
 ];
 

@@ -4,7 +4,7 @@ use path_merge::{ClockFault, Path, StreamSpec};
 use std::alloc::Global;
 use std::process::Abort;
 use studio_engine::{ArriveFault, Engine, Unfinished};
-use studio_session::Receipt;
+use studio_session::ArriveOutcome;
 
 /// The most octets of an output's datagram.
 const MOST: usize = 1452;
@@ -94,7 +94,7 @@ pub fn block_of_48(block: u8, sample: u8) -> [u8; 156] {
 #[derive(Clone, Copy)]
 pub enum Step {
     /// A path brings packet 1 or 2, from 0 or from 6 on, all of whose samples are its number.
-    Hand(u8, u8, Result<Receipt, ArriveFault>),
+    Hand(u8, u8, Result<ArriveOutcome, ArriveFault>),
     /// A turn to a reading gives a block.
     Give(i64, u8, u8),
     /// A turn to a reading gives none, or fails.
@@ -135,7 +135,7 @@ fn is_as_told(engine: &mut Engine, step: Step) -> bool {
     }
 }
 
-fn hand(engine: &mut Engine, on: u8, number: u8) -> Option<Result<Receipt, ArriveFault>> {
+fn hand(engine: &mut Engine, on: u8, number: u8) -> Option<Result<ArriveOutcome, ArriveFault>> {
     let ts = if number == 1 { 0 } else { 6 };
     Some(engine.arrive(0, Path::new(on)?, &packet_of_six(number, ts, number)))
 }

@@ -1,34 +1,35 @@
 //! The end of a ring into which the blocks of a record are put, whole ones alone.
 ghost use Rattle.std.specs.Prelude.{◌≡◌, ◌≤◌, length, take, true, false};
-ghost use Rattle.pcap_file.specs.Arrival.{arrival_view};
+ghost use Rattle.pcap_file.specs.RecordedDatagram.{arrival_view};
 ghost use Rattle.pcap_file.specs.Blocks.{closing_block, datagram_block, interface_block, section_block};
-ghost use Rattle.live_io.specs.Puts.{Puts};
+ghost use Rattle.live_io.specs.RecordBlocks.{Puts};
 
 use pcap_file::{
-    Arrival, BLOCK_ROOM, write_closing, write_datagram, write_interface, write_opening,
+    MAX_BLOCK_LEN, RecordedDatagram, write_interface, write_packet, write_section_header,
+    write_statistics,
 };
 use rtrb::Producer;
 
 /// The end of a ring into which blocks are put.
 #[derive(Drop)]
-pub(crate) struct BlockEnd {
+pub(crate) struct BlockProducer {
     pub(crate) ring: Producer<u8>,
     /// Nothing is put any more.
     pub(crate) ended: bool,
     /// Where a block is made.
-    pub(crate) block: [u8; BLOCK_ROOM],
+    pub(crate) block: [u8; MAX_BLOCK_LEN],
 }
 
-impl BlockEnd {
+impl BlockProducer {
     /// The end of a ring, into which nothing was put yet.
-    pub(crate) fn new(ring: Producer<u8>) -> BlockEnd
+    pub(crate) fn new(ring: Producer<u8>) -> BlockProducer
         ensures ring { result.ring ≡ ring }
         ensures open { result.ended ≡ false }
     {
-        BlockEnd {
+        BlockProducer {
             ring,
             ended: false,
-            block: [0; BLOCK_ROOM],
+            block: [0; MAX_BLOCK_LEN],
         }
     }
 
@@ -37,7 +38,7 @@ impl BlockEnd {
         ensures puts { Puts self.old (section_block open_at) self.new }
         ensures ended { self.old.ended ≡ true → self.new.ended ≡ true }
     {
-        let len = write_opening(open_at, &mut self.block);
+        let len = write_section_header(open_at, &mut self.block);
         self.put(len)
     }
 
@@ -51,12 +52,12 @@ impl BlockEnd {
     }
 
     /// Puts the packet of a datagram that came.
-    pub(crate) fn put_datagram(&mut self, arrival: &Arrival<'_>)
+    pub(crate) fn put_datagram(&mut self, arrival: &RecordedDatagram<'_>)
         requires few { length arrival.now.octets.now ≤ 2048 }
         ensures puts { Puts self.old (datagram_block (arrival_view arrival.now)) self.new }
         ensures ended { self.old.ended ≡ true → self.new.ended ≡ true }
     {
-        let len = write_datagram(arrival, &mut self.block);
+        let len = write_packet(arrival, &mut self.block);
         self.put(len)
     }
 
@@ -65,7 +66,7 @@ impl BlockEnd {
         ensures puts { Puts self.old (closing_block nanoseconds) self.new }
         ensures ended { self.old.ended ≡ true → self.new.ended ≡ true }
     {
-        let len = write_closing(nanoseconds, &mut self.block);
+        let len = write_statistics(nanoseconds, &mut self.block);
         self.put(len)
     }
 

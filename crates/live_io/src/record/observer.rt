@@ -1,12 +1,12 @@
 //! What makes a record of what a run takes.
 ghost use Rattle.std.specs.Prelude.{◌≡◌, ◌≤◌, ◌<◌, ℕ, [], length, IfSome, pos, true};
 ghost use Rattle.rtrb.specs.Ring.{sent};
-ghost use Rattle.pcap_file.specs.Arrival.{arrival_view};
-ghost use Rattle.live_io.specs.Puts.{IsPacket, IsSince, Opens, PutsClose, PutsPacket, Sends, path_blocks, row_blocks};
+ghost use Rattle.pcap_file.specs.RecordedDatagram.{arrival_view};
+ghost use Rattle.live_io.specs.RecordBlocks.{IsPacket, IsSince, Opens, PutsClose, PutsPacket, Sends, path_blocks, row_blocks};
 
-use crate::record::block_producer::BlockEnd;
-use crate::way::Way;
-use pcap_file::{Arrival, MOST_OCTETS, nanoseconds_after};
+use crate::record::block_producer::BlockProducer;
+use crate::way::DatagramOrigin;
+use pcap_file::{MOST_OCTETS, RecordedDatagram, nanoseconds_after};
 use rtp_stream::StreamSpec;
 use rtrb::Producer;
 use studio_config::StudioSpec;
@@ -17,43 +17,43 @@ const FIRST: u8 = b'a';
 /// Makes the blocks of a record, and counts what came. A record ends before the first block that isn't whole, for want
 /// of room or since its time can't be written.
 #[derive(Drop)]
-pub struct RecordTap {
-    end: BlockEnd,
+pub struct RecordObserver {
+    end: BlockProducer,
     /// The studio's opening time.
     open_at: i64,
     /// How many datagrams came.
-    came: u64,
+    received: u64,
 }
 
-impl RecordTap {
+impl RecordObserver {
     /// How many datagrams came.
-    pub fn came(&self) -> u64 {
-        self.came
+    pub fn received(&self) -> u64 {
+        self.received
     }
 
     /// The record of a run of this studio, from its front: its opening time, and its paths.
-    pub fn new(ring: Producer<u8>, studio: &StudioSpec) -> RecordTap
+    pub fn new(ring: Producer<u8>, studio: &StudioSpec) -> RecordObserver
         requires fresh { sent ring ≡ [] }
         ensures opens { Opens studio.now result.end }
         ensures open_at { result.open_at ≡ studio.now.open_at }
     {
         let open_at = studio.open_at();
-        let mut end = BlockEnd::new(ring);
+        let mut end = BlockProducer::new(ring);
         end.put_opening(opening_of(open_at));
         put_streams(&mut end, studio.streams());
-        RecordTap {
+        RecordObserver {
             end,
             open_at,
-            came: 0,
+            received: 0,
         }
     }
 
     /// Puts the packet of a datagram that came at a time, in sampling instants, and this way.
-    pub fn arrived(&mut self, time: i64, octets: &[u8], way: &Way)
+    pub fn arrived(&mut self, time: i64, octets: &[u8], way: &DatagramOrigin)
         ensures puts { PutsPacket self.old.open_at time way.now octets.now self.old.end self.new.end }
         ensures ended { self.old.end.ended ≡ true → self.new.end.ended ≡ true }
     {
-        self.came = self.came.saturating_add(1);
+        self.received = self.received.saturating_add(1);
         if self.end.ended {
             return;
         }
@@ -75,7 +75,12 @@ impl RecordTap {
     }
 
     /// A datagram that came at a time, if it can be written.
-    fn arrival<'a>(&self, time: i64, octets: &'a [u8], way: &Way) -> Option<Arrival<'a>>
+    fn arrival<'a>(
+        &self,
+        time: i64,
+        octets: &'a [u8],
+        way: &DatagramOrigin,
+    ) -> Option<RecordedDatagram<'a>>
         ensures few { IfSome result (λ arrival. length arrival.octets.now ≤ 2048) }
         ensures packet { IfSome result (λ arrival. IsPacket self.now.open_at time way.now octets.now (arrival_view arrival)) }
     {
@@ -84,8 +89,8 @@ impl RecordTap {
         }
         let nanoseconds = self.nanoseconds(time)?;
         let (source, destination) = (&way.source, &way.destination);
-        Some(Arrival {
-            interface: way.place,
+        Some(RecordedDatagram {
+            interface: way.path_index,
             nanoseconds,
             source: *source.ip(),
             source_port: source.port(),
@@ -112,7 +117,7 @@ fn opening_of(open_at: i64) -> u64
 }
 
 /// Puts the descriptions of the paths of streams.
-fn put_streams(end: &mut BlockEnd, streams: &[StreamSpec])
+fn put_streams(end: &mut BlockProducer, streams: &[StreamSpec])
     requires few { length streams.now ≤ 16 }
     ensures sends { Sends end.old (path_blocks 0 streams.now) end.new }
     ensures ended { end.old.ended ≡ true → end.new.ended ≡ true }
@@ -123,7 +128,7 @@ fn put_streams(end: &mut BlockEnd, streams: &[StreamSpec])
 }
 
 /// Puts the descriptions of a stream's first so many paths.
-fn put_paths(end: &mut BlockEnd, stream: u16, count: u8)
+fn put_paths(end: &mut BlockProducer, stream: u16, count: u8)
     requires few { count < 5 }
     ensures sends { Sends end.old (row_blocks stream count) end.new }
     ensures ended { end.old.ended ≡ true → end.new.ended ≡ true }

@@ -1,6 +1,6 @@
 //! What writes a record to its file.
 ghost use Rattle.std.specs.Prelude.{◌≡◌, ◌≤◌, length, IfOk, IfSome, OnOk};
-ghost use Rattle.live_io.specs.Passes.{Passes, SeesNone};
+ghost use Rattle.live_io.specs.RecordWriter.{Passes, SeesNone};
 
 use rtrb::Consumer;
 use std::alloc::{AllocError, Global};
@@ -17,11 +17,11 @@ const TAKEN: usize = 65_536;
 const REST: u64 = 10;
 
 /// The type of a block that has a datagram.
-const DATAGRAM: u32 = 6;
+const ENHANCED_PACKET_BLOCK: u32 = 6;
 
 /// What became of a record's file.
 #[derive(Clone, Copy, Debug, PartialEq, Eq)]
-pub struct Written {
+pub struct FileResult {
     /// How many datagrams were written.
     pub datagrams: u64,
     /// Whether a write failed then.
@@ -39,7 +39,7 @@ struct Blocks {
 
 /// The end of a ring from which blocks are taken, and the file to which they go.
 #[derive(Drop)]
-pub struct Recorder<D> {
+pub struct RecordWriter<D> {
     ring: Consumer<u8>,
     file: D,
     /// What was taken.
@@ -49,16 +49,16 @@ pub struct Recorder<D> {
     datagrams: u64,
 }
 
-impl<D: Write + Drop> Recorder<D> {
+impl<D: Write + Drop> RecordWriter<D> {
     /// What writes the blocks of a ring to a file.
     pub(crate) fn new(
         alloc: Global,
         ring: Consumer<u8>,
         file: D,
-    ) -> Result<Recorder<D>, AllocError> {
+    ) -> Result<RecordWriter<D>, AllocError> {
         let mut octets = Vec::with_capacity(alloc, TAKEN)?;
         octets.resize(TAKEN, 0)?;
-        Ok(Recorder {
+        Ok(RecordWriter {
             ring,
             file,
             octets,
@@ -85,8 +85,8 @@ impl<D: Write + Drop> Recorder<D> {
     }
 
     /// What became of the file.
-    fn written(&self, failed: bool) -> Written {
-        Written {
+    fn written(&self, failed: bool) -> FileResult {
+        FileResult {
             datagrams: self.datagrams,
             failed,
         }
@@ -103,7 +103,7 @@ fn blocks_in(octets: &[u8]) -> Blocks
     };
     while let Some((kind, len)) = block_at(&octets[blocks.len..]) {
         blocks.len += len;
-        if kind == DATAGRAM {
+        if kind == ENHANCED_PACKET_BLOCK {
             blocks.datagrams = blocks.datagrams.saturating_add(1);
         }
     }
@@ -132,7 +132,7 @@ fn word_at(octets: &[u8], place: usize) -> Option<u32> {
 }
 
 /// Writes what comes through the ring until its other end is gone and it is empty, or a write fails.
-pub fn write_record<R: Wait, D: Write + Drop>(rt: &R, recorder: Recorder<D>) -> Written {
+pub fn write_record<R: Wait, D: Write + Drop>(rt: &R, recorder: RecordWriter<D>) -> FileResult {
     let mut recorder = recorder;
     let parker = Parker::new();
     for _ in rt.forever() {

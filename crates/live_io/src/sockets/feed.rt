@@ -4,7 +4,7 @@ ghost use Rattle.studio_io.specs.Answers.{IsWithin};
 
 use crate::clock::SystemClock;
 use crate::sockets::receiver::Receiver;
-use crate::start::Start;
+use crate::start::RunPeriod;
 use std::io::ErrorKind;
 use std::net::SocketAddrV4;
 use std::sync::atomic::{AtomicBool, Ordering};
@@ -12,15 +12,15 @@ use std::time::Clock;
 use studio_io::{Clock as ReadClock, Feed, FeedAnswer};
 
 /// After so many datagrams from elsewhere than its source a feed has nothing for now.
-const MOST_STRANGERS: u32 = 64;
+const MAX_UNEXPECTED: u32 = 64;
 
 /// What all feeds of a run share with what goes on beside them.
 #[derive(Clone, Copy)]
-pub struct Flags<'a> {
+pub struct FeedFlags<'a> {
     /// Each feed is to end.
     pub stop: &'a AtomicBool,
     /// For each path, whether its socket is to be asked once; empty where receives wait.
-    pub pending: &'a [AtomicBool],
+    pub ready: &'a [AtomicBool],
 }
 
 /// A socket, whose receives wait or have a flag that says whether they are tried. It ends once it is told to stop, or
@@ -33,7 +33,7 @@ pub struct UdpFeed<'a, R: Clock> {
     until: Option<i64>,
     stop: &'a AtomicBool,
     /// Whether it is to be asked once; none where receives wait.
-    pending: Option<&'a AtomicBool>,
+    ready: Option<&'a AtomicBool>,
     /// Its path's place among those of all streams.
     place: u32,
 }
@@ -43,8 +43,8 @@ impl<'a, R: Clock> UdpFeed<'a, R> {
     pub(crate) fn new(
         rt: &'a R,
         receiver: Receiver<'a>,
-        start: Start,
-        flags: Flags<'a>,
+        start: RunPeriod,
+        flags: FeedFlags<'a>,
         place: usize,
     ) -> UdpFeed<'a, R> {
         UdpFeed {
@@ -52,7 +52,7 @@ impl<'a, R: Clock> UdpFeed<'a, R> {
             clock: start.clock(rt),
             until: start.until(),
             stop: flags.stop,
-            pending: flags.pending.get(place),
+            ready: flags.ready.get(place),
             place: u32::try_from(place).unwrap_or(u32::MAX),
         }
     }
@@ -66,22 +66,22 @@ impl<'a, R: Clock> UdpFeed<'a, R> {
 
     /// Where its last datagram came from, where its receiver tells that; else 0.0.0.0:0.
     pub fn source(&self) -> SocketAddrV4
-        ensures { result ≡ self.now.receiver.from }
+        ensures { result ≡ self.now.receiver.last_source }
     {
-        self.receiver.from
+        self.receiver.last_source
     }
 
     /// Where its datagrams are sent to.
     pub fn destination(&self) -> SocketAddrV4
-        ensures { result ≡ self.now.receiver.at }
+        ensures { result ≡ self.now.receiver.address }
     {
-        self.receiver.at
+        self.receiver.address
     }
 
     /// Whether it is to be asked, from which on it isn't until it is told so again.
-    fn is_asked(&self) -> bool {
-        match self.pending {
-            Some(pending) => pending.swap(false, Ordering::SeqCst),
+    fn take_ready(&self) -> bool {
+        match self.ready {
+            Some(ready) => ready.swap(false, Ordering::SeqCst),
             None => true,
         }
     }
@@ -112,11 +112,11 @@ impl<R: Clock> Feed for UdpFeed<'_, R> {
     ghost told = { λ feed. [] };
 
     fn next(&mut self, buf: &mut [u8]) -> FeedAnswer {
-        for _ in 0..MOST_STRANGERS {
+        for _ in 0..MAX_UNEXPECTED {
             if self.has_ended() {
                 return FeedAnswer::Ended;
             }
-            if !self.is_asked() {
+            if !self.take_ready() {
                 return FeedAnswer::Nothing;
             }
             match self.receiver.receive(buf) {
@@ -130,6 +130,6 @@ impl<R: Clock> Feed for UdpFeed<'_, R> {
 
     /// A receive waits for a datagram, where no flag says that there may be one.
     fn waits(&self) -> bool {
-        self.pending.is_none()
+        self.ready.is_none()
     }
 }

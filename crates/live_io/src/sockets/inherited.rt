@@ -18,7 +18,7 @@ const MOST: u32 = 66;
 
 /// Why sockets that were handed over are not taken.
 #[derive(Debug, Drop, Error)]
-pub enum HandedFault {
+pub enum InheritedSocketFault {
     /// Memory was refused.
     #[error("out of memory")]
     Memory,
@@ -28,21 +28,21 @@ pub enum HandedFault {
     Socket(String),
 }
 
-impl From<AllocError> for HandedFault {
-    fn from(_fault: AllocError) -> HandedFault {
-        HandedFault::Memory
+impl From<AllocError> for InheritedSocketFault {
+    fn from(_fault: AllocError) -> InheritedSocketFault {
+        InheritedSocketFault::Memory
     }
 }
 
-impl<T: Drop> From<AllocFailed<T>> for HandedFault {
-    fn from(_refused: AllocFailed<T>) -> HandedFault {
-        HandedFault::Memory
+impl<T: Drop> From<AllocFailed<T>> for InheritedSocketFault {
+    fn from(_refused: AllocFailed<T>) -> InheritedSocketFault {
+        InheritedSocketFault::Memory
     }
 }
 
 /// Descriptors of sockets that were handed over, of each path of each stream and of the output's two copies.
 #[derive(Clone, Copy)]
-pub struct Handed {
+pub struct InheritedSockets {
     paths: [[Option<i32>; 4]; 16],
     pub to_a: Option<i32>,
     pub to_b: Option<i32>,
@@ -50,7 +50,7 @@ pub struct Handed {
 
 /// Which datagrams go through a socket.
 #[derive(Clone, Copy)]
-enum Use {
+enum SocketRole {
     /// Those of a path of a stream.
     Path(usize, usize),
     /// Those of the output's first copy.
@@ -59,10 +59,10 @@ enum Use {
     ToB,
 }
 
-impl Handed {
+impl InheritedSockets {
     /// Nothing was handed over.
-    pub fn nothing() -> Handed {
-        Handed {
+    pub fn none() -> InheritedSockets {
+        InheritedSockets {
             paths: [[None; 4]; 16],
             to_a: None,
             to_b: None,
@@ -71,22 +71,22 @@ impl Handed {
 
     /// What the environment says was handed over to this process: nothing, where it means another one. Names are
     /// `0a`, `0b`, .. for the paths of streams, and `to_a` and `to_b`. Each descriptor is tested, and stays open.
-    pub fn told<R: Env + AllocGlobal>(
+    pub fn from_env<R: Env + AllocGlobal>(
         rt: &R,
         alloc: Global,
         streams: &[StreamSpec],
-    ) -> Result<Handed, HandedFault> {
-        let mut handed = Handed::nothing();
-        if !is_meant(rt, alloc)? {
+    ) -> Result<InheritedSockets, InheritedSocketFault> {
+        let mut handed = InheritedSockets::none();
+        if !is_for_this_process(rt, alloc)? {
             return Ok(handed);
         }
-        let count = told_count(rt, alloc)?;
+        let count = fd_count(rt, alloc)?;
         let names = variable(rt, alloc, "LISTEN_FDNAMES")?;
         let mut names = names.as_str().split(':');
         let mut descriptor = FIRST;
         for _ in 0..count {
             let name = names.next().unwrap_or("unknown");
-            if !handed.takes(name, streams, descriptor) {
+            if !handed.assign(name, streams, descriptor) {
                 return Err(fault_of(alloc, name));
             }
             descriptor = descriptor.saturating_add(1);
@@ -96,16 +96,16 @@ impl Handed {
 
     /// Notes the descriptor of a name, if there is such a name, which has none yet, and the descriptor is that of a
     /// socket at an IPv4 address.
-    fn takes(&mut self, name: &str, streams: &[StreamSpec], descriptor: i32) -> bool {
-        let Some(named) = use_of(name, streams) else {
+    fn assign(&mut self, name: &str, streams: &[StreamSpec], descriptor: i32) -> bool {
+        let Some(named) = role_of(name, streams) else {
             return false;
         };
         match named {
-            Use::ToA => note(&mut self.to_a, descriptor),
-            Use::ToB => note(&mut self.to_b, descriptor),
-            Use::Path(stream, path) => match self.paths.get_mut(stream) {
+            SocketRole::ToA => set_once(&mut self.to_a, descriptor),
+            SocketRole::ToB => set_once(&mut self.to_b, descriptor),
+            SocketRole::Path(stream, path) => match self.paths.get_mut(stream) {
                 Some(row) => match row.get_mut(path) {
-                    Some(place) => note(place, descriptor),
+                    Some(place) => set_once(place, descriptor),
                     None => false,
                 },
                 None => false,
@@ -130,7 +130,7 @@ impl Handed {
 }
 
 /// Notes a descriptor in a place that is free, if it is that of a socket at an IPv4 address.
-fn note(place: &mut Option<i32>, descriptor: i32) -> bool {
+fn set_once(place: &mut Option<i32>, descriptor: i32) -> bool {
     if place.is_some() || !is_ipv4_socket(descriptor) {
         return false;
     }
@@ -139,10 +139,10 @@ fn note(place: &mut Option<i32>, descriptor: i32) -> bool {
 }
 
 /// A name that is refused.
-fn fault_of(alloc: Global, name: &str) -> HandedFault {
+fn fault_of(alloc: Global, name: &str) -> InheritedSocketFault {
     match String::from_str(alloc, name) {
-        Ok(name) => HandedFault::Socket(name),
-        Err(_) => HandedFault::Memory,
+        Ok(name) => InheritedSocketFault::Socket(name),
+        Err(_) => InheritedSocketFault::Memory,
     }
 }
 
@@ -151,17 +151,20 @@ fn variable<R: Env + AllocGlobal>(
     rt: &R,
     alloc: Global,
     name: &str,
-) -> Result<String, HandedFault> {
+) -> Result<String, InheritedSocketFault> {
     match env::var(rt, name) {
         Ok(text) => Ok(text),
         Err(VarError::NotPresent) => Ok(String::new(alloc)),
         Err(VarError::NotUnicode) => Err(fault_of(alloc, name)),
-        Err(VarError::OutOfMemory) => Err(HandedFault::Memory),
+        Err(VarError::OutOfMemory) => Err(InheritedSocketFault::Memory),
     }
 }
 
 /// Whether sockets were handed over to this process, and not to one that started it.
-fn is_meant<R: Env + AllocGlobal>(rt: &R, alloc: Global) -> Result<bool, HandedFault> {
+fn is_for_this_process<R: Env + AllocGlobal>(
+    rt: &R,
+    alloc: Global,
+) -> Result<bool, InheritedSocketFault> {
     let process = variable(rt, alloc, "LISTEN_PID")?;
     match process.as_str().parse::<i32>() {
         Ok(process) => Ok(process == libc::getpid()),
@@ -170,7 +173,7 @@ fn is_meant<R: Env + AllocGlobal>(rt: &R, alloc: Global) -> Result<bool, HandedF
 }
 
 /// How many sockets were handed over.
-fn told_count<R: Env + AllocGlobal>(rt: &R, alloc: Global) -> Result<u32, HandedFault> {
+fn fd_count<R: Env + AllocGlobal>(rt: &R, alloc: Global) -> Result<u32, InheritedSocketFault> {
     let name = "LISTEN_FDS";
     let count = variable(rt, alloc, name)?;
     match count.as_str().parse::<u32>() {
@@ -180,17 +183,17 @@ fn told_count<R: Env + AllocGlobal>(rt: &R, alloc: Global) -> Result<u32, Handed
 }
 
 /// What a name says that a socket is for, if it is that of a copy or of a path that the streams have.
-fn use_of(name: &str, streams: &[StreamSpec]) -> Option<Use> {
+fn role_of(name: &str, streams: &[StreamSpec]) -> Option<SocketRole> {
     match name {
-        "to_a" => return Some(Use::ToA),
-        "to_b" => return Some(Use::ToB),
+        "to_a" => return Some(SocketRole::ToA),
+        "to_b" => return Some(SocketRole::ToB),
         _ => {}
     }
     for (path, letter) in ["a", "b", "c", "d"].iter().enumerate() {
         if let Some(digits) = name.strip_suffix(*letter) {
             let stream = digits.parse::<usize>().ok()?;
             let paths = usize::from(streams.get(stream)?.paths());
-            return (path < paths).then_some(Use::Path(stream, path));
+            return (path < paths).then_some(SocketRole::Path(stream, path));
         }
     }
     None

@@ -1,12 +1,12 @@
 //! The ports that a live run needs.
 ghost use Rattle.std.specs.Prelude.{◌≡◌, ◌++◌, ◌<◌, ℕ, List, Some, None, OnOk, IfOk, IfErr, ◌⊎◌};
 ghost use Rattle.studio_config.specs.Config.{no_memory};
-ghost use Rattle.studio_config.specs.declared.config.fault.Place.TheVariants as place;
+ghost use Rattle.studio_config.specs.declared.config.fault.ConfigTable.TheVariants as place;
 ghost use Rattle.live_io.specs.Ports.{AreSaid, HasPorts, first_missing, missing_at, needs_of, path_needs, port_key, row_needs};
 
 use rtp_stream::{Path, StreamSpec};
 use std::alloc::Global;
-use studio_config::{Key, Kind, Place, Ports, SpecError, StudioSpec};
+use studio_config::{ConfigTable, Key, Ports, SpecError, SpecErrorKind, StudioSpec};
 
 /// Where each path of each stream comes in, stream by stream and path by path, and where the output's
 /// two copies go.
@@ -55,7 +55,7 @@ fn push_row(found: &mut Vec<u16>, ports: &Ports, number: usize, count: u8) -> Re
             unreachable!()
         };
         let Some(port) = ports.port(number, path) else {
-            return Err(missing(Place::Stream(number), port_key(place)));
+            return Err(missing(ConfigTable::Stream(number), port_key(place)));
         };
         found.push(port)?;
     }
@@ -70,7 +70,7 @@ fn output_port(port: Option<u16>, key: Key) -> Result<u16, SpecError>
 {
     match port {
         Some(port) => Ok(port),
-        None => Err(missing(Place::Output, key)),
+        None => Err(missing(ConfigTable::Output, key)),
     }
 }
 
@@ -87,12 +87,12 @@ fn port_key(path: u8) -> Key
 }
 
 /// A key that a live run needs is not there.
-fn missing(place: Place, key: Key) -> SpecError
+fn missing(place: ConfigTable, key: Key) -> SpecError
     ensures { missing_at place key None ≡ Some result }
 {
     SpecError {
         place,
         key: Some(key),
-        kind: Kind::Missing,
+        kind: SpecErrorKind::Missing,
     }
 }

@@ -1,7 +1,7 @@
 //! The socket of a path.
 ghost use Rattle.std.specs.Prelude.{◌≤◌, length, IfOk, IfSome};
 
-use crate::sockets::unexpected::Source;
+use crate::sockets::unexpected::ExpectedSource;
 use os::FromRawFd;
 use std::io;
 use std::io::ErrorKind;
@@ -13,17 +13,17 @@ use std::time::Duration;
 const RECEIVE_WAIT: u64 = 100;
 
 /// How many octets a socket is asked to hold. The system gives less where its own bound is lower.
-const RECEIVE_ROOM: u32 = 8 << 20;
+const RECEIVE_BUFFER: u32 = 8 << 20;
 
 /// A socket at which a path is received.
 #[derive(Drop)]
 pub struct Receiver<'a> {
     socket: UdpSocket,
-    source: Option<Source<'a>>,
+    source: Option<ExpectedSource<'a>>,
     /// Where datagrams are sent to for it to receive them.
-    pub(crate) at: SocketAddrV4,
+    pub(crate) address: SocketAddrV4,
     /// Where the last of them came from, if that is told.
-    pub(crate) from: SocketAddrV4,
+    pub(crate) last_source: SocketAddrV4,
     /// Whether it tells where they come from.
     tells_sources: bool,
 }
@@ -32,29 +32,29 @@ impl<'a> Receiver<'a> {
     /// A socket of a path at an address, of which none came yet. One that was handed over may be at another.
     pub(crate) fn new(
         socket: UdpSocket,
-        source: Option<Source<'a>>,
-        at: SocketAddrV4,
+        source: Option<ExpectedSource<'a>>,
+        address: SocketAddrV4,
     ) -> Receiver<'a> {
-        let at = match &socket.local_addr() {
+        let address = match &socket.local_addr() {
             Ok(SocketAddr::V4(own)) if !own.ip().is_unspecified() => *own,
-            _ => at,
+            _ => address,
         };
         Receiver {
             socket,
             source,
-            at,
-            from: SocketAddrV4::new(Ipv4Addr::UNSPECIFIED, 0),
+            address,
+            last_source: SocketAddrV4::new(Ipv4Addr::UNSPECIFIED, 0),
             tells_sources: false,
         }
     }
 
     /// Has it tell where datagrams come from, which costs a part of each receive.
-    pub fn tell_sources(&mut self) {
+    pub fn keep_sources(&mut self) {
         self.tells_sources = true;
     }
 
     /// Lets receives answer at once from now on, and answers the socket's descriptor, by which its readiness is watched.
-    pub fn without_waits(&self) -> io::Result<i32> {
+    pub fn nonblocking_fd(&self) -> io::Result<i32> {
         self.socket.set_nonblocking(true)?;
         Ok(self.socket.as_raw_fd())
     }
@@ -69,10 +69,10 @@ impl<'a> Receiver<'a> {
         }
         let (count, from) = self.socket.recv_from(buf)?;
         if let SocketAddr::V4(from) = from {
-            self.from = from;
+            self.last_source = from;
         }
         match source {
-            Some(source) if !source.has_sent(from) => Ok(None),
+            Some(source) if !source.accepts(from) => Ok(None),
             _ => Ok(Some(count)),
         }
     }
@@ -136,7 +136,7 @@ pub(crate) fn inherited_socket(descriptor: i32) -> io::Result<UdpSocket> {
 
 /// Asks the system to hold more datagrams while none is received. It may give less, and nothing rests on it.
 fn ask_for_room(socket: &UdpSocket) {
-    let value = option_of(RECEIVE_ROOM);
+    let value = option_of(RECEIVE_BUFFER);
     let _ = unsafe {
         libc::net::setsockopt(
             socket.as_raw_fd(),

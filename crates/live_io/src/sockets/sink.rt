@@ -1,13 +1,13 @@
 //! Where the output's datagrams go: to two addresses, each from a socket of its own.
 ghost use Rattle.std.specs.Prelude.{None};
 
-use crate::sockets::inherited::Handed;
+use crate::sockets::inherited::InheritedSockets;
 use mio::net::UdpSocket;
 use os::FromRawFd;
 use std::io::ErrorKind;
 use std::net::{Ipv4Addr, Net, SocketAddr};
 use std::{io, net};
-use studio_config::Senders;
+use studio_config::OutputAddresses;
 use studio_io::{SendAnswer, Sink};
 
 /// A socket that sends to one address and port.
@@ -82,8 +82,8 @@ impl UdpSink {
         rt: &R,
         to_a: u16,
         to_b: u16,
-        senders: &Senders,
-        handed: &Handed,
+        senders: &OutputAddresses,
+        handed: &InheritedSockets,
     ) -> io::Result<UdpSink> {
         let ttl = senders.ttl;
         Ok(UdpSink {

@@ -7,20 +7,20 @@ use studio_config::StudioSpec;
 
 /// How many datagrams each path got from elsewhere than its source, stream by stream and path by path.
 #[derive(Drop)]
-pub struct Strangers {
+pub struct UnexpectedSources {
     counts: Vec<AtomicU64>,
 }
 
-impl Strangers {
+impl UnexpectedSources {
     /// None yet, at any path of a studio.
-    pub fn none(alloc: Global, studio: &StudioSpec) -> Result<Strangers, AllocError> {
+    pub fn new(alloc: Global, studio: &StudioSpec) -> Result<UnexpectedSources, AllocError> {
         let mut counts = Vec::new(alloc);
         for stream in studio.streams() {
             for _ in 0..stream.paths() {
                 counts.push(AtomicU64::new(0))?;
             }
         }
-        Ok(Strangers { counts })
+        Ok(UnexpectedSources { counts })
     }
 
     /// Those of the path at this place so far.
@@ -32,8 +32,8 @@ impl Strangers {
     }
 
     /// The source of the path at this place, if one is said.
-    pub fn source(&self, place: usize, address: Option<Ipv4Addr>) -> Option<Source<'_>> {
-        Some(Source {
+    pub fn source(&self, place: usize, address: Option<Ipv4Addr>) -> Option<ExpectedSource<'_>> {
+        Some(ExpectedSource {
             address: address?,
             strangers: self.counts.get(place)?,
         })
@@ -42,14 +42,14 @@ impl Strangers {
 
 /// The address from which alone a path takes datagrams, and how many came from elsewhere.
 #[derive(Clone, Copy)]
-pub struct Source<'a> {
+pub struct ExpectedSource<'a> {
     address: Ipv4Addr,
     strangers: &'a AtomicU64,
 }
 
-impl Source<'_> {
+impl ExpectedSource<'_> {
     /// Whether a datagram is the source's. Another one is counted.
-    pub fn has_sent(&self, from: SocketAddr) -> bool {
+    pub fn accepts(&self, from: SocketAddr) -> bool {
         let is_own = from.ip() == IpAddr::V4(self.address);
         if !is_own {
             self.strangers.fetch_add(1, Ordering::SeqCst);

@@ -1,14 +1,16 @@
 //! What a run in one thread is started from.
 ghost use Rattle.std.specs.Prelude.{◌≡◌, true, IfOk, IfErr, length, map};
-ghost use Rattle.live_run.specs.Run.{IsEarly, IsRunOf};
+ghost use Rattle.live_run.specs.RunResult.{IsEarly, IsRunOf};
 
-use crate::by_stream::by_stream;
 use crate::fault::LiveFault;
+use crate::feed_groups::group_by_stream;
 use crate::metered_sink::MeteredSink;
-use crate::single_thread::observer::LiveTap;
-use crate::single_thread::socket_wait::SocketRest;
-use engine_run::run_alone;
-use live_io::{Flags, Receiver, Recorded, Sockets, Start, SystemClock, UdpFeed, UdpSink, feeds_of};
+use crate::single_thread::observer::LiveObserver;
+use crate::single_thread::socket_wait::SocketWait;
+use engine_run::run_engine;
+use live_io::{
+    FeedFlags, Receiver, RecordResult, RunPeriod, Sockets, SystemClock, UdpFeed, UdpSink, udp_feeds,
+};
 use live_status::Meter;
 use std::alloc::Global;
 use std::io::Write;
@@ -19,31 +21,31 @@ use studio_io::WorkReport;
 
 /// What a run in one thread is started from, beside its tap.
 #[derive(Drop)]
-pub(crate) struct Lone<'a, R: Wait + Clock> {
+pub(crate) struct SingleThreadRun<'a, R: Wait + Clock> {
     pub(crate) feeds: Vec<Vec<UdpFeed<'a, R>>>,
     clock: SystemClock<'a, R>,
     sink: MeteredSink<'a, UdpSink>,
-    rest: SocketRest<'a, R>,
+    rest: SocketWait<'a, R>,
 }
 
 /// Feeds of these sockets, and the wait for them.
-pub(crate) fn lone_of<'a, R: Wait + Clock>(
+pub(crate) fn prepare_engine_io<'a, R: Wait + Clock>(
     rt: &'a R,
     alloc: Global,
     studio: &StudioSpec,
     sockets: Sockets<'a>,
-    start: Start,
-    flags: Flags<'a>,
+    start: RunPeriod,
+    flags: FeedFlags<'a>,
     meter: Option<&'a Meter>,
-) -> Result<Lone<'a, R>, LiveFault>
+) -> Result<SingleThreadRun<'a, R>, LiveFault>
     ensures feeds { IfOk result (λ lone. map (λ own. length own.items) lone.feeds.items ≡ map (λ stream. stream.paths) studio.now.streams) }
     ensures early { IfErr result IsEarly }
 {
     let Sockets { receiving, sink } = sockets;
     let clock = start.clock(rt);
-    let rest = SocketRest::new(rt, alloc, receiving.as_slice(), flags.pending, clock)?;
-    let feeds = own_feeds(rt, alloc, studio, receiving, start, flags)?;
-    Ok(Lone {
+    let rest = SocketWait::new(rt, alloc, receiving.as_slice(), flags.ready, clock)?;
+    let feeds = stream_feeds(rt, alloc, studio, receiving, start, flags)?;
+    Ok(SingleThreadRun {
         feeds,
         clock: start.clock(rt),
         sink: MeteredSink { sink, meter },
@@ -52,43 +54,43 @@ pub(crate) fn lone_of<'a, R: Wait + Clock>(
 }
 
 /// The feeds of all sockets, stream by stream.
-fn own_feeds<'a, R: Clock>(
+fn stream_feeds<'a, R: Clock>(
     rt: &'a R,
     alloc: Global,
     studio: &StudioSpec,
     receiving: Vec<Receiver<'a>>,
-    start: Start,
-    flags: Flags<'a>,
+    start: RunPeriod,
+    flags: FeedFlags<'a>,
 ) -> Result<Vec<Vec<UdpFeed<'a, R>>>, LiveFault>
     ensures each { IfOk result (λ all. map (λ own. length own.items) all.items ≡ map (λ stream. stream.paths) studio.now.streams) }
     ensures early { IfErr result IsEarly }
 {
-    let feeds = feeds_of(rt, alloc, receiving, start, flags)?;
-    by_stream(alloc, feeds, studio.streams())
+    let feeds = udp_feeds(rt, alloc, receiving, start, flags)?;
+    group_by_stream(alloc, feeds, studio.streams())
 }
 
-impl<R: Wait + Clock> Lone<'_, R> {
+impl<R: Wait + Clock> SingleThreadRun<'_, R> {
     /// Runs an engine in this thread, and tells how many datagrams its record was told of.
     pub(crate) fn run<E: Write + Drop>(
         self,
         rt: &R,
         alloc: Global,
         studio: &StudioSpec,
-        tap: LiveTap<'_, E>,
-        told: &Recorded,
+        tap: LiveObserver<'_, E>,
+        told: &RecordResult,
     ) -> Result<WorkReport, LiveFault>
         requires feeds { map (λ own. length own.items) self.feeds.items ≡ map (λ stream. stream.paths) studio.now.streams }
         ensures run { IfOk result (IsRunOf true studio.now) }
         ensures early { IfErr result IsEarly }
     {
-        let Lone {
+        let SingleThreadRun {
             feeds,
             clock,
             sink,
             rest,
         } = self;
-        let (report, _sink, tap) = run_alone(rt, alloc, studio, feeds, clock, sink, tap, rest)?;
-        told.tell_came(tap.came());
+        let (report, _sink, tap) = run_engine(rt, alloc, studio, feeds, clock, sink, tap, rest)?;
+        told.set_received(tap.received());
         Ok(report)
     }
 }

@@ -1,51 +1,51 @@
 //! The tap of a run in one thread: its record and what is seen of it, where these are asked for.
 ghost use Rattle.std.specs.Prelude.{[], ◌∷◌, None};
-ghost use Rattle.engine_run.specs.Taps.{Came, Closed, Hears};
+ghost use Rattle.engine_run.specs.Observers.{Came, Closed, Hears};
 
-use engine_run::Tap;
-use live_io::{RecordTap, UdpFeed, Way};
-use live_status::{EngineView, Showing};
+use engine_run::RunObserver;
+use live_io::{DatagramOrigin, RecordObserver, UdpFeed};
+use live_status::{EngineStatus, StatusOutputs};
 use rtp_stream::Path;
 use std::alloc::{AllocError, Global};
 use std::io::Write;
 use std::time::Clock;
 use studio_config::StudioSpec;
 use studio_engine::Engine;
-use studio_session::Receipt;
+use studio_session::ArriveOutcome;
 
 /// What is told of what a run takes: a record and a view, each if it is asked for.
 #[derive(Drop)]
-pub(crate) struct LiveTap<'v, E> {
-    record: Option<RecordTap>,
-    view: Option<EngineView<'v, E>>,
+pub(crate) struct LiveObserver<'v, E> {
+    record: Option<RecordObserver>,
+    view: Option<EngineStatus<'v, E>>,
 }
 
-impl<'v, E: Write + Drop> LiveTap<'v, E> {
+impl<'v, E: Write + Drop> LiveObserver<'v, E> {
     /// The tap of a run of this studio, before anything came. It takes all memory.
     pub(crate) fn new(
         alloc: Global,
         studio: &StudioSpec,
-        record: Option<RecordTap>,
-        showing: Showing<'v, E>,
-    ) -> Result<LiveTap<'v, E>, AllocError> {
-        let Showing { board, meter } = showing;
+        record: Option<RecordObserver>,
+        showing: StatusOutputs<'v, E>,
+    ) -> Result<LiveObserver<'v, E>, AllocError> {
+        let StatusOutputs { board, meter } = showing;
         let view = match board {
-            Some(board) => Some(EngineView::new(alloc, studio.streams(), board, meter)?),
+            Some(board) => Some(EngineStatus::new(alloc, studio.streams(), board, meter)?),
             None => None,
         };
-        Ok(LiveTap { record, view })
+        Ok(LiveObserver { record, view })
     }
 
     /// How many datagrams the record was told.
-    pub(crate) fn came(&self) -> u64 {
+    pub(crate) fn received(&self) -> u64 {
         match &self.record {
-            Some(record) => record.came(),
+            Some(record) => record.received(),
             None => 0,
         }
     }
 }
 
-impl<'a, R: Clock, E: Write + Drop> Tap<UdpFeed<'a, R>> for LiveTap<'_, E> {
+impl<'a, R: Clock, E: Write + Drop> RunObserver<UdpFeed<'a, R>> for LiveObserver<'_, E> {
     ghost heard = { λ tap. None };
 
     fn arrived(
@@ -54,12 +54,12 @@ impl<'a, R: Clock, E: Write + Drop> Tap<UdpFeed<'a, R>> for LiveTap<'_, E> {
         stream: usize,
         path: Path,
         octets: &[u8],
-        receipt: Receipt,
+        receipt: ArriveOutcome,
         feed: &UdpFeed<'a, R>,
     ) {
         if let Some(record) = &mut self.record {
-            let way = Way {
-                place: feed.place(),
+            let way = DatagramOrigin {
+                path_index: feed.place(),
                 source: feed.source(),
                 destination: feed.destination(),
             };
@@ -70,9 +70,9 @@ impl<'a, R: Clock, E: Write + Drop> Tap<UdpFeed<'a, R>> for LiveTap<'_, E> {
         }
     }
 
-    fn rests(&mut self, engine: &Engine) {
+    fn before_wait(&mut self, engine: &Engine) {
         if let Some(view) = &mut self.view {
-            view.look(engine);
+            view.publish_if_due(engine);
         }
     }
 
@@ -81,7 +81,7 @@ impl<'a, R: Clock, E: Write + Drop> Tap<UdpFeed<'a, R>> for LiveTap<'_, E> {
             record.closed(engine.time());
         }
         if let Some(view) = &mut self.view {
-            view.close(engine);
+            view.publish_last(engine);
         }
     }
 }

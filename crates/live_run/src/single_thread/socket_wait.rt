@@ -1,6 +1,6 @@
 //! How a run in one thread waits for its sockets.
 
-use engine_run::Rest;
+use engine_run::IdleWait;
 use libc::net::{POLLIN, poll};
 use libc::types::pollfd;
 use live_io::{Receiver, SystemClock};
@@ -34,7 +34,7 @@ const QUIET_WAIT: i32 = 4;
 
 /// What a look at the sockets came to.
 #[derive(Clone, Copy, PartialEq, Eq, Debug)]
-enum Look {
+enum PollOutcome {
     /// Some have something.
     Ready,
     /// None has.
@@ -50,11 +50,11 @@ enum Look {
 /// the reading before, unless that is older. Once nothing has come for a while it sleeps longer, past deadlines of silence; the
 /// first datagram ends that.
 #[derive(Drop)]
-pub(crate) struct SocketRest<'a, R: Wait + Clock> {
+pub(crate) struct SocketWait<'a, R: Wait + Clock> {
     rt: &'a R,
     sockets: Vec<pollfd>,
     /// Which sockets are to be asked, once each.
-    pending: &'a [AtomicBool],
+    ready: &'a [AtomicBool],
     /// Where it waits while datagrams come. Nobody ends that wait.
     parker: Parker,
     /// How old a reading is, by this.
@@ -65,27 +65,27 @@ pub(crate) struct SocketRest<'a, R: Wait + Clock> {
     quiet: u32,
 }
 
-impl<'a, R: Wait + Clock> SocketRest<'a, R> {
+impl<'a, R: Wait + Clock> SocketWait<'a, R> {
     /// A wait for these sockets, whose receives don't wait from then on.
     pub(crate) fn new(
         rt: &'a R,
         alloc: Global,
         receivers: &[Receiver<'_>],
-        pending: &'a [AtomicBool],
+        ready: &'a [AtomicBool],
         clock: SystemClock<'a, R>,
-    ) -> io::Result<SocketRest<'a, R>> {
+    ) -> io::Result<SocketWait<'a, R>> {
         let mut sockets = Vec::with_capacity(alloc, receivers.len())?;
         for receiver in receivers {
             sockets.push(pollfd {
-                fd: receiver.without_waits()?,
+                fd: receiver.nonblocking_fd()?,
                 events: POLLIN,
                 revents: 0,
             })?;
         }
-        Ok(SocketRest {
+        Ok(SocketWait {
             rt,
             sockets,
-            pending,
+            ready,
             parker: Parker::new(),
             clock,
             is_busy: false,
@@ -115,11 +115,11 @@ impl<'a, R: Wait + Clock> SocketRest<'a, R> {
     /// Waits so many sampling instants, but for whole milliseconds at most until a socket has something; not at all where
     /// one has more than was taken of it.
     fn wait(&mut self, instants: u64) {
-        if self.is_busy && self.look(0) == Look::Ready {
+        if self.is_busy && self.look(0) == PollOutcome::Ready {
             return;
         }
         let most = self.sleep(instants);
-        self.is_busy = self.look(most) != Look::Nothing;
+        self.is_busy = self.look(most) != PollOutcome::Nothing;
         self.quiet = if self.is_busy {
             0
         } else {
@@ -128,22 +128,26 @@ impl<'a, R: Wait + Clock> SocketRest<'a, R> {
     }
 
     /// Looks which sockets have something, for so many milliseconds at most until one has.
-    fn look(&mut self, most: i32) -> Look {
+    fn look(&mut self, most: i32) -> PollOutcome {
         let count = poll(self.sockets.as_mut_slice(), most);
         if count == 0 {
-            return Look::Nothing;
+            return PollOutcome::Nothing;
         }
-        for (socket, pending) in self.sockets.iter().zip(self.pending) {
+        for (socket, ready) in self.sockets.iter().zip(self.ready) {
             if count < 0 || socket.revents != 0 {
-                pending.store(true, Ordering::SeqCst);
+                ready.store(true, Ordering::SeqCst);
             }
         }
-        if count < 0 { Look::Failed } else { Look::Ready }
+        if count < 0 {
+            PollOutcome::Failed
+        } else {
+            PollOutcome::Ready
+        }
     }
 }
 
-impl<R: Wait + Clock> Rest for SocketRest<'_, R> {
-    fn rest(&mut self, engine: &Engine, most: i64) -> bool {
+impl<R: Wait + Clock> IdleWait for SocketWait<'_, R> {
+    fn wait_for_input(&mut self, engine: &Engine, most: i64) -> bool {
         self.wait(u64::try_from(most).unwrap_or(0));
         self.clock.now().saturating_sub(engine.time()) <= OLDEST
     }

@@ -8,11 +8,11 @@ const STATUS: &[u8] = b"/proc/self/status";
 const ENDING: u64 = 0x4003;
 
 /// Whether a signal that asks the process to end was sent to it, and is held back.
-pub(crate) fn is_asked_to_end() -> bool {
+pub(crate) fn is_stop_signal_pending() -> bool {
     let mut status = [0u8; 4096];
     let count = read_status(&mut status);
     match str::from_utf8(&status[..count]) {
-        Ok(text) => has_ending_signal(text),
+        Ok(text) => has_stop_signal(text),
         Err(_) => false,
     }
 }
@@ -48,7 +48,7 @@ fn read_file(file: i32, octets: &mut [u8; 4096]) -> usize
 
 /// Whether one of the signals that wait for a process asks it to end, by the text that the system gives of it: its line
 /// `ShdPnd:`.
-pub fn has_ending_signal(status: &str) -> bool {
+pub fn has_stop_signal(status: &str) -> bool {
     for line in status.lines() {
         if let Some(set) = line.strip_prefix("ShdPnd:") {
             return match u64::from_str_radix(set.trim(), 16) {

@@ -5,28 +5,28 @@ use std::thread::Parker;
 
 /// What a run and its watcher tell each other.
 #[derive(Drop)]
-pub struct Signs {
+pub struct StopFlags {
     /// Each feed is to end.
     pub stop: AtomicBool,
     /// The run has ended, and so does the watcher.
-    pub(crate) over: AtomicBool,
+    pub(crate) finished: AtomicBool,
     /// Where the watcher waits.
     pub(crate) parker: Parker,
 }
 
-impl Signs {
+impl StopFlags {
     /// Nothing is told yet.
-    pub fn new() -> Signs {
-        Signs {
+    pub fn new() -> StopFlags {
+        StopFlags {
             stop: AtomicBool::new(false),
-            over: AtomicBool::new(false),
+            finished: AtomicBool::new(false),
             parker: Parker::new(),
         }
     }
 
     /// Tells the watcher that the run has ended.
-    pub(crate) fn tell_over(&self) {
-        self.over.store(true, Ordering::SeqCst);
+    pub(crate) fn set_finished(&self) {
+        self.finished.store(true, Ordering::SeqCst);
         self.parker.unpark();
     }
 }

@@ -2,36 +2,40 @@
 ghost use Rattle.std.specs.Prelude.{◌≡◌, None, replicate, IfOk, IsNone, IsSomeAnd, MatchOption};
 ghost use Rattle.live_status.specs.Each.{AreEach};
 ghost use Rattle.live_status.specs.Outputs.{HasNumbers};
-ghost use Rattle.live_run.specs.Asked.{AreAsked, TellsMix, TellsPath, TellsStream};
-ghost use Rattle.live_run.specs.Told.{SeesTold};
+ghost use Rattle.live_run.specs.LatestStats.{AreAsked, TellsMix, TellsPath, TellsStream};
+ghost use Rattle.live_run.specs.StreamStatus.{SeesTold};
 
-use crate::asked::{ask_mix, ask_paths, ask_streams};
-use crate::workers::stream_status::see_streams;
-use live_status::see_mix;
-use rtp_stats::{MixNumbers, StreamNumbers};
+use crate::asked::{refresh_mix, refresh_paths, refresh_streams};
+use crate::workers::stream_status::fill_streams;
+use live_status::fill_outputs;
+use rtp_stats::{MixStats, StreamStats};
 use rtp_stream::PathCounts;
 use status_page::Snapshot;
 use std::alloc::{AllocError, Global};
-use studio_ends::Watches;
+use studio_ends::StatsReceivers;
 
 /// What each watch told last; none, where it told nothing yet.
 #[derive(Drop)]
-pub(crate) struct Told {
+pub(crate) struct LatestStats {
     /// Stream by stream and path by path.
     paths: Vec<Option<PathCounts>>,
     /// Stream by stream.
-    streams: Vec<Option<StreamNumbers>>,
-    mix: Option<MixNumbers>,
+    streams: Vec<Option<StreamStats>>,
+    mix: Option<MixStats>,
 }
 
-impl Told {
+impl LatestStats {
     /// Nothing yet, of so many watches. It takes all memory.
-    pub(crate) fn nothing(alloc: Global, paths: usize, streams: usize) -> Result<Told, AllocError>
+    pub(crate) fn empty(
+        alloc: Global,
+        paths: usize,
+        streams: usize,
+    ) -> Result<LatestStats, AllocError>
         ensures paths { IfOk result (λ told. told.paths.items ≡ replicate paths None) }
         ensures streams { IfOk result (λ told. told.streams.items ≡ replicate streams None) }
         ensures mix { IfOk result (λ told. IsNone told.mix) }
     {
-        Ok(Told {
+        Ok(LatestStats {
             paths: Vec::from_elem(alloc, None, paths)?,
             streams: Vec::from_elem(alloc, None, streams)?,
             mix: None,
@@ -39,25 +43,25 @@ impl Told {
     }
 
     /// Asks all watches.
-    pub(crate) fn ask(&mut self, watches: &mut Watches)
+    pub(crate) fn refresh(&mut self, watches: &mut StatsReceivers)
         ensures paths { AreAsked TellsPath watches.old.paths.items watches.new.paths.items self.old.paths.items self.new.paths.items }
         ensures streams { AreAsked TellsStream watches.old.streams.items watches.new.streams.items self.old.streams.items self.new.streams.items }
         ensures mix { MatchOption watches.old.mix (IsNone watches.new.mix × (self.new.mix ≡ self.old.mix)) (λ old. IsSomeAnd watches.new.mix (λ new. TellsMix old new self.old.mix self.new.mix)) }
     {
-        ask_paths(watches.paths.as_mut_slice(), self.paths.as_mut_slice());
-        ask_streams(watches.streams.as_mut_slice(), self.streams.as_mut_slice());
-        ask_mix(&mut watches.mix, &mut self.mix);
+        refresh_paths(watches.paths.as_mut_slice(), self.paths.as_mut_slice());
+        refresh_streams(watches.streams.as_mut_slice(), self.streams.as_mut_slice());
+        refresh_mix(&mut watches.mix, &mut self.mix);
     }
 
     /// Sees what they told.
-    pub(crate) fn see(&self, snapshot: &mut Snapshot)
+    pub(crate) fn fill(&self, snapshot: &mut Snapshot)
         ensures streams { AreEach (SeesTold self.now.streams.items self.now.paths.items snapshot.old.streams.items) snapshot.old.streams.items snapshot.new.streams.items }
         ensures outputs { MatchOption self.now.mix (snapshot.new.outputs ≡ snapshot.old.outputs) (λ numbers. AreEach (HasNumbers numbers) snapshot.old.outputs.items snapshot.new.outputs.items) }
     {
         if let Some(numbers) = &self.mix {
-            see_mix(numbers, snapshot.outputs.as_mut_slice());
+            fill_outputs(numbers, snapshot.outputs.as_mut_slice());
         }
         let streams = snapshot.streams.as_mut_slice();
-        see_streams(self.streams.as_slice(), self.paths.as_slice(), streams);
+        fill_streams(self.streams.as_slice(), self.paths.as_slice(), streams);
     }
 }

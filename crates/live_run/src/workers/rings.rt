@@ -1,12 +1,12 @@
 //! The rings between a run's workers.
 ghost use Rattle.std.specs.Prelude.{◌≡◌, ℕ, length, IfOk, IfErr};
 ghost use Rattle.studio_rings.specs.StreamResults.{AreOpenedTogether};
-ghost use Rattle.live_run.specs.Run.{IsEarly};
+ghost use Rattle.live_run.specs.RunResult.{IsEarly};
 
 use crate::fault::LiveFault;
 use std::alloc::Global;
 use studio_config::StudioSpec;
-use studio_ends::{Ends, OpenFault, Watches, open, open_watched};
+use studio_ends::{Ends, OpenFault, StatsReceivers, open, open_with_stats};
 
 /// How many places each ring has.
 const PLACES: usize = 256;
@@ -15,11 +15,11 @@ const PLACES: usize = 256;
 #[derive(Drop)]
 pub(crate) struct Rings {
     pub(crate) ends: Ends,
-    pub(crate) watches: Option<Watches>,
+    pub(crate) watches: Option<StatsReceivers>,
 }
 
 /// The rings of a studio, which has so many paths.
-pub(crate) fn rings_of(
+pub(crate) fn open_rings(
     alloc: Global,
     studio: &StudioSpec,
     paths: usize,
@@ -41,7 +41,7 @@ fn opened_rings(alloc: Global, studio: &StudioSpec, is_shown: bool) -> Result<Ri
     ensures opened { IfOk result (λ rings. AreOpenedTogether studio.now 256 rings.ends) }
 {
     if is_shown {
-        let (ends, watches) = open_watched(alloc, studio, PLACES)?;
+        let (ends, watches) = open_with_stats(alloc, studio, PLACES)?;
         return Ok(Rings {
             ends,
             watches: Some(watches),

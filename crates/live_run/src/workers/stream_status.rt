@@ -1,16 +1,16 @@
 //! What is seen of streams by what their watches told.
 ghost use Rattle.std.specs.Prelude.{◌≡◌, drop};
 ghost use Rattle.live_status.specs.Each.{AreEach};
-ghost use Rattle.live_run.specs.Told.{HasCounts, SeesAt, SeesStream, SeesTold};
+ghost use Rattle.live_run.specs.StreamStatus.{HasCounts, SeesAt, SeesStream, SeesTold};
 
-use live_status::{see_datagrams, see_told};
-use rtp_stats::StreamNumbers;
+use live_status::{fill_datagrams, fill_stream};
+use rtp_stats::StreamStats;
 use rtp_stream::PathCounts;
 use status_page::{PathState, StreamState};
 
 /// Sees what was told of each stream, and of each path, by counts that stand path by path.
-pub(crate) fn see_streams(
-    told: &[Option<StreamNumbers>],
+pub(crate) fn fill_streams(
+    told: &[Option<StreamStats>],
     counts: &[Option<PathCounts>],
     streams: &mut [StreamState],
 )
@@ -19,14 +19,14 @@ pub(crate) fn see_streams(
     let mut left = counts;
     for (number, stream) in streams.iter_mut().enumerate() {
         let paths = stream.paths.len();
-        see_stream_at(told, number, left, stream);
+        fill_stream_at(told, number, left, stream);
         left = counts_past(left, paths);
     }
 }
 
 /// Sees what was told of the stream at a place, if there is a place for it.
-fn see_stream_at(
-    told: &[Option<StreamNumbers>],
+fn fill_stream_at(
+    told: &[Option<StreamStats>],
     place: usize,
     counts: &[Option<PathCounts>],
     stream: &mut StreamState,
@@ -34,7 +34,7 @@ fn see_stream_at(
     ensures { SeesAt told.now place counts.now stream.old stream.new }
 {
     if let Some(numbers) = told.get(place) {
-        see_stream(numbers, counts, stream);
+        fill_stream_with_paths(numbers, counts, stream);
     }
 }
 
@@ -50,29 +50,33 @@ fn counts_past(counts: &[Option<PathCounts>], paths: usize) -> &[Option<PathCoun
 }
 
 /// Sees what was told of a stream, and of its paths.
-fn see_stream(told: &Option<StreamNumbers>, counts: &[Option<PathCounts>], stream: &mut StreamState)
+fn fill_stream_with_paths(
+    told: &Option<StreamStats>,
+    counts: &[Option<PathCounts>],
+    stream: &mut StreamState,
+)
     ensures { SeesStream told.now counts.now stream.old stream.new }
 {
     if let Some(numbers) = told {
-        see_told(numbers, stream);
+        fill_stream(numbers, stream);
     }
-    see_paths(counts, stream.paths.as_mut_slice());
+    fill_path_counts(counts, stream.paths.as_mut_slice());
 }
 
 /// Sees what became of each path's datagrams.
-fn see_paths(counts: &[Option<PathCounts>], paths: &mut [PathState])
+fn fill_path_counts(counts: &[Option<PathCounts>], paths: &mut [PathState])
     ensures { AreEach (HasCounts counts.now) paths.old paths.new }
 {
     for (place, path) in paths.iter_mut().enumerate() {
-        see_path(counts, place, path);
+        fill_counts_at(counts, place, path);
     }
 }
 
 /// Sees what became of the datagrams of the path at a place.
-fn see_path(counts: &[Option<PathCounts>], place: usize, path: &mut PathState)
+fn fill_counts_at(counts: &[Option<PathCounts>], place: usize, path: &mut PathState)
     ensures { HasCounts counts.now place path.old path.new }
 {
     if let Some(Some(told)) = counts.get(place) {
-        see_datagrams(*told, path);
+        fill_datagrams(*told, path);
     }
 }

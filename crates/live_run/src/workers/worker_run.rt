@@ -1,10 +1,10 @@
 //! What a run's workers are started from.
 ghost use Rattle.std.specs.Prelude.{◌≡◌, false, length, IfOk, IfErr};
 ghost use Rattle.studio_rings.specs.StreamResults.{AreOpenedTogether};
-ghost use Rattle.live_run.specs.Run.{IsEarly, IsRunOf};
+ghost use Rattle.live_run.specs.RunResult.{IsEarly, IsRunOf};
 
 use crate::fault::LiveFault;
-use live_io::{Flags, Sockets, Start, SystemClock, UdpFeed, UdpSink, feeds_of};
+use live_io::{FeedFlags, RunPeriod, Sockets, SystemClock, UdpFeed, UdpSink, udp_feeds};
 use std::alloc::{AllocError, Global};
 use std::sync::Wait;
 use std::thread::Threads;
@@ -15,7 +15,7 @@ use studio_rings::{WorkReport, run_workers};
 
 /// What the workers are started from.
 #[derive(Drop)]
-pub(crate) struct Work<'a, R: Clock> {
+pub(crate) struct WorkerRun<'a, R: Clock> {
     pub(crate) ends: Ends,
     pub(crate) feeds: Vec<UdpFeed<'a, R>>,
     pub(crate) clocks: Vec<SystemClock<'a, R>>,
@@ -23,22 +23,22 @@ pub(crate) struct Work<'a, R: Clock> {
 }
 
 /// The workers of rings and sockets.
-pub(crate) fn work_of<'a, R: Clock>(
+pub(crate) fn prepare_workers<'a, R: Clock>(
     rt: &'a R,
     alloc: Global,
     ends: Ends,
     sockets: Sockets<'a>,
-    start: Start,
-    flags: Flags<'a>,
-) -> Result<Work<'a, R>, AllocError>
+    start: RunPeriod,
+    flags: FeedFlags<'a>,
+) -> Result<WorkerRun<'a, R>, AllocError>
     ensures ends { IfOk result (λ work. work.ends ≡ ends) }
     ensures feeds { IfOk result (λ work. length work.feeds.items ≡ length sockets.entry.receiving.items) }
     ensures clocks { IfOk result (λ work. length work.clocks.items ≡ length ends.streams.items) }
 {
     let Sockets { receiving, sink } = sockets;
     let clocks = clocks_of(rt, alloc, ends.streams.len(), start)?;
-    let feeds = feeds_of(rt, alloc, receiving, start, flags)?;
-    Ok(Work {
+    let feeds = udp_feeds(rt, alloc, receiving, start, flags)?;
+    Ok(WorkerRun {
         ends,
         feeds,
         clocks,
@@ -51,7 +51,7 @@ fn clocks_of<R: Clock>(
     rt: &R,
     alloc: Global,
     count: usize,
-    start: Start,
+    start: RunPeriod,
 ) -> Result<Vec<SystemClock<'_, R>>, AllocError>
     ensures { IfOk result (λ clocks. length clocks.items ≡ count) }
 {
@@ -62,7 +62,7 @@ fn clocks_of<R: Clock>(
     Ok(clocks)
 }
 
-impl<R: Threads + Wait + Sync + Clock> Work<'_, R> {
+impl<R: Threads + Wait + Sync + Clock> WorkerRun<'_, R> {
     /// Runs the workers of a studio.
     pub(crate) fn run(
         self,
@@ -77,7 +77,7 @@ impl<R: Threads + Wait + Sync + Clock> Work<'_, R> {
         ensures early { IfErr result IsEarly }
     {
         let _open_at = studio.open_at();
-        let Work {
+        let WorkerRun {
             ends,
             feeds,
             clocks,

@@ -6,14 +6,14 @@ use byteorder::{BigEndian, ByteOrder, LittleEndian};
 
 /// Which octet of a number stands first.
 #[derive(Clone, Copy, Debug, PartialEq, Eq)]
-pub enum Order {
+pub enum Endian {
     /// The most significant.
     Big,
     /// The least significant.
     Little,
 }
 
-impl Order {
+impl Endian {
     /// The number of two octets at a place.
     #[tactic(auto, unfolding(crate::specs::Octets::number_at))]
     pub(crate) fn read_u16(self, octets: &[u8], place: usize) -> u16
@@ -21,8 +21,8 @@ impl Order {
         ensures { result ≡ number_at self 2 place octets.now }
     {
         match self {
-            Order::Big => BigEndian::read_u16(&octets[place..]),
-            Order::Little => LittleEndian::read_u16(&octets[place..]),
+            Endian::Big => BigEndian::read_u16(&octets[place..]),
+            Endian::Little => LittleEndian::read_u16(&octets[place..]),
         }
     }
 
@@ -33,8 +33,8 @@ impl Order {
         ensures { result ≡ number_at self 4 place octets.now }
     {
         match self {
-            Order::Big => BigEndian::read_u32(&octets[place..]),
-            Order::Little => LittleEndian::read_u32(&octets[place..]),
+            Endian::Big => BigEndian::read_u32(&octets[place..]),
+            Endian::Little => LittleEndian::read_u32(&octets[place..]),
         }
     }
 
@@ -45,8 +45,8 @@ impl Order {
         ensures { result ≡ number_at self 8 place octets.now }
     {
         match self {
-            Order::Big => BigEndian::read_u64(&octets[place..]),
-            Order::Little => LittleEndian::read_u64(&octets[place..]),
+            Endian::Big => BigEndian::read_u64(&octets[place..]),
+            Endian::Little => LittleEndian::read_u64(&octets[place..]),
         }
     }
 }

@@ -2,10 +2,10 @@
 ghost use Rattle.std.specs.Prelude.{◌≡◌, ◌<◌, ◌≤◌, ◌*◌, ◌/◌, ◌^◌, length, MatchOption};
 ghost use Rattle.pcap_file.specs.Interface as spec;
 
-use crate::decode::endian::Order;
-use crate::decode::link::{Link, link_of};
+use crate::decode::endian::Endian;
+use crate::decode::link::{LinkType, link_of};
 use crate::decode::options::option_at;
-use crate::fault::FaultKind;
+use crate::fault::CaptureFaultKind;
 
 /// Numbers of the options that an interface's times need.
 const TIME_RESOLUTION: u16 = 9;
@@ -15,7 +15,7 @@ const TIME_OFFSET: u16 = 14;
 /// What a section says of an interface.
 #[derive(Clone, Copy, Debug, Default, PartialEq, Eq)]
 pub struct Interface {
-    pub link: Link,
+    pub link: LinkType,
     /// How many octets of a packet are captured at most; 0 for all.
     pub limit: u32,
     /// The option `if_tsresol`: a second has 10 to this many units, or 2 to 128 less than it.
@@ -26,11 +26,11 @@ pub struct Interface {
 
 /// The interface that a block describes.
 #[tactic(auto, unfolding(crate::specs::Interface::interface_of))]
-pub(crate) fn read_interface(order: Order, block: &[u8]) -> Result<Interface, FaultKind>
+pub(crate) fn read_interface(order: Endian, block: &[u8]) -> Result<Interface, CaptureFaultKind>
     ensures { result ≡ spec.interface_of order block.now }
 {
     if block.len() < 20 {
-        return Err(FaultKind::Length);
+        return Err(CaptureFaultKind::Length);
     }
     let options = &block[16..block.len() - 4];
     let resolution = read_resolution(order, options)?;
@@ -45,30 +45,30 @@ pub(crate) fn read_interface(order: Order, block: &[u8]) -> Result<Interface, Fa
 
 /// The resolution that options give, or 6, for microseconds.
 #[tactic(auto, unfolding(crate::specs::Interface::resolution_of))]
-fn read_resolution(order: Order, options: &[u8]) -> Result<u8, FaultKind>
+fn read_resolution(order: Endian, options: &[u8]) -> Result<u8, CaptureFaultKind>
     ensures { result ≡ spec.resolution_of order options.now }
 {
     match option_at(order, TIME_RESOLUTION, options)? {
         None => Ok(6),
         Some(value) if value.len() == 1 => Ok(value[0]),
-        Some(_) => Err(FaultKind::Options),
+        Some(_) => Err(CaptureFaultKind::Options),
     }
 }
 
 /// The offset that options give, or 0.
 #[tactic(auto, unfolding(crate::specs::Interface::offset_of))]
-fn read_offset(order: Order, options: &[u8]) -> Result<i64, FaultKind>
+fn read_offset(order: Endian, options: &[u8]) -> Result<i64, CaptureFaultKind>
     ensures { result ≡ spec.offset_of order options.now }
 {
     match option_at(order, TIME_OFFSET, options)? {
         None => Ok(0),
         Some(value) if value.len() == 8 => Ok(order.read_u64(value, 0).cast_signed()),
-        Some(_) => Err(FaultKind::Options),
+        Some(_) => Err(CaptureFaultKind::Options),
     }
 }
 
 /// The time of a block in its interface's units: its high word, and its low word.
-pub(crate) fn time_units(order: Order, block: &[u8]) -> u64
+pub(crate) fn time_units(order: Endian, block: &[u8]) -> u64
     requires { 20 ≤ length block.now }
     ensures { result ≡ spec.time_units order block.now }
 {

@@ -1,10 +1,10 @@
 //! UDP datagrams in IPv4 packets (RFC 791, 3.1; RFC 768).
 ghost use Rattle.std.specs.Prelude.{◌≡◌, ◌≤◌, ◌+◌, length, option_map, true};
 ghost use Rattle.std.specs.Net.Addr.{ipv4_octets};
-ghost use Rattle.pcap_file.specs.Ipv4 as spec;
-ghost use Rattle.pcap_file.specs.Ipv4.{address_at, body_of, body_view, ipv4_of, ipv4_view, udp_of, udp_view};
+ghost use Rattle.pcap_file.specs.UdpPacket as spec;
+ghost use Rattle.pcap_file.specs.UdpPacket.{address_at, body_of, body_view, ipv4_of, ipv4_view, udp_of, udp_view};
 
-use crate::decode::endian::Order;
+use crate::decode::endian::Endian;
 use std::net::Ipv4Addr;
 
 /// The octets of an IPv4 header without options, and of an UDP header.
@@ -17,26 +17,26 @@ const UDP: u8 = 17;
 
 /// An IPv4 packet of UDP.
 #[derive(Clone, Copy, Debug, PartialEq, Eq)]
-pub struct Ipv4<'a> {
+pub struct UdpPacket<'a> {
     pub source: Ipv4Addr,
     pub destination: Ipv4Addr,
-    pub body: Body<'a>,
+    pub body: UdpBody<'a>,
 }
 
 /// What an IPv4 packet of UDP carries.
 #[derive(Clone, Copy, Debug, PartialEq, Eq)]
-pub enum Body<'a> {
+pub enum UdpBody<'a> {
     /// A whole datagram.
-    Datagram(Datagram<'a>),
+    Datagram(UdpDatagram<'a>),
     /// A fragment of a datagram, which isn't put together.
     Fragment,
     /// Less than a datagram: it was captured in part, or a length of its headers is wrong.
-    Cut,
+    Truncated,
 }
 
 /// A UDP datagram. Its checksum isn't looked at, since senders often leave it to their network card.
 #[derive(Clone, Copy, Debug, PartialEq, Eq)]
-pub struct Datagram<'a> {
+pub struct UdpDatagram<'a> {
     pub source_port: u16,
     pub destination_port: u16,
     /// The octets behind the header.
@@ -44,14 +44,14 @@ pub struct Datagram<'a> {
 }
 
 /// The UDP packet that octets begin with, unless they are something else.
-#[tactic(auto, unfolding(crate::specs::Ipv4::ipv4_of))]
-pub(crate) fn read_ipv4(octets: &[u8]) -> Option<Ipv4<'_>>
+#[tactic(auto, unfolding(crate::specs::UdpPacket::ipv4_of))]
+pub(crate) fn read_ipv4(octets: &[u8]) -> Option<UdpPacket<'_>>
     ensures { option_map ipv4_view result ≡ ipv4_of octets.now }
 {
     if !begins_with_header(octets) {
         return None;
     }
-    Some(Ipv4 {
+    Some(UdpPacket {
         source: read_address(octets, 12),
         destination: read_address(octets, 16),
         body: read_body(octets),
@@ -87,40 +87,40 @@ fn read_address(octets: &[u8], place: usize) -> Ipv4Addr
 }
 
 /// What an IPv4 packet carries, of which the fixed fields are there.
-#[tactic(auto, unfolding(crate::specs::Ipv4::body_of))]
-fn read_body(octets: &[u8]) -> Body<'_>
+#[tactic(auto, unfolding(crate::specs::UdpPacket::body_of))]
+fn read_body(octets: &[u8]) -> UdpBody<'_>
     requires { spec.has_udp_header octets.now ≡ true }
     ensures { body_view result ≡ body_of octets.now }
 {
-    if Order::Big.read_u16(octets, 6) % 16384 != 0 {
-        return Body::Fragment;
+    if Endian::Big.read_u16(octets, 6) % 16384 != 0 {
+        return UdpBody::Fragment;
     }
     let begin = header_length(octets);
-    let end = usize::from(Order::Big.read_u16(octets, 2));
+    let end = usize::from(Endian::Big.read_u16(octets, 2));
     if begin < IPV4_HEADER || end < begin || octets.len() < end {
-        return Body::Cut;
+        return UdpBody::Truncated;
     }
     match read_udp(&octets[begin..end]) {
-        Some(datagram) => Body::Datagram(datagram),
-        None => Body::Cut,
+        Some(datagram) => UdpBody::Datagram(datagram),
+        None => UdpBody::Truncated,
     }
 }
 
 /// The datagram that octets are, unless they are too few or its length lies.
-#[tactic(auto, unfolding(crate::specs::Ipv4::udp_of))]
-fn read_udp(octets: &[u8]) -> Option<Datagram<'_>>
+#[tactic(auto, unfolding(crate::specs::UdpPacket::udp_of))]
+fn read_udp(octets: &[u8]) -> Option<UdpDatagram<'_>>
     ensures { option_map udp_view result ≡ udp_of octets.now }
 {
     if octets.len() < UDP_HEADER {
         return None;
     }
-    let end = usize::from(Order::Big.read_u16(octets, 4));
+    let end = usize::from(Endian::Big.read_u16(octets, 4));
     if end < UDP_HEADER || octets.len() < end {
         return None;
     }
-    Some(Datagram {
-        source_port: Order::Big.read_u16(octets, 0),
-        destination_port: Order::Big.read_u16(octets, 2),
+    Some(UdpDatagram {
+        source_port: Endian::Big.read_u16(octets, 0),
+        destination_port: Endian::Big.read_u16(octets, 2),
         payload: &octets[UDP_HEADER..end],
     })
 }

@@ -1,12 +1,12 @@
 //! The header of a link in front of an IP packet (tcpdump's registry of link-layer header types; IEEE 802.1Q, 9.3).
 ghost use Rattle.std.specs.Prelude.{◌≡◌, ◌≤◌, IfSome, length, option_map};
-ghost use Rattle.pcap_file.specs.Link as spec;
+ghost use Rattle.pcap_file.specs.LinkType as spec;
 
-use crate::decode::endian::Order;
+use crate::decode::endian::Endian;
 
 /// What stands in front of the IP packets of a link.
 #[derive(Clone, Copy, Debug, Default, PartialEq, Eq)]
-pub enum Link {
+pub enum LinkType {
     /// The protocol's family in four octets, in the order of the machine that captured (`NULL`).
     Null,
     /// An Ethernet header, with up to two VLAN tags (`ETHERNET`).
@@ -16,32 +16,32 @@ pub enum Link {
     /// The protocol's family in four octets, the most significant first (`LOOP`).
     Loop,
     /// Linux's header of 16 octets, which ends in the protocol (`LINUX_SLL`).
-    Cooked,
+    LinuxSll,
     /// Linux's header of 20 octets, which begins with the protocol (`LINUX_SLL2`).
-    CookedTwo,
+    LinuxSll2,
     /// Another header, behind which nothing is looked for.
     #[default]
     Other,
 }
 
 /// The link that a number of the registry names.
-pub(crate) fn link_of(number: u16) -> Link
+pub(crate) fn link_of(number: u16) -> LinkType
     ensures { result ≡ spec.link_of number }
 {
     match number {
-        0 => Link::Null,
-        1 => Link::Ethernet,
-        101 => Link::Raw,
-        108 => Link::Loop,
-        113 => Link::Cooked,
-        228 => Link::Raw,
-        276 => Link::CookedTwo,
-        _ => Link::Other,
+        0 => LinkType::Null,
+        1 => LinkType::Ethernet,
+        101 => LinkType::Raw,
+        108 => LinkType::Loop,
+        113 => LinkType::LinuxSll,
+        228 => LinkType::Raw,
+        276 => LinkType::LinuxSll2,
+        _ => LinkType::Other,
     }
 }
 
 /// The octets of the IPv4 packet in a frame, if its header announces one.
-pub(crate) fn ip_octets(link: Link, frame: &[u8]) -> Option<&[u8]>
+pub(crate) fn ip_octets(link: LinkType, frame: &[u8]) -> Option<&[u8]>
     ensures { option_map (λ octets. octets.now) result ≡ spec.ip_octets link frame.now }
 {
     let place = ip_place(link, frame)?;
@@ -49,24 +49,23 @@ pub(crate) fn ip_octets(link: Link, frame: &[u8]) -> Option<&[u8]>
 }
 
 /// Where the IPv4 packet of a frame begins.
-#[tactic(auto, unfolding(crate::specs::Link::ip_place))]
-fn ip_place(link: Link, frame: &[u8]) -> Option<usize>
+#[tactic(auto, unfolding(crate::specs::LinkType::ip_place))]
+fn ip_place(link: LinkType, frame: &[u8]) -> Option<usize>
     ensures place { result ≡ spec.ip_place link frame.now }
     ensures within { IfSome result (λ place. place ≤ length frame.now) }
 {
     match link {
-        Link::Null => (has_family(Order::Big, frame) || has_family(Order::Little, frame)).then_some(
-            4,
-        ),
-        Link::Ethernet => {
+        LinkType::Null => (has_family(Endian::Big, frame)
+            || has_family(Endian::Little, frame)).then_some(4),
+        LinkType::Ethernet => {
             let place = type_place(frame);
             has_type(frame, place, 0x0800).then_some(place + 2)
         }
-        Link::Raw => Some(0),
-        Link::Loop => has_family(Order::Big, frame).then_some(4),
-        Link::Cooked => has_type(frame, 14, 0x0800).then_some(16),
-        Link::CookedTwo => (frame.len() >= 20 && has_type(frame, 0, 0x0800)).then_some(20),
-        Link::Other => None,
+        LinkType::Raw => Some(0),
+        LinkType::Loop => has_family(Endian::Big, frame).then_some(4),
+        LinkType::LinuxSll => has_type(frame, 14, 0x0800).then_some(16),
+        LinkType::LinuxSll2 => (frame.len() >= 20 && has_type(frame, 0, 0x0800)).then_some(20),
+        LinkType::Other => None,
     }
 }
 
@@ -93,11 +92,11 @@ fn has_type(frame: &[u8], place: usize, kind: u16) -> bool
     requires { place ≤ 20 }
     ensures { result ≡ spec.has_type frame.now place kind }
 {
-    frame.len() >= place + 2 && Order::Big.read_u16(frame, place) == kind
+    frame.len() >= place + 2 && Endian::Big.read_u16(frame, place) == kind
 }
 
 /// Whether the family of IPv4, 2, stands first, in an order.
-fn has_family(order: Order, frame: &[u8]) -> bool
+fn has_family(order: Endian, frame: &[u8]) -> bool
     ensures { result ≡ spec.has_family order frame.now }
 {
     frame.len() >= 4 && order.read_u32(frame, 0) == 2

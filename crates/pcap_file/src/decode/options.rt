@@ -2,12 +2,16 @@
 ghost use Rattle.std.specs.Prelude.{◌≡◌};
 ghost use Rattle.pcap_file.specs.Options as spec;
 
-use crate::decode::endian::Order;
-use crate::fault::FaultKind;
+use crate::decode::endian::Endian;
+use crate::fault::CaptureFaultKind;
 
 /// The octets of the first option with a code, if there is one before the options' end.
 #[tactic(auto, unfolding(crate::specs::Options::option_among))]
-pub(crate) fn option_at(order: Order, code: u16, options: &[u8]) -> Result<Option<&[u8]>, FaultKind>
+pub(crate) fn option_at(
+    order: Endian,
+    code: u16,
+    options: &[u8],
+) -> Result<Option<&[u8]>, CaptureFaultKind>
     ensures { spec.value_view result ≡ spec.option_of order code options.now }
 {
     let mut rest = options;
@@ -18,7 +22,7 @@ pub(crate) fn option_at(order: Order, code: u16, options: &[u8]) -> Result<Optio
             return Ok(None);
         }
         if rest.len() < end {
-            return Err(FaultKind::Options);
+            return Err(CaptureFaultKind::Options);
         }
         if kind == code {
             return Ok(Some(&rest[4..end]));

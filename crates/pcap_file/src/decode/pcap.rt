@@ -1,15 +1,15 @@
 //! The pcap format (draft-ietf-opsawg-pcap, File Header and Packet Record).
 ghost use Rattle.std.specs.Prelude.{◌≡◌, ◌≤◌, MatchResult, IfOk, Ok, Err, length};
-ghost use Rattle.pcap_file.specs.Part.{part_view};
-ghost use Rattle.pcap_file.specs.Parts as parts;
+ghost use Rattle.pcap_file.specs.CaptureBlock.{part_view};
+ghost use Rattle.pcap_file.specs.BlockParser as parts;
 ghost use Rattle.pcap_file.specs.Pcap as spec;
 ghost use Rattle.pcap_file.specs.Pcap.{pcap_of, record_of};
 
-use crate::block_parser::Part;
-use crate::decode::endian::Order;
-use crate::decode::link::{Link, link_of};
+use crate::block_parser::CaptureBlock;
+use crate::decode::endian::Endian;
+use crate::decode::link::{LinkType, link_of};
 use crate::decode::packet_in;
-use crate::fault::FaultKind;
+use crate::fault::CaptureFaultKind;
 
 /// The octets of a file's header, and of a record's.
 pub(crate) const FILE_HEADER: usize = 24;
@@ -22,7 +22,7 @@ const NANOSECONDS: u32 = 0xa1b2_3c4d;
 
 /// The smaller unit of a file's times.
 #[derive(Clone, Copy, Debug, PartialEq, Eq)]
-pub(crate) enum Unit {
+pub(crate) enum TimeUnit {
     Microsecond,
     Nanosecond,
 }
@@ -30,26 +30,26 @@ pub(crate) enum Unit {
 /// What a pcap file's header says.
 #[derive(Clone, Copy, Debug, PartialEq, Eq)]
 pub(crate) struct Pcap {
-    pub(crate) order: Order,
-    pub(crate) unit: Unit,
-    pub(crate) link: Link,
+    pub(crate) order: Endian,
+    pub(crate) unit: TimeUnit,
+    pub(crate) link: LinkType,
 }
 
 /// The order and the unit that a file's first four octets say, if they are a pcap file's.
-fn read_magic(octets: &[u8]) -> Option<(Order, Unit)>
+fn read_magic(octets: &[u8]) -> Option<(Endian, TimeUnit)>
     requires { 4 ≤ length octets.now }
     ensures { result ≡ spec.magic_of octets.now }
 {
-    let big = Order::Big.read_u32(octets, 0);
-    let little = Order::Little.read_u32(octets, 0);
+    let big = Endian::Big.read_u32(octets, 0);
+    let little = Endian::Little.read_u32(octets, 0);
     if big == MICROSECONDS {
-        Some((Order::Big, Unit::Microsecond))
+        Some((Endian::Big, TimeUnit::Microsecond))
     } else if little == MICROSECONDS {
-        Some((Order::Little, Unit::Microsecond))
+        Some((Endian::Little, TimeUnit::Microsecond))
     } else if big == NANOSECONDS {
-        Some((Order::Big, Unit::Nanosecond))
+        Some((Endian::Big, TimeUnit::Nanosecond))
     } else if little == NANOSECONDS {
-        Some((Order::Little, Unit::Nanosecond))
+        Some((Endian::Little, TimeUnit::Nanosecond))
     } else {
         None
     }
@@ -57,19 +57,19 @@ fn read_magic(octets: &[u8]) -> Option<(Order, Unit)>
 
 /// The header of a pcap file, which octets begin with.
 #[tactic(auto, unfolding(crate::specs::Pcap::pcap_of, crate::specs::Pcap::header_in))]
-pub(crate) fn read_header(octets: &[u8]) -> Result<Pcap, FaultKind>
+pub(crate) fn read_header(octets: &[u8]) -> Result<Pcap, CaptureFaultKind>
     ensures header { result ≡ pcap_of octets.now }
     ensures whole { IfOk result (λ _. 24 ≤ length octets.now) }
 {
     if octets.len() < 4 {
-        return Err(FaultKind::Format);
+        return Err(CaptureFaultKind::Format);
     }
-    let (order, unit) = read_magic(octets).ok_or(FaultKind::Format)?;
+    let (order, unit) = read_magic(octets).ok_or(CaptureFaultKind::Format)?;
     if octets.len() < FILE_HEADER {
-        return Err(FaultKind::Cut);
+        return Err(CaptureFaultKind::Truncated);
     }
     if order.read_u16(octets, 4) != 2 || order.read_u16(octets, 6) != 4 {
-        return Err(FaultKind::Version);
+        return Err(CaptureFaultKind::Version);
     }
     Ok(Pcap {
         order,
@@ -80,17 +80,20 @@ pub(crate) fn read_header(octets: &[u8]) -> Result<Pcap, FaultKind>
 
 /// The packet record that octets begin with.
 #[tactic(auto, unfolding(crate::specs::Pcap::record_of))]
-pub(crate) fn read_record<'a>(pcap: &Pcap, octets: &'a [u8]) -> Result<Part<'a>, FaultKind>
+pub(crate) fn read_record<'a>(
+    pcap: &Pcap,
+    octets: &'a [u8],
+) -> Result<CaptureBlock<'a>, CaptureFaultKind>
     ensures part { MatchResult result (λ part. record_of pcap.now octets.now ≡ Ok (part_view part))
         (λ kind. record_of pcap.now octets.now ≡ Err kind) }
     ensures bounds { IfOk result (λ part. (1 ≤ part.len) × (part.len ≤ length octets.now)) }
 {
     if octets.len() < RECORD_HEADER {
-        return Err(FaultKind::Cut);
+        return Err(CaptureFaultKind::Truncated);
     }
     let captured = pcap.order.read_u32(octets, 8) as usize;
     if octets.len() - RECORD_HEADER < captured {
-        return Err(FaultKind::Cut);
+        return Err(CaptureFaultKind::Truncated);
     }
     let len = RECORD_HEADER + captured;
     let packet = packet_in(
@@ -99,7 +102,7 @@ pub(crate) fn read_record<'a>(pcap: &Pcap, octets: &'a [u8]) -> Result<Part<'a>,
         0,
         &octets[RECORD_HEADER..len],
     );
-    Ok(Part {
+    Ok(CaptureBlock {
         len,
         packet,
         mark: None,
@@ -122,8 +125,8 @@ fn read_time(pcap: &Pcap, octets: &[u8]) -> u64
     let seconds = u64::from(pcap.order.read_u32(octets, 0));
     let units = u64::from(pcap.order.read_u32(octets, 4));
     let nanoseconds = match pcap.unit {
-        Unit::Microsecond => units * 1000,
-        Unit::Nanosecond => units,
+        TimeUnit::Microsecond => units * 1000,
+        TimeUnit::Nanosecond => units,
     };
     seconds * 1_000_000_000 + nanoseconds
 }

@@ -1,17 +1,17 @@
 //! A section of the pcapng format, block by block (draft-ietf-opsawg-pcapng, General File Structure and Block Definitions).
 ghost use Rattle.std.specs.Prelude.{◌≡◌, ◌≤◌, ◌*◌, MatchResult, IfOk, None, Ok, Err, Some, length, option_copied};
-ghost use Rattle.pcap_file.specs.Parts as parts;
+ghost use Rattle.pcap_file.specs.BlockParser as parts;
 ghost use Rattle.pcap_file.specs.Section as spec;
 ghost use Rattle.pcap_file.specs.Section.{AnswersContent, AnswersPacket, block_of, section_view};
 ghost use Rattle.pcap_file.specs.Mark.{mark_of};
-ghost use Rattle.pcap_file.specs.Part.{part_view};
+ghost use Rattle.pcap_file.specs.CaptureBlock.{part_view};
 
-use crate::block_parser::Part;
-use crate::decode::endian::Order;
+use crate::block_parser::CaptureBlock;
+use crate::decode::endian::Endian;
 use crate::decode::interface::{Interface, read_interface, time_of, time_units};
 use crate::decode::record_mark::{RecordMark, read_closing, read_opening};
 use crate::decode::{Packet, packet_in};
-use crate::fault::FaultKind;
+use crate::fault::CaptureFaultKind;
 use arrayvec::ArrayVec;
 
 /// How many interfaces a section may describe.
@@ -39,7 +39,7 @@ pub(crate) enum BlockKind {
 /// What a section's blocks said so far.
 #[derive(Drop)]
 pub(crate) struct Section {
-    pub(crate) order: Order,
+    pub(crate) order: Endian,
     pub(crate) interfaces: ArrayVec<Interface, INTERFACES>,
 }
 
@@ -49,14 +49,17 @@ impl Section {
         ensures { section_view result ≡ spec.no_section }
     {
         Section {
-            order: Order::Big,
+            order: Endian::Big,
             interfaces: ArrayVec::new(),
         }
     }
 
     /// Reads the block that octets begin with.
     #[tactic(auto, unfolding(crate::specs::Section::block_of))]
-    pub(crate) fn read_block<'a>(&mut self, octets: &'a [u8]) -> Result<Part<'a>, FaultKind>
+    pub(crate) fn read_block<'a>(
+        &mut self,
+        octets: &'a [u8],
+    ) -> Result<CaptureBlock<'a>, CaptureFaultKind>
         ensures part { MatchResult result
             (λ part. block_of (section_view self.old) octets.now
             ≡ Ok (record { part = part_view part; section = section_view self.new }))
@@ -64,17 +67,17 @@ impl Section {
         ensures bounds { IfOk result (λ part. (1 ≤ part.len) × (part.len ≤ length octets.now)) }
     {
         if octets.len() < EMPTY_BLOCK {
-            return Err(FaultKind::Cut);
+            return Err(CaptureFaultKind::Truncated);
         }
         self.order = read_order(self.order, octets)?;
         let len = read_length(self.order, octets)?;
         let packet = self.read_content(&octets[..len])?;
         let mark = self.read_mark(&octets[..len]);
-        Ok(Part { len, packet, mark })
+        Ok(CaptureBlock { len, packet, mark })
     }
 
     /// Takes in what a whole block says, and answers the UDP packet in it.
-    fn read_content<'a>(&mut self, block: &'a [u8]) -> Result<Option<Packet<'a>>, FaultKind>
+    fn read_content<'a>(&mut self, block: &'a [u8]) -> Result<Option<Packet<'a>>, CaptureFaultKind>
         requires { 12 ≤ length block.now }
         ensures { AnswersContent (spec.content_of (section_view self.old) block.now) (section_view self.new) result }
     {
@@ -101,7 +104,7 @@ impl Section {
 
     /// Begins the section that a header says: it has no interface yet.
     #[tactic(auto, unfolding(crate::specs::Section::begun_by))]
-    fn begin<'a>(&mut self, block: &'a [u8]) -> Result<Option<Packet<'a>>, FaultKind>
+    fn begin<'a>(&mut self, block: &'a [u8]) -> Result<Option<Packet<'a>>, CaptureFaultKind>
         ensures { AnswersContent (spec.begun_by (section_view self.old) block.now) (section_view self.new) result }
     {
         check_version(self.order, block)?;
@@ -111,12 +114,12 @@ impl Section {
 
     /// Takes in an interface's description.
     #[tactic(auto, unfolding(crate::specs::Section::described_by))]
-    fn add_interface<'a>(&mut self, block: &'a [u8]) -> Result<Option<Packet<'a>>, FaultKind>
+    fn add_interface<'a>(&mut self, block: &'a [u8]) -> Result<Option<Packet<'a>>, CaptureFaultKind>
         ensures { AnswersContent (spec.described_by (section_view self.old) block.now) (section_view self.new) result }
     {
         let interface = read_interface(self.order, block)?;
         if self.interfaces.is_full() {
-            return Err(FaultKind::TooMany);
+            return Err(CaptureFaultKind::TooMany);
         }
         self.interfaces.push(interface);
         Ok(None)
@@ -124,20 +127,20 @@ impl Section {
 
     /// The UDP packet in an enhanced packet block.
     #[tactic(auto, unfolding(crate::specs::Section::enhanced_of))]
-    fn read_enhanced<'a>(&self, block: &'a [u8]) -> Result<Option<Packet<'a>>, FaultKind>
+    fn read_enhanced<'a>(&self, block: &'a [u8]) -> Result<Option<Packet<'a>>, CaptureFaultKind>
         ensures { AnswersPacket (spec.enhanced_of (section_view self.now) block.now) result }
     {
         if block.len() < 32 {
-            return Err(FaultKind::Length);
+            return Err(CaptureFaultKind::Length);
         }
         let number = self.order.read_u32(block, 8);
         let interface = self.interface(number)?;
         let captured = self.order.read_u32(block, 20) as usize;
         if block.len() - 32 < captured {
-            return Err(FaultKind::Length);
+            return Err(CaptureFaultKind::Length);
         }
         let units = time_units(self.order, block);
-        let time = time_of(&interface, units).ok_or(FaultKind::Time)?;
+        let time = time_of(&interface, units).ok_or(CaptureFaultKind::Time)?;
         Ok(packet_in(
             interface.link,
             Some(time),
@@ -148,30 +151,30 @@ impl Section {
 
     /// The UDP packet in a simple packet block, which is of the first interface.
     #[tactic(auto, unfolding(crate::specs::Section::simple_of))]
-    fn read_simple<'a>(&self, block: &'a [u8]) -> Result<Option<Packet<'a>>, FaultKind>
+    fn read_simple<'a>(&self, block: &'a [u8]) -> Result<Option<Packet<'a>>, CaptureFaultKind>
         ensures { AnswersPacket (spec.simple_of (section_view self.now) block.now) result }
     {
         if block.len() < 16 {
-            return Err(FaultKind::Length);
+            return Err(CaptureFaultKind::Length);
         }
         let interface = self.interface(0)?;
         let captured = captured_of(&interface, self.order.read_u32(block, 8)) as usize;
         if block.len() - 16 < captured {
-            return Err(FaultKind::Length);
+            return Err(CaptureFaultKind::Length);
         }
         Ok(packet_in(interface.link, None, 0, &block[12..12 + captured]))
     }
 
     /// The interface with a number, if it is described.
     #[tactic(auto, unfolding(crate::specs::Section::interface_at))]
-    fn interface(&self, number: u32) -> Result<Interface, FaultKind>
+    fn interface(&self, number: u32) -> Result<Interface, CaptureFaultKind>
         ensures { result ≡ spec.interface_at (section_view self.now) number }
     {
         self.interfaces
             .as_slice()
             .get(number as usize)
             .copied()
-            .ok_or(FaultKind::Interface)
+            .ok_or(CaptureFaultKind::Interface)
     }
 }
 
@@ -201,43 +204,43 @@ fn captured_of(interface: &Interface, original: u32) -> u32
 
 /// The order of a block's octets: that of its section, or what a section header says.
 #[tactic(auto, unfolding(crate::specs::Section::order_of))]
-fn read_order(order: Order, octets: &[u8]) -> Result<Order, FaultKind>
+fn read_order(order: Endian, octets: &[u8]) -> Result<Endian, CaptureFaultKind>
     requires { 12 ≤ length octets.now }
     ensures { result ≡ spec.order_of order octets.now }
 {
-    if Order::Big.read_u32(octets, 0) != SECTION_HEADER {
+    if Endian::Big.read_u32(octets, 0) != SECTION_HEADER {
         Ok(order)
-    } else if Order::Big.read_u32(octets, 8) == BYTE_ORDER_MAGIC {
-        Ok(Order::Big)
-    } else if Order::Little.read_u32(octets, 8) == BYTE_ORDER_MAGIC {
-        Ok(Order::Little)
+    } else if Endian::Big.read_u32(octets, 8) == BYTE_ORDER_MAGIC {
+        Ok(Endian::Big)
+    } else if Endian::Little.read_u32(octets, 8) == BYTE_ORDER_MAGIC {
+        Ok(Endian::Little)
     } else {
-        Err(FaultKind::ByteOrder)
+        Err(CaptureFaultKind::ByteOrder)
     }
 }
 
 /// The length that a block gives itself at both its ends.
 #[tactic(auto, unfolding(crate::specs::Section::length_of))]
-fn read_length(order: Order, octets: &[u8]) -> Result<usize, FaultKind>
+fn read_length(order: Endian, octets: &[u8]) -> Result<usize, CaptureFaultKind>
     requires { 12 ≤ length octets.now }
     ensures value { result ≡ spec.length_of order octets.now }
     ensures bounds { IfOk result (λ len. (12 ≤ len) × (len ≤ length octets.now)) }
 {
     let len = order.read_u32(octets, 4) as usize;
     if len < EMPTY_BLOCK || len % 4 != 0 {
-        return Err(FaultKind::Length);
+        return Err(CaptureFaultKind::Length);
     }
     if octets.len() < len {
-        return Err(FaultKind::Cut);
+        return Err(CaptureFaultKind::Truncated);
     }
     if order.read_u32(octets, len - 4) as usize != len {
-        return Err(FaultKind::Length);
+        return Err(CaptureFaultKind::Length);
     }
     Ok(len)
 }
 
 /// Whether the block that octets begin with, of a section in this order, ends behind them.
-pub(crate) fn is_block_cut(order: Order, octets: &[u8]) -> bool
+pub(crate) fn is_block_cut(order: Endian, octets: &[u8]) -> bool
     ensures { result ≡ parts.is_block_cut order octets.now }
 {
     if octets.len() < EMPTY_BLOCK {
@@ -250,7 +253,7 @@ pub(crate) fn is_block_cut(order: Order, octets: &[u8]) -> bool
 }
 
 /// Whether a block gives itself a length that can be one, and ends behind these octets.
-fn is_length_cut(order: Order, octets: &[u8]) -> bool
+fn is_length_cut(order: Endian, octets: &[u8]) -> bool
     requires { 12 ≤ length octets.now }
     ensures { result ≡ parts.is_length_cut (Ok order) octets.now }
 {
@@ -260,17 +263,17 @@ fn is_length_cut(order: Order, octets: &[u8]) -> bool
 
 /// Tests whether a section's version is one that is read.
 #[tactic(auto, unfolding(crate::specs::Section::section_fault))]
-fn check_version(order: Order, block: &[u8]) -> Result<(), FaultKind>
+fn check_version(order: Endian, block: &[u8]) -> Result<(), CaptureFaultKind>
     ensures { MatchResult result (λ _. spec.section_fault order block.now ≡ None)
         (λ kind. spec.section_fault order block.now ≡ Some kind) }
 {
     if block.len() < 28 {
-        return Err(FaultKind::Length);
+        return Err(CaptureFaultKind::Length);
     }
     let major = order.read_u16(block, 12);
     let minor = order.read_u16(block, 14);
     if major != 1 || minor != 0 && minor != 2 {
-        return Err(FaultKind::Version);
+        return Err(CaptureFaultKind::Version);
     }
     Ok(())
 }

@@ -3,7 +3,7 @@ ghost use Rattle.std.specs.Prelude.{◌≡◌, ◌≤◌, length};
 ghost use Rattle.pcap_file.specs.Mark as spec;
 
 use crate::decimal::number_in;
-use crate::decode::endian::Order;
+use crate::decode::endian::Endian;
 use crate::decode::interface::{Interface, time_of, time_units};
 use crate::decode::options::option_at;
 
@@ -23,7 +23,7 @@ pub enum RecordMark {
 
 /// The mark of a section header: its writer is `darbexum`, and its comment says the opening.
 #[tactic(auto, unfolding(crate::specs::Mark::opened_by))]
-pub(crate) fn read_opening(order: Order, block: &[u8]) -> Option<RecordMark>
+pub(crate) fn read_opening(order: Endian, block: &[u8]) -> Option<RecordMark>
     ensures { result ≡ spec.opened_by order block.now }
 {
     if block.len() < 28 {
@@ -40,7 +40,7 @@ pub(crate) fn read_opening(order: Order, block: &[u8]) -> Option<RecordMark>
 }
 
 /// The text of an option, or none where there is no such option before the options' end.
-fn text_at(order: Order, code: u16, options: &[u8]) -> &[u8]
+fn text_at(order: Endian, code: u16, options: &[u8]) -> &[u8]
     ensures { result.now ≡ spec.text_at order code options.now }
 {
     match option_at(order, code, options) {
@@ -59,7 +59,7 @@ fn opening_in(comment: &[u8]) -> Option<u64>
 /// The mark of an interface's statistics: their time.
 #[tactic(auto, unfolding(crate::specs::Mark::closed_by))]
 pub(crate) fn read_closing(
-    order: Order,
+    order: Endian,
     interfaces: &[Interface],
     block: &[u8],
 ) -> Option<RecordMark>

@@ -6,10 +6,10 @@ ghost use Rattle.pcap_file.specs.Blocks.{option_octets};
 use arrayvec::ArrayVec;
 
 /// The octets that a block holds, without a datagram's.
-pub(crate) type Head = ArrayVec<u8, 64>;
+pub(crate) type BlockBody = ArrayVec<u8, 64>;
 
 /// Adds octets.
-pub(crate) fn push(head: &mut Head, octets: &[u8])
+pub(crate) fn push(head: &mut BlockBody, octets: &[u8])
     requires { array_vec_len head.old + length octets.now ≤ 64 }
     ensures items { head.new.items ≡ head.old.items ++ octets.now }
     ensures length { array_vec_len head.new ≡ array_vec_len head.old + length octets.now }
@@ -21,7 +21,7 @@ pub(crate) fn push(head: &mut Head, octets: &[u8])
 
 /// Adds an option.
 #[tactic(auto, unfolding(crate::specs::Blocks::option_octets, crate::specs::Blocks::padded))]
-pub(crate) fn push_option(head: &mut Head, code: u16, value: &[u8])
+pub(crate) fn push_option(head: &mut BlockBody, code: u16, value: &[u8])
     requires few { length value.now ≤ 64 }
     requires room { array_vec_len head.old + (4 + length value.now + 3 * length value.now % 4) ≤ 64 }
     ensures items { head.new.items ≡ head.old.items ++ option_octets code value.now }

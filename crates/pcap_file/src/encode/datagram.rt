@@ -6,7 +6,7 @@ pub const MOST_OCTETS: usize = 2_048;
 
 /// A datagram that came, with its time and the way that it took.
 #[derive(Clone, Copy)]
-pub struct Arrival<'a> {
+pub struct RecordedDatagram<'a> {
     /// The number of its path's interface: how many were described before it.
     pub interface: u32,
     /// Since the studio was opened.

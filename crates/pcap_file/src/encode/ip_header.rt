@@ -2,15 +2,15 @@
 ghost use Rattle.std.specs.Prelude.{◌≡◌, ◌+◌, ◌≤◌, ◌++◌, ◌^◌, ◌<◌, length};
 ghost use Rattle.std.specs.Net.Addr.{ipv4_octets};
 ghost use Rattle.arrayvec.specs.ArrayVec.{array_vec_len};
-ghost use Rattle.pcap_file.specs.Arrival.{arrival_view};
-ghost use Rattle.pcap_file.specs.WritePacket.{carried, checksum_of, header_octets, header_with, udp_octets, words_sum};
+ghost use Rattle.pcap_file.specs.RecordedDatagram.{arrival_view};
+ghost use Rattle.pcap_file.specs.IpHeader.{carried, checksum_of, header_octets, header_with, udp_octets, words_sum};
 
-use crate::encode::body::{Head, push};
-use crate::encode::datagram::Arrival;
+use crate::encode::body::{BlockBody, push};
+use crate::encode::datagram::RecordedDatagram;
 use std::net::Ipv4Addr;
 
 /// Adds the IPv4 header of a datagram.
-pub(crate) fn push_ipv4(head: &mut Head, arrival: &Arrival<'_>)
+pub(crate) fn push_ipv4(head: &mut BlockBody, arrival: &RecordedDatagram<'_>)
     requires few { length arrival.now.octets.now ≤ 2048 }
     requires room { array_vec_len head.old + 20 ≤ 64 }
     ensures items { head.new.items ≡ head.old.items ++ header_octets (arrival_view arrival.now) }
@@ -26,8 +26,8 @@ pub(crate) fn push_ipv4(head: &mut Head, arrival: &Arrival<'_>)
 }
 
 /// Adds the UDP header of a datagram.
-#[tactic(auto, unfolding(crate::specs::WritePacket::udp_octets))]
-pub(crate) fn push_udp(head: &mut Head, arrival: &Arrival<'_>)
+#[tactic(auto, unfolding(crate::specs::IpHeader::udp_octets))]
+pub(crate) fn push_udp(head: &mut BlockBody, arrival: &RecordedDatagram<'_>)
     requires few { length arrival.now.octets.now ≤ 2048 }
     requires room { array_vec_len head.old + 8 ≤ 64 }
     ensures items { head.new.items ≡ head.old.items ++ udp_octets (arrival_view arrival.now) }
@@ -40,7 +40,7 @@ pub(crate) fn push_udp(head: &mut Head, arrival: &Arrival<'_>)
 }
 
 /// The checksum of a datagram's IPv4 header.
-fn checksum(total: u16, arrival: &Arrival<'_>) -> u16
+fn checksum(total: u16, arrival: &RecordedDatagram<'_>) -> u16
     requires few { length arrival.now.octets.now ≤ 2048 }
     requires total { total ≡ 28 + length arrival.now.octets.now }
     ensures { result ≡ checksum_of (header_with 0 (arrival_view arrival.now)) }

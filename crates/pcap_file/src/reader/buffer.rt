@@ -3,7 +3,7 @@ ghost use Rattle.std.specs.Prelude.{◌≤◌, vec_len, vec_capacity};
 
 /// The octets that came, of which the first are passed over. Their memory is taken when it is made.
 #[derive(Drop)]
-pub struct Window {
+pub struct ReadBuffer {
     pub(crate) held: Vec<u8>,
     /// How many of them are passed over.
     pub(crate) passed: usize,

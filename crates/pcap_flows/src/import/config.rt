@@ -1,8 +1,8 @@
 //! The configuration that fits a capture's trace, as a text.
 use crate::fault::ImportFault;
-use crate::import::stream_plan::{Plan, plans_of};
+use crate::import::stream_plan::{StreamPlan, stream_plans};
 use crate::routes::Routes;
-use crate::table::Table;
+use crate::table::FlowTable;
 use rtp_wire::Enc;
 use std::alloc::{AllocError, Global};
 
@@ -17,18 +17,18 @@ const MOST_SAMPLES: usize = 1440;
 /// channels of all streams, at most 8, as they are. The octets are the capture's, of which the table tells the flows.
 pub fn config_text(
     alloc: Global,
-    table: &Table,
+    table: &FlowTable,
     octets: &[u8],
     routes: &Routes,
     latency: Option<u32>,
 ) -> Result<String, ImportFault> {
-    let plans = plans_of(alloc, table, octets, routes, latency)?;
+    let plans = stream_plans(alloc, table, octets, routes, latency)?;
     let text = text_of(alloc, plans.as_slice(), latency.is_none())?;
     Ok(text)
 }
 
 /// The text of streams, whose latencies were chosen or asked for.
-fn text_of(alloc: Global, plans: &[Plan], is_chosen: bool) -> Result<String, AllocError> {
+fn text_of(alloc: Global, plans: &[StreamPlan], is_chosen: bool) -> Result<String, AllocError> {
     let mut text = String::from_str(alloc, "open_at = 0\n")?;
     if is_chosen {
         text.push_str(
@@ -43,7 +43,7 @@ fn text_of(alloc: Global, plans: &[Plan], is_chosen: bool) -> Result<String, All
 }
 
 /// The table of a stream.
-fn push_stream(text: &mut String, alloc: Global, plan: &Plan) -> Result<(), AllocError> {
+fn push_stream(text: &mut String, alloc: Global, plan: &StreamPlan) -> Result<(), AllocError> {
     let form = plan.form;
     let (enc, channels, frames, pt) = (name_of(form.enc), form.channels, form.frames, form.pt);
     let (offset, latency, window, paths) = (plan.offset, plan.latency, plan.window, plan.paths);
@@ -66,7 +66,7 @@ fn name_of(enc: Enc) -> &'static str {
 }
 
 /// The table of the output.
-fn push_output(text: &mut String, alloc: Global, plans: &[Plan]) -> Result<(), AllocError> {
+fn push_output(text: &mut String, alloc: Global, plans: &[StreamPlan]) -> Result<(), AllocError> {
     let mut inputs = 0usize;
     for plan in plans.iter() {
         inputs = inputs.saturating_add(usize::from(plan.form.channels));
@@ -85,7 +85,7 @@ fn push_output(text: &mut String, alloc: Global, plans: &[Plan]) -> Result<(), A
 }
 
 /// The first stream's sampling instants a packet, or 48 where so many have no room.
-fn frames_for(plans: &[Plan], channels: usize) -> u16 {
+fn frames_for(plans: &[StreamPlan], channels: usize) -> u16 {
     match plans.first() {
         Some(plan)
             if channels

@@ -2,14 +2,14 @@
 use crate::fault::ImportFault;
 use crate::import::clock::CaptureClock;
 use crate::import::route_in;
-use crate::packet::sighting_in;
+use crate::packet::flow_packet;
 use crate::routes::Routes;
 use pcap_file::open;
 use std::alloc::Global;
 
 /// A stream's first packet.
 #[derive(Clone, Copy)]
-pub(crate) struct Start {
+pub(crate) struct FirstPacket {
     /// Its timestamp.
     pub(crate) ts: u32,
     /// What the trace's clock reads as it comes in.
@@ -17,11 +17,11 @@ pub(crate) struct Start {
 }
 
 /// The first packets of all streams in a capture, whose octets these are.
-pub(crate) fn starts_in(
+pub(crate) fn first_packets_in(
     alloc: Global,
     octets: &[u8],
     routes: &Routes,
-) -> Result<Vec<Option<Start>>, ImportFault> {
+) -> Result<Vec<Option<FirstPacket>>, ImportFault> {
     let mut starts = Vec::from_elem(alloc, None, usize::from(routes.streams))?;
     let mut clock = CaptureClock::new();
     let Ok(capture) = open(octets) else {
@@ -30,13 +30,13 @@ pub(crate) fn starts_in(
     for item in capture {
         if let Ok(packet) = item
             && let Some(route) = route_in(routes.list(), &packet)
-            && let Some(next) = sighting_in(&packet)
+            && let Some(next) = flow_packet(&packet)
         {
             clock.read(packet.time);
             if let Some(start) = starts.get_mut(usize::from(route.stream))
                 && start.is_none()
             {
-                *start = Some(Start {
+                *start = Some(FirstPacket {
                     ts: next.ts,
                     reading: clock.reading(),
                 });

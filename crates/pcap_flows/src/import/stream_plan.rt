@@ -1,12 +1,12 @@
 //! The streams of a configuration that fits a capture.
 use crate::fault::ImportFault;
-use crate::import::first_packets::{Start, starts_in};
+use crate::import::first_packets::{FirstPacket, first_packets_in};
 use crate::packet::FlowKey;
-use crate::packet_format::{Form, form_of};
+use crate::packet_format::{PacketFormat, format_of};
 use crate::route::Route;
 use crate::routes::Routes;
 use crate::skew::skew_of;
-use crate::table::Table;
+use crate::table::FlowTable;
 use pcap_file::open;
 use std::alloc::Global;
 
@@ -15,8 +15,8 @@ const LEAST_LATENCY: u32 = 480;
 
 /// A stream that fits some flows.
 #[derive(Clone, Copy)]
-pub(crate) struct Plan {
-    pub(crate) form: Form,
+pub(crate) struct StreamPlan {
+    pub(crate) form: PacketFormat,
     pub(crate) paths: u8,
     /// By how much its timestamps are ahead of the trace's clock as the first packet comes in.
     pub(crate) offset: u32,
@@ -27,18 +27,18 @@ pub(crate) struct Plan {
 }
 
 /// A plan for each stream of the routes. Without a latency, in milliseconds, it is twice the greatest skew of its paths.
-pub(crate) fn plans_of(
+pub(crate) fn stream_plans(
     alloc: Global,
-    table: &Table,
+    table: &FlowTable,
     octets: &[u8],
     routes: &Routes,
     latency: Option<u32>,
-) -> Result<Vec<Plan>, ImportFault> {
-    let starts = starts_in(alloc, octets, routes)?;
+) -> Result<Vec<StreamPlan>, ImportFault> {
+    let starts = first_packets_in(alloc, octets, routes)?;
     let mut plans = Vec::new(alloc);
     for (number, start) in starts.iter().enumerate() {
         let Some(start) = start else {
-            return Err(ImportFault::Unfit);
+            return Err(ImportFault::NoFormat);
         };
         let keys = keys_of(alloc, routes.list(), number)?;
         let plan = plan_of(alloc, table, octets, keys.as_slice(), start, latency)?;
@@ -63,20 +63,20 @@ fn keys_of(alloc: Global, routes: &[Route], number: usize) -> Result<Vec<FlowKey
 /// The plan of a stream.
 fn plan_of(
     alloc: Global,
-    table: &Table,
+    table: &FlowTable,
     octets: &[u8],
     keys: &[FlowKey],
-    start: &Start,
+    start: &FirstPacket,
     asked: Option<u32>,
-) -> Result<Plan, ImportFault> {
-    let form = form_for(table, keys).ok_or(ImportFault::Unfit)?;
+) -> Result<StreamPlan, ImportFault> {
+    let form = form_for(table, keys).ok_or(ImportFault::NoFormat)?;
     let latency = match asked {
         Some(ms) => ms.saturating_mul(48),
         None => latency_for(greatest_skew(alloc, octets, keys)?),
     };
     let paths = keys.len().min(4) as u8;
     let window = window_for(&form, latency, paths).ok_or(ImportFault::Latency)?;
-    Ok(Plan {
+    Ok(StreamPlan {
         form,
         paths,
         offset: start
@@ -88,11 +88,11 @@ fn plan_of(
 }
 
 /// The form of the first of the flows that has one.
-fn form_for(table: &Table, keys: &[FlowKey]) -> Option<Form> {
+fn form_for(table: &FlowTable, keys: &[FlowKey]) -> Option<PacketFormat> {
     for key in keys.iter() {
         for (other, flow) in table.keys().iter().zip(table.flows().iter()) {
             if other.is_same(key)
-                && let Some(form) = form_of(key.pt, flow)
+                && let Some(form) = format_of(key.pt, flow)
             {
                 return Some(form);
             }
@@ -130,7 +130,7 @@ fn latency_for(skew: u64) -> u32 {
 
 /// The least window that spans twice the latency and two packets, so that a path that comes first is not ahead; or where
 /// there is none the greatest that spans the latency.
-fn window_for(form: &Form, latency: u32, paths: u8) -> Option<u16> {
+fn window_for(form: &PacketFormat, latency: u32, paths: u8) -> Option<u16> {
     let wanted = u64::from(latency)
         .saturating_add(u64::from(form.frames))
         .saturating_mul(2);

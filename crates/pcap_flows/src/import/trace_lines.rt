@@ -1,7 +1,7 @@
 //! The lines of a trace.
 ghost use Rattle.std.specs.Prelude.{◌≡◌, ◌++◌, ◌≤◌, length, OnOk};
 ghost use Rattle.hex.specs.Hex.{encode_lower};
-ghost use Rattle.pcap_flows.specs.Lines.{arrival_line, close_line, tick_text};
+ghost use Rattle.pcap_flows.specs.TraceLines.{arrival_line, close_line, tick_text};
 
 use crate::fault::ImportFault;
 use crate::route::Route;
@@ -32,7 +32,7 @@ pub(crate) fn push_arrival(
     ensures { OnOk result (text.new.items ≡ text.old.items ++ arrival_line route.now octets.now) }
 {
     if octets.len() > MOST_DATAGRAM {
-        return Err(ImportFault::Line);
+        return Err(ImportFault::DatagramTooLong);
     }
     push_short(text, route, octets)?;
     Ok(())

@@ -1,5 +1,5 @@
 //! Bars side by side.
-use crate::draw::line;
+use crate::draw::fmt_result;
 use std::alloc::AllocError;
 use std::io::Write;
 
@@ -30,7 +30,7 @@ pub(crate) fn push_bars(
     heights: &[u8],
 ) -> Result<(), AllocError> {
     let count = heights.len();
-    line(write!(
+    fmt_result(write!(
         svg,
         "<rect class=\"ground\" x=\"{LEFT}\" y=\"{y}\" width=\"{PLOT_WIDTH}\" height=\"{height}\"/>\n\
         <svg x=\"{LEFT}\" y=\"{y}\" width=\"{PLOT_WIDTH}\" height=\"{height}\" viewBox=\"0 0 {count} {UNITS}\" \
@@ -64,5 +64,5 @@ fn push_run(svg: &mut Vec<u8>, from: usize, to: usize, height: u8) -> Result<(),
     }
     let top = UNITS.saturating_sub(u64::from(height));
     let width = to.saturating_sub(from);
-    line(write!(svg, "M{from} {top}h{width}v{height}h-{width}z"))
+    fmt_result(write!(svg, "M{from} {top}h{width}v{height}h-{width}z"))
 }

@@ -1,5 +1,5 @@
 //! The counts of a stream, as its report has them.
-use crate::draw::line;
+use crate::draw::fmt_result;
 use path_merge::Path;
 use std::alloc::{AllocError, Global};
 use std::io::Write;
@@ -46,7 +46,7 @@ pub(crate) fn push_counts(
 
 /// Begins a line of counts.
 fn begin(svg: &mut Vec<u8>, y: u32) -> Result<(), AllocError> {
-    line(write!(svg, "<text class=\"counts\" x=\"24\" y=\"{y}\">\n"))
+    fmt_result(write!(svg, "<text class=\"counts\" x=\"24\" y=\"{y}\">\n"))
 }
 
 /// Ends it, with what was held.

@@ -1,5 +1,5 @@
 //! What the rows mean.
-use crate::draw::{line, push_text};
+use crate::draw::{fmt_result, push_text};
 use std::alloc::AllocError;
 use std::io::Write;
 
@@ -20,7 +20,7 @@ const ENTRIES: [(&str, &str, u32); 9] = [
 pub(crate) fn push_legend(svg: &mut Vec<u8>) -> Result<(), AllocError> {
     for (class, meaning, x) in ENTRIES.iter() {
         let (class, x) = (*class, *x);
-        line(write!(
+        fmt_result(write!(
             svg,
             "<rect class=\"{class}\" x=\"{x}\" y=\"45\" width=\"12\" height=\"12\"/>\n"
         ))?;

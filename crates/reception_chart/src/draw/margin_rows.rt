@@ -1,7 +1,7 @@
 //! How long before their deadlines the copies of each path came.
 use crate::draw::bars::{LEFT, PLOT_WIDTH, height_of, push_bars};
-use crate::draw::{line, push_text};
-use crate::reception::margins::{PathSpares, SPARE_BINS, Spares};
+use crate::draw::{fmt_result, push_text};
+use crate::reception::margins::{MARGIN_BINS, Margins, PathMargins};
 use path_merge::Path;
 use std::alloc::AllocError;
 use std::io::Write;
@@ -25,43 +25,43 @@ pub(crate) fn spare_height(paths: u8) -> u32 {
 }
 
 /// Draws them from a height on.
-pub(crate) fn push_spares(
+pub(crate) fn push_margins(
     svg: &mut Vec<u8>,
     top: u32,
     paths: u8,
-    spares: &Spares,
+    margins: &Margins,
 ) -> Result<(), AllocError> {
     let mut y = top;
     for (place, (class, name)) in PATHS.iter().take(usize::from(paths)).enumerate() {
         if let Some(path) = Path::new(place as u8) {
             push_text(svg, "end", LEFT - 8, y.saturating_add(15), name)?;
-            push_path(svg, y, class, spares.path(path))?;
+            push_path(svg, y, class, margins.path(path))?;
         }
         y = y.saturating_add(SPARE_STEP);
     }
-    push_scale(svg, y, spares)
+    push_scale(svg, y, margins)
 }
 
 /// Draws a path's row: its bars by the greatest of them, and what its copies came to.
-fn push_path(svg: &mut Vec<u8>, y: u32, class: &str, path: &PathSpares) -> Result<(), AllocError> {
+fn push_path(svg: &mut Vec<u8>, y: u32, class: &str, path: &PathMargins) -> Result<(), AllocError> {
     let mut most = 0;
     for count in path.bins.iter() {
         most = most.max(*count);
     }
-    let mut heights = [0; SPARE_BINS];
-    for place in 0..SPARE_BINS {
+    let mut heights = [0; MARGIN_BINS];
+    for place in 0..MARGIN_BINS {
         heights[place] = height_of(path.bins[place], most, 1);
     }
     push_bars(svg, class, y, SPARE_STEP - 4, &heights)?;
     let (x, in_time, late) = (LEFT + PLOT_WIDTH + 8, path.in_time, path.late);
-    line(write!(
+    fmt_result(write!(
         svg,
         "<text class=\"spare {class}_spare\" x=\"{x}\" y=\"{}\">in time {in_time}, late {late}</text>\n",
         y.saturating_add(9)
     ))?;
     if let Some(least) = path.least {
         let (ms, us) = millis(u64::try_from(least).unwrap_or(0));
-        line(write!(
+        fmt_result(write!(
             svg,
             "<text class=\"soft\" x=\"{x}\" y=\"{}\">least spare {ms}.{us:03} ms</text>\n",
             y.saturating_add(20)
@@ -71,8 +71,8 @@ fn push_path(svg: &mut Vec<u8>, y: u32, class: &str, path: &PathSpares) -> Resul
 }
 
 /// Names both ends of the scale.
-fn push_scale(svg: &mut Vec<u8>, y: u32, spares: &Spares) -> Result<(), AllocError> {
-    let (ms, us) = millis(spares.span().saturating_mul(SPARE_BINS as u64));
+fn push_scale(svg: &mut Vec<u8>, y: u32, margins: &Margins) -> Result<(), AllocError> {
+    let (ms, us) = millis(margins.span().saturating_mul(MARGIN_BINS as u64));
     push_text(
         svg,
         "soft",
@@ -80,7 +80,7 @@ fn push_scale(svg: &mut Vec<u8>, y: u32, spares: &Spares) -> Result<(), AllocErr
         y.saturating_add(10),
         "0 ms before the deadline",
     )?;
-    line(write!(
+    fmt_result(write!(
         svg,
         "<text class=\"soft end\" x=\"{}\" y=\"{}\">{ms}.{us:03} ms before the deadline</text>\n",
         LEFT + PLOT_WIDTH,

@@ -1,10 +1,10 @@
 //! All that is drawn of a stream.
 use crate::draw::count_lines::{counts_height, push_counts};
-use crate::draw::line;
-use crate::draw::margin_rows::{millis, push_spares, spare_height};
+use crate::draw::fmt_result;
+use crate::draw::margin_rows::{millis, push_margins, spare_height};
 use crate::draw::strip::{push_strip, strip_height};
 use crate::draw::ticks::{TICKS_HEIGHT, push_ticks};
-use crate::reception::panel_data::Gathered;
+use crate::reception::panel_data::PanelData;
 use rtp_stream::StreamSpec;
 use rtp_wire::Enc;
 use std::alloc::{AllocError, Global};
@@ -31,19 +31,19 @@ pub(crate) fn push_panel(
     alloc: Global,
     top: u32,
     cursor: &Cursor,
-    gathered: &Gathered,
+    gathered: &PanelData,
 ) -> Result<(), AllocError> {
     let spec = cursor.spec();
     let paths = spec.paths();
     let number = cursor.number();
-    line(write!(svg, "<g id=\"stream{number}\">\n"))?;
+    fmt_result(write!(svg, "<g id=\"stream{number}\">\n"))?;
     push_name(svg, top, number, &spec)?;
     let top = top.saturating_add(NAME_HEIGHT);
     push_strip(svg, alloc, top, paths, &gathered.bins)?;
     let top = top.saturating_add(strip_height(paths));
     push_ticks(svg, top, &gathered.bins.axis())?;
     let top = top.saturating_add(TICKS_HEIGHT);
-    push_spares(svg, top, paths, &gathered.spares)?;
+    push_margins(svg, top, paths, &gathered.margins)?;
     let top = top.saturating_add(spare_height(paths));
     push_counts(svg, alloc, top, cursor)?;
     svg.extend_from_slice(b"</g>\n")
@@ -59,7 +59,7 @@ fn push_name(svg: &mut Vec<u8>, top: u32, number: u8, spec: &StreamSpec) -> Resu
     let (paths, channels) = (spec.paths(), spec.channels());
     let (ms, us) = millis(u64::from(spec.frames()));
     let (late_ms, late_us) = millis(u64::from(spec.latency()));
-    line(write!(
+    fmt_result(write!(
         svg,
         "<text class=\"name\" x=\"24\" y=\"{y}\">stream {number}: paths {paths}, {enc}, channels {channels}, \
         packets of {ms}.{us:03} ms, latency {late_ms}.{late_us:03} ms</text>\n"

@@ -2,7 +2,7 @@
 ghost use Rattle.std.specs.Prelude.{◌<◌};
 
 use crate::draw::bars::{LEFT, PLOT_WIDTH, UNITS, height_of, push_bars};
-use crate::draw::{line, push_text};
+use crate::draw::{fmt_result, push_text};
 use crate::reception::bins::{Bins, ROWS};
 use crate::reception::{DOUBLE_ROW, LATE_ROW, LOST_ROW, REFUSED_ROW, RESTART_ROW};
 use std::alloc::{AllocError, Global};
@@ -87,7 +87,7 @@ fn push_row(
     let heights = heights_of(alloc, paths, bins, row)?;
     push_bars(svg, class, y, ROW_STEP - 2, heights.as_slice())?;
     let (x, total) = (LEFT + PLOT_WIDTH + 8, bins.total(row));
-    line(write!(
+    fmt_result(write!(
         svg,
         "<text class=\"total {class}_total\" x=\"{x}\" y=\"{base}\">{total}</text>\n"
     ))

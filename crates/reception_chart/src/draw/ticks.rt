@@ -1,6 +1,6 @@
 //! Seconds below a strip.
 use crate::draw::bars::{LEFT, PLOT_WIDTH};
-use crate::draw::line;
+use crate::draw::fmt_result;
 use crate::reception::axis::Axis;
 use std::alloc::AllocError;
 use std::io::Write;
@@ -45,7 +45,7 @@ fn push_tick(svg: &mut Vec<u8>, top: u32, time: u64, micros: u64) -> Result<(), 
     let along = time.saturating_mul(u64::from(PLOT_WIDTH)) / micros.max(1);
     let x = LEFT.saturating_add(u32::try_from(along).unwrap_or(0));
     let (bottom, y) = (top.saturating_add(5), top.saturating_add(17));
-    line(write!(
+    fmt_result(write!(
         svg,
         "<path class=\"tick\" d=\"M{x} {top}V{bottom}\"/><text class=\"soft middle\" x=\"{x}\" y=\"{y}\">"
     ))?;
@@ -57,15 +57,15 @@ fn push_tick(svg: &mut Vec<u8>, top: u32, time: u64, micros: u64) -> Result<(), 
 fn push_seconds(svg: &mut Vec<u8>, micros: u64) -> Result<(), AllocError> {
     let (whole, rest) = (micros / 1_000_000, micros % 1_000_000);
     if rest == 0 {
-        return line(write!(svg, "{whole}"));
+        return fmt_result(write!(svg, "{whole}"));
     }
     if rest % 1000 == 0 {
         let millis = rest / 1000;
         if millis % 100 == 0 {
             let tenths = millis / 100;
-            return line(write!(svg, "{whole}.{tenths}"));
+            return fmt_result(write!(svg, "{whole}.{tenths}"));
         }
-        return line(write!(svg, "{whole}.{millis:03}"));
+        return fmt_result(write!(svg, "{whole}.{millis:03}"));
     }
-    line(write!(svg, "{whole}.{rest:06}"))
+    fmt_result(write!(svg, "{whole}.{rest:06}"))
 }

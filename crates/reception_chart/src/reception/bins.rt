@@ -2,7 +2,7 @@
 ghost use Rattle.std.specs.Prelude.{◌≡◌, ◌+◌, ◌<◌, ◌^◌, ◌++◌, ◌∷◌, [], List, length, IfOk};
 ghost use Rattle.reception_chart.specs.Bins.{HasCounted, Seen, count_in};
 
-use crate::reception::Kind;
+use crate::reception::ReceptionKind;
 use crate::reception::axis::Axis;
 use std::alloc::{AllocError, Global};
 use std::marker::Model;
@@ -47,7 +47,7 @@ impl Bins {
     }
 
     /// Counts what was seen at a time, in its span.
-    pub fn add(&mut self, time: i64, kind: Kind)
+    pub fn add(&mut self, time: i64, kind: ReceptionKind)
         ensures counted { (seen : List Seen) → length seen + 1 < 2 ^ 64 → HasCounted self.old seen → HasCounted self.new (seen ++ record { time = time; kind = kind } ∷ []) }
         ensures axis { self.new.axis ≡ self.old.axis }
     {

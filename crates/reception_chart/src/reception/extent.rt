@@ -1,6 +1,6 @@
 //! How far what is seen of a stream reaches.
-use crate::observer::Observer;
-use crate::reception::{Kind, Sighting};
+use crate::observer::ReceptionObserver;
+use crate::reception::{ReceptionEvent, ReceptionKind};
 
 /// The media time of what was taken or lost, in sampling instants, and the most that a copy had to spare.
 #[derive(Clone, Copy, Debug, PartialEq, Eq)]
@@ -39,23 +39,23 @@ impl Extent {
     }
 }
 
-impl Observer for Extent {
-    fn see(&mut self, sighting: &Sighting) {
-        match sighting.copied {
-            Some(copied) if sighting.kind != Kind::Late => {
+impl ReceptionObserver for Extent {
+    fn observe(&mut self, event: &ReceptionEvent) {
+        match event.copied {
+            Some(copied) if event.kind != ReceptionKind::Late => {
                 self.most = self.most.max(copied.spare);
             }
             _ => {}
         }
-        let end = sighting.time.saturating_add(i64::from(self.frames));
-        match sighting.kind {
-            Kind::Taken(_) | Kind::Lost => match self.first {
+        let end = event.time.saturating_add(i64::from(self.frames));
+        match event.kind {
+            ReceptionKind::Taken(_) | ReceptionKind::Lost => match self.first {
                 Some(first) => {
-                    self.first = Some(first.min(sighting.time));
+                    self.first = Some(first.min(event.time));
                     self.last = self.last.max(end);
                 }
                 None => {
-                    self.first = Some(sighting.time);
+                    self.first = Some(event.time);
                     self.last = end;
                 }
             },

@@ -1,15 +1,15 @@
 //! How long before their deadlines a stream's copies came, path by path.
-use crate::reception::{Copied, Kind, Sighting};
+use crate::reception::{CopyTiming, ReceptionEvent, ReceptionKind};
 use path_merge::Path;
 
 /// The spans of the time before a deadline.
-pub const SPARE_BINS: usize = 96;
+pub const MARGIN_BINS: usize = 96;
 
 /// What one path's copies had to spare.
 #[derive(Clone, Copy, Debug, PartialEq, Eq)]
-pub struct PathSpares {
+pub struct PathMargins {
     /// Copies that came in time, by how long before their deadlines.
-    pub bins: [u64; SPARE_BINS],
+    pub bins: [u64; MARGIN_BINS],
     /// All of them.
     pub in_time: u64,
     /// Copies that came late.
@@ -18,11 +18,11 @@ pub struct PathSpares {
     pub least: Option<i64>,
 }
 
-impl PathSpares {
+impl PathMargins {
     /// No copy came.
-    fn new() -> PathSpares {
-        PathSpares {
-            bins: [0; SPARE_BINS],
+    fn new() -> PathMargins {
+        PathMargins {
+            bins: [0; MARGIN_BINS],
             in_time: 0,
             late: 0,
             least: None,
@@ -35,7 +35,7 @@ impl PathSpares {
             .unwrap_or(0)
             .checked_div(span)
             .unwrap_or(0);
-        let bin = spans.min(SPARE_BINS as u64 - 1) as usize;
+        let bin = spans.min(MARGIN_BINS as u64 - 1) as usize;
         self.bins[bin] = self.bins[bin].saturating_add(1);
         self.in_time = self.in_time.saturating_add(1);
         self.least = match self.least {
@@ -47,19 +47,19 @@ impl PathSpares {
 
 /// What the copies of a stream's paths had to spare.
 #[derive(Drop)]
-pub struct Spares {
+pub struct Margins {
     /// The sampling instants of a span.
     span: u64,
-    paths: [PathSpares; 4],
+    paths: [PathMargins; 4],
 }
 
-impl Spares {
+impl Margins {
     /// No copy came; none will have more to spare than this.
-    pub fn new(most: i64) -> Spares {
-        let span = (u64::try_from(most).unwrap_or(0) / SPARE_BINS as u64).saturating_add(1);
-        Spares {
+    pub fn new(most: i64) -> Margins {
+        let span = (u64::try_from(most).unwrap_or(0) / MARGIN_BINS as u64).saturating_add(1);
+        Margins {
             span,
-            paths: [PathSpares::new(); 4],
+            paths: [PathMargins::new(); 4],
         }
     }
 
@@ -69,13 +69,13 @@ impl Spares {
     }
 
     /// Counts a copy, if one was seen.
-    pub fn add(&mut self, sighting: &Sighting) {
-        let Some(copied) = sighting.copied else {
+    pub fn add(&mut self, event: &ReceptionEvent) {
+        let Some(copied) = event.copied else {
             return;
         };
         let place = usize::from(copied.path.number());
         let mut path = self.paths[place];
-        if sighting.kind == Kind::Late {
+        if event.kind == ReceptionKind::Late {
             path.late = path.late.saturating_add(1);
         } else {
             path.add(copied.spare, self.span);
@@ -84,7 +84,7 @@ impl Spares {
     }
 
     /// What a path's copies had to spare.
-    pub fn path(&self, path: Path) -> &PathSpares {
+    pub fn path(&self, path: Path) -> &PathMargins {
         &self.paths[usize::from(path.number())]
     }
 }

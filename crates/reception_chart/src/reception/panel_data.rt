@@ -1,32 +1,32 @@
 //! All that a panel draws of a stream.
-use crate::observer::Observer;
-use crate::reception::Sighting;
+use crate::observer::ReceptionObserver;
+use crate::reception::ReceptionEvent;
 use crate::reception::axis::Axis;
 use crate::reception::bins::Bins;
-use crate::reception::margins::Spares;
+use crate::reception::margins::Margins;
 use std::alloc::{AllocError, Global};
 
 /// What was seen of a stream, by span, and what its copies had to spare.
 #[derive(Drop)]
-pub struct Gathered {
+pub struct PanelData {
     pub(crate) bins: Bins,
-    pub(crate) spares: Spares,
+    pub(crate) margins: Margins,
 }
 
-impl Gathered {
+impl PanelData {
     /// Nothing was seen.
-    pub(crate) fn new(alloc: Global, axis: Axis, most: i64) -> Result<Gathered, AllocError> {
+    pub(crate) fn new(alloc: Global, axis: Axis, most: i64) -> Result<PanelData, AllocError> {
         let bins = Bins::new(alloc, axis)?;
-        Ok(Gathered {
+        Ok(PanelData {
             bins,
-            spares: Spares::new(most),
+            margins: Margins::new(most),
         })
     }
 }
 
-impl Observer for Gathered {
-    fn see(&mut self, sighting: &Sighting) {
-        self.bins.add(sighting.time, sighting.kind);
-        self.spares.add(sighting);
+impl ReceptionObserver for PanelData {
+    fn observe(&mut self, event: &ReceptionEvent) {
+        self.bins.add(event.time, event.kind);
+        self.margins.add(event);
     }
 }

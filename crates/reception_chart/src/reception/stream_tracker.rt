@@ -2,24 +2,24 @@
 ghost use Rattle.std.specs.Prelude.{◌≡◌, ◌+◌, ◌<◌, None, true, length, IfOk};
 ghost use Rattle.studio_session.specs.Cursor.{IsSameCursor};
 
-use crate::observer::Observer;
-use crate::reception::{Copied, Kind, Sighting};
+use crate::observer::ReceptionObserver;
+use crate::reception::{CopyTiming, ReceptionEvent, ReceptionKind};
 use path_merge::{Fate, MarkKindRef, PacketRef, Path};
 use rtp_stream::{StreamSpec, is_taken};
 use std::alloc::{AllocError, Global};
 use studio_config::StudioSpec;
 use studio_session::{
-    Cursor, EventSource, MOST_ARRIVAL_OCTETS, Outline, Receipt, ReceptionRef, receive_ref,
+    ArriveOutcome, Cursor, EventHeader, EventSource, MOST_ARRIVAL_OCTETS, ReceptionRef, receive_ref,
 };
 
 /// The media time of one packet of an epoch, by which those of its others are known.
 #[derive(Clone, Copy)]
-struct Ruler {
+struct GridReference {
     ts: u32,
     media: i64,
 }
 
-impl Ruler {
+impl GridReference {
     /// The media time of a packet of the same grid.
     fn media_of(&self, ts: u32) -> i64 {
         let past = i64::from(ts.wrapping_sub(self.ts));
@@ -33,37 +33,37 @@ impl Ruler {
 
 /// Where a stream's clock and grid stand.
 #[derive(Clone, Copy)]
-struct View {
+struct GridState {
     time: i64,
-    ruler: Option<Ruler>,
+    ruler: Option<GridReference>,
 }
 
 /// A stream that is watched, event by event.
 #[derive(Drop)]
-pub struct Watch {
+pub struct StreamTracker {
     pub(crate) cursor: Cursor,
     /// How many events were taken.
     place: usize,
-    view: View,
+    view: GridState,
     pub(crate) ghost counted: { cursor.place ≡ place },
     pub(crate) ghost settled: { cursor.reading ≡ None },
 }
 
-impl Watch {
+impl StreamTracker {
     /// A stream of a studio, before the first event.
     pub fn new(
         alloc: Global,
         spec: &StudioSpec,
         stream: StreamSpec,
         number: u8,
-    ) -> Result<Watch, AllocError>
-        ensures first { IfOk result (λ watch. watch.cursor.place ≡ 0) }
+    ) -> Result<StreamTracker, AllocError>
+        ensures first { IfOk result (λ tracker. tracker.cursor.place ≡ 0) }
     {
         let cursor = Cursor::new(alloc, stream, number, spec.open_at())?;
-        Ok(Watch {
+        Ok(StreamTracker {
             cursor,
             place: 0,
-            view: View {
+            view: GridState {
                 time: spec.open_at(),
                 ruler: None,
             },
@@ -76,7 +76,7 @@ impl Watch {
     }
 
     /// Takes a datagram that came on a path of a stream, and tells what became of its packet if the stream is this one.
-    pub fn arrived<O: Observer>(
+    pub fn arrived<O: ReceptionObserver>(
         &mut self,
         stream: usize,
         path: Path,
@@ -91,26 +91,26 @@ impl Watch {
     }
 
     /// Takes a reading of the clock, and tells of the slots that are lost by then.
-    pub fn read<O: Observer>(&mut self, now: i64, observer: &mut O)
+    pub fn read<O: ReceptionObserver>(&mut self, now: i64, observer: &mut O)
         ensures place { self.old.cursor.place < usize.MAX → self.new.cursor.place ≡ self.old.cursor.place + 1 }
     {
         if self.place == usize::MAX {
             return;
         }
-        self.cursor.hand_reading(now);
+        self.cursor.push_reading(now);
         self.place += 1;
         see_lost(&mut self.cursor, observer);
         self.view.time = now;
     }
 
     /// Takes the close, and tells of the slots that are lost by then.
-    pub fn closed<O: Observer>(&mut self, observer: &mut O)
+    pub fn closed<O: ReceptionObserver>(&mut self, observer: &mut O)
         ensures place { self.old.cursor.place < usize.MAX → self.new.cursor.place ≡ self.old.cursor.place + 1 }
     {
         if self.place == usize::MAX {
             return;
         }
-        self.cursor.hand_close();
+        self.cursor.push_close();
         self.place += 1;
         see_lost(&mut self.cursor, observer);
     }
@@ -123,7 +123,7 @@ impl Watch {
     }
 
     /// Takes a datagram of the stream.
-    fn take<O: Observer>(&mut self, path: Path, octets: &[u8], observer: &mut O)
+    fn take<O: ReceptionObserver>(&mut self, path: Path, octets: &[u8], observer: &mut O)
         requires path { path < self.old.cursor.spec.paths }
         ensures place { self.old.cursor.place < usize.MAX → self.new.cursor.place ≡ self.old.cursor.place + 1 }
     {
@@ -141,35 +141,39 @@ impl Watch {
         if self.place == usize::MAX {
             return;
         }
-        self.cursor.hand_over();
+        self.cursor.skip();
         self.place += 1;
     }
 }
 
 /// Takes all events of a stream from the first on, and tells what is seen of each of its arrivals and of each slot that is
 /// handed on as lost.
-pub fn watch_stream<E: EventSource, O: Observer>(watch: &mut Watch, source: &E, observer: &mut O)
-    ensures all { watch.old.cursor.place ≡ 0 → watch.new.cursor.place ≡ length (E.events source.now) }
+pub fn track_stream<E: EventSource, O: ReceptionObserver>(
+    tracker: &mut StreamTracker,
+    source: &E,
+    observer: &mut O,
+)
+    ensures all { tracker.old.cursor.place ≡ 0 → tracker.new.cursor.place ≡ length (E.events source.now) }
 {
     for place in 0..source.count() {
         match source.outline(place) {
-            Outline::Arrive { stream, path } => {
-                if watch.has(usize::from(stream), path) {
+            EventHeader::Arrive { stream, path } => {
+                if tracker.has(usize::from(stream), path) {
                     let mut room = [0; MOST_ARRIVAL_OCTETS];
                     let octets = source.octets(place, &mut room);
-                    watch.take(path, octets, observer);
+                    tracker.take(path, octets, observer);
                 } else {
-                    watch.pass_over();
+                    tracker.pass_over();
                 }
             }
-            Outline::Tick(now) => watch.read(now, observer),
-            Outline::Close => watch.closed(observer),
+            EventHeader::Tick(now) => tracker.read(now, observer),
+            EventHeader::Close => tracker.closed(observer),
         }
     }
 }
 
 /// Tells of the slots that are handed on as lost.
-fn see_lost<O: Observer>(cursor: &mut Cursor, observer: &mut O)
+fn see_lost<O: ReceptionObserver>(cursor: &mut Cursor, observer: &mut O)
     ensures kept { IsSameCursor cursor.old cursor.new }
     ensures settled { cursor.new.reading ≡ None }
 {
@@ -181,9 +185,9 @@ fn see_lost<O: Observer>(cursor: &mut Cursor, observer: &mut O)
                 ..
             } = mark.kind()
             {
-                observer.see(&Sighting {
+                observer.observe(&ReceptionEvent {
                     time: media,
-                    kind: Kind::Lost,
+                    kind: ReceptionKind::Lost,
                     copied: None,
                 });
             }
@@ -195,11 +199,11 @@ fn see_lost<O: Observer>(cursor: &mut Cursor, observer: &mut O)
 }
 
 /// Takes a datagram, and tells what became of its packet.
-fn take_arrival<O: Observer>(
+fn take_arrival<O: ReceptionObserver>(
     cursor: &mut Cursor,
     path: Path,
     octets: &[u8],
-    view: &mut View,
+    view: &mut GridState,
     observer: &mut O,
 )
     requires settled { cursor.old.reading ≡ None }
@@ -210,8 +214,8 @@ fn take_arrival<O: Observer>(
 {
     let spec = cursor.spec();
     let anchored = cursor.next_deadline().is_some();
-    let receipt = cursor.hand_datagram(path, octets);
-    if let (Receipt::Offered(fate), ReceptionRef::Sent(packet)) = (
+    let receipt = cursor.push_datagram(path, octets);
+    if let (ArriveOutcome::Offered(fate), ReceptionRef::Sent(packet)) = (
         receipt,
         receive_ref(&spec, octets),
     ) {
@@ -225,7 +229,13 @@ fn take_arrival<O: Observer>(
 }
 
 /// The ruler of a packet that was taken: where it opens an epoch, its slot is the next that is due.
-fn ruler_after(spec: &StreamSpec, view: &View, opens: bool, due: Option<i64>, ts: u32) -> Ruler {
+fn ruler_after(
+    spec: &StreamSpec,
+    view: &GridState,
+    opens: bool,
+    due: Option<i64>,
+    ts: u32,
+) -> GridReference {
     let opened = match due {
         Some(due) => due.saturating_sub(i64::from(spec.latency())),
         None => view.time,
@@ -234,13 +244,13 @@ fn ruler_after(spec: &StreamSpec, view: &View, opens: bool, due: Option<i64>, ts
         Some(ruler) => { if opens { opened } else { ruler.media_of(ts) } }
         None => opened,
     };
-    Ruler { ts, media }
+    GridReference { ts, media }
 }
 
 /// Tells of a packet that was offered.
-fn see_packet<O: Observer>(
+fn see_packet<O: ReceptionObserver>(
     spec: &StreamSpec,
-    view: &View,
+    view: &GridState,
     path: Path,
     fate: Fate,
     packet: &PacketRef<'_>,
@@ -248,10 +258,10 @@ fn see_packet<O: Observer>(
 ) {
     let kind = match fate {
         Fate::Closed | Fate::CountersFull => return,
-        Fate::Taken | Fate::Restarted => Kind::Taken(path),
-        Fate::Double => Kind::Double,
-        Fate::Late => Kind::Late,
-        Fate::Unlike | Fate::WrongSource | Fate::OffGrid | Fate::Ahead => Kind::Refused,
+        Fate::Taken | Fate::Restarted => ReceptionKind::Taken(path),
+        Fate::Double => ReceptionKind::Double,
+        Fate::Late => ReceptionKind::Late,
+        Fate::Unlike | Fate::WrongSource | Fate::OffGrid | Fate::Ahead => ReceptionKind::Refused,
     };
     let placed = !matches!(fate, Fate::WrongSource | Fate::OffGrid | Fate::Ahead);
     let media = match view.ruler {
@@ -261,19 +271,19 @@ fn see_packet<O: Observer>(
     let spare = media
         .saturating_add(i64::from(spec.latency()))
         .saturating_sub(view.time);
-    observer.see(&Sighting {
+    observer.observe(&ReceptionEvent {
         time: if placed { media } else { view.time },
         kind,
         copied: if placed {
-            Some(Copied { path, spare })
+            Some(CopyTiming { path, spare })
         } else {
             None
         },
     });
     if fate == Fate::Restarted {
-        observer.see(&Sighting {
+        observer.observe(&ReceptionEvent {
             time: media,
-            kind: Kind::Restart,
+            kind: ReceptionKind::Restart,
             copied: None,
         });
     }

@@ -4,13 +4,13 @@ ghost use Rattle.rtrb.specs.Ring.{SameConsumer, SameProducer};
 ghost use Rattle.rtp_stream.specs.declared.stream_spec.Stream.{Stream};
 ghost use Rattle.rtp_stats.specs.Offer.{Offer};
 ghost use Rattle.rtp_stats.specs.Tally.{HasTally};
-ghost use Rattle.rtp_stats.specs.Newest.{IsNewest};
-ghost use Rattle.rtp_stats.specs.Numbers.{AreNumbers};
-ghost use Rattle.rtp_stats.specs.Told.{Tells};
+ghost use Rattle.rtp_stats.specs.Channel.{IsNewest};
+ghost use Rattle.rtp_stats.specs.Stats.{AreNumbers};
+ghost use Rattle.rtp_stats.specs.Channels.{Tells};
 
-use crate::channel::{give, newest};
-use crate::copy_tracker::CopyWatch;
-use crate::stats::{PathNumbers, StreamNumbers};
+use crate::channel::{take_newest, try_send};
+use crate::copy_tracker::CopyTracker;
+use crate::stats::{PathStats, StreamStats};
 use rtp_stream::{Counts, Fate, PacketRef, Path, StreamSpec};
 use rtrb::{Consumer, Producer, RingBuffer};
 use std::alloc::{AllocError, Global};
@@ -23,38 +23,38 @@ const PLACES: usize = 4;
 
 /// Tells what becomes of a stream's packets.
 #[derive(Drop)]
-pub struct StreamTeller {
-    watch: CopyWatch,
-    ring: Producer<StreamNumbers>,
+pub struct StreamStatsSender {
+    watch: CopyTracker,
+    ring: Producer<StreamStats>,
     /// When it tells again, in sampling instants.
     next: i64,
 }
 
 /// Where what becomes of a stream's packets can be looked at.
 #[derive(Drop)]
-pub struct StreamWatch {
-    ring: Consumer<StreamNumbers>,
+pub struct StreamStatsReceiver {
+    ring: Consumer<StreamStats>,
 }
 
 /// Both ends for a stream of which nothing was offered. It takes all memory.
-pub fn open_watch(
+pub fn stream_stats_channel(
     alloc: Global,
     spec: &StreamSpec,
-) -> Result<(StreamTeller, StreamWatch), AllocError>
+) -> Result<(StreamStatsSender, StreamStatsReceiver), AllocError>
     ensures empty { IfOk result (λ ends. HasTally spec.now [] ends.0.watch.tally) }
     ensures next { IfOk result (λ ends. (now : ℤ) → neg_ℤ (pos (2 ^ 63)) ≤ℤ now → ends.0.next ≤ℤ now) }
 {
-    let watch = CopyWatch::new(alloc, spec)?;
+    let watch = CopyTracker::new(alloc, spec)?;
     let (producer, consumer) = RingBuffer::new(alloc, PLACES)?;
-    let teller = StreamTeller {
+    let teller = StreamStatsSender {
         watch,
         ring: producer,
         next: i64::MIN,
     };
-    Ok((teller, StreamWatch { ring: consumer }))
+    Ok((teller, StreamStatsReceiver { ring: consumer }))
 }
 
-impl StreamTeller {
+impl StreamStatsSender {
     /// Notes what became of a packet that was offered on a path at a reading of the clock, where the stream's next slot is due
     /// then at `due`.
     pub fn note(
@@ -74,7 +74,7 @@ impl StreamTeller {
 
     /// Tells these counts and the paths' numbers at a reading of the clock, if a tenth of a second went by since the last
     /// time and there is room.
-    pub fn tell(&mut self, counts: Counts, now: i64)
+    pub fn send(&mut self, counts: Counts, now: i64)
         ensures told { (stream : Stream) (offers : List Offer) → HasTally stream offers self.old.watch.tally → Tells stream offers counts self.old.next now self.old.ring self.new.ring }
         ensures early { now <ℤ self.old.next → self.new.next ≡ self.old.next }
         ensures next { self.old.next ≤ℤ now → self.new.next ≤ℤ (now +ℤ TENTH) }
@@ -85,7 +85,7 @@ impl StreamTeller {
             return;
         }
         self.next = now.saturating_add(TENTH);
-        let numbers = StreamNumbers {
+        let numbers = StreamStats {
             counts,
             paths: [
                 numbers_at(&self.watch, 0, now),
@@ -94,27 +94,27 @@ impl StreamTeller {
                 numbers_at(&self.watch, 3, now),
             ],
         };
-        give(&mut self.ring, numbers);
+        try_send(&mut self.ring, numbers);
     }
 }
 
 /// The numbers of the path of a number.
-fn numbers_at(watch: &CopyWatch, number: u8, now: i64) -> PathNumbers
+fn numbers_at(watch: &CopyTracker, number: u8, now: i64) -> PathStats
     requires { number < 4 }
     ensures { (stream : Stream) (offers : List Offer) → HasTally stream offers watch.now.tally → AreNumbers stream offers number now result }
 {
     match Path::new(number) {
-        Some(path) => watch.numbers(path, now),
+        Some(path) => watch.stats(path, now),
         None => unreachable!(),
     }
 }
 
-impl StreamWatch {
+impl StreamStatsReceiver {
     /// The latest numbers that came since the last look, if any did.
-    pub fn latest(&mut self) -> Option<StreamNumbers>
+    pub fn latest(&mut self) -> Option<StreamStats>
         ensures newest { IsNewest PLACES result self.old.ring self.new.ring }
         ensures ring { SameConsumer self.old.ring self.new.ring }
     {
-        newest(&mut self.ring, PLACES)
+        take_newest(&mut self.ring, PLACES)
     }
 }

@@ -1,9 +1,9 @@
 //! The spare times of one path in one second.
 ghost use Rattle.std.specs.Prelude.{◌≡◌, ◌<◌, MatchOption};
-ghost use Rattle.rtp_stats.specs.Spare.{second_of};
-ghost use Rattle.rtp_stats.specs.Second.{IsMiddle, IsSpareOf, empty_second, second_after, with_spare};
+ghost use Rattle.rtp_stats.specs.Margins.{second_of};
+ghost use Rattle.rtp_stats.specs.MarginSecond.{IsMiddle, IsSpareOf, empty_second, second_after, with_spare};
 
-use crate::spare::Spare;
+use crate::spare::ArrivalMargin;
 
 /// The bins of a second, one for each 6 sampling instants.
 const BINS: usize = 1_024;
@@ -18,7 +18,7 @@ pub(crate) fn second_of(now: i64) -> u64
 
 /// The spare times that a path's packets had in a second.
 #[derive(Drop)]
-pub(crate) struct Second {
+pub(crate) struct MarginSecond {
     second: u64,
     /// How many.
     count: u32,
@@ -27,12 +27,12 @@ pub(crate) struct Second {
     bins: [u32; BINS],
 }
 
-impl Second {
+impl MarginSecond {
     /// A second in which nothing came yet.
-    pub(crate) fn new(second: u64) -> Second
+    pub(crate) fn new(second: u64) -> MarginSecond
         ensures { result ≡ empty_second second }
     {
-        Second {
+        MarginSecond {
             second,
             count: 0,
             least: 0,
@@ -78,13 +78,13 @@ impl Second {
     }
 
     /// The least and the median, where it is of this second and there is one.
-    pub(crate) fn spare_in(&self, second: u64) -> Option<Spare>
+    pub(crate) fn margin_in(&self, second: u64) -> Option<ArrivalMargin>
         ensures { MatchOption result (self.now.second ≡ second → self.now.count ≡ 0) (IsSpareOf self.now second) }
     {
         if self.second != second || self.count == 0 {
             return None;
         }
-        Some(Spare {
+        Some(ArrivalMargin {
             least: self.least,
             median: 6 * middle_of(&self.bins, self.count),
         })

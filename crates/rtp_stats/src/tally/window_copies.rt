@@ -1,26 +1,26 @@
 //! The number that was taken last at a place of the window.
 ghost use Rattle.std.specs.Prelude.{◌≡◌, ℕ, ◌+◌, ◌%◌, ◌<◌, ◌&&◌, length, slice_index, slice_index_or, slice_set, if◌then◌else◌};
 ghost use Rattle.rtp_stats.specs.Offers.{count_in_64_bits};
-ghost use Rattle.rtp_stats.specs.Entry.{empty_entry, entry_after, entry_of, misses, with_copy};
+ghost use Rattle.rtp_stats.specs.WindowCopies.{empty_entry, entry_after, entry_of, misses, with_copy};
 ghost use Rattle.rtp_stream.specs.Counts.{is_taken_fate};
 
 use rtp_stream::{Fate, Path, is_taken};
 
 /// The number that was taken last at a place, and which paths brought copies of it since.
 #[derive(Clone, Copy, Debug)]
-pub(crate) struct Entry {
+pub(crate) struct WindowCopies {
     /// One was taken.
     taken: bool,
     seq: u16,
     brought: [bool; 4],
 }
 
-impl Entry {
+impl WindowCopies {
     /// None was taken.
-    pub(crate) fn new() -> Entry
+    pub(crate) fn new() -> WindowCopies
         ensures { result ≡ empty_entry }
     {
-        Entry {
+        WindowCopies {
             taken: false,
             seq: 0,
             brought: [false; 4],
@@ -29,12 +29,12 @@ impl Entry {
 
     /// A number that was taken from a path.
     #[inline(always)]
-    fn of(path: Path, seq: u16) -> Entry
+    fn of(path: Path, seq: u16) -> WindowCopies
         ensures { result ≡ entry_of path seq }
     {
         let mut brought = [false; 4];
         brought[usize::from(path.number())] = true;
-        Entry {
+        WindowCopies {
             taken: true,
             seq,
             brought,
@@ -43,7 +43,7 @@ impl Entry {
 
     /// With a further copy of a number.
     #[inline(always)]
-    fn with_copy(mut self, path: Path, seq: u16) -> Entry
+    fn with_copy(mut self, path: Path, seq: u16) -> WindowCopies
         ensures { result ≡ with_copy path seq self }
     {
         if self.taken && self.seq == seq {
@@ -54,11 +54,11 @@ impl Entry {
 
     /// After one more offer at its place.
     #[inline(always)]
-    fn after(self, path: Path, fate: Fate, seq: u16) -> Entry
+    fn after(self, path: Path, fate: Fate, seq: u16) -> WindowCopies
         ensures { result ≡ entry_after path fate seq self }
     {
         match fate {
-            Fate::Taken | Fate::Restarted => Entry::of(path, seq),
+            Fate::Taken | Fate::Restarted => WindowCopies::of(path, seq),
             Fate::Double | Fate::Unlike | Fate::Late => self.with_copy(path, seq),
             Fate::Closed | Fate::CountersFull | Fate::WrongSource | Fate::OffGrid | Fate::Ahead =>
                 self,
@@ -77,7 +77,7 @@ impl Entry {
 
 /// Counts a number for each path that brought no copy of it.
 #[inline(always)]
-fn add_missed(missed: &mut [u64; 4], entry: &Entry)
+fn add_missed(missed: &mut [u64; 4], entry: &WindowCopies)
     ensures four { length missed.new ≡ 4 }
     ensures each { (path : ℕ) → path < 4 → slice_index missed.new path
         ≡ (if misses entry.now path then count_in_64_bits (slice_index missed.old path + 1) else slice_index missed.old path) }
@@ -91,12 +91,18 @@ fn add_missed(missed: &mut [u64; 4], entry: &Entry)
 
 /// Notes an offer at the place of its number; one that is taken ends the time of the number that was kept there.
 #[inline(always)]
-pub(crate) fn note(entries: &mut [Entry], missed: &mut [u64; 4], path: Path, fate: Fate, seq: u16)
+pub(crate) fn note_copy(
+    entries: &mut [WindowCopies],
+    missed: &mut [u64; 4],
+    path: Path,
+    fate: Fate,
+    seq: u16,
+)
     requires { 0 < length entries.old }
-    ensures kept { (d : Entry) → entries.new
+    ensures kept { (d : WindowCopies) → entries.new
         ≡ slice_set entries.old (seq % length entries.old) (entry_after path fate seq (slice_index_or entries.old (seq % length entries.old) d)) }
     ensures four { length missed.new ≡ 4 }
-    ensures missed { (d : Entry) (on : ℕ) → on < 4 → slice_index missed.new on
+    ensures missed { (d : WindowCopies) (on : ℕ) → on < 4 → slice_index missed.new on
         ≡ (if is_taken_fate fate && misses (slice_index_or entries.old (seq % length entries.old) d) on
         then count_in_64_bits (slice_index missed.old on + 1) else slice_index missed.old on) }
 {

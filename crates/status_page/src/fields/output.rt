@@ -2,7 +2,7 @@
 ghost use Rattle.std.specs.Prelude.{◌≡◌};
 ghost use Rattle.status_page.specs.Fields.{output_help, output_key, output_kind, output_value};
 
-use crate::fields::Kind;
+use crate::fields::MetricKind;
 use crate::snapshot::OutputState;
 
 /// A number of an output channel.
@@ -27,12 +27,12 @@ impl OutputField {
     }
 
     /// Whether it only rises.
-    pub fn kind(self) -> Kind
+    pub fn kind(self) -> MetricKind
         ensures { result ≡ output_kind self }
     {
         match self {
-            OutputField::Peak => Kind::Gauge,
-            _ => Kind::Counter,
+            OutputField::Peak => MetricKind::Gauge,
+            _ => MetricKind::Counter,
         }
     }
 

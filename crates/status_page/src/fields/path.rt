@@ -2,7 +2,7 @@
 ghost use Rattle.std.specs.Prelude.{◌≡◌};
 ghost use Rattle.status_page.specs.Fields.{path_help, path_key, path_kind, path_value};
 
-use crate::fields::Kind;
+use crate::fields::MetricKind;
 use crate::snapshot::PathState;
 
 /// A number of a path.
@@ -63,12 +63,12 @@ impl PathField {
     }
 
     /// Whether it only rises.
-    pub fn kind(self) -> Kind
+    pub fn kind(self) -> MetricKind
         ensures { result ≡ path_kind self }
     {
         match self {
-            PathField::SpareLeast | PathField::SpareMedian => Kind::Gauge,
-            _ => Kind::Counter,
+            PathField::SpareLeast | PathField::SpareMedian => MetricKind::Gauge,
+            _ => MetricKind::Counter,
         }
     }
 

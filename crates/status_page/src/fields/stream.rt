@@ -2,7 +2,7 @@
 ghost use Rattle.std.specs.Prelude.{◌≡◌};
 ghost use Rattle.status_page.specs.Fields.{stream_help, stream_key, stream_kind, stream_value};
 
-use crate::fields::Kind;
+use crate::fields::MetricKind;
 use crate::snapshot::StreamState;
 
 /// A number of a stream.
@@ -60,12 +60,12 @@ impl StreamField {
     }
 
     /// Whether it only rises.
-    pub fn kind(self) -> Kind
+    pub fn kind(self) -> MetricKind
         ensures { result ≡ stream_kind self }
     {
         match self {
-            StreamField::Latency => Kind::Gauge,
-            _ => Kind::Counter,
+            StreamField::Latency => MetricKind::Gauge,
+            _ => MetricKind::Counter,
         }
     }
 

@@ -1,6 +1,6 @@
 //! The page itself.
 ghost use Rattle.std.specs.Prelude.{◌≡◌};
-ghost use Rattle.status_page.specs.Answer.{page_text};
+ghost use Rattle.status_page.specs.Responses.{page_text};
 
 /// The page, with its style and its script.
 pub const HTML: &str = r##"<!doctype html>
@@ -434,7 +434,7 @@ ask();
 "##;
 
 /// It, as what is answered.
-#[tactic(auto, unfolding(crate::specs::Answer::page_text))]
+#[tactic(auto, unfolding(crate::specs::Responses::page_text))]
 pub(crate) fn page_html() -> &'static str
     ensures { result.now ≡ page_text }
 {

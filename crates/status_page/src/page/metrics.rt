@@ -3,7 +3,7 @@ ghost use Rattle.std.specs.Prelude.{◌≡◌, ◌++◌, OnOk, IfOk};
 ghost use Rattle.status_page.specs.Metrics.{stream_samples, path_samples, all_path_samples, condition_samples, all_condition_samples, output_samples, stream_families, path_families, output_families, metrics_text, state_header};
 
 use crate::condition::CONDITIONS;
-use crate::fields::Kind;
+use crate::fields::MetricKind;
 use crate::fields::output::{OUTPUT_FIELDS, OutputField};
 use crate::fields::path::{PATH_FIELDS, PathField};
 use crate::fields::stream::{STREAM_FIELDS, StreamField};
@@ -16,7 +16,7 @@ use std::alloc::{AllocError, Global};
 
 /// The text form of Prometheus, 0.0.4, of a snapshot.
 #[tactic(auto, unfolding(crate::specs::Metrics::metrics_text))]
-pub fn metrics_of(alloc: Global, snapshot: &Snapshot) -> Result<Vec<u8>, AllocError>
+pub fn metrics_text(alloc: Global, snapshot: &Snapshot) -> Result<Vec<u8>, AllocError>
     ensures { IfOk result (λ text. text.items ≡ metrics_text snapshot.now) }
 {
     let mut text = Vec::new(alloc);
@@ -40,7 +40,7 @@ fn push_conditions(
 ) -> Result<(), AllocError>
     ensures { OnOk result (text.new.items ≡ text.old.items ++ (state_header ++ all_condition_samples conditions.now 0 streams.now)) }
 {
-    push_header(text, "stream_", "state", Kind::Gauge, STATE_HELP)?;
+    push_header(text, "stream_", "state", MetricKind::Gauge, STATE_HELP)?;
     push_all_condition_samples(text, conditions, streams)
 }
 

@@ -1,6 +1,6 @@
 //! What can be asked for.
 ghost use Rattle.std.specs.Prelude.{◌≡◌};
-ghost use Rattle.status_page.specs.Answer.{resource_of, media_type};
+ghost use Rattle.status_page.specs.Responses.{resource_of, media_type};
 
 use http::HeaderValue;
 

@@ -2,17 +2,17 @@
 ghost use Rattle.std.specs.Prelude.{◌≡◌, ◌++◌, OnOk};
 ghost use Rattle.status_page.specs.Metrics.{name_label, stream_labels, path_letter, value_text, stream_sample, path_sample, condition_sample, output_sample};
 
-use crate::fields::Kind;
+use crate::fields::MetricKind;
 use crate::fields::output::OutputField;
 use crate::fields::path::PathField;
 use crate::fields::stream::StreamField;
 use crate::page::text::{push, push_label, push_metric, push_number};
-use crate::snapshot::{Condition, Name, OutputState, StreamState};
+use crate::snapshot::{Condition, OutputState, StreamName, StreamState};
 use std::alloc::AllocError;
 
 /// Holds a stream's name as a label, if it has one.
 #[tactic(auto, unfolding(crate::specs::Metrics::name_label))]
-fn push_name(text: &mut Vec<u8>, name: &Option<Name>) -> Result<(), AllocError>
+fn push_name(text: &mut Vec<u8>, name: &Option<StreamName>) -> Result<(), AllocError>
     ensures { OnOk result (text.new.items ≡ text.old.items ++ name_label name.now) }
 {
     if let Some(name) = name {
@@ -104,7 +104,7 @@ pub(crate) fn push_condition_sample(
 ) -> Result<(), AllocError>
     ensures { OnOk result (text.new.items ≡ text.old.items ++ condition_sample number stream.now condition) }
 {
-    push_metric(text, "stream_", "state", Kind::Gauge)?;
+    push_metric(text, "stream_", "state", MetricKind::Gauge)?;
     push_labels(text, number, stream)?;
     push(text, ",state=\"")?;
     push(text, condition.text())?;

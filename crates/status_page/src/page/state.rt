@@ -7,13 +7,13 @@ ghost use Rattle.status_page.specs.State.{array_tokens, known_token, name_token,
 use crate::fields::output::{OUTPUT_FIELDS, OutputField};
 use crate::fields::path::{PATH_FIELDS, PathField};
 use crate::fields::stream::{STREAM_FIELDS, StreamField};
-use crate::snapshot::{Name, OutputState, PathState, Snapshot, StreamState};
+use crate::snapshot::{OutputState, PathState, Snapshot, StreamName, StreamState};
 use json::Writer;
 use std::alloc::{AllocError, Global};
 
 /// A snapshot as JSON (RFC 8259).
 #[tactic(auto, unfolding(crate::specs::State::state_tokens))]
-pub fn state_of(alloc: Global, snapshot: &Snapshot) -> Result<Vec<u8>, AllocError>
+pub fn state_json(alloc: Global, snapshot: &Snapshot) -> Result<Vec<u8>, AllocError>
     ensures text { IfOk result (λ text. text.items ≡ print (state_tokens snapshot.now)) }
     ensures reads_back { IfOk result (λ text. tokens text.items ≡ state_tokens snapshot.now) }
 {
@@ -72,7 +72,7 @@ fn write_front(writer: &mut Writer, stream: &StreamState) -> Result<(), AllocErr
 }
 
 /// Writes a name, or null.
-fn write_name(writer: &mut Writer, name: &Option<Name>) -> Result<(), AllocError>
+fn write_name(writer: &mut Writer, name: &Option<StreamName>) -> Result<(), AllocError>
     ensures tokens { OnOk result (writer.new.tokens ≡ writer.old.tokens ++ name_token name.now ∷ []) }
     ensures before { OnOk result (writer.new.before ≡ writer.old.before) }
 {

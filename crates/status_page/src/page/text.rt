@@ -2,7 +2,7 @@
 ghost use Rattle.std.specs.Prelude.{◌≡◌, ◌++◌, OnOk, decimal};
 ghost use Rattle.status_page.specs.Metrics.{label_octet, label_text, suffix, metric_text, kind_text, header_text};
 
-use crate::fields::Kind;
+use crate::fields::MetricKind;
 use std::alloc::AllocError;
 
 /// Holds a text.
@@ -50,7 +50,7 @@ pub(crate) fn push_metric(
     text: &mut Vec<u8>,
     group: &str,
     key: &str,
-    kind: Kind,
+    kind: MetricKind,
 ) -> Result<(), AllocError>
     ensures { OnOk result (text.new.items ≡ text.old.items ++ metric_text group.now key.now kind) }
 {
@@ -66,7 +66,7 @@ pub(crate) fn push_header(
     text: &mut Vec<u8>,
     group: &str,
     key: &str,
-    kind: Kind,
+    kind: MetricKind,
     help: &str,
 ) -> Result<(), AllocError>
     ensures { OnOk result (text.new.items ≡ text.old.items ++ header_text group.now key.now kind help.now) }
@@ -81,21 +81,21 @@ pub(crate) fn push_header(
 }
 
 /// What ends the name of a metric.
-fn suffix(kind: Kind) -> &'static str
+fn suffix(kind: MetricKind) -> &'static str
     ensures { result.now ≡ suffix kind }
 {
     match kind {
-        Kind::Counter => "_total",
-        Kind::Gauge => "",
+        MetricKind::Counter => "_total",
+        MetricKind::Gauge => "",
     }
 }
 
 /// What ends the second line.
-fn kind_text(kind: Kind) -> &'static str
+fn kind_text(kind: MetricKind) -> &'static str
     ensures { result.now ≡ kind_text kind }
 {
     match kind {
-        Kind::Counter => " counter\n",
-        Kind::Gauge => " gauge\n",
+        MetricKind::Counter => " counter\n",
+        MetricKind::Gauge => " gauge\n",
     }
 }

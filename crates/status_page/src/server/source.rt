@@ -33,7 +33,7 @@ impl SnapshotSource for RingSource {
         let is_over = self.ring.is_abandoned();
         for _ in 0..self.ring.slots() {
             if let Ok(newer) = self.ring.pop() {
-                page.renew(newer);
+                page.update(newer);
             }
         }
         !is_over
@@ -47,11 +47,11 @@ pub fn serve_page<R: Wait + Clock, S: SnapshotSource + Drop>(
     mut page: Page,
     mut source: S,
 ) {
-    serve(rt, &mut server, &mut page, &mut source);
+    serve_until_end(rt, &mut server, &mut page, &mut source);
 }
 
 /// The same on what is lent.
-fn serve<R: Wait + Clock, S: SnapshotSource + Drop>(
+fn serve_until_end<R: Wait + Clock, S: SnapshotSource + Drop>(
     rt: &R,
     server: &mut PageServer,
     page: &mut Page,

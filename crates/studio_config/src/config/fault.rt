@@ -12,7 +12,7 @@ use std::fmt;
 
 /// A table of the configuration.
 #[derive(Clone, Copy, Debug, PartialEq, Eq)]
-pub enum Place {
+pub enum ConfigTable {
     /// The whole document.
     Top,
     /// The table of a stream, from 0.
@@ -25,7 +25,7 @@ pub enum Place {
 
 /// What is wrong there.
 #[derive(Clone, Copy, Debug, PartialEq, Eq)]
-pub enum Kind {
+pub enum SpecErrorKind {
     /// A key is not there.
     Missing,
     /// A value is of another kind.
@@ -50,9 +50,9 @@ pub enum Kind {
 /// what is wrong.
 #[derive(Clone, Copy, Debug, PartialEq, Eq)]
 pub struct SpecError {
-    pub place: Place,
+    pub place: ConfigTable,
     pub key: Option<Key>,
-    pub kind: Kind,
+    pub kind: SpecErrorKind,
 }
 
 impl From<AllocError> for SpecError {
@@ -60,9 +60,9 @@ impl From<AllocError> for SpecError {
 
     fn from(_error: AllocError) -> SpecError {
         SpecError {
-            place: Place::Top,
+            place: ConfigTable::Top,
             key: None,
-            kind: Kind::Memory,
+            kind: SpecErrorKind::Memory,
         }
     }
 }
@@ -75,29 +75,29 @@ impl<T: Drop> From<AllocFailed<T>> for SpecError {
     }
 }
 
-impl fmt::Display for Place {
+impl fmt::Display for ConfigTable {
     fn fmt<W: fmt::Write>(&self, f: &mut fmt::Formatter<W>) -> fmt::Result {
         match self {
-            Place::Top => write!(f, "top"),
-            Place::Stream(stream) => write!(f, "stream[{stream}]"),
-            Place::Output => write!(f, "output"),
-            Place::Change(change) => write!(f, "output.change[{change}]"),
+            ConfigTable::Top => write!(f, "top"),
+            ConfigTable::Stream(stream) => write!(f, "stream[{stream}]"),
+            ConfigTable::Output => write!(f, "output"),
+            ConfigTable::Change(change) => write!(f, "output.change[{change}]"),
         }
     }
 }
 
-impl fmt::Display for Kind {
+impl fmt::Display for SpecErrorKind {
     fn fmt<W: fmt::Write>(&self, f: &mut fmt::Formatter<W>) -> fmt::Result {
         match self {
-            Kind::Missing => write!(f, "missing"),
-            Kind::WrongKind => write!(f, "kind"),
-            Kind::OutOfRange => write!(f, "range"),
-            Kind::Unknown => write!(f, "unknown"),
-            Kind::Stream(fault) => write!(f, "stream {}", *fault as u8 + 1),
-            Kind::Output(fault) => write!(f, "output {}", *fault as u8 + 1),
-            Kind::Gains(fault) => write!(f, "gains {}", *fault as u8 + 1),
-            Kind::Schedule(fault) => write!(f, "schedule {}", *fault as u8 + 1),
-            Kind::Memory => write!(f, "memory"),
+            SpecErrorKind::Missing => write!(f, "missing"),
+            SpecErrorKind::WrongKind => write!(f, "kind"),
+            SpecErrorKind::OutOfRange => write!(f, "range"),
+            SpecErrorKind::Unknown => write!(f, "unknown"),
+            SpecErrorKind::Stream(fault) => write!(f, "stream {}", *fault as u8 + 1),
+            SpecErrorKind::Output(fault) => write!(f, "output {}", *fault as u8 + 1),
+            SpecErrorKind::Gains(fault) => write!(f, "gains {}", *fault as u8 + 1),
+            SpecErrorKind::Schedule(fault) => write!(f, "schedule {}", *fault as u8 + 1),
+            SpecErrorKind::Memory => write!(f, "memory"),
         }
     }
 }
@@ -107,7 +107,7 @@ impl fmt::Display for SpecError {
         let kind = self.kind;
         match self.key {
             None => write!(f, "{}: {kind}", self.place),
-            Some(key) if self.place == Place::Top => write!(f, "{key}: {kind}"),
+            Some(key) if self.place == ConfigTable::Top => write!(f, "{key}: {kind}"),
             Some(key) => write!(f, "{}.{key}: {kind}", self.place),
         }
     }

@@ -5,14 +5,14 @@ ghost use Rattle.toml.specs.View.{view, table_view};
 ghost use Rattle.studio_config.specs.Values.{gains_at, items_in, row_in, rows_in, is_integer, is_row};
 ghost use Rattle.studio_config.specs.Rows.{required, gains, value_fault, row_fault};
 
-use crate::config::fault::{Kind, Place, SpecError};
+use crate::config::fault::{ConfigTable, SpecError, SpecErrorKind};
 use crate::config::keys::Key;
 use crate::config::lookup::{found, get};
 use toml::value::Array;
 use toml::{Table, Value};
 
 /// Tests that gains are there, as an array of arrays of whole numbers.
-pub(crate) fn check_gains(table: &Table, place: Place, key: Key) -> Result<(), SpecError>
+pub(crate) fn check_gains(table: &Table, place: ConfigTable, key: Key) -> Result<(), SpecError>
     ensures ok { OnOk result (row_fault place (table_view table.now) (required key gains) ≡ None) }
     ensures fault { IfErr result (λ e. row_fault place (table_view table.now) (required key gains) ≡ Some e) }
 {
@@ -28,18 +28,18 @@ pub(crate) fn check_gains(table: &Table, place: Place, key: Key) -> Result<(), S
 }
 
 /// The array of gains of a value.
-fn gains_in(value: &Value) -> Result<&Array, Kind>
+fn gains_in(value: &Value) -> Result<&Array, SpecErrorKind>
     ensures ok { OnOk result (value_fault gains (view value.now) ≡ None) }
     ensures items { IfOk result (λ a. map (λ t. row_in (view t)) a.now.items ≡ rows_in (view value.now)) }
     ensures fault { IfErr result (λ e. value_fault gains (view value.now) ≡ Some e) }
 {
     let Some(rows) = value.as_array() else {
-        return Err(Kind::WrongKind);
+        return Err(SpecErrorKind::WrongKind);
     };
     if all_rows(rows) {
         Ok(rows)
     } else {
-        Err(Kind::WrongKind)
+        Err(SpecErrorKind::WrongKind)
     }
 }
 

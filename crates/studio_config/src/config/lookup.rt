@@ -3,7 +3,7 @@ ghost use Rattle.std.specs.Prelude.{◌≡◌, None, Some, IfOk, OnErr, IfErr, o
 ghost use Rattle.toml.specs.View.{view, table_view};
 ghost use Rattle.studio_config.specs.Values.{value_at};
 
-use crate::config::fault::{Kind, Place, SpecError};
+use crate::config::fault::{ConfigTable, SpecError, SpecErrorKind};
 use crate::config::keys::Key;
 use toml::{Table, Value};
 
@@ -15,9 +15,9 @@ pub(crate) fn get(table: &Table, key: Key) -> Option<&Value>
 }
 
 /// The value at a key that has to be there.
-pub(crate) fn found(table: &Table, place: Place, key: Key) -> Result<&Value, SpecError>
+pub(crate) fn found(table: &Table, place: ConfigTable, key: Key) -> Result<&Value, SpecError>
     ensures ok { IfOk result (λ v. value_at (table_view table.now) key ≡ Some (view v.now)) }
-    ensures missing { IfErr result (λ e. e ≡ record { place = place; key = Some key; kind = Kind.Missing }) }
+    ensures missing { IfErr result (λ e. e ≡ record { place = place; key = Some key; kind = SpecErrorKind.Missing }) }
     ensures absent { OnErr result (value_at (table_view table.now) key ≡ None) }
 {
     match get(table, key) {
@@ -25,7 +25,7 @@ pub(crate) fn found(table: &Table, place: Place, key: Key) -> Result<&Value, Spe
         None => Err(SpecError {
             place,
             key: Some(key),
-            kind: Kind::Missing,
+            kind: SpecErrorKind::Missing,
         }),
     }
 }

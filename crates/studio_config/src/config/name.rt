@@ -4,7 +4,7 @@ ghost use Rattle.toml.specs.View.{view, table_view};
 ghost use Rattle.studio_config.specs.Rows.{a_text, rows_fault, value_fault};
 ghost use Rattle.studio_config.specs.StreamTable.{name_rows};
 
-use crate::config::fault::{Kind, Place, SpecError};
+use crate::config::fault::{ConfigTable, SpecError, SpecErrorKind};
 use crate::config::keys::Key;
 use crate::config::lookup::get;
 use toml::{Table, Value};
@@ -13,7 +13,7 @@ use toml::{Table, Value};
 const MOST: usize = 64;
 
 /// Tests a name that may be there.
-pub(crate) fn check_name(table: &Table, place: Place) -> Result<(), SpecError>
+pub(crate) fn check_name(table: &Table, place: ConfigTable) -> Result<(), SpecError>
     ensures ok { OnOk result (rows_fault place (table_view table.now) name_rows ≡ None) }
     ensures fault { IfErr result (λ e. rows_fault place (table_view table.now) name_rows ≡ Some e) }
 {
@@ -31,15 +31,15 @@ pub(crate) fn check_name(table: &Table, place: Place) -> Result<(), SpecError>
 }
 
 /// Tests that a value is a name.
-fn check_text(value: &Value) -> Result<(), Kind>
+fn check_text(value: &Value) -> Result<(), SpecErrorKind>
     ensures ok { OnOk result (value_fault (a_text 64) (view value.now) ≡ None) }
     ensures fault { IfErr result (λ e. value_fault (a_text 64) (view value.now) ≡ Some e) }
 {
     let Some(text) = value.as_str() else {
-        return Err(Kind::WrongKind);
+        return Err(SpecErrorKind::WrongKind);
     };
     if text.len() > MOST {
-        return Err(Kind::OutOfRange);
+        return Err(SpecErrorKind::OutOfRange);
     }
     Ok(())
 }

@@ -9,19 +9,19 @@ ghost use Rattle.studio_config.specs.NetworkTable.{senders_of};
 ghost use Rattle.studio_config.specs.OutputTable.{number_rows, address_rows, output_of, schedule_of, output_fault};
 ghost use Rattle.studio_config.specs.Config.{no_memory};
 ghost use Rattle.studio_config.specs.declared.config.keys.Key.TheVariants as key;
-ghost use Rattle.studio_config.specs.declared.config.fault.Place.TheVariants as at;
-ghost use Rattle.studio_config.specs.declared.config.fault.Kind.TheVariants as kind;
+ghost use Rattle.studio_config.specs.declared.config.fault.ConfigTable.TheVariants as at;
+ghost use Rattle.studio_config.specs.declared.config.fault.SpecErrorKind.TheVariants as kind;
 
-use crate::config::change::{check_changes, read_schedule};
-use crate::config::fault::{Kind, Place, SpecError};
+use crate::config::fault::{ConfigTable, SpecError, SpecErrorKind};
 use crate::config::gain_rows::check_gains;
+use crate::config::integers::{port, whole, whole_or};
 use crate::config::keys::Key;
-use crate::config::known::check_known;
-use crate::config::networks::read_senders;
-use crate::config::numbers::{port, whole, whole_or};
-use crate::config::packets::read_packets;
+use crate::config::network_keys::read_senders;
+use crate::config::packet_format::read_packets;
+use crate::config::schedule::{check_changes, read_schedule};
 use crate::config::tables::optional_tables;
-use crate::networks::Senders;
+use crate::config::unknown_keys::check_known;
+use crate::networks::OutputAddresses;
 use gain_mix::Schedule;
 use mix_packets::{OutSpec, Output};
 use std::alloc::Global;
@@ -29,7 +29,7 @@ use toml::Table;
 
 /// The source of the output's packets, and the numbers of the first one.
 #[derive(Clone, Copy)]
-struct Numbers {
+struct OutputNumbers {
     ssrc: u32,
     seq: u16,
     start: i64,
@@ -49,7 +49,7 @@ pub(crate) struct OutputEntry {
     pub spec: OutSpec,
     pub schedule: Schedule,
     pub addresses: Addresses,
-    pub senders: Senders,
+    pub senders: OutputAddresses,
 }
 
 /// The keys of the output's table.
@@ -91,7 +91,7 @@ pub(crate) fn read_output(
     ensures ins { IfOk result (λ o. ins_of o.schedule.first ≡ ins) }
     ensures fault { IfErr result (λ e. (e ≡ no_memory) ⊎ (output_fault ins (table_view table.now) ≡ Some e)) }
 {
-    let place = Place::Output;
+    let place = ConfigTable::Output;
     let packets = read_packets(table, place)?;
     let numbers = read_numbers(table, place)?;
     check_gains(table, place, Key::Gains)?;
@@ -128,15 +128,15 @@ fn check_output(output: Output) -> Result<OutSpec, SpecError>
     match OutSpec::of(output) {
         Ok(spec) => Ok(spec),
         Err(fault) => Err(SpecError {
-            place: Place::Output,
+            place: ConfigTable::Output,
             key: None,
-            kind: Kind::Output(fault),
+            kind: SpecErrorKind::Output(fault),
         }),
     }
 }
 
 /// Reads the source of the output's packets, and the numbers of the first one.
-fn read_numbers(table: &Table, place: Place) -> Result<Numbers, SpecError>
+fn read_numbers(table: &Table, place: ConfigTable) -> Result<OutputNumbers, SpecError>
     ensures ok { OnOk result (rows_fault place (table_view table.now) number_rows ≡ None) }
     ensures ssrc { IfOk result (λ n. number_or (table_view table.now) key.Ssrc 0 ≡ n.ssrc) }
     ensures seq { IfOk result (λ n. number_or (table_view table.now) key.Seq 0 ≡ n.seq) }
@@ -148,7 +148,7 @@ fn read_numbers(table: &Table, place: Place) -> Result<Numbers, SpecError>
     let seq = whole(table, place, Key::Seq, 0, 65535)? as u16;
     let start = whole(table, place, Key::Start, 0, 1_152_921_504_606_846_976)? as i64;
     let offset = whole_or(table, place, Key::Offset, 0, 4_294_967_295, 0)? as u32;
-    Ok(Numbers {
+    Ok(OutputNumbers {
         ssrc,
         seq,
         start,
@@ -157,7 +157,7 @@ fn read_numbers(table: &Table, place: Place) -> Result<Numbers, SpecError>
 }
 
 /// Reads where the two copies of each packet go.
-fn read_addresses(table: &Table, place: Place) -> Result<Addresses, SpecError>
+fn read_addresses(table: &Table, place: ConfigTable) -> Result<Addresses, SpecError>
     ensures ok { OnOk result (rows_fault place (table_view table.now) address_rows ≡ None) }
     ensures to_a { IfOk result (λ a. number_at (table_view table.now) key.ToA ≡ a.to_a) }
     ensures to_b { IfOk result (λ a. number_at (table_view table.now) key.ToB ≡ a.to_b) }

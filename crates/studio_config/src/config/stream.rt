@@ -7,14 +7,14 @@ ghost use Rattle.studio_config.specs.NetworkTable.{binds_of, sender_addresses_of
 ghost use Rattle.studio_config.specs.StreamTable.{source_rows, wait_rows, port_rows, clock_of, stream_of, ports_of, stream_fault};
 ghost use Rattle.studio_config.specs.declared.config.keys.Key.TheVariants as key;
 
-use crate::config::fault::{Kind, Place, SpecError};
+use crate::config::enums::is_media;
+use crate::config::fault::{ConfigTable, SpecError, SpecErrorKind};
+use crate::config::integers::{optional_whole, port, whole, whole_or};
 use crate::config::keys::Key;
-use crate::config::known::check_known;
 use crate::config::name::check_name;
-use crate::config::networks::read_path_addresses;
-use crate::config::numbers::{optional_whole, port, whole, whole_or};
-use crate::config::packets::read_packets;
-use crate::config::words::is_media;
+use crate::config::network_keys::read_path_addresses;
+use crate::config::packet_format::read_packets;
+use crate::config::unknown_keys::check_known;
 use crate::networks::PathAddresses;
 use rtp_stream::{Stream, StreamClock, StreamSpec};
 use toml::Table;
@@ -48,14 +48,14 @@ const KEYS: [Key; 23] = [
 
 /// The source that packets come from, if it is said, and the clock of their media times.
 #[derive(Clone, Copy)]
-struct Source {
+struct StreamSource {
     ssrc: Option<u32>,
     clock: StreamClock,
 }
 
 /// How long packets are waited for, how many may be held, and how many paths there are.
 #[derive(Clone, Copy)]
-struct Wait {
+struct StreamTiming {
     latency: u32,
     window: u16,
     paths: u8,
@@ -70,7 +70,7 @@ pub(crate) struct StreamEntry {
 }
 
 /// Reads a stream's table.
-pub(crate) fn read_stream(table: &Table, place: Place) -> Result<StreamEntry, SpecError>
+pub(crate) fn read_stream(table: &Table, place: ConfigTable) -> Result<StreamEntry, SpecError>
     ensures ok { OnOk result (stream_fault place (table_view table.now) ≡ None) }
     ensures stream { IfOk result (λ s. s.spec ≡ stream_of (table_view table.now)) }
     ensures ports { IfOk result (λ s. s.ports ≡ ports_of (table_view table.now)) }
@@ -105,13 +105,13 @@ pub(crate) fn read_stream(table: &Table, place: Place) -> Result<StreamEntry, Sp
         Err(fault) => Err(SpecError {
             place,
             key: None,
-            kind: Kind::Stream(fault),
+            kind: SpecErrorKind::Stream(fault),
         }),
     }
 }
 
 /// Reads where a stream's packets come from, and by which clock.
-fn read_source(table: &Table, place: Place) -> Result<Source, SpecError>
+fn read_source(table: &Table, place: ConfigTable) -> Result<StreamSource, SpecError>
     ensures ok { OnOk result (rows_fault place (table_view table.now) source_rows ≡ None) }
     ensures ssrc { IfOk result (λ s. number_at (table_view table.now) key.Ssrc ≡ s.ssrc) }
     ensures clock { IfOk result (λ s. clock_of (table_view table.now) ≡ s.clock) }
@@ -128,11 +128,11 @@ fn read_source(table: &Table, place: Place) -> Result<Source, SpecError>
     } else {
         StreamClock::Arrival
     };
-    Ok(Source { ssrc, clock })
+    Ok(StreamSource { ssrc, clock })
 }
 
 /// Reads how long packets are waited for, and on how many paths.
-fn read_wait(table: &Table, place: Place) -> Result<Wait, SpecError>
+fn read_wait(table: &Table, place: ConfigTable) -> Result<StreamTiming, SpecError>
     ensures ok { OnOk result (rows_fault place (table_view table.now) wait_rows ≡ None) }
     ensures latency { IfOk result (λ w. number_or (table_view table.now) key.Latency 0 ≡ w.latency) }
     ensures window { IfOk result (λ w. number_or (table_view table.now) key.Window 0 ≡ w.window) }
@@ -142,7 +142,7 @@ fn read_wait(table: &Table, place: Place) -> Result<Wait, SpecError>
     let latency = whole(table, place, Key::Latency, 0, 4_294_967_295)? as u32;
     let window = whole(table, place, Key::Window, 0, 65535)? as u16;
     let paths = whole_or(table, place, Key::Paths, 1, 4, 2)? as u8;
-    Ok(Wait {
+    Ok(StreamTiming {
         latency,
         window,
         paths,
@@ -150,7 +150,7 @@ fn read_wait(table: &Table, place: Place) -> Result<Wait, SpecError>
 }
 
 /// Reads where each path comes in.
-fn read_ports(table: &Table, place: Place) -> Result<[Option<u16>; 4], SpecError>
+fn read_ports(table: &Table, place: ConfigTable) -> Result<[Option<u16>; 4], SpecError>
     ensures ok { OnOk result (rows_fault place (table_view table.now) port_rows ≡ None) }
     ensures ports { IfOk result (λ p. p ≡ ports_of (table_view table.now)) }
     ensures fault { IfErr result (λ e. rows_fault place (table_view table.now) port_rows ≡ Some e) }

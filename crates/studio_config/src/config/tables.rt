@@ -5,14 +5,14 @@ ghost use Rattle.toml.specs.View.{view, table_view};
 ghost use Rattle.studio_config.specs.Values.{table_at, tables_at, items_in, members_in, tables_in, is_table};
 ghost use Rattle.studio_config.specs.Rows.{required, optional, a_table, tables, few_tables, value_fault, row_fault};
 
-use crate::config::fault::{Kind, Place, SpecError};
+use crate::config::fault::{ConfigTable, SpecError, SpecErrorKind};
 use crate::config::keys::Key;
 use crate::config::lookup::{found, get};
 use toml::value::Array;
 use toml::{Table, Value};
 
 /// A table that has to be there.
-pub(crate) fn table_in(table: &Table, place: Place, key: Key) -> Result<&Table, SpecError>
+pub(crate) fn table_in(table: &Table, place: ConfigTable, key: Key) -> Result<&Table, SpecError>
     ensures ok { OnOk result (row_fault place (table_view table.now) (required key a_table) ≡ None) }
     ensures table { IfOk result (λ t. table_at (table_view table.now) key ≡ table_view t.now) }
     ensures fault { IfErr result (λ e. row_fault place (table_view table.now) (required key a_table) ≡ Some e) }
@@ -23,13 +23,17 @@ pub(crate) fn table_in(table: &Table, place: Place, key: Key) -> Result<&Table, 
         None => Err(SpecError {
             place,
             key: Some(key),
-            kind: Kind::WrongKind,
+            kind: SpecErrorKind::WrongKind,
         }),
     }
 }
 
 /// Tables that may be there, none if they are absent.
-pub(crate) fn optional_tables(table: &Table, place: Place, key: Key) -> Result<&[Value], SpecError>
+pub(crate) fn optional_tables(
+    table: &Table,
+    place: ConfigTable,
+    key: Key,
+) -> Result<&[Value], SpecError>
     ensures ok { OnOk result (row_fault place (table_view table.now) (optional key tables) ≡ None) }
     ensures each { IfOk result (λ a. list_all (λ t. is_table (view t)) a.now ≡ true) }
     ensures tables { IfOk result (λ a. map (λ t. members_in (view t)) a.now ≡ tables_at (table_view table.now) key) }
@@ -51,7 +55,7 @@ pub(crate) fn optional_tables(table: &Table, place: Place, key: Key) -> Result<&
 /// Tables that have to be there, from the least number of them to the greatest.
 pub(crate) fn few_tables(
     table: &Table,
-    place: Place,
+    place: ConfigTable,
     key: Key,
     least: usize,
     greatest: usize,
@@ -75,7 +79,7 @@ pub(crate) fn few_tables(
 }
 
 /// The tables of a value, from the least number of them to the greatest.
-fn few_tables_in(value: &Value, least: usize, greatest: usize) -> Result<&[Value], Kind>
+fn few_tables_in(value: &Value, least: usize, greatest: usize) -> Result<&[Value], SpecErrorKind>
     ensures ok { OnOk result (value_fault (few_tables least greatest) (view value.now) ≡ None) }
     ensures each { IfOk result (λ a. list_all (λ t. is_table (view t)) a.now ≡ true) }
     ensures tables { IfOk result (λ a. map (λ t. members_in (view t)) a.now ≡ tables_in (view value.now)) }
@@ -85,13 +89,13 @@ fn few_tables_in(value: &Value, least: usize, greatest: usize) -> Result<&[Value
 {
     let items = tables_in(value)?;
     if items.len() < least || greatest < items.len() {
-        return Err(Kind::OutOfRange);
+        return Err(SpecErrorKind::OutOfRange);
     }
     Ok(items.as_slice())
 }
 
 /// The array of tables of a value.
-fn tables_in(value: &Value) -> Result<&Array, Kind>
+fn tables_in(value: &Value) -> Result<&Array, SpecErrorKind>
     ensures ok { OnOk result (value_fault tables (view value.now) ≡ None) }
     ensures each { IfOk result (λ a. list_all (λ t. is_table (view t)) a.now.items ≡ true) }
     ensures count { IfOk result (λ a. length a.now.items ≡ length (items_in (view value.now))) }
@@ -99,12 +103,12 @@ fn tables_in(value: &Value) -> Result<&Array, Kind>
     ensures fault { IfErr result (λ e. value_fault tables (view value.now) ≡ Some e) }
 {
     let Some(items) = value.as_array() else {
-        return Err(Kind::WrongKind);
+        return Err(SpecErrorKind::WrongKind);
     };
     if all_tables(items) {
         Ok(items)
     } else {
-        Err(Kind::WrongKind)
+        Err(SpecErrorKind::WrongKind)
     }
 }
 

@@ -4,9 +4,9 @@ ghost use Rattle.gain_mix.specs.Schedule.{has_times};
 ghost use Rattle.mix_packets.specs.OutSpec.{is_start};
 ghost use Rattle.studio_config.specs.Config.{no_memory};
 ghost use Rattle.studio_config.specs.Shift.{changes_fault, shift_fault_of, shifted, shifted_changes, start_fault};
-ghost use Rattle.studio_config.specs.declared.config.fault.Kind.TheVariants as kind;
+ghost use Rattle.studio_config.specs.declared.config.fault.SpecErrorKind.TheVariants as kind;
 
-use crate::config::{Key, Kind, Place, SpecError};
+use crate::config::{ConfigTable, Key, SpecError, SpecErrorKind};
 use crate::studio::StudioSpec;
 use gain_mix::{Matrix, Schedule};
 use mix_packets::OutSpec;
@@ -24,7 +24,7 @@ impl StudioSpec {
         ensures fault { IfErr result (λ e. (e ≡ no_memory) ⊎ (shift_fault_of (shifted open_at self) ≡ Some e)) }
     {
         if open_at < 0 || open_at > LATEST {
-            return Err(out_of_range(Place::Top, Key::OpenAt));
+            return Err(out_of_range(ConfigTable::Top, Key::OpenAt));
         }
         let by = open_at - self.open_at;
         let output = shifted_output(self.output, by)?;
@@ -39,13 +39,13 @@ impl StudioSpec {
 }
 
 /// A key's time is out of range.
-fn out_of_range(place: Place, key: Key) -> SpecError
+fn out_of_range(place: ConfigTable, key: Key) -> SpecError
     ensures { result ≡ record { place = place; key = Some key; kind = kind.OutOfRange } }
 {
     SpecError {
         place,
         key: Some(key),
-        kind: Kind::OutOfRange,
+        kind: SpecErrorKind::OutOfRange,
     }
 }
 
@@ -59,7 +59,7 @@ fn shifted_output(output: OutSpec, by: i64) -> Result<OutSpec, SpecError>
 {
     match output.starting_at(output.start() + by) {
         Ok(output) => Ok(output),
-        Err(_) => Err(out_of_range(Place::Output, Key::Start)),
+        Err(_) => Err(out_of_range(ConfigTable::Output, Key::Start)),
     }
 }
 
@@ -73,7 +73,7 @@ fn shifted_schedule(alloc: Global, schedule: Schedule, by: i64) -> Result<Schedu
     let later = shifted_changes(alloc, changes, by)?;
     match Schedule::new(first, later) {
         Ok(schedule) => Ok(schedule),
-        Err(_) => Err(out_of_range(Place::Output, Key::Change)),
+        Err(_) => Err(out_of_range(ConfigTable::Output, Key::Change)),
     }
 }
 
@@ -90,7 +90,7 @@ fn shifted_changes(
     let mut rest = changes.into_iter();
     while let Some((at, matrix)) = rest.next() {
         let Some(at) = at.checked_add(by) else {
-            return Err(out_of_range(Place::Output, Key::Change));
+            return Err(out_of_range(ConfigTable::Output, Key::Change));
         };
         later.push((at, matrix))?;
     }

@@ -5,16 +5,16 @@ ghost use Rattle.rtp_stream.specs.MarkList.{is_mark_list};
 ghost use Rattle.studio_config.specs.Studio.{Studio};
 ghost use Rattle.studio_mix.specs.Feed.{Feed};
 ghost use Rattle.studio_mix.specs.Mixer.{HasFeeds, is_wanted_by};
-ghost use Rattle.studio_ends.specs.Mixes.{TakesAllMarks, TakesWanted, fed_more};
+ghost use Rattle.studio_ends.specs.MarksIn.{TakesAllMarks, TakesWanted, fed_more};
 
-use crate::rings::Side;
-use crate::rings::mark_cell::MarkRoom;
-use crate::rings::marks::MarkOut;
+use crate::rings::TokenConsumer;
+use crate::rings::mark_cell::MarkCell;
+use crate::rings::marks::MarkConsumer;
 use crate::stream_end::packets_in::BATCH;
 use studio_mix::Mixer;
 
 /// Feeds a mark if it may follow those of its stream, and says whether.
-fn keep_mark<const N: usize>(mixer: &mut Mixer, stream: usize, room: &MarkRoom<N>) -> bool
+fn feed_if_accepted<const N: usize>(mixer: &mut Mixer, stream: usize, room: &MarkCell<N>) -> bool
     requires stream { stream < length mixer.old.lanes }
     requires wanted { is_wanted_by mixer.old stream ≡ true }
     ensures stands { (studio : Studio) (feeds : List Feed) (number : ℕ) (feed : Feed)
@@ -34,7 +34,7 @@ fn keep_mark<const N: usize>(mixer: &mut Mixer, stream: usize, room: &MarkRoom<N
 
 /// Takes marks of one stream while the mixer wants them: how many, and how many of them may not follow.
 pub(crate) fn take_stream<const N: usize>(
-    side: &mut Side<MarkRoom<N>>,
+    side: &mut TokenConsumer<MarkCell<N>>,
     mixer: &mut Mixer,
     stream: usize,
 ) -> (u32, u32)
@@ -50,8 +50,8 @@ pub(crate) fn take_stream<const N: usize>(
         if side.is_empty() {
             return (taken, strange);
         }
-        let kept = keep_mark(mixer, stream, side.next());
-        side.pass();
+        let kept = feed_if_accepted(mixer, stream, side.peek());
+        side.drop_next();
         strange += u32::from(!kept);
         taken += 1;
     }
@@ -59,7 +59,7 @@ pub(crate) fn take_stream<const N: usize>(
 }
 
 /// Takes marks of all streams, in order: how many, and how many of them may not follow.
-pub(crate) fn take_streams(sides: &mut Vec<MarkOut>, mixer: &mut Mixer) -> (u32, u32)
+pub(crate) fn take_streams(sides: &mut Vec<MarkConsumer>, mixer: &mut Mixer) -> (u32, u32)
     requires count { vec_len sides.old ≡ length mixer.old.lanes }
     requires few { vec_len sides.old ≤ 16 }
     ensures took { TakesAllMarks sides.old.items sides.new.items mixer.old mixer.new result.0 result.1 }

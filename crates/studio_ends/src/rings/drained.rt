@@ -1,12 +1,12 @@
 //! Which rings are finished and drained.
 ghost use Rattle.std.specs.Prelude.{◌≡◌, ◌≤◌, ◌↔◌, length, vec_len, false};
-ghost use Rattle.studio_ends.specs.Looks.{AllDrained, AllFalse, AllLookAt, AreOpen};
+ghost use Rattle.studio_ends.specs.DrainedRings.{AllDrained, AllFalse, AllLookAt, AreOpen};
 
-use crate::rings::marks::MarkOut;
-use crate::rings::packets::PacketOut;
+use crate::rings::marks::MarkConsumer;
+use crate::rings::packets::PacketConsumer;
 
 /// Says of each path's ring whether it is open yet, and whether any is.
-pub(crate) fn look_at_paths(sides: &mut Vec<PacketOut>, open_yet: &mut [bool]) -> bool
+pub(crate) fn any_path_open(sides: &mut Vec<PacketConsumer>, open_yet: &mut [bool]) -> bool
     requires room { vec_len sides.old ≤ length open_yet.old }
     requires clear { AllFalse open_yet.old }
     ensures looked { AllLookAt sides.old.items sides.new.items }
@@ -24,7 +24,7 @@ pub(crate) fn look_at_paths(sides: &mut Vec<PacketOut>, open_yet: &mut [bool]) -
 }
 
 /// Says of each stream's ring whether it is open yet, and whether any is.
-pub(crate) fn look_at_streams(sides: &mut Vec<MarkOut>, open_yet: &mut [bool]) -> bool
+pub(crate) fn any_stream_open(sides: &mut Vec<MarkConsumer>, open_yet: &mut [bool]) -> bool
     requires room { vec_len sides.old ≤ length open_yet.old }
     requires clear { AllFalse open_yet.old }
     ensures looked { AllLookAt sides.old.items sides.new.items }

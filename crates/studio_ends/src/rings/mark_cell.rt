@@ -1,15 +1,15 @@
 //! Room for a mark in a ring.
 ghost use Rattle.std.specs.Prelude.{◌≡◌};
 ghost use Rattle.rtp_stream.specs.MarkRef.{kind_of};
-ghost use Rattle.studio_ends.specs.MarkRooms.{octets_in, said_of};
+ghost use Rattle.studio_ends.specs.MarkCells.{octets_in, said_of};
 
-use crate::rings::payload_cell::Room;
+use crate::rings::payload_cell::PayloadCell;
 use path_merge::{Format, MarkKindRef, MarkRef};
 use std::marker::Model;
 
 /// What a mark says, but for its octets.
 #[derive(Clone, Copy)]
-enum Said {
+enum MarkHeader {
     /// The slot of a packet that came in time.
     Got { epoch: u64, number: u64, media: i64 },
     /// The slot of one that didn't.
@@ -20,15 +20,15 @@ enum Said {
 
 /// A mark whose payload lies in room for `N` octets. Contracts see it as that mark.
 #[derive(Clone, Copy)]
-pub(crate) struct MarkRoom<const N: usize> {
+pub(crate) struct MarkCell<const N: usize> {
     format: Format,
-    said: Said,
-    payload: Room<N>,
+    said: MarkHeader,
+    payload: PayloadCell<N>,
 }
 
-impl<const N: usize> Model for MarkRoom<N> {
+impl<const N: usize> Model for MarkCell<N> {
     ghost use Rattle.rtp_stream.specs.MarkFacts.{MarkView};
-    ghost use Rattle.studio_ends.specs.MarkRooms.{IsMarkRoom, kind_in, octets_in, said_back, said_of};
+    ghost use Rattle.studio_ends.specs.MarkCells.{IsMarkRoom, kind_in, octets_in, said_back, said_of};
 
     ghost Value = { MarkView };
 
@@ -41,15 +41,15 @@ impl<const N: usize> Model for MarkRoom<N> {
     ghost inverse_ok = { λ r h i. record { format = r.format; said = said_back r.said r.payload i; payload = h.blank i } };
 }
 
-impl<const N: usize> MarkRoom<N> {
-    ghost use Rattle.studio_ends.specs.MarkRooms.{IsWithin};
+impl<const N: usize> MarkCell<N> {
+    ghost use Rattle.studio_ends.specs.MarkCells.{IsWithin};
 
     /// The end of a stream.
-    pub(crate) fn new(format: Format) -> MarkRoom<N> {
-        MarkRoom {
+    pub(crate) fn new(format: Format) -> MarkCell<N> {
+        MarkCell {
             format,
-            said: Said::End,
-            payload: Room::new(),
+            said: MarkHeader::End,
+            payload: PayloadCell::new(),
         }
     }
 
@@ -60,7 +60,7 @@ impl<const N: usize> MarkRoom<N> {
         ensures { self.new ≡ mark.now }
     {
         self.format = mark.format();
-        let (said, octets) = parts(mark.kind());
+        let (said, octets) = split_mark(mark.kind());
         self.said = said;
         self.payload.fill(octets);
     }
@@ -72,25 +72,25 @@ impl<const N: usize> MarkRoom<N> {
     {
         let octets = self.payload.octets();
         match self.said {
-            Said::Got {
+            MarkHeader::Got {
                 epoch,
                 number,
                 media,
             } => MarkRef::slot(self.format, epoch, number, media, Some(octets)),
-            Said::Lost {
+            MarkHeader::Lost {
                 epoch,
                 number,
                 media,
             } => MarkRef::slot(self.format, epoch, number, media, None),
-            Said::Quiet { until } => MarkRef::quiet(self.format, until),
-            Said::End => MarkRef::end(self.format),
+            MarkHeader::Quiet { until } => MarkRef::quiet(self.format, until),
+            MarkHeader::End => MarkRef::end(self.format),
         }
     }
 }
 
 /// What a mark says, and its octets: none where it got none.
 #[inline(always)]
-fn parts<'a>(kind: MarkKindRef<'a>) -> (Said, &'a [u8])
+fn split_mark<'a>(kind: MarkKindRef<'a>) -> (MarkHeader, &'a [u8])
     ensures said { result.0 ≡ said_of (kind_of kind.entry) }
     ensures octets { result.1.now ≡ octets_in (kind_of kind.entry) }
 {
@@ -101,7 +101,7 @@ fn parts<'a>(kind: MarkKindRef<'a>) -> (Said, &'a [u8])
             media,
             payload: Some(octets),
         } => (
-            Said::Got {
+            MarkHeader::Got {
                 epoch,
                 number,
                 media,
@@ -114,14 +114,14 @@ fn parts<'a>(kind: MarkKindRef<'a>) -> (Said, &'a [u8])
             media,
             payload: None,
         } => (
-            Said::Lost {
+            MarkHeader::Lost {
                 epoch,
                 number,
                 media,
             },
             &[],
         ),
-        MarkKindRef::Quiet { until } => (Said::Quiet { until }, &[]),
-        MarkKindRef::End => (Said::End, &[]),
+        MarkKindRef::Quiet { until } => (MarkHeader::Quiet { until }, &[]),
+        MarkKindRef::End => (MarkHeader::End, &[]),
     }
 }

@@ -2,14 +2,14 @@
 ghost use Rattle.std.specs.Prelude.{◌≡◌, ◌<◌, ◌≤◌, ◌++◌, ◌∷◌, [], ◌↔◌, IfOk, IfSome, IsSomeAnd, IsTrue, MatchOption, None, Some, length};
 ghost use Rattle.rtrb.specs.Ring.{Finishes, IsFinishedOf, IsPair, ProducerLooked, SameConsumer, SameProducer, all_sent, known_free, received, sent};
 ghost use Rattle.rtp_stream.specs.MarkFacts.{payload_length};
-ghost use Rattle.studio_ends.specs.Mixes.{TakesWanted};
+ghost use Rattle.studio_ends.specs.MarksIn.{TakesWanted};
 ghost use Rattle.studio_ends.specs.RoomRings.{HasRoomFor};
-ghost use Rattle.studio_ends.specs.Side.{IsDrained};
+ghost use Rattle.studio_ends.specs.DrainedRing.{IsDrained};
 
-use crate::mark_sender::MarkSender;
+use crate::mark_sender::SizedMarkProducer;
 use crate::mix_end::marks_in::take_stream;
-use crate::rings::Side;
-use crate::rings::mark_cell::MarkRoom;
+use crate::rings::TokenConsumer;
+use crate::rings::mark_cell::MarkCell;
 use crate::rings::payload_cell::{LONG, MIDDLE, SHORT};
 use path_merge::{Format, MarkRef};
 use rtrb::{Finished, RingBuffer};
@@ -19,47 +19,47 @@ use studio_mix::Mixer;
 
 /// A pushing end, by its rooms.
 #[derive(Drop)]
-enum Senders {
-    Short(MarkSender<SHORT>),
-    Middle(MarkSender<MIDDLE>),
-    Long(MarkSender<LONG>),
+enum ProducerBySize {
+    Short(SizedMarkProducer<SHORT>),
+    Middle(SizedMarkProducer<MIDDLE>),
+    Long(SizedMarkProducer<LONG>),
 }
 
 /// A popping end, by its rooms.
 #[derive(Drop)]
-enum Sides {
-    Short(Side<MarkRoom<SHORT>>),
-    Middle(Side<MarkRoom<MIDDLE>>),
-    Long(Side<MarkRoom<LONG>>),
+enum ConsumerBySize {
+    Short(TokenConsumer<MarkCell<SHORT>>),
+    Middle(TokenConsumer<MarkCell<MIDDLE>>),
+    Long(TokenConsumer<MarkCell<LONG>>),
 }
 
 /// What a pushing end leaves, by its rooms.
 #[derive(Drop)]
-enum Tokens {
-    Short(Finished<MarkRoom<SHORT>>),
-    Middle(Finished<MarkRoom<MIDDLE>>),
-    Long(Finished<MarkRoom<LONG>>),
+enum TokenBySize {
+    Short(Finished<MarkCell<SHORT>>),
+    Middle(Finished<MarkCell<MIDDLE>>),
+    Long(Finished<MarkCell<LONG>>),
 }
 
 /// The pushing end. Contracts see it as that of a ring of marks, whose name tells the rooms.
 #[derive(Drop)]
-pub(crate) struct MarkIn {
-    end: Senders,
+pub(crate) struct MarkProducer {
+    end: ProducerBySize,
 }
 
 /// The popping end, with the token of the pushing end once that was handed in.
 #[derive(Drop)]
-pub(crate) struct MarkOut {
-    end: Sides,
+pub(crate) struct MarkConsumer {
+    end: ConsumerBySize,
 }
 
 /// The token of the pushing end.
 #[derive(Drop)]
 pub(crate) struct MarkToken {
-    token: Tokens,
+    token: TokenBySize,
 }
 
-impl Model for MarkIn {
+impl Model for MarkProducer {
     ghost use Rattle.std.specs.declared.alloc.Global.{Global};
     ghost use Rattle.rtrb.specs.declared.AnyItems.{AnyItems};
     ghost use Rattle.rtrb.specs.declared.producer.Producer.{Producer};
@@ -71,14 +71,14 @@ impl Model for MarkIn {
     ghost view = { λ s. sender_in s.end };
 }
 
-impl Model for MarkOut {
+impl Model for MarkConsumer {
     ghost use Rattle.rtp_stream.specs.contracts.mark.Mark as mark_row;
-    ghost use Rattle.studio_ends.specs.contracts.rings.Side as side_row;
+    ghost use Rattle.studio_ends.specs.contracts.rings.TokenConsumer as side_row;
     ghost use Rattle.rtp_stream.specs.MarkFacts.{MarkView};
-    ghost use Rattle.studio_ends.specs.declared.rings.Side.{Side};
+    ghost use Rattle.studio_ends.specs.declared.rings.TokenConsumer.{TokenConsumer};
     ghost use Rattle.studio_ends.specs.MarkRings.{side_in};
 
-    ghost Value = { Side MarkView };
+    ghost Value = { TokenConsumer MarkView };
 
     ghost coded = { (side_row.the_row mark_row.the_row).coded };
 
@@ -97,16 +97,16 @@ impl Model for MarkToken {
     ghost view = { λ s. token_in s.token };
 }
 
-impl MarkIn {
+impl MarkProducer {
     /// Whether no place is seen to be free.
     pub(crate) fn is_full(&mut self) -> bool
         ensures looked { ProducerLooked self.old self.new }
         ensures value { IsTrue result ↔ (known_free self.new ≡ 0) }
     {
         match &mut self.end {
-            Senders::Short(end) => end.is_full(),
-            Senders::Middle(end) => end.is_full(),
-            Senders::Long(end) => end.is_full(),
+            ProducerBySize::Short(end) => end.is_full(),
+            ProducerBySize::Middle(end) => end.is_full(),
+            ProducerBySize::Long(end) => end.is_full(),
         }
     }
 
@@ -118,9 +118,9 @@ impl MarkIn {
         ensures sent { sent self.new ≡ sent self.old ++ mark.now ∷ [] }
     {
         match &mut self.end {
-            Senders::Short(end) => end.push(mark),
-            Senders::Middle(end) => end.push(mark),
-            Senders::Long(end) => end.push(mark),
+            ProducerBySize::Short(end) => end.push(mark),
+            ProducerBySize::Middle(end) => end.push(mark),
+            ProducerBySize::Long(end) => end.push(mark),
         }
     }
 
@@ -128,26 +128,26 @@ impl MarkIn {
     pub(crate) fn finish(self) -> Option<MarkToken>
         ensures { IfSome result (λ done. Finishes self done) }
     {
-        let MarkIn { end } = self;
+        let MarkProducer { end } = self;
         let token = match end {
-            Senders::Short(end) => Tokens::Short(end.finish()?),
-            Senders::Middle(end) => Tokens::Middle(end.finish()?),
-            Senders::Long(end) => Tokens::Long(end.finish()?),
+            ProducerBySize::Short(end) => TokenBySize::Short(end.finish()?),
+            ProducerBySize::Middle(end) => TokenBySize::Middle(end.finish()?),
+            ProducerBySize::Long(end) => TokenBySize::Long(end.finish()?),
         };
         Some(MarkToken { token })
     }
 }
 
-impl MarkOut {
+impl MarkConsumer {
     /// Takes marks while the mixer wants them of a stream: how many, and how many of them may not follow.
     pub(crate) fn take(&mut self, mixer: &mut Mixer, stream: usize) -> (u32, u32)
         requires stream { stream < length mixer.old.lanes }
         ensures { TakesWanted self.old self.new mixer.old mixer.new stream result.0 result.1 }
     {
         match &mut self.end {
-            Sides::Short(side) => take_stream(side, mixer, stream),
-            Sides::Middle(side) => take_stream(side, mixer, stream),
-            Sides::Long(side) => take_stream(side, mixer, stream),
+            ConsumerBySize::Short(side) => take_stream(side, mixer, stream),
+            ConsumerBySize::Middle(side) => take_stream(side, mixer, stream),
+            ConsumerBySize::Long(side) => take_stream(side, mixer, stream),
         }
     }
 
@@ -158,20 +158,20 @@ impl MarkOut {
     {
         let MarkToken { token } = done;
         match &mut self.end {
-            Sides::Short(side) => match token {
-                Tokens::Short(done) => side.hand_in(done),
-                Tokens::Middle(_) => unreachable!(),
-                Tokens::Long(_) => unreachable!(),
+            ConsumerBySize::Short(side) => match token {
+                TokenBySize::Short(done) => side.hand_in(done),
+                TokenBySize::Middle(_) => unreachable!(),
+                TokenBySize::Long(_) => unreachable!(),
             },
-            Sides::Middle(side) => match token {
-                Tokens::Short(_) => unreachable!(),
-                Tokens::Middle(done) => side.hand_in(done),
-                Tokens::Long(_) => unreachable!(),
+            ConsumerBySize::Middle(side) => match token {
+                TokenBySize::Short(_) => unreachable!(),
+                TokenBySize::Middle(done) => side.hand_in(done),
+                TokenBySize::Long(_) => unreachable!(),
             },
-            Sides::Long(side) => match token {
-                Tokens::Short(_) => unreachable!(),
-                Tokens::Middle(_) => unreachable!(),
-                Tokens::Long(done) => side.hand_in(done),
+            ConsumerBySize::Long(side) => match token {
+                TokenBySize::Short(_) => unreachable!(),
+                TokenBySize::Middle(_) => unreachable!(),
+                TokenBySize::Long(done) => side.hand_in(done),
             },
         }
     }
@@ -183,9 +183,9 @@ impl MarkOut {
         ensures done { MatchOption self.old.done (self.new.done ≡ None) (λ d. IsSomeAnd self.new.done (λ e. all_sent e ≡ all_sent d)) }
     {
         match &mut self.end {
-            Sides::Short(side) => side.is_drained(),
-            Sides::Middle(side) => side.is_drained(),
-            Sides::Long(side) => side.is_drained(),
+            ConsumerBySize::Short(side) => side.is_drained(),
+            ConsumerBySize::Middle(side) => side.is_drained(),
+            ConsumerBySize::Long(side) => side.is_drained(),
         }
     }
 }
@@ -195,13 +195,16 @@ fn open_sized<const N: usize>(
     alloc: Global,
     format: Format,
     places: usize,
-) -> Result<(MarkSender<N>, Side<MarkRoom<N>>), AllocError>
+) -> Result<(SizedMarkProducer<N>, TokenConsumer<MarkCell<N>>), AllocError>
     ensures pair { IfOk result (λ r. IsPair r.0 r.1.ring) }
     ensures producer { IfOk result (λ r. (sent r.0 ≡ []) × (known_free r.0 ≡ places)) }
     ensures side { IfOk result (λ r. (received r.1.ring ≡ []) × (r.1.done ≡ None)) }
 {
     let (push, pop) = RingBuffer::new(alloc, places)?;
-    Ok((MarkSender::new(push, format), Side::new(pop)))
+    Ok((
+        SizedMarkProducer::new(push, format),
+        TokenConsumer::new(pop),
+    ))
 }
 
 /// Both ends of a ring of so many places, with room for the payloads of a format.
@@ -209,7 +212,7 @@ pub(crate) fn open_marks(
     alloc: Global,
     format: Format,
     places: usize,
-) -> Result<(MarkIn, MarkOut), AllocError>
+) -> Result<(MarkProducer, MarkConsumer), AllocError>
     requires { payload_length format ≤ 1440 }
     ensures pair { IfOk result (λ r. IsPair r.0 r.1.ring) }
     ensures producer { IfOk result (λ r. (sent r.0 ≡ []) × (known_free r.0 ≡ places)) }
@@ -219,13 +222,13 @@ pub(crate) fn open_marks(
     let len = format.payload_len();
     let (push, pop) = if len <= SHORT {
         let (push, pop) = open_sized(alloc, format, places)?;
-        (Senders::Short(push), Sides::Short(pop))
+        (ProducerBySize::Short(push), ConsumerBySize::Short(pop))
     } else if len <= MIDDLE {
         let (push, pop) = open_sized(alloc, format, places)?;
-        (Senders::Middle(push), Sides::Middle(pop))
+        (ProducerBySize::Middle(push), ConsumerBySize::Middle(pop))
     } else {
         let (push, pop) = open_sized(alloc, format, places)?;
-        (Senders::Long(push), Sides::Long(pop))
+        (ProducerBySize::Long(push), ConsumerBySize::Long(pop))
     };
-    Ok((MarkIn { end: push }, MarkOut { end: pop }))
+    Ok((MarkProducer { end: push }, MarkConsumer { end: pop }))
 }

@@ -2,20 +2,20 @@
 ghost use Rattle.std.specs.Prelude.{◌≡◌, ◌≤◌, length};
 ghost use Rattle.rtp_stream.specs.PacketRef.{packet_of};
 
-use crate::rings::payload_cell::Room;
+use crate::rings::payload_cell::PayloadCell;
 use path_merge::PacketRef;
 use std::marker::Model;
 
 /// A packet whose samples lie in room for `N` octets. Contracts see it as that packet.
 #[derive(Clone, Copy)]
-pub(crate) struct PacketRoom<const N: usize> {
+pub(crate) struct PacketCell<const N: usize> {
     seq: u16,
     ts: u32,
     ssrc: u32,
-    payload: Room<N>,
+    payload: PayloadCell<N>,
 }
 
-impl<const N: usize> Model for PacketRoom<N> {
+impl<const N: usize> Model for PacketCell<N> {
     ghost use Rattle.rtp_stream.specs.declared.packet.Packet.{Packet};
 
     ghost Value = { Packet };
@@ -25,14 +25,14 @@ impl<const N: usize> Model for PacketRoom<N> {
     ghost inverse = { λ p. record { seq = p.seq; ts = p.ts; ssrc = p.ssrc; payload = p.payload.items } };
 }
 
-impl<const N: usize> PacketRoom<N> {
+impl<const N: usize> PacketCell<N> {
     /// A packet with no samples.
-    pub(crate) fn new() -> PacketRoom<N> {
-        PacketRoom {
+    pub(crate) fn new() -> PacketCell<N> {
+        PacketCell {
             seq: 0,
             ts: 0,
             ssrc: 0,
-            payload: Room::new(),
+            payload: PayloadCell::new(),
         }
     }
 

@@ -5,63 +5,63 @@ ghost use Rattle.rtp_stream.specs.PacketRef.{packet_of};
 ghost use Rattle.rtp_stream.specs.declared.packet.Packet.{Packet};
 ghost use Rattle.studio_ends.specs.Fitting.{fitting};
 ghost use Rattle.studio_ends.specs.RoomRings.{HasRoomFor};
-ghost use Rattle.studio_ends.specs.Side.{IsDrained};
-ghost use Rattle.studio_ends.specs.Turns.{Joins, TakesPackets, arrivals_by};
+ghost use Rattle.studio_ends.specs.DrainedRing.{IsDrained};
+ghost use Rattle.studio_ends.specs.StreamTurns.{Joins, TakesPackets, arrivals_by};
 
-use crate::packet_sender::PacketSender;
-use crate::rings::Side;
-use crate::rings::packet_cell::PacketRoom;
+use crate::packet_sender::SizedPacketProducer;
+use crate::rings::TokenConsumer;
+use crate::rings::packet_cell::PacketCell;
 use crate::rings::payload_cell::{LONG, MIDDLE, SHORT};
 use crate::stream_end::packets_in::take_path;
 use path_merge::{Merge, PacketRef, Path, SlotWindow, StreamSpec};
-use rtp_stats::StreamTeller;
+use rtp_stats::StreamStatsSender;
 use rtrb::{Finished, RingBuffer};
 use std::alloc::{AllocError, Global};
 use std::marker::Model;
 
 /// A pushing end, by its rooms.
 #[derive(Drop)]
-enum Senders {
-    Short(PacketSender<SHORT>),
-    Middle(PacketSender<MIDDLE>),
-    Long(PacketSender<LONG>),
+enum ProducerBySize {
+    Short(SizedPacketProducer<SHORT>),
+    Middle(SizedPacketProducer<MIDDLE>),
+    Long(SizedPacketProducer<LONG>),
 }
 
 /// A popping end, by its rooms.
 #[derive(Drop)]
-enum Sides {
-    Short(Side<PacketRoom<SHORT>>),
-    Middle(Side<PacketRoom<MIDDLE>>),
-    Long(Side<PacketRoom<LONG>>),
+enum ConsumerBySize {
+    Short(TokenConsumer<PacketCell<SHORT>>),
+    Middle(TokenConsumer<PacketCell<MIDDLE>>),
+    Long(TokenConsumer<PacketCell<LONG>>),
 }
 
 /// What a pushing end leaves, by its rooms.
 #[derive(Drop)]
-enum Tokens {
-    Short(Finished<PacketRoom<SHORT>>),
-    Middle(Finished<PacketRoom<MIDDLE>>),
-    Long(Finished<PacketRoom<LONG>>),
+enum TokenBySize {
+    Short(Finished<PacketCell<SHORT>>),
+    Middle(Finished<PacketCell<MIDDLE>>),
+    Long(Finished<PacketCell<LONG>>),
 }
 
 /// The pushing end. Contracts see it as that of a ring of packets, whose name tells the rooms.
 #[derive(Drop)]
-pub(crate) struct PacketIn {
-    end: Senders,
+pub(crate) struct PacketProducer {
+    end: ProducerBySize,
 }
 
 /// The popping end, with the token of the pushing end once that was handed in.
 #[derive(Drop)]
-pub(crate) struct PacketOut {
-    end: Sides,
+pub(crate) struct PacketConsumer {
+    end: ConsumerBySize,
 }
 
 /// The token of the pushing end.
 #[derive(Drop)]
 pub(crate) struct PacketToken {
-    token: Tokens,
+    token: TokenBySize,
 }
 
-impl Model for PacketIn {
+impl Model for PacketProducer {
     ghost use Rattle.std.specs.declared.alloc.Global.{Global};
     ghost use Rattle.rtrb.specs.declared.AnyItems.{AnyItems};
     ghost use Rattle.rtrb.specs.declared.producer.Producer.{Producer};
@@ -73,14 +73,14 @@ impl Model for PacketIn {
     ghost view = { λ s. sender_in s.end };
 }
 
-impl Model for PacketOut {
+impl Model for PacketConsumer {
     ghost use Rattle.rtp_stream.specs.contracts.packet.Packet as packet_row;
-    ghost use Rattle.studio_ends.specs.contracts.rings.Side as side_row;
+    ghost use Rattle.studio_ends.specs.contracts.rings.TokenConsumer as side_row;
     ghost use Rattle.rtp_stream.specs.declared.packet.Packet.{Packet};
-    ghost use Rattle.studio_ends.specs.declared.rings.Side.{Side};
+    ghost use Rattle.studio_ends.specs.declared.rings.TokenConsumer.{TokenConsumer};
     ghost use Rattle.studio_ends.specs.PacketRings.{side_in};
 
-    ghost Value = { Side Packet };
+    ghost Value = { TokenConsumer Packet };
 
     ghost coded = { (side_row.the_row packet_row.the_row).coded };
 
@@ -99,16 +99,16 @@ impl Model for PacketToken {
     ghost view = { λ s. token_in s.token };
 }
 
-impl PacketIn {
+impl PacketProducer {
     /// Whether no place is seen to be free.
     pub(crate) fn is_full(&mut self) -> bool
         ensures looked { ProducerLooked self.old self.new }
         ensures value { IsTrue result ↔ (known_free self.new ≡ 0) }
     {
         match &mut self.end {
-            Senders::Short(end) => end.is_full(),
-            Senders::Middle(end) => end.is_full(),
-            Senders::Long(end) => end.is_full(),
+            ProducerBySize::Short(end) => end.is_full(),
+            ProducerBySize::Middle(end) => end.is_full(),
+            ProducerBySize::Long(end) => end.is_full(),
         }
     }
 
@@ -120,9 +120,9 @@ impl PacketIn {
         ensures sent { sent self.new ≡ sent self.old ++ packet_of packet.entry ∷ [] }
     {
         match &mut self.end {
-            Senders::Short(end) => end.push(packet),
-            Senders::Middle(end) => end.push(packet),
-            Senders::Long(end) => end.push(packet),
+            ProducerBySize::Short(end) => end.push(packet),
+            ProducerBySize::Middle(end) => end.push(packet),
+            ProducerBySize::Long(end) => end.push(packet),
         }
     }
 
@@ -130,24 +130,24 @@ impl PacketIn {
     pub(crate) fn finish(self) -> Option<PacketToken>
         ensures { IfSome result (λ done. Finishes self done) }
     {
-        let PacketIn { end } = self;
+        let PacketProducer { end } = self;
         let token = match end {
-            Senders::Short(end) => Tokens::Short(end.finish()?),
-            Senders::Middle(end) => Tokens::Middle(end.finish()?),
-            Senders::Long(end) => Tokens::Long(end.finish()?),
+            ProducerBySize::Short(end) => TokenBySize::Short(end.finish()?),
+            ProducerBySize::Middle(end) => TokenBySize::Middle(end.finish()?),
+            ProducerBySize::Long(end) => TokenBySize::Long(end.finish()?),
         };
         Some(PacketToken { token })
     }
 }
 
-impl PacketOut {
+impl PacketConsumer {
     /// Offers what the ring has to the merge, as packets of a path: how many.
     pub(crate) fn take(
         &mut self,
         spec: &StreamSpec,
         merge: &mut Merge<SlotWindow>,
         path: Path,
-        teller: &mut Option<StreamTeller>,
+        teller: &mut Option<StreamStatsSender>,
     ) -> u32
         requires spec { merge.old.spec ≡ spec.now }
         requires path { path < spec.now.paths }
@@ -155,9 +155,9 @@ impl PacketOut {
             × Joins merge.old merge.new (λ stream. arrivals_by path (fitting stream packets)) }
     {
         match &mut self.end {
-            Sides::Short(side) => take_path(side, spec, merge, path, teller),
-            Sides::Middle(side) => take_path(side, spec, merge, path, teller),
-            Sides::Long(side) => take_path(side, spec, merge, path, teller),
+            ConsumerBySize::Short(side) => take_path(side, spec, merge, path, teller),
+            ConsumerBySize::Middle(side) => take_path(side, spec, merge, path, teller),
+            ConsumerBySize::Long(side) => take_path(side, spec, merge, path, teller),
         }
     }
 
@@ -168,20 +168,20 @@ impl PacketOut {
     {
         let PacketToken { token } = done;
         match &mut self.end {
-            Sides::Short(side) => match token {
-                Tokens::Short(done) => side.hand_in(done),
-                Tokens::Middle(_) => unreachable!(),
-                Tokens::Long(_) => unreachable!(),
+            ConsumerBySize::Short(side) => match token {
+                TokenBySize::Short(done) => side.hand_in(done),
+                TokenBySize::Middle(_) => unreachable!(),
+                TokenBySize::Long(_) => unreachable!(),
             },
-            Sides::Middle(side) => match token {
-                Tokens::Short(_) => unreachable!(),
-                Tokens::Middle(done) => side.hand_in(done),
-                Tokens::Long(_) => unreachable!(),
+            ConsumerBySize::Middle(side) => match token {
+                TokenBySize::Short(_) => unreachable!(),
+                TokenBySize::Middle(done) => side.hand_in(done),
+                TokenBySize::Long(_) => unreachable!(),
             },
-            Sides::Long(side) => match token {
-                Tokens::Short(_) => unreachable!(),
-                Tokens::Middle(_) => unreachable!(),
-                Tokens::Long(done) => side.hand_in(done),
+            ConsumerBySize::Long(side) => match token {
+                TokenBySize::Short(_) => unreachable!(),
+                TokenBySize::Middle(_) => unreachable!(),
+                TokenBySize::Long(done) => side.hand_in(done),
             },
         }
     }
@@ -193,9 +193,9 @@ impl PacketOut {
         ensures done { MatchOption self.old.done (self.new.done ≡ None) (λ d. IsSomeAnd self.new.done (λ e. all_sent e ≡ all_sent d)) }
     {
         match &mut self.end {
-            Sides::Short(side) => side.is_drained(),
-            Sides::Middle(side) => side.is_drained(),
-            Sides::Long(side) => side.is_drained(),
+            ConsumerBySize::Short(side) => side.is_drained(),
+            ConsumerBySize::Middle(side) => side.is_drained(),
+            ConsumerBySize::Long(side) => side.is_drained(),
         }
     }
 }
@@ -204,13 +204,13 @@ impl PacketOut {
 fn open_sized<const N: usize>(
     alloc: Global,
     places: usize,
-) -> Result<(PacketSender<N>, Side<PacketRoom<N>>), AllocError>
+) -> Result<(SizedPacketProducer<N>, TokenConsumer<PacketCell<N>>), AllocError>
     ensures pair { IfOk result (λ r. IsPair r.0 r.1.ring) }
     ensures producer { IfOk result (λ r. (sent r.0 ≡ []) × (known_free r.0 ≡ places)) }
     ensures side { IfOk result (λ r. (received r.1.ring ≡ []) × (r.1.done ≡ None)) }
 {
     let (push, pop) = RingBuffer::new(alloc, places)?;
-    Ok((PacketSender::new(push), Side::new(pop)))
+    Ok((SizedPacketProducer::new(push), TokenConsumer::new(pop)))
 }
 
 /// Both ends of a ring of so many places, with room for payloads of a length.
@@ -218,7 +218,7 @@ pub(crate) fn open_packets(
     alloc: Global,
     len: usize,
     places: usize,
-) -> Result<(PacketIn, PacketOut), AllocError>
+) -> Result<(PacketProducer, PacketConsumer), AllocError>
     requires { len ≤ 1440 }
     ensures pair { IfOk result (λ r. IsPair r.0 r.1.ring) }
     ensures producer { IfOk result (λ r. (sent r.0 ≡ []) × (known_free r.0 ≡ places)) }
@@ -227,13 +227,13 @@ pub(crate) fn open_packets(
 {
     let (push, pop) = if len <= SHORT {
         let (push, pop) = open_sized(alloc, places)?;
-        (Senders::Short(push), Sides::Short(pop))
+        (ProducerBySize::Short(push), ConsumerBySize::Short(pop))
     } else if len <= MIDDLE {
         let (push, pop) = open_sized(alloc, places)?;
-        (Senders::Middle(push), Sides::Middle(pop))
+        (ProducerBySize::Middle(push), ConsumerBySize::Middle(pop))
     } else {
         let (push, pop) = open_sized(alloc, places)?;
-        (Senders::Long(push), Sides::Long(pop))
+        (ProducerBySize::Long(push), ConsumerBySize::Long(pop))
     };
-    Ok((PacketIn { end: push }, PacketOut { end: pop }))
+    Ok((PacketProducer { end: push }, PacketConsumer { end: pop }))
 }

@@ -14,15 +14,15 @@ pub(crate) const LONG: usize = 1440;
 
 /// Octets in room for `N`: it is copied whole, and written over without being blanked. What lies behind them is 0.
 #[derive(Clone, Copy)]
-pub(crate) struct Room<const N: usize> {
+pub(crate) struct PayloadCell<const N: usize> {
     len: usize,
     octets: [u8; N],
 }
 
-impl<const N: usize> Model for Room<N> {
+impl<const N: usize> Model for PayloadCell<N> {
     ghost use Rattle.std.specs.Prelude.{ℕ, List, length, take};
-    ghost use Rattle.studio_ends.specs.Rooms.{IsRoom, padded};
-    ghost use Rattle.studio_ends.specs.Rooms.{padded_back, taken_length};
+    ghost use Rattle.studio_ends.specs.PayloadCells.{IsRoom, padded};
+    ghost use Rattle.studio_ends.specs.PayloadCells.{padded_back, taken_length};
 
     ghost Value = { List ℕ };
 
@@ -35,12 +35,12 @@ impl<const N: usize> Model for Room<N> {
     ghost inverse_ok = { λ r h i. record { len = taken_length N r.len r.octets h i; octets = padded_back N r.len r.octets h i } };
 }
 
-impl<const N: usize> Room<N> {
+impl<const N: usize> PayloadCell<N> {
     /// No octets.
-    pub(crate) fn new() -> Room<N>
+    pub(crate) fn new() -> PayloadCell<N>
         ensures { result ≡ [] }
     {
-        Room {
+        PayloadCell {
             len: 0,
             octets: [0; N],
         }

@@ -9,10 +9,10 @@ ghost use Rattle.path_merge.specs.Goal.{CanReach, Gives, HasGivenAll, MovesTo, n
 ghost use Rattle.rtp_stream.specs.MarkFacts.{payload_length};
 ghost use Rattle.rtp_stream.specs.StreamSpecFacts.{format_of};
 ghost use Rattle.studio_ends.specs.RoomRings.{HasRoomFor};
-ghost use Rattle.studio_ends.specs.Turns.{PushesMarks};
-ghost use Rattle.studio_ends.specs.Stop.{StopsFor};
+ghost use Rattle.studio_ends.specs.StreamTurns.{PushesMarks};
+ghost use Rattle.studio_ends.specs.StopReasons.{StopsFor};
 
-use crate::rings::marks::MarkIn;
+use crate::rings::marks::MarkProducer;
 use crate::stream_end::packets_in::BATCH;
 use path_merge::{Goal, Merge, SlotWindow};
 
@@ -40,7 +40,7 @@ pub struct TurnNote {
 }
 
 /// Pushes the next mark on the way to a goal, if there is one, and passes it: whether there was one.
-pub(crate) fn push_next(marks: &mut MarkIn, merge: &mut Merge<SlotWindow>, goal: Goal) -> bool
+pub(crate) fn push_next(marks: &mut MarkProducer, merge: &mut Merge<SlotWindow>, goal: Goal) -> bool
     requires room { 0 < known_free marks.old }
     requires can { CanReach merge.old goal }
     requires roomy { HasRoomFor (payload_length (format_of merge.old.spec)) marks.old }
@@ -66,7 +66,7 @@ pub(crate) fn push_next(marks: &mut MarkIn, merge: &mut Merge<SlotWindow>, goal:
 
 /// Pushes marks up to a time, while there is room.
 pub(crate) fn push_marks(
-    marks: &mut MarkIn,
+    marks: &mut MarkProducer,
     merge: &mut Merge<SlotWindow>,
     now: i64,
 ) -> (u32, StopReason)

@@ -2,20 +2,20 @@
 ghost use Rattle.std.specs.Prelude.{◌≡◌, ℕ, ◌+◌, ◌<◌, List, [], ◌∷◌, length, vec_len, get_or};
 ghost use Rattle.rtp_stream.specs.declared.packet.Packet.{Packet};
 ghost use Rattle.studio_ends.specs.Fitting.{fitting};
-ghost use Rattle.studio_ends.specs.Turns.{AllTakePackets, Joins, TakesPackets, arrivals_by, arrivals_from};
+ghost use Rattle.studio_ends.specs.StreamTurns.{AllTakePackets, Joins, TakesPackets, arrivals_by, arrivals_from};
 
-use crate::rings::Side;
-use crate::rings::packet_cell::PacketRoom;
-use crate::rings::packets::PacketOut;
+use crate::rings::TokenConsumer;
+use crate::rings::packet_cell::PacketCell;
+use crate::rings::packets::PacketConsumer;
 use path_merge::{Fate, Merge, PacketRef, Path, SlotWindow, StreamSpec};
-use rtp_stats::StreamTeller;
+use rtp_stats::StreamStatsSender;
 
 /// How many packets of a path, or marks, one turn takes at most.
 pub(crate) const BATCH: u32 = 64;
 
 /// Notes what became of a packet, if somebody is to be told.
 fn note(
-    teller: &mut Option<StreamTeller>,
+    teller: &mut Option<StreamStatsSender>,
     merge: &Merge<SlotWindow>,
     path: Path,
     packet: PacketRef<'_>,
@@ -27,12 +27,12 @@ fn note(
 }
 
 /// Offers a packet to the merge if it has the stream's length.
-fn join_packet<const N: usize>(
+fn offer_packet<const N: usize>(
     spec: &StreamSpec,
     merge: &mut Merge<SlotWindow>,
     path: Path,
-    room: &PacketRoom<N>,
-    teller: &mut Option<StreamTeller>,
+    room: &PacketCell<N>,
+    teller: &mut Option<StreamStatsSender>,
 )
     requires spec { merge.old.spec ≡ spec.now }
     requires path { path < spec.now.paths }
@@ -47,11 +47,11 @@ fn join_packet<const N: usize>(
 
 /// Offers what a path's ring has to the merge.
 pub(crate) fn take_path<const N: usize>(
-    side: &mut Side<PacketRoom<N>>,
+    side: &mut TokenConsumer<PacketCell<N>>,
     spec: &StreamSpec,
     merge: &mut Merge<SlotWindow>,
     path: Path,
-    teller: &mut Option<StreamTeller>,
+    teller: &mut Option<StreamStatsSender>,
 ) -> u32
     requires spec { merge.old.spec ≡ spec.now }
     requires path { path < spec.now.paths }
@@ -63,8 +63,8 @@ pub(crate) fn take_path<const N: usize>(
         if side.is_empty() {
             return taken;
         }
-        join_packet(spec, merge, path, side.next(), teller);
-        side.pass();
+        offer_packet(spec, merge, path, side.peek(), teller);
+        side.drop_next();
         taken += 1;
     }
     taken
@@ -72,10 +72,10 @@ pub(crate) fn take_path<const N: usize>(
 
 /// Offers what the rings of all paths have to the merge, path by path, and says how many it took of each.
 pub(crate) fn take_all(
-    sides: &mut Vec<PacketOut>,
+    sides: &mut Vec<PacketConsumer>,
     spec: &StreamSpec,
     merge: &mut Merge<SlotWindow>,
-    teller: &mut Option<StreamTeller>,
+    teller: &mut Option<StreamStatsSender>,
 ) -> [u32; 4]
     requires spec { merge.old.spec ≡ spec.now }
     requires paths { vec_len sides.old ≡ spec.now.paths }

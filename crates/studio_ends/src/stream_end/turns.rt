@@ -4,10 +4,10 @@ ghost use Rattle.rtrb.specs.Ring.{all_sent, sent, known_free, Finishes, IsFinish
 ghost use Rattle.rtp_stream.specs.declared.stream_spec.Stream.{Stream};
 ghost use Rattle.rtp_stream.specs.Marks.{marks_of};
 ghost use Rattle.rtp_stream.specs.declared.packet.Packet.{Packet};
-ghost use Rattle.studio_ends.specs.declared.rings.Side.{Side};
+ghost use Rattle.studio_ends.specs.declared.rings.TokenConsumer.{TokenConsumer};
 ghost use Rattle.rtp_stream.specs.declared.event.Event.{Event};
 ghost use Rattle.rtp_stream.specs.declared.event.Event.TheVariants.{Close};
-ghost use Rattle.studio_ends.specs.Looks.{AllDrained, AllLookAt, AreOpen};
+ghost use Rattle.studio_ends.specs.DrainedRings.{AllDrained, AllLookAt, AreOpen};
 ghost use Rattle.rtp_stream.specs.Counts.{tally_of};
 ghost use Rattle.path_merge.specs.Clock.{clock_fault_of};
 ghost use Rattle.path_merge.specs.Steps.{next_deadline_of};
@@ -16,13 +16,13 @@ ghost use Rattle.studio_ends.specs.Tokens.{HandsIn};
 
 use crate::drain::drain_marks;
 use crate::path::PathDone;
-use crate::rings::drained::look_at_paths;
+use crate::rings::drained::any_path_open;
 use crate::rings::marks::MarkToken;
 use crate::stream_end::StreamEnd;
 use crate::stream_end::marks_out::{StopReason, TurnNote, push_marks};
 use crate::stream_end::packets_in::take_all;
 use path_merge::{ClockFault, Counts, Merge, SlotWindow, StreamSpec, clock_fault};
-use rtp_stats::StreamTeller;
+use rtp_stats::StreamStatsSender;
 use rtrb::Producer;
 
 /// Which paths haven't finished, or have sent packets that were not taken.
@@ -49,9 +49,9 @@ fn show_counts(monitor: &mut Producer<Counts>, counts: Counts)
 }
 
 /// Tells what became of the packets, if somebody is to be told.
-fn tell(teller: &mut Option<StreamTeller>, merge: &Merge<SlotWindow>) {
+fn send_stats(teller: &mut Option<StreamStatsSender>, merge: &Merge<SlotWindow>) {
     if let Some(teller) = teller {
-        teller.tell(merge.counts(), merge.time());
+        teller.send(merge.counts(), merge.time());
     }
 }
 
@@ -74,7 +74,7 @@ impl StreamEnd {
         );
         let (marks, why_stopped) = push_marks(&mut self.marks, &mut self.merge, now);
         show_counts(&mut self.monitor, self.merge.counts());
-        tell(&mut self.teller, &self.merge);
+        send_stats(&mut self.teller, &self.merge);
         Ok(TurnNote {
             from,
             marks,
@@ -122,7 +122,7 @@ impl StreamEnd {
     /// Takes the proof that a path has finished.
     pub fn path_done(&mut self, path: usize, done: PathDone)
         requires path { path < vec_len self.old.sides }
-        requires token { (side : Side Packet) → slice_get self.old.sides.items path ≡ Some side → IsFinishedOf done.token side.ring }
+        requires token { (side : TokenConsumer Packet) → slice_get self.old.sides.items path ≡ Some side → IsFinishedOf done.token side.ring }
         ensures sides { HandsIn self.old.sides.items path (all_sent done.token) self.new.sides.items }
         ensures others { (self.new.merge ≡ self.old.merge) × (self.new.marks ≡ self.old.marks) × (self.new.monitor ≡ self.old.monitor) × (self.new.spec ≡ self.old.spec) }
         ensures stands { (stream : Stream) (open_at : ℤ) (events : List Event) → StreamHasHistory stream open_at self.old events → StreamHasHistory stream open_at self.new events }
@@ -146,7 +146,7 @@ impl StreamEnd {
         }
         let _paths = self.spec.paths();
         let mut still_open = [false; 4];
-        if look_at_paths(&mut self.sides, &mut still_open) {
+        if any_path_open(&mut self.sides, &mut still_open) {
             return Err(PathsOpen { still_open });
         }
         self.merge.close();

@@ -1,7 +1,7 @@
 //! A stream's end, with the clock that its turns go by.
 ghost use Rattle.std.specs.Prelude.{◌≡◌, ◌^◌, ◌≤ℤ◌, pos, false};
 
-use crate::worker::Pause;
+use crate::worker::Backoff;
 use path_merge::{Counts, StreamSpec};
 use studio_ends::{StreamDone, StreamEnd};
 use studio_io::Clock;
@@ -20,27 +20,27 @@ fn longest_pause(spec: &StreamSpec) -> u64 {
 
 /// A stream's end that is not closed, with its clock.
 #[derive(Drop)]
-pub struct TimedStream<C> {
+pub struct ClockedStream<C> {
     pub end: StreamEnd,
     pub(crate) clock: C,
     /// The greatest answer of the clock so far, from the opening time to 2^60.
     pub(crate) now: i64,
-    pub(crate) pause: Pause,
+    pub(crate) pause: Backoff,
     ghost open_yet: { end.merge.closed ≡ false },
     ghost not_before: { end.merge.time ≤ℤ now },
     ghost not_after: { now ≤ℤ pos (2 ^ 60) },
 }
 
-impl<C: Clock> TimedStream<C> {
+impl<C: Clock> ClockedStream<C> {
     /// A stream's end, which is not closed, with a clock that wasn't asked yet.
-    pub fn new(end: StreamEnd, clock: C) -> TimedStream<C>
+    pub fn new(end: StreamEnd, clock: C) -> ClockedStream<C>
         requires open_yet { end.merge.closed ≡ false }
         requires in_time { end.merge.time ≤ℤ pos (2 ^ 60) }
         ensures { (result.end ≡ end) × (result.clock ≡ clock) × (result.now ≡ end.merge.time) }
     {
-        let pause = Pause::up_to(longest_pause(end.spec()));
+        let pause = Backoff::up_to(longest_pause(end.spec()));
         let now = end.time();
-        TimedStream {
+        ClockedStream {
             end,
             clock,
             now,
@@ -50,7 +50,7 @@ impl<C: Clock> TimedStream<C> {
 
     /// Gives up the end as it is.
     pub fn finish(self) -> (Option<StreamDone>, Counts) {
-        let TimedStream {
+        let ClockedStream {
             end,
             clock: _,
             now: _,

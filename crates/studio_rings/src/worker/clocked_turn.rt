@@ -3,8 +3,8 @@ ghost use Rattle.std.specs.Prelude.{◌≡◌, ◌^◌, ◌≤ℤ◌, pos, false
 ghost use Rattle.studio_ends.specs.Streams.{TakesTurn};
 ghost use Rattle.studio_rings.specs.Turns.{Closes, GoesOn, KeepsTokens, ReadsFirst};
 
-use crate::worker::Pause;
-use crate::worker::clocked_stream::TimedStream;
+use crate::worker::Backoff;
+use crate::worker::clocked_stream::ClockedStream;
 use path_merge::StreamClock;
 use std::sync::Wait;
 use studio_ends::{StopReason, StreamEnd, TurnNote};
@@ -41,17 +41,17 @@ fn read_first(end: &mut StreamEnd, now: i64)
 
 /// Rests where a turn at this time left nothing to do before packets come or time passes, and longer
 /// while none come.
-fn rest_after<R: Wait>(rt: &R, pause: &mut Pause, now: i64, note: &TurnNote) {
+fn snooze_after<R: Wait>(rt: &R, pause: &mut Backoff, now: i64, note: &TurnNote) {
     if note.from.iter().any(|count| *count > 0) {
-        pause.restart();
+        pause.reset();
     }
     let more = note.from.iter().any(|count| *count == 64);
     if !more && note.why_stopped != StopReason::Batch {
-        pause.rest_in_step(rt, now);
+        pause.snooze_aligned(rt, now);
     }
 }
 
-impl<C: Clock> TimedStream<C> {
+impl<C: Clock> ClockedStream<C> {
     /// Makes a turn at the greatest answer of the clock so far. It rests where there is nothing to do
     /// before packets come or time passes.
     pub fn turn<R: Wait>(&mut self, rt: &R)
@@ -61,16 +61,16 @@ impl<C: Clock> TimedStream<C> {
         self.now = self.clock.now().clamp(self.now, 1 << 60);
         read_first(&mut self.end, self.now);
         let note = turn_at(&mut self.end, self.now);
-        rest_after(rt, &mut self.pause, self.now, &note);
+        snooze_after(rt, &mut self.pause, self.now, &note);
     }
 
     /// Closes the stream where all that its paths sent was taken.
-    pub fn try_close(self) -> Result<StreamEnd, TimedStream<C>>
+    pub fn try_close(self) -> Result<StreamEnd, ClockedStream<C>>
         ensures closed { IfOk result (λ end. Closes self.end end) }
         ensures later { IfErr result (λ rest. GoesOn C.told self rest) }
         ensures tokens { IfErr result (λ rest. KeepsTokens self.end.sides.items rest.end.sides.items) }
     {
-        let TimedStream {
+        let ClockedStream {
             end,
             clock,
             now,
@@ -79,7 +79,7 @@ impl<C: Clock> TimedStream<C> {
         let mut end = end;
         match end.close() {
             Ok(()) => Ok(end),
-            Err(_) => Err(TimedStream {
+            Err(_) => Err(ClockedStream {
                 end,
                 clock,
                 now,

@@ -2,7 +2,7 @@
 ghost use Rattle.std.specs.Prelude.{true};
 ghost use Rattle.studio_rings.specs.MixWorker.{Mixes};
 
-use crate::worker::Pause;
+use crate::worker::Backoff;
 use std::sync::Wait;
 use std::sync::atomic::{AtomicBool, Ordering};
 use studio_ends::MixEnd;
@@ -51,18 +51,18 @@ pub fn run_mixer<R: Wait, K: Sink>(
     let mut end = end;
     let mut sink = sink;
     let mut counts = SendCounts::new();
-    let mut pause = Pause::between(FIRST_PAUSE, LONGEST_PAUSE);
+    let mut pause = Backoff::between(FIRST_PAUSE, LONGEST_PAUSE);
     for _ in rt.forever() {
         let last = stop.load(Ordering::SeqCst)
             || ended.iter().all(|flag| flag.load(Ordering::SeqCst));
         if !mix_once(&mut end, &mut sink, &mut counts) {
-            pause.restart();
+            pause.reset();
             continue;
         }
         if last {
             return MixResult { end, sink, counts };
         }
-        pause.rest(rt);
+        pause.snooze(rt);
     }
     unreachable!()
 }

@@ -3,10 +3,10 @@ ghost use Rattle.std.specs.Prelude.{◌≡◌, true, length, IfSome, None};
 ghost use Rattle.rtrb.specs.Ring.{all_sent, Finishes, SameProducer};
 ghost use Rattle.studio_ends.specs.Fitting.{fitting};
 ghost use Rattle.studio_io.specs.Answers.{reaches_end};
-ghost use Rattle.studio_rings.specs.Paths.{IsPathResult, IsTokenOf, OffersAgain, SendsFeed};
+ghost use Rattle.studio_rings.specs.PathWorkers.{IsPathResult, IsTokenOf, OffersAgain, SendsFeed};
 
 use crate::path_job::{PathJob, PathResult};
-use crate::worker::Pause;
+use crate::worker::Backoff;
 use std::sync::Wait;
 use std::sync::atomic::{AtomicBool, Ordering};
 use studio_ends::{Offer, PathEnd};
@@ -25,12 +25,12 @@ const FULL_PAUSE: u64 = 200;
 
 /// Offers a datagram, and again while the answer is `Full`, at most 1,000 times more. It answers
 /// false where it was stopped.
-fn offer_again<R: Wait>(rt: &R, end: &mut PathEnd, datagram: &[u8], stop: &AtomicBool) -> bool
+fn offer_until_taken<R: Wait>(rt: &R, end: &mut PathEnd, datagram: &[u8], stop: &AtomicBool) -> bool
     ensures ring { SameProducer end.old.ring end.new.ring }
     ensures spec { end.new.spec ≡ end.old.spec }
     ensures offers { result ≡ true → OffersAgain datagram.now end.old end.new }
 {
-    let mut pause = Pause::up_to(FULL_PAUSE);
+    let mut pause = Backoff::up_to(FULL_PAUSE);
     for _ in 0..1001u32 {
         if end.offer(datagram) != Offer::Full {
             return true;
@@ -38,13 +38,13 @@ fn offer_again<R: Wait>(rt: &R, end: &mut PathEnd, datagram: &[u8], stop: &Atomi
         if stop.load(Ordering::SeqCst) {
             return false;
         }
-        pause.rest(rt);
+        pause.snooze(rt);
     }
     true
 }
 
 /// Gives up the end, and says so.
-fn leave(end: PathEnd, faults: u64, ended: &AtomicBool) -> PathResult
+fn finish_path(end: PathEnd, faults: u64, ended: &AtomicBool) -> PathResult
     ensures done { IfSome result.done (λ done. Finishes end.ring done.token) }
     ensures fit { IfSome result.done (λ done. fitting end.spec (all_sent done.token) ≡ all_sent done.token) }
     ensures count { IfSome result.done (λ done. end.counts.sent ≡ length (all_sent done.token)) }
@@ -60,7 +60,7 @@ fn leave(end: PathEnd, faults: u64, ended: &AtomicBool) -> PathResult
 }
 
 /// Gives up the end with no proof, since not all of the feed was sent.
-fn leave_early(end: PathEnd, faults: u64, ended: &AtomicBool) -> PathResult
+fn abandon_path(end: PathEnd, faults: u64, ended: &AtomicBool) -> PathResult
     ensures { result.done ≡ None }
 {
     let (_done, counts) = end.finish();
@@ -73,9 +73,9 @@ fn leave_early(end: PathEnd, faults: u64, ended: &AtomicBool) -> PathResult
 }
 
 /// Rests after a feed had nothing, unless the feed has waited by itself.
-fn rest_for<R: Wait, F: Feed>(rt: &R, feed: &F, pause: &mut Pause) {
+fn rest_for<R: Wait, F: Feed>(rt: &R, feed: &F, pause: &mut Backoff) {
     if !feed.waits() {
-        pause.rest(rt);
+        pause.snooze(rt);
     }
 }
 
@@ -94,37 +94,37 @@ fn run_feed<R: Wait, F: Feed>(
 {
     let mut end = end;
     let mut feed = feed;
-    let mut pause = Pause::up_to(FEED_PAUSE);
-    let mut fault_pause = Pause::up_to(FAULT_PAUSE);
+    let mut pause = Backoff::up_to(FEED_PAUSE);
+    let mut fault_pause = Backoff::up_to(FAULT_PAUSE);
     let mut buf = [0u8; 2048];
     let mut in_a_row = 0u32;
     let mut faults = 0u64;
     for _ in rt.forever() {
         if stop.load(Ordering::SeqCst) {
-            return leave_early(end, faults, ended);
+            return abandon_path(end, faults, ended);
         }
         match feed.next(&mut buf) {
             FeedAnswer::Datagram(count) => {
                 in_a_row = 0;
-                pause.restart();
-                if !offer_again(rt, &mut end, &buf[..count], stop) {
-                    return leave_early(end, faults, ended);
+                pause.reset();
+                if !offer_until_taken(rt, &mut end, &buf[..count], stop) {
+                    return abandon_path(end, faults, ended);
                 }
             }
             FeedAnswer::Nothing => {
                 in_a_row = 0;
-                end.tell();
+                end.send_counts();
                 rest_for(rt, &feed, &mut pause);
             }
             FeedAnswer::Fault => {
                 faults = faults.saturating_add(1);
                 if in_a_row == 999 {
-                    return leave(end, faults, ended);
+                    return finish_path(end, faults, ended);
                 }
                 in_a_row += 1;
-                fault_pause.rest(rt);
+                fault_pause.snooze(rt);
             }
-            FeedAnswer::Ended => return leave(end, faults, ended),
+            FeedAnswer::Ended => return finish_path(end, faults, ended),
         }
     }
     unreachable!()

@@ -1,14 +1,14 @@
 //! The worker of a stream.
 ghost use Rattle.std.specs.Prelude.{◌≡◌, ◌≤◌, map, length, vec_len, vec_capacity, true, IfOk};
 ghost use Rattle.studio_rings.specs.Turns.{GoesOn, HaveTold};
-ghost use Rattle.studio_rings.specs.WorkersStreams.{AllTokensFit, EndsStream, FitsAt, HandsOne, PathsGiveTokens, IsReady, IsStreamResult, told_by};
-ghost use Rattle.studio_rings.specs.Ends.{ClosesLater, Drains};
+ghost use Rattle.studio_rings.specs.StreamWorkers.{AllTokensFit, EndsStream, FitsAt, HandsOne, PathsGiveTokens, IsReady, IsStreamResult, told_by};
+ghost use Rattle.studio_rings.specs.StreamClose.{ClosesLater, Drains};
 
 use crate::path_job::PathResult;
-use crate::path_threads::{Stopped, run_paths};
+use crate::path_threads::{WorkerStopped, run_paths};
 use crate::stream_job::{StreamJob, StreamResult};
-use crate::worker::Pause;
-use crate::worker::clocked_stream::TimedStream;
+use crate::worker::Backoff;
+use crate::worker::clocked_stream::ClockedStream;
 use rtp_stream::{PathCounts, StreamCounts};
 use std::sync::Wait;
 use std::sync::atomic::{AtomicBool, Ordering};
@@ -20,7 +20,7 @@ use studio_io::{Clock, Feed};
 const DRAIN_PAUSE: u64 = 2_000;
 
 /// Hands in the token of the path at a place, and says whether it gave one.
-fn hand_in_one<C: Clock>(stream: &mut TimedStream<C>, place: usize, done: Option<PathDone>) -> bool
+fn pass_token<C: Clock>(stream: &mut ClockedStream<C>, place: usize, done: Option<PathDone>) -> bool
     requires { FitsAt done place stream.old.end.sides.items }
     ensures later { GoesOn C.told stream.old stream.new }
     ensures handed { HandsOne done place stream.old.end.sides.items result stream.new.end.sides.items }
@@ -36,8 +36,8 @@ fn hand_in_one<C: Clock>(stream: &mut TimedStream<C>, place: usize, done: Option
 
 /// Hands in the tokens of the paths, and says whether each path gave one. The counts of each path and
 /// of its feed's faults go to their places.
-fn hand_in<C: Clock>(
-    stream: &mut TimedStream<C>,
+fn pass_tokens<C: Clock>(
+    stream: &mut ClockedStream<C>,
     results: Vec<PathResult>,
     counts: &mut Vec<PathCounts>,
     faults: &mut Vec<u64>,
@@ -61,7 +61,7 @@ fn hand_in<C: Clock>(
         } = result;
         counts.push_reserved(own);
         faults.push_reserved(own_faults);
-        all &= hand_in_one(stream, place, done);
+        all &= pass_token(stream, place, done);
         place += 1;
     }
     all
@@ -70,9 +70,9 @@ fn hand_in<C: Clock>(
 /// Makes turns until all that the paths sent was taken, and closes the stream.
 fn close_when_taken<R: Wait, C: Clock>(
     rt: &R,
-    stream: TimedStream<C>,
+    stream: ClockedStream<C>,
     stop: &AtomicBool,
-) -> Result<StreamEnd, Stopped>
+) -> Result<StreamEnd, WorkerStopped>
     ensures { IfOk result (λ end. ClosesLater C.told stream end) }
 {
     let mut stream = stream;
@@ -82,7 +82,7 @@ fn close_when_taken<R: Wait, C: Clock>(
             Err(rest) => stream = rest,
         }
         if stop.load(Ordering::SeqCst) {
-            return Err(Stopped);
+            return Err(WorkerStopped);
         }
         stream.turn(rt);
     }
@@ -90,19 +90,19 @@ fn close_when_taken<R: Wait, C: Clock>(
 }
 
 /// Hands on what is left after the close.
-fn drain<R: Wait>(rt: &R, end: StreamEnd, stop: &AtomicBool) -> Result<StreamEnd, Stopped>
+fn drain<R: Wait>(rt: &R, end: StreamEnd, stop: &AtomicBool) -> Result<StreamEnd, WorkerStopped>
     ensures { IfOk result (λ r. Drains end r) }
 {
     let mut end = end;
-    let mut pause = Pause::up_to(DRAIN_PAUSE);
+    let mut pause = Backoff::up_to(DRAIN_PAUSE);
     for _ in rt.forever() {
         if end.drain_turn() {
             return Ok(end);
         }
         if stop.load(Ordering::SeqCst) {
-            return Err(Stopped);
+            return Err(WorkerStopped);
         }
-        pause.rest(rt);
+        pause.snooze(rt);
     }
     unreachable!()
 }
@@ -111,12 +111,12 @@ fn drain<R: Wait>(rt: &R, end: StreamEnd, stop: &AtomicBool) -> Result<StreamEnd
 /// what is left. Where a path gave no token it stays open, and gives none itself.
 fn end_stream<R: Wait, C: Clock>(
     rt: &R,
-    stream: TimedStream<C>,
+    stream: ClockedStream<C>,
     results: Vec<PathResult>,
     counts: Vec<PathCounts>,
     faults: Vec<u64>,
     stop: &AtomicBool,
-) -> Result<StreamResult, Stopped>
+) -> Result<StreamResult, WorkerStopped>
     requires tokens { AllTokensFit results.items stream.end.sides.items }
     requires counts { (vec_len counts ≡ 0) × (vec_len results ≤ vec_capacity counts) }
     requires faults { (vec_len faults ≡ 0) × (vec_len results ≤ vec_capacity faults) }
@@ -125,7 +125,7 @@ fn end_stream<R: Wait, C: Clock>(
     let mut stream = stream;
     let mut counts = counts;
     let mut faults = faults;
-    if !hand_in(&mut stream, results, &mut counts, &mut faults) {
+    if !pass_tokens(&mut stream, results, &mut counts, &mut faults) {
         let (_done, merge) = stream.finish();
         let counts = StreamCounts {
             paths: counts,
@@ -152,11 +152,11 @@ fn end_stream<R: Wait, C: Clock>(
 }
 
 /// Runs a stream and its paths until all feeds have ended and all marks were handed on.
-fn run_parts<R: Threads + Wait + Sync, F: Feed + Send, C: Clock>(
+fn run_stream_and_paths<R: Threads + Wait + Sync, F: Feed + Send, C: Clock>(
     rt: &R,
     job: StreamJob<F, C>,
     stop: &AtomicBool,
-) -> Result<StreamResult, Stopped>
+) -> Result<StreamResult, WorkerStopped>
     requires { IsReady job }
     ensures { IfOk result (λ r. IsStreamResult F.told C.told job r) }
 {
@@ -169,7 +169,7 @@ fn run_parts<R: Threads + Wait + Sync, F: Feed + Send, C: Clock>(
         counts,
         faults,
     } = job;
-    let stream = TimedStream::new(end, clock);
+    let stream = ClockedStream::new(end, clock);
     let (results, stream) = run_paths(rt, paths, results, stream, &ended, stop)?;
     end_stream(rt, stream, results, counts, faults, stop)
 }
@@ -180,11 +180,11 @@ pub(crate) fn run_stream<R: Threads + Wait + Sync, F: Feed + Send, C: Clock>(
     job: StreamJob<F, C>,
     ended: &AtomicBool,
     stop: &AtomicBool,
-) -> Result<StreamResult, Stopped>
+) -> Result<StreamResult, WorkerStopped>
     requires { IsReady job }
     ensures { IfOk result (λ r. IsStreamResult F.told C.told job r) }
 {
-    let result = run_parts(rt, job, stop);
+    let result = run_stream_and_paths(rt, job, stop);
     ended.store(true, Ordering::SeqCst);
     result
 }

@@ -1,6 +1,6 @@
 //! What the blocks of a record tell, and what others don't.
 use super::record::{latest_header, record};
-use pcap_file::{Parts, RecordMark};
+use pcap_file::{BlockParser, RecordMark};
 use std::process::Abort;
 
 /// The length of each block, and what it tells.
@@ -14,7 +14,7 @@ const PARTS: [(usize, Option<RecordMark>); 5] = [
 
 /// Whether what comes next has this length and tells this, and what stands behind it.
 fn goes_on<'a>(
-    parts: &mut Parts,
+    parts: &mut BlockParser,
     rest: &'a [u8],
     len: usize,
     mark: Option<RecordMark>,
@@ -32,7 +32,7 @@ fn goes_on<'a>(
 #[test]
 fn a_record_says_its_opening_and_its_close(rt: HostRuntime) {
     let record = record();
-    let mut parts = Parts::open(&record).expect(&rt, "a record");
+    let mut parts = BlockParser::open(&record).expect(&rt, "a record");
     let mut left = Some(record.as_slice());
     for (len, mark) in &PARTS {
         let Some(rest) = left else {
@@ -69,7 +69,7 @@ const CHANGES: [(usize, u8, Option<RecordMark>); 12] = [
 
 /// What a header tells.
 fn told(rt: &impl Abort, header: &[u8; 76]) -> Option<RecordMark> {
-    let mut parts = Parts::open(header).expect(rt, "a header");
+    let mut parts = BlockParser::open(header).expect(rt, "a header");
     parts.next(header).expect(rt, "a block").mark
 }
 

@@ -3,16 +3,16 @@ ghost use Rattle.std.specs.Prelude.{◌≡◌, length};
 
 use super::record::record;
 use pcap_file::{
-    Arrival, BLOCK_ROOM, Body, Datagram, Ipv4, Packet, nanoseconds_after, open, write_closing,
-    write_datagram, write_interface, write_opening,
+    MAX_BLOCK_LEN, Packet, RecordedDatagram, UdpBody, UdpDatagram, UdpPacket, nanoseconds_after,
+    open, write_interface, write_packet, write_section_header, write_statistics,
 };
 use std::net::Ipv4Addr;
 
 /// A datagram of three octets, on the second interface.
-fn arrival() -> Arrival<'static>
+fn arrival() -> RecordedDatagram<'static>
     ensures { length result.octets.now ≡ 3 }
 {
-    Arrival {
+    RecordedDatagram {
         interface: 1,
         nanoseconds: 4_295_020_834,
         source: Ipv4Addr::new(10, 0, 0, 1),
@@ -32,10 +32,10 @@ fn is_written(out: &[u8], len: usize, want: Option<&[u8]>) -> bool {
 #[test]
 fn the_opening_and_interfaces_are_these_octets(rt: HostRuntime) {
     let record = record();
-    let mut out = [0x55u8; BLOCK_ROOM];
-    let len = write_opening(1000, &mut out);
+    let mut out = [0x55u8; MAX_BLOCK_LEN];
+    let len = write_section_header(1000, &mut out);
     assert!(rt; is_written(&out, len, record.get(..60)), "the opening");
-    let mut out = [0x55u8; BLOCK_ROOM];
+    let mut out = [0x55u8; MAX_BLOCK_LEN];
     let len = write_interface(0, b'a', &mut out);
     assert!(rt;
         is_written(&out, len, record.get(60..100)),
@@ -49,11 +49,11 @@ fn the_opening_and_interfaces_are_these_octets(rt: HostRuntime) {
 #[test]
 fn a_datagram_and_the_close_are_these_octets(rt: HostRuntime) {
     let record = record();
-    let mut out = [0x55u8; BLOCK_ROOM];
-    let len = write_datagram(&arrival(), &mut out);
+    let mut out = [0x55u8; MAX_BLOCK_LEN];
+    let len = write_packet(&arrival(), &mut out);
     assert!(rt; is_written(&out, len, record.get(140..204)), "the datagram");
-    let mut out = [0x55u8; BLOCK_ROOM];
-    let len = write_closing(4_295_083_334, &mut out);
+    let mut out = [0x55u8; MAX_BLOCK_LEN];
+    let len = write_statistics(4_295_083_334, &mut out);
     assert!(rt; is_written(&out, len, record.get(204..)), "the close");
 }
 
@@ -81,10 +81,10 @@ fn packet() -> Packet<'static> {
     Packet {
         time: Some(4_295_020_834),
         interface: 1,
-        ip: Ipv4 {
+        ip: UdpPacket {
             source: Ipv4Addr::new(10, 0, 0, 1),
             destination: Ipv4Addr::new(239, 1, 2, 3),
-            body: Body::Datagram(Datagram {
+            body: UdpBody::Datagram(UdpDatagram {
                 source_port: 5004,
                 destination_port: 5006,
                 payload: &[1, 2, 3],

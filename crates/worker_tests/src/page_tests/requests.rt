@@ -2,7 +2,7 @@
 use super::sample::snapshot;
 use super::texts::STATE;
 use http_server::{Connection, serve};
-use status_page::{HTML, Page, open, state_of};
+use status_page::{HTML, Page, new_connection, state_json};
 use std::alloc::Global;
 use std::hash::RandomState;
 use std::process::Abort;
@@ -16,7 +16,7 @@ fn answers(
     octets: &[u8],
 ) -> Vec<u8> {
     let keys = RandomState::new(rt).expect(rt, "random octets");
-    let mut connection = open(alloc, keys);
+    let mut connection = new_connection(alloc, keys);
     let mut sent = Vec::new(alloc);
     assert!(rt; is_served(&mut connection, page, octets, &mut sent));
     sent

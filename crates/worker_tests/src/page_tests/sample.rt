@@ -1,6 +1,8 @@
 //! A snapshot, in which each number is another.
 use rtp_stream::{Counts, PathCounts};
-use status_page::{Condition, Copies, Name, OutputState, PathState, Snapshot, Spare, StreamState};
+use status_page::{
+    ArrivalMargin, Condition, CopyCounts, OutputState, PathState, Snapshot, StreamName, StreamState,
+};
 use std::process::Abort;
 
 /// A name with all that has to be escaped.
@@ -20,13 +22,13 @@ fn heard_path() -> PathState {
         datagrams: 2,
         first: 3,
         counts: Some(path_counts()),
-        copies: Some(Copies {
+        copies: Some(CopyCounts {
             lost: 4,
             double: 5,
             unlike: 6,
             late: 7,
         }),
-        spare: Some(Spare {
+        spare: Some(ArrivalMargin {
             least: 12,
             median: 30,
         }),
@@ -43,7 +45,7 @@ fn counts() -> Counts {
 /// A stream with a name and two paths, of one of which little is known, and two output channels.
 pub(super) fn snapshot(rt: &impl Abort) -> Snapshot {
     let mut stream = StreamState::default();
-    stream.name = Name::from(NAME).ok();
+    stream.name = StreamName::from(NAME).ok();
     stream.condition = Condition::Running;
     stream.latency = 240;
     stream.counts = counts();

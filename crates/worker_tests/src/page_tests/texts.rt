@@ -1,6 +1,6 @@
 //! The two texts of a snapshot, written out by hand.
 use super::sample::snapshot;
-use status_page::{Snapshot, metrics_of, state_of};
+use status_page::{Snapshot, metrics_text, state_json};
 use std::alloc::Global;
 use std::process::Abort;
 
@@ -34,7 +34,7 @@ const METRICS: [&str; 8] = [
 
 /// Whether the state was told; else memory was refused.
 fn is_told(rt: &impl Abort, alloc: Global, snapshot: &Snapshot, want: &str) -> bool {
-    match state_of(alloc, snapshot) {
+    match state_json(alloc, snapshot) {
         Ok(text) => {
             assert!(rt; text.as_slice() == want.as_bytes());
             true
@@ -59,7 +59,7 @@ fn the_state_is_json(rt: HostRuntime) {
 
 /// Whether the metrics were told; else memory was refused.
 fn are_told(rt: &impl Abort, alloc: Global, snapshot: &Snapshot) -> bool {
-    match metrics_of(alloc, snapshot) {
+    match metrics_text(alloc, snapshot) {
         Ok(octets) => {
             has_parts(rt, &octets);
             true

@@ -5,7 +5,7 @@ use super::timed::{TimedClock, TimedFeed, TimedSink, WholeRest};
 use super::workers::{
     FAILURES, Failing, gave_both, has_failed, list_of, one_stream, only, sends, two_packets,
 };
-use engine_run::{Quiet, Rest, run_alone};
+use engine_run::{IdleWait, NoObserver, run_engine};
 use std::alloc::Global;
 use std::process::Abort;
 use std::sync::Wait;
@@ -14,7 +14,7 @@ use studio_io::{MemoryClock, MemoryFeed, MemorySink};
 use studio_rings::{Clock, Feed, Sink, WorkReport};
 
 /// Runs one stream on two paths.
-fn run_one<R: Wait + Abort, F: Feed, C: Clock, K: Sink, P: Rest>(
+fn run_one<R: Wait + Abort, F: Feed, C: Clock, K: Sink, P: IdleWait>(
     rt: &R,
     alloc: Global,
     feeds: [F; 2],
@@ -24,7 +24,7 @@ fn run_one<R: Wait + Abort, F: Feed, C: Clock, K: Sink, P: Rest>(
 ) -> (WorkReport, K) {
     let studio = one_stream(alloc).expect(rt, "a studio");
     let feeds = list_of(rt, alloc, [list_of(rt, alloc, feeds)]);
-    let done = run_alone(rt, alloc, &studio, feeds, clock, sink, Quiet, rest);
+    let done = run_engine(rt, alloc, &studio, feeds, clock, sink, NoObserver, rest);
     let Ok((report, sink, _)) = done else {
         panic!(rt; "there is memory")
     };

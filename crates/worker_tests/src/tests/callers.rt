@@ -9,7 +9,7 @@ use std::alloc::Global;
 use std::process::Abort;
 use studio_config::StudioSpec;
 use studio_io::MemorySink;
-use studio_run::{PlayFault, TraceKind};
+use studio_run::{PlayFault, TraceFaultKind};
 
 pub(super) const TRACE: &str = "tick 0\n\
     a 0 806000010000000000000001000001000002000003000004000005000006\n\
@@ -84,7 +84,7 @@ fn the_first_fault_of_arrivals_is_told(rt: HostRuntime) {
 }
 
 /// Where a trace has a fault, and which.
-fn trace_fault(alloc: Global, studio: &StudioSpec, trace: &[u8]) -> Option<(u32, TraceKind)> {
+fn trace_fault(alloc: Global, studio: &StudioSpec, trace: &[u8]) -> Option<(u32, TraceFaultKind)> {
     match report_trace(alloc, studio, trace) {
         Err(PlayFault::Trace(fault)) => Some((fault.line, fault.kind)),
         _ => None,
@@ -101,7 +101,7 @@ fn a_trace_in_memory_has_its_report(rt: HostRuntime) {
     };
     assert!(rt; report.as_slice() == REPORT.as_bytes());
     let fault = trace_fault(alloc, &studio, b"tick 0\ntock\n");
-    assert!(rt; fault == Some((2, TraceKind::Word)));
+    assert!(rt; fault == Some((2, TraceFaultKind::Word)));
 }
 
 /// The same for each of so many paths.

@@ -1,7 +1,7 @@
 //! A feed and a sink that fail, and a rest that is none.
 ghost use Rattle.std.specs.Prelude.{[], map, Some};
 
-use engine_run::Rest;
+use engine_run::IdleWait;
 use std::alloc::Global;
 use std::process::Abort;
 use studio_engine::Engine;
@@ -83,8 +83,8 @@ impl<'a, R: Abort> Sink for FailingSink<'a, R> {
 #[derive(Clone, Copy)]
 pub(super) struct NoRest;
 
-impl Rest for NoRest {
-    fn rest(&mut self, _engine: &Engine, _most: i64) -> bool {
+impl IdleWait for NoRest {
+    fn wait_for_input(&mut self, _engine: &Engine, _most: i64) -> bool {
         true
     }
 }

@@ -6,7 +6,7 @@ use super::callers::{REPORT, TRACE, arrival, both_packets, on_paths, path};
 use super::fakes::NoRest;
 use super::packets::{FIRST, SECOND};
 use super::workers::one_stream;
-use engine_run::{Quiet, run_alone};
+use engine_run::{NoObserver, run_engine};
 use engine_tests::small_studios::stream;
 use example_callers::{
     Arrival, ReceiveFault, RunFault, receive_stream, report_trace, run_in_threads,
@@ -142,7 +142,7 @@ fn is_run_alone<R: Wait + Abort>(
         return false;
     };
     let (clock, sink) = (MemoryClock::new(&[0]), MemorySink::new(alloc));
-    match run_alone(rt, alloc, studio, feeds, clock, sink, Quiet, NoRest) {
+    match run_engine(rt, alloc, studio, feeds, clock, sink, NoObserver, NoRest) {
         Ok((report, sink, _)) => {
             kept_or_told(rt, &report, &sink);
             true

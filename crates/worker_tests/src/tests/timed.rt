@@ -1,7 +1,7 @@
 //! A clock, a feed, a sink and a rest that share a time, which moves on only by the rests.
 ghost use Rattle.std.specs.Prelude.{[], None};
 
-use engine_run::Rest;
+use engine_run::IdleWait;
 use std::sync::atomic::{AtomicI64, Ordering};
 use studio_engine::Engine;
 use studio_io::MemoryFeed;
@@ -27,8 +27,8 @@ pub(super) struct WholeRest<'a> {
     pub(super) time: &'a AtomicI64,
 }
 
-impl Rest for WholeRest<'_> {
-    fn rest(&mut self, _engine: &Engine, most: i64) -> bool {
+impl IdleWait for WholeRest<'_> {
+    fn wait_for_input(&mut self, _engine: &Engine, most: i64) -> bool {
         let now = self.time.load(Ordering::SeqCst);
         self.time.store(now.saturating_add(most), Ordering::SeqCst);
         false

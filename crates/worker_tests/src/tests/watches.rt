@@ -3,7 +3,7 @@ use super::packets::{FIRST, SECOND};
 use super::rings::{MEDIA, studio_of};
 use std::alloc::Global;
 use std::process::Abort;
-use studio_ends::{Ends, MixEnd, Offer, Watches, open_watched};
+use studio_ends::{Ends, MixEnd, Offer, StatsReceivers, open_with_stats};
 
 /// What is done with the ends of one stream on two paths, and what its watches have to tell.
 #[derive(Clone, Copy)]
@@ -52,12 +52,12 @@ const STEPS: [Step; 24] = [
     Step::Output(None),
 ];
 
-fn told_of_path(watches: &mut Watches, path: usize) -> Option<(u64, u64)> {
+fn told_of_path(watches: &mut StatsReceivers, path: usize) -> Option<(u64, u64)> {
     let counts = watches.paths.get_mut(path)?.latest()?;
     Some((counts.offered, counts.sent))
 }
 
-fn told_of_stream(watches: &mut Watches) -> Option<[(u64, u64); 2]> {
+fn told_of_stream(watches: &mut StatsReceivers) -> Option<[(u64, u64); 2]> {
     let numbers = watches.streams.first_mut()?.latest()?;
     let [a, b, _, _] = numbers.paths;
     Some([
@@ -66,7 +66,7 @@ fn told_of_stream(watches: &mut Watches) -> Option<[(u64, u64); 2]> {
     ])
 }
 
-fn told_of_output(watches: &mut Watches) -> Option<(u64, u32)> {
+fn told_of_output(watches: &mut StatsReceivers) -> Option<(u64, u32)> {
     let numbers = watches.mix.as_mut()?.latest()?;
     Some((*numbers.saturated.first()?, *numbers.peaks.first()?))
 }
@@ -92,7 +92,7 @@ fn gives(mix: &mut MixEnd) -> bool {
 }
 
 /// Whether what came of a step is what had to.
-fn is_as_told(ends: &mut Ends, watches: &mut Watches, step: Step) -> bool {
+fn is_as_told(ends: &mut Ends, watches: &mut StatsReceivers, step: Step) -> bool {
     match step {
         Step::Send(path, packet) => sends(ends, path, packet),
         Step::Path(path, want) => told_of_path(watches, path) == want,
@@ -104,9 +104,9 @@ fn is_as_told(ends: &mut Ends, watches: &mut Watches, step: Step) -> bool {
 }
 
 /// The ends and watches of that stream.
-fn watched(rt: &impl Abort, alloc: Global) -> (Ends, Watches) {
+fn watched(rt: &impl Abort, alloc: Global) -> (Ends, StatsReceivers) {
     let studio = studio_of(rt, alloc, MEDIA, 8);
-    match open_watched(alloc, &studio, 4) {
+    match open_with_stats(alloc, &studio, 4) {
         Ok(both) => both,
         Err(_) => { panic!(rt; "there is memory") }
     }

@@ -1,5 +1,5 @@
 use Rattle.std.proofs.Common.{◌≡◌, ◌<◌, length, subst, ◌∙◌, arith}
-use Rattle.engine_run.specs.Takes.{TakesAll}
+use Rattle.engine_run.specs.Intake.{TakesAll}
 use Rattle.engine_run.proofs.TakeLemmas.{all-more, all-none}
 use Rattle.engine_run.proofs.intake.take_all.Goals as goal
 
@@ -27,4 +27,4 @@ pub returns : goal.returns
 returns g c = λ studio events datagrams s.
     let end = c.loop-stream.auto.stream-end in
     let all : c.loop-stream.stream ≡ length c.args.streams.now = omega (arith, c.loop-stream-test.false, end) in
-    subst (λ n. TakesAll g.F.Feed.told studio c.loop-stream.engine events datagrams c.args.streams.now c.loop-stream.streams (g.T.Tap.heard c.args.tap.now) (g.T.Tap.heard c.loop-stream.tap) n) all (c.loop-stream.invariant.takes studio events datagrams s)
+    subst (λ n. TakesAll g.F.Feed.told studio c.loop-stream.engine events datagrams c.args.streams.now c.loop-stream.streams (g.T.RunObserver.heard c.args.tap.now) (g.T.RunObserver.heard c.loop-stream.tap) n) all (c.loop-stream.invariant.takes studio events datagrams s)

@@ -2,7 +2,7 @@ use Rattle.std.proofs.Common.{◌≡◌, ℕ, List, length}
 use Rattle.studio_config.specs.Studio.{Studio}
 use Rattle.studio_session.specs.Event.{TraceEvent}
 use Rattle.studio_engine.specs.Session.{HasSession}
-use Rattle.engine_run.specs.Takes.{TakesAll}
+use Rattle.engine_run.specs.Intake.{TakesAll}
 use Rattle.engine_run.proofs.intake.take_all.Given as goal
 
 -- the streams so far
@@ -10,5 +10,5 @@ abbrev pub invariant-loop-stream : goal.invariant-loop-stream
 invariant-loop-stream g l = record {
   room : length l.buf ≡ 2048;
   takes : (studio : Studio) (events : List TraceEvent) (datagrams : List (List ℕ)) → HasSession studio l.fn.engine events datagrams
-      → TakesAll g.F.Feed.told studio l.engine events datagrams l.fn.streams l.streams (g.T.Tap.heard l.fn.tap) (g.T.Tap.heard l.tap) l.stream;
+      → TakesAll g.F.Feed.told studio l.engine events datagrams l.fn.streams l.streams (g.T.RunObserver.heard l.fn.tap) (g.T.RunObserver.heard l.tap) l.stream;
 }

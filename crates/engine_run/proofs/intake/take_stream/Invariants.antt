@@ -2,7 +2,7 @@ use Rattle.std.proofs.Common.{◌≡◌, ℕ, List, length}
 use Rattle.studio_config.specs.Studio.{Studio}
 use Rattle.studio_session.specs.Event.{TraceEvent}
 use Rattle.studio_engine.specs.Session.{HasSession}
-use Rattle.engine_run.specs.Takes.{TakesStream}
+use Rattle.engine_run.specs.Intake.{TakesStream}
 use Rattle.engine_run.proofs.intake.take_stream.Given as goal
 
 -- the feeds so far
@@ -10,5 +10,5 @@ abbrev pub invariant-loop-number : goal.invariant-loop-number
 invariant-loop-number g l = record {
   room : length l.buf ≡ 2048;
   takes : (studio : Studio) (events : List TraceEvent) (datagrams : List (List ℕ)) → HasSession studio l.fn.engine events datagrams
-      → TakesStream g.F.Feed.told studio l.engine events datagrams l.stream l.fn.takers l.takers (g.T.Tap.heard l.fn.tap) (g.T.Tap.heard l.tap) l.number;
+      → TakesStream g.F.Feed.told studio l.engine events datagrams l.stream l.fn.readers l.readers (g.T.RunObserver.heard l.fn.tap) (g.T.RunObserver.heard l.tap) l.number;
 }

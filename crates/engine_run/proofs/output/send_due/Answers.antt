@@ -3,7 +3,7 @@ use Rattle.std.proofs.lemmas.Int.{to_z-of_z}
 use Rattle.mix_packets.specs.OutSpec.{datagram_length}
 use Rattle.studio_engine.specs.Session.{Gives, HasGivenReady, turned}
 use Rattle.studio_engine.proofs.EngineLemmas.{turned_same}
-use Rattle.engine_run.specs.Sends.{HasSent}
+use Rattle.engine_run.specs.Output.{HasSent}
 use Rattle.engine_run.proofs.SendLemmas.{sent_more, sent_none, time_twice, turned_twice}
 use Rattle.engine_run.proofs.output.send_due.Goals as goal
 

@@ -4,7 +4,7 @@ use Rattle.studio_config.specs.Studio.{Studio}
 use Rattle.studio_session.specs.Event.{TraceEvent}
 use Rattle.studio_session.specs.Run.{blocks_left}
 use Rattle.studio_engine.specs.Session.{HasSession, turned}
-use Rattle.engine_run.specs.Sends.{HasSent}
+use Rattle.engine_run.specs.Output.{HasSent}
 use Rattle.engine_run.proofs.output.send_due.Given as goal
 
 -- the datagrams so far were sent

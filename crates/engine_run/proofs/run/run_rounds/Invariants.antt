@@ -2,7 +2,7 @@ use Rattle.std.proofs.Common.{◌≡◌, ℕ, ℤ, List, Option, length}
 use Rattle.studio_config.specs.Studio.{Studio}
 use Rattle.studio_io.specs.Answers.{Answer}
 use Rattle.engine_run.specs.Runs.{IsUnderWay}
-use Rattle.engine_run.specs.Taps.{Heard}
+use Rattle.engine_run.specs.Observers.{Heard}
 use Rattle.engine_run.proofs.run.run_rounds.Given as goal
 
 -- the run goes on
@@ -10,6 +10,6 @@ abbrev pub invariant-loop : goal.invariant-loop
 invariant-loop g l = record {
   room : length l.buf ≡ 2048;
   on : (studio : Studio) (all : List (List (List Answer))) (clock : List ℤ) (before : Option (List (List ℕ))) (earlier : Option (List Heard))
-      → IsUnderWay g.F.Feed.told g.C.Clock.told g.K.Sink.handed g.T.Tap.heard studio all clock before earlier l.initial.desk
-      → IsUnderWay g.F.Feed.told g.C.Clock.told g.K.Sink.handed g.T.Tap.heard studio all clock before earlier l.desk;
+      → IsUnderWay g.F.Feed.told g.C.Clock.told g.K.Sink.handed g.T.RunObserver.heard studio all clock before earlier l.initial.state
+      → IsUnderWay g.F.Feed.told g.C.Clock.told g.K.Sink.handed g.T.RunObserver.heard studio all clock before earlier l.state;
 }

@@ -1,4 +1,4 @@
-use Rattle.live_status.specs.Seen.{IsFirstSeenOf}
+use Rattle.live_status.specs.StreamStatus.{IsFirstSeenOf}
 use Rattle.live_status.proofs.Each.{IsBegun}
 use Rattle.live_status.proofs.names.all_seen.Given as goal
 

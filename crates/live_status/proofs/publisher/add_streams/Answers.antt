@@ -1,7 +1,7 @@
 use Rattle.std.proofs.Common.{◌≡◌, ◌∷◌, [], ◌++◌, ◌+◌, List, length, sym, refl, subst, arith}
 use Rattle.std.proofs.lemmas.Option.{slice_get_read}
 use Rattle.status_page.specs.declared.snapshot.StreamState.{StreamState}
-use Rattle.live_status.specs.Seen.{IsBlankOf}
+use Rattle.live_status.specs.StreamStatus.{IsBlankOf}
 use Rattle.live_status.proofs.Each.{IsBegun, begun-push, begun-all, where_ok}
 use Rattle.live_status.proofs.publisher.add_streams.Goals as goal
 

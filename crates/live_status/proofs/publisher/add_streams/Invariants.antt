@@ -1,5 +1,5 @@
 use Rattle.std.proofs.Common.{◌≡◌, ◌≤◌, length}
-use Rattle.live_status.specs.Seen.{IsBlankOf}
+use Rattle.live_status.specs.StreamStatus.{IsBlankOf}
 use Rattle.live_status.proofs.Each.{IsBegun}
 use Rattle.live_status.proofs.publisher.add_streams.Given as goal
 

@@ -1,4 +1,4 @@
-use Rattle.path_merge.proofs.KeepUpLemmas.{keep_up}
+use Rattle.path_merge.proofs.ClockLagLemmas.{keep_up}
 use Rattle.path_merge.proofs.LentLemmas.{lent_is_due}
 use Rattle.path_merge.proofs.laws.marks_keep_up_with_the_clock.Goals as goal
 

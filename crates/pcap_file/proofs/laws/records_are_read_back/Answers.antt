@@ -1,4 +1,4 @@
-use Rattle.pcap_file.proofs.RecordLemmas.{closed_entries, closed_packets, open_entries, open_packets}
+use Rattle.pcap_file.proofs.WrittenRecordLemmas.{closed_entries, closed_packets, open_entries, open_packets}
 use Rattle.pcap_file.proofs.laws.records_are_read_back.Goals as goal
 
 pub returns : goal.returns

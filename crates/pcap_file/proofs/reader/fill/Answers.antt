@@ -3,5 +3,5 @@ use Rattle.pcap_file.proofs.reader.fill.Goals as goal
 
 pub reads-preserved : goal.reads-preserved
 reads-preserved g c = record {
-  told = λ file entries told. told_more file entries _ _ _ _ _ _ _ (c.reads.invariant.told file entries told) c.in_ok-read_on.ensures.ok;
+  told = λ file entries told. told_more file entries _ _ _ _ _ _ _ (c.reads.invariant.told file entries told) c.in_ok-read_more.ensures.ok;
 }

@@ -1,6 +1,6 @@
 use Rattle.std.proofs.Common.{ℕ, List}
 use Rattle.pcap_file.specs.Entries.{Entry}
-use Rattle.pcap_file.specs.Window.{octets_of}
+use Rattle.pcap_file.specs.ReadBuffer.{octets_of}
 use Rattle.pcap_file.specs.Reader.{HasTold}
 use Rattle.pcap_file.proofs.reader.fill.Given as goal
 

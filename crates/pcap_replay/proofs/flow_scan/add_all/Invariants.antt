@@ -1,7 +1,7 @@
 use Rattle.std.proofs.Common.{◌≡◌, ℕ, List, map, Ok}
 use Rattle.pcap_file.specs.Entries.{Entry}
-use Rattle.pcap_flows.specs.Table.{no_table, table_after, table_view}
-use Rattle.pcap_file.specs.Window.{octets_of}
+use Rattle.pcap_flows.specs.FlowTable.{no_table, table_after, table_view}
+use Rattle.pcap_file.specs.ReadBuffer.{octets_of}
 use Rattle.pcap_file.specs.Reader.{HasTold, packets_among}
 use Rattle.pcap_replay.specs.Flows.{HasTable}
 use Rattle.pcap_replay.proofs.flow_scan.add_all.Given as goal

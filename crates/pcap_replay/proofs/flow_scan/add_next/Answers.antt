@@ -1,4 +1,4 @@
-use Rattle.pcap_flows.specs.Table.{table_view}
+use Rattle.pcap_flows.specs.FlowTable.{table_view}
 use Rattle.pcap_replay.proofs.FlowLemmas.{seen_fault}
 use Rattle.pcap_replay.proofs.flow_scan.add_next.Goals as goal
 

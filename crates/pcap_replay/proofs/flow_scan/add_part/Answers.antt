@@ -2,7 +2,7 @@ use Rattle.std.proofs.Common.{◌≡◌, ◌++◌, map, option_map, Ok, sym, sub
 use Rattle.pcap_file.specs.Entries.{entries_in}
 use Rattle.pcap_file.specs.Packet.{packet_view}
 use Rattle.pcap_file.specs.Reader.{packets_among}
-use Rattle.pcap_flows.specs.Table.{no_table, table_after, table_view}
+use Rattle.pcap_flows.specs.FlowTable.{no_table, table_after, table_view}
 use Rattle.pcap_replay.proofs.CaseLemmas.{ok_then}
 use Rattle.pcap_replay.proofs.FlowLemmas.{seen_part, seen_same}
 use Rattle.pcap_replay.proofs.flow_scan.add_part.Goals as goal

@@ -1,4 +1,4 @@
-use Rattle.pcap_replay.proofs.RecordedLemmas.{run_said}
+use Rattle.pcap_replay.proofs.RecordPacketsLemmas.{run_said}
 use Rattle.pcap_replay.proofs.laws.a_record_says_its_run.Goals as goal
 
 pub returns : goal.returns

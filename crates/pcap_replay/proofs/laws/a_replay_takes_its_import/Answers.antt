@@ -1,4 +1,4 @@
-use Rattle.pcap_replay.proofs.ImportedLemmas.{import_said}
+use Rattle.pcap_replay.proofs.ImportLinesLemmas.{import_said}
 use Rattle.pcap_replay.proofs.laws.a_replay_takes_its_import.Goals as goal
 
 pub returns : goal.returns

@@ -1,5 +1,5 @@
 use Rattle.std.proofs.Common.{[], ℕ, List}
-use Rattle.pcap_file.specs.Window.{octets_of}
+use Rattle.pcap_file.specs.ReadBuffer.{octets_of}
 use Rattle.pcap_file.specs.Reader.{HasTold}
 use Rattle.pcap_replay.proofs.record_times.find_opening.Given as goal
 

@@ -1,7 +1,7 @@
 use Rattle.std.proofs.Common.{◌≡◌, ◌+◌, ◌-◌, ◌∙◌, ℕ, Some, length, drop, slice_get, refl, ap, sym, arith}
 use Rattle.std.proofs.lemmas.Option.{slice_get-get_or}
-use Rattle.pcap_replay.specs.Plan.{path_at}
-use Rattle.pcap_replay.proofs.PlanLemmas.{path_here, path_on, path_past}
+use Rattle.pcap_replay.specs.Routing.{path_at}
+use Rattle.pcap_replay.proofs.RoutingLemmas.{path_here, path_on, path_past}
 use Rattle.pcap_replay.proofs.routing.path_at.Goals as goal
 
 pub loop-number-init : goal.loop-number-init

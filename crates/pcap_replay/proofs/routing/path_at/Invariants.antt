@@ -1,5 +1,5 @@
 use Rattle.std.proofs.Common.{◌≡◌, ◌≤◌, drop, length}
-use Rattle.pcap_replay.specs.Plan.{path_at}
+use Rattle.pcap_replay.specs.Routing.{path_at}
 use Rattle.pcap_replay.proofs.routing.path_at.Given as goal
 
 -- the path is that at what is left, among those of the streams that are left

@@ -3,7 +3,7 @@ use Rattle.studio_run.specs.Trace.{trace_events}
 use Rattle.studio_run.specs.Play.{StopsAt}
 use Rattle.studio_run.specs.StudioReport.{IsReport}
 use Rattle.studio_run.proofs.PlayLemmas.{fails_before, fails_read, fails_reading}
-use Rattle.reception_chart.proofs.PictureLemmas.{fails_early}
+use Rattle.reception_chart.proofs.ChartLemmas.{fails_early}
 use Rattle.reception_chart.proofs.render.chart.Goals as goal
 
 pub returns-in_err-trace-clause-fault : goal.returns-in_err-trace-clause-fault

@@ -1,5 +1,5 @@
 use Rattle.std.proofs.Common.{◌≡◌, ◌≤◌, replicate, vec_capacity}
-use Rattle.rtp_stats.specs.Entry.{empty_entry}
+use Rattle.rtp_stats.specs.WindowCopies.{empty_entry}
 use Rattle.rtp_stats.proofs.tally.new_entries.Given as goal
 
 abbrev pub invariant-loop : goal.invariant-loop

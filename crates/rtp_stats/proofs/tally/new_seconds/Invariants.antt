@@ -1,5 +1,5 @@
 use Rattle.std.proofs.Common.{◌≤◌, vec_capacity}
-use Rattle.rtp_stats.specs.Second.{AreNewSeconds}
+use Rattle.rtp_stats.specs.MarginSecond.{AreNewSeconds}
 use Rattle.rtp_stats.proofs.tally.new_seconds.Given as goal
 
 abbrev pub invariant-loop-place : goal.invariant-loop-place

@@ -1,9 +1,9 @@
 use Rattle.std.proofs.Common.{arith, ◌≡◌, ◌∙◌, sym, ap, length, ◌++◌, if◌then◌else◌, length-append}
 use Rattle.std.specs.Option.{option_to_list}
 use Rattle.rtrb.specs.Ring.{sent}
-use Rattle.path_merge.specs.Next.{next_left}
+use Rattle.path_merge.specs.NextMark.{next_left}
 use Rattle.path_merge.proofs.GoalLemmas.{given_all}
-use Rattle.studio_ends.specs.Turns.{DrainsMarks}
+use Rattle.studio_ends.specs.StreamTurns.{DrainsMarks}
 use Rattle.studio_ends.proofs.DrainLemmas.{drained-none, drained-more}
 use Rattle.studio_ends.proofs.RoomRingLemmas.{roomy_on}
 use Rattle.studio_ends.proofs.TurnLemmas.{producers}

@@ -1,6 +1,6 @@
 use Rattle.std.proofs.Common.{◌≡◌, ◌+◌, length}
 use Rattle.rtrb.specs.Ring.{sent}
-use Rattle.studio_ends.specs.Turns.{DrainsMarks}
+use Rattle.studio_ends.specs.StreamTurns.{DrainsMarks}
 use Rattle.studio_ends.proofs.drain.drain_marks.Given as goal
 
 abbrev pub invariant-loop : goal.invariant-loop

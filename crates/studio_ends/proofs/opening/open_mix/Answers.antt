@@ -1,6 +1,6 @@
 use Rattle.std.proofs.Common.{rules, ◌≡◌, ◌∙◌, ◌<◌, arith, length, vec_len, refl, subst, sym}
 use Rattle.mix_packets.specs.declared.out_spec.Output.{Output}
-use Rattle.studio_ends.specs.Told.{Measures}
+use Rattle.studio_ends.specs.Stats.{Measures}
 use Rattle.studio_ends.proofs.DatagramLemmas.{given-fresh}
 use Rattle.studio_ends.proofs.OpenLemmas.{feeds-unread, lanes_count, unread_count}
 use Rattle.studio_ends.proofs.opening.open_mix.Goals as goal

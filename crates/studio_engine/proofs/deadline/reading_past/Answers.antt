@@ -8,11 +8,11 @@ use Rattle.studio_engine.proofs.deadline.reading_past.Goals as goal
 
 pub returns-in-Some-clause-never : goal.returns-in-Some-clause-never
 returns-in-Some-clause-never c = λ none studio events next rest.
-    let reading = c.latest_past-reading.result in
+    let reading = c.latest_reading-reading.result in
     let time = to_z w64 (of_z w64 c.args.time) in
     let fits : FitsSigned w64 reading = search rules in
     let same : to_z w64 (of_z w64 reading) ≡ reading = to_z-of_z w64 reading fits in
     let is : clock_fault_of time false reading ≡ Some c.in-Some.field-0 = ap (clock_fault_of time false) (sym same) ∙ sym c.clock_fault.ensures ∙ c.in-Some.is in
-    let far : pos (2 ^ 60 + 1) ≤ℤ reading = too_far time reading c.in-Some.field-0 c.latest_past-reading.ensures.later is in
+    let far : pos (2 ^ 60 + 1) ≤ℤ reading = too_far time reading c.in-Some.field-0 c.latest_reading-reading.ensures.later is in
     unready_sooner studio events next reading (pos (2 ^ 60 + 1)) far
-    (c.latest_past-reading.ensures.before studio events next (subst (λ t. IsAtRest studio events c.args.mixer.now c.args.cursors.now t next) (sym (to_z-of_z w64 c.args.time c.ranges.time)) rest))
+    (c.latest_reading-reading.ensures.before studio events next (subst (λ t. IsAtRest studio events c.args.mixer.now c.args.cursors.now t next) (sym (to_z-of_z w64 c.args.time c.ranges.time)) rest))

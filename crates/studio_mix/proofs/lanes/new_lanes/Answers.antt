@@ -13,7 +13,7 @@ loop-stream-preserved c =
     let start = to_z-of_z w64 c.args.start c.ranges.start in
     let new : HasFeed c.stream-item.result (to_z w64 (of_z w64 c.args.start)) c.args.block c.in_ok-lane.lane [] (to_z w64 (of_z w64 c.args.start)) = c.in_ok-lane.ensures.stands in
     subst (λ l. AreNew (to_z w64 (of_z w64 c.args.start)) c.args.block c.args.lag c.args.streams.now l (c.loop-stream.stream-index + 1)) (sym c.in_ok-push.ensures.items)
-    (new_more (to_z w64 (of_z w64 c.args.start)) c.args.block c.args.lag c.args.streams.now c.loop-stream.lanes.items c.loop-stream.stream-index c.stream-item.result c.in_ok-lane.lane c.loop-stream.invariant c.loop-stream-test.true c.stream-item.is new (c.in_ok-lane.ensures.room ∙ c.room_beside-room.ensures.value)
+    (new_more (to_z w64 (of_z w64 c.args.start)) c.args.block c.args.lag c.args.streams.now c.loop-stream.lanes.items c.loop-stream.stream-index c.stream-item.result c.in_ok-lane.lane c.loop-stream.invariant c.loop-stream-test.true c.stream-item.is new (c.in_ok-lane.ensures.room ∙ c.capacity_for-room.ensures.value)
     (subst (λ (g : Format). 0 < g.channels) f.value f.some) (subst (λ (g : Format). g.channels ≤ 64) f.value f.few))
 
 pub returns-clause-fed : goal.returns-clause-fed

@@ -1,7 +1,7 @@
 use Rattle.std.proofs.Common.{◌≡◌, ◌+◌, ◌++◌, vec_len, vec_capacity}
 use Rattle.std.specs.Vec.Iter.{into_iter_items, into_iter_len}
 use Rattle.studio_rings.specs.Jobs.{feeds_in}
-use Rattle.studio_rings.specs.WorkersStreams.{ends_of}
+use Rattle.studio_rings.specs.StreamWorkers.{ends_of}
 use Rattle.studio_rings.proofs.jobs.next_paths.Given as goal
 
 abbrev pub invariant-loop : goal.invariant-loop

@@ -4,7 +4,7 @@ use Rattle.rtp_stream.specs.declared.stream_spec.Stream.{Stream}
 use Rattle.studio_ends.specs.declared.stream_end.StreamEnd.{StreamEnd}
 use Rattle.studio_rings.specs.declared.path_job.PathJob.{PathJob}
 use Rattle.studio_rings.specs.Jobs.{HaveRoom, feeds_in}
-use Rattle.studio_rings.specs.WorkersStreams.{ends_of}
+use Rattle.studio_rings.specs.StreamWorkers.{ends_of}
 use Rattle.studio_rings.specs.declared.stream_job.StreamJob.{StreamJob}
 use Rattle.studio_rings.proofs.HandLemmas.{no_items}
 use Rattle.studio_rings.proofs.JobLemmas.{AreSomeFresh, MakesJobs, enough, fresh-left, makes-all, makes-one, map_length, none_fresh, room-more}

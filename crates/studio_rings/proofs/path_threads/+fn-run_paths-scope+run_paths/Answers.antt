@@ -1,5 +1,5 @@
 use Rattle.std.proofs.Common.{rules, [], ◌∷◌, ◌++◌, arith, sym, ap, ◌∙◌, append-nil, append_assoc}
-use Rattle.studio_rings.specs.Paths.{IsPathResult}
+use Rattle.studio_rings.specs.PathWorkers.{IsPathResult}
 use Rattle.studio_rings.proofs.ZipLemmas.{zip-none, zip-snoc}
 use Rattle.studio_rings.proofs.path_threads.+fn-run_paths-scope+run_paths.Goals as goal
 

@@ -5,7 +5,7 @@ use Rattle.studio_rings.specs.MixWorker.{Mixes}
 use Rattle.studio_rings.specs.StreamTokens.{AllGiveTokens, AreTokensOf, AreTold}
 use Rattle.studio_rings.proofs.StreamTokenLemmas.{tokens-opened}
 use Rattle.studio_rings.specs.StreamResults.{counts_in, dones_in}
-use Rattle.studio_rings.specs.WorkersStreams.{IsStreamResult}
+use Rattle.studio_rings.specs.StreamWorkers.{IsStreamResult}
 use Rattle.studio_rings.proofs.HandLemmas.{no_items}
 use Rattle.studio_rings.proofs.RunLemmas.{faults-of-feeds, jobs-ready, settled-run, tokens-for, zip_after}
 use Rattle.studio_rings.proofs.run.run_workers.Goals as goal
@@ -15,8 +15,8 @@ run_streams-requires-clause-ready g c κs within =
     let o = c.requires.opened in
     jobs-ready o.0.open_at o.1 o.0.streams c.args.ends.paths.items c.args.feeds.items c.args.clocks.items c.args.ends.streams.items c.in_ok-memory.memory.jobs.items o.2.open_high o.3.streams c.in_ok-memory.ensures.jobs.0 c.in_ok-memory.ensures.jobs.1
 
-pub take_apart-parts-requires-clause-faults : goal.take_apart-parts-requires-clause-faults
-take_apart-parts-requires-clause-faults g c =
+pub collect_results-parts-requires-clause-faults : goal.collect_results-parts-requires-clause-faults
+collect_results-parts-requires-clause-faults g c =
     let m = c.in_ok-memory.memory in
     let r = c.in-Ok.ensures.results in
     let results = c.in-Ok.results.items in
@@ -35,8 +35,8 @@ returns-clause-faults g c =
     let none : m.results.items ≡ [] = no_items m.results.items (let e = c.in_ok-memory.ensures.results.0 in let k = m.results.ok.0 in omega (arith, e, k)) in
     let zip : AllZip (IsStreamResult g.F.Feed.told g.C.Clock.told) m.jobs.items results = zip_after _ m.jobs.items m.results.items r.0 results none r.1 r.2 in
     let all = faults-of-feeds g.F.Feed.told g.C.Clock.told c.args.ends.paths.items c.args.feeds.items c.args.clocks.items c.args.ends.streams.items m.jobs.items results c.in_ok-memory.ensures.jobs.0 zip in
-    let numbers = c.take_apart-parts.ensures.faults in
-    let ok = c.take_apart-parts.result.feed_faults.ok.0 in
+    let numbers = c.collect_results-parts.ensures.faults in
+    let ok = c.collect_results-parts.result.feed_faults.ok.0 in
     ap (λ (l : Vec ℕ Global). length l.items) c.report.ensures.faults ∙ omega (arith, all, numbers, ok)
 
 pub report-requires : goal.report-requires
@@ -50,7 +50,7 @@ report-requires g c =
     let tokens : AreTokensOf (dones_in results) c.in-Ok.mixed.end.sides.items =
     tokens-opened o.1 c.args.ends.streams.items o.3.monitors c.args.ends.mix.sides.items c.in-Ok.mixed.end.sides.items (dones_in results) o.3.rings c.in-Ok.ensures.mixes.rings
     (tokens-for g.F.Feed.told g.C.Clock.told c.args.ends.paths.items c.args.feeds.items c.args.clocks.items c.args.ends.streams.items m.jobs.items results c.in_ok-memory.ensures.jobs.0 zip) in
-    record { tokens = subst (λ (l : List (Option StreamDone)). AreTokensOf l c.in-Ok.mixed.end.sides.items) (sym c.take_apart-parts.ensures.dones) tokens }
+    record { tokens = subst (λ (l : List (Option StreamDone)). AreTokensOf l c.in-Ok.mixed.end.sides.items) (sym c.collect_results-parts.ensures.dones) tokens }
 
 pub returns-clause-settled : goal.returns-clause-settled
 returns-clause-settled g c =
@@ -61,8 +61,8 @@ returns-clause-settled g c =
     let report = c.report.result.0 in
     let none : m.results.items ≡ [] = no_items m.results.items (let e = c.in_ok-memory.ensures.results.0 in let k = m.results.ok.0 in omega (arith, e, k)) in
     let zip : AllZip (IsStreamResult g.F.Feed.told g.C.Clock.told) m.jobs.items results = zip_after _ m.jobs.items m.results.items r.0 results none r.1 r.2 in
-    let dones : c.take_apart-parts.result.dones.items ≡ dones_in results = c.take_apart-parts.ensures.dones in
-    let streams : report.streams.items ≡ counts_in results = rw c.report.ensures.streams c.take_apart-parts.ensures.streams in
+    let dones : c.collect_results-parts.result.dones.items ≡ dones_in results = c.collect_results-parts.ensures.dones in
+    let streams : report.streams.items ≡ counts_in results = rw c.report.ensures.streams c.collect_results-parts.ensures.streams in
     let mixes : Mixes g.K.Sink.handed c.args.ends.mix c.args.sink 0 true mixed.end c.report.result.1 report.blocks = rw (c.report.ensures.sink, c.report.ensures.blocks) c.in-Ok.ensures.mixes in
     λ e studio places opened.
     settled-run g.F.Feed.told g.C.Clock.told g.K.Sink.handed studio places c.args.ends c.args.feeds.items c.args.clocks.items m.jobs.items results mixed.end c.args.sink c.report.result.1 report

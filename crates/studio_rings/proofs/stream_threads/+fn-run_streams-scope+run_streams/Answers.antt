@@ -1,6 +1,6 @@
 use Rattle.std.proofs.Common.{rules, ◌+◌, ◌<◌, ◌≤◌, length, vec_len, vec_capacity, [], ◌∷◌, ◌++◌, arith, sym, ap, ◌∙◌, append-nil, append_assoc}
 use Rattle.studio_rings.proofs.ZipLemmas.{zip-none, zip-snoc}
-use Rattle.studio_rings.specs.WorkersStreams.{IsStreamResult}
+use Rattle.studio_rings.specs.StreamWorkers.{IsStreamResult}
 use Rattle.studio_rings.proofs.stream_threads.+fn-run_streams-scope+run_streams.Goals as goal
 
 pub scope-returns : goal.scope-returns

@@ -9,5 +9,5 @@ returns-in-Err c = record {
   runs = tt;
   runnable = tt;
   paths = tt;
-  fault = subst (StopsAt c.args.spec.now c.args.trace.now) (sym c.stop_for.ensures) (stops_at_trace c.args.spec.now c.args.trace.now c.in-Err.fault c.in-Err.ensures.fault);
+  fault = subst (StopsAt c.args.spec.now c.args.trace.now) (sym c.play_fault.ensures) (stops_at_trace c.args.spec.now c.args.trace.now c.in-Err.fault c.in-Err.ensures.fault);
 }

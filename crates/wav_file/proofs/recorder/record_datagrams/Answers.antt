@@ -12,9 +12,9 @@ use Rattle.studio_session.specs.Play.{feeds_of}
 use Rattle.studio_mix.proofs.FirstBlockLemmas.{written_is}
 use Rattle.studio_run.specs.declared.player.PlayFault.TheVariants.{Write}
 use Rattle.wav_file.specs.declared.fault.FileFault.TheVariants.{Write as NotWritten}
-use Rattle.wav_file.specs.declared.fault.RecordFault.TheVariants.{Play, File}
+use Rattle.wav_file.specs.declared.fault.WavRunFault.TheVariants.{Play, File}
 use Rattle.wav_file.proofs.FrontLemmas.{front_of_line, front_of_more}
-use Rattle.wav_file.proofs.RecordingLemmas.{recorded_all, recording_more, recording_none}
+use Rattle.wav_file.proofs.MixWavLemmas.{recorded_all, recording_more, recording_none}
 use Rattle.wav_file.proofs.recorder.record_datagrams.Goals as goal
 
 abbrev state : WavFormat → ℕ → WavState

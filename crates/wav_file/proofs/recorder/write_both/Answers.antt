@@ -2,9 +2,9 @@ use Rattle.std.proofs.Common.{◌≡◌, Err, All, rules, sym, subst, length}
 use Rattle.studio_session.specs.Cursor.{IsReadyFor}
 use Rattle.studio_session.specs.Report.{ArePulled}
 use Rattle.studio_run.specs.declared.player.PlayFault.TheVariants.{Write}
-use Rattle.wav_file.specs.declared.fault.RecordFault.TheVariants.{Play}
+use Rattle.wav_file.specs.declared.fault.WavRunFault.TheVariants.{Play}
 use Rattle.wav_file.proofs.FrontLemmas.{front_of_counts, front_of_datagrams, front_of_rest}
-use Rattle.wav_file.proofs.RecordingLemmas.{both_whole}
+use Rattle.wav_file.proofs.MixWavLemmas.{both_whole}
 use Rattle.wav_file.proofs.recorder.write_both.Goals as goal
 
 pub write_counts-requires : goal.write_counts-requires

@@ -1,4 +1,4 @@
-use Rattle.wav_file.proofs.TrackLemmas.{taken_all, taken_next, taken_none}
+use Rattle.wav_file.proofs.StreamTrackLemmas.{taken_all, taken_next, taken_none}
 use Rattle.wav_file.proofs.stream_recorder.add_marks.Goals as goal
 
 pub events-init : goal.events-init

@@ -3,12 +3,12 @@ use Rattle.std.proofs.lemmas.Int.{ints}
 use Rattle.studio_session.specs.Cursor.{HasPulled, IsReadyFor}
 use Rattle.studio_session.specs.Play.{AreNew}
 use Rattle.studio_run.specs.declared.player.PlayFault.TheVariants.{Write}
-use Rattle.wav_file.specs.declared.fault.RecordFault.TheVariants.{Play}
-use Rattle.wav_file.proofs.ListingLemmas.{broken_listing, ready_for}
+use Rattle.wav_file.specs.declared.fault.WavRunFault.TheVariants.{Play}
+use Rattle.wav_file.proofs.StreamRunLemmas.{broken_listing, ready_for}
 use Rattle.wav_file.proofs.stream_wav.write_both.Goals as goal
 
-pub write_stream-requires-clause-ready : goal.write_stream-requires-clause-ready
-write_stream-requires-clause-ready g c =
+pub write_stream_wav-requires-clause-ready : goal.write_stream_wav-requires-clause-ready
+write_stream_wav-requires-clause-ready g c =
     let events = c.args.events.now in
     ready_for c.args.stream c.args.number (to_z w64 (of_z w64 c.open_at.result)) events c.in_ok-cursor.cursor c.in_ok-cursor.ensures.first
     (c.in_ok-cursor.ensures.stands events) (c.requires.paths.each c.args.number c.args.stream c.requires.is)
@@ -38,6 +38,6 @@ returns-clause-ok g c =
       listed = c.in_ok-write_whole_listing.ensures.ok spec c.requires.runnable new;
       made = g.M.File.Write.contents c.in_ok-file.file;
       empty = c.in_ok-file.ensures.empty;
-      file = c.in_ok-write_stream.ensures c.args.stream c.args.number spec.open_at (c.requires.runnable.each c.args.number c.args.stream c.requires.is)
+      file = c.in_ok-write_stream_wav.ensures c.args.stream c.args.number spec.open_at (c.requires.runnable.each c.args.number c.args.stream c.requires.is)
           (subst (λ t. HasPulled c.args.stream c.args.number t events c.in_ok-cursor.cursor 0) open_at (c.in_ok-cursor.ensures.stands events)) c.in_ok-file.ensures.empty;
     }

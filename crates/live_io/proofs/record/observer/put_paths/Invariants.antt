@@ -1,5 +1,5 @@
 use Rattle.std.proofs.Common.{◌≡◌, true}
-use Rattle.live_io.specs.Puts.{Sends, row_blocks}
+use Rattle.live_io.specs.RecordBlocks.{Sends, row_blocks}
 use Rattle.live_io.proofs.record.observer.put_paths.Given as goal
 
 -- the paths so far were described

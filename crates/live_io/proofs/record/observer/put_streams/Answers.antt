@@ -1,5 +1,5 @@
 use Rattle.std.proofs.Common.{◌<◌, length, subst, arith}
-use Rattle.live_io.specs.Puts.{Sends, row_blocks}
+use Rattle.live_io.specs.RecordBlocks.{Sends, row_blocks}
 use Rattle.live_io.proofs.PutLemmas.{describes_more}
 use Rattle.live_io.proofs.record.observer.put_streams.Goals as goal
 

@@ -10,27 +10,27 @@ use Rattle.path_merge.proofs.OpeningLemmas.{Opens, nothing_held, opening_is}
 use Rattle.path_merge.proofs.AnewLemmas.{restart_heard}
 use Rattle.path_merge.proofs.merge.Merge.offer_at.Goals as goal
 
-pub hear-requires-clause-off : goal.hear-requires-clause-off
-hear-requires-clause-off g c = c.is_off_place.ensures c.args.self.now.spec c.args.anchor c.args.self.now.base (packet_of c.args.packet.now) c.requires.place
+pub update_probation_of-requires-clause-off : goal.update_probation_of-requires-clause-off
+update_probation_of-requires-clause-off g c = c.is_off_place.ensures c.args.self.now.spec c.args.anchor c.args.self.now.base (packet_of c.args.packet.now) c.requires.place
 
 pub restart-requires-clause-nothing_held : goal.restart-requires-clause-nothing_held
 restart-requires-clause-nothing_held g c =
     let sound : IsSound c.args.self.now c.self.inside.next_media = subst (λ m. IsSound m c.self.inside.next_media) c.self.view_is c.self.invariant in
-    let opens : Opens c.args.self.now c.args.anchor (packet_of c.args.packet.now) c.in-Some.media = opening_is c.args.self.now c.args.anchor c.args.path (packet_of c.args.packet.now) c.in-Some.media (sym c.in-Some.is ∙ c.hear.ensures.opening) in
-    subst (λ (m : MergeState). IsEmpty m.held) (sym c.hear.ensures.step.changed) (nothing_held c.args.self.now c.self.inside.next_media c.args.anchor sound c.requires.anchored c.requires.open_yet opens.nothing)
+    let opens : Opens c.args.self.now c.args.anchor (packet_of c.args.packet.now) c.in-Some.media = opening_is c.args.self.now c.args.anchor c.args.path (packet_of c.args.packet.now) c.in-Some.media (sym c.in-Some.is ∙ c.update_probation_of.ensures.opening) in
+    subst (λ (m : MergeState). IsEmpty m.held) (sym c.update_probation_of.ensures.step.changed) (nothing_held c.args.self.now c.self.inside.next_media c.args.anchor sound c.requires.anchored c.requires.open_yet opens.nothing)
 
 pub restart-requires-clause-goes_on : goal.restart-requires-clause-goes_on
 restart-requires-clause-goes_on g c =
-    let opens : Opens c.args.self.now c.args.anchor (packet_of c.args.packet.now) c.in-Some.media = opening_is c.args.self.now c.args.anchor c.args.path (packet_of c.args.packet.now) c.in-Some.media (sym c.in-Some.is ∙ c.hear.ensures.opening) in
+    let opens : Opens c.args.self.now c.args.anchor (packet_of c.args.packet.now) c.in-Some.media = opening_is c.args.self.now c.args.anchor c.args.path (packet_of c.args.packet.now) c.in-Some.media (sym c.in-Some.is ∙ c.update_probation_of.ensures.opening) in
     let media_fits : FitsSigned w64 c.in-Some.media = search rules in
-    subst (λ (m : MergeState). is_restart_in_reach m.spec m.time (media_time_of m.spec c.args.anchor m.base) (to_z w64 (of_z w64 c.in-Some.media)) ≡ true) (sym c.hear.ensures.step.changed) (ap (is_restart_in_reach c.args.self.now.spec c.args.self.now.time (media_time_of c.args.self.now.spec c.args.anchor c.args.self.now.base)) (to_z-of_z w64 c.in-Some.media media_fits) ∙ opens.goes_on)
+    subst (λ (m : MergeState). is_restart_in_reach m.spec m.time (media_time_of m.spec c.args.anchor m.base) (to_z w64 (of_z w64 c.in-Some.media)) ≡ true) (sym c.update_probation_of.ensures.step.changed) (ap (is_restart_in_reach c.args.self.now.spec c.args.self.now.time (media_time_of c.args.self.now.spec c.args.anchor c.args.self.now.base)) (to_z-of_z w64 c.in-Some.media media_fits) ∙ opens.goes_on)
 
 pub restart-requires-clause-media : goal.restart-requires-clause-media
 restart-requires-clause-media g c =
-    let opens : Opens c.args.self.now c.args.anchor (packet_of c.args.packet.now) c.in-Some.media = opening_is c.args.self.now c.args.anchor c.args.path (packet_of c.args.packet.now) c.in-Some.media (sym c.in-Some.is ∙ c.hear.ensures.opening) in
+    let opens : Opens c.args.self.now c.args.anchor (packet_of c.args.packet.now) c.in-Some.media = opening_is c.args.self.now c.args.anchor c.args.path (packet_of c.args.packet.now) c.in-Some.media (sym c.in-Some.is ∙ c.update_probation_of.ensures.opening) in
     let media_fits : FitsSigned w64 c.in-Some.media = search rules in
-    subst (λ (m : MergeState). to_z w64 (of_z w64 c.in-Some.media) ≡ restart_media_time m.spec.clock (packet_of c.args.packet.now).ts m.time (media_time_of m.spec c.args.anchor m.base)) (sym c.hear.ensures.step.changed) (to_z-of_z w64 c.in-Some.media media_fits ∙ opens.media_is)
+    subst (λ (m : MergeState). to_z w64 (of_z w64 c.in-Some.media) ≡ restart_media_time m.spec.clock (packet_of c.args.packet.now).ts m.time (media_time_of m.spec c.args.anchor m.base)) (sym c.update_probation_of.ensures.step.changed) (to_z-of_z w64 c.in-Some.media media_fits ∙ opens.media_is)
 
 pub returns-in-Some-clause-restart : goal.returns-in-Some-clause-restart
 returns-in-Some-clause-restart g c = λ opens.
-    restart_heard c.args.self.now c.hear.new.self.probations c.restart.new.self c.args.anchor c.args.path (packet_of c.args.packet.now) Restarted (subst (λ (m : MergeState). IsRestartStep m.spec m c.restart.new.self c.args.anchor c.args.path (packet_of c.args.packet.now) Restarted) c.hear.ensures.step.changed c.restart.ensures)
+    restart_heard c.args.self.now c.update_probation_of.new.self.probations c.restart.new.self c.args.anchor c.args.path (packet_of c.args.packet.now) Restarted (subst (λ (m : MergeState). IsRestartStep m.spec m c.restart.new.self c.args.anchor c.args.path (packet_of c.args.packet.now) Restarted) c.update_probation_of.ensures.step.changed c.restart.ensures)

@@ -1,6 +1,6 @@
 use Rattle.std.proofs.Common.{◌≡◌, Some, None, w64, arith, ap, sym, subst, ◌∙◌, rules}
 use Rattle.std.proofs.lemmas.Int.{ints, to_z-of_z}
-use Rattle.path_merge.specs.Next.{anchor_due, quiet_next}
+use Rattle.path_merge.specs.NextMark.{anchor_due, quiet_next}
 use Rattle.path_merge.specs.Steps.{Advances, Moves}
 use Rattle.path_merge.proofs.SoundLemmas.{due_times}
 use Rattle.path_merge.proofs.AdvanceLemmas.{IsAtReading, advance_slot, advance_time}

@@ -1,6 +1,6 @@
 use Rattle.std.proofs.Common.{◌-◌, arith, ap, ◌∙◌}
 use Rattle.std.specs.Net.Addr.{ipv4_octets}
-use Rattle.pcap_file.specs.WritePacket.{carried, header_with}
+use Rattle.pcap_file.specs.IpHeader.{carried, header_with}
 use Rattle.pcap_file.proofs.PacketLemmas.{words_sum-header}
 use Rattle.pcap_file.proofs.encode.ip_header.checksum.Goals as goal
 

@@ -1,7 +1,7 @@
 use Rattle.std.proofs.Common.{◌≡◌, ◌+◌, ◌∷◌, [], ◌++◌, ℕ, List, length, ap, ◌∙◌}
 use Rattle.byteorder.specs.Endian.{big_bytes}
-use Rattle.pcap_file.specs.Arrival.{ArrivalView, arrival_view}
-use Rattle.pcap_file.specs.WritePacket.{checksum_of, header_octets, header_with}
+use Rattle.pcap_file.specs.RecordedDatagram.{ArrivalView, arrival_view}
+use Rattle.pcap_file.specs.IpHeader.{checksum_of, header_octets, header_with}
 use Rattle.pcap_file.proofs.PiecesLemmas.{before, piece}
 use Rattle.pcap_file.proofs.encode.ip_header.push_ipv4.Goals as goal
 

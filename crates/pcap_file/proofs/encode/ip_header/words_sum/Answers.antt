@@ -1,5 +1,5 @@
 use Rattle.std.proofs.Common.{arith, ap}
-use Rattle.pcap_file.specs.WritePacket.{words_sum}
+use Rattle.pcap_file.specs.IpHeader.{words_sum}
 use Rattle.pcap_file.proofs.PacketLemmas.{words_sum-four}
 use Rattle.pcap_file.proofs.encode.ip_header.words_sum.Goals as goal
 

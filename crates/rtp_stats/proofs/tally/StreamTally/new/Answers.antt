@@ -1,6 +1,6 @@
 use Rattle.std.proofs.Common.{refl, sym, subst, ◌∙◌, ap, replicate}
 use Rattle.std.specs.Prelude.{[]}
-use Rattle.rtp_stats.specs.Entry.{empty_entry}
+use Rattle.rtp_stats.specs.WindowCopies.{empty_entry}
 use Rattle.rtp_stats.specs.Tally.{HasEntries}
 use Rattle.rtp_stats.proofs.TallyLemmas.{counts_new, entries_new, seconds_new}
 use Rattle.rtp_stats.proofs.tally.StreamTally.new.Goals as goal

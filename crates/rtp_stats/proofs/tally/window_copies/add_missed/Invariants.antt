@@ -1,6 +1,6 @@
 use Rattle.std.proofs.Common.{◌≡◌, ℕ, ◌+◌, ◌<◌, ◌≤◌, length, if◌then◌else◌}
 use Rattle.std.specs.Prelude.{slice_index}
-use Rattle.rtp_stats.specs.Entry.{misses}
+use Rattle.rtp_stats.specs.WindowCopies.{misses}
 use Rattle.rtp_stats.specs.Offers.{count_in_64_bits}
 use Rattle.rtp_stats.proofs.tally.window_copies.add_missed.Given as goal
 

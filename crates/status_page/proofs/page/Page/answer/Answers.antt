@@ -1,4 +1,4 @@
-use Rattle.status_page.proofs.AnsweredLemmas.{chain_answers}
+use Rattle.status_page.proofs.ConnectionsLemmas.{chain_answers}
 use Rattle.status_page.proofs.page.Page.answer.Goals as goal
 
 pub returns-clause-answers : goal.returns-clause-answers

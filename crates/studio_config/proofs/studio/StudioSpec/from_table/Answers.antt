@@ -10,7 +10,7 @@ use Rattle.studio_config.specs.NetworkTable.{senders_of}
 use Rattle.studio_config.specs.StreamTable.{stream_of, stream_fault}
 use Rattle.studio_config.specs.OutputTable.{output_of, schedule_of, each_fault, output_fault}
 use Rattle.studio_config.specs.Config.{streams_of, port_table, bind_table, sender_table}
-use Rattle.studio_config.specs.declared.config.fault.Place.TheVariants as at
+use Rattle.studio_config.specs.declared.config.fault.ConfigTable.TheVariants as at
 use Rattle.studio_config.specs.declared.config.keys.Key.TheVariants as key
 use Rattle.studio_config.proofs.FaultLemmas.{top_fault-none, config_fault-output, config_fault-open_at, config_fault-tables, config_fault-output_table, config_fault-unknown}
 use Rattle.studio_config.proofs.studio.StudioSpec.from_table.Goals as goal

@@ -10,14 +10,14 @@ off true e = sym e
 off false e = refl
 
 pub returns-clause-stands : goal.returns-clause-stands
-returns-clause-stands c = λ studio number h. subst (λ feeds. HasFeeds studio c.args.self.now.mixer feeds number) (sym (feeds-looked _ _ _ c.look_at_streams.ensures.looked)) h
+returns-clause-stands c = λ studio number h. subst (λ feeds. HasFeeds studio c.args.self.now.mixer feeds number) (sym (feeds-looked _ _ _ c.any_stream_open.ensures.looked)) h
 
 pub returns-clause-given : goal.returns-clause-given
-returns-clause-given c = λ studio datagrams h. given-same studio c.args.self.now _ datagrams refl (feeds-looked _ _ _ c.look_at_streams.ensures.looked) h
+returns-clause-given c = λ studio datagrams h. given-same studio c.args.self.now _ datagrams refl (feeds-looked _ _ _ c.any_stream_open.ensures.looked) h
 
 pub returns-clause-accepted : goal.returns-clause-accepted
-returns-clause-accepted c is = λ studio feeds told. told-all studio _ feeds told.0 (c.look_at_streams.ensures.any.0 (off _ is)) told.1
+returns-clause-accepted c is = λ studio feeds told. told-all studio _ feeds told.0 (c.any_stream_open.ensures.any.0 (off _ is)) told.1
 
 pub returns-clause-all : goal.returns-clause-all
 returns-clause-all c is = λ studio feeds datagrams told given.
-    subst (λ fs. AreBlocks studio fs datagrams) (sym (feeds-looked _ _ _ c.look_at_streams.ensures.looked) ∙ returns-clause-accepted c is studio feeds told) given
+    subst (λ fs. AreBlocks studio fs datagrams) (sym (feeds-looked _ _ _ c.any_stream_open.ensures.looked) ∙ returns-clause-accepted c is studio feeds told) given

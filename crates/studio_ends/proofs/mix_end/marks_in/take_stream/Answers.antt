@@ -9,13 +9,13 @@ loop-taken-init g c = (omega arith, omega arith, took-none _ _ _)
 pub loop-taken-preserved : goal.loop-taken-preserved
 loop-taken-preserved g c =
     let i = c.loop-taken.invariant in
-    let k = c.keep_mark-kept.ensures in
-    let one : c.from-strange.result ≡ (if not c.keep_mark-kept.result then 1 else 0) = search rules in
+    let k = c.feed_if_accepted-kept.ensures in
+    let one : c.from-strange.result ≡ (if not c.feed_if_accepted-kept.result then 1 else 0) = search rules in
     let most = at_most_one _ _ one in
     let few = i.1 in
-    let mark = c.next.result.now in
-    let taken = looked_and_passed c.loop-taken.side.ring c.is_empty.new.self.ring c.pass.new.self.ring mark c.is_empty.ensures.ring c.pass.ensures.ring (c.pass.ensures.passed mark c.next.ensures) in
-    (omega arith, omega (arith, most, few), took-more _ c.loop-taken.side c.pass.new.self _ c.loop-taken.mixer c.keep_mark-kept.new.mixer _ _ _ _ mark c.keep_mark-kept.result i.2 taken.0 (c.pass.ensures.done ∙ c.is_empty.ensures.done) taken.1 k.stands k.value k.lanes k.spec one)
+    let mark = c.peek.result.now in
+    let taken = looked_and_passed c.loop-taken.side.ring c.is_empty.new.self.ring c.drop_next.new.self.ring mark c.is_empty.ensures.ring c.drop_next.ensures.ring (c.drop_next.ensures.passed mark c.peek.ensures) in
+    (omega arith, omega (arith, most, few), took-more _ c.loop-taken.side c.drop_next.new.self _ c.loop-taken.mixer c.feed_if_accepted-kept.new.mixer _ _ _ _ mark c.feed_if_accepted-kept.result i.2 taken.0 (c.drop_next.ensures.done ∙ c.is_empty.ensures.done) taken.1 k.stands k.value k.lanes k.spec one)
 
 pub returns-then-not-wants : goal.returns-then-not-wants
 returns-then-not-wants g c =

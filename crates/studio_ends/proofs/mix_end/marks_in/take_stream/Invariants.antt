@@ -1,5 +1,5 @@
 use Rattle.std.proofs.Common.{◌-◌, ◌≤◌}
-use Rattle.studio_ends.specs.Mixes.{TakesMarks}
+use Rattle.studio_ends.specs.MarksIn.{TakesMarks}
 use Rattle.studio_ends.proofs.mix_end.marks_in.take_stream.Given as goal
 
 abbrev pub invariant-loop-taken : goal.invariant-loop-taken

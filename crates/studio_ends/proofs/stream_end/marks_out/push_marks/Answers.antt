@@ -1,7 +1,7 @@
 use Rattle.std.proofs.Common.{rules, arith, ◌≡◌, ◌+◌, ◌++◌, length, ℤ, Option, refl, ◌∙◌, sym, ap, to_z, of_z, w64}
 use Rattle.std.specs.Option.{option_to_list}
 use Rattle.rtp_stream.specs.MarkFacts.{MarkView}
-use Rattle.path_merge.specs.Next.{next_mark}
+use Rattle.path_merge.specs.NextMark.{next_mark}
 use Rattle.studio_ends.proofs.MarkLemmas.{Pushing, pushing-none, pushing-more, pushed, pushing-at}
 use Rattle.studio_ends.proofs.RoomRingLemmas.{roomy_on}
 use Rattle.studio_ends.proofs.TurnLemmas.{producers}

@@ -5,13 +5,13 @@ use Rattle.studio_ends.proofs.stream_end.packets_in.take_path.Goals as goal
 pub loop-taken-preserved : goal.loop-taken-preserved
 loop-taken-preserved g c =
     let i = c.loop-taken.invariant.1 in
-    let packet = c.next.result.now in
-    let taken = looked_and_passed c.loop-taken.side.ring c.is_empty.new.self.ring c.pass.new.self.ring packet c.is_empty.ensures.ring c.pass.ensures.ring (c.pass.ensures.passed packet c.next.ensures) in (
+    let packet = c.peek.result.now in
+    let taken = looked_and_passed c.loop-taken.side.ring c.is_empty.new.self.ring c.drop_next.new.self.ring packet c.is_empty.ensures.ring c.drop_next.ensures.ring (c.drop_next.ensures.passed packet c.peek.ensures) in (
       omega arith,
       (
         i.0 ++ packet ∷ [],
-        took-more _ _ c.pass.new.self i.0 packet i.1 taken.0 (c.pass.ensures.done ∙ c.is_empty.ensures.done) taken.1 taken.2,
+        took-more _ _ c.drop_next.new.self i.0 packet i.1 taken.0 (c.drop_next.ensures.done ∙ c.is_empty.ensures.done) taken.1 taken.2,
         (let n = i.2 in omega (arith, n, length-append i.0 (packet ∷ []))),
-        joined-more _ c.loop-taken.merge c.join_packet.new.merge _ i.0 packet i.3 c.join_packet.ensures,
+        joined-more _ c.loop-taken.merge c.offer_packet.new.merge _ i.0 packet i.3 c.offer_packet.ensures,
       ),
     )

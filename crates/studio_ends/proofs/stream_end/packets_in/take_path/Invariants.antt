@@ -1,7 +1,7 @@
 use Rattle.std.proofs.Common.{◌-◌, ◌≡◌, ◌≤◌, List, length}
 use Rattle.rtp_stream.specs.declared.packet.Packet.{Packet}
 use Rattle.studio_ends.specs.Fitting.{fitting}
-use Rattle.studio_ends.specs.Turns.{Joins, TakesSoFar, arrivals_by}
+use Rattle.studio_ends.specs.StreamTurns.{Joins, TakesSoFar, arrivals_by}
 use Rattle.studio_ends.proofs.stream_end.packets_in.take_path.Given as goal
 
 abbrev pub invariant-loop-taken : goal.invariant-loop-taken

@@ -1,7 +1,7 @@
 use Rattle.std.proofs.Common.{◌≡◌, ◌+◌, length, None, slice_get, refl, sym, ap, subst, ◌∙◌}
 use Rattle.studio_mix.proofs.NextLemmas.{lent}
 use Rattle.studio_session.specs.Event.{Arrival}
-use Rattle.studio_session.specs.Handed.{AreHanded}
+use Rattle.studio_session.specs.PushedEvents.{AreHanded}
 use Rattle.studio_engine.specs.Engine.{EngineState, arrive_fault_of}
 use Rattle.studio_engine.specs.Session.{HasSession}
 use Rattle.studio_engine.proofs.EngineLemmas.{pulled_at, session_handed, taken_arrival}
@@ -13,10 +13,10 @@ returns-clause-stands c = λ studio events datagrams s.
     let inside : EngineState = record { mixer = i.mixer; cursors = i.cursors.items; time = i.time; turning = i.turning; closed = i.closed; settled = i.settled; count = i.count } in
     let s' : HasSession studio inside events datagrams = subst (λ e. HasSession studio e events datagrams) (sym c.self.view_is) s in
     let event = Arrival c.args.stream c.args.path c.args.octets.now in
-    let moved = c.hand_datagram.new.cursors in
+    let moved = c.push_datagram.new.cursors in
     let lent_is = c.as_mut_slice-cursors.ensures.value in
-    let back = lent i.cursors.len (length moved) moved i.cursors.items (c.hand_datagram.auto.cursors ∙ c.as_mut_slice-cursors.ensures.len) in
-    let handed : AreHanded event i.cursors.items moved (length i.cursors.items) = subst (λ l. AreHanded event l moved (length l)) lent_is c.hand_datagram.ensures.handed in
+    let back = lent i.cursors.len (length moved) moved i.cursors.items (c.push_datagram.auto.cursors ∙ c.as_mut_slice-cursors.ensures.len) in
+    let handed : AreHanded event i.cursors.items moved (length i.cursors.items) = subst (λ l. AreHanded event l moved (length l)) lent_is c.push_datagram.ensures.handed in
     let fine : arrive_fault_of inside c.args.stream c.args.path ≡ None = ap (λ e. arrive_fault_of e c.args.stream c.args.path) c.self.view_is ∙ sym c.arrive_fault.ensures ∙ c.in_default.is in
     session_handed studio inside _ event i.time i.turning i.closed (i.count + 1) events datagrams
     (subst (λ l. AreHanded event i.cursors.items l (length i.cursors.items)) (sym back) handed)
@@ -29,5 +29,5 @@ returns-clause-receipt c = λ studio events datagrams spec s at.
     let inside : EngineState = record { mixer = i.mixer; cursors = i.cursors.items; time = i.time; turning = i.turning; closed = i.closed; settled = i.settled; count = i.count } in
     let s' : HasSession studio inside events datagrams = subst (λ e. HasSession studio e events datagrams) (sym c.self.view_is) s in
     let found = pulled_at studio inside events datagrams c.args.stream spec s' at in
-    c.in-Some-hand_datagram.ensures.receipt found.0 spec c.args.stream studio.open_at events found.1
+    c.in-Some-push_datagram.ensures.receipt found.0 spec c.args.stream studio.open_at events found.1
     (ap (λ l. slice_get l c.args.stream) c.as_mut_slice-cursors.ensures.value ∙ found.2) s'.count found.3

@@ -1,7 +1,7 @@
 use Rattle.std.proofs.Common.{◌≡◌, ◌+◌, ◌++◌, take, drop, length, false, true, refl, sym, ap, subst, ◌∙◌}
 use Rattle.studio_mix.proofs.NextLemmas.{lent}
 use Rattle.studio_session.specs.Event.{Closing}
-use Rattle.studio_session.specs.Handed.{AreHanded}
+use Rattle.studio_session.specs.PushedEvents.{AreHanded}
 use Rattle.studio_engine.specs.Engine.{EngineState}
 use Rattle.studio_engine.specs.Session.{HasSession, shut}
 use Rattle.studio_engine.proofs.EngineLemmas.{session_handed}
@@ -12,9 +12,9 @@ returns-then-not-self-clause-stands c = λ studio events datagrams s.
     let i = c.self.inside in
     let inside : EngineState = record { mixer = i.mixer; cursors = i.cursors.items; time = i.time; turning = i.turning; closed = i.closed; settled = i.settled; count = i.count } in
     let s' : HasSession studio inside events datagrams = subst (λ e. HasSession studio e events datagrams) (sym c.self.view_is) s in
-    let moved = c.hand_close.new.cursors in
-    let back = lent i.cursors.len (length moved) moved i.cursors.items (c.hand_close.auto.cursors ∙ c.as_mut_slice.ensures.len) in
-    let handed : AreHanded Closing i.cursors.items moved (length i.cursors.items) = subst (λ l. AreHanded Closing l moved (length l)) c.as_mut_slice.ensures.value c.hand_close.ensures.handed in
+    let moved = c.push_close.new.cursors in
+    let back = lent i.cursors.len (length moved) moved i.cursors.items (c.push_close.auto.cursors ∙ c.as_mut_slice.ensures.len) in
+    let handed : AreHanded Closing i.cursors.items moved (length i.cursors.items) = subst (λ l. AreHanded Closing l moved (length l)) c.as_mut_slice.ensures.value c.push_close.ensures.handed in
     let open_yet : c.args.self.now.closed ≡ false = ap (λ (e : EngineState). e.closed) (sym c.self.view_is) ∙ c.if-not-self.true in
     let kept = take i.cursors.len (moved ++ drop (length moved) i.cursors.items) in
     let after : EngineState = record { mixer = i.mixer; cursors = kept; time = i.time; turning = i.turning; closed = true; settled = i.settled; count = i.count + 1 } in

@@ -4,7 +4,7 @@ use Rattle.path_merge.specs.Clock.{clock_fault_of}
 use Rattle.path_merge.proofs.RunLemmas.{still_no_fault}
 use Rattle.studio_mix.proofs.NextLemmas.{lent}
 use Rattle.studio_session.specs.Event.{Reading}
-use Rattle.studio_session.specs.Handed.{AreHanded}
+use Rattle.studio_session.specs.PushedEvents.{AreHanded}
 use Rattle.studio_session.proofs.FaultLemmas.{reading_fault}
 use Rattle.studio_engine.specs.Engine.{EngineState}
 use Rattle.studio_engine.specs.Session.{HasSession}
@@ -18,11 +18,11 @@ returns-clause-stands c = λ studio events datagrams s.
     let inside : EngineState = record { mixer = i.mixer; cursors = i.cursors.items; time = i.time; turning = i.turning; closed = i.closed; settled = i.settled; count = i.count } in
     let s' : HasSession studio inside events datagrams = subst (λ e. HasSession studio e events datagrams) (sym c.self.view_is) s in
     let same = to_z-of_z w64 now c.ranges.now in
-    let moved = c.hand_reading.new.cursors in
-    let back = lent i.cursors.len (length moved) moved i.cursors.items (c.hand_reading.auto.cursors ∙ c.as_mut_slice.ensures.len) in
+    let moved = c.push_reading.new.cursors in
+    let back = lent i.cursors.len (length moved) moved i.cursors.items (c.push_reading.auto.cursors ∙ c.as_mut_slice.ensures.len) in
     let handed : AreHanded (Reading now) i.cursors.items moved (length i.cursors.items) =
     subst (λ u. AreHanded (Reading u) i.cursors.items moved (length i.cursors.items)) same
-    (subst (λ l. AreHanded (Reading (to_z w64 (of_z w64 now))) l moved (length l)) c.as_mut_slice.ensures.value c.hand_reading.ensures.handed) in
+    (subst (λ l. AreHanded (Reading (to_z w64 (of_z w64 now))) l moved (length l)) c.as_mut_slice.ensures.value c.push_reading.ensures.handed) in
     let later : i.time <ℤ now = subst (λ (e : EngineState). e.time <ℤ now) (sym c.self.view_is) c.requires.later in
     let before : i.time ≤ℤ now = omega (arith, ints, later) in
     let open_yet : i.closed ≡ false = ap (λ (e : EngineState). e.closed) c.self.view_is ∙ c.requires.open_yet in

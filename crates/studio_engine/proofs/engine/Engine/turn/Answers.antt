@@ -13,68 +13,68 @@ use Rattle.studio_engine.proofs.engine.Engine.turn.Goals as goal
 
 pub returns-then-self-clause-none : goal.returns-then-self-clause-none
 returns-then-self-clause-none c = λ none studio events datagrams s.
-    subst (λ l. HasGivenReady studio c.go_on.new.self l datagrams) (turned_same c.args.self.now.time c.go_on.new.self.time events c.go_on.ensures.time)
-    (c.go_on.ensures.none c.in_default-go_on.is studio events datagrams s)
+    subst (λ l. HasGivenReady studio c.continue_turn.new.self l datagrams) (turned_same c.args.self.now.time c.continue_turn.new.self.time events c.continue_turn.ensures.time)
+    (c.continue_turn.ensures.none c.in_default-continue_turn.is studio events datagrams s)
 
 pub returns-then-now-self-clause-none : goal.returns-then-now-self-clause-none
 returns-then-now-self-clause-none c = λ none studio events datagrams s.
-    subst (λ l. HasGivenReady studio c.go_on.new.self l datagrams) (turned_same c.args.self.now.time c.go_on.new.self.time events c.go_on.ensures.time)
-    (c.go_on.ensures.none c.in_default-go_on.is studio events datagrams s)
+    subst (λ l. HasGivenReady studio c.continue_turn.new.self l datagrams) (turned_same c.args.self.now.time c.continue_turn.new.self.time events c.continue_turn.ensures.time)
+    (c.continue_turn.ensures.none c.in_default-continue_turn.is studio events datagrams s)
 
 pub returns-clause-some : goal.returns-clause-some
 returns-clause-some c =
     let now = to_z w64 (of_z w64 c.args.now) in
     let same : now ≡ c.args.now = to_z-of_z w64 c.args.now c.ranges.now in
-    let time : c.go_on-2.new.self.time ≡ now = c.go_on-2.ensures.time ∙ c.set_out.ensures.time in
+    let time : c.continue_turn-2.new.self.time ≡ now = c.continue_turn-2.ensures.time ∙ c.set_out.ensures.time in
     let low = c.self.invariant.not_early in
     let high = c.self.invariant.not_late in
     let time_is : c.self.inside.time ≡ to_z w64 (of_z w64 c.self.inside.time) = omega (arith, ints, low, high) in
     let free = no_fault c.args.self.now.time c.args.self.now.closed now (ap (λ (e : EngineState). clock_fault_of e.time e.closed now) (sym c.self.view_is) ∙ ap (λ t. clock_fault_of t c.self.inside.closed now) time_is ∙ sym c.clock_fault.ensures ∙ c.in_default.is) in
-    let was : c.self-2.inside.time ≡ c.args.self.now.time = ap (λ (e : EngineState). e.time) c.self-2.view_is ∙ c.go_on.ensures.time in
+    let was : c.self-2.inside.time ≡ c.args.self.now.time = ap (λ (e : EngineState). e.time) c.self-2.view_is ∙ c.continue_turn.ensures.time in
     let reached = free.0 in
     let other = c.if-now-self.false in
-    let later : c.args.self.now.time <ℤ c.go_on-2.new.self.time = omega (arith, ints, reached, other, was, time, same) in
-    gives_after c.args.self.now c.set_out.new.self c.go_on-2.new.self c.args.out.now c.go_on.new.out c.go_on-2.new.out c.go_on-2.result now
-    (c.go_on.ensures.kept c.in_default-go_on.is) later time
-    (λ studio events datagrams s. c.set_out.ensures.stands studio events datagrams (c.go_on.ensures.none c.in_default-go_on.is studio events datagrams s).stands)
-    c.go_on-2.ensures.some
+    let later : c.args.self.now.time <ℤ c.continue_turn-2.new.self.time = omega (arith, ints, reached, other, was, time, same) in
+    gives_after c.args.self.now c.set_out.new.self c.continue_turn-2.new.self c.args.out.now c.continue_turn.new.out c.continue_turn-2.new.out c.continue_turn-2.result now
+    (c.continue_turn.ensures.kept c.in_default-continue_turn.is) later time
+    (λ studio events datagrams s. c.set_out.ensures.stands studio events datagrams (c.continue_turn.ensures.none c.in_default-continue_turn.is studio events datagrams s).stands)
+    c.continue_turn-2.ensures.some
 
 pub returns-clause-none : goal.returns-clause-none
 returns-clause-none c = λ none.
     let now = to_z w64 (of_z w64 c.args.now) in
     let same : now ≡ c.args.now = to_z-of_z w64 c.args.now c.ranges.now in
-    let time : c.go_on-2.new.self.time ≡ now = c.go_on-2.ensures.time ∙ c.set_out.ensures.time in
+    let time : c.continue_turn-2.new.self.time ≡ now = c.continue_turn-2.ensures.time ∙ c.set_out.ensures.time in
     let low = c.self.invariant.not_early in
     let high = c.self.invariant.not_late in
     let time_is : c.self.inside.time ≡ to_z w64 (of_z w64 c.self.inside.time) = omega (arith, ints, low, high) in
     let free = no_fault c.args.self.now.time c.args.self.now.closed now (ap (λ (e : EngineState). clock_fault_of e.time e.closed now) (sym c.self.view_is) ∙ ap (λ t. clock_fault_of t c.self.inside.closed now) time_is ∙ sym c.clock_fault.ensures ∙ c.in_default.is) in
-    let was : c.self-2.inside.time ≡ c.args.self.now.time = ap (λ (e : EngineState). e.time) c.self-2.view_is ∙ c.go_on.ensures.time in
+    let was : c.self-2.inside.time ≡ c.args.self.now.time = ap (λ (e : EngineState). e.time) c.self-2.view_is ∙ c.continue_turn.ensures.time in
     let reached = free.0 in
     let other = c.if-now-self.false in
-    let later : c.args.self.now.time <ℤ c.go_on-2.new.self.time = omega (arith, ints, reached, other, was, time, same) in
-    ready_after c.args.self.now c.set_out.new.self c.go_on-2.new.self now later time
-    (λ studio events datagrams s. c.set_out.ensures.stands studio events datagrams (c.go_on.ensures.none c.in_default-go_on.is studio events datagrams s).stands)
-    (c.go_on-2.ensures.none none)
+    let later : c.args.self.now.time <ℤ c.continue_turn-2.new.self.time = omega (arith, ints, reached, other, was, time, same) in
+    ready_after c.args.self.now c.set_out.new.self c.continue_turn-2.new.self now later time
+    (λ studio events datagrams s. c.set_out.ensures.stands studio events datagrams (c.continue_turn.ensures.none c.in_default-continue_turn.is studio events datagrams s).stands)
+    (c.continue_turn-2.ensures.none none)
 
 pub returns-then-self-clause-there : goal.returns-then-self-clause-there
 returns-then-self-clause-there c = λ none studio events datagrams s.
-    absurd (false≢true (sym (c.go_on.ensures.finished c.in_default-go_on.is studio events datagrams s) ∙ ap (λ (e : EngineState). e.turning) (sym c.self-2.view_is) ∙ c.if-self.true))
+    absurd (false≢true (sym (c.continue_turn.ensures.finished c.in_default-continue_turn.is studio events datagrams s) ∙ ap (λ (e : EngineState). e.turning) (sym c.self-2.view_is) ∙ c.if-self.true))
 
 pub returns-then-now-self-clause-there : goal.returns-then-now-self-clause-there
 returns-then-now-self-clause-there c = λ none studio events datagrams s.
     let is = c.if-now-self.true in
-    let was : c.self-2.inside.time ≡ c.go_on.new.self.time = ap (λ (e : EngineState). e.time) c.self-2.view_is in
+    let was : c.self-2.inside.time ≡ c.continue_turn.new.self.time = ap (λ (e : EngineState). e.time) c.self-2.view_is in
     let same : to_z w64 (of_z w64 c.args.now) ≡ c.args.now = to_z-of_z w64 c.args.now c.ranges.now in
-    (c.go_on.ensures.finished c.in_default-go_on.is studio events datagrams s, omega (arith, ints, is, was, same))
+    (c.continue_turn.ensures.finished c.in_default-continue_turn.is studio events datagrams s, omega (arith, ints, is, was, same))
 
 pub returns-clause-there : goal.returns-clause-there
 returns-clause-there c = λ none studio events datagrams s.
     let same = to_z-of_z w64 c.args.now c.ranges.now in (
-      c.go_on-2.ensures.finished none studio (events ++ Reading (to_z w64 (of_z w64 c.args.now)) ∷ []) datagrams
-          (c.set_out.ensures.stands studio events datagrams (c.go_on.ensures.none c.in_default-go_on.is studio events datagrams s).stands),
-      c.go_on-2.ensures.time ∙ c.set_out.ensures.time ∙ same,
+      c.continue_turn-2.ensures.finished none studio (events ++ Reading (to_z w64 (of_z w64 c.args.now)) ∷ []) datagrams
+          (c.set_out.ensures.stands studio events datagrams (c.continue_turn.ensures.none c.in_default-continue_turn.is studio events datagrams s).stands),
+      c.continue_turn-2.ensures.time ∙ c.set_out.ensures.time ∙ same,
     )
 
 pub returns-clause-fewer : goal.returns-clause-fewer
 returns-clause-fewer c =
-    subst (λ (p : PackerState). IfSome c.go_on-2.result (λ (len : ℕ). blocks_left c.go_on-2.new.self.mixer.packer < blocks_left p)) (c.set_out.ensures.packer ∙ c.go_on.ensures.left c.in_default-go_on.is) c.go_on-2.ensures.fewer
+    subst (λ (p : PackerState). IfSome c.continue_turn-2.result (λ (len : ℕ). blocks_left c.continue_turn-2.new.self.mixer.packer < blocks_left p)) (c.set_out.ensures.packer ∙ c.continue_turn.ensures.left c.in_default-continue_turn.is) c.continue_turn-2.ensures.fewer

@@ -1,7 +1,7 @@
 use Rattle.std.proofs.Common.{◌≡◌, ◌≤◌, length, true}
 use Rattle.rtrb.specs.Ring.{SameProducer}
 use Rattle.studio_io.specs.Answers.{reaches_end}
-use Rattle.studio_rings.specs.Paths.{SendsSoFar}
+use Rattle.studio_rings.specs.PathWorkers.{SendsSoFar}
 use Rattle.studio_rings.proofs.worker.path.run_feed.Given as goal
 
 abbrev pub invariant-loop : goal.invariant-loop

@@ -2,7 +2,7 @@ use Rattle.std.proofs.Common.{◌≡◌, ◌+◌, ◌++◌, Some, refl, sym, sub
 use Rattle.studio_session.specs.Session.{Other, event_in, stream_history}
 use Rattle.rtp_stream.specs.PathCounts.{tallies_of}
 use Rattle.studio_session.specs.Counts.{HasCounted}
-use Rattle.studio_session.specs.Way.{IsOnWay}
+use Rattle.studio_session.specs.ReadingSteps.{IsOnWay}
 use Rattle.studio_session.specs.Cursor.{CursorState, HasPulled}
 use Rattle.studio_session.proofs.CountsLemmas.{few_later, uncounted}
 use Rattle.studio_session.proofs.CursorLemmas.{pulled_more}

@@ -5,7 +5,7 @@ use Rattle.rtp_stream.specs.declared.event.Event.TheVariants.{Tick}
 use Rattle.studio_session.specs.Event.{Reading}
 use Rattle.studio_session.specs.Session.{Clock, stream_history}
 use Rattle.rtp_stream.specs.PathCounts.{tallies_of}
-use Rattle.studio_session.specs.Way.{IsOnWay}
+use Rattle.studio_session.specs.ReadingSteps.{IsOnWay}
 use Rattle.studio_session.specs.Cursor.{CursorState, HasPulled}
 use Rattle.studio_session.proofs.CountsLemmas.{few_later, uncounted}
 use Rattle.studio_session.proofs.CursorLemmas.{pulled_more, set_out, settled}

@@ -5,8 +5,8 @@ use Rattle.rtp_stream.specs.Reception.{FitsReception, reception_from, reception_
 use Rattle.studio_session.specs.Session.{Datagram, event_in, step_of, stream_history}
 use Rattle.rtp_stream.specs.PathCounts.{tallies_of}
 use Rattle.studio_session.specs.Counts.{HasCounted}
-use Rattle.studio_session.specs.Receipt.{receipt_in}
-use Rattle.studio_session.specs.Way.{IsOnWay}
+use Rattle.studio_session.specs.ArriveOutcome.{receipt_in}
+use Rattle.studio_session.specs.ReadingSteps.{IsOnWay}
 use Rattle.studio_session.specs.Cursor.{CursorState, HasPulled}
 use Rattle.studio_session.proofs.CountsLemmas.{few_more}
 use Rattle.studio_session.proofs.CursorLemmas.{can_settled, own_arrival, pulled_more, settled, way_settled}

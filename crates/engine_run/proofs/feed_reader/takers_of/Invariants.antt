@@ -1,8 +1,0 @@
-use Rattle.std.proofs.Common.{◌≡◌, ◌++◌, map}
-use Rattle.std.specs.Vec.Iter.{into_iter_items}
-use Rattle.engine_run.specs.Takes.{new_taker}
-use Rattle.engine_run.proofs.feed_reader.takers_of.Given as goal
-
--- the feeds so far, and those that are left
-abbrev pub invariant-loop-feed : goal.invariant-loop-feed
-invariant-loop-feed g l = l.takers.items ++ map new_taker (into_iter_items l.feed-iterator) ≡ map new_taker l.fn.feeds.items

@@ -1,7 +1,0 @@
-use Rattle.engine_run.proofs.state.Desk.round.Goals as goal
-
-pub returns-then-have_all_ended-clause-on : goal.returns-then-have_all_ended-clause-on
-returns-then-have_all_ended-clause-on g c = λ studio all clock before earlier h. (c.in_ok-turn.ensures.on studio all clock before earlier h).run
-
-pub returns-clause-on : goal.returns-clause-on
-returns-clause-on g c = λ studio all clock before earlier h. c.in_ok-most.ensures.on studio all clock before earlier (c.in_ok-turn_again.ensures.on studio all clock before earlier (c.look.ensures.on studio all clock before earlier (c.in_ok-turn.ensures.on studio all clock before earlier h)))

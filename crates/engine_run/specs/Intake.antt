@@ -1,0 +1,84 @@
+-- What was taken of feeds.
+use Rattle.std.specs.Prelude.{◌≡◌, ◌≢◌, ℕ, ◌≤◌, Bool, true, false, List, [], ◌++◌, length, map, slice_get, Option, Some}
+use Rattle.std.specs.declared.vec.Vec.{Vec}
+use Rattle.std.specs.declared.alloc.Global.{Global}
+use Rattle.studio_config.specs.Studio.{Studio}
+use Rattle.studio_session.specs.Event.{TraceEvent}
+use Rattle.studio_session.specs.Fault.{time_at}
+use Rattle.studio_engine.specs.Engine.{EngineState}
+use Rattle.studio_engine.specs.Session.{HasSession}
+use Rattle.studio_io.specs.Answers.{Answer, reaches_end, told_datagrams}
+use Rattle.engine_run.specs.Rounds.{AreArrivals, arrivals_on, datagrams_on}
+use Rattle.engine_run.specs.Observers.{Heard, Hears, heard_by}
+use Rattle.engine_run.specs.declared.feed_reader.FeedReader.{FeedReader}
+
+-- of all datagrams of these answers so many came, with these answers left after so many faults in a row; all, once the feed ended
+abbrev pub HasCome : List Answer → Bool → ℕ → List Answer → List (List ℕ) → Type 0
+HasCome told true faults left given = given ≡ told_datagrams 0 told
+HasCome told false faults left given = (faults ≤ 999) × (reaches_end faults left ≡ true) × (given ++ told_datagrams faults left ≡ told_datagrams 0 told)
+
+module _ {F : Type 0} where
+  -- a feed that wasn't asked yet
+  abbrev pub new_taker : F → FeedReader F
+  new_taker feed = record { feed = feed; in_a_row = 0; faults = 0; ended = false }
+
+  -- each feed of a stream wasn't asked yet
+  abbrev pub HaveBegun : List (Vec F Global) → List (Vec (FeedReader F) Global) → Type 0
+  HaveBegun feeds readers = map (λ (own : Vec (FeedReader F) Global). own.items) readers ≡ map (λ (own : Vec F Global). map new_taker own.items) feeds
+
+  -- each of them has ended
+  abbrev pub HaveEnded : List (FeedReader F) → Type 0
+  HaveEnded readers = (path : ℕ) (reader : FeedReader F) → slice_get readers path ≡ Some reader → reader.ended ≡ true
+
+  abbrev pub AllEnded : List (Vec (FeedReader F) Global) → Type 0
+  AllEnded readers = (stream : ℕ) (own : Vec (FeedReader F) Global) → slice_get readers stream ≡ Some own → HaveEnded own.items
+
+  -- where a feed was known to reach its end, these of its datagrams came
+  abbrev pub IsGiven : (F → List Answer) → List Answer → FeedReader F → List (List ℕ) → Type 0
+  IsGiven feed_told all reader given = reaches_end 0 all ≡ true → HasCome all reader.ended reader.in_a_row (feed_told reader.feed) given
+
+  -- and then these
+  abbrev pub GoesOn : (F → List Answer) → FeedReader F → FeedReader F → List (List ℕ) → Type 0
+  GoesOn feed_told old new given = (all : List Answer) (before : List (List ℕ)) → IsGiven feed_told all old before → IsGiven feed_told all new (before ++ given)
+
+  -- a feed was asked, and at most so many datagrams of it arrived, of which the tap was told
+  pub record Takes (feed_told : F → List Answer) (studio : Studio) (engine : EngineState) (events : List TraceEvent) (datagrams : List (List ℕ)) (stream path : ℕ) (old new : FeedReader F) (before after : Option (List Heard)) (most : ℕ) : Type 0 where
+    pub given : List (List ℕ)
+    pub few : length given ≤ most
+    pub stands : HasSession studio engine (events ++ arrivals_on stream path given) datagrams
+    pub heard : Hears before (heard_by (time_at studio.open_at events) (arrivals_on stream path given)) after
+    pub goes_on : GoesOn feed_told old new given
+
+  -- so were the first feeds of a stream
+  pub record TakesStream (feed_told : F → List Answer) (studio : Studio) (engine : EngineState) (events : List TraceEvent) (datagrams : List (List ℕ)) (stream : ℕ) (olds news : List (FeedReader F)) (before after : Option (List Heard)) (count : ℕ) : Type 0 where
+    pub arrivals : List TraceEvent
+    pub stands : HasSession studio engine (events ++ arrivals) datagrams
+    pub heard : Hears before (heard_by (time_at studio.open_at events) arrivals) after
+    pub arrive : AreArrivals arrivals
+    pub few : (path : ℕ) → length (datagrams_on stream path arrivals) ≤ 64
+    pub later : (path : ℕ) → count ≤ path → datagrams_on stream path arrivals ≡ []
+    pub others : (s path : ℕ) → s ≢ stream → datagrams_on s path arrivals ≡ []
+    pub rest : (path : ℕ) (reader : FeedReader F) → count ≤ path → slice_get olds path ≡ Some reader → slice_get news path ≡ Some reader
+    pub each : (path : ℕ) (old : FeedReader F) → slice_get olds path ≡ Some old
+        → (new : FeedReader F) × (slice_get news path ≡ Some new) × GoesOn feed_told old new (datagrams_on stream path arrivals)
+
+  -- so were those of the first streams
+  pub record TakesAll (feed_told : F → List Answer) (studio : Studio) (engine : EngineState) (events : List TraceEvent) (datagrams : List (List ℕ)) (olds news : List (Vec (FeedReader F) Global)) (before after : Option (List Heard)) (count : ℕ) : Type 0 where
+    pub arrivals : List TraceEvent
+    pub stands : HasSession studio engine (events ++ arrivals) datagrams
+    pub heard : Hears before (heard_by (time_at studio.open_at events) arrivals) after
+    pub arrive : AreArrivals arrivals
+    pub few : (stream path : ℕ) → length (datagrams_on stream path arrivals) ≤ 64
+    pub later : (stream path : ℕ) → count ≤ stream → datagrams_on stream path arrivals ≡ []
+    pub rest : (stream : ℕ) (own : Vec (FeedReader F) Global) → count ≤ stream → slice_get olds stream ≡ Some own → slice_get news stream ≡ Some own
+    pub each : (stream : ℕ) (own : Vec (FeedReader F) Global) → slice_get olds stream ≡ Some own
+        → (now : Vec (FeedReader F) Global) × (slice_get news stream ≡ Some now)
+        × ((path : ℕ) (old : FeedReader F) → slice_get own.items path ≡ Some old
+        → (new : FeedReader F) × (slice_get now.items path ≡ Some new) × GoesOn feed_told old new (datagrams_on stream path arrivals))
+
+  -- of each feed that is known to give these answers, its datagrams among the events are those that came
+  pub record HaveGiven (feed_told : F → List Answer) (all : List (List (List Answer))) (readers : List (Vec (FeedReader F) Global)) (events : List TraceEvent) : Type 0 where
+    pub each : (stream : ℕ) (own : List (List Answer)) → slice_get all stream ≡ Some own
+        → (now : Vec (FeedReader F) Global) × (slice_get readers stream ≡ Some now)
+        × ((path : ℕ) (told : List Answer) → slice_get own path ≡ Some told
+        → (reader : FeedReader F) × (slice_get now.items path ≡ Some reader) × IsGiven feed_told told reader (datagrams_on stream path events))

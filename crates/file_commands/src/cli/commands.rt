@@ -1,0 +1,217 @@
+//! The words that the program knows, with what may stand behind them, and their help.
+use crate::cli::clap_args::{ArgKind, ArgRelation, ArgSpec};
+use clap::ArgAction;
+use clap::builder::ValueParser;
+
+/// The most sampling instants of a live run.
+const MOST_INSTANTS: i64 = 1_099_511_627_776;
+
+/// The most milliseconds of an imported stream's latency: no window is longer.
+const MOST_LATENCY: i64 = 65_536;
+
+/// The most seconds from one telling of a live run's counts to the next.
+const MOST_SECONDS: i64 = 4_294_967_295;
+
+/// The greatest port.
+const LAST_PORT: i64 = 65_535;
+
+/// A word that the program knows.
+#[derive(Clone, Copy)]
+pub(crate) struct CommandSpec {
+    pub(crate) name: &'static str,
+    pub(crate) about: &'static str,
+    /// What may stand behind it, in the order of its help.
+    pub(crate) parts: &'static [ArgSpec],
+}
+
+/// The words that the program knows, in the order of its help.
+pub(crate) const COMMANDS: &[CommandSpec] = &[
+    CommandSpec {
+        name: "marks",
+        about: "Lists the marks of the trace on standard input, stream by stream",
+        parts: &[
+            CONFIG,
+            ArgSpec {
+                name: "counts",
+                help: "Tell the counts of all paths and merges on standard error",
+                ..FLAG
+            },
+            ArgSpec {
+                name: "wav",
+                help: "Write the samples of a stream to this WAV file too, lost packets as silence",
+                form: ArgKind::Option(ArgAction::Set, &["STREAM", "FILE"], ValueParser::String),
+                bound: ArgRelation::Excludes("counts"),
+            },
+        ],
+    },
+    CommandSpec {
+        name: "play",
+        about: "Plays the trace on standard input to its datagrams and counts",
+        parts: &[CONFIG, MIX],
+    },
+    CommandSpec {
+        name: "chart",
+        about: "Draws what each path gave to each stream of the trace on standard input, as an SVG",
+        parts: &[CONFIG],
+    },
+    CommandSpec {
+        name: "check",
+        about: "Says what a configuration means",
+        parts: &[CONFIG],
+    },
+    CommandSpec {
+        name: "streams",
+        about: "Says what RTP audio a capture holds: counts, what fits each flow, and the skew of paths",
+        parts: &[CAPTURE],
+    },
+    CommandSpec {
+        name: "import",
+        about: "Writes a capture's RTP datagrams as a trace, for marks and play",
+        parts: &[
+            CAPTURE,
+            ArgSpec {
+                name: "path",
+                help: "Take the flows to this address alone; may be given again. Without it all that fit are taken",
+                form: ArgKind::Option(ArgAction::Append, &["ADDRESS:PORT"], ValueParser::String),
+                bound: ArgRelation::Free,
+            },
+            ArgSpec {
+                name: "config",
+                help: "Write the configuration that fits the trace in its place",
+                ..FLAG
+            },
+            ArgSpec {
+                name: "latency",
+                help: "Its latency; without it twice the greatest skew between paths, and 10 ms at least",
+                form: ArgKind::Option(
+                    ArgAction::Set,
+                    &["MS"],
+                    ValueParser::Signed(1, MOST_LATENCY),
+                ),
+                bound: ArgRelation::Free,
+            },
+        ],
+    },
+    CommandSpec {
+        name: "replay",
+        about: "Plays a capture of any length, as play does the trace that import writes of it",
+        parts: &[
+            CONFIG,
+            CAPTURE,
+            MIX,
+            ArgSpec {
+                name: "chart",
+                help: "Draw what each path gave to each stream to this file too, as an SVG",
+                ..FILE
+            },
+        ],
+    },
+    CommandSpec {
+        name: "live",
+        about: "Receives from sockets, and sends the mix to two ports, at the configuration's addresses or 127.0.0.1",
+        parts: LIVE,
+    },
+];
+
+/// What may stand behind the word of a live run.
+const LIVE: &[ArgSpec] = &[
+    CONFIG,
+    ArgSpec {
+        name: "instants",
+        help: "End after so many sampling instants at 48 kHz, 1 to 1099511627776",
+        form: ArgKind::Option(
+            ArgAction::Set,
+            &["N"],
+            ValueParser::Signed(1, MOST_INSTANTS),
+        ),
+        bound: ArgRelation::Free,
+    },
+    ArgSpec {
+        name: "stats",
+        help: "Tell each stream's counts on standard error so often",
+        form: ArgKind::Option(
+            ArgAction::Set,
+            &["SECONDS"],
+            ValueParser::Signed(1, MOST_SECONDS),
+        ),
+        bound: ArgRelation::Free,
+    },
+    ArgSpec {
+        name: "page",
+        help: "Serve a page of the run at this port of 127.0.0.1; at 0 the system picks one",
+        form: ArgKind::Option(ArgAction::Set, &["PORT"], ValueParser::Signed(0, LAST_PORT)),
+        bound: ArgRelation::Free,
+    },
+    ArgSpec {
+        name: "until-eof",
+        help: "End where standard input does",
+        ..FLAG
+    },
+    ArgSpec {
+        name: "listen-fds",
+        help: "Take the sockets that were handed over, as by sd_listen_fds(3)",
+        ..FLAG
+    },
+    ArgSpec {
+        name: "one-thread",
+        help: "Run in one thread, in place of a worker for each path and stream",
+        ..FLAG
+    },
+    ArgSpec {
+        name: "record",
+        help: "Write what was received to this pcapng file, for replay; of a run in one thread",
+        bound: ArgRelation::Needs("one-thread"),
+        ..FILE
+    },
+    ArgSpec {
+        name: "clock",
+        help: "Open now by International Atomic Time, as the media clock of ST 2110 counts it",
+        form: ArgKind::Option(ArgAction::Set, &["tai"], ValueParser::Names(&["tai"])),
+        bound: ArgRelation::Free,
+    },
+    ArgSpec {
+        name: "tai-offset",
+        help: "How many seconds that time is ahead of the system's, or system where that was told",
+        form: ArgKind::Option(ArgAction::Set, &["SECONDS"], ValueParser::String),
+        bound: ArgRelation::Needs("clock"),
+    },
+];
+
+/// The path of a configuration.
+const CONFIG: ArgSpec = ArgSpec {
+    name: "CONFIG",
+    help: "The configuration, in TOML",
+    form: ArgKind::Path,
+    bound: ArgRelation::Free,
+};
+
+/// The path of a capture.
+const CAPTURE: ArgSpec = ArgSpec {
+    name: "FILE",
+    help: "The capture, a pcap or pcapng file",
+    form: ArgKind::Path,
+    bound: ArgRelation::Free,
+};
+
+/// The path of the mix's WAV file.
+const MIX: ArgSpec = ArgSpec {
+    name: "wav",
+    help: "Write the mix to this WAV file too",
+    ..FILE
+};
+
+/// An option that stands alone.
+const FLAG: ArgSpec = ArgSpec {
+    name: "",
+    help: "",
+    form: ArgKind::FLAG,
+    bound: ArgRelation::Free,
+};
+
+/// An option with the path of a file.
+const FILE: ArgSpec = ArgSpec {
+    name: "",
+    help: "",
+    form: ArgKind::Option(ArgAction::Set, &["FILE"], ValueParser::String),
+    bound: ArgRelation::Free,
+};

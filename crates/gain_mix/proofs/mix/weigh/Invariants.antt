@@ -1,5 +1,0 @@
-use Rattle.gain_mix.specs.Four.{IsSumTo}
-use Rattle.gain_mix.proofs.mix.weigh.Given as goal
-
-abbrev pub invariant-loop-input : goal.invariant-loop-input
-invariant-loop-input l = IsSumTo l.gains l.values l.input l.sum

@@ -1,5 +1,0 @@
-use Rattle.std.proofs.Common.{◌≡◌, ◌+◌, length}
-use Rattle.live_io.proofs.feeds.feeds_of.Given as goal
-
-abbrev pub invariant-loop-receiver : goal.invariant-loop-receiver
-invariant-loop-receiver g l = length l.feeds.items + length l.receiver-iterator.rest.items ≡ length l.fn.receivers.items

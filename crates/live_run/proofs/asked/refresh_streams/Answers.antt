@@ -1,0 +1,31 @@
+use Rattle.std.proofs.Common.{Option, length, slice_index_or, sym, refl, subst, ◌∙◌, arith}
+use Rattle.std.proofs.lemmas.Option.{slice_get_read}
+use Rattle.rtp_stats.specs.declared.stats.StreamStats.{StreamStats}
+use Rattle.rtp_stats.specs.declared.channel.stream.StreamStatsReceiver.{StreamStatsReceiver}
+use Rattle.live_run.specs.LatestStats.{TellsStream}
+use Rattle.live_run.proofs.LatestStatsLemmas.{asked-all, asked-next}
+use Rattle.live_run.proofs.asked.refresh_streams.Goals as goal
+
+pub loop-place-preserved : goal.loop-place-preserved
+loop-place-preserved c =
+    let n = c.loop-place.place in
+    let watches = c.loop-place.watches in
+    let told = c.loop-place.told in
+    let to = c.loop-place.invariant in
+    let watch = c.index-watches-place.result in
+    let last = c.index-told-place.result in
+    let new_watch = c.refresh_stream.new.watch in
+    let new_last = c.refresh_stream.new.told in
+    let test = c.loop-place-test.true in
+    let bound = c.min-place-end.ensures in
+    let as_watches = to.watches_are in
+    let as_told = to.places_are in
+    let in_watches = slice_get_read watches (length watches) n watch refl (grind (arith, test, bound, as_watches)) c.index-watches-place.is in
+    let in_told = slice_get_read told (length told) n last refl (grind (arith, test, bound, as_told)) c.index-told-place.is in
+    let tells : TellsStream watch new_watch last new_last = subst (λ (w : StreamStatsReceiver). TellsStream w new_watch last new_last) (sym c.index-watches-place.is)
+    (subst (λ (l : Option StreamStats). TellsStream (slice_index_or watches n watch) new_watch l new_last) (sym c.index-told-place.is) c.refresh_stream.ensures) in
+    asked-next TellsStream n c.args.watches.now watches c.args.told.now told watch new_watch last new_last to (grind (arith, test, bound, as_watches)) (grind (arith, test, bound, as_told))
+    (sym (to.watches_left n (omega arith)) ∙ in_watches) (sym (to.places_left n (omega arith)) ∙ in_told) tells
+
+pub returns : goal.returns
+returns c = asked-all TellsStream c.loop-place.place c.args.watches.now c.loop-place.watches c.args.told.now c.loop-place.told (let bound = c.min-place-end.ensures in let past = c.loop-place-test.false in omega (arith, bound, past)) c.loop-place.invariant

@@ -1,7 +1,0 @@
-use Rattle.std.proofs.Common.{◌≡◌, drop}
-use Rattle.live_status.proofs.Each.{IsUpTo}
-use Rattle.live_run.specs.Told.{SeesTold, paths_before}
-use Rattle.live_run.proofs.workers.stream_status.see_streams.Given as goal
-
-abbrev pub invariant-loop-number : goal.invariant-loop-number
-invariant-loop-number l = (l.left ≡ drop (paths_before l.initial.streams l.number) l.counts) × IsUpTo (SeesTold l.told l.counts l.initial.streams) l.number l.initial.streams l.streams

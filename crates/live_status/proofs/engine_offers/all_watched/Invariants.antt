@@ -1,6 +1,0 @@
-use Rattle.live_status.specs.Noted.{IsUnheard}
-use Rattle.live_status.proofs.Each.{IsBegun}
-use Rattle.live_status.proofs.engine_offers.all_watched.Given as goal
-
-abbrev pub invariant-loop-stream : goal.invariant-loop-stream
-invariant-loop-stream l = IsBegun IsUnheard l.stream-index l.streams l.watched.items

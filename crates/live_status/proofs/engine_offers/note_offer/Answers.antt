@@ -1,0 +1,35 @@
+use Rattle.std.proofs.Common.{◌≡◌, length, refl, sym, subst, arith, to_z, of_z, w64}
+use Rattle.std.proofs.lemmas.Grind.{common_steps}
+use Rattle.std.proofs.lemmas.Int.{to_z-of_z}
+use Rattle.std.proofs.lemmas.Option.{slice_get_read, slice_get_within}
+use Rattle.rtp_stats.specs.declared.copy_tracker.CopyTracker.{CopyTracker}
+use Rattle.live_status.specs.EngineOffers.{AddsOffer}
+use Rattle.live_status.proofs.Each.{get-set, get-set_else}
+use Rattle.live_status.proofs.engine_offers.note_offer.Goals as goal
+
+pub returns-then-number-watched : goal.returns-then-number-watched
+returns-then-number-watched c =
+    let watched = c.args.watched.now in
+    let n = c.args.number in
+    let watch = c.index-watched-number.result in
+    let is_new = c.note.new.self in
+    let within = c.if-number-watched.true in
+    let Adds = AddsOffer c.args.path c.args.fate c.args.numbers.seq in
+    let z : to_z w64 (of_z w64 c.args.now) ≡ c.args.now = to_z-of_z w64 c.args.now c.ranges.now in
+    let there = slice_get_read watched (length watched) n watch refl within c.index-watched-number.is in
+    let noted : Adds c.args.now watch is_new = subst (λ now. Adds now watch is_new) z (subst (λ (w : CopyTracker). Adds (to_z w64 (of_z w64 c.args.now)) w is_new) (sym c.index-watched-number.is) c.note.ensures) in
+    record {
+      length_is = grind (arith, common_steps);
+      here = λ was is at_was at_is.
+          let old_is : watch ≡ was = cc (there, at_was) in
+          let new_is : is_new ≡ is = cc (get-set watched n is_new within, at_is) in
+          subst (λ w. Adds c.args.now was w) new_is (subst (λ w. Adds c.args.now w is_new) old_is noted);
+      elsewhere = λ place other. get-set_else watched n place is_new other;
+    }
+
+pub returns-else-number-watched : goal.returns-else-number-watched
+returns-else-number-watched c = record {
+  length_is = refl;
+  here = λ was is at_was at_is. absurd (let within = slice_get_within c.args.watched.now c.args.number was at_was in let past = c.if-number-watched.false in omega (arith, within, past));
+  elsewhere = λ place other. refl;
+}

@@ -1,6 +1,0 @@
-use Rattle.live_status.specs.Viewed.{SeesStream}
-use Rattle.live_status.proofs.Each.{IsUpTo}
-use Rattle.live_status.proofs.engine_status.see_streams.Given as goal
-
-abbrev pub invariant-loop-number : goal.invariant-loop-number
-invariant-loop-number l = IsUpTo (SeesStream l.engine) l.number l.initial.streams l.streams

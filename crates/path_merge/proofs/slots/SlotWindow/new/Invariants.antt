@@ -1,8 +1,0 @@
-use Rattle.std.proofs.Common.{◌≡◌, None, replicate, vec_capacity, ◌≤◌}
-use Rattle.path_merge.proofs.slots.SlotWindow.new.Given as goal
-
-abbrev pub invariant-loop : goal.invariant-loop
-invariant-loop l = record {
-  empty : l.slots.items ≡ replicate l.counter None;
-  room : l.width ≤ vec_capacity l.slots;
-}

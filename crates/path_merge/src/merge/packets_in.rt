@@ -1,0 +1,255 @@
+//! Arrivals at a merge.
+ghost use Rattle.std.specs.Prelude.{◌≡◌, ℕ, ◌^◌, ◌<◌, List, ℤ, Some, None, true, false};
+ghost use Rattle.rtp_stream.specs.declared.anchor.Anchor.{Anchor};
+ghost use Rattle.rtp_stream.specs.declared.event.Event.{Event};
+ghost use Rattle.rtp_stream.specs.declared.fate.Fate.TheVariants.{Restarted};
+ghost use Rattle.rtp_stream.specs.Anchor.{is_restart_in_reach, media_time_of, restart_media_time};
+ghost use Rattle.rtp_stream.specs.PacketRef.{packet_of};
+ghost use Rattle.rtp_stream.specs.Counts.{is_counted_fate, is_taken_fate};
+ghost use Rattle.rtp_stream.specs.Fate as fate;
+ghost use Rattle.rtp_stream.specs.Probation.{is_off};
+ghost use Rattle.rtp_stream.specs.declared.stream_spec.Stream.{Stream};
+
+use super::Merge;
+use crate::window::Window;
+use rtp_stream::{
+    Anchor, Fate, Packet, PacketRef, Path, Probation, fate_of_first, fate_of_put, goes_on,
+    is_off_place, is_taken, media_of_first, media_of_restart, place_of, update_probation,
+};
+
+/// So many arrivals are counted: 2^62.
+const MOST_ARRIVALS: u64 = 4_611_686_018_427_387_904;
+
+impl<V: Window> Merge<V> {
+    ghost use Rattle.rtp_stream.specs.StreamSpec.{Fits};
+    ghost use Rattle.path_merge.specs.Merge.{HasHistory};
+    ghost use Rattle.path_merge.specs.Window.{IsEmpty};
+    ghost use Rattle.path_merge.specs.Steps.{IsFirstStep, IsHeardStep, IsNextStep, IsPutStep, IsRefusal, IsRestartStep, Offers, epoch_media, opening_of, opens_epoch};
+
+    /// Takes a packet of the stream's length that came in on one of its paths.
+    pub fn offer(&mut self, path: Path, packet: Packet) -> Fate
+        requires path { path < self.old.spec.paths }
+        requires fits { Fits self.old.spec packet }
+        ensures stands { (stream : Stream) (open_at : ℤ) (events : List Event) (k : ℕ)
+            → HasHistory stream open_at self.old events k → Offers stream open_at self.new events k path packet result }
+        ensures refused { is_taken_fate result ≡ false → IsRefusal self.old self.new path result }
+        ensures unheard { is_counted_fate result ≡ false → self.new ≡ self.old }
+        ensures time { self.new.time ≡ self.old.time }
+        ensures closed { self.new.closed ≡ self.old.closed }
+        ensures spec { self.new.spec ≡ self.old.spec }
+    {
+        self.offer_ref(path, packet.lent())
+    }
+
+    /// As `offer`, of a packet that is lent: its samples are copied to where they stay.
+    #[inline]
+    pub fn offer_ref(&mut self, path: Path, packet: PacketRef<'_>) -> Fate
+        requires path { path < self.old.spec.paths }
+        requires fits { Fits self.old.spec (packet_of packet) }
+        ensures stands { (stream : Stream) (open_at : ℤ) (events : List Event) (k : ℕ)
+            → HasHistory stream open_at self.old events k → Offers stream open_at self.new events k path (packet_of packet.entry) result }
+        ensures refused { is_taken_fate result ≡ false → IsRefusal self.old self.new path result }
+        ensures unheard { is_counted_fate result ≡ false → self.new ≡ self.old }
+        ensures time { self.new.time ≡ self.old.time }
+        ensures closed { self.new.closed ≡ self.old.closed }
+        ensures spec { self.new.spec ≡ self.old.spec }
+    {
+        if self.closed {
+            return Fate::Closed;
+        }
+        if self.counts.arrived == MOST_ARRIVALS {
+            return Fate::CountersFull;
+        }
+        match self.anchor {
+            Some(anchor) => self.offer_next(anchor, path, &packet),
+            None => {
+                // A copy, so that the frequent way keeps its packet in registers; so also of a rare one below.
+                let first = packet;
+                self.offer_first(path, &first)
+            }
+        }
+    }
+
+    /// Takes an arrival at an anchored merge.
+    #[inline(always)]
+    fn offer_next(&mut self, anchor: Anchor, path: Path, packet: &PacketRef<'_>) -> Fate
+        requires anchored { self.old.anchor ≡ Some anchor }
+        requires open_yet { self.old.closed ≡ false }
+        requires room { self.old.counts.arrived < 2 ^ 62 }
+        requires fits { Fits self.old.spec (packet_of packet.now) }
+        ensures next { opens_epoch self.old anchor path (packet_of packet.now) ≡ false → IsNextStep self.old.spec self.old self.new anchor path (packet_of packet.now) result }
+        ensures restart { opens_epoch self.old anchor path (packet_of packet.now) ≡ true → IsRestartStep self.old.spec self.old self.new anchor path (packet_of packet.now) result }
+    {
+        let next = self.window.base();
+        match place_of(&self.spec, &anchor, next, self.next_media, packet) {
+            Ok(number) => self.offer_at(anchor, Ok(number), path, packet),
+            Err(_) => {
+                let rare = *packet;
+                self.offer_elsewhere(path, &rare)
+            }
+        }
+    }
+
+    /// Takes an arrival at an anchored merge, wherever it belongs: most have a place in the window, and are taken
+    /// before.
+    #[inline(never)]
+    fn offer_elsewhere(&mut self, path: Path, packet: &PacketRef<'_>) -> Fate
+        requires open_yet { self.old.closed ≡ false }
+        requires room { self.old.counts.arrived < 2 ^ 62 }
+        requires fits { Fits self.old.spec (packet_of packet.now) }
+        ensures next { (a : Anchor) → self.old.anchor ≡ Some a → opens_epoch self.old a path (packet_of packet.now) ≡ false → IsNextStep self.old.spec self.old self.new a path (packet_of packet.now) result }
+        ensures restart { (a : Anchor) → self.old.anchor ≡ Some a → opens_epoch self.old a path (packet_of packet.now) ≡ true → IsRestartStep self.old.spec self.old self.new a path (packet_of packet.now) result }
+    {
+        match self.anchor {
+            Some(anchor) => {
+                let next = self.window.base();
+                let place = place_of(&self.spec, &anchor, next, self.next_media, packet);
+                self.offer_at(anchor, place, path, packet)
+            }
+            // Never at an anchored merge.
+            None => Fate::Late,
+        }
+    }
+
+    /// Takes an arrival at an anchored merge, by its place.
+    #[inline(always)]
+    fn offer_at(
+        &mut self,
+        anchor: Anchor,
+        place: Result<u64, Fate>,
+        path: Path,
+        packet: &PacketRef<'_>,
+    ) -> Fate
+        requires anchored { self.old.anchor ≡ Some anchor }
+        requires open_yet { self.old.closed ≡ false }
+        requires room { self.old.counts.arrived < 2 ^ 62 }
+        requires fits { Fits self.old.spec (packet_of packet.now) }
+        requires place { place ≡ fate.place_of self.old.spec anchor self.old.base (packet_of packet.now) }
+        ensures next { opens_epoch self.old anchor path (packet_of packet.now) ≡ false → IsNextStep self.old.spec self.old self.new anchor path (packet_of packet.now) result }
+        ensures restart { opens_epoch self.old anchor path (packet_of packet.now) ≡ true → IsRestartStep self.old.spec self.old self.new anchor path (packet_of packet.now) result }
+    {
+        let _ = &self.spec;
+        match self.update_probation_of(anchor, path, is_off_place(&place), packet) {
+            Some(media) => {
+                self.restart(anchor, media, path, packet);
+                Fate::Restarted
+            }
+            None => self.put_or_refuse(anchor, place, path, packet),
+        }
+    }
+
+    /// Hears a packet on its path, and answers the media time of the epoch that it opens.
+    #[inline(always)]
+    fn update_probation_of(
+        &mut self,
+        anchor: Anchor,
+        path: Path,
+        off: bool,
+        packet: &PacketRef<'_>,
+    ) -> Option<i64>
+        requires anchored { self.old.anchor ≡ Some anchor }
+        requires open_yet { self.old.closed ≡ false }
+        requires off { off ≡ is_off self.old.spec anchor self.old.base (packet_of packet.now) }
+        ensures opening { result ≡ opening_of self.old anchor path (packet_of packet.now) }
+        ensures step { IsHeardStep self.old self.new anchor path (packet_of packet.now) }
+    {
+        if update_probation(&mut self.probations, path, &self.spec, off, packet) {
+            self.media_of_epoch(packet)
+        } else {
+            None
+        }
+    }
+
+    /// Puts a packet at its place, or refuses one that has none, and counts it.
+    #[inline(always)]
+    fn put_or_refuse(
+        &mut self,
+        anchor: Anchor,
+        place: Result<u64, Fate>,
+        path: Path,
+        packet: &PacketRef<'_>,
+    ) -> Fate
+        requires anchored { self.old.anchor ≡ Some anchor }
+        requires open_yet { self.old.closed ≡ false }
+        requires room { self.old.counts.arrived < 2 ^ 62 }
+        requires fits { Fits self.old.spec (packet_of packet.now) }
+        requires place { place ≡ fate.place_of self.old.spec anchor self.old.base (packet_of packet.now) }
+        ensures { IsPutStep self.old.spec self.old self.new anchor path (packet_of packet.now) result }
+    {
+        match place {
+            Ok(number) => {
+                let fate = fate_of_put(self.window.put_ref(number, *packet));
+                self.counts.add_fate(path, fate);
+                fate
+            }
+            Err(fault) => {
+                self.counts.add_fate(path, fault);
+                fault
+            }
+        }
+    }
+
+    /// The media time of an epoch that a packet may open: nothing is held, and media time goes on.
+    fn media_of_epoch(&self, packet: &PacketRef<'_>) -> Option<i64>
+        requires open_yet { self.now.closed ≡ false }
+        ensures { (a : Anchor) → self.now.anchor ≡ Some a → result ≡ epoch_media self.now a (packet_of packet.now) }
+    {
+        if self.window.base() < self.window.end() {
+            return None;
+        }
+        let due = self.next_media;
+        let media = media_of_restart(self.spec.clock(), packet.ts, self.time, due);
+        if !goes_on(&self.spec, self.time, due, media) {
+            return None;
+        }
+        Some(media)
+    }
+
+    /// Begins a new epoch at a packet, where nothing is held.
+    #[inline(never)]
+    fn restart(&mut self, anchor: Anchor, media: i64, path: Path, packet: &PacketRef<'_>)
+        requires anchored { self.old.anchor ≡ Some anchor }
+        requires open_yet { self.old.closed ≡ false }
+        requires room { self.old.counts.arrived < 2 ^ 62 }
+        requires fits { Fits self.old.spec (packet_of packet.now) }
+        requires few_epochs { anchor.epoch < 2 ^ 62 }
+        requires nothing_held { IsEmpty self.old.held }
+        requires goes_on { is_restart_in_reach self.old.spec self.old.time (media_time_of self.old.spec anchor self.old.base) media ≡ true }
+        requires media { media ≡ restart_media_time self.old.spec.clock packet.now.ts self.old.time (media_time_of self.old.spec anchor self.old.base) }
+        ensures { IsRestartStep self.old.spec self.old self.new anchor path (packet_of packet.now) Restarted }
+    {
+        let next = Anchor::following(anchor.epoch, packet.seq, packet.ts, packet.ssrc, media);
+        self.anchor = Some(next);
+        self.next_media = media;
+        self.window.begin_at(next.number);
+        let _ = self.window.put_ref(next.number, *packet);
+        self.probations = [Probation::new(); 4];
+        self.counts.add_fate(path, Fate::Restarted);
+    }
+
+    /// Takes an arrival at a merge with no anchor.
+    #[inline(never)]
+    fn offer_first(&mut self, path: Path, packet: &PacketRef<'_>) -> Fate
+        requires unanchored { self.old.anchor ≡ None }
+        requires open_yet { self.old.closed ≡ false }
+        requires room { self.old.counts.arrived < 2 ^ 62 }
+        requires fits { Fits self.old.spec (packet_of packet.now) }
+        ensures step { IsFirstStep self.old.spec self.old self.new path (packet_of packet.now) result }
+        ensures seq { packet.now.seq < 2 ^ 16 }
+        ensures ts { packet.now.ts < 2 ^ 32 }
+    {
+        let media = media_of_first(self.spec.clock(), packet.ts, self.time);
+        let anchor = Anchor::first(packet.seq, packet.ts, packet.ssrc, media);
+        let fate = fate_of_first(&self.spec, self.time, media, packet.ssrc);
+        if !is_taken(fate) {
+            self.counts.add_fate(path, fate);
+            return fate;
+        }
+        self.anchor = Some(anchor);
+        self.next_media = media;
+        self.window.begin_at(anchor.number);
+        let _ = self.window.put_ref(anchor.number, *packet);
+        self.counts.add_fate(path, Fate::Taken);
+        Fate::Taken
+    }
+}

@@ -1,0 +1,205 @@
+-- A whole record is read as it was written.
+use Rattle.std.proofs.Common.{◌≡◌, ◌<◌, ◌≤◌, ◌+◌, ◌^◌, ℕ, zero, suc, true, List, [], ◌∷◌, ◌++◌, length, slice_get, nat_le, Some, None, Ok, refl, sym, ap, ◌∙◌, arith, append_assoc, append-nil, length-append}
+use Rattle.std.specs.List.{All}
+use Rattle.std.proofs.lemmas.Bool.Decides.{nat_tests}
+use Rattle.pcap_file.specs.declared.cursor.Format.TheVariants as format
+use Rattle.pcap_file.specs.declared.decode.interface.Interface.{Interface}
+use Rattle.pcap_file.specs.declared.decode.record_mark.RecordMark.TheVariants.{Opened, Closed}
+use Rattle.pcap_file.specs.declared.decode.endian.Endian.TheVariants.{Big, Little}
+use Rattle.pcap_file.specs.Octets.{number_at}
+use Rattle.pcap_file.specs.Section.{is_section_header, no_section}
+use Rattle.pcap_file.specs.Capture.{Item, is_pcapng, packets_from, packets_of, packets_past}
+use Rattle.pcap_file.specs.Entries.{Mark, Packet, entries_from, entries_of, entries_past}
+use Rattle.pcap_file.specs.RecordedDatagram.{ArrivalView}
+use Rattle.pcap_file.specs.Blocks.{block_octets, closing_block, datagram_block, interface_block, section_block, section_body}
+use Rattle.pcap_file.specs.WrittenRecord.{IsArrival, IsName, Name, closed_record, datagram_blocks, interface_blocks, items_of, open_record, packet_entries, packet_of}
+use Rattle.pcap_file.proofs.ClosingLemmas.{tells_closing}
+use Rattle.pcap_file.proofs.DatagramLemmas.{tells_datagram}
+use Rattle.pcap_file.proofs.WriteInterfaceLemmas.{raw, tells_interface}
+use Rattle.pcap_file.proofs.OpeningLemmas.{tells_opening, whole_opening}
+use Rattle.pcap_file.proofs.WholeLemmas.{at, told_entries, told_packet}
+
+-- so many interfaces
+raws : ℕ → List Interface
+raws zero = []
+raws (suc n) = raw ∷ raws n
+
+more_raws : (n : ℕ) → raws n ++ raw ∷ [] ≡ raws (suc n)
+unfolding raws
+more_raws zero = refl
+more_raws (suc n) = ap (λ l. raw ∷ l) (more_raws n)
+
+count_raws : (n : ℕ) → length (raws n) ≡ n
+unfolding raws
+count_raws zero = refl
+count_raws (suc n) = omega (arith, count_raws n)
+
+raw_at : (n i : ℕ) → i < n → slice_get (raws n) i ≡ Some raw
+unfolding raws
+raw_at zero i h = absurd (omega arith)
+raw_at (suc n) zero h = refl
+raw_at (suc n) (suc i) h = raw_at n i (omega (arith, h))
+
+-- what holds of all holds of the first and of the others
+of_first : {X : Type 0} (P : X → Type 0) (x : X) (xs : List X) → All P (x ∷ xs) → P x
+of_first P x xs every = every 0 x (omega arith)
+
+of_others : {X : Type 0} (P : X → Type 0) (x : X) (xs : List X) → All P (x ∷ xs) → All P xs
+of_others P x xs every = λ k d h. every (suc k) d (omega (arith, h))
+
+-- what is told behind the interfaces
+interfaces_packets : (names : List Name) (n : ℕ) (place : ℕ) (rest : List ℕ) (items : List Item) → All IsName names → n + length names ≤ 64
+    → ((place : ℕ) → packets_from (at (raws (n + length names))) place rest ≡ items)
+    → packets_from (at (raws n)) place (interface_blocks names ++ rest) ≡ items
+interfaces_packets [] n place rest items names few then = ap (λ k. packets_from (at (raws k)) place rest) (omega arith) ∙ then place
+interfaces_packets (name ∷ names) n place rest items every few then =
+    let is : IsName name = of_first IsName name names every in
+    let all : All IsName names = of_others IsName name names every in
+    let block : List ℕ = interface_block name.0 name.1 in
+    let size = count_raws n in
+    ap (packets_from (at (raws n)) place) (append_assoc block (interface_blocks names) rest)
+    ∙ told_packet Little (raws n) (raws n ++ raw ∷ []) block (interface_blocks names ++ rest) None None place (tells_interface (raws n) name.0 name.1 is (omega (arith, size, few)))
+    ∙ ap (λ l. packets_from (at l) (place + length block) (interface_blocks names ++ rest)) (more_raws n)
+    ∙ interfaces_packets names (suc n) (place + length block) rest items all (omega (arith, few))
+    (λ p. ap (λ k. packets_from (at (raws k)) p rest) (omega arith) ∙ then p)
+
+interfaces_entries : (names : List Name) (n : ℕ) (rest : List ℕ) → All IsName names → n + length names ≤ 64
+    → entries_from (at (raws n)) (interface_blocks names ++ rest) ≡ entries_from (at (raws (n + length names))) rest
+interfaces_entries [] n rest names few = ap (λ k. entries_from (at (raws k)) rest) (omega arith)
+interfaces_entries (name ∷ names) n rest every few =
+    let is : IsName name = of_first IsName name names every in
+    let all : All IsName names = of_others IsName name names every in
+    let block : List ℕ = interface_block name.0 name.1 in
+    let size = count_raws n in
+    ap (entries_from (at (raws n))) (append_assoc block (interface_blocks names) rest)
+    ∙ told_entries Little (raws n) (raws n ++ raw ∷ []) block (interface_blocks names ++ rest) None None (tells_interface (raws n) name.0 name.1 is (omega (arith, size, few)))
+    ∙ ap (λ l. entries_from (at l) (interface_blocks names ++ rest)) (more_raws n)
+    ∙ interfaces_entries names (suc n) rest all (omega (arith, few))
+    ∙ ap (λ k. entries_from (at (raws k)) rest) (omega arith)
+
+-- and behind the datagrams
+datagrams_packets : (arrivals : List ArrivalView) (n : ℕ) (place : ℕ) (rest : List ℕ) (items : List Item) → All (IsArrival n) arrivals → n ≤ 64
+    → ((place : ℕ) → packets_from (at (raws n)) place rest ≡ items)
+    → packets_from (at (raws n)) place (datagram_blocks arrivals ++ rest) ≡ items_of arrivals ++ items
+datagrams_packets [] n place rest items all few then = then place
+datagrams_packets (a ∷ arrivals) n place rest items every few then =
+    let is : IsArrival n a = of_first (IsArrival n) a arrivals every in
+    let all : All (IsArrival n) arrivals = of_others (IsArrival n) a arrivals every in
+    let block : List ℕ = datagram_block a in
+    ap (packets_from (at (raws n)) place) (append_assoc block (datagram_blocks arrivals) rest)
+    ∙ told_packet Little (raws n) (raws n) block (datagram_blocks arrivals ++ rest) (Some (packet_of a)) None place (tells_datagram (raws n) n a is few (raw_at n a.interface is.interface))
+    ∙ ap (λ l. Ok (packet_of a) ∷ l) (datagrams_packets arrivals n (place + length block) rest items all few then)
+
+datagrams_entries : (arrivals : List ArrivalView) (n : ℕ) (rest : List ℕ) → All (IsArrival n) arrivals → n ≤ 64
+    → entries_from (at (raws n)) (datagram_blocks arrivals ++ rest) ≡ packet_entries arrivals ++ entries_from (at (raws n)) rest
+datagrams_entries [] n rest all few = refl
+datagrams_entries (a ∷ arrivals) n rest every few =
+    let is : IsArrival n a = of_first (IsArrival n) a arrivals every in
+    let all : All (IsArrival n) arrivals = of_others (IsArrival n) a arrivals every in
+    let block : List ℕ = datagram_block a in
+    ap (entries_from (at (raws n))) (append_assoc block (datagram_blocks arrivals) rest)
+    ∙ told_entries Little (raws n) (raws n) block (datagram_blocks arrivals ++ rest) (Some (packet_of a)) None (tells_datagram (raws n) n a is few (raw_at n a.interface is.interface))
+    ∙ ap (λ l. Packet (packet_of a) ∷ l) (datagrams_entries arrivals n rest all few)
+
+-- the first block shows the format
+begins_ours : (n : ℕ) (rest : List ℕ) → is_section_header (section_block n ++ rest) ≡ true
+unfolding number_at section_block block_octets section_body
+begins_ours n rest = refl
+
+is_ours : (n : ℕ) (rest : List ℕ) → n < 2 ^ 63 → is_pcapng (section_block n ++ rest) ≡ true
+is_ours n rest small =
+    let whole = whole_opening n small in
+    let more = length-append (section_block n) rest in
+    let size : 4 ≤ length (section_block n ++ rest) = omega (arith, whole.long, more) in
+    let long : nat_le 4 (length (section_block n ++ rest)) ≡ true = grind (arith, nat_tests, size) in
+    rw (long, begins_ours n rest) refl
+
+packets_ours : (n : ℕ) (rest : List ℕ) → n < 2 ^ 63 → packets_of (section_block n ++ rest) ≡ packets_from (record { format = format.Pcapng; section = no_section }) 0 (section_block n ++ rest)
+unfolding packets_of
+packets_ours n rest small = rw (is_ours n rest small) refl
+
+entries_ours : (n : ℕ) (rest : List ℕ) → n < 2 ^ 63 → entries_of (section_block n ++ rest) ≡ entries_from (record { format = format.Pcapng; section = no_section }) (section_block n ++ rest)
+unfolding entries_of
+entries_ours n rest small = rw (is_ours n rest small) refl
+
+-- what follows the section header
+opened_packets : (n : ℕ) (rest : List ℕ) (items : List Item) → n < 2 ^ 63 → ((place : ℕ) → packets_from (at []) place rest ≡ items) → packets_of (section_block n ++ rest) ≡ items
+opened_packets n rest items small then =
+    packets_ours n rest small ∙ told_packet Big [] [] (section_block n) rest None (Some (Opened n)) 0 (tells_opening Big [] n small) ∙ then (0 + length (section_block n))
+
+opened_entries : (n : ℕ) (rest : List ℕ) → n < 2 ^ 63 → entries_of (section_block n ++ rest) ≡ Mark (Opened n) ∷ entries_from (at []) rest
+opened_entries n rest small = entries_ours n rest small ∙ told_entries Big [] [] (section_block n) rest None (Some (Opened n)) (tells_opening Big [] n small)
+
+-- a record with something behind it
+in_turn : (s i d rest : List ℕ) → s ++ i ++ d ++ rest ≡ s ++ (i ++ (d ++ rest))
+in_turn s i d rest = append_assoc (s ++ i) d rest ∙ append_assoc s i (d ++ rest)
+
+record_packets : (n : ℕ) (names : List Name) (arrivals : List ArrivalView) (rest : List ℕ) (items : List Item) → n < 2 ^ 63 → All IsName names → length names ≤ 64
+    → All (IsArrival (length names)) arrivals → ((place : ℕ) → packets_from (at (raws (length names))) place rest ≡ items)
+    → packets_of (open_record n names arrivals ++ rest) ≡ items_of arrivals ++ items
+unfolding raws
+record_packets n names arrivals rest items small named few all then =
+    ap packets_of (in_turn (section_block n) (interface_blocks names) (datagram_blocks arrivals) rest)
+    ∙ opened_packets n (interface_blocks names ++ (datagram_blocks arrivals ++ rest)) (items_of arrivals ++ items) small
+    (λ place. interfaces_packets names 0 place (datagram_blocks arrivals ++ rest) (items_of arrivals ++ items) named (omega (arith, few))
+    (λ p. ap (λ k. packets_from (at (raws k)) p (datagram_blocks arrivals ++ rest)) (omega arith) ∙ datagrams_packets arrivals (length names) p rest items all few then))
+
+record_entries : (n : ℕ) (names : List Name) (arrivals : List ArrivalView) (rest : List ℕ) → n < 2 ^ 63 → All IsName names → length names ≤ 64
+    → All (IsArrival (length names)) arrivals
+    → entries_of (open_record n names arrivals ++ rest) ≡ Mark (Opened n) ∷ (packet_entries arrivals ++ entries_from (at (raws (length names))) rest)
+unfolding raws
+record_entries n names arrivals rest small named few all =
+    ap entries_of (in_turn (section_block n) (interface_blocks names) (datagram_blocks arrivals) rest)
+    ∙ opened_entries n (interface_blocks names ++ (datagram_blocks arrivals ++ rest)) small
+    ∙ ap (λ l. Mark (Opened n) ∷ l)
+    (interfaces_entries names 0 (datagram_blocks arrivals ++ rest) named (omega (arith, few))
+    ∙ ap (λ k. entries_from (at (raws k)) (datagram_blocks arrivals ++ rest)) (omega arith)
+    ∙ datagrams_entries arrivals (length names) rest all few)
+
+nothing_left : (interfaces : List Interface) (place : ℕ) → packets_from (at interfaces) place [] ≡ []
+unfolding packets_past
+nothing_left interfaces place = refl
+
+no_entry_left : (interfaces : List Interface) → entries_from (at interfaces) [] ≡ []
+unfolding entries_past
+no_entry_left interfaces = refl
+
+-- one that isn't closed
+pub open_packets : (n : ℕ) (names : List Name) (arrivals : List ArrivalView) → n < 2 ^ 63 → All IsName names → length names ≤ 64 → All (IsArrival (length names)) arrivals
+    → packets_of (open_record n names arrivals) ≡ items_of arrivals
+open_packets n names arrivals small named few all =
+    ap packets_of (sym (append-nil (open_record n names arrivals)))
+    ∙ record_packets n names arrivals [] [] small named few all (λ place. nothing_left (raws (length names)) place) ∙ append-nil (items_of arrivals)
+
+pub open_entries : (n : ℕ) (names : List Name) (arrivals : List ArrivalView) → n < 2 ^ 63 → All IsName names → length names ≤ 64 → All (IsArrival (length names)) arrivals
+    → entries_of (open_record n names arrivals) ≡ Mark (Opened n) ∷ packet_entries arrivals
+open_entries n names arrivals small named few all =
+    ap entries_of (sym (append-nil (open_record n names arrivals)))
+    ∙ record_entries n names arrivals [] small named few all
+    ∙ ap (λ l. Mark (Opened n) ∷ l) (ap (λ l. packet_entries arrivals ++ l) (no_entry_left (raws (length names))) ∙ append-nil (packet_entries arrivals))
+
+-- and one that is
+closing_packets : (interfaces : List Interface) (time place : ℕ) → time < 2 ^ 64 → slice_get interfaces 0 ≡ Some raw → packets_from (at interfaces) place (closing_block time) ≡ []
+closing_packets interfaces time place fits first =
+    ap (packets_from (at interfaces) place) (sym (append-nil (closing_block time)))
+    ∙ told_packet Little interfaces interfaces (closing_block time) [] None (Some (Closed time)) place (tells_closing interfaces time fits first)
+    ∙ nothing_left interfaces (place + length (closing_block time))
+
+closing_entries : (interfaces : List Interface) (time : ℕ) → time < 2 ^ 64 → slice_get interfaces 0 ≡ Some raw → entries_from (at interfaces) (closing_block time) ≡ Mark (Closed time) ∷ []
+closing_entries interfaces time fits first =
+    ap (entries_from (at interfaces)) (sym (append-nil (closing_block time)))
+    ∙ told_entries Little interfaces interfaces (closing_block time) [] None (Some (Closed time)) (tells_closing interfaces time fits first)
+    ∙ ap (λ l. Mark (Closed time) ∷ l) (no_entry_left interfaces)
+
+pub closed_packets : (n : ℕ) (names : List Name) (arrivals : List ArrivalView) (time : ℕ) → n < 2 ^ 63 → All IsName names → 1 ≤ length names → length names ≤ 64
+    → All (IsArrival (length names)) arrivals → time < 2 ^ 64 → packets_of (closed_record n names arrivals time) ≡ items_of arrivals
+closed_packets n names arrivals time small named some few all fits =
+    record_packets n names arrivals (closing_block time) [] small named few all
+    (λ place. closing_packets (raws (length names)) time place fits (raw_at (length names) 0 (omega (arith, some))))
+    ∙ append-nil (items_of arrivals)
+
+pub closed_entries : (n : ℕ) (names : List Name) (arrivals : List ArrivalView) (time : ℕ) → n < 2 ^ 63 → All IsName names → 1 ≤ length names → length names ≤ 64
+    → All (IsArrival (length names)) arrivals → time < 2 ^ 64 → entries_of (closed_record n names arrivals time) ≡ Mark (Opened n) ∷ (packet_entries arrivals ++ Mark (Closed time) ∷ [])
+closed_entries n names arrivals time small named some few all fits =
+    record_entries n names arrivals (closing_block time) small named few all
+    ∙ ap (λ l. Mark (Opened n) ∷ (packet_entries arrivals ++ l)) (closing_entries (raws (length names)) time fits (raw_at (length names) 0 (omega (arith, some))))

@@ -1,0 +1,62 @@
+-- A record, block behind block, and what is told of it.
+use Rattle.std.specs.Prelude.{◌≡◌, ◌<◌, ◌≤◌, ◌^◌, ℕ, List, [], ◌∷◌, ◌++◌, length, map, Some, Ok}
+use Rattle.pcap_file.specs.Packet.{PacketView}
+use Rattle.pcap_file.specs.UdpPacket.{Whole}
+use Rattle.pcap_file.specs.Capture.{Item}
+use Rattle.pcap_file.specs.Entries.{Entry, Packet}
+use Rattle.pcap_file.specs.RecordedDatagram.{ArrivalView}
+use Rattle.pcap_file.specs.Blocks.{section_block, interface_block, datagram_block, closing_block}
+
+-- a path's stream and letter
+abbrev pub Name : Type 0
+Name = ℕ × ℕ
+
+-- the stream's number fits 16 bits
+abbrev pub IsName : Name → Type 0
+IsName name = name.0 < 2 ^ 16
+
+-- the interfaces of paths, one behind the other
+abbrev pub interface_blocks : List Name → List ℕ
+interface_blocks [] = []
+interface_blocks (name ∷ names) = interface_block name.0 name.1 ++ interface_blocks names
+
+-- the datagrams that came
+abbrev pub datagram_blocks : List ArrivalView → List ℕ
+datagram_blocks [] = []
+datagram_blocks (arrival ∷ arrivals) = datagram_block arrival ++ datagram_blocks arrivals
+
+-- a record that isn't closed, and one that is
+abbrev pub open_record : ℕ → List Name → List ArrivalView → List ℕ
+open_record open_at names arrivals = section_block open_at ++ interface_blocks names ++ datagram_blocks arrivals
+
+abbrev pub closed_record : ℕ → List Name → List ArrivalView → ℕ → List ℕ
+closed_record open_at names arrivals closed = open_record open_at names arrivals ++ closing_block closed
+
+-- a datagram that can be written: on a described interface, of two addresses, with numbers that fit their octets
+pub record IsArrival (count : ℕ) (a : ArrivalView) : Type 0 where
+  pub interface : a.interface < count
+  pub nanoseconds : a.nanoseconds < 2 ^ 64
+  pub source : length a.source ≡ 4
+  pub source_port : a.source_port < 2 ^ 16
+  pub destination : length a.destination ≡ 4
+  pub destination_port : a.destination_port < 2 ^ 16
+  pub octets : length a.octets ≤ 2048
+
+-- the packet that it is read as
+abbrev pub packet_of : ArrivalView → PacketView
+packet_of a = record {
+  time = Some a.nanoseconds;
+  interface = a.interface;
+  ip = record {
+    source = a.source;
+    destination = a.destination;
+    body = Whole (record { source_port = a.source_port; destination_port = a.destination_port; payload = a.octets });
+  };
+}
+
+abbrev pub items_of : List ArrivalView → List Item
+items_of arrivals = map (λ a. Ok (packet_of a)) arrivals
+
+-- the same as entries
+abbrev pub packet_entries : List ArrivalView → List Entry
+packet_entries arrivals = map (λ a. Packet (packet_of a)) arrivals

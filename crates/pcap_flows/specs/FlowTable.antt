@@ -1,0 +1,63 @@
+-- The flows of a capture.
+use Rattle.std.specs.Prelude.{ℕ, List, [], ◌∷◌, ◌++◌, length, map, set, slice_index_or, position, Option, Some, None, Ok, Err, nat_lt, if◌then◌else◌}
+use Rattle.pcap_file.specs.declared.fault.CaptureFault.{CaptureFault}
+use Rattle.pcap_file.specs.Capture.{Item}
+use Rattle.pcap_flows.specs.declared.packet.FlowKey.{FlowKey}
+use Rattle.pcap_flows.specs.declared.packet.FlowPacket.{FlowPacket}
+use Rattle.pcap_flows.specs.declared.table.FlowTable.{FlowTable}
+use Rattle.pcap_flows.specs.FlowPacket.{flow_packet_of, same_flow}
+use Rattle.pcap_flows.specs.ReceivedNumbers.{one_more}
+use Rattle.pcap_flows.specs.Flow.{FlowView, flow_first, flow_with, flow_view}
+
+pub record TableView : Type 0 where
+  -- the flows' keys, and what was counted of each
+  pub keys : List FlowKey
+  pub flows : List FlowView
+  -- packets of flows for which there was no room
+  pub untracked : ℕ
+  -- packets that are no RTP
+  pub not_rtp : ℕ
+  pub fault : Option CaptureFault
+
+abbrev pub no_table : TableView
+no_table = record { keys = []; flows = []; untracked = 0; not_rtp = 0; fault = None }
+
+-- a flow's first packet
+abbrev pub table_begun : TableView → FlowPacket → TableView
+table_begun t s = record { keys = t.keys ++ s.key ∷ []; flows = t.flows ++ flow_first s ∷ []; untracked = t.untracked; not_rtp = t.not_rtp; fault = t.fault }
+
+-- a packet of the flow at a place, or of a new one, of which there are 256 at most
+abbrev pub seen_at : TableView → FlowPacket → Option ℕ → TableView
+seen_at t s (Some place) = record {
+  keys = t.keys;
+  flows = set t.flows place (flow_with (slice_index_or t.flows place (flow_first s)) s);
+  untracked = t.untracked;
+  not_rtp = t.not_rtp;
+  fault = t.fault;
+}
+seen_at t s None =
+    if nat_lt (length t.keys) 256
+    then table_begun t s
+    else record { keys = t.keys; flows = t.flows; untracked = one_more t.untracked; not_rtp = t.not_rtp; fault = t.fault }
+
+-- a packet is counted in its flow
+unfoldable pub table_seeing : TableView → FlowPacket → TableView
+table_seeing t s = seen_at t s (position (same_flow s.key) t.keys)
+
+abbrev pub table_telling : TableView → Option FlowPacket → TableView
+table_telling t None = record { keys = t.keys; flows = t.flows; untracked = t.untracked; not_rtp = one_more t.not_rtp; fault = t.fault }
+table_telling t (Some s) = table_seeing t s
+
+-- what is told of a capture is counted
+unfoldable pub table_with : TableView → Item → TableView
+table_with t (Ok packet) = table_telling t (flow_packet_of packet)
+table_with t (Err fault) = record { keys = t.keys; flows = t.flows; untracked = t.untracked; not_rtp = t.not_rtp; fault = Some fault }
+
+-- all of it, one after the other
+unfoldable pub table_after : TableView → List Item → TableView
+table_after t [] = t
+table_after t (item ∷ items) = table_after (table_with t item) items
+
+-- what the code's value stands for
+abbrev pub table_view : FlowTable → TableView
+table_view t = record { keys = t.keys.items; flows = map flow_view t.flows.items; untracked = t.untracked; not_rtp = t.not_rtp; fault = t.fault }

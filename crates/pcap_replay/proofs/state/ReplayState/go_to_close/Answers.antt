@@ -1,0 +1,22 @@
+use Rattle.std.proofs.Common.{◌≡◌, Err, rules}
+use Rattle.pcap_replay.specs.Routing.{plan_view}
+use Rattle.pcap_replay.proofs.CaseLemmas.{err_both, ok_then}
+use Rattle.pcap_replay.proofs.ReplayLemmas.{come_to_close, stops_at_close}
+use Rattle.pcap_replay.proofs.state.ReplayState.go_to_close.Goals as goal
+
+pub returns-in_err-told-clause-fault : goal.returns-in_err-told-clause-fault
+returns-in_err-told-clause-fault g c =
+    let is : c.from_residual.result ≡ Err c.in_err-told.field-0.0 = search rules in
+    rw is (λ studio first written begun r. c.in_err-told.ensures.fault studio first written begun r)
+
+pub returns-clause-ok : goal.returns-clause-ok
+returns-clause-ok g c =
+    ok_then c.read.result _ _ (λ reads studio first written begun r.
+    come_to_close studio (plan_view c.args.plan.now) c.in_ok-told.told c.closing.result c.opening.result first written _ _ _ _ c.run_events.new.self c.read.new.self c.opening.ensures c.closing.ensures
+    (c.in_ok-told.ensures.ok studio first written begun r) (λ events replayed. reads studio events written begun replayed)) c.read.ensures.ok
+
+pub returns-clause-fault : goal.returns-clause-fault
+returns-clause-fault g c =
+    err_both c.read.result _ _ _ (λ fault kind stops studio first written begun r.
+    stops_at_close studio (plan_view c.args.plan.now) c.in_ok-told.told c.closing.result c.opening.result first written _ _ _ _ c.run_events.new.self c.read.new.self fault c.opening.ensures c.closing.ensures kind
+    (c.in_ok-told.ensures.ok studio first written begun r) (λ events replayed. stops studio events written begun replayed)) c.read.ensures.kind c.read.ensures.fault

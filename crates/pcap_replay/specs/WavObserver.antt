@@ -1,0 +1,50 @@
+-- The samples of a replay's datagrams in a WAV file.
+use Rattle.std.specs.Prelude.{◌≡◌, ◌≤◌, ℕ, ◌+◌, Bool, true, false, List, ◌++◌, length, take, Option, Some}
+use Rattle.std.specs.Io.KnownBytes.{Appends}
+use Rattle.wav_file.specs.declared.header.WavFormat.{WavFormat}
+use Rattle.wav_file.specs.Head.{head_octets}
+use Rattle.wav_file.specs.File.{WavState}
+use Rattle.studio_session.specs.Event.{TraceEvent}
+use Rattle.wav_file.specs.MixWav.{HasAdded}
+use Rattle.wav_file.specs.MixSamples.{samples_in}
+use Rattle.pcap_replay.specs.Observed.{HasHeardIf}
+
+-- what contracts see of a file that is written: its octets, if it tells them, its format and count, and whether a write failed
+pub record SoundState : Type 0 where
+  pub made : Option (List ℕ)
+  pub wav : WavState
+  pub failed : Bool
+
+-- it tells its octets, and has its head alone
+pub record HasHead (sound : SoundState) : Type 0 where
+  pub whole : sound.failed ≡ false
+  pub none : sound.wav.count ≡ 0
+  pub made : sound.made ≡ Some (head_octets sound.wav.format 0)
+
+-- the samples of the first so many of these datagrams were added, whole payloads, and a rest that isn't counted
+pub record HasAddedFirst (first now : SoundState) (datagrams : List (List ℕ)) : Type 0 where
+  pub count : ℕ
+  pub within : count ≤ length datagrams
+  pub rest : List ℕ
+  pub added : Appends first.made now.made (samples_in first.wav.format.enc (take count datagrams) ++ rest)
+  pub counted : now.wav.count ≡ first.wav.count + length (samples_in first.wav.format.enc (take count datagrams))
+  pub format : now.wav.format ≡ first.wav.format
+
+-- those of all were; or, once a write failed, of the first
+abbrev pub HasAddedBy : Bool → SoundState → SoundState → List (List ℕ) → Type 0
+HasAddedBy false first now datagrams = HasAdded first.made now.made first.wav now.wav (samples_in first.wav.format.enc datagrams)
+HasAddedBy true first now datagrams = HasAddedFirst first now datagrams
+
+abbrev pub HasSounded : SoundState → SoundState → List (List ℕ) → Type 0
+HasSounded first now datagrams = HasAddedBy now.failed first now datagrams
+
+-- the same of one that there may be, whatever the events
+abbrev pub HasSoundedIf : Option SoundState → Option SoundState → List TraceEvent → List (List ℕ) → Type 0
+HasSoundedIf first now events datagrams = HasHeardIf (λ first now _ datagrams. HasSounded first now datagrams) first now events datagrams
+
+-- a file that holds the samples of the first so many of these datagrams, with the sizes of these, and a rest that doesn't count
+pub record HasFront (format : WavFormat) (made : Option (List ℕ)) (datagrams : List (List ℕ)) : Type 0 where
+  pub count : ℕ
+  pub within : count ≤ length datagrams
+  pub rest : List ℕ
+  pub holds : made ≡ Some (head_octets format (length (samples_in format.enc (take count datagrams))) ++ samples_in format.enc (take count datagrams) ++ rest)

@@ -1,8 +1,0 @@
-use Rattle.std.proofs.Common.{◌≡◌}
-use Rattle.reception_chart.proofs.reception.stream_tracker.watch_stream.Given as goal
-
--- so many events were taken, and their marks given
-abbrev pub invariant-loop-place : goal.invariant-loop-place
-invariant-loop-place g l = record {
-  taken : l.fn.watch.cursor.place ≡ 0 → l.watch.cursor.place ≡ l.place;
-}

@@ -1,0 +1,19 @@
+-- What is told of a path, by the packets that were offered, the latest first.
+use Rattle.std.specs.Prelude.{◌≡◌, ℕ, ◌^◌, ◌<◌, List, [], length, ℤ, IfSome, IsNone}
+use Rattle.rtp_stream.specs.declared.stream_spec.Stream.{Stream}
+use Rattle.rtp_stats.specs.Offer.{Offer}
+use Rattle.rtp_stats.specs.Missed.{missed_of}
+use Rattle.rtp_stats.specs.Offers.{count_in_64_bits, double_of, first_of, late_of, unlike_of}
+use Rattle.rtp_stats.specs.Margins.{IsLatest, IsLeast, IsMedian, last_spares}
+use Rattle.rtp_stats.specs.declared.stats.PathStats.{PathStats}
+
+-- what became of the packets of a path, and the spare times of the whole second before this reading's
+pub record AreNumbers (stream : Stream) (offers : List Offer) (path : ℕ) (now : ℤ) (numbers : PathStats) : Type 0 where
+  pub first : numbers.tally.first ≡ count_in_64_bits (first_of path offers)
+  pub double : numbers.tally.double ≡ count_in_64_bits (double_of path offers)
+  pub unlike : numbers.tally.unlike ≡ count_in_64_bits (unlike_of path offers)
+  pub late : numbers.tally.late ≡ count_in_64_bits (late_of path offers)
+  pub missed : numbers.tally.missed ≡ count_in_64_bits (missed_of stream.window path offers)
+  pub least : IfSome numbers.spare (λ spare. IsLeast (last_spares path now offers) spare.least)
+  pub median : length (last_spares path now offers) < 2 ^ 32 → IfSome numbers.spare (λ spare. IsMedian (last_spares path now offers) spare.median)
+  pub none : IsLatest now offers → IsNone numbers.spare → last_spares path now offers ≡ []

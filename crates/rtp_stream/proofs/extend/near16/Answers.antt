@@ -1,0 +1,16 @@
+use Rattle.std.proofs.Common.{◌≡◌, pos, ◌-ℤ◌, arith, ap, sym, ◌∙◌}
+use Rattle.std.proofs.lemmas.Int.{ints}
+use Rattle.std.specs.Int.{int_rem_euclid}
+use Rattle.rtp_stream.proofs.NearestLemmas.{IsNearest-nearest_number, nearest_number-only}
+use Rattle.rtp_stream.proofs.extend.near16.Goals as goal
+
+pub returns-clause-value : goal.returns-clause-value
+returns-clause-value c =
+    let e : c.rem_euclid.result ≡ int_rem_euclid (pos c.args.s -ℤ (c.args.r -ℤ pos 32768)) (pos 65536) = c.rem_euclid.ensures.value ∙ ap (λ z. int_rem_euclid z (pos 65536)) (omega (arith, ints)) in
+    omega (arith, ints)
+
+pub returns-clause-nearest : goal.returns-clause-nearest
+returns-clause-nearest c = rw (returns-clause-value c) (IsNearest-nearest_number 32768 c.args.s c.args.r (omega arith))
+
+pub returns-clause-only : goal.returns-clause-only
+returns-clause-only c n h = nearest_number-only 32768 c.args.s c.args.r n (omega arith) h ∙ sym (returns-clause-value c)

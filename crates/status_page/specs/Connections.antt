@@ -1,0 +1,24 @@
+-- What a client was answered.
+use Rattle.std.specs.Prelude.{◌≡◌, ℕ, List, ◌++◌, All}
+use Rattle.http.specs.declared.request.Request.{Request}
+use Rattle.http.specs.Request.{head_of}
+use Rattle.http_uri.specs.Uri.{uri_path}
+use Rattle.http_server.specs.declared.response.Response.{Response}
+use Rattle.http_server.specs.Exchange.{Call}
+use Rattle.http_server.specs.History.{History}
+use Rattle.status_page.specs.declared.snapshot.Snapshot.{Snapshot}
+use Rattle.status_page.specs.Responses.{IsAnswer}
+
+-- a request and the answer to its method and path
+abbrev pub IsAnswered : Snapshot → Request (List ℕ) → Response → Type 0
+IsAnswered snapshot request response = IsAnswer snapshot (head_of request).method (uri_path (head_of request).uri) response
+
+-- an answer leaves the page as it was
+abbrev pub page_answers : Snapshot → Request (List ℕ) → Response → Snapshot → Type 0
+page_answers old request response new = IsAnswered old request response × (new ≡ old)
+
+-- further requests were answered, each from the snapshot
+pub record AnswersMore (snapshot : Snapshot) (old new : History) : Type 0 where
+  pub more : List Call
+  pub follow : new.calls ≡ old.calls ++ more
+  pub answered : All (λ call. IsAnswered snapshot call.0 call.1) more

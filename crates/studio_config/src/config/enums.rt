@@ -1,0 +1,81 @@
+//! Words of a table: an encoding, and a clock.
+ghost use Rattle.std.specs.Prelude.{◌≡◌, None, Some, OnOk, IfOk, IfErr};
+ghost use Rattle.toml.specs.View.{view, table_view};
+ghost use Rattle.studio_config.specs.Values.{text_in, text_at, encoding_in, encoding_at, is_media};
+ghost use Rattle.studio_config.specs.Rows.{required, one_of, encodings, clocks, value_fault, row_fault};
+
+use crate::config::fault::{ConfigTable, SpecError, SpecErrorKind};
+use crate::config::keys::Key;
+use crate::config::lookup::found;
+use rtp_wire::Enc;
+use toml::{Table, Value};
+
+/// How samples are written, which has to be there.
+pub(crate) fn encoding(table: &Table, place: ConfigTable, key: Key) -> Result<Enc, SpecError>
+    ensures ok { OnOk result (row_fault place (table_view table.now) (required key (one_of encodings)) ≡ None) }
+    ensures encoding { IfOk result (λ enc. encoding_at (table_view table.now) key ≡ enc) }
+    ensures fault { IfErr result (λ e. row_fault place (table_view table.now) (required key (one_of encodings)) ≡ Some e) }
+{
+    let value = found(table, place, key)?;
+    match encoding_in(value) {
+        Ok(enc) => Ok(enc),
+        Err(kind) => Err(SpecError {
+            place,
+            key: Some(key),
+            kind,
+        }),
+    }
+}
+
+/// The encoding that a value names.
+fn encoding_in(value: &Value) -> Result<Enc, SpecErrorKind>
+    ensures ok { OnOk result (value_fault (one_of encodings) (view value.now) ≡ None) }
+    ensures encoding { IfOk result (λ enc. encoding_in (view value.now) ≡ enc) }
+    ensures fault { IfErr result (λ e. value_fault (one_of encodings) (view value.now) ≡ Some e) }
+{
+    let Some(text) = value.as_str() else {
+        return Err(SpecErrorKind::WrongKind);
+    };
+    if text == "L16" {
+        return Ok(Enc::L16);
+    }
+    if text == "L24" {
+        return Ok(Enc::L24);
+    }
+    Err(SpecErrorKind::OutOfRange)
+}
+
+/// Whether media times follow the media clock, which has to be there.
+pub(crate) fn is_media(table: &Table, place: ConfigTable, key: Key) -> Result<bool, SpecError>
+    ensures ok { OnOk result (row_fault place (table_view table.now) (required key (one_of clocks)) ≡ None) }
+    ensures media { IfOk result (λ media. is_media (text_at (table_view table.now) key) ≡ media) }
+    ensures fault { IfErr result (λ e. row_fault place (table_view table.now) (required key (one_of clocks)) ≡ Some e) }
+{
+    let value = found(table, place, key)?;
+    match is_media_in(value) {
+        Ok(media) => Ok(media),
+        Err(kind) => Err(SpecError {
+            place,
+            key: Some(key),
+            kind,
+        }),
+    }
+}
+
+/// Whether a value names the media clock.
+fn is_media_in(value: &Value) -> Result<bool, SpecErrorKind>
+    ensures ok { OnOk result (value_fault (one_of clocks) (view value.now) ≡ None) }
+    ensures media { IfOk result (λ media. is_media (text_in (view value.now)) ≡ media) }
+    ensures fault { IfErr result (λ e. value_fault (one_of clocks) (view value.now) ≡ Some e) }
+{
+    let Some(text) = value.as_str() else {
+        return Err(SpecErrorKind::WrongKind);
+    };
+    if text == "media" {
+        return Ok(true);
+    }
+    if text == "arrival" {
+        return Ok(false);
+    }
+    Err(SpecErrorKind::OutOfRange)
+}

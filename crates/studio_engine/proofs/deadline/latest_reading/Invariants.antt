@@ -1,0 +1,12 @@
+use Rattle.std.proofs.Common.{ℕ, List, ◌<ℤ◌}
+use Rattle.studio_config.specs.Studio.{Studio}
+use Rattle.studio_session.specs.Event.{TraceEvent}
+use Rattle.studio_engine.specs.Deadline.{IsAtRest, IsUnreadyBefore}
+use Rattle.studio_engine.proofs.deadline.latest_reading.Given as goal
+
+-- the reading so far is past the time, and the block isn't ready before it
+abbrev pub invariant-loop-stream : goal.invariant-loop-stream
+invariant-loop-stream l = record {
+  later : l.fn.time <ℤ l.reading;
+  before : (studio : Studio) (events : List TraceEvent) (next : ℕ) → IsAtRest studio events l.fn.mixer l.fn.cursors l.fn.time next → IsUnreadyBefore studio events next l.reading;
+}

@@ -1,7 +1,0 @@
-use Rattle.studio_session.specs.Event.{Reading}
-use Rattle.studio_session.specs.Handed.{AreHanded}
-use Rattle.studio_engine.proofs.hand.hand_reading.Given as goal
-
--- the streams so far set out
-abbrev pub invariant-loop-number : goal.invariant-loop-number
-invariant-loop-number l = AreHanded (Reading l.now) l.fn.cursors l.cursors l.number

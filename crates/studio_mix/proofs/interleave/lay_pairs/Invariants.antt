@@ -1,0 +1,11 @@
+use Rattle.std.proofs.Common.{All}
+use Rattle.gain_mix.specs.Mix.{Is24Bits}
+use Rattle.studio_mix.proofs.LayLemmas.{IsLaid}
+use Rattle.studio_mix.proofs.interleave.lay_pairs.Given as goal
+
+-- the frames so far are laid, and the others are as they were
+abbrev pub invariant-loop-frame : goal.invariant-loop-frame
+invariant-loop-frame l = record {
+  laid : IsLaid l.width l.at 2 l.values l.fn.wide l.wide l.frame;
+  in_24_bits : All Is24Bits l.wide;
+}

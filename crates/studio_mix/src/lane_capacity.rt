@@ -1,0 +1,36 @@
+//! How much room a lane needs for marks that come before they are wanted.
+ghost use Rattle.std.specs.Prelude.{◌≡◌, ◌+◌, ◌^◌, ◌≤◌};
+ghost use Rattle.studio_mix.specs.Room as room;
+
+use rtp_stream::StreamSpec;
+
+/// How far the marks of a stream may lie behind the time: by its latency and a window of packets, in frames.
+fn lag_of(stream: &StreamSpec) -> u32
+    ensures value { result ≡ room.lag_of stream.now }
+    ensures short { result ≤ 2 ^ 23 }
+{
+    stream.latency() + u32::from(stream.window()) * u32::from(stream.frames())
+}
+
+/// The greatest of the streams' lags.
+pub(crate) fn greatest_lag(streams: &[StreamSpec]) -> u32
+    ensures value { result ≡ room.greatest_lag streams.now }
+    ensures short { result ≤ 2 ^ 23 }
+{
+    let mut greatest = 0;
+    for stream in streams {
+        greatest = lag_of(stream).max(greatest);
+    }
+    greatest
+}
+
+/// The frames for which a stream's lane has room, beside a stream of this lag.
+pub(crate) fn capacity_for(stream: &StreamSpec, block: u16, lag: u32) -> u32
+    requires short { lag ≤ 2 ^ 23 }
+    requires block { block ≤ 192 }
+    ensures value { result ≡ room.capacity_for lag block stream.now }
+    ensures enough { block + stream.now.frames ≤ result }
+    ensures few { result ≤ 2 ^ 24 }
+{
+    lag.saturating_sub(stream.latency()) + u32::from(stream.frames()) + u32::from(block)
+}

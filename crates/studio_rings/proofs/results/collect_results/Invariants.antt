@@ -1,0 +1,18 @@
+use Rattle.std.proofs.Common.{◌≡◌, ◌+◌, ◌≤◌, ◌++◌, length, vec_len, vec_capacity}
+use Rattle.std.specs.Vec.Iter.{into_iter_items, into_iter_len}
+use Rattle.studio_rings.specs.StreamResults.{counts_in, dones_in, fault_numbers}
+use Rattle.studio_rings.proofs.results.collect_results.Given as goal
+
+abbrev pub invariant-loop-result : goal.invariant-loop-result
+invariant-loop-result l = record {
+  items : l.yielded ++ into_iter_items l.result-iterator ≡ into_iter_items l.initial.result-iterator;
+  left : length l.yielded + into_iter_len l.result-iterator ≡ into_iter_len l.initial.result-iterator;
+  dones : l.dones.items ≡ dones_in l.yielded;
+  done_count : vec_len l.dones ≡ length l.yielded;
+  done_room : vec_capacity l.dones ≡ vec_capacity l.initial.dones;
+  streams : l.streams.items ≡ counts_in l.yielded;
+  stream_count : vec_len l.streams ≡ length l.yielded;
+  stream_room : vec_capacity l.streams ≡ vec_capacity l.initial.streams;
+  faults : vec_len l.feed_faults ≡ fault_numbers l.yielded;
+  fault_room : vec_capacity l.initial.feed_faults ≤ vec_capacity l.feed_faults;
+}

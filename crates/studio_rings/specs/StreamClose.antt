@@ -1,0 +1,35 @@
+-- How a stream's worker closes its end, and hands on what is left.
+use Rattle.std.specs.Prelude.{◌≡◌, false, List, ◌∷◌, [], ◌++◌, ℤ}
+use Rattle.rtrb.specs.Ring.{sent, producer_capacity, SameProducer}
+use Rattle.rtp_stream.specs.declared.stream_spec.Stream.{Stream}
+use Rattle.rtp_stream.specs.History.{is_closed}
+use Rattle.rtp_stream.specs.Marks.{marks_of}
+use Rattle.rtp_stream.specs.declared.packet.Packet.{Packet}
+use Rattle.rtp_stream.specs.declared.event.Event.{Event}
+use Rattle.rtp_stream.specs.declared.event.Event.TheVariants.{Close}
+use Rattle.studio_ends.specs.Streams.{StreamHasHistory}
+use Rattle.studio_ends.specs.declared.stream_end.StreamEnd.{StreamEnd}
+use Rattle.studio_io.specs.Clocks.{GoByClock, events_in}
+use Rattle.studio_rings.specs.Turns.{HaveArrived, HaveTold}
+use Rattle.studio_rings.specs.declared.worker.clocked_stream.ClockedStream.{ClockedStream}
+
+module _ {C : Type 0} where
+  -- after these events the stream made turns that go by its clock, these packets had arrived, and its end was closed
+  pub record HasClosedHistory (told : C → List ℤ) (stream : Stream) (open_at : ℤ) (s : ClockedStream C) (events : List Event) (t : StreamEnd) (lists : List (List Packet)) : Type 0 where
+    pub turns : List (List Event)
+    pub timed : GoByClock stream open_at (producer_capacity s.end.marks) s.now (told s.clock) events turns
+    pub open_before : is_closed (events ++ events_in turns) ≡ false
+    pub arrived : HaveArrived stream 0 lists (events ++ events_in turns)
+    pub stands : StreamHasHistory stream open_at t ((events ++ events_in turns) ++ Close ∷ [])
+
+  -- a stream went on, and was closed once all that the tokens tell had arrived
+  pub record ClosesLater (told : C → List ℤ) (s : ClockedStream C) (t : StreamEnd) : Type 0 where
+    pub marks : SameProducer s.end.marks t.marks
+    pub history : (stream : Stream) (open_at : ℤ) (events : List Event) (lists : List (List Packet)) → HaveTold s.end.sides.items lists
+        → StreamHasHistory stream open_at s.end events → HasClosedHistory told stream open_at s events t lists
+
+-- an end handed on all marks that its history has
+pub record Drains (s t : StreamEnd) : Type 0 where
+  pub marks : SameProducer s.marks t.marks
+  pub stands : (stream : Stream) (open_at : ℤ) (events : List Event) → StreamHasHistory stream open_at s events → StreamHasHistory stream open_at t events
+  pub all : (stream : Stream) (open_at : ℤ) (events : List Event) → StreamHasHistory stream open_at t events → sent t.marks ≡ marks_of stream open_at events

@@ -1,0 +1,192 @@
+//! The lines of a run's report.
+ghost use Rattle.std.specs.Prelude.{◌≡◌, ◌+◌, ◌≤◌, ◌<◌, ◌++◌, length, take, OnOk, OnErr};
+ghost use Rattle.rtp_stream.specs.Counts.{tally_of};
+ghost use Rattle.studio_run.specs.Buffer.{PassesOn, BreaksOff};
+ghost use Rattle.rtp_stream.specs.PathCounts.{path_tally_of};
+ghost use Rattle.studio_run.specs.Report.{datagram_line, path_letter, pair_text, count_text, path_line, taken_text, refused_text, slots_text, tally_text, merge_line};
+
+use crate::buffer::TextBuffer;
+use crate::text_io::WriteFault;
+use path_merge::{Counts, Path};
+use rtp_stream::PathCounts;
+use std::io::Write;
+
+/// Writes the line of a datagram: the 12 octets of its header, and a payload of at most 1,440.
+pub fn write_datagram<W: Write>(
+    text: &mut TextBuffer,
+    writer: &mut W,
+    datagram: &[u8],
+) -> Result<(), WriteFault>
+    requires short { length datagram.now ≤ 1452 }
+    ensures ok { OnOk result (PassesOn (W.contents writer.old) text.old (W.contents writer.new) text.new (datagram_line datagram.now)) }
+    ensures fault { OnErr result (BreaksOff (W.contents writer.old) text.old (W.contents writer.new) (datagram_line datagram.now)) }
+{
+    text.make_room(writer)?;
+    text.push("out ");
+    text.push_octets(datagram);
+    text.push("\n");
+    Ok(())
+}
+
+/// Writes the line of what a path's datagrams came to.
+pub fn write_path_counts<W: Write>(
+    text: &mut TextBuffer,
+    writer: &mut W,
+    stream: u8,
+    path: Path,
+    counts: &PathCounts,
+) -> Result<(), WriteFault>
+    ensures ok { OnOk result (PassesOn (W.contents writer.old) text.old (W.contents writer.new) text.new (path_line stream path (path_tally_of counts.now))) }
+    ensures fault { OnErr result (BreaksOff (W.contents writer.old) text.old (W.contents writer.new) (path_line stream path (path_tally_of counts.now))) }
+{
+    text.make_room(writer)?;
+    push_path_line(text, stream, path, counts);
+    Ok(())
+}
+
+/// Writes the line of what a merge came to, whose stream has so many paths.
+pub fn write_merge_counts<W: Write>(
+    text: &mut TextBuffer,
+    writer: &mut W,
+    stream: u8,
+    paths: u8,
+    counts: &Counts,
+) -> Result<(), WriteFault>
+    ensures ok { OnOk result (PassesOn (W.contents writer.old) text.old (W.contents writer.new) text.new (merge_line stream paths (tally_of counts.now))) }
+    ensures fault { OnErr result (BreaksOff (W.contents writer.old) text.old (W.contents writer.new) (merge_line stream paths (tally_of counts.now))) }
+{
+    text.make_room(writer)?;
+    push_merge_line(text, stream, paths, counts);
+    Ok(())
+}
+
+/// Holds the line of a path.
+fn push_path_line(text: &mut TextBuffer, stream: u8, path: Path, counts: &PathCounts)
+    requires { length text.old + 4096 ≤ 65536 }
+    ensures { text.new ≡ text.old ++ path_line stream path (path_tally_of counts.now) }
+{
+    text.push("path ");
+    text.push_number(stream);
+    text.push(" ");
+    text.push(path_letter(path.number()));
+    push_count(text, "offered", counts.offered);
+    push_count(text, "sent", counts.sent);
+    push_count(text, "bad", counts.bad);
+    push_count(text, "type", counts.wrong_type);
+    push_count(text, "length", counts.wrong_length);
+    push_count(text, "full", counts.full);
+    text.push("\n");
+}
+
+/// Holds the line of a merge.
+fn push_merge_line(text: &mut TextBuffer, stream: u8, paths: u8, counts: &Counts)
+    requires { length text.old + 4096 ≤ 65536 }
+    ensures { text.new ≡ text.old ++ merge_line stream paths (tally_of counts.now) }
+{
+    text.push("merge ");
+    text.push_number(stream);
+    push_tally(text, " ", paths, counts);
+    text.push("\n");
+}
+
+/// Holds the counts of a merge whose stream has so many paths, each number after its word and the one
+/// character between them.
+pub(crate) fn push_tally(text: &mut TextBuffer, between: &str, paths: u8, counts: &Counts)
+    requires one { length between.now ≡ 1 }
+    requires room { length text.old + 900 ≤ 65536 }
+    ensures text { text.new ≡ text.old ++ tally_text between.now paths (tally_of counts.now) }
+    ensures few { length text.new ≤ length text.old + 900 }
+{
+    push_field(text, between, "arrived", counts.arrived);
+    push_field(text, between, "taken", counts.taken);
+    push_taken(text, between, taken_from(paths, counts));
+    push_refused(text, between, counts);
+    push_slots(text, between, counts);
+}
+
+/// Holds how many arrivals were not taken.
+fn push_refused(text: &mut TextBuffer, between: &str, counts: &Counts)
+    requires one { length between.now ≡ 1 }
+    requires room { length text.old + 400 ≤ 65536 }
+    ensures text { text.new ≡ text.old ++ refused_text between.now (tally_of counts.now) }
+    ensures few { length text.new ≤ length text.old + 400 }
+{
+    push_field(text, between, "double", counts.double);
+    push_field(text, between, "unlike", counts.unlike);
+    push_field(text, between, "off_grid", counts.off_grid);
+    push_field(text, between, "late", counts.late);
+    push_field(text, between, "ahead", counts.ahead);
+    push_field(text, between, "source", counts.wrong_source);
+}
+
+/// Holds how many slots were handed on, and how many restarts there were.
+fn push_slots(text: &mut TextBuffer, between: &str, counts: &Counts)
+    requires one { length between.now ≡ 1 }
+    requires room { length text.old + 200 ≤ 65536 }
+    ensures text { text.new ≡ text.old ++ slots_text between.now (tally_of counts.now) }
+    ensures few { length text.new ≤ length text.old + 200 }
+{
+    push_field(text, between, "got", counts.got);
+    push_field(text, between, "lost", counts.lost);
+    push_field(text, between, "restarts", counts.restarts);
+}
+
+/// How many packets were taken from each of so many paths.
+fn taken_from(paths: u8, counts: &Counts) -> &[u64]
+    ensures value { result.now ≡ take paths counts.now.taken_by }
+    ensures few { length result.now ≤ 4 }
+{
+    &counts.taken_by[..usize::from(paths).min(4)]
+}
+
+/// Holds how many packets were taken from each path.
+fn push_taken(text: &mut TextBuffer, between: &str, taken_by: &[u64])
+    requires one { length between.now ≡ 1 }
+    requires few_paths { length taken_by.now ≤ 4 }
+    requires room { length text.old + 200 ≤ 65536 }
+    ensures text { text.new ≡ text.old ++ taken_text between.now 0 taken_by.now }
+    ensures few { length text.new ≤ length text.old + 200 }
+{
+    for (path, number) in taken_by.iter().enumerate() {
+        text.push(" from_");
+        text.push(path_letter(path as u8));
+        text.push(between);
+        text.push_number(*number);
+    }
+}
+
+/// Holds a number, after a word.
+pub(crate) fn push_count(text: &mut TextBuffer, word: &str, number: u64)
+    requires { length text.old + length word.now + 42 ≤ 65536 }
+    ensures text { text.new ≡ text.old ++ count_text word.now number }
+    ensures few { length text.new ≤ length text.old + length word.now + 42 }
+{
+    push_field(text, " ", word, number);
+}
+
+/// Holds a number, after a word and the one character between them.
+fn push_field(text: &mut TextBuffer, between: &str, word: &str, number: u64)
+    requires one { length between.now ≡ 1 }
+    requires room { length text.old + length word.now + 42 ≤ 65536 }
+    ensures text { text.new ≡ text.old ++ pair_text between.now word.now number }
+    ensures few { length text.new ≤ length text.old + length word.now + 42 }
+{
+    text.push(" ");
+    text.push(word);
+    text.push(between);
+    text.push_number(number);
+}
+
+/// The letter of a path, by its number.
+pub(crate) fn path_letter(path: u8) -> &'static str
+    requires { path < 4 }
+    ensures text { result.now ≡ path_letter path }
+    ensures one { length result.now ≡ 1 }
+{
+    match path {
+        0 => "a",
+        1 => "b",
+        2 => "c",
+        _ => "d",
+    }
+}

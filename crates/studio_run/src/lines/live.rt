@@ -1,0 +1,77 @@
+//! The lines of a live run's report that a played one doesn't have.
+ghost use Rattle.std.specs.Prelude.{◌≡◌, ◌+◌, ◌≤◌, ◌++◌, length, OnOk, OnErr};
+ghost use Rattle.studio_run.specs.Buffer.{PassesOn, BreaksOff};
+ghost use Rattle.studio_run.specs.LiveReport.{feed_line, sink_line};
+
+use crate::buffer::TextBuffer;
+use crate::lines::counts::{path_letter, push_count};
+use crate::text_io::WriteFault;
+use path_merge::Path;
+use std::io::Write;
+
+/// Datagrams of the output, and how many of them each address took, or didn't take.
+#[derive(Clone, Copy, Debug, PartialEq, Eq)]
+pub struct SinkCounts {
+    pub blocks: u64,
+    pub sent_a: u64,
+    pub sent_b: u64,
+    pub fault_a: u64,
+    pub fault_b: u64,
+}
+
+/// Writes the line of a path's feed: how often it failed.
+pub fn write_feed_faults<W: Write>(
+    text: &mut TextBuffer,
+    writer: &mut W,
+    stream: u8,
+    path: Path,
+    faults: u64,
+) -> Result<(), WriteFault>
+    ensures ok { OnOk result (PassesOn (W.contents writer.old) text.old (W.contents writer.new) text.new (feed_line stream path faults)) }
+    ensures fault { OnErr result (BreaksOff (W.contents writer.old) text.old (W.contents writer.new) (feed_line stream path faults)) }
+{
+    text.make_room(writer)?;
+    push_feed_line(text, stream, path, faults);
+    Ok(())
+}
+
+/// Writes the line of a sink.
+pub fn write_sink_counts<W: Write>(
+    text: &mut TextBuffer,
+    writer: &mut W,
+    counts: &SinkCounts,
+) -> Result<(), WriteFault>
+    ensures ok { OnOk result (PassesOn (W.contents writer.old) text.old (W.contents writer.new) text.new (sink_line counts.now)) }
+    ensures fault { OnErr result (BreaksOff (W.contents writer.old) text.old (W.contents writer.new) (sink_line counts.now)) }
+{
+    text.make_room(writer)?;
+    push_sink_line(text, counts);
+    Ok(())
+}
+
+/// Holds the line of a feed.
+fn push_feed_line(text: &mut TextBuffer, stream: u8, path: Path, faults: u64)
+    requires { length text.old + 4096 ≤ 65536 }
+    ensures { text.new ≡ text.old ++ feed_line stream path faults }
+{
+    text.push("feed ");
+    text.push_number(stream);
+    text.push(" ");
+    text.push(path_letter(path.number()));
+    push_count(text, "faults", faults);
+    text.push("\n");
+}
+
+/// Holds the line of a sink.
+fn push_sink_line(text: &mut TextBuffer, counts: &SinkCounts)
+    requires { length text.old + 4096 ≤ 65536 }
+    ensures { text.new ≡ text.old ++ sink_line counts.now }
+{
+    text.push("sink");
+    push_count(text, "blocks", counts.blocks);
+    push_count(text, "sent_a", counts.sent_a);
+    push_count(text, "sent_b", counts.sent_b);
+    push_count(text, "fault_a", counts.fault_a);
+    push_count(text, "fault_b", counts.fault_b);
+    text.push("\n");
+}

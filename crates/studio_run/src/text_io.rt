@@ -1,0 +1,84 @@
+//! Whole texts from a reader and to a writer.
+ghost use Rattle.std.specs.Prelude.{◌≡◌, ℕ, ◌<◌, ◌≤◌, List, length, take, ◌+◌, ◌++◌, vec_len, OnOk, OnErr, IfOk, IfErr};
+ghost use Rattle.std.specs.Io.KnownBytes.{Appends, Consumes, IsAtEnd};
+ghost use Rattle.studio_run.specs.declared.text_io.ReadFault.TheVariants.{TooMany};
+
+use crate::trace::reader::MOST_TRACE_OCTETS;
+use std::alloc::{AllocError, Global};
+use std::io::{Read, Write};
+use thiserror::Error;
+
+/// The most calls of a reader for one text.
+const MOST_CALLS: u32 = 100_000_000;
+
+/// The most octets of one read.
+const MOST_OCTETS_A_READ: usize = 65_536;
+
+/// Why a text was not read.
+#[derive(Clone, Copy, Debug, PartialEq, Eq, Error)]
+pub enum ReadFault {
+    /// A read failed, or 100,000,000 reads did not reach the end.
+    #[error("device: read")]
+    Device,
+    /// The text has more octets than a trace may have.
+    #[error("trace line 0: toomany")]
+    TooMany,
+    /// The memory for the text was refused.
+    #[error("out of memory")]
+    Memory,
+}
+
+/// A write failed, or took no octet.
+#[derive(Clone, Copy, Debug, PartialEq, Eq, Error)]
+#[error("device: write")]
+pub struct WriteFault;
+
+/// Reads to the end of the input, or to the first octet that no trace has room for.
+pub fn read_text<R: Read>(alloc: Global, reader: &mut R) -> Result<Vec<u8>, ReadFault>
+    ensures ok { IfOk result (λ text. Consumes (R.remaining reader.old) (R.remaining reader.new) text.items) }
+    ensures end { OnOk result (IsAtEnd (R.remaining reader.new)) }
+    ensures fits { IfOk result (λ text. length text.items ≤ MOST_TRACE_OCTETS) }
+    ensures long { IfErr result (λ fault. fault ≡ TooMany → (octets : List ℕ) × (MOST_TRACE_OCTETS < length octets) × Consumes (R.remaining reader.old) (R.remaining reader.new) octets) }
+{
+    let mut text = Vec::with_capacity(alloc, MOST_OCTETS_A_READ).map_err(|_| ReadFault::Memory)?;
+    let mut chunk = [0u8; MOST_OCTETS_A_READ];
+    'reads: for _ in 0..MOST_CALLS {
+        match reader.read(&mut chunk) {
+            Err(_) => return Err(ReadFault::Device),
+            Ok(0) => return Ok(text),
+            Ok(count) if count > MOST_TRACE_OCTETS - text.len() => return Err(ReadFault::TooMany),
+            Ok(count) => {
+                push_chunk(&mut text, &chunk[..count]).map_err(|_| ReadFault::Memory)?;
+            }
+        }
+    }
+    Err(ReadFault::Device)
+}
+
+/// Adds what was read. Where there is no room, the room is doubled, up to the most octets of a text:
+/// the old room and the new are never more than 3/2 of those.
+fn push_chunk(text: &mut Vec<u8>, chunk: &[u8]) -> Result<(), AllocError>
+    requires fits { vec_len text.old + length chunk.now ≤ MOST_TRACE_OCTETS }
+    ensures items { OnOk result (text.new.items ≡ text.old.items ++ chunk.now) }
+{
+    if text.capacity() - text.len() < chunk.len() {
+        let room = text.capacity().saturating_mul(2).min(MOST_TRACE_OCTETS);
+        text.reserve_exact(room - text.len())?;
+    }
+    text.extend_from_slice(chunk)
+}
+
+/// Writes a text to its end. On a fault a part from its front was written.
+pub fn write_text<W: Write>(writer: &mut W, text: &[u8]) -> Result<(), WriteFault>
+    ensures ok { OnOk result (Appends (W.contents writer.old) (W.contents writer.new) text.now) }
+    ensures fault { OnErr result ((n : ℕ) × (n < length text.now) × Appends (W.contents writer.old) (W.contents writer.new) (take n text.now)) }
+{
+    let mut done = 0;
+    while done < text.len() {
+        match writer.write(&text[done..]) {
+            Ok(0) | Err(_) => return Err(WriteFault),
+            Ok(count) => done += count,
+        }
+    }
+    Ok(())
+}

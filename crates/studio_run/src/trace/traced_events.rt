@@ -1,0 +1,109 @@
+//! The events of a trace, left in its text.
+ghost use Rattle.std.specs.Prelude.{◌≡◌, ◌≤◌, ℕ, List, length, IsSome};
+ghost use Rattle.studio_session.specs.Event.{Arrival, outline_of};
+ghost use Rattle.studio_run.specs.Trace.{trace_events, octets_of};
+ghost use Rattle.studio_run.specs.LineEvent.{octets_by};
+ghost use Rattle.studio_run.specs.Places.{event_at, IsPlace};
+
+use crate::trace::digits::decode_octets;
+use crate::trace::fault::{OUT_OF_MEMORY, TraceFault};
+use crate::trace::reader::TraceReader;
+use crate::trace::text_events::TextEvent;
+use std::alloc::Global;
+use std::marker::Model;
+use studio_session::{DatagramRoom, EventHeader, EventSource};
+
+/// The events of a trace: 16 octets each, beside the text. Their memory is taken when they are made,
+/// and no later call takes any.
+#[derive(Drop)]
+pub struct TracedEvents<'a> {
+    text: &'a [u8],
+    places: Vec<TextEvent>,
+}
+
+impl<'a> Model for TracedEvents<'a> {
+    ghost use Rattle.std.specs.Prelude.{List, map, All};
+    ghost use Rattle.studio_session.specs.Event.{TraceEvent};
+    ghost use Rattle.studio_run.specs.Places.{event_at, IsPlace};
+
+    ghost Value = { List TraceEvent };
+
+    ghost view = { λ e. map (event_at e.text.now) e.places.items };
+
+    ghost invariant = { λ e. All (IsPlace e.text.now) e.places.items };
+}
+
+impl<'a> TracedEvents<'a> {
+    ghost use Rattle.std.specs.Prelude.{◌⊎◌, IfOk, IfErr, Err};
+    ghost use Rattle.studio_run.specs.Trace.{BeginsWithEvents, fault_in};
+    ghost use Rattle.studio_run.specs.declared.trace.fault.TraceFaultKind.TheVariants.{Memory};
+
+    /// Finds the events of a trace. Want of memory is answered where a growth is refused, whatever the
+    /// later lines say: only of a trace whose lines up to there have no fault.
+    pub fn new(alloc: Global, text: &'a [u8]) -> Result<Self, TraceFault>
+        ensures ok { IfOk result (λ events. trace_events text.now ≡ Ok events) }
+        ensures fault { IfErr result (λ e. ((e ≡ fault_in 0 Memory) × BeginsWithEvents text.now) ⊎ (trace_events text.now ≡ Err e)) }
+    {
+        let mut places = Vec::new(alloc);
+        let mut reader = TraceReader::new(text)?;
+        while let Some(place) = reader.next()? {
+            places.push(place).map_err(|_| OUT_OF_MEMORY)?;
+        }
+        Ok(TracedEvents { text, places })
+    }
+}
+
+impl<'a> EventSource for TracedEvents<'a> {
+    ghost events = { λ e. e };
+
+    fn count(&self) -> usize {
+        self.places.len()
+    }
+
+    fn outline(&self, place: usize) -> EventHeader {
+        outline_of(&self.places[place])
+    }
+
+    fn octets<'b>(&'b self, place: usize, room: &'b mut DatagramRoom) -> &'b [u8] {
+        octets_in(self.text, self.places[place], room)
+    }
+}
+
+/// An event without the octets of its datagram.
+fn outline_of(place: &TextEvent) -> EventHeader
+    ensures { (text : List ℕ) → result ≡ outline_of (event_at text place.now) }
+{
+    match place {
+        TextEvent::Arrive { stream, path, .. } => EventHeader::Arrive {
+            stream: *stream,
+            path: *path,
+        },
+        TextEvent::Tick(time) => EventHeader::Tick(*time),
+        TextEvent::Close => EventHeader::Close,
+    }
+}
+
+/// The octets of a place's datagram, laid out in the room; none of a place without one.
+fn octets_in<'a>(text: &[u8], place: TextEvent, room: &'a mut DatagramRoom) -> &'a [u8]
+    requires { IsPlace text.now place }
+    ensures { (stream path : ℕ) (octets : List ℕ) → event_at text.now place ≡ Arrival stream path octets → result.now ≡ octets }
+{
+    match place {
+        TextEvent::Arrive { start, end, .. } => {
+            let digits = &text[start as usize..end as usize];
+            decoded(digits, room)
+        }
+        TextEvent::Tick(_) => &[],
+        TextEvent::Close => &[],
+    }
+}
+
+/// The octets that digits spell, laid out in the room.
+fn decoded<'a>(digits: &[u8], room: &'a mut DatagramRoom) -> &'a [u8]
+    requires short { length digits.now ≤ 4096 }
+    requires good { IsSome (octets_of digits.now) }
+    ensures { result.now ≡ octets_by digits.now }
+{
+    let length = decode_octets(digits, room);
+    &room[..length]
+}

@@ -1,0 +1,23 @@
+-- What became of a datagram that a stream was handed.
+use Rattle.std.specs.Prelude.{ℕ, ℤ, List}
+use Rattle.rtp_stream.specs.declared.stream_spec.Stream.{Stream}
+use Rattle.rtp_stream.specs.declared.event.Event.{Event}
+use Rattle.rtp_stream.specs.declared.reception.Reception.{Reception}
+use Rattle.rtp_stream.specs.declared.reception.Reception.TheVariants.{Sent, Bad, WrongType, WrongLength}
+use Rattle.rtp_stream.specs.Reception.{reception_of}
+use Rattle.rtp_stream.specs.Fate.{fate_of}
+use Rattle.studio_session.specs.Event.{TraceEvent}
+use Rattle.studio_session.specs.Session.{stream_history}
+use Rattle.studio_session.specs.declared.receipt.ArriveOutcome.{ArriveOutcome}
+use Rattle.studio_session.specs.declared.receipt.ArriveOutcome.TheVariants.{Offered, Bad as BadOf, WrongType as WrongTypeOf, WrongLength as WrongLengthOf}
+
+-- the fate of a packet after a history, or why the datagram has none
+abbrev pub receipt_in : Stream → ℤ → List Event → ℕ → Reception → ArriveOutcome
+receipt_in stream open_at events path (Sent packet) = Offered (fate_of stream open_at events path packet)
+receipt_in stream open_at events path Bad = BadOf
+receipt_in stream open_at events path WrongType = WrongTypeOf
+receipt_in stream open_at events path WrongLength = WrongLengthOf
+
+-- what became of a datagram that came on a path after some events of the studio
+abbrev pub receipt_of : Stream → ℕ → ℤ → List TraceEvent → ℕ → List ℕ → ArriveOutcome
+receipt_of stream number open_at events path octets = receipt_in stream open_at (stream_history stream number events) path (reception_of stream octets)

@@ -1,0 +1,21 @@
+use Rattle.std.proofs.Common.{◌≡◌, [], Err, rules}
+use Rattle.wav_file.specs.declared.fault.FileFault.TheVariants.{Write as NotWritten}
+use Rattle.wav_file.specs.declared.fault.WavRunFault.TheVariants.{File}
+use Rattle.wav_file.proofs.FrontLemmas.{front_none, front_of_all}
+use Rattle.wav_file.proofs.MixWavLemmas.{records_whole}
+use Rattle.wav_file.proofs.recorder.write_mix_wav.Goals as goal
+
+pub returns-in_ok-finish-in-Ok-clause-ok : goal.returns-in_ok-finish-in-Ok-clause-ok
+returns-in_ok-finish-in-Ok-clause-ok g c = λ studio run played.
+    records_whole studio (g.E.EventSource.events c.args.source.now) _ _ _ _ _ _ c.args.format c.in_ok-wav.wav c.write_both.new.wav
+    c.in_ok-wav.ensures.empty c.in_ok-wav.ensures.ok (c.in-Ok.ensures.ok studio run played) c.in_ok-finish-in-Ok.ensures
+
+pub returns-in_err-wav-clause-begun : goal.returns-in_err-wav-clause-begun
+returns-in_err-wav-clause-begun g c =
+    let is : c.from_residual.result ≡ Err (File NotWritten) = search rules in
+    rw is (λ studio report run played of. front_none (g.W.Write.contents c.args.writer.now) [] report)
+
+pub returns-in_err-finish-in-Ok-clause-begun : goal.returns-in_err-finish-in-Ok-clause-begun
+returns-in_err-finish-in-Ok-clause-begun g c =
+    let is : c.from_residual-in_err-finish-in-Ok.result ≡ Err (File NotWritten) = search rules in
+    rw is (λ studio report run played of. front_of_all studio (g.E.EventSource.events c.args.source.now) _ _ _ _ report _ _ (c.in-Ok.ensures.ok studio run played) of)
