@@ -1,53 +1,29 @@
-//! The faults of a run: their lines and exit statuses.
-use live_io::InheritedSocketFault;
-use live_run::LiveFault;
+//! The faults of a command over files: their lines and exit statuses.
 use pcap_file::{CaptureFault, ReaderFault};
 use pcap_flows::ImportFault;
 use pcap_replay::ReplayFault;
 use std::alloc::{AllocError, AllocFailed};
 use std::io;
-use std::io::Write;
 use studio_config::SpecErrorKind;
 use studio_run::{PlayFault, SpecError, StudioFault, WriteFault};
 use thiserror::Error;
 use wav_file::{FileFault, StreamWavFault};
 
-/// Why a run gave no text, or only a part of it.
+/// The fault that ended a command before it wrote all of its text.
 #[derive(Debug, Drop, Error)]
 pub enum CommandFault {
-    /// A word of the command line is no text.
-    #[error("usage: a word of the command line is not UTF-8")]
-    Usage,
     /// The name of a path is no address and port.
     #[error("usage: a path is not ADDRESS:PORT")]
     Address,
     /// The stream of a WAV file is named by no number.
     #[error("usage: STREAM is not a number from 0 to 15")]
     StreamNumber,
-    /// The offset of International Atomic Time is no number of seconds.
-    #[error("usage: --tai-offset is neither seconds nor system")]
-    TaiOffset,
-    /// A clock couldn't be read, or the system wasn't told how far International Atomic Time is ahead.
-    #[error("device: clock")]
-    Clock,
     /// The configuration is at fault.
     #[error("{0}")]
     Config(ConfigFault),
     /// A trace was not run.
     #[error("{0}")]
     Play(#[from] PlayFault),
-    /// A live run broke off.
-    #[error("{0}")]
-    Live(#[from] LiveFault),
-    /// The file of a live run's record could not be made.
-    #[error("device: record")]
-    Record,
-    /// A live run was reported, but its record was not written to its end.
-    #[error("device: record write")]
-    RecordWrite,
-    /// Sockets that were handed over are not taken.
-    #[error("{0}")]
-    Handed(#[from] InheritedSocketFault),
     /// The capture is at fault.
     #[error("{0}")]
     Capture(CaptureInputFault),
@@ -106,33 +82,16 @@ impl CommandFault {
     /// The exit status of the program.
     pub fn status(&self) -> u8 {
         match self {
-            CommandFault::Usage
-            | CommandFault::Address
-            | CommandFault::StreamNumber
-            | CommandFault::TaiOffset => 2,
-            CommandFault::StreamWav(_) => 2,
-            CommandFault::Config(ConfigFault::Unread)
-            | CommandFault::Capture(CaptureInputFault::Unread) => 5,
+            CommandFault::Address | CommandFault::StreamNumber | CommandFault::StreamWav(_) => 2,
+            CommandFault::Config(ConfigFault::Unread) => 5,
+            CommandFault::Capture(CaptureInputFault::Unread) => 5,
             CommandFault::Capture(_) => 1,
             CommandFault::Config(_) => 3,
             CommandFault::Play(fault) => play_status(fault),
             CommandFault::Replay(fault) => replay_status(fault),
-            CommandFault::Live(LiveFault::Memory)
-            | CommandFault::Handed(InheritedSocketFault::Memory)
-            | CommandFault::Memory => 4,
-            CommandFault::Live(_)
-            | CommandFault::Handed(_)
-            | CommandFault::Clock
-            | CommandFault::Wav(_)
-            | CommandFault::Write => 5,
-            CommandFault::Record | CommandFault::RecordWrite => 5,
+            CommandFault::Memory => 4,
+            CommandFault::Wav(_) | CommandFault::Write => 5,
         }
-    }
-
-    /// Writes the fault's line, and answers its exit status. A line that cannot be written is lost.
-    pub fn tell<E: Write>(&self, faults: &mut E) -> u8 {
-        let _ = writeln!(faults, "{self}");
-        self.status()
     }
 }
 

@@ -1,8 +1,8 @@
 //! A capture as a trace, and the configuration that fits it.
-use crate::cli::args::ImportArgs;
 use crate::fault::{CaptureInputFault, CommandFault};
 use crate::files::Files;
 use crate::streams_command::{capture_of, own_fault};
+use command_line::ImportArgs;
 use pcap_flows::{FlowTable, ImportFault, Routes, config_text, routes_of, trace_text};
 use std::alloc::Global;
 use std::io::Write;

@@ -13,11 +13,9 @@
 //! which tells its line and exit status. Where configurations, captures and WAV files lie is the caller's: it hands in `Files`.
 #![tactic(auto)]
 
-mod cli;
 mod config_summary;
 mod fault;
 mod files;
-mod flow_text;
 mod import_command;
 mod named_file;
 mod replay_command;
@@ -26,12 +24,9 @@ mod streams_command;
 mod trace_commands;
 mod wav;
 
-pub use cli::args::{CliCommand, ImportArgs, LiveArgs, ReplayArgs, StreamWavArgs};
-pub use cli::parse_args;
 pub use config_summary::write_summary;
 pub use fault::{CaptureInputFault, CommandFault, ConfigFault, output_result};
 pub use files::{Files, parse_studio, read_config, table_in};
-pub use flow_text::table_text;
 pub use import_command::run_import;
 pub use replay_command::run_replay;
 pub use streams_command::run_streams;

@@ -1,11 +1,11 @@
 //! A capture as the report of what it says, with a WAV file and a picture beside it.
 ghost use Rattle.std.specs.Prelude.{[]};
 
-use crate::cli::args::ReplayArgs;
 use crate::fault::{CaptureInputFault, CommandFault};
 use crate::files::{Files, studio_of};
 use crate::import_command::routed;
 use crate::replay_outputs::{ReplayOutputs, create_wav, finish_wav, write_chart};
+use command_line::ReplayArgs;
 use pcap_flows::{FlowTable, Routes};
 use pcap_replay::{ReplayObserver, record_opening, replay, replay_record, scan_flows};
 use reception_chart::{Extent, StudioTracker};

@@ -1,8 +1,7 @@
 //! What a capture holds.
 use crate::fault::{CaptureInputFault, CommandFault};
 use crate::files::Files;
-use crate::flow_text::table_text;
-use pcap_flows::FlowTable;
+use pcap_flows::{FlowTable, table_text};
 use std::alloc::Global;
 use std::io::Write;
 use studio_run::{ReadFault, write_text};

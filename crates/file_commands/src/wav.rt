@@ -1,8 +1,8 @@
 //! A report or a listing, with a WAV file of the mix or of a stream beside it.
-use crate::cli::args::StreamWavArgs;
 use crate::fault::CommandFault;
 use crate::files::{Files, studio_of};
 use crate::named_file::NamedFile;
+use command_line::StreamWavArgs;
 use std::alloc::Global;
 use std::io::{Read, Write};
 use wav_file::{WavRunFault, list_to_wav, play_to_wav};

@@ -1,6 +1,4 @@
 pub mod AddressLemmas
 pub mod PortLemmas
-pub mod TextLemmas
-pub mod ReportLemmas
 pub mod PutLemmas
 pub mod PassLemmas

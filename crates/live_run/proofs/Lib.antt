@@ -1,3 +1,5 @@
+pub mod TextLemmas
+pub mod ReportLemmas
 pub mod LatestStatsLemmas
 pub mod StreamStatusLemmas
 pub mod FeedLemmas

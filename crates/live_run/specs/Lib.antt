@@ -1,3 +1,4 @@
+pub mod Report
 pub mod RunResult
 pub mod LatestStats
 pub mod StreamStatus

@@ -4,7 +4,7 @@ use Rattle.std.specs.Io.KnownBytes.{Appends}
 use Rattle.studio_config.specs.Studio.{Studio}
 use Rattle.studio_run.specs.Buffer.{BreaksOff}
 use Rattle.studio_io.specs.declared.report.WorkReport.{WorkReport}
-use Rattle.live_io.specs.Report.{report_text}
+use Rattle.live_run.specs.Report.{report_text}
 use Rattle.live_run.specs.RunResult.{IsRunOf}
 use Rattle.live_run.specs.declared.fault.LiveFault.{LiveFault}
 use Rattle.live_run.specs.declared.fault.LiveFault.TheVariants.{Memory, Socket, Page, Thread, Unsettled, Write}

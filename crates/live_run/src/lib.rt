@@ -28,6 +28,7 @@ mod input;
 mod launch;
 mod metered_sink;
 mod ready;
+mod report;
 mod run;
 mod scoped_thread;
 mod single_thread;

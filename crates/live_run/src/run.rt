@@ -4,7 +4,8 @@ ghost use Rattle.live_run.specs.RunText.{FailsRun, WritesRun};
 
 use crate::fault::LiveFault;
 use crate::launch::launch_run;
-use live_io::{LiveInputs, LiveOptions, write_report};
+use crate::report::write_report;
+use live_io::{LiveInputs, LiveOptions};
 use std::alloc::Global;
 use std::io::Write;
 use std::net::Net;

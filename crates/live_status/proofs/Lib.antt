@@ -1,4 +1,4 @@
 pub mod Each
 pub mod Outputs
 pub mod Conditions
-pub mod EngineStatus
+pub mod EngineStatusLemmas

@@ -16,6 +16,7 @@
 mod fault;
 mod fit;
 mod flow;
+mod flow_text;
 mod import;
 mod lengths;
 mod packet;
@@ -32,6 +33,7 @@ mod table;
 pub use fault::ImportFault;
 pub use fit::{Fit, channels_that_fit};
 pub use flow::Flow;
+pub use flow_text::table_text;
 pub use import::clock::CaptureClock;
 pub use import::config::config_text;
 pub use import::{MOST_EVENTS, MOST_OCTETS, datagram_octets, route_in, trace_text};

@@ -1,6 +1,8 @@
 //! Live runs, from the octets of a configuration.
+use crate::fault::ProgramFault;
 use crate::names::names_in;
-use file_commands::{CommandFault, Files, LiveArgs, output_result, parse_studio, read_config};
+use command_line::LiveArgs;
+use file_commands::{Files, output_result, parse_studio, read_config};
 use live_io::{
     InheritedSockets, LiveInputs, LiveOptions, LivePorts, RecordResult, StreamName, TaiOffset,
     TaiTime, UnexpectedSources, tai_now,
@@ -16,6 +18,9 @@ use std::sync::Wait;
 use std::thread::Threads;
 use std::time::{Clock, Duration};
 use studio_config::StudioSpec;
+
+/// The names of a stream's paths.
+const NAMES: [&str; 4] = ["a", "b", "c", "d"];
 
 /// A studio, and what the system's monotonic clock reads at its opening time.
 #[derive(Drop)]
@@ -38,7 +43,7 @@ pub(crate) fn run_live<
     words: LiveArgs<'_>,
     output: &mut W,
     faults: &mut E,
-) -> Result<(), CommandFault> {
+) -> Result<(), ProgramFault> {
     let config = read_config(files, alloc, path)?;
     run_live_config(rt, files, alloc, config.as_slice(), words, output, faults)
 }
@@ -58,7 +63,7 @@ pub fn run_live_config<
     words: LiveArgs<'_>,
     output: &mut W,
     faults: &mut E,
-) -> Result<(), CommandFault> {
+) -> Result<(), ProgramFault> {
     let started = opened(rt, alloc, parse_studio(alloc, config)?, words.tai_offset)?;
     let given = given_of(rt, alloc, &started.studio, config, words.listen_fds)?;
     let record = record_of(files, words.record)?;
@@ -100,7 +105,7 @@ fn given_of<R: Env + AllocGlobal>(
     studio: &StudioSpec,
     config: &[u8],
     listen_fds: bool,
-) -> Result<LoadedInputs, CommandFault> {
+) -> Result<LoadedInputs, ProgramFault> {
     let ports = LivePorts::of(alloc, studio)?;
     let handed = handed_of(rt, alloc, studio, listen_fds)?;
     let names = names_in(alloc, config)?;
@@ -119,7 +124,7 @@ fn handed_of<R: Env + AllocGlobal>(
     alloc: Global,
     studio: &StudioSpec,
     listen_fds: bool,
-) -> Result<InheritedSockets, CommandFault> {
+) -> Result<InheritedSockets, ProgramFault> {
     if !listen_fds {
         return Ok(InheritedSockets::none());
     }
@@ -133,13 +138,13 @@ fn finish<W: Write>(
     setup: LiveInputs<'_>,
     words: LiveArgs<'_>,
     output: &mut W,
-) -> Result<(), CommandFault> {
+) -> Result<(), ProgramFault> {
     if matches!(ran, Ok(()) | Err(LiveFault::Unsettled)) {
         write_after_report(studio, setup, words, output)?;
     }
     ran?;
     if setup.recorded.has_failed() {
-        return Err(CommandFault::RecordWrite);
+        return Err(ProgramFault::RecordWrite);
     }
     Ok(())
 }
@@ -156,11 +161,11 @@ fn options_of(words: LiveArgs<'_>) -> LiveOptions {
 }
 
 /// A file at the path of a record, if one is asked for.
-fn record_of<C: Files>(files: &C, path: Option<&str>) -> Result<Option<C::File>, CommandFault> {
+fn record_of<C: Files>(files: &C, path: Option<&str>) -> Result<Option<C::File>, ProgramFault> {
     match path {
         Some(path) => match files.create(path) {
             Ok(file) => Ok(Some(file)),
-            Err(_) => Err(CommandFault::Record),
+            Err(_) => Err(ProgramFault::Record),
         },
         None => Ok(None),
     }
@@ -172,7 +177,7 @@ fn write_after_report<W: Write>(
     setup: LiveInputs<'_>,
     words: LiveArgs<'_>,
     output: &mut W,
-) -> Result<(), CommandFault> {
+) -> Result<(), ProgramFault> {
     if words.tai_offset.is_some() {
         let open_at = studio.open_at();
         output_result(writeln!(output, "open_at {open_at}"))?;
@@ -188,9 +193,10 @@ fn write_after_report<W: Write>(
 fn write_record_line<W: Write>(
     recorded: &RecordResult,
     output: &mut W,
-) -> Result<(), CommandFault> {
+) -> Result<(), ProgramFault> {
     let (count, came) = (recorded.written(), recorded.received());
-    output_result(writeln!(output, "record {count} of {came}"))
+    output_result(writeln!(output, "record {count} of {came}"))?;
+    Ok(())
 }
 
 /// The studio at its opening time, or, where an offset is said, opened now by International Atomic Time.
@@ -199,7 +205,7 @@ fn opened<R: Clock>(
     alloc: Global,
     studio: StudioSpec,
     tai_offset: Option<&str>,
-) -> Result<OpenedStudio, CommandFault> {
+) -> Result<OpenedStudio, ProgramFault> {
     let Some(word) = tai_offset else {
         let began = rt.monotonic().ok();
         return Ok(OpenedStudio { studio, began });
@@ -213,21 +219,21 @@ fn opened<R: Clock>(
 }
 
 /// Now by International Atomic Time, which is as far ahead as a word says.
-fn opening_of<R: Clock>(rt: &R, word: &str) -> Result<TaiTime, CommandFault> {
+fn opening_of<R: Clock>(rt: &R, word: &str) -> Result<TaiTime, ProgramFault> {
     match tai_now(rt, offset_of(word)?) {
         Some(opening) => Ok(opening),
-        None => Err(CommandFault::Clock),
+        None => Err(ProgramFault::Clock),
     }
 }
 
 /// The offset that a word says.
-fn offset_of(word: &str) -> Result<TaiOffset, CommandFault> {
+fn offset_of(word: &str) -> Result<TaiOffset, ProgramFault> {
     if word == "system" {
         return Ok(TaiOffset::System);
     }
     match word.parse::<u32>() {
         Ok(seconds) => Ok(TaiOffset::Seconds(seconds)),
-        Err(_) => Err(CommandFault::TaiOffset),
+        Err(_) => Err(ProgramFault::TaiOffset),
     }
 }
 
@@ -236,16 +242,30 @@ fn write_unexpected<W: Write>(
     studio: &StudioSpec,
     strangers: &UnexpectedSources,
     output: &mut W,
-) -> Result<(), CommandFault> {
+) -> Result<(), ProgramFault> {
     let mut place = 0;
     for (number, stream) in studio.streams().iter().enumerate() {
-        for (path, name) in (0..stream.paths()).zip(["a", "b", "c", "d"]) {
-            if has_source(studio, number, path) {
-                let count = strangers.count(place);
-                output_result(writeln!(output, "strangers {number} {name} {count}"))?;
-            }
+        for path in 0..stream.paths() {
+            write_unexpected_of(studio, number, path, strangers.count(place), output)?;
             place = place.saturating_add(1);
         }
+    }
+    Ok(())
+}
+
+/// Writes the count of a path that takes datagrams from one source alone.
+fn write_unexpected_of<W: Write>(
+    studio: &StudioSpec,
+    stream: usize,
+    path: u8,
+    count: u64,
+    output: &mut W,
+) -> Result<(), ProgramFault> {
+    let Some(name) = NAMES.get(usize::from(path)) else {
+        return Ok(());
+    };
+    if has_source(studio, stream, path) {
+        output_result(writeln!(output, "strangers {stream} {name} {count}"))?;
     }
     Ok(())
 }

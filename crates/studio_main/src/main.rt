@@ -6,11 +6,13 @@
 //! The program, over the host's words, files and streams.
 #![tactic(auto)]
 
+mod fault;
 mod live_command;
 mod names;
 mod program;
 mod told;
 
+pub use fault::ProgramFault;
 pub use file_commands::{CaptureInputFault, CommandFault, ConfigFault, Files};
 pub use live_command::run_live_config;
 pub use program::run;
@@ -69,13 +71,13 @@ fn main(rt: HostRuntime) -> ExitCode {
             &mut rt.stdout(),
             &mut faults,
         ),
-        Err(fault) => fault.tell(&mut faults),
+        Err(fault) => fault.report(&mut faults),
     };
     ExitCode::from(status)
 }
 
 /// The words of the command line, without the program's name.
-fn program_args(rt: &(impl Env + AllocGlobal)) -> Result<Vec<String>, CommandFault> {
+fn program_args(rt: &(impl Env + AllocGlobal)) -> Result<Vec<String>, ProgramFault> {
     match env::args(rt) {
         Ok(all) => words_in(rt.alloc(), all),
         Err(fault) => Err(fault_of(fault.kind())),
@@ -83,7 +85,7 @@ fn program_args(rt: &(impl Env + AllocGlobal)) -> Result<Vec<String>, CommandFau
 }
 
 /// All words but the first, which is the program's name.
-fn words_in(alloc: Global, all: Args) -> Result<Vec<String>, CommandFault> {
+fn words_in(alloc: Global, all: Args) -> Result<Vec<String>, ProgramFault> {
     let mut words = Vec::new(alloc);
     for word in all.skip(1) {
         words.push(word)?;
@@ -92,9 +94,9 @@ fn words_in(alloc: Global, all: Args) -> Result<Vec<String>, CommandFault> {
 }
 
 /// Why the words of the command line are not known.
-fn fault_of(kind: ErrorKind) -> CommandFault {
+fn fault_of(kind: ErrorKind) -> ProgramFault {
     match kind {
-        ErrorKind::OutOfMemory => CommandFault::Memory,
-        _ => CommandFault::Usage,
+        ErrorKind::OutOfMemory => ProgramFault::Command(CommandFault::Memory),
+        _ => ProgramFault::Usage,
     }
 }

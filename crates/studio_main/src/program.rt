@@ -1,10 +1,11 @@
 //! From the words of a command line to its exit status.
+use crate::fault::ProgramFault;
 use crate::live_command::run_live;
 use crate::told::report_usage;
+use command_line::{CliCommand, FileCommand, parse_args};
 use file_commands::{
-    CliCommand, CommandFault, Files, parse_args, run_chart, run_check, run_import, run_marks,
-    run_marks_to_wav, run_marks_with_counts, run_play, run_play_to_wav, run_quick_start,
-    run_replay, run_streams,
+    CommandFault, Files, run_chart, run_check, run_import, run_marks, run_marks_to_wav,
+    run_marks_with_counts, run_play, run_play_to_wav, run_quick_start, run_replay, run_streams,
 };
 use std::alloc::Global;
 use std::io::{Read, Write};
@@ -38,11 +39,11 @@ pub fn run<
     };
     match dispatch(rt, files, alloc, command, input, output, faults) {
         Ok(()) => 0,
-        Err(fault) => fault.tell(faults),
+        Err(fault) => fault.report(faults),
     }
 }
 
-/// Does what the words ask for. Counts that are told beside a listing go where faults go.
+/// Runs the command that the words ask for.
 fn dispatch<
     R: Threads + Wait + Sync + Net + Clock + RandomSource + Env + AllocGlobal,
     C: Files,
@@ -57,29 +58,45 @@ fn dispatch<
     input: &mut I,
     output: &mut W,
     faults: &mut E,
+) -> Result<(), ProgramFault> {
+    match command {
+        CliCommand::Live(path, words) => run_live(rt, files, alloc, path, words, output, faults),
+        CliCommand::File(command) => {
+            Ok(run_file_command(files, alloc, command, input, output, faults)?)
+        }
+    }
+}
+
+/// Runs a command over files. The counts next to a listing go to `faults`.
+fn run_file_command<C: Files, I: Read, W: Write, E: Write>(
+    files: &C,
+    alloc: Global,
+    command: FileCommand<'_>,
+    input: &mut I,
+    output: &mut W,
+    faults: &mut E,
 ) -> Result<(), CommandFault> {
     match command {
-        CliCommand::QuickStart => run_quick_start(alloc, input, output),
-        CliCommand::Marks(path) => run_marks(files, alloc, path, input, output),
-        CliCommand::MarksAndCounts(path) => {
+        FileCommand::QuickStart => run_quick_start(alloc, input, output),
+        FileCommand::Marks(path) => run_marks(files, alloc, path, input, output),
+        FileCommand::MarksAndCounts(path) => {
             run_marks_with_counts(files, alloc, path, input, output, faults)
         }
-        CliCommand::MarksToWav(path, words) => {
+        FileCommand::MarksToWav(path, words) => {
             run_marks_to_wav(files, alloc, path, words, input, output, faults)
         }
-        CliCommand::Play(path) => run_play(files, alloc, path, input, output),
-        CliCommand::PlayToWav(path, file) => {
+        FileCommand::Play(path) => run_play(files, alloc, path, input, output),
+        FileCommand::PlayToWav(path, file) => {
             run_play_to_wav(files, alloc, path, file, input, output, faults)
         }
-        CliCommand::Chart(path) => run_chart(files, alloc, path, input, output),
-        CliCommand::Check(path) => run_check(files, alloc, path, output),
-        CliCommand::Streams(path) => run_streams(files, alloc, path, output),
-        CliCommand::Import(path, options) => {
+        FileCommand::Chart(path) => run_chart(files, alloc, path, input, output),
+        FileCommand::Check(path) => run_check(files, alloc, path, output),
+        FileCommand::Streams(path) => run_streams(files, alloc, path, output),
+        FileCommand::Import(path, options) => {
             run_import(files, alloc, path, &options, output, faults)
         }
-        CliCommand::Replay(config, words) => {
+        FileCommand::Replay(config, words) => {
             run_replay(files, alloc, config, words, output, faults)
         }
-        CliCommand::Live(path, words) => run_live(rt, files, alloc, path, words, output, faults),
     }
 }

@@ -1,4 +1,5 @@
 //! What is told in place of a run.
+use crate::fault::ProgramFault;
 use clap::Error;
 use clap::error::ErrorKind;
 use file_commands::CommandFault;
@@ -11,14 +12,14 @@ pub(crate) fn report_usage<W: Write, E: Write>(
     faults: &mut E,
 ) -> u8 {
     if error.kind() == ErrorKind::OutOfMemory {
-        return CommandFault::Memory.tell(faults);
+        return ProgramFault::Command(CommandFault::Memory).report(faults);
     }
     if error.use_stderr() {
         let _ = write!(faults, "{error}");
-        return CommandFault::Usage.status();
+        return ProgramFault::Usage.status();
     }
     match write!(output, "{error}") {
         Ok(()) => 0,
-        Err(_) => CommandFault::Write.tell(faults),
+        Err(_) => ProgramFault::Command(CommandFault::Write).report(faults),
     }
 }

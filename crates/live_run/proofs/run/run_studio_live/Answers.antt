@@ -1,7 +1,7 @@
 use Rattle.std.proofs.Common.{subst}
 use Rattle.studio_run.specs.Buffer.{BreaksOff, PassesOn}
 use Rattle.studio_run.proofs.BufferLemmas.{BreaksOff-finished, PassesOn-finished}
-use Rattle.live_io.specs.Report.{report_text}
+use Rattle.live_run.specs.Report.{report_text}
 use Rattle.live_run.proofs.RunLemmas.{broke_off}
 use Rattle.live_run.proofs.run.run_studio_live.Goals as goal
 

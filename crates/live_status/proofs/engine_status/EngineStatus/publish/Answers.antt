@@ -9,7 +9,7 @@ use Rattle.live_status.specs.Outputs.{blank_output}
 use Rattle.live_status.specs.Publisher.{Shows}
 use Rattle.live_status.specs.EngineStatus.{IsEngineOutput, IsEngineStream, SeesStream}
 use Rattle.live_status.proofs.Each.{refilled}
-use Rattle.live_status.proofs.EngineStatus.{streams-seen}
+use Rattle.live_status.proofs.EngineStatusLemmas.{streams-seen}
 use Rattle.live_status.proofs.engine_status.EngineStatus.publish.Goals as goal
 
 pub returns-clause-shown : goal.returns-clause-shown

@@ -1,13 +1,20 @@
 //! What a capture holds, as a text.
-use pcap_flows::{
-    Flow, FlowKey, FlowPair, FlowTable, Lengths, Skew, Steps, StreamFlows, channels_that_fit,
-    group_streams, skews_of,
-};
+use crate::fit::channels_that_fit;
+use crate::flow::Flow;
+use crate::lengths::Lengths;
+use crate::packet::FlowKey;
+use crate::skew::{FlowPair, Skew, skews_of};
+use crate::steps::Steps;
+use crate::streams::{StreamFlows, group_streams};
+use crate::table::FlowTable;
 use std::alloc::{AllocError, Global};
 use std::net::Ipv4Addr;
 
 /// The names of a stream's paths.
 const NAMES: [&str; 4] = ["a", "b", "c", "d"];
+
+/// The names of the paths after the first.
+const FURTHER: [&str; 3] = ["b", "c", "d"];
 
 /// The encodings, with the octets of a sample.
 const ENCODINGS: [(&str, usize); 2] = [("L16", 2), ("L24", 3)];
@@ -49,13 +56,26 @@ fn push_flows(
     number: usize,
     stream: &StreamFlows,
 ) -> Result<(), AllocError> {
-    for (name, place) in NAMES.iter().zip(stream.places().iter()) {
-        if let Some((key, flow)) = table.flow(*place) {
-            write!(text, "stream {number} path {name}: ")?;
-            push_flow(text, &key, flow)?;
-        }
+    // A loop over one slice: joined iterators with a `?` inside take several times as long to prove.
+    for (path, place) in stream.places().iter().enumerate() {
+        push_path(text, table, number, path, *place)?;
     }
     Ok(())
+}
+
+/// Appends the line of a path, whose flow is at a place of the table.
+fn push_path(
+    text: &mut String,
+    table: &FlowTable,
+    number: usize,
+    path: usize,
+    place: usize,
+) -> Result<(), AllocError> {
+    let (Some(name), Some((key, flow))) = (NAMES.get(path), table.flow(place)) else {
+        return Ok(());
+    };
+    write!(text, "stream {number} path {name}: ")?;
+    push_flow(text, &key, flow)
 }
 
 /// A flow's addresses, counts and form.
@@ -163,13 +183,24 @@ fn pair_of(table: &FlowTable, first: usize, second: usize) -> Option<FlowPair> {
 
 /// A line for the skew of each further path.
 fn push_skews(text: &mut String, number: usize, skews: &[Option<Skew>]) -> Result<(), AllocError> {
-    for (name, skew) in NAMES.iter().skip(1).zip(skews.iter()) {
-        if let Some(skew) = skew {
-            write!(text, "stream {number} path {name} behind a: ")?;
-            push_skew(text, skew)?;
-        }
+    for (path, skew) in skews.iter().enumerate() {
+        push_behind(text, number, path, skew)?;
     }
     Ok(())
+}
+
+/// Appends the line of a further path's skew, if it has one.
+fn push_behind(
+    text: &mut String,
+    number: usize,
+    path: usize,
+    skew: &Option<Skew>,
+) -> Result<(), AllocError> {
+    let (Some(name), Some(skew)) = (FURTHER.get(path), skew) else {
+        return Ok(());
+    };
+    write!(text, "stream {number} path {name} behind a: ")?;
+    push_skew(text, skew)
 }
 
 /// A path's skew.

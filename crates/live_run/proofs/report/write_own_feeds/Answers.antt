@@ -1,7 +1,7 @@
 use Rattle.std.proofs.Common.{◌≡◌, Err, rules}
-use Rattle.live_io.proofs.TextLemmas.{writing_broken, writing_more}
-use Rattle.live_io.proofs.ReportLemmas.{own_next}
-use Rattle.live_io.proofs.report.write_own_feeds.Goals as goal
+use Rattle.live_run.proofs.TextLemmas.{writing_broken, writing_more}
+use Rattle.live_run.proofs.ReportLemmas.{own_next}
+use Rattle.live_run.proofs.report.write_own_feeds.Goals as goal
 
 pub loop-place-preserved : goal.loop-place-preserved
 loop-place-preserved g c =

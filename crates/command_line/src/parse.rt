@@ -1,66 +1,63 @@
-//! From the words to what they ask for.
-use crate::cli::args::{CliCommand, ImportArgs, LiveArgs, ReplayArgs, StreamWavArgs};
-use crate::cli::clap_command::command;
+//! From the words to the command.
+use crate::args::{CliCommand, FileCommand, ImportArgs, LiveArgs, ReplayArgs, StreamWavArgs};
+use crate::clap_command::command;
 use clap::{ArgMatches, Error};
 use std::alloc::Global;
 
-pub(crate) mod args;
-mod clap_args;
-mod clap_command;
-pub(crate) mod commands;
-
-/// What the words ask for. Help and the version are errors too, with their texts.
+/// Returns the command that the words ask for. Help and the version are errors too, with their texts.
 pub fn parse_args<'a>(alloc: Global, words: &'a [String]) -> Result<CliCommand<'a>, Error> {
     let matches = command(alloc)?.try_get_matches_from(words)?;
     parse_command(alloc, &matches)
 }
 
-/// What words that the program knows ask for.
+/// Returns the command of words that the program knows.
 fn parse_command<'a>(alloc: Global, matches: &ArgMatches<'a>) -> Result<CliCommand<'a>, Error> {
     let Some((name, inner)) = matches.subcommand() else {
-        return Ok(CliCommand::QuickStart);
+        return Ok(CliCommand::File(FileCommand::QuickStart));
     };
-    if let Some(path) = inner.get_str("CONFIG") {
-        return Ok(parse_config_command(name, path, inner));
-    }
-    match inner.get_str("FILE") {
-        Some(path) if name == "import" => Ok(CliCommand::Import(
-            path,
-            import_options(alloc, inner)?,
-        )),
-        Some(path) => Ok(CliCommand::Streams(path)),
-        None => Ok(CliCommand::QuickStart),
-    }
+    let command = match (inner.get_str("CONFIG"), inner.get_str("FILE")) {
+        (Some(path), _) if name == "live" => return Ok(CliCommand::Live(path, live_words(inner))),
+        (Some(path), _) => parse_config_command(name, path, inner),
+        (None, Some(path)) if name == "import" => {
+            FileCommand::Import(path, import_options(alloc, inner)?)
+        }
+        (None, Some(path)) => FileCommand::Streams(path),
+        (None, None) => FileCommand::QuickStart,
+    };
+    Ok(CliCommand::File(command))
 }
 
-/// What a word that takes a configuration asks for.
-fn parse_config_command<'a>(name: &str, path: &'a str, matches: &ArgMatches<'a>) -> CliCommand<'a> {
+/// Returns the command of a word that takes a configuration, but for `live`.
+fn parse_config_command<'a>(
+    name: &str,
+    path: &'a str,
+    matches: &ArgMatches<'a>,
+) -> FileCommand<'a> {
     match name {
         "play" => play_in(path, matches),
-        "chart" => CliCommand::Chart(path),
-        "check" => CliCommand::Check(path),
-        "replay" => CliCommand::Replay(path, replay_words(path, matches)),
-        "live" => CliCommand::Live(path, live_words(matches)),
+        "chart" => FileCommand::Chart(path),
+        "check" => FileCommand::Check(path),
+        "replay" => FileCommand::Replay(path, replay_words(path, matches)),
         _ => marks_in(path, matches),
     }
 }
 
-/// What is written of a trace whose marks are listed.
-fn marks_in<'a>(path: &'a str, matches: &ArgMatches<'a>) -> CliCommand<'a> {
+/// Returns the command that lists the marks of a trace.
+fn marks_in<'a>(path: &'a str, matches: &ArgMatches<'a>) -> FileCommand<'a> {
     if matches.get_flag("counts") {
-        return CliCommand::MarksAndCounts(path);
+        return FileCommand::MarksAndCounts(path);
     }
     match matches.get_strs("wav") {
-        Some([stream, file]) => CliCommand::MarksToWav(path, StreamWavArgs { stream, file }),
-        _ => CliCommand::Marks(path),
+        Some([stream, file]) => FileCommand::MarksToWav(path, StreamWavArgs { stream, file }),
+        _ => FileCommand::Marks(path),
     }
 }
 
-/// What is written of a trace that is played.
-fn play_in<'a>(path: &'a str, matches: &ArgMatches<'a>) -> CliCommand<'a> {
+/// Returns the command that plays a trace.
+fn play_in<'a>(path: &'a str, matches: &ArgMatches<'a>) -> FileCommand<'a> {
     match matches.get_str("wav") {
-        Some(file) => CliCommand::PlayToWav(path, file),
-        None => CliCommand::Play(path),
+        Some(file) => FileCommand::PlayToWav(path, file),
+        None => FileCommand::Play(path),
     }
 }
 

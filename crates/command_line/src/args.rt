@@ -1,32 +1,39 @@
-//! What the words of the command line ask for.
+//! The commands and their arguments, as the program takes them.
 
-/// What the words ask for. A configuration is named by its path.
+/// The command that the words of the command line ask for.
 #[derive(Drop)]
 pub enum CliCommand<'a> {
+    /// A command over files and standard input.
+    File(FileCommand<'a>),
+    /// A run, on sockets, of the studio of the configuration at this path.
+    Live(&'a str, LiveArgs<'a>),
+}
+
+/// A command over files and standard input. A configuration and a capture are named by their paths.
+#[derive(Drop)]
+pub enum FileCommand<'a> {
     /// The marks of the stream of the quick start.
     QuickStart,
     /// The marks of a configuration's streams.
     Marks(&'a str),
-    /// The same, with the counts beside them.
+    /// The marks, and the counts on standard error.
     MarksAndCounts(&'a str),
-    /// The same, with a WAV file of one stream beside them.
+    /// The marks, and a WAV file of one stream.
     MarksToWav(&'a str, StreamWavArgs<'a>),
     /// The report of a configuration's studio.
     Play(&'a str),
-    /// The same, with a WAV file at this path beside it.
+    /// The report, and a WAV file of the mix at the second path.
     PlayToWav(&'a str, &'a str),
-    /// The picture of what a configuration's streams received.
+    /// A chart of what a configuration's streams received.
     Chart(&'a str),
-    /// What a configuration means.
+    /// A configuration in lines for people.
     Check(&'a str),
-    /// What a capture holds.
+    /// The RTP flows of a capture.
     Streams(&'a str),
     /// A capture as a trace, or the configuration that fits it.
     Import(&'a str, ImportArgs<'a>),
     /// The report of a capture, by a configuration.
     Replay(&'a str, ReplayArgs<'a>),
-    /// A run of a configuration's studio on sockets.
-    Live(&'a str, LiveArgs<'a>),
 }
 
 /// A stream, and the WAV file that its samples go to.

@@ -1,7 +1,7 @@
 use Rattle.std.proofs.Common.{drop}
-use Rattle.live_io.specs.Report.{streams_text}
-use Rattle.live_io.proofs.TextLemmas.{IsWriting}
-use Rattle.live_io.proofs.report.write_streams.Given as goal
+use Rattle.live_run.specs.Report.{streams_text}
+use Rattle.live_run.proofs.TextLemmas.{IsWriting}
+use Rattle.live_run.proofs.report.write_streams.Given as goal
 
 -- the lines of the streams so far were passed on
 abbrev pub invariant-loop-number : goal.invariant-loop-number

@@ -1,7 +1,7 @@
 use Rattle.std.proofs.Common.{◌≡◌, Err, rules}
-use Rattle.live_io.proofs.TextLemmas.{writing_broken, writing_more}
-use Rattle.live_io.proofs.ReportLemmas.{paths_next}
-use Rattle.live_io.proofs.report.write_paths.Goals as goal
+use Rattle.live_run.proofs.TextLemmas.{writing_broken, writing_more}
+use Rattle.live_run.proofs.ReportLemmas.{paths_next}
+use Rattle.live_run.proofs.report.write_paths.Goals as goal
 
 pub loop-place-preserved : goal.loop-place-preserved
 loop-place-preserved g c =

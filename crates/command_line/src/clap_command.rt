@@ -1,5 +1,5 @@
 //! The parser of the words that the program knows.
-use crate::cli::commands::{COMMANDS, CommandSpec};
+use crate::commands::{COMMANDS, CommandSpec};
 use clap::{Arg, Command};
 use std::alloc::{AllocError, Global};
 

@@ -1,7 +1,7 @@
 use Rattle.std.proofs.Common.{drop}
-use Rattle.live_io.specs.Report.{feeds_text}
-use Rattle.live_io.proofs.TextLemmas.{IsWriting}
-use Rattle.live_io.proofs.report.write_feeds.Given as goal
+use Rattle.live_run.specs.Report.{feeds_text}
+use Rattle.live_run.proofs.TextLemmas.{IsWriting}
+use Rattle.live_run.proofs.report.write_feeds.Given as goal
 
 -- the lines of the feeds of the streams so far were passed on
 abbrev pub invariant-loop-number : goal.invariant-loop-number

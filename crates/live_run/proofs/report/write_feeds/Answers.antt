@@ -1,7 +1,7 @@
 use Rattle.std.proofs.Common.{◌≡◌, min, length, ap, ◌∙◌, Err, rules}
-use Rattle.live_io.proofs.TextLemmas.{writing_broken, writing_more}
-use Rattle.live_io.proofs.ReportLemmas.{feeds_next}
-use Rattle.live_io.proofs.report.write_feeds.Goals as goal
+use Rattle.live_run.proofs.TextLemmas.{writing_broken, writing_more}
+use Rattle.live_run.proofs.ReportLemmas.{feeds_next}
+use Rattle.live_run.proofs.report.write_feeds.Goals as goal
 
 pub loop-number-preserved : goal.loop-number-preserved
 loop-number-preserved g c =

@@ -3,9 +3,9 @@ use Rattle.rtp_stream.specs.Counts.{tally_of}
 use Rattle.studio_run.specs.Buffer.{BreaksOff, PassesOn}
 use Rattle.studio_run.specs.Report.{merge_line}
 use Rattle.studio_run.proofs.BufferLemmas.{BreaksOff-later, BreaksOff-longer, PassesOn-trans}
-use Rattle.live_io.specs.Report.{paths_text}
-use Rattle.live_io.proofs.ReportLemmas.{stream_is}
-use Rattle.live_io.proofs.report.write_stream.Goals as goal
+use Rattle.live_run.specs.Report.{paths_text}
+use Rattle.live_run.proofs.ReportLemmas.{stream_is}
+use Rattle.live_run.proofs.report.write_stream.Goals as goal
 
 pub returns-in_err-write_paths-clause-fault : goal.returns-in_err-write_paths-clause-fault
 returns-in_err-write_paths-clause-fault g c =

@@ -1,9 +1,9 @@
 use Rattle.std.proofs.Common.{◌≡◌, ◌++◌, refl, subst, Err, rules}
 use Rattle.studio_run.specs.Buffer.{BreaksOff, PassesOn}
 use Rattle.studio_run.proofs.BufferLemmas.{BreaksOff-later, BreaksOff-longer, PassesOn-trans}
-use Rattle.live_io.specs.Report.{feeds_text, sink_text, streams_text}
-use Rattle.live_io.proofs.ReportLemmas.{report_is}
-use Rattle.live_io.proofs.report.write_report.Goals as goal
+use Rattle.live_run.specs.Report.{feeds_text, sink_text, streams_text}
+use Rattle.live_run.proofs.ReportLemmas.{report_is}
+use Rattle.live_run.proofs.report.write_report.Goals as goal
 
 pub returns-in_err-write_streams-clause-fault : goal.returns-in_err-write_streams-clause-fault
 returns-in_err-write_streams-clause-fault g c =

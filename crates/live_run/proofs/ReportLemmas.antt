@@ -9,7 +9,7 @@ use Rattle.rtp_stream.specs.declared.stream_counts.StreamCounts.{StreamCounts}
 use Rattle.studio_run.specs.LiveReport.{feed_line}
 use Rattle.studio_run.specs.Report.{merge_line, path_line}
 use Rattle.studio_io.specs.declared.report.WorkReport.{WorkReport}
-use Rattle.live_io.specs.Report.{feeds_text, own_feeds_text, paths_in, paths_text, report_text, sink_text, stream_text, streams_in, streams_text}
+use Rattle.live_run.specs.Report.{feeds_text, own_feeds_text, paths_in, paths_text, report_text, sink_text, stream_text, streams_in, streams_text}
 
 -- those of the next stream, and of the rest
 pub streams_next : (n : ℕ) (streams : List StreamCounts) (counts : StreamCounts) → n < length streams → counts ≡ get_or streams n counts

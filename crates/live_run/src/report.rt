@@ -1,7 +1,7 @@
 //! The report of a live run.
 ghost use Rattle.std.specs.Prelude.{◌≡◌, ◌≤◌, ◌<◌, length, OnOk, OnErr};
 ghost use Rattle.studio_run.specs.Buffer.{BreaksOff, PassesOn};
-ghost use Rattle.live_io.specs.Report.{feeds_text, own_feeds_text, paths_in, paths_text, report_text, stream_text, streams_in, streams_text};
+ghost use Rattle.live_run.specs.Report.{feeds_text, own_feeds_text, paths_in, paths_text, report_text, stream_text, streams_in, streams_text};
 
 use rtp_stream::{Path, PathCounts, StreamCounts};
 use std::io::Write;

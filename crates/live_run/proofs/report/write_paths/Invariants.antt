@@ -1,7 +1,7 @@
 use Rattle.std.proofs.Common.{drop}
-use Rattle.live_io.specs.Report.{paths_text}
-use Rattle.live_io.proofs.TextLemmas.{IsWriting}
-use Rattle.live_io.proofs.report.write_paths.Given as goal
+use Rattle.live_run.specs.Report.{paths_text}
+use Rattle.live_run.proofs.TextLemmas.{IsWriting}
+use Rattle.live_run.proofs.report.write_paths.Given as goal
 
 -- the lines of the paths so far were passed on
 abbrev pub invariant-loop-place : goal.invariant-loop-place

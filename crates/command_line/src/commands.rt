@@ -1,5 +1,5 @@
 //! The words that the program knows, with what may stand behind them, and their help.
-use crate::cli::clap_args::{ArgKind, ArgRelation, ArgSpec};
+use crate::clap_args::{ArgKind, ArgRelation, ArgSpec};
 use clap::ArgAction;
 use clap::builder::ValueParser;
 
