@@ -1,13 +1,15 @@
-//! The encodings of a sample, and the payload that holds them.
+//! The encodings of a sample, and the payload that holds samples.
 ghost use Rattle.std.specs.Prelude.{◌≡◌};
 ghost use Rattle.rtp_wire.specs.Sample.{octets_per_sample};
 
 use arrayvec::ArrayVec;
 
-/// The octets of one packet's samples; no packet here carries more than 1,440.
+/// The octets of one packet's samples, at most 1,440.
+// With 1,440 octets a packet fits an Ethernet frame and its payload an array, so packets take no memory of their
+// own.
 pub type Payload = ArrayVec<u8, 1440>;
 
-/// Linear PCM of 16 bits (RFC 3551, L16) or 24 bits (RFC 3190, L24).
+/// The encoding of a sample: linear PCM of 16 bits (L16; RFC 3551, 4.5) or 24 bits (L24; RFC 3190, 4).
 #[derive(Clone, Copy, Debug, PartialEq, Eq)]
 pub enum Enc {
     L16,
@@ -15,7 +17,7 @@ pub enum Enc {
 }
 
 impl Enc {
-    /// How many octets one sample takes.
+    /// Returns the number of octets of one sample.
     pub fn octets(self) -> usize
         ensures { result ≡ octets_per_sample self }
     {

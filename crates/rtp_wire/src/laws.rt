@@ -1,4 +1,4 @@
-//! What the definitions promise together. Nothing is computed here: the clauses are the laws.
+//! Laws of the definitions of datagrams, headers and samples. Nothing is computed here: the clauses are the laws.
 ghost use Rattle.std.specs.Prelude.{◌≡◌, ◌↔◌, ◌++◌, ◌*ℤ◌, None, List, ℕ, ℤ, pos};
 ghost use Rattle.rtp_wire.specs.declared.encoding.Enc.TheVariants.{L16, L24};
 ghost use Rattle.rtp_wire.specs.Octets.{AreOctets};
@@ -6,7 +6,7 @@ ghost use Rattle.rtp_wire.specs.Head.{FitsHeader, Head, head_octets};
 ghost use Rattle.rtp_wire.specs.Datagram.{IsDatagram, head_at, payload_at, wire_fault_of};
 ghost use Rattle.rtp_wire.specs.Sample.{FitsEncoding, sample_octets, sample_value};
 
-/// No octets are two packets, and they are one exactly where nothing is wrong with them.
+/// Octets are at most one packet, and they are one exactly if they have no fault.
 pub fn datagrams_are_read_one_way()
     ensures one { (octets : List ℕ) (head other : Head) (payload rest : List ℕ) →
         IsDatagram octets head payload → IsDatagram octets other rest →
@@ -18,7 +18,8 @@ pub fn datagrams_are_read_one_way()
         IsDatagram octets head payload → (head ≡ head_at octets) × (payload ≡ payload_at octets) }
 {}
 
-/// What is written is read back: a header before any payload, and a sample.
+/// A written header is read back, before any payload, and so is a written sample; one of 16 bits is read on the
+/// scale of 24 bits.
 pub fn written_heads_read_back()
     ensures head { (head : Head) (payload : List ℕ) →
         FitsHeader head → IsDatagram (head_octets head ++ payload) head payload }

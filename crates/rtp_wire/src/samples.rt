@@ -1,24 +1,34 @@
-//! Linear PCM samples as octets (RFC 3551, L16; RFC 3190, L24).
+//! Reading and writing linear PCM samples (L16; RFC 3551, 4.5; L24; RFC 3190, 4).
 ghost use Rattle.std.specs.Prelude.{◌≡◌, ◌≤◌, ◌<◌, ◌+◌, ◌*◌, ◌++◌, ℕ, Some, drop, length, slice_get};
 ghost use Rattle.std.specs.List.{All};
 ghost use Rattle.rtp_wire.specs.declared.encoding.Enc.TheVariants.{L16, L24};
-ghost use Rattle.rtp_wire.specs.Sample.{FitsEncoding, Is24Bits, block_octets, octets_per_sample, sample_at, sample_count, sample_octets, samples_of};
+ghost use Rattle.rtp_wire.specs.Sample.{
+  FitsEncoding,
+  Is24Bits,
+  block_octets,
+  octets_per_sample,
+  sample_at,
+  sample_count,
+  sample_octets,
+  samples_of,
+};
 
 use crate::encoding::Enc;
 use byteorder::{BigEndian, ByteOrder};
 
-/// The sample at `index` of a payload, on the scale of 24 bits: one of 16 bits is multiplied by 256.
+/// Returns the sample at `index` of a payload, on the scale of 24 bits: one of 16 bits is multiplied by 256.
 pub fn sample(enc: Enc, octets: &[u8], index: usize) -> i32
     requires { octets_per_sample enc * (index + 1) ≤ length octets.now }
     ensures { result ≡ sample_at enc octets.now index }
 {
     match enc {
+        // Samples have 24 bits everywhere, so that both encodings mix on one scale.
         Enc::L16 => 256 * i32::from(BigEndian::read_i16(&octets[2 * index..])),
         Enc::L24 => BigEndian::read_i24(&octets[3 * index..]),
     }
 }
 
-/// Writes a sample to the front of `out`, on the encoding's own scale.
+/// Writes a sample to the front of `out`. The sample is on the encoding's own scale.
 pub fn write_sample(enc: Enc, v: i32, out: &mut [u8])
     requires room { octets_per_sample enc ≤ length out.old }
     requires fits { FitsEncoding enc v }
@@ -30,9 +40,9 @@ pub fn write_sample(enc: Enc, v: i32, out: &mut [u8])
     }
 }
 
-/// Reads the whole samples of a payload to the front of `out`, and answers how many they are.
+/// Reads the whole samples of a payload to the front of `out`, on the scale of 24 bits, and returns their number.
 ///
-/// They stand as in the payload: all channels of one sampling instant, then the next instant.
+/// Their order is that of the payload: all channels of one sampling instant, then those of the next.
 pub fn read_samples(enc: Enc, octets: &[u8], out: &mut [i32]) -> usize
     requires { sample_count enc octets.now ≤ length out.old }
     ensures count { result ≡ sample_count enc octets.now }
@@ -47,7 +57,9 @@ pub fn read_samples(enc: Enc, octets: &[u8], out: &mut [i32]) -> usize
     }
 }
 
-/// Writes samples to the front of `out`, side by side, and answers how many octets they take.
+/// Writes samples to the front of `out`, side by side, and returns the number of octets written.
+///
+/// The samples are on the encoding's own scale.
 pub fn write_samples(enc: Enc, samples: &[i32], out: &mut [u8]) -> usize
     requires room { octets_per_sample enc * length samples.now ≤ length out.old }
     requires fit { All (FitsEncoding enc) samples.now }
@@ -61,7 +73,7 @@ pub fn write_samples(enc: Enc, samples: &[i32], out: &mut [u8]) -> usize
     }
 }
 
-/// Reads samples of 16 bits.
+/// Reads the samples of an L16 payload to the front of `out`, and returns their number.
 fn read_16(octets: &[u8], out: &mut [i32]) -> usize
     requires { sample_count L16 octets.now ≤ length out.old }
     ensures count { result ≡ sample_count L16 octets.now }
@@ -75,16 +87,16 @@ fn read_16(octets: &[u8], out: &mut [i32]) -> usize
     count
 }
 
-/// The sample of 24 bits at `index`, where an octet follows it: the upper 24 bits of the four octets
-/// that begin with it, which takes one load where three octets take three.
+/// Returns the sample of 24 bits at `index`, if an octet follows it.
 fn sample_in_word(octets: &[u8], index: usize) -> i32
     requires { 3 * (index + 1) < length octets.now }
     ensures { result ≡ sample_at L24 octets.now index }
 {
+    // The sample is the upper 24 bits of four octets: one load, where three single octets take three.
     BigEndian::read_i32(&octets[3 * index..]) >> 8
 }
 
-/// Reads samples of 24 bits.
+/// Reads the samples of an L24 payload to the front of `out`, and returns their number.
 fn read_24(octets: &[u8], out: &mut [i32]) -> usize
     requires { sample_count L24 octets.now ≤ length out.old }
     ensures count { result ≡ sample_count L24 octets.now }
@@ -99,11 +111,12 @@ fn read_24(octets: &[u8], out: &mut [i32]) -> usize
     for i in 0..last {
         out[i] = sample_in_word(octets, i);
     }
+    // No octet follows the last sample for certain, so `sample_in_word` can't read it.
     out[last] = sample(Enc::L24, octets, last);
     count
 }
 
-/// Writes samples of 16 bits.
+/// Writes samples as L16 to the front of `out`, and returns the number of octets written.
 fn write_16(samples: &[i32], out: &mut [u8]) -> usize
     requires room { 2 * length samples.now ≤ length out.old }
     requires fit { All (FitsEncoding L16) samples.now }
@@ -119,7 +132,7 @@ fn write_16(samples: &[i32], out: &mut [u8]) -> usize
     2 * samples.len()
 }
 
-/// Writes samples of 24 bits.
+/// Writes samples as L24 to the front of `out`, and returns the number of octets written.
 fn write_24(samples: &[i32], out: &mut [u8]) -> usize
     requires room { 3 * length samples.now ≤ length out.old }
     requires fit { All (FitsEncoding L24) samples.now }
