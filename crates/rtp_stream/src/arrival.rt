@@ -1,4 +1,4 @@
-//! What becomes of an arrival, test by test.
+//! The tests that decide the fate of an arrival.
 ghost use Rattle.std.specs.Prelude.{◌≡◌, ◌^◌, ◌≤◌, ℕ, ℤ, pos, ◌≤ℤ◌, neg_ℤ};
 ghost use Rattle.rtp_stream.specs.PacketRef.{packet_of};
 ghost use Rattle.rtp_stream.specs.Anchor.{first_media_time, is_restart_in_reach, media_time_of};
@@ -16,7 +16,7 @@ use crate::packet::PacketRef;
 use crate::put::Put;
 use crate::stream_spec::StreamSpec;
 
-/// The fate of a packet that was put.
+/// Returns the fate of a packet that was put into a window with this result.
 pub fn fate_of_put(put: Put) -> Fate
     ensures { result ≡ fate.fate_of_put put }
 {
@@ -27,14 +27,16 @@ pub fn fate_of_put(put: Put) -> Fate
     }
 }
 
-/// Whether a packet was taken.
+/// Returns true if a packet of this fate was taken.
 pub fn is_taken(fate: Fate) -> bool
     ensures { result ≡ is_taken_fate fate }
 {
     matches!(fate, Fate::Taken | Fate::Restarted)
 }
 
-/// The number of which a packet is a copy in time, where `next` is due next, at `media`, or why it is none.
+/// Returns the number of which a packet is a copy in time, or the packet's fate if it is none.
+///
+/// `next` is the number due next, and `media` its media time.
 pub fn place_of(
     spec: &StreamSpec,
     anchor: &Anchor,
@@ -56,6 +58,7 @@ pub fn place_of(
     }
     let number = number_of(packet, next);
     let there = media + (number as i64 - next as i64) * i64::from(spec.frames());
+    // The timestamp tells replays from earlier cycles of sequence numbers, which a sequence number can't.
     if !is_in_step(anchor, there, packet.ts) {
         return Err(Fate::OffGrid);
     }
@@ -68,14 +71,16 @@ pub fn place_of(
     Ok(number)
 }
 
-/// Whether a packet with this place is off: it is of another source, or off the grid.
+/// Returns true if a packet with this place is off: it is of another source, or off the grid.
 pub fn is_off_place(place: &Result<u64, Fate>) -> bool
-    ensures { (stream : Stream) (anchor : Anchor) (next : ℕ) (packet : Packet) → place.now ≡ fate.place_of stream anchor next packet → result ≡ is_off stream anchor next packet }
+    ensures { (stream : Stream) (anchor : Anchor) (next : ℕ) (packet : Packet)
+        → place.now ≡ fate.place_of stream anchor next packet → result ≡ is_off stream anchor next packet }
 {
     matches!(place, Err(Fate::WrongSource | Fate::OffGrid))
 }
 
-/// Why a packet at `media` may be no first one of an epoch: its deadline has come, or it is beyond the window.
+/// Returns the fate of a packet at `media` that can't be the first of an epoch: its deadline has come, or it is
+/// beyond the window.
 fn reach_fault(spec: &StreamSpec, time: i64, media: i64) -> Option<Fate>
     requires low { pos 0 ≤ℤ time }
     requires high { time ≤ℤ pos (2 ^ 60) }
@@ -91,7 +96,8 @@ fn reach_fault(spec: &StreamSpec, time: i64, media: i64) -> Option<Fate>
     None
 }
 
-/// Whether media time goes on with a packet at `media`, where `due` is that of the number due next.
+/// Returns true if a packet at `media` may begin the next epoch: it is in reach, and not before `due`, the media
+/// time of the number due next.
 pub fn goes_on(spec: &StreamSpec, time: i64, due: i64, media: i64) -> bool
     requires low { pos 0 ≤ℤ time }
     requires high { time ≤ℤ pos (2 ^ 60) }
@@ -99,15 +105,17 @@ pub fn goes_on(spec: &StreamSpec, time: i64, due: i64, media: i64) -> bool
 {
     match reach_fault(spec, time, media) {
         Some(_) => false,
+        // Media time never goes back.
         None => due <= media,
     }
 }
 
-/// The fate of a packet that would be the first of epoch 0, at `media`.
+/// Returns the fate of a packet that would be the first of epoch 0, at `media`.
 pub fn fate_of_first(spec: &StreamSpec, time: i64, media: i64, source: u32) -> Fate
     requires low { pos 0 ≤ℤ time }
     requires high { time ≤ℤ pos (2 ^ 60) }
-    ensures { (packet : Packet) → packet.ssrc ≡ source → media ≡ first_media_time spec.now.clock packet.ts time → result ≡ first_fate spec.now time packet }
+    ensures { (packet : Packet) → packet.ssrc ≡ source → media ≡ first_media_time spec.now.clock packet.ts time
+        → result ≡ first_fate spec.now time packet }
 {
     if !is_wanted_source(spec.ssrc(), source) {
         return Fate::WrongSource;

@@ -1,4 +1,4 @@
-//! What a stream's arrivals and slots came to.
+//! The counts of a stream's arrivals and slots.
 ghost use Rattle.rtp_stream.specs.CountsFacts.{increased_at};
 ghost use Rattle.rtp_stream.specs.declared.mark.Body.{Body};
 ghost use Rattle.std.specs.Prelude.{◌≡◌, true, ◌+◌, ◌≤◌, ◌<◌, ◌^◌, sum};
@@ -6,11 +6,14 @@ ghost use Rattle.std.specs.Prelude.{◌≡◌, true, ◌+◌, ◌≤◌, ◌<◌
 use crate::fate::Fate;
 use crate::path::Path;
 
-/// Numbers of arrivals by fate and path, and of slots by body. They balance in every value.
+/// The number of arrivals by fate and path, and of slots by body. The counts balance in every value.
+///
+/// A field with the name of a `Fate` counts the arrivals of that fate.
 #[derive(Clone, Copy, Debug, PartialEq, Eq)]
 pub struct Counts {
-    /// All arrivals but those that came after a close, or after 2^62 others.
+    /// All arrivals except those that came after a close, or after 2^62 others.
     pub arrived: u64,
+    /// Packets taken, those that restarted the stream included.
     pub taken: u64,
     /// The packets taken, by the path that brought them; a path that the stream lacks has 0.
     pub taken_by: [u64; 4],
@@ -32,7 +35,7 @@ pub struct Counts {
     pub ghost restarted: { restarts ≤ taken },
 }
 
-/// Adds one to a path's number.
+/// Adds one to a path's count.
 fn add_one_at(numbers: &mut [u64; 4], path: Path)
     requires { sum numbers.old < 2 ^ 63 }
     ensures value { numbers.new ≡ increased_at path numbers.old }
@@ -45,7 +48,7 @@ impl Counts {
     ghost use Rattle.rtp_stream.specs.CountsFacts.{empty_tally, with_fate, with_body};
     ghost use Rattle.rtp_stream.specs.Counts.{tally_of, is_got_body};
 
-    /// Nothing has arrived, and no slot was handed on.
+    /// Returns counts of 0: nothing has arrived, and no slot was handed on.
     pub fn new() -> Self
         ensures { tally_of result ≡ empty_tally }
     {
@@ -65,13 +68,14 @@ impl Counts {
         }
     }
 
-    /// Counts an arrival on a path.
+    /// Counts an arrival on a path by its fate.
     #[inline(always)]
     pub fn add_fate(&mut self, path: Path, fate: Fate)
         requires { self.old.arrived < 2 ^ 62 }
         ensures { tally_of self.new ≡ with_fate (tally_of self.old) path fate }
     {
         match fate {
+            // These two are not counted, so that counts never wrap.
             Fate::Closed | Fate::CountersFull => {}
             Fate::WrongSource => {
                 self.wrong_source += 1;
@@ -111,7 +115,7 @@ impl Counts {
         }
     }
 
-    /// Counts a slot, with a payload or lost.
+    /// Counts a slot: with a payload if `got`, else as lost.
     #[inline]
     pub fn add_slot(&mut self, got: bool)
         requires held { got ≡ true → self.old.got < self.old.taken }

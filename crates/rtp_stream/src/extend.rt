@@ -2,7 +2,7 @@
 ghost use Rattle.std.specs.Prelude.{◌≡◌, ℤ, pos, ◌≤ℤ◌, neg_ℤ, ◌^◌};
 ghost use Rattle.rtp_stream.specs.Nearest.{IsNearest, nearest_number};
 
-/// The number nearest to `r` whose low 16 bits are `s`: from 2^15 below it to just below 2^15 above.
+/// Returns the number nearest to `r` whose low 16 bits are `s`: from 2^15 below `r` to just below 2^15 above it.
 pub fn near16(s: u16, r: i64) -> i64
     requires not_low { neg_ℤ (pos (2 ^ 61)) ≤ℤ r }
     requires not_high { r ≤ℤ pos (2 ^ 61) }
@@ -14,7 +14,7 @@ pub fn near16(s: u16, r: i64) -> i64
     least + (i64::from(s) - least).rem_euclid(65_536)
 }
 
-/// The number nearest to `r` whose low 32 bits are `x`: from 2^31 below it to just below 2^31 above.
+/// Returns the number nearest to `r` whose low 32 bits are `x`: from 2^31 below `r` to just below 2^31 above it.
 pub fn near32(x: u32, r: i64) -> i64
     requires not_low { neg_ℤ (pos (2 ^ 61)) ≤ℤ r }
     requires not_high { r ≤ℤ pos (2 ^ 61) }

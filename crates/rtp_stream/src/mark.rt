@@ -1,21 +1,23 @@
-//! What a merge hands on.
+//! The marks that a merge hands on.
 ghost use Rattle.std.specs.Prelude.{◌≡◌, ◌<◌, ◌≤◌, ◌^◌};
 ghost use Rattle.rtp_stream.specs.MarkFacts.{payload_length};
 
 use rtp_wire::{Enc, Payload};
 use std::marker::Model;
 
-/// How the samples of a stream's packets lie: what each mark says of its stream.
+/// The layout of the samples in a stream's packets. Each mark carries its stream's.
 #[derive(Clone, Copy, Debug, PartialEq, Eq)]
 pub struct Format {
+    /// The encoding of each sample.
     pub enc: Enc,
+    /// The number of channels.
     pub channels: u8,
     /// Sampling instants per packet.
     pub frames: u16,
 }
 
 impl Format {
-    /// The octets of a packet's samples.
+    /// Returns the number of octets of a packet's samples.
     pub fn payload_len(self) -> usize
         ensures { result ≡ payload_length self }
     {
@@ -36,7 +38,7 @@ impl Body {
     ghost use Rattle.std.specs.Prelude.{option_copied};
     ghost use Rattle.rtp_stream.specs.MarkRef.{body_from, IsShort};
 
-    /// The payload's octets, if it got one.
+    /// Returns the payload's octets, or `None` if it is lost.
     #[inline]
     pub fn octets(&self) -> Option<&[u8]>
         ensures value { body_from (option_copied result) ≡ self.now }
@@ -49,17 +51,18 @@ impl Body {
     }
 }
 
-/// What a mark says.
+/// The content of a mark. Times are in sampling instants at 48 kHz.
 #[derive(Debug, Drop)]
 pub enum MarkKind {
-    /// One packet's time, from `media` on.
+    /// The time of one packet, from `media` on.
     Slot {
-        /// How many restarts of the source came before it.
+        /// The number of restarts before it.
         epoch: u64,
         /// The extended sequence number (RFC 3550, A.1).
         number: u64,
         /// The media time of its first sampling instant.
         media: i64,
+        /// The samples, or that they are lost.
         body: Body,
     },
     /// The stream is known to be silent before this time.
@@ -70,7 +73,7 @@ pub enum MarkKind {
     End,
 }
 
-/// One mark of a stream. A mark that got its payload has exactly the length that its format says.
+/// One mark of a stream. If it has a payload, its length is exactly that of its format.
 #[derive(Debug, Drop)]
 pub struct Mark {
     format: Format,
@@ -91,7 +94,7 @@ impl Mark {
     ghost use Rattle.rtp_stream.specs.MarkFacts.{IsTime, HasLength, IsMark};
     ghost use Rattle.rtp_stream.specs.declared.mark.MarkKind.TheVariants.{Slot, Quiet, End};
 
-    /// The slot of a number, whose first sampling instant is at `media`.
+    /// Returns the slot of a number, whose first sampling instant is at `media`.
     pub fn slot(format: Format, epoch: u64, number: u64, media: i64, body: Body) -> Self
         requires epoch { epoch < 2 ^ 62 }
         requires number { number ≤ 2 ^ 61 }
@@ -108,7 +111,7 @@ impl Mark {
         Mark { format, kind }
     }
 
-    /// Silence before this time.
+    /// Returns a Quiet: the stream is known to be silent before this time.
     pub fn quiet(format: Format, until: i64) -> Self
         requires time { IsTime until }
         ensures { result ≡ record { format = format; kind = Quiet until } }
@@ -117,7 +120,7 @@ impl Mark {
         Mark { format, kind }
     }
 
-    /// The end of a stream.
+    /// Returns the end of a stream.
     pub fn end(format: Format) -> Self
         ensures { result ≡ record { format = format; kind = End } }
     {
@@ -125,14 +128,14 @@ impl Mark {
         Mark { format, kind }
     }
 
-    /// How the samples of its stream's packets lie.
+    /// Returns the layout of the samples in its stream's packets.
     pub fn format(&self) -> Format
         ensures { result ≡ self.now.format }
     {
         self.format
     }
 
-    /// What it says.
+    /// Returns a reference to its content.
     pub fn kind(&self) -> &MarkKind
         ensures value { result.now ≡ self.now.kind }
         ensures sound { IsMark self.now.format self.now.kind }

@@ -1,4 +1,4 @@
-//! What a merge lends.
+//! Marks whose payload is borrowed.
 ghost use Rattle.std.specs.Prelude.{◌≡◌, ◌<◌, ◌≤◌, ◌^◌, option_copied};
 ghost use Rattle.rtp_stream.specs.MarkFacts.{payload_length};
 ghost use Rattle.rtp_stream.specs.MarkRef.{body_from, IsShort};
@@ -7,12 +7,12 @@ use crate::mark::{Body, Format, Mark, MarkKind};
 use rtp_wire::Payload;
 use std::marker::Model;
 
-/// What a mark says, its payload lent.
+/// The content of a mark, with a borrowed payload. Times are in sampling instants at 48 kHz.
 #[derive(Clone, Copy, Debug)]
 pub enum MarkKindRef<'a> {
-    /// One packet's time, from `media` on.
+    /// The time of one packet, from `media` on.
     Slot {
-        /// How many restarts of the source came before it.
+        /// The number of restarts before it.
         epoch: u64,
         /// The extended sequence number (RFC 3550, A.1).
         number: u64,
@@ -29,7 +29,8 @@ pub enum MarkKindRef<'a> {
     End,
 }
 
-/// A mark whose payload is lent by the merge's window, or by another mark. Contracts see it as that mark.
+/// A mark whose payload is borrowed from a merge's window or from another mark. Contracts see it as a mark with that
+/// payload.
 #[derive(Debug, Drop)]
 pub struct MarkRef<'a> {
     format: Format,
@@ -52,7 +53,7 @@ impl<'a> MarkRef<'a> {
     ghost use Rattle.rtp_stream.specs.MarkRef.{kind_of, HasShortBody};
     ghost use Rattle.rtp_stream.specs.declared.mark.MarkKind.TheVariants.{Slot, Quiet, End};
 
-    /// The slot of a number, whose first sampling instant is at `media`.
+    /// Returns the slot of a number, whose first sampling instant is at `media`.
     #[inline]
     pub fn slot(
         format: Format,
@@ -66,7 +67,8 @@ impl<'a> MarkRef<'a> {
         requires time { IsTime media }
         requires len { HasLength (payload_length format) (body_from (option_copied payload)) }
         requires short { IsShort (body_from (option_copied payload)) }
-        ensures { result ≡ record { format = format; kind = Slot epoch number media (body_from (option_copied payload.entry)) } }
+        ensures { result
+            ≡ record { format = format; kind = Slot epoch number media (body_from (option_copied payload.entry)) } }
     {
         let kind = MarkKindRef::Slot {
             epoch,
@@ -77,7 +79,7 @@ impl<'a> MarkRef<'a> {
         MarkRef { format, kind }
     }
 
-    /// Silence before this time.
+    /// Returns a Quiet: the stream is known to be silent before this time.
     #[inline]
     pub fn quiet(format: Format, until: i64) -> MarkRef<'a>
         requires time { IsTime until }
@@ -87,7 +89,7 @@ impl<'a> MarkRef<'a> {
         MarkRef { format, kind }
     }
 
-    /// The end of a stream.
+    /// Returns the end of a stream.
     #[inline]
     pub fn end(format: Format) -> MarkRef<'a>
         ensures { result ≡ record { format = format; kind = End } }
@@ -96,7 +98,7 @@ impl<'a> MarkRef<'a> {
         MarkRef { format, kind }
     }
 
-    /// How the samples of its stream's packets lie.
+    /// Returns the layout of the samples in its stream's packets.
     #[inline]
     pub fn format(&self) -> Format
         ensures { result ≡ self.now.format }
@@ -104,7 +106,7 @@ impl<'a> MarkRef<'a> {
         self.format
     }
 
-    /// What it says.
+    /// Returns its content.
     #[inline]
     pub fn kind(&self) -> MarkKindRef<'a>
         ensures value { kind_of result ≡ self.now.kind }
@@ -114,7 +116,7 @@ impl<'a> MarkRef<'a> {
         self.kind
     }
 
-    /// The same mark with a payload of its own. Takes no memory.
+    /// Returns this mark with a copy of the payload. Takes no memory.
     pub fn to_mark(&self) -> Mark
         ensures { result ≡ self.now }
     {
@@ -132,7 +134,7 @@ impl<'a> MarkRef<'a> {
 }
 
 impl Mark {
-    /// The same mark, its payload lent.
+    /// Returns this mark with its payload borrowed.
     #[inline]
     pub fn lent(&self) -> MarkRef<'_>
         ensures { result ≡ self.now }
@@ -151,7 +153,7 @@ impl Mark {
     }
 }
 
-/// A body with octets of its own.
+/// Returns a body with a copy of the octets.
 fn body_copied(octets: Option<&[u8]>) -> Body
     requires { IsShort (body_from (option_copied octets)) }
     ensures { result ≡ body_from (option_copied octets.entry) }
@@ -159,6 +161,7 @@ fn body_copied(octets: Option<&[u8]>) -> Body
     match octets {
         Some(octets) => {
             let mut payload = Payload::new();
+            // This doesn't fail: there are at most 1,440 octets, the payload's capacity.
             let _ = payload.try_extend_from_slice(octets);
             Body::Got(payload)
         }

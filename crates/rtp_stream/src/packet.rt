@@ -1,4 +1,4 @@
-//! What a stream takes of an RTP packet.
+//! The packets of a stream: what a merge needs of an RTP packet.
 ghost use Rattle.std.specs.Prelude.{◌≡◌, ◌≤◌, length};
 ghost use Rattle.rtp_stream.specs.PacketRef.{packet_of};
 
@@ -7,25 +7,31 @@ use rtp_wire::Payload;
 /// An RTP packet of a stream's type and length: the fields that place it, and its samples.
 #[derive(Debug, Drop)]
 pub struct Packet {
+    /// The sequence number.
     pub seq: u16,
-    /// In sampling instants at 48 kHz.
+    /// The timestamp, in sampling instants at 48 kHz.
     pub ts: u32,
+    /// The synchronization source.
     pub ssrc: u32,
+    /// The octets of the samples.
     pub payload: Payload,
 }
 
-/// A packet whose samples are lent: they lie in a datagram, or in another packet.
+/// A packet whose samples are borrowed from a datagram or from another packet.
 #[derive(Clone, Copy, Debug)]
 pub struct PacketRef<'a> {
+    /// The sequence number.
     pub seq: u16,
-    /// In sampling instants at 48 kHz.
+    /// The timestamp, in sampling instants at 48 kHz.
     pub ts: u32,
+    /// The synchronization source.
     pub ssrc: u32,
+    /// The octets of the samples.
     pub payload: &'a [u8],
 }
 
 impl Packet {
-    /// The same packet, its samples lent.
+    /// Returns this packet with its samples borrowed.
     #[inline]
     pub fn lent(&self) -> PacketRef<'_>
         ensures packet { packet_of result ≡ self.now }
@@ -39,14 +45,14 @@ impl Packet {
         }
     }
 
-    /// The same packet again. Takes no memory.
+    /// Returns a copy of this packet. Takes no memory.
     pub fn copied(&self) -> Packet
         ensures { result ≡ self.now }
     {
         self.lent().to_packet()
     }
 
-    /// Becomes a packet that is lent: its samples alone are copied.
+    /// Replaces this packet by a copy of a borrowed one. Of the payload's 1,440 octets only those in use are copied.
     #[inline(always)]
     pub fn copy_from(&mut self, packet: PacketRef<'_>)
         requires { length packet.payload.now ≤ 1440 }
@@ -60,12 +66,13 @@ impl Packet {
 }
 
 impl PacketRef<'_> {
-    /// The same packet with samples of its own. Takes no memory.
+    /// Returns this packet with a copy of the samples. Takes no memory.
     pub fn to_packet(self) -> Packet
         requires { length self.payload.now ≤ 1440 }
         ensures { result ≡ packet_of self.entry }
     {
         let mut payload = Payload::new();
+        // This doesn't fail: there are at most 1,440 octets, the payload's capacity.
         let _ = payload.try_extend_from_slice(self.payload);
         Packet {
             seq: self.seq,
@@ -76,12 +83,13 @@ impl PacketRef<'_> {
     }
 }
 
-/// Becomes these octets. Where there are as many as before, they alone are written: `clear` blanks what it drops.
+/// Replaces a payload's octets by these.
 #[inline(always)]
 fn refill(payload: &mut Payload, octets: &[u8])
     requires { length octets.now ≤ 1440 }
     ensures { payload.new.items ≡ octets.now }
 {
+    // As many octets as before are written over them: `clear` blanks what it drops.
     if payload.len() == octets.len() {
         payload.as_mut_slice().copy_from_slice(octets);
     } else {
@@ -89,12 +97,14 @@ fn refill(payload: &mut Payload, octets: &[u8])
     }
 }
 
-/// Becomes these octets, of another number than before: in most slots once.
+/// Replaces a payload's octets by these, which are more or fewer.
+// Out of line, since it is rare: a slot's payload begins empty, and then keeps its stream's length.
 #[inline(never)]
 fn refill_cold(payload: &mut Payload, octets: &[u8])
     requires { length octets.now ≤ 1440 }
     ensures { payload.new.items ≡ octets.now }
 {
     payload.clear();
+    // This doesn't fail: there are at most 1,440 octets, the payload's capacity.
     let _ = payload.try_extend_from_slice(octets);
 }

@@ -1,19 +1,21 @@
-//! What became of a path's datagrams before the merge.
+//! The counts of a path's datagrams, by what became of them before the merge.
 ghost use Rattle.std.specs.Prelude.{◌≡◌, ◌+◌, ◌<◌};
 ghost use Rattle.rtp_stream.specs.Reception.{reception_from};
 
 use crate::reception::{Reception, ReceptionRef};
 
-/// The datagrams of a path by what became of them. They balance in every value.
+/// The number of a path's datagrams, by what became of them before the merge. The counts balance in every value.
 #[derive(Clone, Copy, Debug, PartialEq, Eq)]
 pub struct PathCounts {
-    /// All of them.
+    /// All datagrams.
     pub offered: u64,
     /// Packets of the stream.
     pub sent: u64,
-    /// No RTP packets.
+    /// Datagrams that are no RTP packets.
     pub bad: u64,
+    /// RTP packets of another payload type.
     pub wrong_type: u64,
+    /// RTP packets of the stream's payload type, with a payload of another length.
     pub wrong_length: u64,
     /// Packets that found no room on their way to the merge.
     pub full: u64,
@@ -23,7 +25,7 @@ pub struct PathCounts {
 impl PathCounts {
     ghost use Rattle.rtp_stream.specs.PathCounts.{empty_path_tally, path_tally_of, with_full, with_reception};
 
-    /// Nothing was offered.
+    /// Returns counts of 0: nothing was offered.
     pub fn new() -> PathCounts
         ensures { path_tally_of result ≡ empty_path_tally }
     {
@@ -37,7 +39,7 @@ impl PathCounts {
         }
     }
 
-    /// Counts a datagram.
+    /// Counts a datagram by its reception.
     pub fn add(&mut self, reception: &Reception)
         requires { self.old.offered < u64.MAX }
         ensures { path_tally_of self.new ≡ with_reception (path_tally_of self.old) reception.now }
@@ -51,7 +53,7 @@ impl PathCounts {
         self.offered += 1;
     }
 
-    /// Counts a datagram whose packet is lent.
+    /// Counts a datagram by its reception, in which the packet is borrowed.
     pub fn add_ref(&mut self, reception: ReceptionRef<'_>)
         requires { self.old.offered < u64.MAX }
         ensures { path_tally_of self.new ≡ with_reception (path_tally_of self.old) (reception_from reception.entry) }

@@ -10,23 +10,28 @@ use crate::packet::PacketRef;
 use crate::path::Path;
 use crate::stream_spec::StreamSpec;
 
-/// So many packets in sequence complete a probation.
+/// The number of packets in sequence that complete a probation.
+// RFC 3550, A.1 names 2; but a strayed or forged pair must not move a programme.
 const MIN_SEQUENTIAL: u8 = 8;
 
-/// How many packets in sequence, up to eight, a path brought last that are off the anchor's grid, and
-/// what comes next.
+/// One path's probation: its last packets that are of another source or off the anchor's grid, counted while they
+/// are in sequence, and what the next one has to be.
 #[derive(Clone, Copy, Debug)]
 pub struct Probation {
+    /// The number of packets in sequence, at most 8.
     pub count: u8,
+    /// The synchronization source of these.
     pub source: u32,
+    /// The sequence number of the packet that would follow.
     pub seq: u16,
+    /// The timestamp of the packet that would follow.
     pub ts: u32,
 }
 
 impl Probation {
     ghost use Rattle.rtp_stream.specs.PathProbation.{no_probation, probation_after, is_complete};
 
-    /// Nothing was heard since the anchor's arrival.
+    /// Returns a probation that has heard nothing since the anchor's arrival.
     pub fn new() -> Probation
         ensures { result ≡ no_probation }
     {
@@ -38,11 +43,14 @@ impl Probation {
         }
     }
 
-    /// Hears a packet, and whether it is off.
+    /// Adds a packet of the path: `off` if it is of another source or off the grid, `frames` sampling instants long.
+    ///
+    /// One that isn't off breaks the probation. One that is off but doesn't follow begins another.
     #[inline(always)]
     pub fn update(&mut self, frames: u32, off: bool, packet: &PacketRef<'_>)
         requires { frames ≤ 192 }
-        ensures { (stream : Stream) → stream.frames ≡ frames → self.new ≡ probation_after stream self.old (off, packet_of packet.now) }
+        ensures { (stream : Stream) → stream.frames ≡ frames
+            → self.new ≡ probation_after stream self.old (off, packet_of packet.now) }
     {
         if !off {
             *self = Probation::new();
@@ -57,6 +65,7 @@ impl Probation {
         } else if self.count < MIN_SEQUENTIAL {
             self.count + 1
         } else {
+            // Each further packet in sequence completes the probation again.
             MIN_SEQUENTIAL
         };
         *self = Probation {
@@ -67,7 +76,7 @@ impl Probation {
         };
     }
 
-    /// Whether the last eight are in sequence.
+    /// Returns true if the last eight are in sequence.
     pub fn is_complete(&self) -> bool
         ensures { result ≡ is_complete self.now }
     {
@@ -75,7 +84,8 @@ impl Probation {
     }
 }
 
-/// Hears a packet on its path, unless the stream asks for another source, and answers whether it completes that path's probation.
+/// Adds a packet to its path's probation, and returns true if it completes that. A packet of a source that the stream
+/// doesn't ask for is left out.
 #[inline(always)]
 pub fn update_probation(
     probations: &mut [Probation; 4],
@@ -84,10 +94,14 @@ pub fn update_probation(
     off: bool,
     packet: &PacketRef<'_>,
 ) -> bool
-    ensures heard { probation_at probations.new path ≡ probation_heard spec.now (probation_at probations.old path) off (packet_of packet.now) }
-    ensures others { (other : ℕ) → nat_eq other path ≡ false → probation_at probations.new other ≡ probation_at probations.old other }
-    ensures complete { result ≡ is_source_wanted spec.now.ssrc packet.now.ssrc && is_complete (probation_at probations.new path) }
+    ensures heard { probation_at probations.new path
+        ≡ probation_heard spec.now (probation_at probations.old path) off (packet_of packet.now) }
+    ensures others { (other : ℕ) → nat_eq other path ≡ false
+        → probation_at probations.new other ≡ probation_at probations.old other }
+    ensures complete { result ≡ is_source_wanted spec.now.ssrc packet.now.ssrc
+        && is_complete (probation_at probations.new path) }
 {
+    // A packet of a source that isn't asked for opens no epoch, and breaks no probation either.
     if !is_wanted_source(spec.ssrc(), packet.ssrc) {
         return false;
     }

@@ -1,37 +1,37 @@
-//! What a stream makes of a datagram.
+//! The reception of a datagram: its packet of the stream, or the reason why there is none.
 ghost use Rattle.std.specs.Prelude.{◌≡◌};
 ghost use Rattle.rtp_stream.specs.Reception.{FitsReception, IsShortReception, reception_from, reception_of};
 
 use crate::packet::{Packet, PacketRef};
 use crate::stream_spec::{AdmitFault, StreamSpec};
 
-/// What became of a datagram before the merge.
+/// The reception of a datagram: its packet of the stream, or the reason why there is none.
 #[derive(Debug, Drop)]
 pub enum Reception {
-    /// A packet of the stream.
+    /// The datagram is a packet of the stream.
     Sent(Packet),
-    /// No RTP packet.
+    /// The datagram is no RTP packet.
     Bad,
-    /// Of another payload type.
+    /// The RTP packet has another payload type.
     WrongType,
-    /// Of another length.
+    /// The RTP packet has the stream's payload type, and a payload of another length.
     WrongLength,
 }
 
-/// What became of a datagram before the merge, its packet lent: the samples lie in the datagram.
+/// The reception of a datagram, with its packet borrowed: the samples stay in the datagram.
 #[derive(Clone, Copy, Debug)]
 pub enum ReceptionRef<'a> {
-    /// A packet of the stream.
+    /// The datagram is a packet of the stream.
     Sent(PacketRef<'a>),
-    /// No RTP packet.
+    /// The datagram is no RTP packet.
     Bad,
-    /// Of another payload type.
+    /// The RTP packet has another payload type.
     WrongType,
-    /// Of another length.
+    /// The RTP packet has the stream's payload type, and a payload of another length.
     WrongLength,
 }
 
-/// Takes a packet of the stream out of a datagram. It is `receive_ref` with a copy.
+/// Returns the reception of a datagram, with a copy of the samples. Takes no memory.
 pub fn receive(spec: &StreamSpec, datagram: &[u8]) -> Reception
     ensures value { result ≡ reception_of spec.now datagram.now }
     ensures fits { FitsReception spec.now result }
@@ -44,7 +44,7 @@ pub fn receive(spec: &StreamSpec, datagram: &[u8]) -> Reception
     }
 }
 
-/// Finds a packet of the stream in a datagram.
+/// Returns the reception of a datagram, whose samples are borrowed.
 pub fn receive_ref<'a>(spec: &StreamSpec, datagram: &'a [u8]) -> ReceptionRef<'a>
     ensures value { reception_from result ≡ reception_of spec.now datagram.now }
     ensures fits { FitsReception spec.now (reception_from result) }

@@ -2,10 +2,11 @@
 use crate::counts::Counts;
 use crate::path_counts::PathCounts;
 
-/// The counts of a stream, once all its marks were given.
+/// The counts of a stream, after its last mark.
 #[derive(Debug, Drop)]
 pub struct StreamCounts {
-    /// Of each of its paths.
+    /// The counts of each of its paths.
     pub paths: Vec<PathCounts>,
+    /// The counts of its merge.
     pub merge: Counts,
 }

@@ -1,4 +1,4 @@
-//! What is fixed of a stream before any packet comes.
+//! The specification of a stream: what is fixed before any packet comes.
 ghost use Rattle.std.specs.Prelude.{◌≡◌, ◌≤◌, ◌↔◌, IsTrue, None, Some, OnOk, IfOk, IfErr, length};
 ghost use Rattle.rtp_stream.specs.StreamSpecFacts as spec;
 ghost use Rattle.rtp_stream.specs.declared.stream_spec.Stream.{Stream};
@@ -12,43 +12,43 @@ use rtp_wire::{Enc, RtpView, is_packet_time};
 use std::marker::Model;
 use thiserror::Error;
 
-/// Which clock a stream's media times follow.
+/// The clock that a stream's media times follow.
 #[derive(Clone, Copy, Debug, PartialEq, Eq)]
 pub enum StreamClock {
     /// The media clock, from which the sender's timestamps are `offset` ahead, modulo 2^32 (AES67).
     Media { offset: u32 },
-    /// The receiver's clock as an epoch's first packet came, or the end of the slots where that is later:
-    /// for a sender that isn't locked to the media clock.
+    /// The receiver's clock reading as an epoch's first packet came, or the end of the slots if that is later: for a
+    /// sender that isn't locked to the media clock.
     Arrival,
 }
 
-/// Why there is no such stream: the first of these, in this order.
+/// The reason why a stream is refused: the first of these that holds, in this order.
 #[derive(Clone, Copy, Debug, PartialEq, Eq, Error)]
 pub enum SpecFault {
-    /// Not 1 to 64 channels.
+    /// The channels are not from 1 to 64.
     #[error("channels are not from 1 to 64")]
     Channels,
-    /// Not 6, 12, 16, 48 or 192 sampling instants per packet, or more than 8 channels in others than 6.
+    /// The sampling instants per packet are not 6, 12, 16, 48 or 192, or not 6 with more than 8 channels.
     #[error("frames per packet are not allowed")]
     Frames,
-    /// Not a dynamic payload type, 96 to 127 (RFC 3551).
+    /// The payload type is not a dynamic one, 96 to 127 (RFC 3551).
     #[error("the payload type is not from 96 to 127")]
     PayloadType,
     /// A packet's samples take more than 1,440 octets.
     #[error("a payload would have more than 1440 octets")]
     TooLong,
-    /// Not a power of two from 8 to 16,384.
+    /// The window is not a power of two from 8 to 16,384.
     #[error("the window is not a power of two from 8 to 16384")]
     Window,
-    /// None at all, or a window that is less than the latency and two packets.
+    /// The latency is 0, or the window spans less than the latency and two packets.
     #[error("the latency is 0 or does not fit the window")]
     Latency,
-    /// Not 1 to 4 paths.
+    /// The paths are not from 1 to 4.
     #[error("paths are not from 1 to 4")]
     Paths,
 }
 
-/// Why a packet isn't the stream's: the first of these, in this order.
+/// The reason why a packet isn't the stream's: the first of these that holds, in this order.
 #[derive(Clone, Copy, Debug, PartialEq, Eq, Error)]
 pub enum AdmitFault {
     /// It has another payload type.
@@ -59,12 +59,13 @@ pub enum AdmitFault {
     WrongLength,
 }
 
-/// What is said of a stream: its encoding and packets, its source and clock, its latency, window and paths.
+/// The parts of a stream's specification: its encoding and packets, its source and clock, its latency, window and
+/// paths. `StreamSpec::of` looks for faults in them.
 #[derive(Clone, Copy, Debug)]
 pub struct Stream {
-    /// How each sample is written.
+    /// The encoding of each sample.
     pub enc: Enc,
-    /// Channels.
+    /// The number of channels.
     pub channels: u8,
     /// Sampling instants per packet.
     pub frames: u16,
@@ -74,16 +75,16 @@ pub struct Stream {
     pub ssrc: Option<u32>,
     /// The clock that its media times follow.
     pub clock: StreamClock,
-    /// How long after its media time a packet is handed on, in sampling instants (AES67, link offset).
+    /// The time from a packet's media time to its deadline, in sampling instants (AES67, link offset).
     pub latency: u32,
-    /// How many packets may be held.
+    /// The number of packets that may be held.
     pub window: u16,
-    /// How many copies of each packet are sent, each on a path of its own.
+    /// The number of copies of each packet that are sent, each on a path of its own (SMPTE ST 2022-7).
     pub paths: u8,
 }
 
 impl Stream {
-    /// How the samples of its packets lie.
+    /// Returns the layout of the samples in its packets.
     pub fn format(&self) -> Format
         ensures { result ≡ format_of self.now }
     {
@@ -95,11 +96,12 @@ impl Stream {
     }
 }
 
-/// A stream in which there is no fault.
+/// The specification of a stream, in which there is no fault.
 #[derive(Clone, Copy, Debug)]
 pub struct StreamSpec {
     stream: Stream,
-    /// The octets of each packet's samples.
+    /// The number of octets of each packet's samples.
+    // Computed once, since the length of each packet is compared with it.
     payload_len: usize,
 }
 
@@ -121,7 +123,7 @@ impl Model for StreamSpec {
     ghost inverse = { λ s. record { stream = s; payload_len = payload_length (format_of s) } };
 }
 
-/// Whether a reorder window may have this many packets: a power of two from 8 to 16,384.
+/// Returns true if a reorder window may have this many packets: a power of two from 8 to 16,384.
 fn is_window(packets: u16) -> bool
     ensures { result ≡ spec.is_window packets }
 {
@@ -131,7 +133,7 @@ fn is_window(packets: u16) -> bool
     small || middle || large
 }
 
-/// The first fault of a stream's packets.
+/// Returns the first fault of a stream's packets.
 fn check_packets(format: Format, pt: u8) -> Result<(), SpecFault>
     ensures ok { OnOk result (spec.packets_fault_of format pt ≡ None) }
     ensures fault { IfErr result (λ e. spec.packets_fault_of format pt ≡ Some e) }
@@ -139,23 +141,26 @@ fn check_packets(format: Format, pt: u8) -> Result<(), SpecFault>
     if format.channels < 1 || format.channels > 64 {
         return Err(SpecFault::Channels);
     }
+    // More than 8 channels are allowed in packets of 6 sampling instants alone (SMPTE ST 2110-30, level C).
     if !is_packet_time(format.frames) || (format.channels > 8 && format.frames != 6) {
         return Err(SpecFault::Frames);
     }
     if pt < 96 || pt > 127 {
         return Err(SpecFault::PayloadType);
     }
+    // So a packet fits an Ethernet frame, and its payload an array that takes no memory.
     if format.payload_len() > 1440 {
         return Err(SpecFault::TooLong);
     }
     Ok(())
 }
 
-/// The first fault of a stream's window, latency and paths.
+/// Returns the first fault of a stream's window, latency and paths.
 fn check_times(frames: u16, latency: u32, window: u16, paths: u8) -> Result<(), SpecFault>
     ensures ok { OnOk result (spec.times_fault_of frames latency window paths ≡ None) }
     ensures fault { IfErr result (λ e. spec.times_fault_of frames latency window paths ≡ Some e) }
 {
+    // A power of two divides the cycle of sequence numbers.
     if !is_window(window) {
         return Err(SpecFault::Window);
     }
@@ -172,7 +177,7 @@ fn check_times(frames: u16, latency: u32, window: u16, paths: u8) -> Result<(), 
 impl StreamSpec {
     ghost use Rattle.rtp_stream.specs.StreamSpec.{Fits, admit_fault_of};
 
-    /// The specification of a stream, or the first fault in it.
+    /// Returns the specification of a stream, or the first fault in it.
     pub fn of(stream: Stream) -> Result<StreamSpec, SpecFault>
         ensures ok { IfOk result (λ s. s ≡ stream) }
         ensures fine { IfOk result (λ s. spec_fault_of s ≡ None) }
@@ -187,7 +192,7 @@ impl StreamSpec {
         })
     }
 
-    /// As `of`, with the stream's parts in their order.
+    /// Returns the specification of a stream of these parts, or the first fault in it.
     pub fn new(
         enc: Enc,
         channels: u8,
@@ -216,7 +221,7 @@ impl StreamSpec {
         })
     }
 
-    /// How the samples of its packets lie.
+    /// Returns the layout of the samples in its packets.
     pub fn format(&self) -> Format
         ensures value { result ≡ format_of self.now }
         ensures sound { IsStream self.now }
@@ -224,14 +229,14 @@ impl StreamSpec {
         self.stream.format()
     }
 
-    /// How each sample is written.
+    /// Returns the encoding of each sample.
     pub fn enc(&self) -> Enc
         ensures { result ≡ self.now.enc }
     {
         self.stream.enc
     }
 
-    /// Channels, 1 to 64.
+    /// Returns the number of channels, 1 to 64.
     pub fn channels(&self) -> u8
         ensures value { result ≡ self.now.channels }
         ensures sound { IsStream self.now }
@@ -239,7 +244,7 @@ impl StreamSpec {
         self.stream.channels
     }
 
-    /// Sampling instants per packet.
+    /// Returns the number of sampling instants per packet: 6, 12, 16, 48 or 192.
     pub fn frames(&self) -> u16
         ensures value { result ≡ self.now.frames }
         ensures sound { IsStream self.now }
@@ -247,7 +252,7 @@ impl StreamSpec {
         self.stream.frames
     }
 
-    /// The RTP payload type, 96 to 127 (RFC 3551).
+    /// Returns the RTP payload type, 96 to 127 (RFC 3551).
     pub fn pt(&self) -> u8
         ensures value { result ≡ self.now.pt }
         ensures fine { HasNoFault self.now }
@@ -255,21 +260,22 @@ impl StreamSpec {
         self.stream.pt
     }
 
-    /// The synchronization source that each epoch's first packet has to have (RFC 3550, 5.1); `None` takes any.
+    /// Returns the synchronization source that each epoch's first packet has to have (RFC 3550, 5.1); `None` takes
+    /// any.
     pub fn ssrc(&self) -> Option<u32>
         ensures { result ≡ self.now.ssrc }
     {
         self.stream.ssrc
     }
 
-    /// The clock that its media times follow.
+    /// Returns the clock that its media times follow.
     pub fn clock(&self) -> StreamClock
         ensures { result ≡ self.now.clock }
     {
         self.stream.clock
     }
 
-    /// How long after its media time a packet is handed on, in sampling instants (AES67, link offset).
+    /// Returns the time from a packet's media time to its deadline, in sampling instants (AES67, link offset).
     pub fn latency(&self) -> u32
         ensures value { result ≡ self.now.latency }
         ensures sound { IsStream self.now }
@@ -277,7 +283,7 @@ impl StreamSpec {
         self.stream.latency
     }
 
-    /// How many numbers the reorder window spans.
+    /// Returns the number of packets that the reorder window spans.
     pub fn window(&self) -> u16
         ensures value { result ≡ self.now.window }
         ensures sound { IsStream self.now }
@@ -285,7 +291,7 @@ impl StreamSpec {
         self.stream.window
     }
 
-    /// How many paths carry it, 1 to 4.
+    /// Returns the number of paths that carry it, 1 to 4.
     pub fn paths(&self) -> u8
         ensures value { result ≡ self.now.paths }
         ensures sound { IsStream self.now }
@@ -293,7 +299,7 @@ impl StreamSpec {
         self.stream.paths
     }
 
-    /// The octets of each packet's samples.
+    /// Returns the number of octets of each packet's samples.
     pub fn payload_len(&self) -> usize
         ensures value { result ≡ payload_length (format_of self.now) }
         ensures short { result ≤ 1440 }
@@ -301,7 +307,8 @@ impl StreamSpec {
         self.payload_len
     }
 
-    /// Takes an RTP packet of the stream's type and length.
+    /// Returns the stream's packet of an RTP packet, with a copy of the samples, or the first `AdmitFault` if its
+    /// payload type or length is another. Takes no memory.
     pub fn admit(&self, view: &RtpView) -> Result<Packet, AdmitFault>
         ensures seq { IfOk result (λ p. p.seq ≡ view.now.seq) }
         ensures ts { IfOk result (λ p. p.ts ≡ view.now.ts) }
@@ -315,7 +322,8 @@ impl StreamSpec {
         Ok(packet.to_packet())
     }
 
-    /// As `admit`, with the samples lent by the datagram.
+    /// Returns the stream's packet of an RTP packet, with the samples borrowed from the datagram, or the first
+    /// `AdmitFault` if its payload type or length is another.
     #[inline]
     pub fn admit_ref<'a>(&self, view: &RtpView<'a>) -> Result<PacketRef<'a>, AdmitFault>
         ensures seq { IfOk result (λ p. p.seq ≡ view.now.seq) }
@@ -341,7 +349,7 @@ impl StreamSpec {
         })
     }
 
-    /// Whether a packet has the stream's length.
+    /// Returns true if a packet's payload has the stream's length.
     pub fn fits(&self, packet: &Packet) -> bool
         ensures { IsTrue result ↔ Fits self.now packet.now }
     {
