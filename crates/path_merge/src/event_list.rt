@@ -1,5 +1,24 @@
 //! A merge over a whole list of events.
-ghost use Rattle.std.specs.Prelude.{◌≡◌, ℕ, ◌+◌, ◌^◌, ◌∷◌, ◌++◌, [], List, ℤ, pos, ◌≤ℤ◌, None, true, OnOk, IfOk, IfErr, All, take};
+ghost use Rattle.std.specs.Prelude.{
+  ◌≡◌,
+  ℕ,
+  ◌+◌,
+  ◌^◌,
+  ◌∷◌,
+  ◌++◌,
+  [],
+  List,
+  ℤ,
+  pos,
+  ◌≤ℤ◌,
+  None,
+  true,
+  OnOk,
+  IfOk,
+  IfErr,
+  All,
+  take,
+};
 ghost use Rattle.rtp_stream.specs.declared.event.Event.{Event};
 ghost use Rattle.rtp_stream.specs.declared.event.Event.TheVariants.{Tick};
 ghost use Rattle.rtp_stream.specs.History as spec;
@@ -18,20 +37,21 @@ use rtp_stream::{Event, Mark, MarkKind, StreamSpec};
 use std::alloc::{AllocError, Global};
 use thiserror::Error;
 
-/// Why a list of events gives no marks.
+/// The reason why a list of events gives no marks.
 #[derive(Debug, Drop, Error)]
 pub enum RunFault {
-    /// A clock reading goes back, or past 2^60, or comes after a close: the first, by its place.
+    /// A clock reading goes back, or past 2^60, or comes after a close: the first, by its place in the list.
     #[error("the clock reading at place {0} is out of order")]
     Clock(usize),
-    /// A growth was refused.
+    /// An allocation failed.
     #[error("out of memory")]
     Memory(AllocError),
 }
 
-/// The marks of a list of events, in order.
+/// Returns the marks of a list of events, in order.
 ///
-/// A clock fault is found before memory is taken.
+/// Returns `RunFault::Clock` if a clock reading is out of order, before memory is taken, and `RunFault::Memory` if an
+/// allocation fails.
 pub fn run_merge(
     alloc: Global,
     spec: StreamSpec,
@@ -51,7 +71,7 @@ pub fn run_merge(
     marks_given(alloc, spec, open_at, events).map_err(RunFault::Memory)
 }
 
-/// The marks of a list of events whose clock readings are in order.
+/// Returns the marks of a list of events whose clock readings are in order.
 fn marks_given(
     alloc: Global,
     spec: StreamSpec,
@@ -72,7 +92,7 @@ fn marks_given(
     Ok(marks)
 }
 
-/// The place of the first clock reading that is out of order.
+/// Returns the place of the first clock reading that is out of order, if there is one.
 fn first_fault(open_at: i64, events: &[Event]) -> Option<usize>
     ensures { result ≡ first_clock_fault open_at events.now }
 {
@@ -90,7 +110,8 @@ fn first_fault(open_at: i64, events: &[Event]) -> Option<usize>
     None
 }
 
-/// The time and whether there is a close after an event, unless it is a reading out of order.
+/// Returns the time after an event, and true if the stream is then closed; `None` if the event is a clock reading
+/// out of order.
 fn clock_after(time: i64, closed: bool, event: &Event) -> Option<(i64, bool)>
     ensures { result ≡ spec.clock_after time closed event.now }
 {
@@ -104,7 +125,7 @@ fn clock_after(time: i64, closed: bool, event: &Event) -> Option<(i64, bool)>
     }
 }
 
-/// Hands an event to a merge, and appends the marks that it gives.
+/// Passes an event to a merge, and appends the marks that the merge then produces.
 fn take_event<V: Window>(
     merge: &mut Merge<V>,
     event: &Event,
@@ -113,7 +134,8 @@ fn take_event<V: Window>(
     requires of_stream { IsEventOf merge.old.spec event.now }
     requires in_order { IsInOrder merge.old event.now }
     ensures { OnOk result ((stream : Stream) (open_at : ℤ) (events : List Event)
-        → HasGiven stream open_at merge.old events marks.old.items → HasGiven stream open_at merge.new (events ++ event.now ∷ []) marks.new.items) }
+        → HasGiven stream open_at merge.old events marks.old.items
+        → HasGiven stream open_at merge.new (events ++ event.now ∷ []) marks.new.items) }
 {
     match event {
         Event::Arrive(path, packet) => {
@@ -128,7 +150,7 @@ fn take_event<V: Window>(
     Ok(())
 }
 
-/// Whether a mark is a slot.
+/// Returns true if a mark is a slot.
 fn is_slot(mark: &Mark) -> bool
     ensures { result ≡ slots.is_slot mark.now.kind }
 {
@@ -143,11 +165,14 @@ fn advance_to<V: Window>(
 ) -> Result<(), AllocError>
     requires { clock_fault_of merge.old.time merge.old.closed now ≡ None }
     ensures { OnOk result ((stream : Stream) (open_at : ℤ) (events : List Event)
-        → HasGiven stream open_at merge.old events marks.old.items → HasGiven stream open_at merge.new (events ++ Tick now ∷ []) marks.new.items) }
+        → HasGiven stream open_at merge.old events marks.old.items
+        → HasGiven stream open_at merge.new (events ++ Tick now ∷ []) marks.new.items) }
 {
+    // The label is the loop's name in its proof.
     'advances: loop {
         match merge.advance(now) {
             Ok(Some(mark)) => {
+                // Only a slot may be followed by more marks at the same reading.
                 let slot = is_slot(&mark);
                 marks.push(mark)?;
                 if !slot {
@@ -155,6 +180,7 @@ fn advance_to<V: Window>(
                 }
             }
             Ok(None) => return Ok(()),
+            // The caller owes a reading that isn't refused, so this arm is never reached.
             Err(_) => return Ok(()),
         }
     }
@@ -164,8 +190,10 @@ fn advance_to<V: Window>(
 fn drain_to<V: Window>(merge: &mut Merge<V>, marks: &mut Vec<Mark>) -> Result<(), AllocError>
     requires { merge.old.closed ≡ true }
     ensures { OnOk result ((stream : Stream) (open_at : ℤ) (events : List Event) (k : ℕ)
-        → HasHistory stream open_at merge.old events k → marks.old.items ≡ take k (marks_of stream open_at events) → HasGiven stream open_at merge.new events marks.new.items) }
+        → HasHistory stream open_at merge.old events k → marks.old.items ≡ take k (marks_of stream open_at events)
+        → HasGiven stream open_at merge.new events marks.new.items) }
 {
+    // The label is the loop's name in its proof.
     'drains: loop {
         match merge.drain() {
             Some(mark) => marks.push(mark)?,

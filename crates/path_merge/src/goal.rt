@@ -1,10 +1,10 @@
-//! How far a merge hands its marks on.
+//! The goal up to which a merge hands its marks on.
 
-/// How far marks are taken.
+/// The goal up to which marks are taken.
 #[derive(Clone, Copy, Debug)]
 pub enum Goal {
-    /// To a reading of the clock, of a merge that is open.
+    /// A reading of the clock, in sampling instants, of a merge that is open.
     Reading(i64),
-    /// To the end, after a close.
+    /// The end, after a close.
     End,
 }

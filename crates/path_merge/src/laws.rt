@@ -1,5 +1,28 @@
-//! What the definitions promise together. Nothing is computed here: the clauses are the laws.
-ghost use Rattle.std.specs.Prelude.{◌≡◌, ℕ, ◌+◌, ◌^◌, ◌<◌, ◌≤◌, ℤ, pos, ◌+ℤ◌, ◌≤ℤ◌, ◌<ℤ◌, List, [], ◌∷◌, ◌++◌, length, take, true, false, None, Some, IfSome};
+//! Laws of a stream's marks, numbers and epochs, and of merges. Nothing is computed here: the clauses are the laws.
+ghost use Rattle.std.specs.Prelude.{
+  ◌≡◌,
+  ℕ,
+  ◌+◌,
+  ◌^◌,
+  ◌<◌,
+  ◌≤◌,
+  ℤ,
+  pos,
+  ◌+ℤ◌,
+  ◌≤ℤ◌,
+  ◌<ℤ◌,
+  List,
+  [],
+  ◌∷◌,
+  ◌++◌,
+  length,
+  take,
+  true,
+  false,
+  None,
+  Some,
+  IfSome,
+};
 ghost use Rattle.std.specs.Int.{int_rem_euclid};
 ghost use Rattle.rtp_stream.specs.declared.stream_spec.Stream.{Stream};
 ghost use Rattle.rtp_stream.specs.StreamSpecFacts.{IsStream, format_of};
@@ -17,14 +40,34 @@ ghost use Rattle.rtp_stream.specs.Epochs.{anchor_of, last_of};
 ghost use Rattle.rtp_stream.specs.Copies.{copies_of, copies_of_all, first_copy, with_epoch};
 ghost use Rattle.rtp_stream.specs.Marks.{end_mark, marks_of};
 ghost use Rattle.rtp_stream.specs.EpochLaws.{HasSpans};
-ghost use Rattle.rtp_stream.specs.Sent.{BeginsWith, HasEqualCopies, IsOneEpoch, IsWithinReach, OpensNoEpoch, SentEvent, marks_by_number, sent_copies_after, timestamp_in_step, wire_history};
+ghost use Rattle.rtp_stream.specs.Sent.{
+  BeginsWith,
+  HasEqualCopies,
+  IsOneEpoch,
+  IsWithinReach,
+  OpensNoEpoch,
+  SentEvent,
+  marks_by_number,
+  sent_copies_after,
+  timestamp_in_step,
+  wire_history,
+};
 ghost use Rattle.rtp_stream.specs.Counts.{counts_of};
 ghost use Rattle.path_merge.specs.Merge.{HasHistory};
 ghost use Rattle.path_merge.specs.ClockLag.{IsDue, KeepUp};
 ghost use Rattle.path_merge.specs.Clock.{clock_fault_of};
 ghost use Rattle.path_merge.specs.NextMark.{next_mark};
 ghost use Rattle.path_merge.specs.Steps.{IsAlike};
-ghost use Rattle.rtp_stream.specs.Laws.{AreInOrder, IsDeadlineOnTheWay, IsLeastDue, IsOpen, slot_names, slot_times, slots_left, slots_reached};
+ghost use Rattle.rtp_stream.specs.Laws.{
+  AreInOrder,
+  IsDeadlineOnTheWay,
+  IsLeastDue,
+  IsOpen,
+  slot_names,
+  slot_times,
+  slots_left,
+  slots_reached,
+};
 
 /// The slots, by epoch and number, are exactly the spans of the epochs one after the other, rising, each
 /// once: each with the media time of its number under its epoch's anchor, and with the payload of the
@@ -57,8 +100,8 @@ pub fn next_number_is_the_least_due()
         next_number stream anchor from ≤ next_number stream anchor to }
 {}
 
-/// A reading at a deadline on the way to u, and then the reading to u, are as the reading to u alone; and a reading
-/// at the current time changes nothing.
+/// A clock reading at a deadline on the way to u, followed by the reading u, has the effect of the reading u alone. A
+/// reading of the current time changes nothing.
 pub fn ticks_may_be_split()
     ensures split { (stream : Stream) (open_at : ℤ) (events : List Event) (anchor : Anchor) (n : ℕ) (u : ℤ) →
         0 < stream.frames → IsOpen open_at events → IsDeadlineOnTheWay stream open_at events anchor n u →
@@ -81,8 +124,8 @@ pub fn arrivals_change_no_mark()
         ≡ marks_of stream open_at events }
 {}
 
-/// The marks of every history, and each first part of them, are a mark list; and media time never goes
-/// back in one, also where an epoch opens.
+/// The marks of every history, and each prefix of them, are a mark list. Media time never goes back in one, also if
+/// an epoch opens.
 pub fn marks_are_a_mark_list()
     ensures whole { (stream : Stream) (open_at : ℤ) (events : List Event) →
         0 < stream.frames → is_well_timed open_at events ≡ true →
@@ -97,16 +140,19 @@ pub fn marks_are_a_mark_list()
 
 /// The marks of an open history keep up with the clock: every mark's deadline came after the opening time and
 /// not after the last reading; and once a reading is past the opening time, the last mark ends at most the
-/// latency and a window of packets before it. What a merge lends for a reading in order is due by that.
+/// latency and a window of packets before it. A mark that a merge returns for a reading in order is due by that.
 pub fn marks_keep_up_with_the_clock()
-    ensures history { (stream : Stream) (open_at : ℤ) (events : List Event) → 0 < stream.frames → IsOpen open_at events →
+    ensures history { (stream : Stream) (open_at : ℤ) (events : List Event) → 0 < stream.frames
+        → IsOpen open_at events →
         KeepUp stream open_at (time_of open_at events) (marks_of stream open_at events) }
-    ensures lent { (stream : Stream) (open_at now : ℤ) (merge : MergeState) (events : List Event) (k : ℕ) (mark : MarkView) →
-        0 < stream.frames → HasHistory stream open_at merge events k → clock_fault_of merge.time merge.closed now ≡ None →
+    ensures lent { (stream : Stream) (open_at now : ℤ) (merge : MergeState) (events : List Event) (k : ℕ)
+        (mark : MarkView) →
+        0 < stream.frames → HasHistory stream open_at merge events k
+        → clock_fault_of merge.time merge.closed now ≡ None →
         next_mark merge now ≡ Some mark → IsDue stream open_at now mark.kind }
 {}
 
-/// After a close nothing more is handed on, whatever comes: the last mark is the end.
+/// No event after a close adds a mark: the last mark is the end.
 pub fn nothing_follows_a_close()
     ensures same { (stream : Stream) (open_at : ℤ) (events more : List Event) → is_closed events ≡ true →
         marks_of stream open_at (events ++ more) ≡ marks_of stream open_at events }
@@ -114,8 +160,8 @@ pub fn nothing_follows_a_close()
         last_of (marks_of stream open_at events) ≡ Some (end_mark stream) }
 {}
 
-/// While a merge is open, all marks of its history were given; and a merge that has one of two
-/// histories that are alike has the other.
+/// An open merge has produced all marks of its history. A merge that has one of two histories that are alike has the
+/// other.
 pub fn merges_stand_at_their_histories()
     ensures all_given { (stream : Stream) (open_at : ℤ) (merge : MergeState) (events : List Event) (k : ℕ) →
         HasHistory stream open_at merge events k → is_closed events ≡ false →
@@ -138,35 +184,37 @@ pub fn aliases_are_off_grid()
         is_on_grid stream anchor m (timestamp_in_step stream anchor n) ≡ false }
 {}
 
-/// Full numbers are whole numbers of any sign. Where the received history has one epoch, and each number
-/// lies from 2^25 below the one due next to just below 2^25 above it, what is handed on is what was sent;
-/// and where all packets of a number have one payload, its first copy has it.
+/// The marks are those of the full numbers, as sent, if the received history has one epoch and each number lies from
+/// 2^25 below the one due next to just below 2^25 above it. Full numbers are whole numbers of any sign. If all
+/// packets of a number have one payload, its first copy has it.
 pub fn sent_numbers_are_recovered()
     ensures marks { (stream : Stream) (anchor : Anchor) (open_at : ℤ) (sent : List SentEvent) →
         IsStream stream → BeginsWith stream anchor open_at sent → IsWithinReach stream anchor (2 ^ 25) open_at sent →
         IsOneEpoch stream open_at (wire_history stream anchor sent) →
         marks_of stream open_at (wire_history stream anchor sent) ≡ marks_by_number stream anchor open_at sent }
-    ensures payload { (stream : Stream) (anchor : Anchor) (open_at : ℤ) (sent : List SentEvent) (number : ℕ) (payload : List ℕ) →
+    ensures payload { (stream : Stream) (anchor : Anchor) (open_at : ℤ) (sent : List SentEvent) (number : ℕ)
+        (payload : List ℕ) →
         IsStream stream → BeginsWith stream anchor open_at sent → IsWithinReach stream anchor (2 ^ 25) open_at sent →
         IsOneEpoch stream open_at (wire_history stream anchor sent) → HasEqualCopies number payload sent →
-        IfSome (first_copy stream open_at (wire_history stream anchor sent) number) (λ packet. packet.payload.items ≡ payload) }
+        IfSome (first_copy stream open_at (wire_history stream anchor sent) number)
+        (λ packet. packet.payload.items ≡ payload) }
 {}
 
-/// The same in every epoch, whatever came before: until another epoch opens, packets under an epoch's anchor, whose
-/// numbers lie from 2^25 below the one due next to just below 2^25 above it, are copies of the numbers that they were
-/// sent as.
+/// Packets are copies of the numbers that they were sent as, in every epoch, whatever came before. That holds until
+/// another epoch opens, if the packets are under the epoch's anchor and their numbers lie from 2^25 below the one due
+/// next to just below 2^25 above it.
 pub fn each_epoch_recovers_its_numbers()
     ensures { (stream : Stream) (anchor : Anchor) (open_at : ℤ) (before : List Event) (sent : List SentEvent) →
         IsStream stream → anchor_of stream open_at before ≡ Some anchor → is_closed before ≡ false →
         IsWithinReach stream anchor (2 ^ 25) (time_of open_at before) sent →
         OpensNoEpoch stream open_at before (wire_history stream anchor sent) →
         copies_of_all stream open_at (before ++ wire_history stream anchor sent)
-        ≡ copies_of_all stream open_at before ++ with_epoch (Some anchor) (sent_copies_after stream anchor open_at before sent) }
+        ≡ copies_of_all stream open_at before
+        ++ with_epoch (Some anchor) (sent_copies_after stream anchor open_at before sent) }
 {}
 
-/// Where each number lies from 2^15 below the one due next to just below 2^15 above it, the received
-/// history has one epoch: no packet is off the grid, so no probation begins. And what is handed on is
-/// what was sent.
+/// The received history has one epoch if each number lies from 2^15 below the one due next to just below 2^15 above
+/// it: no packet is off the grid, so no probation begins. The marks are then those of the numbers as sent.
 pub fn near_numbers_open_one_epoch()
     ensures one { (stream : Stream) (anchor : Anchor) (open_at : ℤ) (sent : List SentEvent) →
         BeginsWith stream anchor open_at sent → IsWithinReach stream anchor (2 ^ 15) open_at sent →

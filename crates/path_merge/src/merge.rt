@@ -1,4 +1,5 @@
-//! The merge of a stream's paths.
+//! The merge of a stream's paths: its state, its time and its close. `packets_in` has the calls that take packets,
+//! `marks_out` those that produce marks.
 ghost use Rattle.std.specs.Prelude.{◌≡◌, ℕ, ◌+◌, ◌^◌, ◌≤◌, ◌∷◌, ◌++◌, [], List, ℤ, pos, ◌≤ℤ◌, IfOk, true, false};
 ghost use Rattle.std.specs.FinMap as map;
 ghost use Rattle.rtp_stream.specs.declared.event.Event.{Event};
@@ -15,20 +16,22 @@ use std::marker::Model;
 mod marks_out;
 mod packets_in;
 
-/// A stream's paths, merged: each number is handed on once, in order, at its deadline, with the
-/// first copy that came in time or as lost (SMPTE ST 2022-7).
+/// The merge of a stream's paths: each number is handed on once, in order, at its deadline, with the first copy that
+/// came in time or as lost (SMPTE ST 2022-7).
 ///
-/// Inputs are `offer` or `offer_ref` for packets, `advance` or `pass_to` for readings of the clock, and
-/// `close`. Outputs are the marks that `advance` answers, and `drain` after a close, or that `mark_to` lends
-/// on the way to a reading or to the end. `time`, `counts`, `closed`, `ended` and `next_deadline`
-/// read its state. No call but `new` takes memory.
+/// Inputs are `offer` or `offer_ref` for packets, `advance` or `pass_to` for readings of the clock, and `close`.
+/// Outputs are the marks that `advance` returns, and `drain` after a close; or those that `mark_to` returns,
+/// borrowed, on the way to a reading or to the end. `time`, `counts`, `closed`, `ended` and `next_deadline` read
+/// the state. No call except `new` takes memory.
 #[derive(Drop)]
 pub struct Merge<V: Window> {
     spec: StreamSpec,
     time: i64,
     anchor: Option<Anchor>,
     window: V,
+    /// The media time of the window's base, once there is an anchor.
     next_media: i64,
+    /// The time of the last Quiet, and before one the opening time minus the latency.
     quiet: i64,
     counts: Counts,
     closed: bool,
@@ -68,7 +71,8 @@ impl<V: Window> Model for Merge<V> {
 impl Merge<SlotWindow> {
     ghost use Rattle.path_merge.specs.Merge.{HasHistory};
 
-    /// A merge over a window of slots, at its opening time: nothing has happened yet.
+    /// Returns a merge over a window of slots, at its opening time in sampling instants, or an error if the
+    /// allocation of the window fails.
     pub fn new(alloc: Global, spec: StreamSpec, open_at: i64) -> Result<Self, AllocError>
         requires not_low { pos 0 ≤ℤ open_at }
         requires not_high { open_at ≤ℤ pos (2 ^ 60) }
@@ -87,7 +91,7 @@ impl<V: Window> Merge<V> {
     ghost use Rattle.path_merge.specs.Window.{IsEmpty};
     ghost use Rattle.path_merge.specs.Steps.{next_deadline_of};
 
-    /// A merge over an empty window of the stream's size: nothing has happened yet.
+    /// Returns a merge over an empty window of the stream's size, at its opening time in sampling instants.
     pub fn with_window(window: V, spec: StreamSpec, open_at: i64) -> Self
         requires not_low { pos 0 ≤ℤ open_at }
         requires not_high { open_at ≤ℤ pos (2 ^ 60) }
@@ -112,35 +116,35 @@ impl<V: Window> Merge<V> {
         }
     }
 
-    /// The time: the opening time, or where the last `advance` left it.
+    /// Returns the time in sampling instants: the opening time, or the time to which `advance` or `pass_to` moved it.
     pub fn time(&self) -> i64
         ensures { result ≡ self.now.time }
     {
         self.time
     }
 
-    /// What became of the arrivals and slots so far.
+    /// Returns the counts of the arrivals and slots so far.
     pub fn counts(&self) -> Counts
         ensures { tally_of result ≡ self.now.counts }
     {
         self.counts
     }
 
-    /// Whether there was a close.
+    /// Returns true if there was a close.
     pub fn closed(&self) -> bool
         ensures { result ≡ self.now.closed }
     {
         self.closed
     }
 
-    /// Whether the end was handed on: nothing is left to drain.
+    /// Returns true if the end was handed on: nothing is left to drain.
     pub fn ended(&self) -> bool
         ensures { result ≡ self.now.ended }
     {
         self.ended
     }
 
-    /// When the next slot is due: never before the first packet, nor after a close.
+    /// Returns the deadline of the next slot, or `None` before the first packet is taken and after a close.
     pub fn next_deadline(&self) -> Option<i64>
         ensures { result ≡ next_deadline_of self.now }
     {
@@ -151,10 +155,12 @@ impl<V: Window> Merge<V> {
         Some(self.next_media + i64::from(self.spec.latency()))
     }
 
-    /// Takes no more packets and clock readings: what is left can be drained. Twice is as once.
+    /// Ends the stream: later packets and clock readings are refused. `drain` then returns the remaining marks. A
+    /// second close changes nothing.
     pub fn close(&mut self)
         ensures stands { (stream : Stream) (open_at : ℤ) (events : List Event) (k : ℕ)
-            → HasHistory stream open_at self.old events k → HasHistory stream open_at self.new (events ++ Close ∷ []) k }
+            → HasHistory stream open_at self.old events k
+            → HasHistory stream open_at self.new (events ++ Close ∷ []) k }
         ensures changed { self.new ≡ record self.old { closed = true } }
     {
         self.closed = true;

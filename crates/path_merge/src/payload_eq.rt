@@ -1,11 +1,10 @@
-//! Whether two payloads are the same.
+//! Comparing payloads.
 ghost use Rattle.std.specs.Prelude.{◌≡◌, ◌≤◌, ◌+◌, true, bytes_eq, length, take};
 
-/// So many octets of a long payload are compared at a time.
+/// The number of octets of a long payload that are compared at a time.
 const RUN: usize = 384;
 
-/// Whether two payloads that are the same up to a place are the same for a run more. It looks at each octet,
-/// so that the compiler can test many at a time.
+/// Returns true if two payloads that are the same up to a place are the same for a run more.
 fn is_same_run(a: &[u8], b: &[u8], from: usize) -> bool
     requires room { from + 384 ≤ length a.now }
     requires other_room { from + 384 ≤ length b.now }
@@ -13,13 +12,14 @@ fn is_same_run(a: &[u8], b: &[u8], from: usize) -> bool
     ensures { result ≡ bytes_eq (take (from + 384) a.now) (take (from + 384) b.now) }
 {
     let mut same = true;
+    // Each octet is looked at, with no branch on the way, so that the compiler can test many at a time.
     for i in 0..RUN {
         same &= a[from + i] == b[from + i];
     }
     same
 }
 
-/// Whether two payloads that are the same up to a place are the same.
+/// Returns true if two payloads that are the same up to a place are the same.
 fn is_same_from(a: &[u8], b: &[u8], from: usize) -> bool
     requires place { from ≤ length a.now }
     requires other_place { from ≤ length b.now }
@@ -29,7 +29,7 @@ fn is_same_from(a: &[u8], b: &[u8], from: usize) -> bool
     &a[from..] == &b[from..]
 }
 
-/// Whether two long payloads of one length are the same.
+/// Returns true if two long payloads of one length are the same.
 #[inline(never)]
 fn are_long_same(a: &[u8], b: &[u8]) -> bool
     requires { length a.now ≡ length b.now }
@@ -44,7 +44,7 @@ fn are_long_same(a: &[u8], b: &[u8]) -> bool
     is_same_from(a, b, RUN * runs)
 }
 
-/// Whether two payloads are the same.
+/// Returns true if two payloads are the same.
 #[inline(always)]
 pub(crate) fn are_same(a: &[u8], b: &[u8]) -> bool
     ensures { result ≡ bytes_eq a.now b.now }

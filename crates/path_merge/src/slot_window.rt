@@ -1,4 +1,4 @@
-//! A window with a slot for each of its numbers.
+//! A window with a slot for each of its numbers. `slot` has one slot.
 ghost use Rattle.std.specs.Prelude.{◌≡◌, ◌<◌, ◌^◌, length, IfOk};
 ghost use Rattle.std.specs.FinMap as map;
 ghost use Rattle.path_merge.specs.SlotWindow.{packets_in, place_at};
@@ -12,13 +12,12 @@ use std::marker::Model;
 
 mod slot;
 
-/// Packets in as many slots as the window is wide: a number's slot is its remainder by that width.
-/// A slot holds a packet and no number. No call takes longer the more is held, and none but `new`
-/// takes memory.
+/// A window with as many slots as it is wide: the slot of a number is its remainder by that width. A slot holds a
+/// packet and no number. No call takes longer the more is held, and none except `new` takes memory.
 #[derive(Drop)]
 pub struct SlotWindow {
     base: u64,
-    /// How far the end is past the base.
+    /// The distance from the base to the end.
     span: usize,
     /// The slot of the base.
     front: usize,
@@ -36,7 +35,7 @@ impl Model for SlotWindow {
 }
 
 impl SlotWindow {
-    /// An empty window as wide as a stream's.
+    /// Returns an empty window as wide as a stream's, or an error if the allocation of its slots fails.
     pub fn new(alloc: Global, spec: &StreamSpec) -> Result<Self, AllocError>
         ensures empty { IfOk result (λ w. IsEmpty (map.from_entries (packets_in w))) }
         ensures size { IfOk result (λ w. length w.slots ≡ spec.now.window) }
@@ -56,7 +55,7 @@ impl SlotWindow {
     }
 }
 
-/// The slot that lies this far after the front's, in a ring of so many.
+/// Returns the place of the slot that is `distance` after that of the base, in a ring of `size` slots.
 fn place_after(front: usize, size: usize, distance: usize) -> usize
     requires front { front < size }
     requires distance { distance < size }
@@ -117,6 +116,7 @@ impl Window for SlotWindow {
         self.slots[self.front].free();
         self.front = place_after(self.front, self.slots.len(), 1);
         self.base += 1;
+        // The base passes an end where nothing is held; the span then stays 0.
         self.span = self.span.saturating_sub(1);
     }
 }

@@ -9,7 +9,7 @@ use rtp_stream::{Packet, PacketRef, Put, StreamSpec};
 use std::alloc::{AllocError, Global};
 use std::marker::Model;
 
-/// The packets that are held, the least number first. All calls but `new` take no memory.
+/// A window of the packets that are held, the least number first. No call except `new` takes memory.
 #[derive(Drop)]
 pub struct SortedWindow {
     base: u64,
@@ -34,7 +34,7 @@ impl Model for SortedWindow {
 }
 
 impl SortedWindow {
-    /// An empty window with room for the packets of a stream's window.
+    /// Returns an empty window with room for the packets of a stream's window, or an error if its allocation fails.
     pub fn new(alloc: Global, spec: &StreamSpec) -> Result<Self, AllocError>
         ensures empty { IfOk result (λ w. IsEmpty (map.from_entries w.packets)) }
         ensures size { IfOk result (λ w. w.size ≡ spec.now.window) }
@@ -50,7 +50,7 @@ impl SortedWindow {
     }
 }
 
-/// The place of the packet with this number, or the place where it would go.
+/// Returns the place of the packet with this number, or as an `Err` the place where it would go.
 fn place_of(packets: &[(u64, Packet)], number: u64) -> Result<usize, usize>
     ensures found { IfOk result (IsFoundAt packets.now number) }
     ensures absent { IfErr result (IsGapAt packets.now number) }
@@ -66,7 +66,7 @@ fn place_of(packets: &[(u64, Packet)], number: u64) -> Result<usize, usize>
     Err(packets.len())
 }
 
-/// Whether the first packet has this number.
+/// Returns true if the first packet has this number.
 fn starts_with(packets: &[(u64, Packet)], number: u64) -> bool
     ensures { result ≡ starts_with_number number packets.now }
 {
@@ -108,6 +108,7 @@ impl Window for SortedWindow {
                 }
             }
             Err(at) => {
+                // This takes no memory and doesn't fail: `new` allocated a place for each number.
                 let _ = self.packets.insert(at, (number, packet.to_packet()));
                 Put::Taken
             }

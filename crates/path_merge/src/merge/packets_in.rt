@@ -1,4 +1,4 @@
-//! Arrivals at a merge.
+//! The calls of a merge that take packets.
 ghost use Rattle.std.specs.Prelude.{◌≡◌, ℕ, ◌^◌, ◌<◌, List, ℤ, Some, None, true, false};
 ghost use Rattle.rtp_stream.specs.declared.anchor.Anchor.{Anchor};
 ghost use Rattle.rtp_stream.specs.declared.event.Event.{Event};
@@ -17,16 +17,28 @@ use rtp_stream::{
     is_off_place, is_taken, media_of_first, media_of_restart, place_of, update_probation,
 };
 
-/// So many arrivals are counted: 2^62.
+/// The greatest number of arrivals that are counted, 2^62.
+// An arrival after so many changes nothing, so that counts never wrap.
 const MOST_ARRIVALS: u64 = 4_611_686_018_427_387_904;
 
 impl<V: Window> Merge<V> {
     ghost use Rattle.rtp_stream.specs.StreamSpec.{Fits};
     ghost use Rattle.path_merge.specs.Merge.{HasHistory};
     ghost use Rattle.path_merge.specs.Window.{IsEmpty};
-    ghost use Rattle.path_merge.specs.Steps.{IsFirstStep, IsHeardStep, IsNextStep, IsPutStep, IsRefusal, IsRestartStep, Offers, epoch_media, opening_of, opens_epoch};
+    ghost use Rattle.path_merge.specs.Steps.{
+      IsFirstStep,
+      IsHeardStep,
+      IsNextStep,
+      IsPutStep,
+      IsRefusal,
+      IsRestartStep,
+      Offers,
+      epoch_media,
+      opening_of,
+      opens_epoch,
+    };
 
-    /// Takes a packet of the stream's length that came in on one of its paths.
+    /// Takes a packet of the stream's length that came in on one of its paths, and returns its fate.
     pub fn offer(&mut self, path: Path, packet: Packet) -> Fate
         requires path { path < self.old.spec.paths }
         requires fits { Fits self.old.spec packet }
@@ -41,13 +53,15 @@ impl<V: Window> Merge<V> {
         self.offer_ref(path, packet.lent())
     }
 
-    /// As `offer`, of a packet that is lent: its samples are copied to where they stay.
+    /// Takes a borrowed packet of the stream's length that came in on one of its paths, and returns its fate. The
+    /// samples are copied once, into the window, if the packet is kept.
     #[inline]
     pub fn offer_ref(&mut self, path: Path, packet: PacketRef<'_>) -> Fate
         requires path { path < self.old.spec.paths }
         requires fits { Fits self.old.spec (packet_of packet) }
         ensures stands { (stream : Stream) (open_at : ℤ) (events : List Event) (k : ℕ)
-            → HasHistory stream open_at self.old events k → Offers stream open_at self.new events k path (packet_of packet.entry) result }
+            → HasHistory stream open_at self.old events k
+            → Offers stream open_at self.new events k path (packet_of packet.entry) result }
         ensures refused { is_taken_fate result ≡ false → IsRefusal self.old self.new path result }
         ensures unheard { is_counted_fate result ≡ false → self.new ≡ self.old }
         ensures time { self.new.time ≡ self.old.time }
@@ -63,7 +77,7 @@ impl<V: Window> Merge<V> {
         match self.anchor {
             Some(anchor) => self.offer_next(anchor, path, &packet),
             None => {
-                // A copy, so that the frequent way keeps its packet in registers; so also of a rare one below.
+                // The rare case gets a reference to a copy, so that the frequent one keeps its packet in registers.
                 let first = packet;
                 self.offer_first(path, &first)
             }
@@ -77,28 +91,35 @@ impl<V: Window> Merge<V> {
         requires open_yet { self.old.closed ≡ false }
         requires room { self.old.counts.arrived < 2 ^ 62 }
         requires fits { Fits self.old.spec (packet_of packet.now) }
-        ensures next { opens_epoch self.old anchor path (packet_of packet.now) ≡ false → IsNextStep self.old.spec self.old self.new anchor path (packet_of packet.now) result }
-        ensures restart { opens_epoch self.old anchor path (packet_of packet.now) ≡ true → IsRestartStep self.old.spec self.old self.new anchor path (packet_of packet.now) result }
+        ensures next { opens_epoch self.old anchor path (packet_of packet.now) ≡ false
+            → IsNextStep self.old.spec self.old self.new anchor path (packet_of packet.now) result }
+        ensures restart { opens_epoch self.old anchor path (packet_of packet.now) ≡ true
+            → IsRestartStep self.old.spec self.old self.new anchor path (packet_of packet.now) result }
     {
         let next = self.window.base();
         match place_of(&self.spec, &anchor, next, self.next_media, packet) {
             Ok(number) => self.offer_at(anchor, Ok(number), path, packet),
             Err(_) => {
+                // A copy, for the reason given in `offer_ref`.
                 let rare = *packet;
                 self.offer_elsewhere(path, &rare)
             }
         }
     }
 
-    /// Takes an arrival at an anchored merge, wherever it belongs: most have a place in the window, and are taken
-    /// before.
+    /// Takes an arrival at an anchored merge, whatever its place is.
+    // Out of line, since most packets have a place in the window, and `offer_next` takes these itself.
     #[inline(never)]
     fn offer_elsewhere(&mut self, path: Path, packet: &PacketRef<'_>) -> Fate
         requires open_yet { self.old.closed ≡ false }
         requires room { self.old.counts.arrived < 2 ^ 62 }
         requires fits { Fits self.old.spec (packet_of packet.now) }
-        ensures next { (a : Anchor) → self.old.anchor ≡ Some a → opens_epoch self.old a path (packet_of packet.now) ≡ false → IsNextStep self.old.spec self.old self.new a path (packet_of packet.now) result }
-        ensures restart { (a : Anchor) → self.old.anchor ≡ Some a → opens_epoch self.old a path (packet_of packet.now) ≡ true → IsRestartStep self.old.spec self.old self.new a path (packet_of packet.now) result }
+        ensures next { (a : Anchor) → self.old.anchor ≡ Some a
+            → opens_epoch self.old a path (packet_of packet.now) ≡ false
+            → IsNextStep self.old.spec self.old self.new a path (packet_of packet.now) result }
+        ensures restart { (a : Anchor) → self.old.anchor ≡ Some a
+            → opens_epoch self.old a path (packet_of packet.now) ≡ true
+            → IsRestartStep self.old.spec self.old self.new a path (packet_of packet.now) result }
     {
         match self.anchor {
             Some(anchor) => {
@@ -106,12 +127,12 @@ impl<V: Window> Merge<V> {
                 let place = place_of(&self.spec, &anchor, next, self.next_media, packet);
                 self.offer_at(anchor, place, path, packet)
             }
-            // Never at an anchored merge.
+            // The merge is anchored, so this arm is never reached.
             None => Fate::Late,
         }
     }
 
-    /// Takes an arrival at an anchored merge, by its place.
+    /// Takes an arrival at an anchored merge, given its place.
     #[inline(always)]
     fn offer_at(
         &mut self,
@@ -125,9 +146,12 @@ impl<V: Window> Merge<V> {
         requires room { self.old.counts.arrived < 2 ^ 62 }
         requires fits { Fits self.old.spec (packet_of packet.now) }
         requires place { place ≡ fate.place_of self.old.spec anchor self.old.base (packet_of packet.now) }
-        ensures next { opens_epoch self.old anchor path (packet_of packet.now) ≡ false → IsNextStep self.old.spec self.old self.new anchor path (packet_of packet.now) result }
-        ensures restart { opens_epoch self.old anchor path (packet_of packet.now) ≡ true → IsRestartStep self.old.spec self.old self.new anchor path (packet_of packet.now) result }
+        ensures next { opens_epoch self.old anchor path (packet_of packet.now) ≡ false
+            → IsNextStep self.old.spec self.old self.new anchor path (packet_of packet.now) result }
+        ensures restart { opens_epoch self.old anchor path (packet_of packet.now) ≡ true
+            → IsRestartStep self.old.spec self.old self.new anchor path (packet_of packet.now) result }
     {
+        // The proof cites the invariant of the private fields, which it sees only if the body reads a field.
         let _ = &self.spec;
         match self.update_probation_of(anchor, path, is_off_place(&place), packet) {
             Some(media) => {
@@ -138,7 +162,7 @@ impl<V: Window> Merge<V> {
         }
     }
 
-    /// Hears a packet on its path, and answers the media time of the epoch that it opens.
+    /// Adds a packet to its path's probation, and returns the media time of the epoch that it opens, if it opens one.
     #[inline(always)]
     fn update_probation_of(
         &mut self,
@@ -160,7 +184,7 @@ impl<V: Window> Merge<V> {
         }
     }
 
-    /// Puts a packet at its place, or refuses one that has none, and counts it.
+    /// Puts a packet at its place, or refuses one that has none; counts it, and returns its fate.
     #[inline(always)]
     fn put_or_refuse(
         &mut self,
@@ -189,11 +213,12 @@ impl<V: Window> Merge<V> {
         }
     }
 
-    /// The media time of an epoch that a packet may open: nothing is held, and media time goes on.
+    /// Returns the media time of the epoch that a packet may open, if nothing is held and media time doesn't go back.
     fn media_of_epoch(&self, packet: &PacketRef<'_>) -> Option<i64>
         requires open_yet { self.now.closed ≡ false }
         ensures { (a : Anchor) → self.now.anchor ≡ Some a → result ≡ epoch_media self.now a (packet_of packet.now) }
     {
+        // An epoch that opened now would lose the packets that are held, which came in time.
         if self.window.base() < self.window.end() {
             return None;
         }
@@ -205,7 +230,7 @@ impl<V: Window> Merge<V> {
         Some(media)
     }
 
-    /// Begins a new epoch at a packet, where nothing is held.
+    /// Begins the next epoch at a packet, while nothing is held.
     #[inline(never)]
     fn restart(&mut self, anchor: Anchor, media: i64, path: Path, packet: &PacketRef<'_>)
         requires anchored { self.old.anchor ≡ Some anchor }
@@ -214,8 +239,10 @@ impl<V: Window> Merge<V> {
         requires fits { Fits self.old.spec (packet_of packet.now) }
         requires few_epochs { anchor.epoch < 2 ^ 62 }
         requires nothing_held { IsEmpty self.old.held }
-        requires goes_on { is_restart_in_reach self.old.spec self.old.time (media_time_of self.old.spec anchor self.old.base) media ≡ true }
-        requires media { media ≡ restart_media_time self.old.spec.clock packet.now.ts self.old.time (media_time_of self.old.spec anchor self.old.base) }
+        requires goes_on { is_restart_in_reach self.old.spec self.old.time
+            (media_time_of self.old.spec anchor self.old.base) media ≡ true }
+        requires media { media ≡ restart_media_time self.old.spec.clock packet.now.ts self.old.time
+            (media_time_of self.old.spec anchor self.old.base) }
         ensures { IsRestartStep self.old.spec self.old self.new anchor path (packet_of packet.now) Restarted }
     {
         let next = Anchor::following(anchor.epoch, packet.seq, packet.ts, packet.ssrc, media);
@@ -227,7 +254,7 @@ impl<V: Window> Merge<V> {
         self.counts.add_fate(path, Fate::Restarted);
     }
 
-    /// Takes an arrival at a merge with no anchor.
+    /// Takes an arrival at a merge without an anchor, and returns its fate.
     #[inline(never)]
     fn offer_first(&mut self, path: Path, packet: &PacketRef<'_>) -> Fate
         requires unanchored { self.old.anchor ≡ None }

@@ -9,9 +9,11 @@ use rtp_stream::{Packet, PacketRef, Put};
 use rtp_wire::Payload;
 use std::marker::Model;
 
-/// Room for one packet. While it isn't held, what was written last stays there unseen.
+/// Room for one packet. A free slot keeps the octets that were written last, unseen.
 #[derive(Drop)]
 pub(crate) struct Slot {
+    // A flag and a packet instead of an `Option`: a freed packet's room isn't blanked, and the next one is written
+    // over it.
     held: bool,
     packet: Packet,
 }
@@ -26,7 +28,7 @@ impl Model for Slot {
 }
 
 impl Slot {
-    /// A free slot.
+    /// Returns a free slot.
     pub(crate) fn new() -> Slot
         ensures { result ≡ None }
     {
@@ -41,7 +43,7 @@ impl Slot {
         }
     }
 
-    /// How a packet would be put.
+    /// Returns the result of putting a packet here, without putting it.
     #[inline(always)]
     pub(crate) fn answer(&self, packet: PacketRef<'_>) -> Put
         ensures { result ≡ put_answer self.now (packet_of packet.entry) }
@@ -56,7 +58,7 @@ impl Slot {
         }
     }
 
-    /// Writes a packet over what it holds.
+    /// Writes a packet over the one that it holds or held last.
     #[inline(always)]
     pub(crate) fn write(&mut self, packet: PacketRef<'_>)
         requires { length packet.payload.now ≤ 1440 }
@@ -66,7 +68,7 @@ impl Slot {
         self.held = true;
     }
 
-    /// What it holds.
+    /// Returns the packet that it holds, if it isn't free.
     #[inline]
     pub(crate) fn packet(&self) -> Option<&Packet>
         ensures { option_copied result ≡ self.now }
@@ -74,7 +76,7 @@ impl Slot {
         if self.held { Some(&self.packet) } else { None }
     }
 
-    /// Frees it.
+    /// Frees the slot.
     #[inline]
     pub(crate) fn free(&mut self)
         ensures { self.new ≡ None }
