@@ -9,7 +9,7 @@ use std::alloc::{AllocError, Global};
 use std::marker::Model;
 use thiserror::Error;
 
-/// Why gains are no matrix: the first of these, in this order.
+/// The reason why gains are no matrix: the first of these that holds, in this order.
 #[derive(Clone, Copy, Debug, PartialEq, Eq, Error)]
 pub enum MatrixFault {
     /// The outputs are not 1 to 8, the inputs not 1 to 1,024, or the gains not their product.
@@ -18,7 +18,7 @@ pub enum MatrixFault {
     /// A gain is below -1,048,576 or above 1,048,576.
     #[error("a gain is out of range")]
     Range,
-    /// The memory for the gains was refused.
+    /// An allocation for the gains failed.
     #[error("out of memory")]
     Memory,
 }
@@ -29,7 +29,8 @@ pub struct Matrix {
     outs: usize,
     ins: usize,
     gains: Vec<i32>,
-    /// The same gains in the width of sums, so that no product has to widen one.
+    /// The gains again, in 64 bits.
+    // Kept in the width of sums, so that no product has to widen one.
     wide: Vec<i64>,
 }
 
@@ -46,7 +47,8 @@ impl Model for Matrix {
 }
 
 impl Matrix {
-    /// Makes the matrix of these gains, which stand row by row.
+    /// Returns the matrix of these gains, row by row, in units of 1/65,536; or the first fault of them, and
+    /// `Memory` if an allocation fails.
     pub fn new(alloc: Global, outs: usize, ins: usize, gains: &[i32]) -> Result<Matrix, MatrixFault>
         ensures refused { IfSome (matrix_fault_of outs ins gains.now) (λ f. result ≡ Err f) }
         ensures made { IfNone (matrix_fault_of outs ins gains.now)
@@ -65,7 +67,7 @@ impl Matrix {
         })
     }
 
-    /// How many outputs there are.
+    /// Returns the number of outputs, 1 to 8.
     pub fn outs(&self) -> usize
         ensures rows { result ≡ length self.now }
         ensures some { 1 ≤ result }
@@ -74,7 +76,7 @@ impl Matrix {
         self.outs
     }
 
-    /// How many inputs there are.
+    /// Returns the number of inputs, 1 to 1,024.
     pub fn ins(&self) -> usize
         ensures gains { result ≡ ins_of self.now }
         ensures in_each_row { All (λ row. length row ≡ result) self.now }
@@ -84,7 +86,7 @@ impl Matrix {
         self.ins
     }
 
-    /// The gains, row by row.
+    /// Returns the gains, row by row, in units of 1/65,536.
     pub fn gains(&self) -> &[i32]
         ensures by_row { rows_of (ins_of self.now) (length self.now) result.now ≡ self.now }
         ensures len { length result.now ≡ length self.now * ins_of self.now }
@@ -96,7 +98,7 @@ impl Matrix {
         self.gains.as_slice()
     }
 
-    /// The gains of one output.
+    /// Returns the gains of one output, in 64 bits.
     pub(crate) fn row(&self, output: usize) -> &[i64]
         requires { output < length self.now }
         ensures row { slice_get self.now output ≡ Some result.now }
@@ -108,7 +110,7 @@ impl Matrix {
         &self.wide[start..start + self.ins]
     }
 
-    /// The gains of four outputs, from one on.
+    /// Returns the gains of four outputs, from `output` on, in 64 bits.
     pub(crate) fn four_rows(&self, output: usize) -> FourRows<'_>
         requires { output + 4 ≤ length self.now }
         ensures rows { AreRows (ins_of self.now) result }
@@ -124,7 +126,7 @@ impl Matrix {
     }
 }
 
-/// The same gains in 64 bits.
+/// Returns the same gains in 64 bits, or an error if the allocation fails.
 fn wide_gains(alloc: Global, gains: &[i32]) -> Result<Vec<i64>, AllocError>
     ensures { IfOk result (λ wide. wide.items ≡ gains.now) }
 {
@@ -135,7 +137,7 @@ fn wide_gains(alloc: Global, gains: &[i32]) -> Result<Vec<i64>, AllocError>
     Ok(wide)
 }
 
-/// The first fault of these gains, memory aside.
+/// Returns the first fault of these gains, allocation failures aside.
 fn fault_of(outs: usize, ins: usize, gains: &[i32]) -> Option<MatrixFault>
     ensures { result ≡ matrix_fault_of outs ins gains.now }
 {
@@ -148,14 +150,17 @@ fn fault_of(outs: usize, ins: usize, gains: &[i32]) -> Option<MatrixFault>
     }
 }
 
+/// Returns true if the outputs are 1 to 8, the inputs 1 to 1,024, and the gains their product.
 fn has_shape(outs: usize, ins: usize, gains: &[i32]) -> bool
     ensures { result ≡ has_shape outs ins gains.now }
 {
     1 <= outs && outs <= 8 && 1 <= ins && ins <= 1024 && gains.len() == outs * ins
 }
 
+/// Returns true if each gain is from -1,048,576 to 1,048,576, 16 times the input.
 fn has_range(gains: &[i32]) -> bool
     ensures { result ≡ has_range gains.now }
 {
+    // So a sum over 1,024 inputs of 24 bits stays within 2^53, and is exact.
     gains.iter().all(|gain| gain.unsigned_abs() <= 1_048_576)
 }

@@ -8,8 +8,7 @@ ghost use Rattle.gain_mix.specs.Mix.{Is24Bits, IsWeighted, HasMixed, rounded_sum
 use crate::four_rows::{FourRows, FourSums};
 use crate::matrix::Matrix;
 
-/// The sum with one input more. The casts say that both factors have 32 bits: of such a product
-/// processors have many side by side, of one of 64 bits not.
+/// Returns the sum with one input more.
 #[inline(always)]
 fn add_input(sum: i64, gain: i64, value: i32) -> i64
     requires bounded { unsigned_abs sum ≤ 2 ^ 53 }
@@ -17,10 +16,13 @@ fn add_input(sum: i64, gain: i64, value: i32) -> i64
     requires in_24_bits { Is24Bits value }
     ensures { result ≡ sum +ℤ (gain *ℤ value) }
 {
+    // The cast says that both factors have 32 bits. Processors make many such products side by side, but not of
+    // factors of 64 bits.
     sum + i64::from(gain as i32) * i64::from(value)
 }
 
-/// The sum over the inputs so far, with one input more.
+/// Returns the sum over the inputs so far, with one input more.
+// A function of its own, since the four sums of `add_to_four` then cost a quarter of the proof.
 #[inline(always)]
 fn add_next(sum: i64, gains: &[i64], input: usize, values: &[i32]) -> i64
     requires row { IsRow (length values.now) gains.now }
@@ -33,7 +35,7 @@ fn add_next(sum: i64, gains: &[i64], input: usize, values: &[i32]) -> i64
     add_input(sum, gains[input], values[input])
 }
 
-/// The sum over all inputs of gain times value.
+/// Returns the sum over all inputs of gain times value.
 pub(crate) fn weighted_sum(gains: &[i64], values: &[i32]) -> i64
     requires row { IsRow (length values.now) gains.now }
     requires few { length values.now ≤ 1024 }
@@ -41,13 +43,14 @@ pub(crate) fn weighted_sum(gains: &[i64], values: &[i32]) -> i64
     ensures { IsWeighted gains.now values.now result }
 {
     let mut sum: i64 = 0;
+    // By index, here and below, since contracts and invariants say up to which input a sum goes.
     for input in 0..values.len() {
         sum = add_next(sum, gains, input, values);
     }
     sum
 }
 
-/// The sums of four outputs, by one pass over the inputs.
+/// Returns the sums of four outputs, by one pass over the inputs.
 fn weigh_four(rows: &FourRows<'_>, values: &[i32]) -> FourSums
     requires rows { AreRows (length values.now) rows.now }
     requires few { length values.now ≤ 1024 }
@@ -61,7 +64,7 @@ fn weigh_four(rows: &FourRows<'_>, values: &[i32]) -> FourSums
     sums
 }
 
-/// The sums of eight outputs, by one pass over the inputs.
+/// Returns the sums of eight outputs, by one pass over the inputs.
 fn weigh_eight(low: &FourRows<'_>, high: &FourRows<'_>, values: &[i32]) -> (FourSums, FourSums)
     requires low { AreRows (length values.now) low.now }
     requires high { AreRows (length values.now) high.now }
@@ -79,7 +82,7 @@ fn weigh_eight(low: &FourRows<'_>, high: &FourRows<'_>, values: &[i32]) -> (Four
     (low_sums, high_sums)
 }
 
-/// The sums of four outputs with one input more.
+/// Returns the sums of four outputs with one input more.
 #[inline(always)]
 fn add_to_four(sums: FourSums, rows: &FourRows<'_>, input: usize, values: &[i32]) -> FourSums
     requires rows { AreRows (length values.now) rows.now }
@@ -97,13 +100,15 @@ fn add_to_four(sums: FourSums, rows: &FourRows<'_>, input: usize, values: &[i32]
     }
 }
 
-/// The sum in units of output samples, rounded half up.
+/// Returns a sum in units of output samples, rounded half up.
 #[inline(always)]
 pub(crate) fn rounded(sum: i64, shift: u32) -> i64
     requires bounded { unsigned_abs sum ≤ 2 ^ 53 }
     requires shift { (shift ≡ 16) ⊎ (shift ≡ 24) }
     ensures { result ≡ rounded_sum shift sum }
 {
+    // Half a unit is added, and the shift rounds down. Gains are in units of 2^-16; for L16 eight bits more are
+    // dropped.
     if shift == 16 {
         (sum + 32_768) >> 16
     } else {
@@ -111,12 +116,13 @@ pub(crate) fn rounded(sum: i64, shift: u32) -> i64
     }
 }
 
-/// The nearest output sample.
+/// Returns the output sample that is nearest to a rounded sum.
 #[inline(always)]
 pub(crate) fn saturated(sum: i64, shift: u32) -> i32
     requires shift { (shift ≡ 16) ⊎ (shift ≡ 24) }
     ensures { result ≡ saturated_sum shift sum }
 {
+    // A shift of 16 means L24 output, one of 24 L16 output.
     if shift == 16 {
         sum.clamp(-8_388_608, 8_388_607) as i32
     } else {
@@ -124,7 +130,7 @@ pub(crate) fn saturated(sum: i64, shift: u32) -> i32
     }
 }
 
-/// The sum in output samples: rounded half up, then saturated.
+/// Returns the output sample of a sum: rounded half up, then saturated.
 fn sample_of(sum: i64, shift: u32) -> i32
     requires bounded { unsigned_abs sum ≤ 2 ^ 53 }
     requires shift { (shift ≡ 16) ⊎ (shift ≡ 24) }
@@ -133,14 +139,14 @@ fn sample_of(sum: i64, shift: u32) -> i32
     saturated(rounded(sum, shift), shift)
 }
 
-/// Whether all values are 0.
+/// Returns true if all values are 0.
 pub(crate) fn is_silent(values: &[i32]) -> bool
     ensures { result ≡ true → All (λ (value : ℤ). value ≡ pos 0) values.now }
 {
     values.iter().all(|value| *value == 0)
 }
 
-/// Mixes the inputs of one sampling instant into its outputs.
+/// Mixes the inputs of one sampling instant, samples of 24 bits, into its outputs.
 ///
 /// The shift is 16 for L24 output and 24 for L16 output.
 pub fn mix_frame(matrix: &Matrix, ins: &[i32], outs: &mut [i32], shift: u32)
@@ -152,6 +158,7 @@ pub fn mix_frame(matrix: &Matrix, ins: &[i32], outs: &mut [i32], shift: u32)
 {
     let count = outs.len();
     let mut output = 0;
+    // As many outputs as possible are mixed by one pass over the inputs.
     while 8 <= count - output {
         mix_eight(matrix, ins, outs, output, shift);
         output += 8;
@@ -166,7 +173,7 @@ pub fn mix_frame(matrix: &Matrix, ins: &[i32], outs: &mut [i32], shift: u32)
     }
 }
 
-/// Mixes eight outputs from `output` on, where those before it are mixed.
+/// Mixes eight outputs from `output` on; those before it are mixed.
 fn mix_eight(matrix: &Matrix, ins: &[i32], outs: &mut [i32], output: usize, shift: u32)
     requires ins_len { length ins.now ≡ ins_of matrix.now }
     requires within { output + 8 ≤ length matrix.now }
@@ -182,7 +189,7 @@ fn mix_eight(matrix: &Matrix, ins: &[i32], outs: &mut [i32], output: usize, shif
     put_four(high_sums, outs, output + 4, shift);
 }
 
-/// Mixes four outputs from `output` on, where those before it are mixed.
+/// Mixes four outputs from `output` on; those before it are mixed.
 fn mix_four(matrix: &Matrix, ins: &[i32], outs: &mut [i32], output: usize, shift: u32)
     requires ins_len { length ins.now ≡ ins_of matrix.now }
     requires within { output + 4 ≤ length matrix.now }
@@ -209,7 +216,7 @@ fn put_four(sums: FourSums, outs: &mut [i32], output: usize, shift: u32)
     outs[output + 3] = sample_of(sums.fourth, shift);
 }
 
-/// Mixes one output, where those before it are mixed.
+/// Mixes the output `output`; those before it are mixed.
 fn mix_one(matrix: &Matrix, ins: &[i32], outs: &mut [i32], output: usize, shift: u32)
     requires ins_len { length ins.now ≡ ins_of matrix.now }
     requires within { output < length matrix.now }
@@ -221,7 +228,7 @@ fn mix_one(matrix: &Matrix, ins: &[i32], outs: &mut [i32], output: usize, shift:
     outs[output] = sample_of(weighted_sum(matrix.row(output), ins), shift);
 }
 
-/// Mixes the inputs of so many sampling instants, which stand one after another.
+/// Mixes the inputs of `frames` sampling instants, samples of 24 bits, frame by frame.
 ///
 /// The shift is 16 for L24 output and 24 for L16 output.
 pub fn mix_block(matrix: &Matrix, ins: &[i32], outs: &mut [i32], frames: usize, shift: u32)

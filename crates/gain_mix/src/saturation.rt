@@ -1,5 +1,24 @@
-//! How many output samples are saturated.
-ghost use Rattle.std.specs.Prelude.{◌≡◌, ℕ, ℤ, pos, true, false, ◌<◌, ◌≤◌, ◌*◌, ◌^◌, ◌⊎◌, ◌+ℤ◌, ◌≤ℤ◌, length, List, All, Some, slice_get};
+//! Counting the output samples that are saturated.
+ghost use Rattle.std.specs.Prelude.{
+  ◌≡◌,
+  ℕ,
+  ℤ,
+  pos,
+  true,
+  false,
+  ◌<◌,
+  ◌≤◌,
+  ◌*◌,
+  ◌^◌,
+  ◌⊎◌,
+  ◌+ℤ◌,
+  ◌≤ℤ◌,
+  length,
+  List,
+  All,
+  Some,
+  slice_get,
+};
 ghost use Rattle.std.specs.Int.RustNames.{unsigned_abs};
 ghost use Rattle.gain_mix.specs.Gain.{ins_of};
 ghost use Rattle.gain_mix.specs.Changes.{matrix_at};
@@ -10,7 +29,7 @@ use crate::matrix::Matrix;
 use crate::mix::{rounded, saturated, weighted_sum};
 use crate::schedule::{Schedule, mix_span};
 
-/// Whether no output sample can hold a sum, once it is rounded.
+/// Returns true if no output sample can hold a sum, once the sum is rounded.
 fn is_past(sum: i64, shift: u32) -> bool
     requires bounded { unsigned_abs sum ≤ 2 ^ 53 }
     requires shift { (shift ≡ 16) ⊎ (shift ≡ 24) }
@@ -20,7 +39,7 @@ fn is_past(sum: i64, shift: u32) -> bool
     i64::from(saturated(whole, shift)) != whole
 }
 
-/// Whether an output sample is the greatest or the least that there is: any other one is no saturated one.
+/// Returns true if an output sample is the greatest or the least that there is. Any other sample isn't saturated.
 fn is_limit(sample: i32, shift: u32) -> bool
     requires shift { (shift ≡ 16) ⊎ (shift ≡ 24) }
     ensures { result ≡ false → (sum : ℤ) → sample ≡ saturated_sum shift sum → is_saturated shift sum ≡ false }
@@ -32,19 +51,21 @@ fn is_limit(sample: i32, shift: u32) -> bool
     }
 }
 
-/// Whether an output's sample of these inputs is saturated. They are weighed again only where it is at a limit.
+/// Returns true if an output's sample of these inputs is saturated.
 fn is_saturated(matrix: &Matrix, ins: &[i32], output: usize, sample: i32, shift: u32) -> bool
     requires ins_len { length ins.now ≡ ins_of matrix.now }
     requires within { output < length matrix.now }
     requires in_24_bits { All Is24Bits ins.now }
     requires shift { (shift ≡ 16) ⊎ (shift ≡ 24) }
-    requires mixed { (row : List ℤ) → slice_get matrix.now output ≡ Some row → sample ≡ output_sample shift ins.now row }
+    requires mixed { (row : List ℤ) → slice_get matrix.now output ≡ Some row
+        → sample ≡ output_sample shift ins.now row }
     ensures { (row : List ℤ) → slice_get matrix.now output ≡ Some row → result ≡ is_saturated_sample shift ins.now row }
 {
+    // A sample at a limit may be its rounded sum, so the sum is made again; other samples need none.
     is_limit(sample, shift) && is_past(weighted_sum(matrix.row(output), ins), shift)
 }
 
-/// Counts the saturated samples of a frame.
+/// Adds one to the count of each output whose sample of a frame is saturated.
 fn count_frame(matrix: &Matrix, ins: &[i32], outs: &[i32], shift: u32, counts: &mut [u64])
     requires ins_len { length ins.now ≡ ins_of matrix.now }
     requires counts_len { length counts.old ≡ length matrix.now }
@@ -55,12 +76,14 @@ fn count_frame(matrix: &Matrix, ins: &[i32], outs: &[i32], shift: u32, counts: &
 {
     for output in 0..counts.len() {
         if is_saturated(matrix, ins, output, outs[output], shift) {
+            // A count may be any number before, and stays at the greatest instead of wrapping.
             counts[output] = counts[output].saturating_add(1);
         }
     }
 }
 
-/// Adds to each output's count how many of its samples are saturated, of inputs and outputs that `mix_span` mixed.
+/// Adds to each output's count the number of its samples that are saturated, of inputs and outputs that `mix_span`
+/// mixed.
 fn count_saturated(
     schedule: &Schedule,
     t: i64,
@@ -78,7 +101,8 @@ fn count_saturated(
     requires in_24_bits { All Is24Bits ins.now }
     requires shift { (shift ≡ 16) ⊎ (shift ≡ 24) }
     requires mixed { IsMixed (λ f. matrix_at schedule.now (t +ℤ pos f)) ins.now outs.now frames shift }
-    ensures { AreAdded counts.old counts.new (λ output. saturated_count (λ f. matrix_at schedule.now (t +ℤ pos f)) ins.now shift output frames) }
+    ensures { AreAdded counts.old counts.new
+        (λ output. saturated_count (λ f. matrix_at schedule.now (t +ℤ pos f)) ins.now shift output frames) }
 {
     let width = schedule.ins();
     let height = schedule.outs();
@@ -96,7 +120,7 @@ fn count_saturated(
     }
 }
 
-/// As `mix_span`, and adds to each output's count how many of its samples were saturated.
+/// Mixes as `mix_span` does, and adds to each output's count the number of its samples that were saturated.
 pub fn mix_counted(
     schedule: &Schedule,
     t: i64,
@@ -116,7 +140,8 @@ pub fn mix_counted(
     ensures mixed { IsMixed (λ f. matrix_at schedule.now (t +ℤ pos f)) ins.now outs.new frames shift }
     ensures outs { (u : ℤ) → length (matrix_at schedule.now u) ≡ length schedule.now.first }
     ensures ins { (u : ℤ) → ins_of (matrix_at schedule.now u) ≡ ins_of schedule.now.first }
-    ensures counted { AreAdded counts.old counts.new (λ output. saturated_count (λ f. matrix_at schedule.now (t +ℤ pos f)) ins.now shift output frames) }
+    ensures counted { AreAdded counts.old counts.new
+        (λ output. saturated_count (λ f. matrix_at schedule.now (t +ℤ pos f)) ins.now shift output frames) }
 {
     mix_span(schedule, t, ins, outs, frames, shift);
     count_saturated(schedule, t, ins, outs, frames, shift, counts);

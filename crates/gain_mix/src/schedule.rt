@@ -1,5 +1,21 @@
 //! A matrix of gains that changes at given times.
-ghost use Rattle.std.specs.Prelude.{◌≡◌, ◌≤◌, ◌*◌, ◌^◌, ℤ, ◌⊎◌, pos, ◌+ℤ◌, ◌≤ℤ◌, length, All, IfOk, IfSome, IfNone, IsOkAnd};
+ghost use Rattle.std.specs.Prelude.{
+  ◌≡◌,
+  ◌≤◌,
+  ◌*◌,
+  ◌^◌,
+  ℤ,
+  ◌⊎◌,
+  pos,
+  ◌+ℤ◌,
+  ◌≤ℤ◌,
+  length,
+  All,
+  IfOk,
+  IfSome,
+  IfNone,
+  IsOkAnd,
+};
 ghost use Rattle.gain_mix.specs.Gain.{ins_of};
 ghost use Rattle.gain_mix.specs.Changes.{matrix_at};
 ghost use Rattle.gain_mix.specs.Mix.{Is24Bits, IsMixed};
@@ -14,19 +30,19 @@ use thiserror::Error;
 /// The greatest number of changes.
 const CHANGES: usize = 64;
 
-/// The greatest time of a change.
+/// The greatest time of a change, 2^60 sampling instants, which is also the greatest reading of a merge's clock.
 const LAST_TIME: i64 = 1 << 60;
 
-/// Why changes are no schedule: the first of these, in this order.
+/// The reason why changes are no schedule: the first of these that holds, in this order.
 #[derive(Clone, Copy, Debug, PartialEq, Eq, Error)]
 pub enum ScheduleFault {
     /// There are more than 64 changes.
     #[error("there are too many changes")]
     TooMany,
-    /// A matrix has other outputs or inputs than the first.
+    /// A matrix has more or fewer outputs or inputs than the first.
     #[error("a matrix has another shape than the first")]
     Shape,
-    /// A change's time is below 0 or above 2^60.
+    /// A change's time is below 0 or above 2^60 sampling instants.
     #[error("a time is out of range")]
     Time,
     /// A change's time is not later than that of the change before it.
@@ -34,7 +50,7 @@ pub enum ScheduleFault {
     Order,
 }
 
-/// A matrix, and those that take its place from a time on.
+/// A first matrix, and up to 64 changes: matrices that replace it, each from a time on.
 #[derive(Debug, Drop)]
 pub struct Schedule {
     first: Matrix,
@@ -53,7 +69,8 @@ impl Model for Schedule {
 }
 
 impl Schedule {
-    /// Makes a schedule of these changes, whose times are sampling instants of the media clock.
+    /// Returns the schedule of these changes, whose times are sampling instants of the media clock, or the first
+    /// fault in them. Takes no memory.
     pub fn new(first: Matrix, later: Vec<(i64, Matrix)>) -> Result<Schedule, ScheduleFault>
         ensures refused { IfSome (schedule_fault_of first later.items) (λ f. result ≡ Err f) }
         ensures made { IfNone (schedule_fault_of first later.items)
@@ -65,7 +82,7 @@ impl Schedule {
         }
     }
 
-    /// The matrix in force at a time: that of the last change at or before it, else the first.
+    /// Returns the matrix in force at a time: that of the last change at or before it, else the first.
     pub fn at(&self, t: i64) -> &Matrix
         ensures in_force { result.now ≡ matrix_at self.now t }
         ensures outs { length result.now ≡ length self.now.first }
@@ -80,14 +97,14 @@ impl Schedule {
         matrix
     }
 
-    /// The matrix before any change.
+    /// Returns the matrix before any change.
     pub fn first(&self) -> &Matrix
         ensures { result.now ≡ self.now.first }
     {
         &self.first
     }
 
-    /// The changes, each with its time, in order.
+    /// Returns the changes, each with its time, in order.
     pub fn later(&self) -> &[(i64, Matrix)]
         ensures changes { result.now ≡ self.now.later }
 
@@ -97,7 +114,7 @@ impl Schedule {
         self.later.as_slice()
     }
 
-    /// The matrix before any change, and the changes, each with its time.
+    /// Returns the matrix before any change, and the changes, each with its time.
     pub fn into_parts(self) -> (Matrix, Vec<(i64, Matrix)>)
         ensures first { result.0 ≡ self.first }
         ensures later { result.1.items ≡ self.later }
@@ -107,7 +124,7 @@ impl Schedule {
         (first, later)
     }
 
-    /// A schedule of the same gains.
+    /// Returns a schedule of the same gains, or an error if an allocation fails.
     pub fn duplicate(&self, alloc: Global) -> Result<Schedule, AllocError>
         ensures { IfOk result (λ copy. copy ≡ self.now) }
     {
@@ -116,7 +133,7 @@ impl Schedule {
         Ok(Schedule { first, later })
     }
 
-    /// How many outputs each matrix has.
+    /// Returns the number of outputs of each matrix, 1 to 8.
     pub fn outs(&self) -> usize
         ensures first { result ≡ length self.now.first }
         ensures each { (t : ℤ) → length (matrix_at self.now t) ≡ result }
@@ -125,7 +142,7 @@ impl Schedule {
         self.first.outs()
     }
 
-    /// How many inputs each matrix has.
+    /// Returns the number of inputs of each matrix, 1 to 1,024.
     pub fn ins(&self) -> usize
         ensures first { result ≡ ins_of self.now.first }
         ensures each { (t : ℤ) → ins_of (matrix_at self.now t) ≡ result }
@@ -135,17 +152,18 @@ impl Schedule {
     }
 }
 
-/// A matrix of the same gains.
+/// Returns a matrix of the same gains, or an error if an allocation fails.
 fn copied_matrix(alloc: Global, matrix: &Matrix) -> Result<Matrix, AllocError>
     ensures { IfOk result (λ copy. copy ≡ matrix.now) }
 {
     match Matrix::new(alloc, matrix.outs(), matrix.ins(), matrix.gains()) {
         Ok(copy) => Ok(copy),
+        // The gains of a matrix have no other fault.
         Err(_) => Err(AllocError),
     }
 }
 
-/// The same changes.
+/// Returns a copy of the changes, or an error if an allocation fails.
 fn copied_changes(
     alloc: Global,
     changes: &[(i64, Matrix)],
@@ -160,7 +178,7 @@ fn copied_changes(
     Ok(copy)
 }
 
-/// The first fault of these changes.
+/// Returns the first fault of these changes.
 fn fault_of(first: &Matrix, later: &[(i64, Matrix)]) -> Option<ScheduleFault>
     ensures { result ≡ schedule_fault_of first.now later.now }
 {
@@ -177,6 +195,7 @@ fn fault_of(first: &Matrix, later: &[(i64, Matrix)]) -> Option<ScheduleFault>
     }
 }
 
+/// Returns true if each matrix has as many outputs and inputs as the first.
 fn has_one_shape(first: &Matrix, later: &[(i64, Matrix)]) -> bool
     ensures { result ≡ has_one_shape first.now later.now }
 {
@@ -187,6 +206,7 @@ fn has_one_shape(first: &Matrix, later: &[(i64, Matrix)]) -> bool
         .all(|change| change.1.outs() == outs && change.1.ins() == ins)
 }
 
+/// Returns true if each change's time is from 0 to 2^60.
 fn has_times(later: &[(i64, Matrix)]) -> bool
     ensures { result ≡ has_times later.now }
 {
@@ -195,6 +215,7 @@ fn has_times(later: &[(i64, Matrix)]) -> bool
         .all(|change| 0 <= change.0 && change.0 <= LAST_TIME)
 }
 
+/// Returns true if each change's time is later than that of the change before it.
 fn is_rising(later: &[(i64, Matrix)]) -> bool
     ensures { result ≡ is_rising later.now }
 {
@@ -211,9 +232,9 @@ fn is_rising(later: &[(i64, Matrix)]) -> bool
     true
 }
 
-/// Mixes the inputs of so many sampling instants from `t` on, each by the matrix in force at it.
+/// Mixes the inputs of `frames` sampling instants from `t` on, each by the matrix in force at it.
 ///
-/// The shift is 16 for L24 output and 24 for L16 output. Silence is not multiplied.
+/// The shift is 16 for L24 output and 24 for L16 output.
 pub fn mix_span(
     schedule: &Schedule,
     t: i64,
@@ -234,6 +255,7 @@ pub fn mix_span(
 {
     let width = schedule.ins();
     let height = schedule.outs();
+    // Silence is not multiplied, so an idle studio costs little.
     if is_silent(ins) {
         outs.fill(0);
         return;
