@@ -14,6 +14,7 @@ const SILENCE: [i32; 64] = [0; 64];
 ///
 /// They are `lead` frames of silence, the first `front` stored values, `gap` frames of silence and
 /// the rest of the stored values.
+// Long silences are kept as numbers, so that a stream may begin, or begin again, hours later.
 #[derive(Drop)]
 pub struct FrameQueue {
     stored: HeapCircularBuffer<i32>,
@@ -35,19 +36,20 @@ impl Model for FrameQueue {
     ghost invariant = { λ q. IsHeld q.channels q.block q.lead q.front q.gap q.stored.items };
 }
 
-/// Stores so many frames of silence.
+/// Stores `frames` frames of silence.
 fn store_silence(stored: &mut HeapCircularBuffer<i32>, channels: usize, frames: usize)
     requires few_channels { channels ≤ 64 }
     requires room { length stored.old.items + frames * channels ≤ stored.old.capacity }
     ensures { stored.new ≡ buffer (stored.old.items ++ silence channels frames) stored.old.capacity }
 {
+    // The index has a name, since the loop's invariant counts by it.
     for _i in 0..frames {
         stored.fill_from_slice(&SILENCE[..channels]);
     }
 }
 
 impl FrameQueue {
-    /// Nothing yet, with room for a block and `more` frames.
+    /// Returns an empty queue with room for a block and `more` frames, or an error if its allocation fails.
     pub fn new(
         alloc: Global,
         channels: usize,
@@ -58,7 +60,8 @@ impl FrameQueue {
         requires few_channels { channels ≤ 64 }
         requires short_block { block ≤ 192 }
         requires few_more { more ≤ 2 ^ 24 }
-        ensures { IfOk result (λ q. q ≡ record { channels = channels; block = block; room = (block + more) * channels; values = [] }) }
+        ensures { IfOk result
+            (λ q. q ≡ record { channels = channels; block = block; room = (block + more) * channels; values = [] }) }
     {
         let stored = HeapCircularBuffer::with_capacity(alloc, (block + more) * channels)?;
         Ok(FrameQueue {
@@ -75,10 +78,12 @@ impl FrameQueue {
     /// those of `gap`, which begins at the end of the next block, are not.
     pub fn add(&mut self, silent: usize, gap: u64, samples: &[i32])
         requires within { length self.old.values + silent * self.old.channels ≤ self.old.block * self.old.channels }
-        requires block_end { 0 < gap → length self.old.values + silent * self.old.channels ≡ self.old.block * self.old.channels }
+        requires block_end { 0 < gap → length self.old.values + silent * self.old.channels
+            ≡ self.old.block * self.old.channels }
         requires small { gap < 2 ^ 62 }
         requires room { self.old.block * self.old.channels + length samples.now ≤ self.old.room }
-        ensures { self.new ≡ record self.old { values = self.old.values ++ (silence self.old.channels (silent + gap) ++ samples.now) } }
+        ensures { self.new ≡
+            record self.old { values = self.old.values ++ (silence self.old.channels (silent + gap) ++ samples.now) } }
     {
         store_silence(&mut self.stored, self.channels, silent);
         self.front = self.stored.len();
@@ -89,13 +94,14 @@ impl FrameQueue {
     /// Adds frames of silence and then `samples`, all of them stored.
     pub fn append(&mut self, silent: usize, samples: &[i32])
         requires room { length self.old.values + silent * self.old.channels + length samples.now ≤ self.old.room }
-        ensures { self.new ≡ record self.old { values = self.old.values ++ (silence self.old.channels silent ++ samples.now) } }
+        ensures { self.new ≡
+            record self.old { values = self.old.values ++ (silence self.old.channels silent ++ samples.now) } }
     {
         store_silence(&mut self.stored, self.channels, silent);
         self.stored.fill_from_slice(samples);
     }
 
-    /// Takes the values of one block.
+    /// Reads the values of one block to `out`, and drops them. Values that aren't there are 0.
     pub fn read(&mut self, out: &mut [i32])
         requires len { length out.old ≡ self.old.block * self.old.channels }
         ensures values { out.new ≡ first_values (length out.old) self.old.values }
@@ -105,6 +111,7 @@ impl FrameQueue {
         out.fill(0);
         self.stored
             .read_into(&mut out[silent as usize * self.channels..]);
+        // The gap begins at the end of this block, so it now comes first.
         self.lead = self.lead - silent + self.gap;
         self.front = 0;
         self.gap = 0;

@@ -1,5 +1,30 @@
 //! One stream's marks as frames at media times.
-ghost use Rattle.std.specs.Prelude.{◌≡◌, ◌+◌, ◌*◌, ◌^◌, ◌<◌, ◌≤◌, [], ◌∷◌, ◌++◌, List, ℤ, ℕ, pos, ◌+ℤ◌, ◌≤ℤ◌, ◌<ℤ◌, true, false, not, ◌||◌, Some, length, option_copied, IfOk};
+ghost use Rattle.std.specs.Prelude.{
+  ◌≡◌,
+  ◌+◌,
+  ◌*◌,
+  ◌^◌,
+  ◌<◌,
+  ◌≤◌,
+  [],
+  ◌∷◌,
+  ◌++◌,
+  List,
+  ℤ,
+  ℕ,
+  pos,
+  ◌+ℤ◌,
+  ◌≤ℤ◌,
+  ◌<ℤ◌,
+  true,
+  false,
+  not,
+  ◌||◌,
+  Some,
+  length,
+  option_copied,
+  IfOk,
+};
 ghost use Rattle.rtp_stream.specs.declared.stream_spec.Stream.{Stream};
 ghost use Rattle.rtp_stream.specs.StreamSpecFacts.{format_of};
 ghost use Rattle.rtp_wire.specs.PacketTime.{is_packet_time};
@@ -26,11 +51,11 @@ use rtp_wire::Enc;
 use std::alloc::{AllocError, Global};
 use std::marker::Model;
 
-/// The marks of one stream, taken one by one, and its values, given block by block.
+/// The values of one stream, whose marks are taken one by one and whose values are read block by block.
 ///
-/// Inputs: `feed`, with a mark that it `accepts`, while it `wants` one for the next block, or `feed_ref`
-/// and `accepts_ref` with one that is lent; `keep_ref` where it `has_room`, though it wants none.
-/// Outputs: `read_block`, once it doesn't. Readers: `cover`, `end`, `position`.
+/// Inputs: `feed`, with a mark that the lane `accepts`, while it `wants` one for the next block; `feed_ref` and
+/// `accepts_ref` with a borrowed mark; `keep_ref` if it `has_room`, though it wants no mark.
+/// Outputs: `read_block`, once it wants no mark for the block. Readers: `cover`, `end`, `position`.
 #[derive(Drop)]
 pub struct Lane {
     format: Format,
@@ -40,10 +65,11 @@ pub struct Lane {
     slot: Option<LastSlot>,
     quiet: Option<i64>,
     ended: bool,
-    /// Frames from the position on that may be stored.
+    /// The number of frames from the position on that may be stored.
     room: u32,
     values: FrameQueue,
-    /// Where a slot's samples are read to, on their way to the values.
+    /// The room into which a slot's samples are read, on their way to the values.
+    // Kept, so that it isn't blanked for each slot.
     samples: SlotRoom,
 }
 
@@ -57,7 +83,7 @@ impl Model for Lane {
     ghost invariant = { λ l. IsLane (view l) l.values };
 }
 
-/// Whether the samples of two streams lie alike.
+/// Returns true if the samples of two streams have the same layout.
 fn is_same_format(a: Format, b: Format) -> bool
     ensures { result ≡ list.is_same_format a b }
 {
@@ -69,23 +95,36 @@ fn is_same_format(a: Format, b: Format) -> bool
 }
 
 impl Lane {
-    ghost use Rattle.lane_align.specs.Lane.{LaneState, HasFeed, HasSameFacts, cover_at, end_at, is_wanting, is_next, has_room_for, last_kind};
+    ghost use Rattle.lane_align.specs.Lane.{
+      LaneState,
+      HasFeed,
+      HasSameFacts,
+      cover_at,
+      end_at,
+      is_wanting,
+      is_next,
+      has_room_for,
+      last_kind,
+    };
     ghost use Rattle.rtp_stream.specs.MarkFacts.{IsMark};
 
-    /// A lane that begins at media time `start` and gives blocks of `block` frames.
+    /// Returns a lane that begins at media time `start`, in sampling instants, and gives blocks of `block` frames,
+    /// or an error if its allocation fails.
     pub fn new(alloc: Global, spec: StreamSpec, start: i64, block: u16) -> Result<Lane, AllocError>
         requires not_low { pos 0 ≤ℤ start }
         requires not_high { start ≤ℤ pos (2 ^ 60) }
         requires block { is_packet_time block ≡ true }
         ensures { IfOk result (λ lane. HasFeed spec start block lane [] start) }
     {
+        // A lane that takes a mark only while its next block wants one never holds more than a block and a packet.
         let room = u32::from(block) + u32::from(spec.frames());
         Lane::with_room(alloc, spec, start, block, room)
     }
 
-    /// As `new`, with room for as many frames from the position on, for marks that come before they are wanted.
+    /// Returns a lane as `new` does, with room for `room` frames from its position on: for marks that come before
+    /// they are wanted.
     ///
-    /// `room` is in frames: a block and a packet at least, and 2^24 at most.
+    /// `room` is at least a block and a packet, and at most 2^24 frames.
     pub fn with_room(
         alloc: Global,
         spec: StreamSpec,
@@ -119,7 +158,7 @@ impl Lane {
         })
     }
 
-    /// How the samples of its stream's packets lie.
+    /// Returns the layout of the samples in its stream's packets.
     pub fn format(&self) -> Format
         ensures value { result ≡ self.now.format }
         ensures some { 0 < result.channels }
@@ -128,7 +167,7 @@ impl Lane {
         self.format
     }
 
-    /// The media time at which the next block begins.
+    /// Returns the media time at which the next block begins, in sampling instants.
     pub fn position(&self) -> i64
         ensures value { result ≡ self.now.position }
         ensures stands { (stream : Stream) (from : ℤ) (size : ℕ) (marks : List MarkView) (t : ℤ)
@@ -139,7 +178,7 @@ impl Lane {
         self.position
     }
 
-    /// The times that the marks so far cover.
+    /// Returns the cover of the marks so far.
     pub fn cover(&self) -> Cover
         ensures value { result ≡ cover_at self.now }
         ensures stands { (stream : Stream) (from : ℤ) (size : ℕ) (marks : List MarkView) (t : ℤ)
@@ -155,7 +194,7 @@ impl Lane {
         }
     }
 
-    /// The end of the marks so far, whether or not the stream has ended: the start, where there were none.
+    /// Returns the end of the marks so far, or the start if there were none. The stream need not have ended.
     pub fn end(&self) -> i64
         ensures value { result ≡ end_at self.now }
         ensures stands { (stream : Stream) (from : ℤ) (size : ℕ) (marks : List MarkView) (t : ℤ)
@@ -165,37 +204,41 @@ impl Lane {
         time_reached_by(self.format.frames, self.slot, self.quiet).unwrap_or(self.start)
     }
 
-    /// Whether some time before `t_end` isn't covered yet.
+    /// Returns true if some time before `t_end` isn't covered yet.
     pub fn wants(&self, t_end: i64) -> bool
         ensures value { result ≡ is_wanting self.now t_end }
         ensures stands { (stream : Stream) (from : ℤ) (size : ℕ) (marks : List MarkView) (t : ℤ)
-            → HasFeed stream from size self.now marks t → result ≡ not (covers (cover_of (format_of stream) marks) t_end) }
+            → HasFeed stream from size self.now marks t
+            → result ≡ not (covers (cover_of (format_of stream) marks) t_end) }
     {
         !self.cover().covers(t_end)
     }
 
-    /// Whether a mark may follow those so far.
+    /// Returns true if a mark may follow those so far.
     pub fn accepts(&self, mark: &Mark) -> bool
         ensures value { result ≡ is_next self.now mark.now }
         ensures stands { (stream : Stream) (from : ℤ) (size : ℕ) (marks : List MarkView) (t : ℤ)
-            → HasFeed stream from size self.now marks t → result ≡ list.is_mark_list (format_of stream) (marks ++ mark.now ∷ []) }
+            → HasFeed stream from size self.now marks t
+            → result ≡ list.is_mark_list (format_of stream) (marks ++ mark.now ∷ []) }
     {
         self.accepts_ref(&mark.lent())
     }
 
-    /// As `accepts`, of a mark that is lent.
+    /// Returns true if a borrowed mark may follow those so far.
     pub fn accepts_ref(&self, mark: &MarkRef<'_>) -> bool
         ensures value { result ≡ is_next self.now mark.now }
         ensures stands { (stream : Stream) (from : ℤ) (size : ℕ) (marks : List MarkView) (t : ℤ)
-            → HasFeed stream from size self.now marks t → result ≡ list.is_mark_list (format_of stream) (marks ++ mark.now ∷ []) }
+            → HasFeed stream from size self.now marks t
+            → result ≡ list.is_mark_list (format_of stream) (marks ++ mark.now ∷ []) }
     {
         is_same_format(mark.format(), self.format) && self.may_follow(mark.kind())
     }
 
-    /// Whether what a mark says may follow the last one.
+    /// Returns true if a mark of this content may follow the last one.
     fn may_follow(&self, kind: MarkKindRef<'_>) -> bool
         requires { IsMark self.now.format (kind_of kind) }
-        ensures { result ≡ list.can_follow self.now.format.frames (last_kind self.now.ended self.now.slot self.now.quiet) (kind_of kind.entry) }
+        ensures { result ≡ list.can_follow self.now.format.frames
+            (last_kind self.now.ended self.now.slot self.now.quiet) (kind_of kind.entry) }
     {
         if self.ended {
             return false;
@@ -216,10 +259,12 @@ impl Lane {
         }
     }
 
-    /// Whether a slot may follow the last mark.
+    /// Returns true if a slot may follow the last mark.
     fn may_take_slot(&self, epoch: u64, number: u64, media: i64) -> bool
         requires { self.now.ended ≡ false }
-        ensures { (body : Body) → result ≡ list.can_follow self.now.format.frames (last_kind self.now.ended self.now.slot self.now.quiet) (Slot epoch number media body) }
+        ensures { (body : Body) → result
+            ≡ list.can_follow self.now.format.frames (last_kind self.now.ended self.now.slot self.now.quiet)
+            (Slot epoch number media body) }
     {
         match (self.slot, self.quiet) {
             (Some(slot), _) => may_follow_slot(slot, self.format.frames, epoch, number, media),
@@ -242,7 +287,9 @@ impl Lane {
         self.feed_ref(&mark.lent());
     }
 
-    /// As `feed`, of a mark that is lent: its samples are read where they lie.
+    /// Takes the next mark, which is borrowed: its samples are read without a copy of the payload.
+    ///
+    /// It has to be one that the lane accepts, while it wants one for the block at its position.
     pub fn feed_ref(&mut self, mark: &MarkRef<'_>)
         requires accepted { is_next self.old mark.now ≡ true }
         requires wanted { is_wanting self.old (self.old.position +ℤ pos self.old.block) ≡ true }
@@ -254,7 +301,7 @@ impl Lane {
         self.take(mark);
     }
 
-    /// Whether there is room for the frames of a mark, though none may be wanted.
+    /// Returns true if there is room for the frames of a mark, whether or not the lane wants one.
     ///
     /// A slot needs as many as lie between the lane's position and its end; no other mark needs any.
     pub fn has_room(&self, mark: &MarkRef<'_>) -> bool
@@ -270,7 +317,9 @@ impl Lane {
         }
     }
 
-    /// As `feed_ref`, of a mark for which the lane has room, whether or not it wants one.
+    /// Takes the next mark, which is borrowed, whether or not the lane wants one.
+    ///
+    /// It has to be one that the lane accepts and for which it has room.
     pub fn keep_ref(&mut self, mark: &MarkRef<'_>)
         requires accepted { is_next self.old mark.now ≡ true }
         requires room { has_room_for self.old mark.now ≡ true }
@@ -282,10 +331,11 @@ impl Lane {
         self.take(mark);
     }
 
-    /// Takes the next mark.
+    /// Takes the next mark, which the lane wants or for which it has room.
     fn take(&mut self, mark: &MarkRef<'_>)
         requires accepted { is_next self.old mark.now ≡ true }
-        requires fits { (is_wanting self.old (self.old.position +ℤ pos self.old.block) || has_room_for self.old mark.now) ≡ true }
+        requires fits { (is_wanting self.old (self.old.position +ℤ pos self.old.block)
+            || has_room_for self.old mark.now) ≡ true }
         ensures stands { (stream : Stream) (from : ℤ) (size : ℕ) (marks : List MarkView) (t : ℤ)
             → HasFeed stream from size self.old marks t → HasFeed stream from size self.new (marks ++ mark.now ∷ []) t }
         ensures facts { HasSameFacts self.old self.new }
@@ -314,14 +364,16 @@ impl Lane {
         }
     }
 
-    /// Takes a slot after the last, for which there is room with the silence before it.
+    /// Takes a slot after the last one. There is room for it and for the silence before it.
     fn keep_slot(&mut self, slot: LastSlot, payload: Option<&[u8]>)
         requires small { IsSlot (Some slot) }
         requires len { HasLength (payload_length self.old.format) (body_from (option_copied payload)) }
         requires after { IsAfter self.old.format.frames self.old.slot slot.media }
-        requires room { state.frames_between self.old.position (slot.media +ℤ pos self.old.format.frames) ≤ self.old.room }
+        requires room { state.frames_between self.old.position (slot.media +ℤ pos self.old.format.frames)
+            ≤ self.old.room }
         ensures taken { self.new ≡ with_slot self.old slot (body_from (option_copied payload.entry)) }
-        ensures left { length self.old.values ≡ state.frames_left self.old.format.frames self.old.position self.old.slot * self.old.format.channels }
+        ensures left { length self.old.values
+            ≡ state.frames_left self.old.format.frames self.old.position self.old.slot * self.old.format.channels }
     {
         let held = frames_left(self.format.frames, self.position, self.slot);
         let before = frames_between(self.position, slot.media) - held;
@@ -337,14 +389,15 @@ impl Lane {
         self.slot = Some(slot);
     }
 
-    /// Takes a slot after the last. Silence past the next block is kept as a number.
+    /// Takes a slot after the last one, while the lane wants it. Silence past the next block is kept as a number.
     fn take_slot(&mut self, slot: LastSlot, payload: Option<&[u8]>)
         requires small { IsSlot (Some slot) }
         requires len { HasLength (payload_length self.old.format) (body_from (option_copied payload)) }
         requires after { IsAfter self.old.format.frames self.old.slot slot.media }
         requires wanted { is_wanting self.old (self.old.position +ℤ pos self.old.block) ≡ true }
         ensures taken { self.new ≡ with_slot self.old slot (body_from (option_copied payload.entry)) }
-        ensures left { length self.old.values ≡ state.frames_left self.old.format.frames self.old.position self.old.slot * self.old.format.channels }
+        ensures left { length self.old.values
+            ≡ state.frames_left self.old.format.frames self.old.position self.old.slot * self.old.format.channels }
     {
         let held = frames_left(self.format.frames, self.position, self.slot);
         let before = frames_between(self.position, slot.media) - held;
@@ -362,7 +415,7 @@ impl Lane {
         self.slot = Some(slot);
     }
 
-    /// Gives the values of one block, frame by frame, and moves on to the next.
+    /// Reads the values of the block at the position to `out`, frame by frame, and moves on to the next block.
     pub fn read_block(&mut self, out: &mut [i32])
         requires covered { covers (cover_at self.old) (self.old.position +ℤ pos self.old.block) ≡ true }
         requires len { length out.old ≡ self.old.block * self.old.format.channels }

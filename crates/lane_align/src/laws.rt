@@ -12,7 +12,8 @@ ghost use Rattle.lane_align.specs.AcceptedMarks.{accepted_marks, accepted_with};
 pub fn values_before_the_cover_stay()
     ensures values { (format : Format) (came more : List MarkView) (t : ℤ) (k : ℕ)
         → covers (cover_of format (accepted_marks format came)) (t +ℤ pos 1) ≡ true
-        → value_at format (accepted_marks format (came ++ more)) t k ≡ value_at format (accepted_marks format came) t k }
+        → value_at format (accepted_marks format (came ++ more)) t k
+        ≡ value_at format (accepted_marks format came) t k }
     ensures list_values { (format : Format) (marks more : List MarkView) (t : ℤ) (k : ℕ)
         → is_mark_list format (marks ++ more) ≡ true → covers (cover_of format marks) (t +ℤ pos 1) ≡ true
         → value_at format (marks ++ more) t k ≡ value_at format marks t k }
@@ -23,11 +24,13 @@ pub fn values_before_the_cover_stay()
         → is_mark_list format (marks ++ more) ≡ true → has_end marks ≡ true → more ≡ [] }
 {}
 
-/// Accepted marks are a mark list, of a mark list all are accepted, and one mark more is accepted
-/// where with it what was accepted stays a mark list.
+/// Accepted marks are a mark list, and of a mark list all marks are accepted. One mark more is accepted if the
+/// accepted marks stay a mark list with it.
 pub fn accepted_marks_are_a_mark_list()
-    ensures listed { (format : Format) (came : List MarkView) → is_mark_list format (accepted_marks format came) ≡ true }
-    ensures all { (format : Format) (marks : List MarkView) → is_mark_list format marks ≡ true → accepted_marks format marks ≡ marks }
+    ensures listed { (format : Format) (came : List MarkView)
+        → is_mark_list format (accepted_marks format came) ≡ true }
+    ensures all { (format : Format) (marks : List MarkView) → is_mark_list format marks ≡ true
+        → accepted_marks format marks ≡ marks }
     ensures next { (format : Format) (came : List MarkView) (mark : MarkView)
         → accepted_marks format (came ++ mark ∷ []) ≡ accepted_with format (accepted_marks format came) mark }
 {}

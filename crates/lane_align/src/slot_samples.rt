@@ -11,10 +11,10 @@ use crate::frame_queue::FrameQueue;
 use rtp_stream::Format;
 use rtp_wire::read_samples;
 
-/// The most samples that a payload holds: 1,440 octets of 16-bit samples.
+/// The greatest number of samples in a payload: 1,440 octets of 16-bit samples.
 const MOST_SAMPLES: usize = 720;
 
-/// Where a slot's samples are read to. What stands there says nothing.
+/// The room into which a slot's samples are read. Its content before that has no meaning.
 pub(crate) type SlotRoom = [i32; MOST_SAMPLES];
 
 /// A room before its first slot.
@@ -24,7 +24,8 @@ pub(crate) const EMPTY_ROOM: SlotRoom = [0; MOST_SAMPLES];
 fn read_slot(room: &mut SlotRoom, format: Format, payload: Option<&[u8]>)
     requires count { format.frames * format.channels ≤ 720 }
     requires len { HasLength (payload_length format) (body_from (option_copied payload)) }
-    ensures samples { take (format.frames * format.channels) room.new ≡ body_samples format (body_from (option_copied payload.entry)) }
+    ensures samples { take (format.frames * format.channels) room.new
+        ≡ body_samples format (body_from (option_copied payload.entry)) }
     ensures in_24_bits { All Is24Bits (body_samples format (body_from (option_copied payload.entry))) }
 {
     match payload {
@@ -38,7 +39,7 @@ fn read_slot(room: &mut SlotRoom, format: Format, payload: Option<&[u8]>)
     }
 }
 
-/// Adds frames of silence and then those of a slot from the `skipped`-th on, all of them stored.
+/// Adds `silent` frames of silence and then the slot's frames from the `skipped`-th on, all of them stored.
 pub(crate) fn append_slot(
     values: &mut FrameQueue,
     room: &mut SlotRoom,
@@ -50,7 +51,8 @@ pub(crate) fn append_slot(
     requires count { format.frames * format.channels ≤ 720 }
     requires len { HasLength (payload_length format) (body_from (option_copied payload)) }
     requires part { skipped ≤ format.frames }
-    requires room { length values.old.values + silent * values.old.channels + (format.frames * format.channels - skipped * format.channels) ≤ values.old.room }
+    requires room { length values.old.values + silent * values.old.channels
+        + (format.frames * format.channels - skipped * format.channels) ≤ values.old.room }
     ensures added { values.new ≡ record values.old { values = values.old.values ++ (silence values.old.channels silent ++ drop (skipped * format.channels) (body_samples format (body_from (option_copied payload.entry)))) } }
     ensures in_24_bits { All Is24Bits (body_samples format (body_from (option_copied payload.entry))) }
 {
@@ -60,7 +62,8 @@ pub(crate) fn append_slot(
     values.append(silent, &room[skipped * channels..frames * channels]);
 }
 
-/// As `append_slot`, where of the silence the `silent` frames are stored and those of `gap` are not.
+/// Adds frames of silence and then the slot's frames from the `skipped`-th on. Of the silence `silent` frames are
+/// stored; those of `gap` are kept as a number.
 pub(crate) fn add_slot(
     values: &mut FrameQueue,
     room: &mut SlotRoom,
@@ -74,9 +77,11 @@ pub(crate) fn add_slot(
     requires len { HasLength (payload_length format) (body_from (option_copied payload)) }
     requires part { skipped ≤ format.frames }
     requires within { length values.old.values + silent * values.old.channels ≤ values.old.block * values.old.channels }
-    requires block_end { 0 < gap → length values.old.values + silent * values.old.channels ≡ values.old.block * values.old.channels }
+    requires block_end { 0 < gap → length values.old.values + silent * values.old.channels
+        ≡ values.old.block * values.old.channels }
     requires small { gap < 2 ^ 62 }
-    requires room { values.old.block * values.old.channels + (format.frames * format.channels - skipped * format.channels) ≤ values.old.room }
+    requires room { values.old.block * values.old.channels
+        + (format.frames * format.channels - skipped * format.channels) ≤ values.old.room }
     ensures added { values.new ≡ record values.old { values = values.old.values ++ (silence values.old.channels (silent + gap) ++ drop (skipped * format.channels) (body_samples format (body_from (option_copied payload.entry)))) } }
     ensures in_24_bits { All Is24Bits (body_samples format (body_from (option_copied payload.entry))) }
 {
