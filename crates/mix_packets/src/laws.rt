@@ -1,4 +1,4 @@
-//! What the definitions promise together. Nothing is computed here: the clauses are the laws.
+//! Laws of an output's datagrams. Nothing is computed here: the clauses are the laws.
 ghost use Rattle.std.specs.Prelude.{◌≡◌, ◌+◌, List, ℕ, ℤ};
 ghost use Rattle.rtp_wire.specs.Datagram.{IsDatagram};
 ghost use Rattle.rtp_wire.specs.Head.{Head};
@@ -8,7 +8,8 @@ ghost use Rattle.mix_packets.specs.OutSpec.{IsOutput};
 ghost use Rattle.mix_packets.specs.Block.{block_datagram, block_head};
 ghost use Rattle.mix_packets.specs.Laws.{CountsUp};
 
-/// Datagrams are read back as their headers and blocks, and of two in a row the second counts on.
+/// Datagrams are read back as their headers and blocks. Of two in a row the second goes on in sequence number and
+/// timestamp.
 pub fn datagrams_count_up()
     ensures read { (out : Output) (number : ℕ) (block : List ℤ) → IsOutput out →
         IsDatagram (block_datagram out number block) (block_head out number)

@@ -1,40 +1,48 @@
-//! What is fixed of an output before its first packet.
+//! The specification of an output: what is fixed before its first packet.
 ghost use Rattle.std.specs.Prelude.{◌≡◌, ◌≤◌, false, true, None, Some, IfOk, IfErr, OnErr, OnOk};
-ghost use Rattle.mix_packets.specs.OutSpec.{IsOutput, datagram_length, is_start, out_fault_of, payload_length, shift_of};
+ghost use Rattle.mix_packets.specs.OutSpec.{
+  IsOutput,
+  datagram_length,
+  is_start,
+  out_fault_of,
+  payload_length,
+  shift_of,
+};
 
 use rtp_wire::{Enc, is_packet_time};
 use std::marker::Model;
 use thiserror::Error;
 
-/// Why there is no such output: the first of these, in this order.
+/// The reason why an output is refused: the first of these that holds, in this order.
 #[derive(Clone, Copy, Debug, PartialEq, Eq, Error)]
 pub enum OutFault {
-    /// Not 1 to 8 channels.
+    /// The channels are not from 1 to 8.
     #[error("channels are not from 1 to 8")]
     Channels,
-    /// Not 6, 12, 16, 48 or 192 sampling instants per packet.
+    /// The sampling instants per packet are not 6, 12, 16, 48 or 192.
     #[error("frames per packet are not allowed")]
     Frames,
-    /// Not a dynamic payload type, 96 to 127 (RFC 3551).
+    /// The payload type is not a dynamic one, 96 to 127 (RFC 3551).
     #[error("the payload type is not from 96 to 127")]
     PayloadType,
     /// A packet's samples take more than 1,440 octets.
     #[error("a payload would have more than 1440 octets")]
     TooLong,
-    /// Not from 0 to 2^60.
+    /// The start is not from 0 to 2^60 sampling instants.
     #[error("the start is not from 0 to 2^60")]
     Start,
 }
 
-/// No output starts past this one: 2^60 sampling instants.
+/// The greatest start of an output, 2^60 sampling instants, which is also the greatest reading of a merge's clock.
 const LATEST_START: i64 = 1_152_921_504_606_846_976;
 
-/// What is said of an output: its encoding and packets, their source, and the numbers of the first one.
+/// The parts of an output's specification: its encoding and packets, their source, and the numbers of the first one.
+/// `OutSpec::of` looks for faults in them.
 #[derive(Clone, Copy, Debug)]
 pub struct Output {
-    /// How each sample is written.
+    /// The encoding of each sample.
     pub enc: Enc,
-    /// Channels.
+    /// The number of channels.
     pub channels: u8,
     /// Sampling instants per packet.
     pub frames: u16,
@@ -46,12 +54,12 @@ pub struct Output {
     pub seq0: u16,
     /// The media time of the first packet, in sampling instants.
     pub start: i64,
-    /// How far timestamps are ahead of media times, modulo 2^32 (AES67).
+    /// The timestamp minus the media time of each packet, modulo 2^32 (AES67).
     pub offset: u32,
 }
 
 impl Output {
-    /// The octets of each packet's samples.
+    /// Returns the number of octets of each packet's samples.
     fn payload_len(&self) -> usize
         ensures { result ≡ payload_length self.now }
     {
@@ -59,7 +67,7 @@ impl Output {
     }
 }
 
-/// An output in which there is no fault.
+/// The specification of an output, in which there is no fault.
 #[derive(Clone, Copy, Debug)]
 pub struct OutSpec {
     output: Output,
@@ -79,7 +87,7 @@ impl Model for OutSpec {
 }
 
 impl OutSpec {
-    /// The specification of an output, or the first fault in it.
+    /// Returns the specification of an output, or the first fault in it.
     pub fn of(output: Output) -> Result<OutSpec, OutFault>
         ensures ok { IfOk result (λ s. s ≡ output) }
         ensures fine { IfOk result (λ s. out_fault_of s ≡ None) }
@@ -94,6 +102,7 @@ impl OutSpec {
         if output.pt < 96 || output.pt > 127 {
             return Err(OutFault::PayloadType);
         }
+        // So a packet fits an Ethernet frame.
         if output.payload_len() > 1440 {
             return Err(OutFault::TooLong);
         }
@@ -103,7 +112,7 @@ impl OutSpec {
         Ok(OutSpec { output })
     }
 
-    /// As `of`, with the output's parts in their order.
+    /// Returns the specification of an output of these parts, or the first fault in it.
     pub fn new(
         enc: Enc,
         channels: u8,
@@ -130,7 +139,8 @@ impl OutSpec {
         })
     }
 
-    /// The same output, whose first packet has this media time, or `OutFault::Start`.
+    /// Returns the output with another media time of its first packet, or `OutFault::Start` if that isn't from 0 to
+    /// 2^60 sampling instants.
     pub fn starting_at(self, start: i64) -> Result<OutSpec, OutFault>
         ensures ok { IfOk result (λ s. s ≡ record self { start = start }) }
         ensures fine { OnOk result (is_start start ≡ true) }
@@ -147,14 +157,14 @@ impl OutSpec {
         })
     }
 
-    /// How each sample is written.
+    /// Returns the encoding of each sample.
     pub fn enc(&self) -> Enc
         ensures { result ≡ self.now.enc }
     {
         self.output.enc
     }
 
-    /// Channels, 1 to 8.
+    /// Returns the number of channels, 1 to 8.
     pub fn channels(&self) -> u8
         ensures value { result ≡ self.now.channels }
         ensures sound { IsOutput self.now }
@@ -162,7 +172,7 @@ impl OutSpec {
         self.output.channels
     }
 
-    /// Sampling instants per packet.
+    /// Returns the number of sampling instants per packet: 6, 12, 16, 48 or 192.
     pub fn frames(&self) -> u16
         ensures value { result ≡ self.now.frames }
         ensures sound { IsOutput self.now }
@@ -170,7 +180,7 @@ impl OutSpec {
         self.output.frames
     }
 
-    /// The RTP payload type, 96 to 127 (RFC 3551).
+    /// Returns the RTP payload type, 96 to 127 (RFC 3551).
     pub fn pt(&self) -> u8
         ensures value { result ≡ self.now.pt }
         ensures sound { IsOutput self.now }
@@ -178,21 +188,21 @@ impl OutSpec {
         self.output.pt
     }
 
-    /// The synchronization source (RFC 3550, 5.1).
+    /// Returns the synchronization source (RFC 3550, 5.1).
     pub fn ssrc(&self) -> u32
         ensures { result ≡ self.now.ssrc }
     {
         self.output.ssrc
     }
 
-    /// The sequence number of the first packet.
+    /// Returns the sequence number of the first packet.
     pub fn seq0(&self) -> u16
         ensures { result ≡ self.now.seq0 }
     {
         self.output.seq0
     }
 
-    /// The media time of the first packet, in sampling instants.
+    /// Returns the media time of the first packet, in sampling instants.
     pub fn start(&self) -> i64
         ensures value { result ≡ self.now.start }
         ensures sound { IsOutput self.now }
@@ -200,14 +210,14 @@ impl OutSpec {
         self.output.start
     }
 
-    /// How far timestamps are ahead of media times, modulo 2^32.
+    /// Returns the timestamp minus the media time of each packet, modulo 2^32.
     pub fn offset(&self) -> u32
         ensures { result ≡ self.now.offset }
     {
         self.output.offset
     }
 
-    /// The octets of each datagram: the header's 12 and the samples'.
+    /// Returns the number of octets of each datagram: the header's 12 and the samples'.
     pub fn datagram_len(&self) -> usize
         ensures value { result ≡ datagram_length self.now }
         ensures short { result ≤ 1452 }
@@ -215,10 +225,11 @@ impl OutSpec {
         12 + self.output.payload_len()
     }
 
-    /// By how many bits a sum of gains and samples is shifted to a sample of the encoding.
+    /// Returns the number of bits by which a sum of gains times samples is shifted to a sample of the encoding.
     pub fn shift(&self) -> u32
         ensures { result ≡ shift_of self.now.enc }
     {
+        // 16 bits are the unit of the gains; a sample of L16 has eight bits fewer.
         match self.output.enc {
             Enc::L16 => 24,
             Enc::L24 => 16,

@@ -9,15 +9,17 @@ use crate::out_spec::OutSpec;
 use rtp_wire::{RtpHead, write_head, write_samples};
 use std::marker::Model;
 
-/// Writes an output's datagrams in a row, each from one block of samples.
+/// A writer of an output's datagrams in a row, each from one block of samples.
 ///
-/// `next` takes a block; `number` reads how many were taken. No call takes memory.
+/// `next` takes a block; `number` returns the number of blocks taken. No call takes memory.
 #[derive(Debug, Drop)]
 pub struct Packer {
     spec: OutSpec,
     number: u64,
-    /// The sequence number of the next datagram, and its timestamp.
+    // The next sequence number and timestamp are kept, so that no product of `number` is computed.
+    /// The sequence number of the next datagram.
     seq: u16,
+    /// The timestamp of the next datagram.
     ts: u32,
 }
 
@@ -31,16 +33,17 @@ impl Model for Packer {
     ghost invariant = { λ p. IsInStep (view p) p.seq p.ts };
 }
 
-/// The timestamp of the first datagram.
+/// Returns the timestamp of the first datagram.
 fn first_timestamp(spec: &OutSpec) -> u32
     ensures { result ≡ timestamp_of spec.now 0 }
 {
+    // The remainder is taken before the cast, which may not lose bits.
     let low = spec.start() as u64 % 4_294_967_296;
     (low as u32).wrapping_add(spec.offset())
 }
 
 impl Packer {
-    /// A packer that wrote nothing yet.
+    /// Returns a packer that has written nothing yet.
     pub fn new(spec: OutSpec) -> Packer
         ensures { result ≡ record { spec = spec; number = 0 } }
     {
@@ -52,9 +55,9 @@ impl Packer {
         }
     }
 
-    /// Writes the next datagram to the front of `out`, and answers its length.
+    /// Writes the next datagram to the front of `out`, and returns its length in octets.
     ///
-    /// The block has its samples frame by frame: all channels of one sampling instant, then the next.
+    /// The block has its samples frame by frame: all channels of one sampling instant, then those of the next.
     pub fn next(&mut self, block: &[i32], out: &mut [u8]) -> usize
         requires whole { length block.now ≡ sample_total self.old.spec }
         requires fit { All (FitsEncoding self.old.spec.enc) block.now }
@@ -80,7 +83,7 @@ impl Packer {
         start + octets
     }
 
-    /// How many datagrams were written.
+    /// Returns the number of datagrams written.
     pub fn number(&self) -> u64
         ensures { result ≡ self.now.number }
     {
