@@ -58,7 +58,7 @@ pub fn place_of(
     }
     let number = number_of(packet, next);
     let there = media + (number as i64 - next as i64) * i64::from(spec.frames());
-    // The timestamp tells replays from earlier cycles of sequence numbers, which a sequence number can't.
+    // The timestamp shows a replay from an earlier cycle of sequence numbers, which the sequence number can't.
     if !is_in_step(anchor, there, packet.ts) {
         return Err(Fate::OffGrid);
     }

@@ -127,6 +127,7 @@ impl Model for StreamSpec {
 fn is_window(packets: u16) -> bool
     ensures { result ≡ spec.is_window packets }
 {
+    // The sizes are listed, as the definition in `specs/StreamSpecFacts` lists them.
     let small = packets == 8 || packets == 16 || packets == 32 || packets == 64;
     let middle = packets == 128 || packets == 256 || packets == 512 || packets == 1024;
     let large = packets == 2048 || packets == 4096 || packets == 8192 || packets == 16384;
