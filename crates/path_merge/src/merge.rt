@@ -1,4 +1,4 @@
-//! The merge of a stream's paths: its state, its time and its close. `packets_in` has the calls that take packets,
+//! The merge of a stream's paths: its state, its time and its close. `packets_in` holds the calls that take packets,
 //! `marks_out` those that produce marks.
 ghost use Rattle.std.specs.Prelude.{◌≡◌, ℕ, ◌+◌, ◌^◌, ◌≤◌, ◌∷◌, ◌++◌, [], List, ℤ, pos, ◌≤ℤ◌, IfOk, true, false};
 ghost use Rattle.std.specs.FinMap as map;

@@ -1,4 +1,4 @@
-//! A window with a slot for each of its numbers. `slot` has one slot.
+//! A window with a slot for each of its numbers. `slot` holds one slot.
 ghost use Rattle.std.specs.Prelude.{◌≡◌, ◌<◌, ◌^◌, length, IfOk};
 ghost use Rattle.std.specs.FinMap as map;
 ghost use Rattle.path_merge.specs.SlotWindow.{packets_in, place_at};
@@ -63,6 +63,7 @@ fn place_after(front: usize, size: usize, distance: usize) -> usize
     ensures place { result ≡ place_at front size distance }
     ensures inside { result < size }
 {
+    // Both are below `size`, so a comparison does what a division would.
     if front + distance < size {
         front + distance
     } else {
@@ -116,7 +117,7 @@ impl Window for SlotWindow {
         self.slots[self.front].free();
         self.front = place_after(self.front, self.slots.len(), 1);
         self.base += 1;
-        // The base passes an end where nothing is held; the span then stays 0.
+        // If nothing is held, the base passes the end, and the span stays 0.
         self.span = self.span.saturating_sub(1);
     }
 }

@@ -231,6 +231,7 @@ impl<V: Window> Merge<V> {
     }
 
     /// Begins the next epoch at a packet, while nothing is held.
+    // Out of line, since it is rare: once an epoch.
     #[inline(never)]
     fn restart(&mut self, anchor: Anchor, media: i64, path: Path, packet: &PacketRef<'_>)
         requires anchored { self.old.anchor ≡ Some anchor }
@@ -255,6 +256,7 @@ impl<V: Window> Merge<V> {
     }
 
     /// Takes an arrival at a merge without an anchor, and returns its fate.
+    // Out of line, since it is rare: most arrivals come after the anchor.
     #[inline(never)]
     fn offer_first(&mut self, path: Path, packet: &PacketRef<'_>) -> Fate
         requires unanchored { self.old.anchor ≡ None }
