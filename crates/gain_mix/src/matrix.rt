@@ -157,7 +157,7 @@ fn has_shape(outs: usize, ins: usize, gains: &[i32]) -> bool
     1 <= outs && outs <= 8 && 1 <= ins && ins <= 1024 && gains.len() == outs * ins
 }
 
-/// Returns true if each gain is from -1,048,576 to 1,048,576, 16 times the input.
+/// Returns true if each gain is from -1,048,576 to 1,048,576, which is 16 times the input.
 fn has_range(gains: &[i32]) -> bool
     ensures { result ≡ has_range gains.now }
 {

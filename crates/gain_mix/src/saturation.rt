@@ -61,7 +61,7 @@ fn is_saturated(matrix: &Matrix, ins: &[i32], output: usize, sample: i32, shift:
         → sample ≡ output_sample shift ins.now row }
     ensures { (row : List ℤ) → slice_get matrix.now output ≡ Some row → result ≡ is_saturated_sample shift ins.now row }
 {
-    // A sample at a limit may be its rounded sum, so the sum is made again; other samples need none.
+    // A sample at a limit may be exactly its rounded sum, so the sum is made again. Other samples need no sum.
     is_limit(sample, shift) && is_past(weighted_sum(matrix.row(output), ins), shift)
 }
 
