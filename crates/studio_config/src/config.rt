@@ -1,4 +1,9 @@
-//! A studio's specification, read from the tables of its configuration.
+//! The reader of a configuration, which makes a studio's specification of a parsed TOML document.
+//!
+//! `document` reads the whole, and `stream`, `output` and `schedule` a table each. `packet_format`, `network_keys`,
+//! `name` and `unknown_keys` hold the keys and tests that these share. `integers`, `enums`, `ipv4`, `tables`,
+//! `gain_rows` and `lookup` read one value at a key, and `matrix` makes a matrix of gains. `keys` names the keys, and
+//! `fault` the errors.
 mod document;
 mod enums;
 mod fault;

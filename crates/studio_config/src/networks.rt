@@ -1,37 +1,39 @@
-//! The addresses of a studio's paths, and how its output is sent.
+//! The IPv4 addresses of a studio's paths and of its output.
 ghost use Rattle.std.specs.Prelude.{◌≡◌, ◌<◌, length, slice_set};
 ghost use Rattle.studio_config.specs.Networks.{absent_networks, path_address};
 
 use rtp_stream::Path;
 use std::net::Ipv4Addr;
 
-/// Addresses that are known: each stream's, path by path, and the output's.
+/// The known addresses of a studio: each stream's, path by path, and the output's.
+///
+/// A studio has at most 16 streams, and a stream at most 4 paths; an address that isn't known is `None`.
 #[derive(Clone, Copy, Debug, PartialEq, Eq)]
 pub struct Networks {
-    /// At which address each path of each stream is received: an interface's, or a group's.
+    /// The address that each path of each stream is received at: an interface's or a multicast group's.
     pub paths: [[Option<Ipv4Addr>; 4]; 16],
-    /// From which address alone each path of each stream takes datagrams.
+    /// The source address that each path of each stream is limited to.
     pub sources: [[Option<Ipv4Addr>; 4]; 16],
-    /// How the output is sent.
+    /// The addresses of the output's two copies.
     pub output: OutputAddresses,
 }
 
-/// How the two copies of the output are sent, as far as it is known.
+/// The addresses and the time to live of the output's two copies, as far as they are known.
 #[derive(Clone, Copy, Debug, PartialEq, Eq)]
 pub struct OutputAddresses {
     /// The sender's own address of the first copy.
     pub from_a: Option<Ipv4Addr>,
     /// The sender's own address of the second copy.
     pub from_b: Option<Ipv4Addr>,
-    /// Where the first copy goes.
+    /// The destination of the first copy.
     pub to_a: Option<Ipv4Addr>,
-    /// Where the second copy goes.
+    /// The destination of the second copy.
     pub to_b: Option<Ipv4Addr>,
-    /// The time to live of both.
+    /// The time to live of both copies.
     pub ttl: Option<u8>,
 }
 
-/// At which address each path of a stream is received, and from which alone it takes datagrams.
+/// The address that each path of a stream is received at, and the source address that it is limited to.
 #[derive(Clone, Copy)]
 pub(crate) struct PathAddresses {
     pub binds: [Option<Ipv4Addr>; 4],
@@ -39,7 +41,7 @@ pub(crate) struct PathAddresses {
 }
 
 impl Networks {
-    /// No address is known.
+    /// Returns networks without a known address.
     pub fn absent() -> Networks
         ensures { result ≡ absent_networks }
     {
@@ -56,7 +58,7 @@ impl Networks {
         }
     }
 
-    /// Writes down at which addresses the paths of a stream are received, and from which.
+    /// Enters the addresses of a stream's paths.
     pub(crate) fn set_path_addresses(&mut self, stream: usize, addresses: PathAddresses)
         requires paths { stream < length self.old.paths }
         requires sources { stream < length self.old.sources }
@@ -68,14 +70,14 @@ impl Networks {
         self.sources[stream] = sources;
     }
 
-    /// At which address a path of a stream is received.
+    /// Returns the address that a path of a stream is received at, or `None` if it isn't known.
     pub fn address(&self, stream: usize, path: Path) -> Option<Ipv4Addr>
         ensures { result ≡ path_address self.now.paths stream path }
     {
         address_in(&self.paths, stream, path)
     }
 
-    /// From which address alone a path of a stream takes datagrams.
+    /// Returns the source address that a path of a stream is limited to, or `None` if it isn't known.
     pub fn source(&self, stream: usize, path: Path) -> Option<Ipv4Addr>
         ensures { result ≡ path_address self.now.sources stream path }
     {
@@ -83,7 +85,7 @@ impl Networks {
     }
 }
 
-/// The address of a path of a stream.
+/// Returns the address of a path of a stream, or `None` if it isn't known.
 fn address_in(rows: &[[Option<Ipv4Addr>; 4]; 16], stream: usize, path: Path) -> Option<Ipv4Addr>
     ensures { result ≡ path_address rows.now stream path }
 {

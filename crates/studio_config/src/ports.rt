@@ -1,22 +1,24 @@
-//! The UDP ports of a studio's paths, and of the two addresses of its output.
+//! The UDP ports of a studio's paths, and of its output's two copies.
 ghost use Rattle.std.specs.Prelude.{◌≡◌, ◌<◌, None, length, slice_set};
 ghost use Rattle.studio_config.specs.Ports.{absent_rows, port_at};
 
 use rtp_stream::Path;
 
-/// Ports that are known: each stream's, path by path, and the output's.
+/// The known UDP ports of a studio: each stream's, path by path, and the output's.
+///
+/// A studio has at most 16 streams, and a stream at most 4 paths; a port that isn't known is `None`.
 #[derive(Clone, Copy, Debug, PartialEq, Eq)]
 pub struct Ports {
-    /// Where each path of each stream comes in.
+    /// The port that each path of each stream is received at.
     pub paths: [[Option<u16>; 4]; 16],
-    /// Where the output's first copy goes.
+    /// The port that the output's first copy is sent to.
     pub to_a: Option<u16>,
-    /// Where the output's second copy goes.
+    /// The port that the output's second copy is sent to.
     pub to_b: Option<u16>,
 }
 
 impl Ports {
-    /// No port is known.
+    /// Returns ports of which none is known.
     pub fn absent() -> Ports
         ensures paths { result.paths ≡ absent_rows 16 }
         ensures to_a { result.to_a ≡ None }
@@ -29,7 +31,7 @@ impl Ports {
         }
     }
 
-    /// Writes down where the paths of a stream come in.
+    /// Enters the ports of a stream's paths.
     pub(crate) fn set_path_ports(&mut self, stream: usize, row: [Option<u16>; 4])
         requires { stream < length self.old.paths }
         ensures { self.new.paths ≡ slice_set self.old.paths stream row }
@@ -37,7 +39,7 @@ impl Ports {
         self.paths[stream] = row;
     }
 
-    /// Where a path of a stream comes in.
+    /// Returns the port that a path of a stream is received at, or `None` if it isn't known.
     pub fn port(&self, stream: usize, path: Path) -> Option<u16>
         ensures { result ≡ port_at self.now.paths stream path }
     {

@@ -1,4 +1,4 @@
-//! What is fixed of a studio before anything happens.
+//! The specification of a studio: all that is fixed before the first packet.
 ghost use Rattle.std.specs.Prelude.{◌≡◌, ◌^◌, ◌≤◌, pos, ◌≤ℤ◌, None, length};
 ghost use Rattle.gain_mix.specs.Gain.{ins_of};
 ghost use Rattle.studio_config.specs.Ports.{absent_rows};
@@ -36,7 +36,8 @@ impl Model for StudioSpec {
 }
 
 impl StudioSpec {
-    /// A studio whose merges open at a time, in sampling instants; it knows no ports and no addresses.
+    /// Returns a studio whose merges open at `open_at`, in sampling instants at 48 kHz, with no known port or
+    /// address.
     pub fn new(
         open_at: i64,
         streams: Vec<StreamSpec>,
@@ -61,7 +62,7 @@ impl StudioSpec {
         }
     }
 
-    /// The same studio with these ports.
+    /// Returns the studio with these ports.
     pub(crate) fn with_ports(mut self, ports: Ports) -> StudioSpec
         ensures { result ≡ record self { ports = ports } }
     {
@@ -69,7 +70,7 @@ impl StudioSpec {
         self
     }
 
-    /// The same studio with these addresses.
+    /// Returns the studio with these addresses.
     pub fn with_networks(mut self, networks: Networks) -> StudioSpec
         ensures { result ≡ record self { networks = networks } }
     {
@@ -77,7 +78,7 @@ impl StudioSpec {
         self
     }
 
-    /// When the merges open, in sampling instants.
+    /// Returns the time at which the merges open, in sampling instants.
     pub fn open_at(&self) -> i64
         ensures value { result ≡ self.now.open_at }
         ensures sound { IsStudio self.now }
@@ -85,7 +86,7 @@ impl StudioSpec {
         self.open_at
     }
 
-    /// The streams.
+    /// Returns the streams.
     pub fn streams(&self) -> &[StreamSpec]
         ensures value { result.now ≡ self.now.streams }
         ensures sound { IsStudio self.now }
@@ -93,28 +94,28 @@ impl StudioSpec {
         self.streams.as_slice()
     }
 
-    /// The output.
+    /// Returns the output.
     pub fn output(&self) -> &OutSpec
         ensures { result.now ≡ self.now.output }
     {
         &self.output
     }
 
-    /// The gains, and when they change.
+    /// Returns the gains and their changes.
     pub fn schedule(&self) -> &Schedule
         ensures { result.now ≡ self.now.schedule }
     {
         &self.schedule
     }
 
-    /// The ports that are known.
+    /// Returns the known ports.
     pub fn ports(&self) -> &Ports
         ensures { result.now ≡ self.now.ports }
     {
         &self.ports
     }
 
-    /// The addresses that are known.
+    /// Returns the known addresses.
     pub fn networks(&self) -> &Networks
         ensures { result.now ≡ self.now.networks }
     {

@@ -1,4 +1,4 @@
-//! The whole of a configuration.
+//! The whole of a configuration: the top keys, then each stream's table, then the output's.
 ghost use Rattle.std.specs.Prelude.{◌≡◌, ◌≤◌, ◌*◌, ◌⊎◌, true, None, Some, OnOk, IfOk, IfErr, map, length};
 ghost use Rattle.std.specs.List.{list_all};
 ghost use Rattle.toml.specs.View.{view, table_view};
@@ -7,7 +7,14 @@ ghost use Rattle.studio_config.specs.Studio.{channel_total};
 ghost use Rattle.studio_config.specs.Values.{members_in, is_table};
 ghost use Rattle.studio_config.specs.StreamTable.{stream_of, stream_fault};
 ghost use Rattle.studio_config.specs.OutputTable.{each_fault};
-ghost use Rattle.studio_config.specs.Config.{port_table, bind_table, sender_table, studio_of, config_fault_of, no_memory};
+ghost use Rattle.studio_config.specs.Config.{
+  port_table,
+  bind_table,
+  sender_table,
+  studio_of,
+  config_fault_of,
+  no_memory,
+};
 ghost use Rattle.studio_config.specs.declared.config.fault.ConfigTable.TheVariants as at;
 
 use crate::config::fault::{ConfigTable, SpecError};
@@ -28,17 +35,19 @@ use toml::{Table, Value};
 const KEYS: [Key; 3] = [Key::OpenAt, Key::Stream, Key::Output];
 
 impl StudioSpec {
-    /// The studio that a configuration says, or its first fault.
+    /// Returns the studio that a configuration describes, or its first fault.
     ///
-    /// Tables are tested in the order of the document's keys, and each key for its presence, its
-    /// kind and its range.
+    /// Tables are tested in the order top, stream by stream, output. In a table each key is tested for its presence,
+    /// its type and its range, in the order of docs/FORMATS.md. An allocation failure is `SpecErrorKind::Memory`.
     pub fn from_table(alloc: Global, table: &Table) -> Result<StudioSpec, SpecError>
         ensures ok { OnOk result (config_fault_of (table_view table.now) ≡ None) }
         ensures studio { IfOk result (λ s. s ≡ studio_of (table_view table.now)) }
         ensures fault { IfErr result (λ e. (e ≡ no_memory) ⊎ (config_fault_of (table_view table.now) ≡ Some e)) }
     {
         let place = ConfigTable::Top;
+        // 2^60 sampling instants: a merge takes no later clock reading, so no later opening.
         let open_at = whole(table, place, Key::OpenAt, 0, 1_152_921_504_606_846_976)? as i64;
+        // All of the top table is tested before a stream is read, since its faults come first.
         let tables = few_tables(table, place, Key::Stream, 1, 16)?;
         let output_table = table_in(table, place, Key::Output)?;
         check_known(table, place, &KEYS)?;
@@ -55,7 +64,7 @@ impl StudioSpec {
     }
 }
 
-/// Reads the tables of streams, and writes down at which ports and addresses their paths are received.
+/// Reads the tables of streams, and enters the ports and addresses of their paths in `ports` and `networks`.
 fn read_streams(
     alloc: Global,
     tables: &[Value],
@@ -67,12 +76,14 @@ fn read_streams(
     requires absent { ports.old.paths ≡ absent_rows 16 }
     requires unbound { networks.old.paths ≡ absent_rows 16 }
     requires unsent { networks.old.sources ≡ absent_rows 16 }
-    ensures ok { OnOk result (each_fault (λ n. stream_fault (at.Stream n)) 0 (map (λ t. members_in (view t)) tables.now) ≡ None) }
+    ensures ok { OnOk result (each_fault (λ n. stream_fault (at.Stream n)) 0
+        (map (λ t. members_in (view t)) tables.now) ≡ None) }
     ensures streams { IfOk result (λ s. s.items ≡ map stream_of (map (λ t. members_in (view t)) tables.now)) }
     ensures ports { OnOk result (ports.new.paths ≡ port_table (map (λ t. members_in (view t)) tables.now)) }
     ensures binds { OnOk result (networks.new.paths ≡ bind_table (map (λ t. members_in (view t)) tables.now)) }
     ensures sources { OnOk result (networks.new.sources ≡ sender_table (map (λ t. members_in (view t)) tables.now)) }
-    ensures fault { IfErr result (λ e. (e ≡ no_memory) ⊎ (each_fault (λ n. stream_fault (at.Stream n)) 0 (map (λ t. members_in (view t)) tables.now) ≡ Some e)) }
+    ensures fault { IfErr result (λ e. (e ≡ no_memory)
+        ⊎ (each_fault (λ n. stream_fault (at.Stream n)) 0 (map (λ t. members_in (view t)) tables.now) ≡ Some e)) }
 {
     let mut streams = Vec::new(alloc);
     for (number, stream) in tables.iter().enumerate() {
@@ -84,7 +95,7 @@ fn read_streams(
     Ok(streams)
 }
 
-/// How many channels streams have together: so many inputs the gains of a studio need.
+/// Returns the number of channels that streams have together, which is the number of inputs of a studio's gains.
 pub fn channel_total(streams: &[StreamSpec]) -> usize
     requires few { length streams.now ≤ 16 }
     ensures total { result ≡ channel_total streams.now }

@@ -1,4 +1,4 @@
-//! Words of a table: an encoding, and a clock.
+//! Texts of a table that name an encoding or a clock.
 ghost use Rattle.std.specs.Prelude.{◌≡◌, None, Some, OnOk, IfOk, IfErr};
 ghost use Rattle.toml.specs.View.{view, table_view};
 ghost use Rattle.studio_config.specs.Values.{text_in, text_at, encoding_in, encoding_at, is_media};
@@ -10,11 +10,12 @@ use crate::config::lookup::found;
 use rtp_wire::Enc;
 use toml::{Table, Value};
 
-/// How samples are written, which has to be there.
+/// Returns the encoding at a required key: `L16` (RFC 3551, 4.5) or `L24` (RFC 3190, 4).
 pub(crate) fn encoding(table: &Table, place: ConfigTable, key: Key) -> Result<Enc, SpecError>
     ensures ok { OnOk result (row_fault place (table_view table.now) (required key (one_of encodings)) ≡ None) }
     ensures encoding { IfOk result (λ enc. encoding_at (table_view table.now) key ≡ enc) }
-    ensures fault { IfErr result (λ e. row_fault place (table_view table.now) (required key (one_of encodings)) ≡ Some e) }
+    ensures fault { IfErr result
+        (λ e. row_fault place (table_view table.now) (required key (one_of encodings)) ≡ Some e) }
 {
     let value = found(table, place, key)?;
     match encoding_in(value) {
@@ -27,7 +28,7 @@ pub(crate) fn encoding(table: &Table, place: ConfigTable, key: Key) -> Result<En
     }
 }
 
-/// The encoding that a value names.
+/// Returns the encoding that a value names.
 fn encoding_in(value: &Value) -> Result<Enc, SpecErrorKind>
     ensures ok { OnOk result (value_fault (one_of encodings) (view value.now) ≡ None) }
     ensures encoding { IfOk result (λ enc. encoding_in (view value.now) ≡ enc) }
@@ -45,7 +46,7 @@ fn encoding_in(value: &Value) -> Result<Enc, SpecErrorKind>
     Err(SpecErrorKind::OutOfRange)
 }
 
-/// Whether media times follow the media clock, which has to be there.
+/// Returns true if the text at a required key is `media`, and false if it is `arrival`.
 pub(crate) fn is_media(table: &Table, place: ConfigTable, key: Key) -> Result<bool, SpecError>
     ensures ok { OnOk result (row_fault place (table_view table.now) (required key (one_of clocks)) ≡ None) }
     ensures media { IfOk result (λ media. is_media (text_at (table_view table.now) key) ≡ media) }
@@ -62,7 +63,7 @@ pub(crate) fn is_media(table: &Table, place: ConfigTable, key: Key) -> Result<bo
     }
 }
 
-/// Whether a value names the media clock.
+/// Returns true if a value names the media clock, and false if it names the arrival clock.
 fn is_media_in(value: &Value) -> Result<bool, SpecErrorKind>
     ensures ok { OnOk result (value_fault (one_of clocks) (view value.now) ≡ None) }
     ensures media { IfOk result (λ media. is_media (text_in (view value.now)) ≡ media) }

@@ -1,4 +1,4 @@
-//! Why a configuration says no studio.
+//! The faults of a configuration, and their texts.
 ghost use Rattle.std.specs.Prelude.{◌≡◌};
 ghost use Rattle.studio_config.specs.Config.{no_memory};
 
@@ -15,39 +15,40 @@ use std::fmt;
 pub enum ConfigTable {
     /// The whole document.
     Top,
-    /// The table of a stream, from 0.
+    /// The table of a stream, which counts from 0.
     Stream(usize),
     /// The table of the output.
     Output,
-    /// The table of a change of the output's gains, from 0.
+    /// The table of a change of the output's gains, which counts from 0.
     Change(usize),
 }
 
-/// What is wrong there.
+/// The kind of a configuration's fault.
 #[derive(Clone, Copy, Debug, PartialEq, Eq)]
 pub enum SpecErrorKind {
-    /// A key is not there.
+    /// A required key is absent.
     Missing,
-    /// A value is of another kind.
+    /// A value has another TOML type than its key needs.
     WrongKind,
     /// A value is out of its range.
     OutOfRange,
-    /// A key is there that the table doesn't have.
+    /// The table has a key that is none of its own.
     Unknown,
-    /// There is no such stream.
+    /// The keys of a stream's table break a rule of streams.
     Stream(SpecFault),
-    /// There is no such output.
+    /// The keys of the output's table break a rule of outputs.
     Output(OutFault),
-    /// The gains are no matrix for the channels of streams and output.
+    /// The gains have another shape than the channels of the streams and the output need, or one is out of range.
     Gains(MatrixFault),
-    /// The changes are no schedule.
+    /// The changes of the gains break a rule of schedules.
     Schedule(ScheduleFault),
-    /// Memory was refused.
+    /// An allocation failed.
     Memory,
 }
 
-/// The first fault of a configuration: the table, the key unless the table itself is meant, and
-/// what is wrong.
+/// The first fault of a configuration: its table, its key (`None` if the table as a whole is at fault) and its kind.
+///
+/// Its text names the place first, as `stream[1].frames: range`.
 #[derive(Clone, Copy, Debug, PartialEq, Eq)]
 pub struct SpecError {
     pub place: ConfigTable,
@@ -58,6 +59,7 @@ pub struct SpecError {
 impl From<AllocError> for SpecError {
     ghost from_gives = { λ _ fault. fault ≡ no_memory };
 
+    // An allocation failure belongs to no table, so it is put at the top.
     fn from(_error: AllocError) -> SpecError {
         SpecError {
             place: ConfigTable::Top,
@@ -93,6 +95,7 @@ impl fmt::Display for SpecErrorKind {
             SpecErrorKind::WrongKind => write!(f, "kind"),
             SpecErrorKind::OutOfRange => write!(f, "range"),
             SpecErrorKind::Unknown => write!(f, "unknown"),
+            // The rules are numbered from 1 in docs/FORMATS.md.
             SpecErrorKind::Stream(fault) => write!(f, "stream {}", *fault as u8 + 1),
             SpecErrorKind::Output(fault) => write!(f, "output {}", *fault as u8 + 1),
             SpecErrorKind::Gains(fault) => write!(f, "gains {}", *fault as u8 + 1),
@@ -107,6 +110,7 @@ impl fmt::Display for SpecError {
         let kind = self.kind;
         match self.key {
             None => write!(f, "{}: {kind}", self.place),
+            // A key of the document has no table's name before it.
             Some(key) if self.place == ConfigTable::Top => write!(f, "{key}: {kind}"),
             Some(key) => write!(f, "{}.{key}: {kind}", self.place),
         }

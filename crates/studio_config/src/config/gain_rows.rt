@@ -1,4 +1,4 @@
-//! Rows of gains in a table.
+//! Rows of gains in a table: an array of arrays of whole numbers.
 ghost use Rattle.std.specs.Prelude.{◌≡◌, None, Some, OnOk, IfOk, IfErr, map};
 ghost use Rattle.std.specs.List.{list_all};
 ghost use Rattle.toml.specs.View.{view, table_view};
@@ -11,11 +11,12 @@ use crate::config::lookup::{found, get};
 use toml::value::Array;
 use toml::{Table, Value};
 
-/// Tests that gains are there, as an array of arrays of whole numbers.
+/// Tests that a required key holds an array of arrays of whole numbers.
 pub(crate) fn check_gains(table: &Table, place: ConfigTable, key: Key) -> Result<(), SpecError>
     ensures ok { OnOk result (row_fault place (table_view table.now) (required key gains) ≡ None) }
     ensures fault { IfErr result (λ e. row_fault place (table_view table.now) (required key gains) ≡ Some e) }
 {
+    // Only the types are tested here: the gains' shape depends on channels that are tested after all keys.
     let value = found(table, place, key)?;
     match gains_in(value) {
         Ok(_) => Ok(()),
@@ -27,7 +28,7 @@ pub(crate) fn check_gains(table: &Table, place: ConfigTable, key: Key) -> Result
     }
 }
 
-/// The array of gains of a value.
+/// Returns the array of gains that a value is.
 fn gains_in(value: &Value) -> Result<&Array, SpecErrorKind>
     ensures ok { OnOk result (value_fault gains (view value.now) ≡ None) }
     ensures items { IfOk result (λ a. map (λ t. row_in (view t)) a.now.items ≡ rows_in (view value.now)) }
@@ -43,14 +44,14 @@ fn gains_in(value: &Value) -> Result<&Array, SpecErrorKind>
     }
 }
 
-/// Whether all items are arrays of whole numbers.
+/// Returns true if all items are arrays of whole numbers.
 fn all_rows(items: &[Value]) -> bool
     ensures { result ≡ list_all (λ item. is_row (view item)) items.now }
 {
     items.iter().all(|item| is_row(item))
 }
 
-/// Whether a value is an array of whole numbers.
+/// Returns true if a value is an array of whole numbers.
 fn is_row(value: &Value) -> bool
     ensures { result ≡ is_row (view value.now) }
 {
@@ -60,14 +61,14 @@ fn is_row(value: &Value) -> bool
     all_integers(items)
 }
 
-/// Whether all items are whole numbers.
+/// Returns true if all items are whole numbers.
 fn all_integers(items: &[Value]) -> bool
     ensures { result ≡ list_all (λ item. is_integer (view item)) items.now }
 {
     items.iter().all(|item| item.is_integer())
 }
 
-/// The rows of gains at a key, none if there are no gains.
+/// Returns the rows of gains at a key, none if the key is absent.
 pub(crate) fn rows_at(table: &Table, key: Key) -> &[Value]
     ensures { map (λ row. row_in (view row)) result.now ≡ gains_at (table_view table.now) key }
 {
@@ -77,7 +78,7 @@ pub(crate) fn rows_at(table: &Table, key: Key) -> &[Value]
     }
 }
 
-/// The items of a value, none if it is no array.
+/// Returns the items of a value, none if it is not an array.
 fn items_in(value: &Value) -> &[Value]
     ensures { map (λ item. view item) result.now ≡ items_in (view value.now) }
 {

@@ -9,7 +9,7 @@ use crate::config::keys::Key;
 use crate::config::lookup::{found, get};
 use toml::{Table, Value};
 
-/// A whole number that has to be there, from the least to the greatest.
+/// Returns the whole number at a required key, from `least` to `greatest`.
 pub(crate) fn whole(
     table: &Table,
     place: ConfigTable,
@@ -21,7 +21,8 @@ pub(crate) fn whole(
     ensures number { IfOk result (λ n. number_or (table_view table.now) key 0 ≡ n) }
     ensures low { IfOk result (λ n. least ≤ n) }
     ensures high { IfOk result (λ n. n ≤ greatest) }
-    ensures fault { IfErr result (λ e. row_fault place (table_view table.now) (required key (whole least greatest)) ≡ Some e) }
+    ensures fault { IfErr result
+        (λ e. row_fault place (table_view table.now) (required key (whole least greatest)) ≡ Some e) }
 {
     let value = found(table, place, key)?;
     whole_in(value, least, greatest).map_err(|kind| SpecError {
@@ -31,7 +32,7 @@ pub(crate) fn whole(
     })
 }
 
-/// A whole number that may be there, from the least to the greatest.
+/// Returns the whole number at an optional key, from `least` to `greatest`, or `None` if the key is absent.
 pub(crate) fn optional_whole(
     table: &Table,
     place: ConfigTable,
@@ -42,7 +43,8 @@ pub(crate) fn optional_whole(
     ensures ok { OnOk result (row_fault place (table_view table.now) (optional key (whole least greatest)) ≡ None) }
     ensures number { IfOk result (λ n. number_at (table_view table.now) key ≡ n) }
     ensures high { IfOk result (λ o. IfSome o (λ n. n ≤ greatest)) }
-    ensures fault { IfErr result (λ e. row_fault place (table_view table.now) (optional key (whole least greatest)) ≡ Some e) }
+    ensures fault { IfErr result
+        (λ e. row_fault place (table_view table.now) (optional key (whole least greatest)) ≡ Some e) }
 {
     let Some(value) = get(table, key) else {
         return Ok(None);
@@ -57,7 +59,7 @@ pub(crate) fn optional_whole(
     }
 }
 
-/// A whole number that may be there, from the least to the greatest, or another one if it is absent.
+/// Returns the whole number at an optional key, from `least` to `greatest`, or `absent` if the key is absent.
 pub(crate) fn whole_or(
     table: &Table,
     place: ConfigTable,
@@ -70,7 +72,8 @@ pub(crate) fn whole_or(
     ensures ok { OnOk result (row_fault place (table_view table.now) (optional key (whole least greatest)) ≡ None) }
     ensures number { IfOk result (λ n. number_or (table_view table.now) key absent ≡ n) }
     ensures high { IfOk result (λ n. n ≤ greatest) }
-    ensures fault { IfErr result (λ e. row_fault place (table_view table.now) (optional key (whole least greatest)) ≡ Some e) }
+    ensures fault { IfErr result
+        (λ e. row_fault place (table_view table.now) (optional key (whole least greatest)) ≡ Some e) }
 {
     match optional_whole(table, place, key, least, greatest)? {
         Some(number) => Ok(number),
@@ -78,7 +81,7 @@ pub(crate) fn whole_or(
     }
 }
 
-/// A port that may be there.
+/// Returns the UDP port at an optional key, from 1 to 65535, or `None` if the key is absent.
 pub(crate) fn port(table: &Table, place: ConfigTable, key: Key) -> Result<Option<u16>, SpecError>
     ensures ok { OnOk result (row_fault place (table_view table.now) (optional key (whole 1 65535)) ≡ None) }
     ensures number { IfOk result (λ n. number_at (table_view table.now) key ≡ n) }
@@ -90,7 +93,7 @@ pub(crate) fn port(table: &Table, place: ConfigTable, key: Key) -> Result<Option
     }
 }
 
-/// The whole number of a value, in its range.
+/// Returns the whole number that a value is, from `least` to `greatest`.
 fn whole_in(value: &Value, least: u64, greatest: u64) -> Result<u64, SpecErrorKind>
     ensures ok { OnOk result (value_fault (whole least greatest) (view value.now) ≡ None) }
     ensures number { IfOk result (λ n. natural_in (view value.now) ≡ Some n) }
@@ -110,7 +113,7 @@ fn whole_in(value: &Value, least: u64, greatest: u64) -> Result<u64, SpecErrorKi
     Ok(number)
 }
 
-/// The whole number from 0 on at a key, 0 if there is none.
+/// Returns the whole number at a key, or 0 if it is absent, negative or no whole number.
 pub(crate) fn natural_at(table: &Table, key: Key) -> u64
     ensures value { result ≡ number_or (table_view table.now) key 0 }
     ensures small { result < 2 ^ 63 }
@@ -121,7 +124,7 @@ pub(crate) fn natural_at(table: &Table, key: Key) -> u64
     }
 }
 
-/// The whole number from 0 on that a value is, 0 if it is none.
+/// Returns the whole number that a value is, or 0 if it is negative or no whole number.
 fn natural_in(value: &Value) -> u64
     ensures value { result ≡ unwrap_or (natural_in (view value.now)) 0 }
     ensures small { result < 2 ^ 63 }

@@ -11,7 +11,7 @@ use crate::config::lookup::get;
 use std::net::Ipv4Addr;
 use toml::{Table, Value};
 
-/// An address that may be there.
+/// Returns the IPv4 address at an optional key, or `None` if the key is absent.
 pub(crate) fn address(
     table: &Table,
     place: ConfigTable,
@@ -34,7 +34,7 @@ pub(crate) fn address(
     }
 }
 
-/// The address that a value is.
+/// Returns the IPv4 address that a value spells.
 fn address_in(value: &Value) -> Result<Ipv4Addr, SpecErrorKind>
     ensures ok { OnOk result (value_fault an_address (view value.now) ≡ None) }
     ensures address { IfOk result (λ a. address_in (view value.now) ≡ Some a) }
@@ -49,7 +49,7 @@ fn address_in(value: &Value) -> Result<Ipv4Addr, SpecErrorKind>
     }
 }
 
-/// The address that a text writes.
+/// Returns the IPv4 address that a text spells: four decimal numbers with no leading zeros.
 fn parsed(text: &str) -> Option<Ipv4Addr>
     ensures { result ≡ address_of text.now }
 {

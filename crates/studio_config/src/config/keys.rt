@@ -49,7 +49,7 @@ pub enum Key {
 impl Key {
     ghost use Rattle.studio_config.specs.Keys.{name_of};
 
-    /// How it is written.
+    /// Returns the key as a configuration spells it.
     pub fn name(self) -> &'static str
         ensures { result.now ≡ name_of self }
     {

@@ -7,14 +7,14 @@ use crate::config::fault::{ConfigTable, SpecError, SpecErrorKind};
 use crate::config::keys::Key;
 use toml::{Table, Value};
 
-/// The value at a key.
+/// Returns the value at a key.
 pub(crate) fn get(table: &Table, key: Key) -> Option<&Value>
     ensures { option_map (λ v. view v.now) result ≡ value_at (table_view table.now) key }
 {
     table.get(key.name())
 }
 
-/// The value at a key that has to be there.
+/// Returns the value at a required key.
 pub(crate) fn found(table: &Table, place: ConfigTable, key: Key) -> Result<&Value, SpecError>
     ensures ok { IfOk result (λ v. value_at (table_view table.now) key ≡ Some (view v.now)) }
     ensures missing { IfErr result (λ e. e ≡ record { place = place; key = Some key; kind = SpecErrorKind.Missing }) }

@@ -1,4 +1,4 @@
-//! Gains of a table as a matrix.
+//! The matrix that rows of gains make.
 ghost use Rattle.std.specs.Prelude.{◌≡◌, ◌≤◌, ◌++◌, ◌⊎◌, ◌&&◌, ◌==◌, true, Some, None, OnOk, IfOk, IfErr, map, length};
 ghost use Rattle.std.specs.List.{list_all, flat_map};
 ghost use Rattle.gain_mix.specs.Gain.{ins_of};
@@ -11,7 +11,7 @@ use gain_mix::{Matrix, MatrixFault};
 use std::alloc::{AllocError, Global};
 use toml::Value;
 
-/// The matrix of so many outputs and inputs that rows of whole numbers say.
+/// Returns the matrix of `outs` outputs and `ins` inputs that rows of whole numbers hold.
 pub(crate) fn read_matrix(
     alloc: Global,
     outs: usize,
@@ -26,8 +26,11 @@ pub(crate) fn read_matrix(
     ensures matrix { IfOk result (λ m. m ≡ map (λ row. row_in (view row)) rows.now) }
     ensures outs { IfOk result (λ m. length m ≡ outs) }
     ensures ins { IfOk result (λ m. ins_of m ≡ ins) }
-    ensures fault { IfErr result (λ e. (e ≡ MatrixFault.Memory) ⊎ (gains_fault outs ins (map (λ row. row_in (view row)) rows.now) ≡ Some e)) }
+    ensures fault { IfErr result (λ e. (e ≡ MatrixFault.Memory)
+        ⊎ (gains_fault outs ins (map (λ row. row_in (view row)) rows.now) ≡ Some e)) }
 {
+    // The shape comes first: it is the fault also if a gain is out of range. The range is tested before the
+    // conversion, since a gain of the configuration has 64 bits and one of a matrix 32.
     if !has_rows(outs, ins, rows) {
         return Err(MatrixFault::Shape);
     }
@@ -38,21 +41,21 @@ pub(crate) fn read_matrix(
     Matrix::new(alloc, outs, ins, &gains)
 }
 
-/// Whether there are so many rows of so many gains each.
+/// Returns true if there are `outs` rows of `ins` gains each.
 fn has_rows(outs: usize, ins: usize, rows: &[Value]) -> bool
     ensures { result ≡ (length rows.now == outs) && list_all (λ row. length (row_in (view row)) == ins) rows.now }
 {
     rows.len() == outs && have_length(rows, ins)
 }
 
-/// Whether each of these rows has so many gains.
+/// Returns true if each row has `ins` gains.
 fn have_length(rows: &[Value], ins: usize) -> bool
     ensures { result ≡ list_all (λ row. length (row_in (view row)) == ins) rows.now }
 {
     rows.iter().all(|row| row_len(row) == ins)
 }
 
-/// How many gains a row has.
+/// Returns the number of gains of a row.
 fn row_len(row: &Value) -> usize
     ensures { result ≡ length (row_in (view row.now)) }
 {
@@ -62,14 +65,14 @@ fn row_len(row: &Value) -> usize
     }
 }
 
-/// Whether each gain of these rows is in its range.
+/// Returns true if each gain of these rows is in its range.
 fn have_range(rows: &[Value]) -> bool
     ensures { result ≡ list_all (λ row. has_range (row_in (view row))) rows.now }
 {
     rows.iter().all(|row| has_range(row))
 }
 
-/// Whether each gain of a row is in its range.
+/// Returns true if each gain of a row is in its range.
 fn has_range(row: &Value) -> bool
     ensures { result ≡ has_range (row_in (view row.now)) }
 {
@@ -79,21 +82,22 @@ fn has_range(row: &Value) -> bool
     }
 }
 
-/// Whether these gains are in their range.
+/// Returns true if these gains are in their range.
 fn are_in_range(gains: &[Value]) -> bool
     ensures { result ≡ list_all (λ gain. is_gain (gain_in (view gain))) gains.now }
 {
     gains.iter().all(|gain| is_gain(gain_in(gain)))
 }
 
-/// Whether a gain is at most 16, of either sign.
+/// Returns true if a gain is from -1,048,576 to 1,048,576, which are factors of -16 and 16.
 fn is_gain(gain: i64) -> bool
     ensures { result ≡ is_gain gain }
 {
+    // `abs` would overflow at the least `i64`.
     gain.unsigned_abs() <= 1_048_576
 }
 
-/// The gain that a value is.
+/// Returns the gain that a value is, or 0 if it is no whole number.
 fn gain_in(value: &Value) -> i64
     ensures { result ≡ gain_in (view value.now) }
 {
@@ -103,7 +107,7 @@ fn gain_in(value: &Value) -> i64
     }
 }
 
-/// The gains of rows, one row after the other.
+/// Returns the gains of all rows, one row after the other.
 fn flat_gains(alloc: Global, rows: &[Value]) -> Result<Vec<i32>, AllocError>
     requires in_range { list_all (λ row. has_range (row_in (view row))) rows.now ≡ true }
     ensures { IfOk result (λ gains. gains.items ≡ flat_map (λ row. row_in (view row)) rows.now) }
@@ -115,7 +119,7 @@ fn flat_gains(alloc: Global, rows: &[Value]) -> Result<Vec<i32>, AllocError>
     Ok(gains)
 }
 
-/// Adds the gains of a row.
+/// Appends the gains of a row.
 fn push_row(gains: &mut Vec<i32>, row: &Value) -> Result<(), AllocError>
     requires in_range { has_range (row_in (view row.now)) ≡ true }
     ensures { OnOk result (gains.new.items ≡ gains.old.items ++ row_in (view row.now)) }
@@ -126,7 +130,7 @@ fn push_row(gains: &mut Vec<i32>, row: &Value) -> Result<(), AllocError>
     }
 }
 
-/// Adds gains.
+/// Appends gains, which fit 32 bits since they are in their range.
 fn push_gains(gains: &mut Vec<i32>, more: &[Value]) -> Result<(), AllocError>
     requires in_range { list_all (λ gain. is_gain (gain_in (view gain))) more.now ≡ true }
     ensures { OnOk result (gains.new.items ≡ gains.old.items ++ map (λ gain. gain_in (view gain)) more.now) }

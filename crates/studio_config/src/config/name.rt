@@ -12,7 +12,7 @@ use toml::{Table, Value};
 /// The most octets of a name.
 const MOST: usize = 64;
 
-/// Tests a name that may be there.
+/// Tests the name at the optional key `name`.
 pub(crate) fn check_name(table: &Table, place: ConfigTable) -> Result<(), SpecError>
     ensures ok { OnOk result (rows_fault place (table_view table.now) name_rows ≡ None) }
     ensures fault { IfErr result (λ e. rows_fault place (table_view table.now) name_rows ≡ Some e) }
@@ -30,7 +30,7 @@ pub(crate) fn check_name(table: &Table, place: ConfigTable) -> Result<(), SpecEr
     }
 }
 
-/// Tests that a value is a name.
+/// Tests that a value is a text of at most 64 octets.
 fn check_text(value: &Value) -> Result<(), SpecErrorKind>
     ensures ok { OnOk result (value_fault (a_text 64) (view value.now) ≡ None) }
     ensures fault { IfErr result (λ e. value_fault (a_text 64) (view value.now) ≡ Some e) }

@@ -1,9 +1,17 @@
-//! Where paths are received, and how the output is sent: keys of a stream's table and of the output's.
+//! The keys of network addresses, in a stream's table and in the output's.
 ghost use Rattle.std.specs.Prelude.{◌≡◌, None, Some, OnOk, IfOk, IfErr};
 ghost use Rattle.toml.specs.View.{table_view};
 ghost use Rattle.studio_config.specs.Values.{number_at};
 ghost use Rattle.studio_config.specs.Rows.{optional, whole, row_fault, rows_fault};
-ghost use Rattle.studio_config.specs.NetworkTable.{bind_rows, binds_of, path_rows, sender_address_rows, sender_addresses_of, sender_rows, senders_of};
+ghost use Rattle.studio_config.specs.NetworkTable.{
+  bind_rows,
+  binds_of,
+  path_rows,
+  sender_address_rows,
+  sender_addresses_of,
+  sender_rows,
+  senders_of,
+};
 ghost use Rattle.studio_config.specs.declared.config.keys.Key.TheVariants as key;
 
 use crate::config::fault::{ConfigTable, SpecError};
@@ -29,7 +37,7 @@ pub(crate) fn read_path_addresses(
     Ok(PathAddresses { binds, sources })
 }
 
-/// Reads at which address each path is received.
+/// Reads the address that each path is received at.
 fn read_binds(table: &Table, place: ConfigTable) -> Result<[Option<Ipv4Addr>; 4], SpecError>
     ensures ok { OnOk result (rows_fault place (table_view table.now) bind_rows ≡ None) }
     ensures binds { IfOk result (λ b. b ≡ binds_of (table_view table.now)) }
@@ -42,7 +50,7 @@ fn read_binds(table: &Table, place: ConfigTable) -> Result<[Option<Ipv4Addr>; 4]
     Ok([a, b, c, d])
 }
 
-/// Reads from which address each path takes datagrams.
+/// Reads the source address that each path is limited to.
 fn read_sender_addresses(
     table: &Table,
     place: ConfigTable,
@@ -58,7 +66,7 @@ fn read_sender_addresses(
     Ok([a, b, c, d])
 }
 
-/// Reads how the two copies of the output are sent.
+/// Reads the addresses of the output's two copies, and their time to live.
 pub(crate) fn read_senders(table: &Table, place: ConfigTable) -> Result<OutputAddresses, SpecError>
     ensures ok { OnOk result (rows_fault place (table_view table.now) sender_rows ≡ None) }
     ensures senders { IfOk result (λ s. s ≡ senders_of (table_view table.now)) }
@@ -78,11 +86,12 @@ pub(crate) fn read_senders(table: &Table, place: ConfigTable) -> Result<OutputAd
     })
 }
 
-/// The time to live that may be there.
+/// Returns the time to live of the output's datagrams, or `None` if the key is absent.
 fn time_to_live(table: &Table, place: ConfigTable) -> Result<Option<u8>, SpecError>
     ensures ok { OnOk result (row_fault place (table_view table.now) (optional key.Ttl (whole 1 255)) ≡ None) }
     ensures number { IfOk result (λ n. number_at (table_view table.now) key.Ttl ≡ n) }
-    ensures fault { IfErr result (λ e. row_fault place (table_view table.now) (optional key.Ttl (whole 1 255)) ≡ Some e) }
+    ensures fault { IfErr result
+        (λ e. row_fault place (table_view table.now) (optional key.Ttl (whole 1 255)) ≡ Some e) }
 {
     match optional_whole(table, place, Key::Ttl, 1, 255)? {
         Some(number) => Ok(Some(number as u8)),

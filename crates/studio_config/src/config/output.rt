@@ -27,7 +27,7 @@ use mix_packets::{OutSpec, Output};
 use std::alloc::Global;
 use toml::Table;
 
-/// The source of the output's packets, and the numbers of the first one.
+/// The SSRC of the output's packets, the sequence number and media time of the first one, and the timestamp offset.
 #[derive(Clone, Copy)]
 struct OutputNumbers {
     ssrc: u32,
@@ -36,14 +36,15 @@ struct OutputNumbers {
     offset: u32,
 }
 
-/// Where the two copies of each packet go.
+/// The UDP ports that the two copies of each packet are sent to.
 #[derive(Clone, Copy)]
 pub(crate) struct Addresses {
     pub to_a: Option<u16>,
     pub to_b: Option<u16>,
 }
 
-/// An output, the gains and their changes, and to which ports and how its packets are sent.
+/// The contents of the output's table: the output, its gains and their changes, and the ports and addresses of its
+/// two copies.
 #[derive(Drop)]
 pub(crate) struct OutputEntry {
     pub spec: OutSpec,
@@ -73,7 +74,7 @@ const KEYS: [Key; 17] = [
     Key::Ttl,
 ];
 
-/// Reads the output's table, where the streams have so many channels.
+/// Reads the output's table, for streams that have `ins` channels in all.
 pub(crate) fn read_output(
     alloc: Global,
     table: &Table,
@@ -100,6 +101,8 @@ pub(crate) fn read_output(
     let addresses = read_addresses(table, place)?;
     let senders = read_senders(table, place)?;
     check_known(table, place, &KEYS)?;
+    // Each key is tested, an unknown one too, before the output as a whole. The gains come last, since their shape
+    // depends on the output's channels.
     let spec = check_output(Output {
         enc: packets.enc,
         channels: packets.channels,
@@ -119,7 +122,7 @@ pub(crate) fn read_output(
     })
 }
 
-/// The output, or its fault at the output's table.
+/// Returns the output, or its fault at the output's table.
 fn check_output(output: Output) -> Result<OutSpec, SpecError>
     ensures ok { OnOk result (out_fault_of output ≡ None) }
     ensures output { IfOk result (λ o. o ≡ output) }
@@ -135,7 +138,7 @@ fn check_output(output: Output) -> Result<OutSpec, SpecError>
     }
 }
 
-/// Reads the source of the output's packets, and the numbers of the first one.
+/// Reads the SSRC of the output's packets, the numbers of the first one and the timestamp offset.
 fn read_numbers(table: &Table, place: ConfigTable) -> Result<OutputNumbers, SpecError>
     ensures ok { OnOk result (rows_fault place (table_view table.now) number_rows ≡ None) }
     ensures ssrc { IfOk result (λ n. number_or (table_view table.now) key.Ssrc 0 ≡ n.ssrc) }
@@ -146,6 +149,7 @@ fn read_numbers(table: &Table, place: ConfigTable) -> Result<OutputNumbers, Spec
 {
     let ssrc = whole(table, place, Key::Ssrc, 0, 4_294_967_295)? as u32;
     let seq = whole(table, place, Key::Seq, 0, 65535)? as u16;
+    // 2^60 sampling instants, the latest time of a studio.
     let start = whole(table, place, Key::Start, 0, 1_152_921_504_606_846_976)? as i64;
     let offset = whole_or(table, place, Key::Offset, 0, 4_294_967_295, 0)? as u32;
     Ok(OutputNumbers {
@@ -156,7 +160,7 @@ fn read_numbers(table: &Table, place: ConfigTable) -> Result<OutputNumbers, Spec
     })
 }
 
-/// Reads where the two copies of each packet go.
+/// Reads the UDP ports that the two copies of each packet are sent to.
 fn read_addresses(table: &Table, place: ConfigTable) -> Result<Addresses, SpecError>
     ensures ok { OnOk result (rows_fault place (table_view table.now) address_rows ≡ None) }
     ensures to_a { IfOk result (λ a. number_at (table_view table.now) key.ToA ≡ a.to_a) }

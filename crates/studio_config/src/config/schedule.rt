@@ -6,7 +6,14 @@ ghost use Rattle.gain_mix.specs.Gain.{ins_of};
 ghost use Rattle.gain_mix.specs.Schedule.{schedule_fault_of};
 ghost use Rattle.studio_config.specs.Values.{members_in, is_table, gains_at, tables_at};
 ghost use Rattle.studio_config.specs.Rows.{at_key};
-ghost use Rattle.studio_config.specs.OutputTable.{each_fault, change_fault, matrix_fault, change_of, schedule_of, schedule_fault};
+ghost use Rattle.studio_config.specs.OutputTable.{
+  each_fault,
+  change_fault,
+  matrix_fault,
+  change_of,
+  schedule_of,
+  schedule_fault,
+};
 ghost use Rattle.studio_config.specs.Config.{no_memory};
 ghost use Rattle.studio_config.specs.declared.config.keys.Key.TheVariants as key;
 ghost use Rattle.studio_config.specs.declared.config.fault.ConfigTable.TheVariants as at;
@@ -30,7 +37,8 @@ const KEYS: [Key; 2] = [Key::At, Key::Gains];
 pub(crate) fn check_changes(changes: &[Value]) -> Result<(), SpecError>
     requires tables { list_all (λ t. is_table (view t)) changes.now ≡ true }
     ensures ok { OnOk result (each_fault change_fault 0 (map (λ t. members_in (view t)) changes.now) ≡ None) }
-    ensures fault { IfErr result (λ e. each_fault change_fault 0 (map (λ t. members_in (view t)) changes.now) ≡ Some e) }
+    ensures fault { IfErr result
+        (λ e. each_fault change_fault 0 (map (λ t. members_in (view t)) changes.now) ≡ Some e) }
 {
     for (number, change) in changes.iter().enumerate() {
         check_change(table_of(change), number)?;
@@ -44,6 +52,7 @@ fn check_change(table: &Table, number: usize) -> Result<(), SpecError>
     ensures fault { IfErr result (λ e. change_fault number (table_view table.now) ≡ Some e) }
 {
     let place = ConfigTable::Change(number);
+    // 2^60 sampling instants, the latest time of a studio.
     whole(table, place, Key::At, 0, 1_152_921_504_606_846_976)?;
     check_gains(table, place, Key::Gains)?;
     check_known(table, place, &KEYS)
@@ -65,10 +74,12 @@ pub(crate) fn read_gains(
     ensures matrix { IfOk result (λ m. m ≡ gains_at (table_view table.now) key.Gains) }
     ensures outs { IfOk result (λ m. length m ≡ outs) }
     ensures ins { IfOk result (λ m. ins_of m ≡ ins) }
-    ensures fault { IfErr result (λ e. (e ≡ no_memory) ⊎ (matrix_fault outs ins place (table_view table.now) ≡ Some e)) }
+    ensures fault { IfErr result (λ e. (e ≡ no_memory)
+        ⊎ (matrix_fault outs ins place (table_view table.now) ≡ Some e)) }
 {
     match read_matrix(alloc, outs, ins, rows_at(table, Key::Gains)) {
         Ok(matrix) => Ok(matrix),
+        // An allocation failure is no fault of the gains, so it is not put at their key.
         Err(MatrixFault::Memory) => Err(SpecError::from(AllocError)),
         Err(fault) => Err(SpecError {
             place,
@@ -78,7 +89,7 @@ pub(crate) fn read_gains(
     }
 }
 
-/// Reads a change: its time, and the gains from then on.
+/// Reads a change: its time in sampling instants, and the gains from then on.
 fn read_change(
     alloc: Global,
     table: &Table,
@@ -92,13 +103,15 @@ fn read_change(
     requires few_ins { ins ≤ 1024 }
     ensures ok { OnOk result (matrix_fault outs ins place (table_view table.now) ≡ None) }
     ensures change { IfOk result (λ c. c ≡ change_of (table_view table.now)) }
-    ensures fault { IfErr result (λ e. (e ≡ no_memory) ⊎ (matrix_fault outs ins place (table_view table.now) ≡ Some e)) }
+    ensures fault { IfErr result (λ e. (e ≡ no_memory)
+        ⊎ (matrix_fault outs ins place (table_view table.now) ≡ Some e)) }
 {
     let matrix = read_gains(alloc, table, place, outs, ins)?;
+    // `check_change` has tested the time, so there is no second error for it here.
     Ok((natural_at(table, Key::At) as i64, matrix))
 }
 
-/// Reads the changes, whose tables were tested.
+/// Reads the changes, whose tables `check_changes` has tested.
 pub(crate) fn read_changes(
     alloc: Global,
     changes: &[Value],
@@ -110,9 +123,11 @@ pub(crate) fn read_changes(
     requires few_outs { outs ≤ 8 }
     requires some_ins { 1 ≤ ins }
     requires few_ins { ins ≤ 1024 }
-    ensures ok { OnOk result (each_fault (λ n. matrix_fault outs ins (at.Change n)) 0 (map (λ t. members_in (view t)) changes.now) ≡ None) }
+    ensures ok { OnOk result (each_fault (λ n. matrix_fault outs ins (at.Change n)) 0
+        (map (λ t. members_in (view t)) changes.now) ≡ None) }
     ensures changes { IfOk result (λ later. later.items ≡ map change_of (map (λ t. members_in (view t)) changes.now)) }
-    ensures fault { IfErr result (λ e. (e ≡ no_memory) ⊎ (each_fault (λ n. matrix_fault outs ins (at.Change n)) 0 (map (λ t. members_in (view t)) changes.now) ≡ Some e)) }
+    ensures fault { IfErr result (λ e. (e ≡ no_memory) ⊎ (each_fault (λ n. matrix_fault outs ins (at.Change n)) 0
+        (map (λ t. members_in (view t)) changes.now) ≡ Some e)) }
 {
     let mut later = Vec::new(alloc);
     for (number, change) in changes.iter().enumerate() {
@@ -128,7 +143,7 @@ pub(crate) fn read_changes(
     Ok(later)
 }
 
-/// Reads the gains of the output's table and their changes, whose tables were tested.
+/// Reads the gains of the output's table and their changes, whose tables `check_changes` has tested.
 pub(crate) fn read_schedule(
     alloc: Global,
     table: &Table,
@@ -153,11 +168,13 @@ pub(crate) fn read_schedule(
     make_schedule(first, later)
 }
 
-/// The schedule of these gains and changes.
+/// Returns the schedule of these gains and changes.
 fn make_schedule(first: Matrix, later: Vec<(i64, Matrix)>) -> Result<Schedule, SpecError>
-    ensures ok { OnOk result (at_key at.Output key.Change (option_map kind.Schedule (schedule_fault_of first later.items)) ≡ None) }
+    ensures ok { OnOk result (at_key at.Output key.Change
+        (option_map kind.Schedule (schedule_fault_of first later.items)) ≡ None) }
     ensures schedule { IfOk result (λ s. s ≡ record { first = first; later = later.items }) }
-    ensures fault { IfErr result (λ e. at_key at.Output key.Change (option_map kind.Schedule (schedule_fault_of first later.items)) ≡ Some e) }
+    ensures fault { IfErr result
+        (λ e. at_key at.Output key.Change (option_map kind.Schedule (schedule_fault_of first later.items)) ≡ Some e) }
 {
     match Schedule::new(first, later) {
         Ok(schedule) => Ok(schedule),

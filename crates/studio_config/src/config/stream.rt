@@ -4,7 +4,15 @@ ghost use Rattle.toml.specs.View.{table_view};
 ghost use Rattle.studio_config.specs.Values.{number_at, number_or};
 ghost use Rattle.studio_config.specs.Rows.{rows_fault};
 ghost use Rattle.studio_config.specs.NetworkTable.{binds_of, sender_addresses_of};
-ghost use Rattle.studio_config.specs.StreamTable.{source_rows, wait_rows, port_rows, clock_of, stream_of, ports_of, stream_fault};
+ghost use Rattle.studio_config.specs.StreamTable.{
+  source_rows,
+  wait_rows,
+  port_rows,
+  clock_of,
+  stream_of,
+  ports_of,
+  stream_fault,
+};
 ghost use Rattle.studio_config.specs.declared.config.keys.Key.TheVariants as key;
 
 use crate::config::enums::is_media;
@@ -46,14 +54,14 @@ const KEYS: [Key; 23] = [
     Key::Name,
 ];
 
-/// The source that packets come from, if it is said, and the clock of their media times.
+/// The SSRC that packets are limited to, if the table gives one, and the clock of their media times.
 #[derive(Clone, Copy)]
 struct StreamSource {
     ssrc: Option<u32>,
     clock: StreamClock,
 }
 
-/// How long packets are waited for, how many may be held, and how many paths there are.
+/// The latency in sampling instants, the window in packets, and the number of paths.
 #[derive(Clone, Copy)]
 struct StreamTiming {
     latency: u32,
@@ -61,7 +69,7 @@ struct StreamTiming {
     paths: u8,
 }
 
-/// A stream, and where each of its paths is received.
+/// A stream, and the ports and addresses of its paths.
 #[derive(Clone, Copy)]
 pub(crate) struct StreamEntry {
     pub spec: StreamSpec,
@@ -85,6 +93,7 @@ pub(crate) fn read_stream(table: &Table, place: ConfigTable) -> Result<StreamEnt
     let addresses = read_path_addresses(table, place)?;
     check_name(table, place)?;
     check_known(table, place, &KEYS)?;
+    // Each key is tested, an unknown one too, before the stream as a whole.
     let stream = Stream {
         enc: packets.enc,
         channels: packets.channels,
@@ -110,7 +119,7 @@ pub(crate) fn read_stream(table: &Table, place: ConfigTable) -> Result<StreamEnt
     }
 }
 
-/// Reads where a stream's packets come from, and by which clock.
+/// Reads the SSRC and the clock of a stream's packets.
 fn read_source(table: &Table, place: ConfigTable) -> Result<StreamSource, SpecError>
     ensures ok { OnOk result (rows_fault place (table_view table.now) source_rows ≡ None) }
     ensures ssrc { IfOk result (λ s. number_at (table_view table.now) key.Ssrc ≡ s.ssrc) }
@@ -131,7 +140,7 @@ fn read_source(table: &Table, place: ConfigTable) -> Result<StreamSource, SpecEr
     Ok(StreamSource { ssrc, clock })
 }
 
-/// Reads how long packets are waited for, and on how many paths.
+/// Reads the latency, the window and the number of paths.
 fn read_wait(table: &Table, place: ConfigTable) -> Result<StreamTiming, SpecError>
     ensures ok { OnOk result (rows_fault place (table_view table.now) wait_rows ≡ None) }
     ensures latency { IfOk result (λ w. number_or (table_view table.now) key.Latency 0 ≡ w.latency) }
@@ -149,7 +158,7 @@ fn read_wait(table: &Table, place: ConfigTable) -> Result<StreamTiming, SpecErro
     })
 }
 
-/// Reads where each path comes in.
+/// Reads the UDP port of each path.
 fn read_ports(table: &Table, place: ConfigTable) -> Result<[Option<u16>; 4], SpecError>
     ensures ok { OnOk result (rows_fault place (table_view table.now) port_rows ≡ None) }
     ensures ports { IfOk result (λ p. p ≡ ports_of (table_view table.now)) }

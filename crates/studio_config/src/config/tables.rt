@@ -1,4 +1,4 @@
-//! Tables in a table.
+//! Tables that a table holds.
 ghost use Rattle.std.specs.Prelude.{◌≡◌, ◌≤◌, true, None, Some, OnOk, IfOk, IfErr, map, length};
 ghost use Rattle.std.specs.List.{list_all};
 ghost use Rattle.toml.specs.View.{view, table_view};
@@ -11,7 +11,7 @@ use crate::config::lookup::{found, get};
 use toml::value::Array;
 use toml::{Table, Value};
 
-/// A table that has to be there.
+/// Returns the table at a required key.
 pub(crate) fn table_in(table: &Table, place: ConfigTable, key: Key) -> Result<&Table, SpecError>
     ensures ok { OnOk result (row_fault place (table_view table.now) (required key a_table) ≡ None) }
     ensures table { IfOk result (λ t. table_at (table_view table.now) key ≡ table_view t.now) }
@@ -28,7 +28,7 @@ pub(crate) fn table_in(table: &Table, place: ConfigTable, key: Key) -> Result<&T
     }
 }
 
-/// Tables that may be there, none if they are absent.
+/// Returns the tables at an optional key, none if the key is absent.
 pub(crate) fn optional_tables(
     table: &Table,
     place: ConfigTable,
@@ -52,7 +52,7 @@ pub(crate) fn optional_tables(
     }
 }
 
-/// Tables that have to be there, from the least number of them to the greatest.
+/// Returns the tables at a required key, from `least` to `greatest` of them.
 pub(crate) fn few_tables(
     table: &Table,
     place: ConfigTable,
@@ -60,12 +60,14 @@ pub(crate) fn few_tables(
     least: usize,
     greatest: usize,
 ) -> Result<&[Value], SpecError>
-    ensures ok { OnOk result (row_fault place (table_view table.now) (required key (few_tables least greatest)) ≡ None) }
+    ensures ok { OnOk result (row_fault place (table_view table.now)
+        (required key (few_tables least greatest)) ≡ None) }
     ensures each { IfOk result (λ a. list_all (λ t. is_table (view t)) a.now ≡ true) }
     ensures tables { IfOk result (λ a. map (λ t. members_in (view t)) a.now ≡ tables_at (table_view table.now) key) }
     ensures low { IfOk result (λ a. least ≤ length a.now) }
     ensures high { IfOk result (λ a. length a.now ≤ greatest) }
-    ensures fault { IfErr result (λ e. row_fault place (table_view table.now) (required key (few_tables least greatest)) ≡ Some e) }
+    ensures fault { IfErr result
+        (λ e. row_fault place (table_view table.now) (required key (few_tables least greatest)) ≡ Some e) }
 {
     let value = found(table, place, key)?;
     match few_tables_in(value, least, greatest) {
@@ -78,7 +80,7 @@ pub(crate) fn few_tables(
     }
 }
 
-/// The tables of a value, from the least number of them to the greatest.
+/// Returns the tables that a value holds, from `least` to `greatest` of them.
 fn few_tables_in(value: &Value, least: usize, greatest: usize) -> Result<&[Value], SpecErrorKind>
     ensures ok { OnOk result (value_fault (few_tables least greatest) (view value.now) ≡ None) }
     ensures each { IfOk result (λ a. list_all (λ t. is_table (view t)) a.now ≡ true) }
@@ -88,13 +90,14 @@ fn few_tables_in(value: &Value, least: usize, greatest: usize) -> Result<&[Value
     ensures fault { IfErr result (λ e. value_fault (few_tables least greatest) (view value.now) ≡ Some e) }
 {
     let items = tables_in(value)?;
+    // The type comes first. An empty array passes as one of tables, so it is out of range.
     if items.len() < least || greatest < items.len() {
         return Err(SpecErrorKind::OutOfRange);
     }
     Ok(items.as_slice())
 }
 
-/// The array of tables of a value.
+/// Returns the array of tables that a value is.
 fn tables_in(value: &Value) -> Result<&Array, SpecErrorKind>
     ensures ok { OnOk result (value_fault tables (view value.now) ≡ None) }
     ensures each { IfOk result (λ a. list_all (λ t. is_table (view t)) a.now.items ≡ true) }
@@ -112,14 +115,14 @@ fn tables_in(value: &Value) -> Result<&Array, SpecErrorKind>
     }
 }
 
-/// Whether all items are tables.
+/// Returns true if all items are tables.
 fn all_tables(items: &[Value]) -> bool
     ensures { result ≡ list_all (λ item. is_table (view item)) items.now }
 {
     items.iter().all(|item| item.is_table())
 }
 
-/// The table that a value is.
+/// Returns the table that a value is.
 pub(crate) fn table_of(value: &Value) -> &Table
     requires { is_table (view value.now) ≡ true }
     ensures { table_view result.now ≡ members_in (view value.now) }

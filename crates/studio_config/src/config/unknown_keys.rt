@@ -1,4 +1,4 @@
-//! Keys that a table doesn't have.
+//! The test for keys that a table doesn't have.
 ghost use Rattle.std.specs.Prelude.{◌≡◌, None, Some, OnOk, IfErr, string_bytes};
 ghost use Rattle.std.specs.List.{list_all};
 ghost use Rattle.std.specs.BTreeMap.{keys as keys_of};
@@ -25,14 +25,14 @@ pub(crate) fn check_known(table: &Table, place: ConfigTable, keys: &[Key]) -> Re
     }
 }
 
-/// Whether a table has no other keys than these.
+/// Returns true if a table has no other keys than these.
 fn has_only(table: &Table, keys: &[Key]) -> bool
     ensures { result ≡ list_all (λ name. is_known keys.now (string_bytes name)) (keys_of table.now) }
 {
     table.keys().all(|name| is_known(keys, name.as_str()))
 }
 
-/// Whether a name is that of one of these keys.
+/// Returns true if a name is that of one of these keys.
 fn is_known(keys: &[Key], name: &str) -> bool
     ensures { result ≡ is_known keys.now name.now }
 {

@@ -1,5 +1,21 @@
-//! A studio by a clock that reads otherwise: each of its times is moved by the same.
-ghost use Rattle.std.specs.Prelude.{◌≡◌, ◌⊎◌, ◌^◌, ◌≤ℤ◌, ◌+ℤ◌, pos, negsuc, true, false, Some, None, IfOk, IfErr, OnOk, OnErr};
+//! The shift of a studio to a clock with another zero: all of its times move by as much.
+ghost use Rattle.std.specs.Prelude.{
+  ◌≡◌,
+  ◌⊎◌,
+  ◌^◌,
+  ◌≤ℤ◌,
+  ◌+ℤ◌,
+  pos,
+  negsuc,
+  true,
+  false,
+  Some,
+  None,
+  IfOk,
+  IfErr,
+  OnOk,
+  OnErr,
+};
 ghost use Rattle.gain_mix.specs.Schedule.{has_times};
 ghost use Rattle.mix_packets.specs.OutSpec.{is_start};
 ghost use Rattle.studio_config.specs.Config.{no_memory};
@@ -16,8 +32,10 @@ use std::alloc::Global;
 const LATEST: i64 = 1 << 60;
 
 impl StudioSpec {
-    /// The same studio, opened at a time in sampling instants: the output's start and the times of the changes of gains
-    /// move by as much as its opening time does. Or the first of these times that would not lie from 0 to 2^60.
+    /// Returns the studio opened at `open_at`, in sampling instants. The output's start and the times of the changes
+    /// of gains move by as much as the opening time.
+    ///
+    /// The error is the first of these times that would not be from 0 to 2^60, or an allocation failure.
     pub fn shifted(self, alloc: Global, open_at: i64) -> Result<StudioSpec, SpecError>
         ensures ok { IfOk result (λ s. s ≡ shifted open_at self) }
         ensures fine { OnOk result (shift_fault_of (shifted open_at self) ≡ None) }
@@ -38,7 +56,7 @@ impl StudioSpec {
     }
 }
 
-/// A key's time is out of range.
+/// Returns the fault of a key whose time is out of range.
 fn out_of_range(place: ConfigTable, key: Key) -> SpecError
     ensures { result ≡ record { place = place; key = Some key; kind = kind.OutOfRange } }
 {
@@ -49,7 +67,7 @@ fn out_of_range(place: ConfigTable, key: Key) -> SpecError
     }
 }
 
-/// The same output, which starts so many sampling instants later.
+/// Returns the output, which starts `by` sampling instants later.
 fn shifted_output(output: OutSpec, by: i64) -> Result<OutSpec, SpecError>
     requires low { negsuc (2 ^ 60) ≤ℤ by }
     requires high { by ≤ℤ pos (2 ^ 60) }
@@ -59,11 +77,12 @@ fn shifted_output(output: OutSpec, by: i64) -> Result<OutSpec, SpecError>
 {
     match output.starting_at(output.start() + by) {
         Ok(output) => Ok(output),
+        // Nothing but the start changed, so no other rule can be broken.
         Err(_) => Err(out_of_range(ConfigTable::Output, Key::Start)),
     }
 }
 
-/// The same gains, each of whose changes comes so many sampling instants later.
+/// Returns the gains, each of whose changes comes `by` sampling instants later.
 fn shifted_schedule(alloc: Global, schedule: Schedule, by: i64) -> Result<Schedule, SpecError>
     ensures ok { IfOk result (λ s. s ≡ record schedule { later = shifted_changes by schedule.later }) }
     ensures fine { OnOk result (changes_fault (shifted_changes by schedule.later) ≡ None) }
@@ -73,11 +92,12 @@ fn shifted_schedule(alloc: Global, schedule: Schedule, by: i64) -> Result<Schedu
     let later = shifted_changes(alloc, changes, by)?;
     match Schedule::new(first, later) {
         Ok(schedule) => Ok(schedule),
+        // The number, the shapes and the order of the changes are as before, so no other rule can be broken.
         Err(_) => Err(out_of_range(ConfigTable::Output, Key::Change)),
     }
 }
 
-/// The same changes, so many sampling instants later.
+/// Returns the changes, each `by` sampling instants later.
 fn shifted_changes(
     alloc: Global,
     changes: Vec<(i64, Matrix)>,
@@ -89,6 +109,7 @@ fn shifted_changes(
     let mut later = Vec::with_capacity(alloc, changes.len())?;
     let mut rest = changes.into_iter();
     while let Some((at, matrix)) = rest.next() {
+        // Only overflow is tested here. `Schedule::new` tests the range.
         let Some(at) = at.checked_add(by) else {
             return Err(out_of_range(ConfigTable::Output, Key::Change));
         };
