@@ -1,10 +1,8 @@
-//! Frames of one stream among the frames of all.
+//! The frames of one stream, laid into the frames of all.
 ghost use Rattle.std.specs.Prelude.{◌≡◌, ℕ, ◌+◌, ◌*◌, ◌<◌, ◌≤◌, ◌++◌, length, take, drop, All};
 ghost use Rattle.gain_mix.specs.Mix.{Is24Bits};
 
-/// Lays the frames of one stream into the frames of all, each from place `at` on.
-///
-/// A stream of one or two channels is laid sample by sample: for so few a copy of a slice takes longer.
+/// Copies the frames of one stream into the frames of all streams, from channel `at` of each frame on.
 pub(crate) fn lay_stream(
     frames: usize,
     channels: usize,
@@ -22,6 +20,7 @@ pub(crate) fn lay_stream(
         ≡ take at (drop (f * width) wide.old) ++ take channels (drop (f * channels) values.now) }
     ensures in_24_bits { All Is24Bits wide.new }
 {
+    // One or two channels are copied sample by sample: for so few, a copy of a slice takes longer.
     if channels == 1 {
         lay_samples(frames, values, width, at, wide);
     } else if channels == 2 {
@@ -31,7 +30,7 @@ pub(crate) fn lay_stream(
     }
 }
 
-/// Lays the samples of a stream of one channel.
+/// Copies the samples of a stream of one channel.
 fn lay_samples(frames: usize, values: &[i32], width: usize, at: usize, wide: &mut [i32])
     requires values { length values.now ≡ frames }
     requires wide { length wide.old ≡ frames * width }
@@ -47,7 +46,7 @@ fn lay_samples(frames: usize, values: &[i32], width: usize, at: usize, wide: &mu
     }
 }
 
-/// Lays the frames of a stream of two channels.
+/// Copies the frames of a stream of two channels.
 fn lay_pairs(frames: usize, values: &[i32], width: usize, at: usize, wide: &mut [i32])
     requires values { length values.now ≡ frames * 2 }
     requires wide { length wide.old ≡ frames * width }
@@ -65,7 +64,7 @@ fn lay_pairs(frames: usize, values: &[i32], width: usize, at: usize, wide: &mut 
     }
 }
 
-/// Lays the frames of a stream of several channels.
+/// Copies the frames of a stream of several channels.
 fn lay_frames(
     frames: usize,
     channels: usize,

@@ -1,10 +1,10 @@
-//! How much room a lane needs for marks that come before they are wanted.
+//! The room that a lane needs for marks that come before a block wants them.
 ghost use Rattle.std.specs.Prelude.{◌≡◌, ◌+◌, ◌^◌, ◌≤◌};
 ghost use Rattle.studio_mix.specs.Room as room;
 
 use rtp_stream::StreamSpec;
 
-/// How far the marks of a stream may lie behind the time: by its latency and a window of packets, in frames.
+/// Returns the frames by which the marks of a stream may lie behind the time: its latency and a window of packets.
 fn lag_of(stream: &StreamSpec) -> u32
     ensures value { result ≡ room.lag_of stream.now }
     ensures short { result ≤ 2 ^ 23 }
@@ -12,7 +12,7 @@ fn lag_of(stream: &StreamSpec) -> u32
     stream.latency() + u32::from(stream.window()) * u32::from(stream.frames())
 }
 
-/// The greatest of the streams' lags.
+/// Returns the greatest lag of the streams, in frames.
 pub(crate) fn greatest_lag(streams: &[StreamSpec]) -> u32
     ensures value { result ≡ room.greatest_lag streams.now }
     ensures short { result ≤ 2 ^ 23 }
@@ -24,7 +24,7 @@ pub(crate) fn greatest_lag(streams: &[StreamSpec]) -> u32
     greatest
 }
 
-/// The frames for which a stream's lane has room, beside a stream of this lag.
+/// Returns the frames for which a stream's lane needs room next to a stream of this lag.
 pub(crate) fn capacity_for(stream: &StreamSpec, block: u16, lag: u32) -> u32
     requires short { lag ≤ 2 ^ 23 }
     requires block { block ≤ 192 }
@@ -32,5 +32,7 @@ pub(crate) fn capacity_for(stream: &StreamSpec, block: u16, lag: u32) -> u32
     ensures enough { block + stream.now.frames ≤ result }
     ensures few { result ≤ 2 ^ 24 }
 {
+    // A stream's own latency keeps its marks behind the time as well. A lag of 0 leaves room for a block and a
+    // packet.
     lag.saturating_sub(stream.latency()) + u32::from(stream.frames()) + u32::from(block)
 }

@@ -1,4 +1,4 @@
-//! The lanes of a studio's streams: when a block of all of them is final, and its values side by side.
+//! The lanes of a studio's streams: the test that a block of all of them is final, and its values side by side.
 ghost use Rattle.std.specs.Prelude.{◌≡◌, ◌+◌, ◌*◌, ◌^◌, ◌≤◌, ◌≤ℤ◌, pos, true, length, map, All, IfOk};
 ghost use Rattle.std.specs.List.{list_all, list_any};
 ghost use Rattle.rtp_wire.specs.PacketTime.{is_packet_time};
@@ -16,7 +16,7 @@ use lane_align::{Cover, Lane};
 use rtp_stream::StreamSpec;
 use std::alloc::{AllocError, Global};
 
-/// A lane for each stream, that was fed nothing, with room beside a stream of this lag, in frames.
+/// Returns a lane for each stream, without marks, and with room next to a stream of this lag, in frames.
 pub(crate) fn new_lanes(
     alloc: Global,
     streams: &[StreamSpec],
@@ -38,20 +38,21 @@ pub(crate) fn new_lanes(
     for stream in streams {
         let room = capacity_for(stream, block, lag);
         let lane = Lane::with_room(alloc, *stream, start, block, room)?;
+        // Only the clauses of this call are wanted: they bound the channels of every lane.
         let _format = lane.format();
         lanes.push(lane)?;
     }
     Ok(lanes)
 }
 
-/// Whether every lane is final before a time.
+/// Returns true if the values of every lane before `end` are final.
 pub(crate) fn are_covered(lanes: &[Lane], end: i64) -> bool
     ensures { result ≡ list_all (λ (lane : LaneState). covers (cover_at lane) end) lanes.now }
 {
     lanes.iter().all(|lane| lane.cover().covers(end))
 }
 
-/// Whether one of the lanes hasn't ended, or ends past a time.
+/// Returns true if one of the lanes hasn't ended, or ends past `time`.
 pub(crate) fn reach_past(lanes: &[Lane], time: i64, end: i64) -> bool
     requires covered { list_all (λ (lane : LaneState). covers (cover_at lane) end) lanes.now ≡ true }
     requires later { time ≤ℤ end }
@@ -72,8 +73,6 @@ pub(crate) fn reach_past(lanes: &[Lane], time: i64, end: i64) -> bool
 }
 
 /// Reads a block of every lane, and lays the streams' values side by side, frame by frame.
-///
-/// The block of one stream alone is read where it has to stand; else each goes through `one`.
 pub(crate) fn read_lanes(
     lanes: &mut [Lane],
     one: &mut [i32],
@@ -90,6 +89,7 @@ pub(crate) fn read_lanes(
     requires in_24_bits { All Is24Bits ins.old }
     ensures { AreRead lanes.old lanes.new ins.new frames width }
 {
+    // The values of one stream alone are already laid out as the frames of all, so they need no copy through `one`.
     if lanes.len() == 1 {
         lanes[0].read_block(ins);
     } else {

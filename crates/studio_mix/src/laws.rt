@@ -1,4 +1,4 @@
-//! A law of blocks.
+//! A law of blocks. Nothing is computed here: the clauses are the law.
 ghost use Rattle.std.specs.Prelude.{◌≡◌, ℕ, ◌+◌, ◌<◌, List, true};
 ghost use Rattle.mix_packets.specs.Block.{block_start};
 ghost use Rattle.mix_packets.specs.declared.out_spec.Output.{Output};
@@ -7,11 +7,12 @@ ghost use Rattle.studio_mix.specs.Feed.{AreLonger, Feed};
 ghost use Rattle.studio_mix.specs.Output.{datagram_of};
 ghost use Rattle.studio_mix.specs.Ready.{are_covered, is_ready};
 
-/// Once every stream is final to a block's end, longer lists of marks change neither whether it is
-/// ready nor its datagram. A ready block is one whose streams are final to its end.
+/// States that longer lists of marks change neither whether a block is ready nor its datagram, once every stream is
+/// final to the block's end. The streams of a ready block always are.
 pub fn ready_blocks_stay()
     ensures ready { (out : Output) (feeds longer : List Feed) (number : ℕ) → 0 < out.frames → AreLonger feeds longer
-        → are_covered feeds (block_start out (number + 1)) ≡ true → is_ready out longer number ≡ is_ready out feeds number }
+        → are_covered feeds (block_start out (number + 1)) ≡ true
+        → is_ready out longer number ≡ is_ready out feeds number }
     ensures datagram { (studio : Studio) (feeds longer : List Feed) (number : ℕ) → AreLonger feeds longer
         → are_covered feeds (block_start studio.output (number + 1)) ≡ true
         → datagram_of studio longer number ≡ datagram_of studio feeds number }

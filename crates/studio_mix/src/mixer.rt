@@ -1,5 +1,34 @@
-//! The lanes of a studio's streams, mixed block by block.
-ghost use Rattle.std.specs.Prelude.{◌≡◌, ℕ, ℤ, pos, ◌+◌, ◌*◌, ◌^◌, ◌<◌, ◌≤◌, ◌≤ℤ◌, true, not, List, ◌∷◌, [], ◌++◌, length, map, drop, replicate, slice_get, slice_set, All, Some, None, is_some, IfOk, IfSome};
+//! The mixer of a studio's streams, which works block by block.
+ghost use Rattle.std.specs.Prelude.{
+  ◌≡◌,
+  ℕ,
+  ℤ,
+  pos,
+  ◌+◌,
+  ◌*◌,
+  ◌^◌,
+  ◌<◌,
+  ◌≤◌,
+  ◌≤ℤ◌,
+  true,
+  not,
+  List,
+  ◌∷◌,
+  [],
+  ◌++◌,
+  length,
+  map,
+  drop,
+  replicate,
+  slice_get,
+  slice_set,
+  All,
+  Some,
+  None,
+  is_some,
+  IfOk,
+  IfSome,
+};
 ghost use Rattle.rtp_stream.specs.StreamSpecFacts.{format_of};
 ghost use Rattle.rtp_stream.specs.MarkList.{is_mark_list};
 ghost use Rattle.lane_align.specs.Cover.{covers, cover_of};
@@ -23,24 +52,24 @@ use std::alloc::{AllocError, Global};
 use std::marker::Model;
 use studio_config::StudioSpec;
 
-/// The lanes of a studio's streams, and its output, block by block.
+/// A mixer of a studio's streams: a lane for each stream, the gains and the output, block by block.
 ///
-/// Inputs: `feed`, with a mark that it `accepts`, while it `wants` one of that stream, or `feed_ref` and
-/// `accepts_ref` with one that is lent; `keep_ref` where it `has_room`, though it wants none. Outputs: `next_block`.
-/// Readers: `streams`, `output`, `saturated`. No call but `new` and `with_room` takes memory.
+/// While the mixer `wants` a mark of a stream, `feed` takes one that it `accepts`. `feed_ref` and `accepts_ref` do so
+/// with a borrowed mark. `keep_ref` takes a mark before it is wanted, if the mixer `has_room` for it. `next_block`
+/// writes the next datagram. Only `new` and `with_room` allocate.
 #[derive(Drop)]
 pub struct Mixer {
     lanes: Vec<Lane>,
     schedule: Schedule,
     output: OutSpec,
     packer: Packer,
-    /// The media time of the next block.
+    /// The media time of the next block, in sampling instants.
     time: i64,
     /// Room for one stream's block, for those of all streams side by side, and for the output's.
     one: Vec<i32>,
     ins: Vec<i32>,
     outs: Vec<i32>,
-    /// How many samples were saturated so far, channel by channel.
+    /// The saturated samples so far, channel by channel.
     saturated: Vec<u64>,
 }
 
@@ -49,7 +78,8 @@ impl Model for Mixer {
 
     ghost Value = { MixerState };
 
-    ghost view = { λ m. record { lanes = m.lanes.items; schedule = m.schedule; packer = m.packer; saturated = m.saturated.items } };
+    ghost view = { λ m.
+        record { lanes = m.lanes.items; schedule = m.schedule; packer = m.packer; saturated = m.saturated.items } };
 
     ghost invariant = { λ m. IsMixer (view m) m.output m.time m.one.items m.ins.items m.outs.items };
 }
@@ -57,16 +87,17 @@ impl Model for Mixer {
 impl Mixer {
     ghost use Rattle.studio_mix.specs.Mixer.{MixerState, HasFeeds, has_room_of, is_wanted_by, is_next_of};
 
-    /// A mixer of a studio's streams: nothing was fed yet.
+    /// Returns a mixer of a studio's streams, without marks.
     pub fn new(alloc: Global, spec: &StudioSpec) -> Result<Mixer, AllocError>
         ensures { IfOk result (λ mixer. HasFeeds spec.now mixer (unfed spec.now.streams) 0) }
     {
         Mixer::with_lag(alloc, spec, 0)
     }
 
-    /// As `new`, with room for what the streams' merges give up to one time, though only some of it is wanted.
+    /// Returns a mixer as `new` does, with room for all marks that the streams' merges produce up to one time, though
+    /// a block wants only some of them.
     ///
-    /// A lane's room, in frames: a block, a packet, and by how much the stream that lags most, by its latency
+    /// Each lane has room for a block, a packet, and the frames by which the stream that lags most, by its latency
     /// and a window of packets, may lie behind this one.
     pub fn with_room(alloc: Global, spec: &StudioSpec) -> Result<Mixer, AllocError>
         ensures stands { IfOk result (λ mixer. HasFeeds spec.now mixer (unfed spec.now.streams) 0) }
@@ -75,17 +106,19 @@ impl Mixer {
         Mixer::with_lag(alloc, spec, greatest_lag(spec.streams()))
     }
 
-    /// A mixer with room in each lane beside a stream of this lag, in frames.
+    /// Returns a mixer with room in each lane next to a stream of this lag, in frames.
     fn with_lag(alloc: Global, spec: &StudioSpec, lag: u32) -> Result<Mixer, AllocError>
         requires short { lag ≤ 2 ^ 23 }
         ensures stands { IfOk result (λ mixer. HasFeeds spec.now mixer (unfed spec.now.streams) 0) }
-        ensures rooms { IfOk result (λ mixer. rooms_of mixer.lanes ≡ map (capacity_for lag spec.now.output.frames) spec.now.streams) }
+        ensures rooms { IfOk result (λ mixer. rooms_of mixer.lanes
+            ≡ map (capacity_for lag spec.now.output.frames) spec.now.streams) }
     {
         let output = *spec.output();
         let start = output.start();
         let frames = usize::from(output.frames());
         let lanes = new_lanes(alloc, spec.streams(), start, output.frames(), lag)?;
         let schedule = spec.schedule().duplicate(alloc)?;
+        // A stream has at most 64 channels.
         let one = zeroed(alloc, frames * 64)?;
         let ins = zeroed(alloc, frames * schedule.ins())?;
         let outs = zeroed(alloc, frames * usize::from(output.channels()))?;
@@ -103,7 +136,7 @@ impl Mixer {
         })
     }
 
-    /// How many streams there are.
+    /// Returns the number of streams.
     pub fn streams(&self) -> usize
         ensures value { result ≡ length self.now.lanes }
         ensures stands { (studio : Studio) (feeds : List Feed) (number : ℕ)
@@ -113,7 +146,7 @@ impl Mixer {
         self.lanes.len()
     }
 
-    /// What is fixed of the output.
+    /// Returns the output.
     pub fn output(&self) -> &OutSpec
         ensures value { result.now ≡ self.now.packer.spec }
         ensures stands { (studio : Studio) (feeds : List Feed) (number : ℕ)
@@ -122,8 +155,8 @@ impl Mixer {
         &self.output
     }
 
-    /// How many samples of each output channel were saturated in the datagrams so far: sums that, once rounded, lay past
-    /// what the output can hold.
+    /// Returns the number of saturated samples of each output channel in the datagrams so far: sums that, once
+    /// rounded, did not fit the output's encoding.
     pub fn saturated(&self) -> &[u64]
         ensures value { result.now ≡ self.now.saturated }
         ensures stands { (studio : Studio) (feeds : List Feed) (number : ℕ)
@@ -132,7 +165,7 @@ impl Mixer {
         self.saturated.as_slice()
     }
 
-    /// The media time at which the next block ends.
+    /// Returns the media time at which the next block ends, in sampling instants.
     pub fn block_end(&self) -> i64
         ensures { (studio : Studio) (feeds : List Feed) (number : ℕ)
             → HasFeeds studio self.now feeds number → result ≡ block_start studio.output (number + 1) }
@@ -140,20 +173,21 @@ impl Mixer {
         self.time + i64::from(self.output.frames())
     }
 
-    /// Whether the next block needs more marks of a stream.
+    /// Returns true if the next block needs more marks of a stream.
     pub fn wants(&self, stream: usize) -> bool
         requires { stream < length self.now.lanes }
         ensures value { result ≡ is_wanted_by self.now stream }
         ensures stands { (studio : Studio) (feeds : List Feed) (number : ℕ) (feed : Feed)
             → HasFeeds studio self.now feeds number → slice_get feeds stream ≡ Some feed
-            → result ≡ not (covers (cover_of (format_of feed.stream) feed.marks) (block_start studio.output (number + 1))) }
+            → result ≡ not (covers (cover_of (format_of feed.stream) feed.marks)
+            (block_start studio.output (number + 1))) }
     {
         let lane = &self.lanes[stream];
         let end = self.time + i64::from(self.output.frames());
         lane.wants(end)
     }
 
-    /// Whether a mark may follow those of its stream.
+    /// Returns true if a mark may follow those of its stream.
     pub fn accepts(&self, stream: usize, mark: &Mark) -> bool
         requires { stream < length self.now.lanes }
         ensures value { result ≡ is_next_of self.now stream mark.now }
@@ -164,7 +198,7 @@ impl Mixer {
         self.accepts_ref(stream, &mark.lent())
     }
 
-    /// As `accepts`, of a mark that is lent.
+    /// Returns true if a borrowed mark may follow those of its stream.
     pub fn accepts_ref(&self, stream: usize, mark: &MarkRef<'_>) -> bool
         requires { stream < length self.now.lanes }
         ensures value { result ≡ is_next_of self.now stream mark.now }
@@ -182,7 +216,8 @@ impl Mixer {
         requires wanted { is_wanted_by self.old stream ≡ true }
         ensures stands { (studio : Studio) (feeds : List Feed) (number : ℕ) (feed : Feed)
             → HasFeeds studio self.old feeds number → slice_get feeds stream ≡ Some feed
-            → HasFeeds studio self.new (slice_set feeds stream (record { stream = feed.stream; marks = feed.marks ++ mark ∷ [] })) number }
+            → HasFeeds studio self.new (slice_set feeds stream
+            (record { stream = feed.stream; marks = feed.marks ++ mark ∷ [] })) number }
         ensures packer { self.new.packer ≡ self.old.packer }
         ensures streams { length self.new.lanes ≡ length self.old.lanes }
         ensures rooms { rooms_of self.new.lanes ≡ rooms_of self.old.lanes }
@@ -190,13 +225,14 @@ impl Mixer {
         self.feed_ref(stream, &mark.lent());
     }
 
-    /// As `feed`, of a mark that is lent.
+    /// Takes the next mark of a stream, which is borrowed.
     pub fn feed_ref(&mut self, stream: usize, mark: &MarkRef<'_>)
         requires accepted { is_next_of self.old stream mark.now ≡ true }
         requires wanted { is_wanted_by self.old stream ≡ true }
         ensures stands { (studio : Studio) (feeds : List Feed) (number : ℕ) (feed : Feed)
             → HasFeeds studio self.old feeds number → slice_get feeds stream ≡ Some feed
-            → HasFeeds studio self.new (slice_set feeds stream (record { stream = feed.stream; marks = feed.marks ++ mark.now ∷ [] })) number }
+            → HasFeeds studio self.new (slice_set feeds stream
+            (record { stream = feed.stream; marks = feed.marks ++ mark.now ∷ [] })) number }
         ensures packer { self.new.packer ≡ self.old.packer }
         ensures streams { length self.new.lanes ≡ length self.old.lanes }
         ensures rooms { rooms_of self.new.lanes ≡ rooms_of self.old.lanes }
@@ -205,7 +241,7 @@ impl Mixer {
         lane.feed_ref(mark);
     }
 
-    /// Whether a stream's lane has room for a mark, though none may be wanted.
+    /// Returns true if a stream's lane has room for a mark, though none may be wanted.
     pub fn has_room(&self, stream: usize, mark: &MarkRef<'_>) -> bool
         requires { stream < length self.now.lanes }
         ensures value { result ≡ has_room_of self.now stream mark.now }
@@ -214,13 +250,14 @@ impl Mixer {
         lane.has_room(mark)
     }
 
-    /// As `feed_ref`, of a mark for which there is room, whether or not one is wanted.
+    /// Takes the next mark of a stream, which is borrowed and for which there is room, whether or not one is wanted.
     pub fn keep_ref(&mut self, stream: usize, mark: &MarkRef<'_>)
         requires accepted { is_next_of self.old stream mark.now ≡ true }
         requires room { has_room_of self.old stream mark.now ≡ true }
         ensures stands { (studio : Studio) (feeds : List Feed) (number : ℕ) (feed : Feed)
             → HasFeeds studio self.old feeds number → slice_get feeds stream ≡ Some feed
-            → HasFeeds studio self.new (slice_set feeds stream (record { stream = feed.stream; marks = feed.marks ++ mark.now ∷ [] })) number }
+            → HasFeeds studio self.new (slice_set feeds stream
+            (record { stream = feed.stream; marks = feed.marks ++ mark.now ∷ [] })) number }
         ensures packer { self.new.packer ≡ self.old.packer }
         ensures streams { length self.new.lanes ≡ length self.old.lanes }
         ensures rooms { rooms_of self.new.lanes ≡ rooms_of self.old.lanes }
@@ -229,7 +266,7 @@ impl Mixer {
         lane.keep_ref(mark);
     }
 
-    /// Whether the next block is final.
+    /// Returns true if the next block is final and within the streams.
     fn is_ready(&self) -> bool
         ensures stands { (studio : Studio) (feeds : List Feed) (number : ℕ)
             → HasFeeds studio self.now feeds number → result ≡ is_ready studio.output feeds number }
@@ -237,10 +274,12 @@ impl Mixer {
         ensures early { result ≡ true → block_start self.now.packer.spec self.now.packer.number ≤ℤ pos (2 ^ 61 + 192) }
     {
         let end = self.time + i64::from(self.output.frames());
+        // Once every stream has ended, all blocks are final. The second test ends them with the longest stream.
         are_covered(self.lanes.as_slice(), end) && reach_past(self.lanes.as_slice(), self.time, end)
     }
 
-    /// Writes the next datagram to the front of `out` where its block is final, and answers its length.
+    /// Writes the next datagram to the front of `out` and returns its length in octets, or returns `None` and changes
+    /// nothing if its block isn't ready.
     pub fn next_block(&mut self, out: &mut [u8]) -> Option<usize>
         requires room { datagram_length self.old.packer.spec ≤ length out.old }
         ensures ready { (studio : Studio) (feeds : List Feed) (number : ℕ)
@@ -253,7 +292,8 @@ impl Mixer {
             × HasFeeds studio self.new feeds (number + 1)) }
         ensures len { IfSome result (λ len. len ≡ datagram_length self.old.packer.spec) }
         ensures number { IfSome result (λ _. self.new.packer.number ≡ self.old.packer.number + 1) }
-        ensures early { IfSome result (λ _. block_start self.old.packer.spec self.old.packer.number ≤ℤ pos (2 ^ 61 + 192)) }
+        ensures early { IfSome result
+            (λ _. block_start self.old.packer.spec self.old.packer.number ≤ℤ pos (2 ^ 61 + 192)) }
         ensures spec { self.new.packer.spec ≡ self.old.packer.spec }
         ensures streams { length self.new.lanes ≡ length self.old.lanes }
         ensures rooms { rooms_of self.new.lanes ≡ rooms_of self.old.lanes }
@@ -285,7 +325,7 @@ impl Mixer {
     }
 }
 
-/// So many samples of silence.
+/// Returns silence of `samples` samples.
 fn zeroed(alloc: Global, samples: usize) -> Result<Vec<i32>, AllocError>
     ensures { IfOk result (λ values. values.items ≡ replicate samples (pos 0)) }
 {
