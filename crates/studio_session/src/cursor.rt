@@ -1,5 +1,25 @@
 //! One stream of a run: its merge, and how far it has come in the events.
-ghost use Rattle.std.specs.Prelude.{◌≡◌, ℕ, ◌+◌, ◌<◌, ◌≤◌, ◌^◌, ◌++◌, List, ℤ, pos, ◌≤ℤ◌, length, slice_get, take, true, false, None, Some, IfOk};
+ghost use Rattle.std.specs.Prelude.{
+  ◌≡◌,
+  ℕ,
+  ◌+◌,
+  ◌<◌,
+  ◌≤◌,
+  ◌^◌,
+  ◌++◌,
+  List,
+  ℤ,
+  pos,
+  ◌≤ℤ◌,
+  length,
+  slice_get,
+  take,
+  true,
+  false,
+  None,
+  Some,
+  IfOk,
+};
 ghost use Rattle.rtp_stream.specs.declared.stream_spec.Stream.{Stream};
 ghost use Rattle.rtp_stream.specs.declared.event.Event.{Event};
 ghost use Rattle.rtp_stream.specs.Counts.{tally_of};
@@ -12,7 +32,17 @@ ghost use Rattle.rtp_stream.specs.Reception.{reception_from, FitsReception};
 ghost use Rattle.studio_session.specs.Session.{Datagram, Other, step_of, event_in};
 ghost use Rattle.rtp_stream.specs.PathCounts.{path_tally_of, tallies_of};
 ghost use Rattle.studio_session.specs.Counts.{HasCounted};
-ghost use Rattle.studio_session.specs.Cursor.{HasPulled, HaveFew, IsReadyFor, IsSameCursor, IsRunnable, IsOnTheWay, next_of, way_left, events_left};
+ghost use Rattle.studio_session.specs.Cursor.{
+  HasPulled,
+  HaveFew,
+  IsReadyFor,
+  IsSameCursor,
+  IsRunnable,
+  IsOnTheWay,
+  next_of,
+  way_left,
+  events_left,
+};
 ghost use Rattle.studio_session.specs.Cursor as goal;
 ghost use Rattle.studio_session.specs.PushedEvents.{IsHanded};
 ghost use Rattle.studio_session.specs.ArriveOutcome.{receipt_in, receipt_of};
@@ -25,20 +55,21 @@ use rtp_stream::{PathCounts, ReceptionRef, receive_ref};
 use std::alloc::{AllocError, Global};
 use std::marker::Model;
 
-/// A stream of a run.
+/// A stream of a run: its merge, its counts, and how many of the run's events it took.
 ///
-/// `take_event` goes on in the events; where they come one by one, and not from a source, `push_datagram`,
-/// `skip`, `push_reading` and `push_close` take the next. What an event gives is lent mark by mark: by
-/// `mark` until `pass` answers that no more may follow.
+/// `take_event` takes the stream's next event from a source. If events come one by one instead, `push_datagram`,
+/// `skip`, `push_reading` and `push_close` take the next. After each event `mark` returns a reference to a mark and
+/// `pass` lets it go, until `pass` returns false.
 #[derive(Drop)]
 pub struct Cursor {
     spec: StreamSpec,
     number: u8,
     merge: Merge<SlotWindow>,
-    /// What became of each path's datagrams.
+    /// The counts of each path's datagrams.
     paths: [PathCounts; 4],
+    // The place counts the events of all streams, which each stream goes through at its own pace.
     place: usize,
-    /// The reading that the merge is on its way to.
+    /// The clock reading that the merge is on its way to.
     reading: Option<i64>,
 }
 
@@ -60,7 +91,8 @@ impl Model for Cursor {
 }
 
 impl Cursor {
-    /// Before the first event.
+    /// Returns a cursor before the first event. `number` is the stream's place in the studio, and `open_at` its
+    /// opening time in sampling instants.
     pub fn new(
         alloc: Global,
         spec: StreamSpec,
@@ -69,7 +101,8 @@ impl Cursor {
     ) -> Result<Cursor, AllocError>
         requires not_low { pos 0 ≤ℤ open_at }
         requires not_high { open_at ≤ℤ pos (2 ^ 60) }
-        ensures stands { IfOk result (λ cursor. (events : List TraceEvent) → HasPulled spec number open_at events cursor 0) }
+        ensures stands { IfOk result (λ cursor. (events : List TraceEvent)
+            → HasPulled spec number open_at events cursor 0) }
         ensures first { IfOk result (λ cursor. cursor.place ≡ 0) }
         ensures settled { IfOk result (λ cursor. cursor.reading ≡ None) }
     {
@@ -84,49 +117,52 @@ impl Cursor {
         })
     }
 
-    /// The stream.
+    /// Returns the stream.
     pub fn spec(&self) -> StreamSpec
         ensures { result ≡ self.now.spec }
     {
         self.spec
     }
 
-    /// Its number among the streams of the run.
+    /// Returns the stream's number among those of the run, from 0.
     pub fn number(&self) -> u8
         ensures { result ≡ self.now.number }
     {
         self.number
     }
 
-    /// The counts of its merge so far.
+    /// Returns the counts of the stream's merge so far.
     pub fn counts(&self) -> Counts
         ensures { tally_of result ≡ self.now.merge.counts }
     {
         self.merge.counts()
     }
 
-    /// When its next slot is due: never before the first packet, nor after a close.
+    /// Returns the deadline of the next slot, in sampling instants, or `None` before the first packet and after a
+    /// close.
     pub fn next_deadline(&self) -> Option<i64>
         ensures { result ≡ next_deadline_of self.now.merge }
     {
         self.merge.next_deadline()
     }
 
-    /// What became of a path's datagrams so far.
+    /// Returns the counts of a path's datagrams so far.
     pub fn path_counts(&self, path: Path) -> PathCounts
         ensures { slice_get self.now.tallies path ≡ Some (path_tally_of result) }
     {
         self.paths[usize::from(path.number())]
     }
 
-    /// The next mark of the events that were taken, if one is left of them.
+    /// Returns a reference to the next mark of the events that were taken, or `None` if none is left of them.
     pub fn mark(&self) -> Option<MarkRef<'_>>
         ensures { result ≡ next_of self.now }
     {
+        // The mark is let go by `pass`, since a call that returns a reference from `&mut self` can't say in a plain
+        // clause what `self` is afterwards.
         self.merge.mark_to(goal_of(self.reading))
     }
 
-    /// Lets that mark go. Answers whether more may follow.
+    /// Lets the mark go that `mark` returned, and returns true if more may follow.
     pub fn pass(&mut self) -> bool
         ensures stands { (stream : Stream) (number : ℕ) (open_at : ℤ) (events : List TraceEvent) (k : ℕ)
             → IsRunnable stream number open_at events
@@ -145,18 +181,20 @@ impl Cursor {
         more
     }
 
-    /// Takes the next event of the stream, and passes over those of others before it; false where no
-    /// event is left.
+    /// Takes the next event of the stream after those of others before it, which it passes over. Returns false if no
+    /// event was left.
     ///
-    /// `room` is where the source may lay out a datagram. What stands in it says nothing.
+    /// `room` is where the source may lay out a datagram; its contents don't matter.
     pub fn take_event<E: EventSource>(&mut self, source: &E, room: &mut DatagramRoom) -> bool
         requires settled { self.old.reading ≡ None }
         requires ready { IsReadyFor (E.events source.now) self.old }
         ensures ready { IsReadyFor (E.events source.now) self.new }
         ensures stands { (stream : Stream) (number : ℕ) (open_at : ℤ) (k : ℕ)
             → IsRunnable stream number open_at (E.events source.now)
-            → HasPulled stream number open_at (E.events source.now) self.old k → HasPulled stream number open_at (E.events source.now) self.new k }
-        ensures taken { result ≡ true → events_left (E.events source.now) self.new < events_left (E.events source.now) self.old }
+            → HasPulled stream number open_at (E.events source.now) self.old k
+            → HasPulled stream number open_at (E.events source.now) self.new k }
+        ensures taken { result ≡ true
+            → events_left (E.events source.now) self.new < events_left (E.events source.now) self.old }
         ensures all { result ≡ false → (self.new ≡ self.old) × (length (E.events source.now) ≤ self.old.place) }
     {
         if self.place >= source.count() {
@@ -174,8 +212,10 @@ impl Cursor {
         ensures reading { self.new.reading ≡ self.old.reading }
         ensures onward { self.old.place ≤ self.new.place }
         ensures stands { (stream : Stream) (number : ℕ) (open_at : ℤ) (k : ℕ)
-            → HasPulled stream number open_at (E.events source.now) self.old k → HasPulled stream number open_at (E.events source.now) self.new k }
+            → HasPulled stream number open_at (E.events source.now) self.old k
+            → HasPulled stream number open_at (E.events source.now) self.new k }
     {
+        // The label names the loop in its proof.
         'others: while self.place < source.count() {
             if !is_of_another(source.outline(self.place), self.number) {
                 return;
@@ -191,7 +231,8 @@ impl Cursor {
         ensures spec { self.new.spec ≡ self.old.spec }
         ensures number { self.new.number ≡ self.old.number }
         ensures reading { self.new.reading ≡ self.old.reading }
-        ensures stands { (stream : Stream) (number : ℕ) (open_at : ℤ) (events : List TraceEvent) (event : TraceEvent) (k : ℕ)
+        ensures stands { (stream : Stream) (number : ℕ) (open_at : ℤ) (events : List TraceEvent)
+            (event : TraceEvent) (k : ℕ)
             → slice_get events self.old.place ≡ Some event → step_of stream number event ≡ Other
             → HasPulled stream number open_at events self.old k → HasPulled stream number open_at events self.new k }
     {
@@ -205,7 +246,8 @@ impl Cursor {
         ensures ready { IsReadyFor (E.events source.now) self.new }
         ensures stands { (stream : Stream) (number : ℕ) (open_at : ℤ) (k : ℕ)
             → IsRunnable stream number open_at (E.events source.now)
-            → HasPulled stream number open_at (E.events source.now) self.old k → HasPulled stream number open_at (E.events source.now) self.new k }
+            → HasPulled stream number open_at (E.events source.now) self.old k
+            → HasPulled stream number open_at (E.events source.now) self.new k }
         ensures taken { self.old.place < length (E.events source.now) → self.new.place ≡ self.old.place + 1 }
         ensures none { length (E.events source.now) ≤ self.old.place → self.new ≡ self.old }
     {
@@ -215,6 +257,7 @@ impl Cursor {
         match source.outline(self.place) {
             EventHeader::Arrive { stream, path } => {
                 if stream == self.number {
+                    // The outcome is counted as well, and a run over a source needs no more.
                     let _ = self.take_datagram(path, source.octets(self.place, room));
                 } else {
                     self.pass_over();
@@ -225,7 +268,7 @@ impl Cursor {
         }
     }
 
-    /// Takes a datagram of the stream, and answers what became of it.
+    /// Takes a datagram of the stream, and returns its outcome.
     fn take_datagram(&mut self, path: Path, octets: &[u8]) -> ArriveOutcome
         requires settled { self.old.reading ≡ None }
         requires place { self.old.place < usize.MAX }
@@ -248,7 +291,7 @@ impl Cursor {
         receipt
     }
 
-    /// Takes a datagram of the stream that comes after all events so far, and answers what became of it.
+    /// Takes a datagram of the stream that comes after all events so far, and returns its outcome.
     pub fn push_datagram(&mut self, path: Path, octets: &[u8]) -> ArriveOutcome
         requires settled { self.old.reading ≡ None }
         requires place { self.old.place < usize.MAX }
@@ -274,7 +317,7 @@ impl Cursor {
         self.pass_over();
     }
 
-    /// Sets out for a reading of the clock that comes after all events so far.
+    /// Takes a clock reading, in sampling instants, that comes after all events so far.
     pub fn push_reading(&mut self, now: i64)
         requires settled { self.old.reading ≡ None }
         requires place { self.old.place < usize.MAX }
@@ -295,7 +338,7 @@ impl Cursor {
         self.close();
     }
 
-    /// Sets out for a reading of the clock.
+    /// Takes a clock reading, which the merge moves on to as its marks are passed.
     fn set_out(&mut self, now: i64)
         requires settled { self.old.reading ≡ None }
         requires place { self.old.place < usize.MAX }
@@ -330,7 +373,8 @@ impl Cursor {
 /// Counts a datagram on its path.
 fn count_on(paths: &mut [PathCounts; 4], path: Path, reception: ReceptionRef<'_>)
     requires { (place : ℕ) × (place < usize.MAX) × HaveFew place (tallies_of paths.old) }
-    ensures counted { HasCounted (Datagram path (reception_from reception.entry)) (tallies_of paths.old) (tallies_of paths.new) }
+    ensures counted { HasCounted (Datagram path (reception_from reception.entry)) (tallies_of paths.old)
+        (tallies_of paths.new) }
     ensures four { length (tallies_of paths.new) ≡ 4 }
 {
     let place = usize::from(path.number());
@@ -339,7 +383,7 @@ fn count_on(paths: &mut [PathCounts; 4], path: Path, reception: ReceptionRef<'_>
     paths[place] = counts;
 }
 
-/// Offers the packet of a datagram to the merge, if it is one.
+/// Offers the packet of a datagram to the merge, if it is one of the stream, and returns the datagram's outcome.
 fn offer_received(
     merge: &mut Merge<SlotWindow>,
     path: Path,
@@ -363,18 +407,19 @@ fn offer_received(
     }
 }
 
-/// The reading to set out for, unless the clock refuses it.
+/// Returns the clock reading to move on to, or `None` if the merge refuses it.
 fn reading_of(merge: &Merge<SlotWindow>, now: i64) -> Option<i64>
     ensures can { CanReach merge.now (goal.goal_of result) }
     ensures some { clock_fault_of merge.now.time merge.now.closed now ≡ None → result ≡ Some now }
 {
+    // A merge may be asked only for marks up to a reading that it can reach, so a refused one is dropped.
     match merge.goal(now) {
         Ok(_) => Some(now),
         Err(_) => None,
     }
 }
 
-/// Where marks are taken to: the reading that was taken last, or the end.
+/// Returns the goal of the marks: the clock reading that the merge is on its way to, or the end.
 fn goal_of(reading: Option<i64>) -> Goal
     ensures { result ≡ goal.goal_of reading }
 {
@@ -384,9 +429,10 @@ fn goal_of(reading: Option<i64>) -> Goal
     }
 }
 
-/// Whether an event is another stream's datagram.
+/// Returns true if an event is another stream's datagram.
 fn is_of_another(event: EventHeader, number: u8) -> bool
-    ensures { result ≡ true → (stream : Stream) (said : TraceEvent) → event ≡ outline_of said → step_of stream number said ≡ Other }
+    ensures { result ≡ true → (stream : Stream) (said : TraceEvent) → event ≡ outline_of said
+        → step_of stream number said ≡ Other }
 {
     match event {
         EventHeader::Arrive { stream, .. } => stream != number,

@@ -1,4 +1,4 @@
-//! A whole session: the datagrams of a list of events.
+//! All datagrams of a session, in memory.
 ghost use Rattle.std.specs.Prelude.{◌<◌, ◌≤◌, length, map, All, IfOk, OnOk};
 ghost use Rattle.mix_packets.specs.OutSpec.{datagram_length};
 ghost use Rattle.studio_config.specs.Studio.{Studio};
@@ -10,10 +10,10 @@ use crate::session::Session;
 use crate::source::EventSource;
 use std::alloc::{AllocError, Global};
 
-/// The most octets of a datagram of the output: a header of 12 and a payload of 1,440.
+/// The most octets of a datagram of the output: an RTP header of 12 (RFC 3550, 5.1) and a payload of 1,440.
 pub const MOST_OUTPUT_OCTETS: usize = 1452;
 
-/// The datagrams of all blocks that are ready, in order.
+/// Returns the datagrams of all blocks that are ready, in order.
 pub fn all_datagrams<E: EventSource>(
     alloc: Global,
     session: &mut Session,
@@ -32,6 +32,7 @@ pub fn all_datagrams<E: EventSource>(
 {
     let mut out = [0u8; MOST_OUTPUT_OCTETS];
     let mut datagrams = Vec::new(alloc);
+    // The label names the loop in its proof.
     'rounds: loop {
         match session.next_datagram(source, &mut out) {
             Some(len) => {

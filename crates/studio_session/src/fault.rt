@@ -1,11 +1,17 @@
-//! Why a list of events can't be run.
+//! The faults of a list of events.
 ghost use Rattle.std.specs.Prelude.{◌≡◌, ℕ, [], false, Some, None, slice_get};
 ghost use Rattle.rtp_stream.specs.declared.stream_spec.Stream.{Stream};
 ghost use Rattle.rtp_stream.specs.StreamSpecFacts.{IsStream};
 ghost use Rattle.rtp_stream.specs.History.{is_tick_in_order};
 ghost use Rattle.mix_packets.specs.OutSpec.{IsOutput};
 ghost use Rattle.studio_session.specs.Fault as spec;
-ghost use Rattle.studio_session.specs.Fault.{closed_past, outline_fault, session_fault_from, session_fault_of, time_past};
+ghost use Rattle.studio_session.specs.Fault.{
+  closed_past,
+  outline_fault,
+  session_fault_from,
+  session_fault_of,
+  time_past,
+};
 ghost use Rattle.studio_session.specs.Play.{HasPathsBy, IsRunnableBy};
 
 use crate::event::EventHeader;
@@ -16,25 +22,25 @@ use std::alloc::AllocError;
 use studio_config::StudioSpec;
 use thiserror::Error;
 
-/// Why a list of events gives no report: its first event at fault, by its place from 0, or want of memory.
-/// Its text is the line that the program writes.
+/// The fault of a list of events: its first event at fault, by its place from 0, or an allocation failure. Its text
+/// is the line that the program writes.
 #[derive(Debug, Drop, Error)]
 pub enum StudioFault {
-    /// A reading of the clock goes back, or past 2^60, or comes after a close.
+    /// A clock reading goes back, is past 2^60 sampling instants, or comes after a close.
     #[error("event {0}: clock")]
     Clock(usize),
-    /// A datagram came in for a stream that is none.
+    /// A datagram is for a stream that the studio lacks.
     #[error("event {0}: stream")]
     Stream(usize),
     /// A datagram came in on a path that its stream lacks.
     #[error("event {0}: path")]
     Path(usize),
-    /// A growth was refused.
+    /// An allocation failed.
     #[error("out of memory")]
     Memory(AllocError),
 }
 
-/// The first event at fault. It takes no memory, and never answers want of it.
+/// Returns the first event at fault, or `None`. It allocates nothing, and never returns `Memory`.
 pub fn first_fault<E: EventSource>(spec: &StudioSpec, source: &E) -> Option<StudioFault>
     ensures fault { result ≡ session_fault_of spec.now (E.events source.now) }
     ensures runnable { result ≡ None → IsRunnableBy spec.now (E.events source.now) }
@@ -45,7 +51,7 @@ pub fn first_fault<E: EventSource>(spec: &StudioSpec, source: &E) -> Option<Stud
     fault_from(spec.streams(), spec.open_at(), source)
 }
 
-/// What holds of every studio before its first event. Nothing is computed here.
+/// States what holds of every studio before its first event. Nothing is computed here.
 pub fn is_runnable(spec: &StudioSpec)
     ensures { IsRunnableBy spec.now [] }
 {
@@ -53,23 +59,25 @@ pub fn is_runnable(spec: &StudioSpec)
     is_output(spec.output());
 }
 
-/// What holds of every output, for the contracts above.
+/// States what holds of every output, for the contracts above.
 pub(crate) fn is_output(output: &OutSpec)
     ensures { IsOutput output.now }
 {
+    // Only the clauses of this call are wanted: they hold the output's rules.
     let _ = output.frames();
 }
 
-/// What holds of every stream, for the contracts above.
+/// States what holds of every stream, for the contracts above.
 fn are_streams(streams: &[StreamSpec])
     ensures { (i : ℕ) (stream : Stream) → slice_get streams.now i ≡ Some stream → IsStream stream }
 {
     for stream in streams {
+        // Only the clauses of this call are wanted: they hold the stream's rules.
         let _ = stream.paths();
     }
 }
 
-/// The first event at fault after an opening.
+/// Returns the first event at fault after an opening at `open_at`.
 fn fault_from<E: EventSource>(
     streams: &[StreamSpec],
     open_at: i64,
@@ -90,7 +98,7 @@ fn fault_from<E: EventSource>(
     None
 }
 
-/// What is wrong with an event.
+/// Returns the fault of an event, if it has one.
 fn event_fault(
     streams: &[StreamSpec],
     place: usize,
@@ -116,7 +124,7 @@ fn event_fault(
     }
 }
 
-/// What is wrong with a path of a stream.
+/// Returns the fault of a path, if its stream lacks it.
 fn path_fault(place: usize, stream: &StreamSpec, path: Path) -> Option<StudioFault>
     ensures { result ≡ spec.path_fault place (Some stream.now) path }
 {
@@ -127,13 +135,14 @@ fn path_fault(place: usize, stream: &StreamSpec, path: Path) -> Option<StudioFau
     }
 }
 
-/// Whether a reading is in order.
+/// Returns true if a clock reading is in order.
 fn in_order(time: i64, closed: bool, now: i64) -> bool
     ensures { result ≡ is_tick_in_order time closed now }
 {
     path_merge::clock_fault(time, closed, now).is_none()
 }
 
+/// Returns the time after an event: a tick's clock reading, else the time before.
 fn time_after(time: i64, event: &EventHeader) -> i64
     ensures { result ≡ time_past time event.now }
 {
@@ -143,6 +152,7 @@ fn time_after(time: i64, event: &EventHeader) -> i64
     }
 }
 
+/// Returns true if the streams are closed after an event.
 fn closed_after(closed: bool, event: &EventHeader) -> bool
     ensures { result ≡ closed_past closed event.now }
 {

@@ -1,4 +1,4 @@
-//! One stream's marks, handed to the mixer while it wants them.
+//! One stream's marks, fed to the mixer while it wants them.
 ghost use Rattle.std.specs.Prelude.{◌≡◌, ℕ, ◌<◌, List, length, true, false, None, IfSome};
 ghost use Rattle.studio_config.specs.Studio.{Studio};
 ghost use Rattle.studio_mix.specs.Feed.{Feed};
@@ -13,7 +13,7 @@ use crate::source::{DatagramRoom, EventSource};
 use path_merge::MarkRef;
 use studio_mix::Mixer;
 
-/// Hands a mark of a stream to the mixer, if there is one.
+/// Feeds a stream's mark to the mixer, if there is one and the mixer accepts it.
 fn hand_on(mixer: &mut Mixer, stream: usize, mark: Option<MarkRef<'_>>)
     requires stream { stream < length mixer.old.lanes }
     requires wanted { is_wanted_by mixer.old stream ≡ true }
@@ -31,15 +31,18 @@ fn hand_on(mixer: &mut Mixer, stream: usize, mark: Option<MarkRef<'_>>)
     }
 }
 
-/// Hands on the marks of the events that a cursor took; true where none is left, false where no more is wanted.
+/// Feeds the marks of the events that a cursor took to the mixer. Returns true if none is left, and false if the
+/// mixer wants no more.
 pub fn pull_marks(mixer: &mut Mixer, stream: usize, cursor: &mut Cursor) -> bool
     requires stream { stream < length mixer.old.lanes }
     ensures out { result ≡ true → (studio : Studio) (events : List TraceEvent) (feeds : List Feed) (next : ℕ)
         → IsRunnableBy studio events → stream < length feeds
-        → Plays studio events feeds next stream mixer.old cursor.old → PlaysOut studio events feeds next stream mixer.new cursor.new }
+        → Plays studio events feeds next stream mixer.old cursor.old
+        → PlaysOut studio events feeds next stream mixer.new cursor.new }
     ensures covered { result ≡ false → (studio : Studio) (events : List TraceEvent) (feeds : List Feed) (next : ℕ)
         → IsRunnableBy studio events → stream < length feeds
-        → Plays studio events feeds next stream mixer.old cursor.old → PlaysFinal studio events feeds next stream mixer.new cursor.new }
+        → Plays studio events feeds next stream mixer.old cursor.old
+        → PlaysFinal studio events feeds next stream mixer.new cursor.new }
     ensures settled { result ≡ true → cursor.new.reading ≡ None }
     ensures rests { cursor.old.reading ≡ None → cursor.new.reading ≡ None }
     ensures kept { IsSameCursor cursor.old cursor.new }
@@ -47,7 +50,9 @@ pub fn pull_marks(mixer: &mut Mixer, stream: usize, cursor: &mut Cursor) -> bool
     ensures streams { length mixer.new.lanes ≡ length mixer.old.lanes }
     ensures rooms { rooms_of mixer.new.lanes ≡ rooms_of mixer.old.lanes }
 {
+    // The label names the loop in its proof.
     'marks: loop {
+        // The mixer is asked before each mark, so that a lane never holds more than a block and a packet.
         if !mixer.wants(stream) {
             return false;
         }
@@ -58,7 +63,7 @@ pub fn pull_marks(mixer: &mut Mixer, stream: usize, cursor: &mut Cursor) -> bool
     }
 }
 
-/// Hands on a stream's marks until the mixer wants no more, or all were given.
+/// Feeds a stream's marks to the mixer until it wants no more, or all events were taken.
 pub(crate) fn pull<E: EventSource>(
     mixer: &mut Mixer,
     stream: usize,
@@ -76,6 +81,7 @@ pub(crate) fn pull<E: EventSource>(
     ensures packer { mixer.new.packer ≡ mixer.old.packer }
     ensures streams { length mixer.new.lanes ≡ length mixer.old.lanes }
 {
+    // The label names the loop in its proof.
     'events: loop {
         if !pull_marks(mixer, stream, cursor) {
             return;

@@ -1,4 +1,4 @@
-//! A law of readings of the clock. Nothing is computed here: the clauses are the law.
+//! A law of clock readings. Nothing is computed here: the clauses are the law.
 ghost use Rattle.std.specs.Prelude.{◌≡◌, ℤ, List, [], ◌∷◌, ◌++◌, None};
 ghost use Rattle.studio_config.specs.Studio.{Studio};
 ghost use Rattle.studio_session.specs.Event.{Reading, TraceEvent};
@@ -6,9 +6,9 @@ ghost use Rattle.studio_session.specs.Fault.{session_fault_of};
 ghost use Rattle.studio_session.specs.Play.{IsRunnableBy};
 ghost use Rattle.studio_session.specs.Pruned.{IsSameRun, pruned_events};
 
-/// Where events have no fault, a reading that another one follows directly may be left out, and so may all such
-/// readings: nothing is at fault then either, and the datagrams and the counts are the same. Marks of silence
-/// may be fewer.
+/// States that a clock reading which another one follows directly may be left out, and so may all such readings. If
+/// events have no fault, nothing is at fault without these readings either, and the datagrams and the counts stay as
+/// they are. Marks of silence may be fewer.
 pub fn readings_may_be_left_out()
     ensures one { (studio : Studio) (first rest : List TraceEvent) (a b : ℤ) → IsRunnableBy studio []
         → session_fault_of studio (first ++ Reading a ∷ Reading b ∷ rest) ≡ None

@@ -1,15 +1,15 @@
-//! What became of a datagram that a stream was handed.
+//! The outcome of a datagram that a stream received.
 use path_merge::Fate;
 
-/// What became of a datagram: the merge's answer to its packet, or why it is none of the stream's.
+/// The outcome of a datagram: the fate of its packet, or the reason why it holds none of the stream.
 #[derive(Clone, Copy, Debug, PartialEq, Eq)]
 pub enum ArriveOutcome {
     /// A packet of the stream, and its fate.
     Offered(Fate),
-    /// No RTP packet.
+    /// No RTP packet (RFC 3550, 5.1).
     Bad,
-    /// Of another payload type.
+    /// A packet of another payload type.
     WrongType,
-    /// Of another length.
+    /// A packet with a payload of another length.
     WrongLength,
 }

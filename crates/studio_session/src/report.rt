@@ -1,4 +1,4 @@
-//! What a run comes to.
+//! The report of a run.
 use rtp_stream::StreamCounts;
 
 /// The datagrams of all blocks that are ready, and the counts of each stream.

@@ -1,4 +1,4 @@
-//! A studio over a list of events.
+//! The run of a studio over a list of events in memory.
 ghost use Rattle.std.specs.Prelude.{◌≡◌, map, None, IfOk, IfErr, OnOk};
 ghost use Rattle.studio_session.specs.Event.{said_by};
 ghost use Rattle.studio_session.specs.Fault.{IsRunFault, session_fault_of};
@@ -15,15 +15,16 @@ use crate::source::EventList;
 use std::alloc::{AllocError, Global};
 use studio_config::StudioSpec;
 
-/// The datagrams of all blocks that are ready, and the counts of all streams after all their marks.
+/// Returns the datagrams of all blocks that are ready, and the counts of all streams after all their marks.
 ///
-/// A fault of an event is found before memory is taken.
+/// The error is the first event at fault, which is found before anything is allocated, or an allocation failure.
 pub fn run_studio(
     alloc: Global,
     spec: &StudioSpec,
     events: &[StudioEvent],
 ) -> Result<Report, StudioFault>
-    ensures datagrams { IfOk result (λ report. AreDatagrams spec.now (map said_by events.now) (map (λ d. d.items) report.datagrams.items)) }
+    ensures datagrams { IfOk result
+        (λ report. AreDatagrams spec.now (map said_by events.now) (map (λ d. d.items) report.datagrams.items)) }
     ensures counts { IfOk result (λ report. AreCounts spec.now (map said_by events.now) report.streams.items) }
     ensures lawful { OnOk result (session_fault_of spec.now (map said_by events.now) ≡ None) }
     ensures fault { IfErr result (IsRunFault spec.now (map said_by events.now)) }
@@ -34,13 +35,15 @@ pub fn run_studio(
     report_of(alloc, spec, events).map_err(StudioFault::Memory)
 }
 
-/// The report of events with no fault.
+/// Returns the report of events with no fault.
 fn report_of(alloc: Global, spec: &StudioSpec, events: &[StudioEvent]) -> Result<Report, AllocError>
     requires runnable { IsRunnableBy spec.now (map said_by events.now) }
     requires paths { HasPathsBy spec.now (map said_by events.now) }
-    ensures datagrams { IfOk result (λ report. AreDatagrams spec.now (map said_by events.now) (map (λ d. d.items) report.datagrams.items)) }
+    ensures datagrams { IfOk result
+        (λ report. AreDatagrams spec.now (map said_by events.now) (map (λ d. d.items) report.datagrams.items)) }
     ensures counts { IfOk result (λ report. AreCounts spec.now (map said_by events.now) report.streams.items) }
 {
+    // Only the clause of this call is wanted: by it a datagram of the output fits the buffer of `all_datagrams`.
     is_output(spec.output());
     let source = EventList { events };
     let mut session = Session::new(alloc, spec)?;

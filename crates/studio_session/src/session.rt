@@ -1,5 +1,23 @@
 //! A session of a studio: its streams' merges, and the mixer that takes their marks.
-ghost use Rattle.std.specs.Prelude.{◌≡◌, ℕ, ◌+◌, ◌^◌, ◌≤◌, ◌++◌, ℤ, pos, ◌≤ℤ◌, List, length, drop, All, None, is_some, IfOk, IfSome};
+ghost use Rattle.std.specs.Prelude.{
+  ◌≡◌,
+  ℕ,
+  ◌+◌,
+  ◌^◌,
+  ◌≤◌,
+  ◌++◌,
+  ℤ,
+  pos,
+  ◌≤ℤ◌,
+  List,
+  length,
+  drop,
+  All,
+  None,
+  is_some,
+  IfOk,
+  IfSome,
+};
 ghost use Rattle.mix_packets.specs.Block.{block_start};
 ghost use Rattle.mix_packets.specs.OutSpec.{datagram_length};
 ghost use Rattle.studio_config.specs.Studio.{Studio};
@@ -23,12 +41,13 @@ use studio_mix::Mixer;
 
 /// The merges of a studio's streams, each with its own place in the events, and the mixer.
 ///
-/// `next_datagram` pulls marks while the mixer wants them. No call but `new` takes memory.
+/// `next_datagram` pulls marks while the mixer wants them. Only `new` and `counts` allocate.
 #[derive(Drop)]
 pub struct Session {
     mixer: Mixer,
+    // Each has its own place in the events, so a long latency holds up no other stream, and no queue grows.
     cursors: Vec<Cursor>,
-    /// Where the source of the events lays out datagrams.
+    /// The room in which the source of the events lays out datagrams.
     room: DatagramRoom,
 }
 
@@ -49,7 +68,7 @@ impl Model for Session {
 }
 
 impl Session {
-    /// A session before its first event.
+    /// Returns a session before its first event.
     pub fn new(alloc: Global, spec: &StudioSpec) -> Result<Session, AllocError>
         ensures stands { IfOk result (λ session. (events : List TraceEvent) → HasPlayed spec.now events session 0) }
         ensures ready { IfOk result (λ session. (events : List TraceEvent) → HasPathsBy spec.now events
@@ -65,8 +84,8 @@ impl Session {
         })
     }
 
-    /// Writes the datagram of the next block to the front of `out`, and answers its length; none where
-    /// no block is ready any more.
+    /// Writes the datagram of the next block to the front of `out` and returns its length in octets, or `None` if no
+    /// block is ready any more.
     pub fn next_datagram<E: EventSource>(&mut self, source: &E, out: &mut [u8]) -> Option<usize>
         requires room { datagram_length self.old.mixer.packer.spec ≤ length out.old }
         requires ready { All (IsReadyFor (E.events source.now)) self.old.cursors }
@@ -84,7 +103,8 @@ impl Session {
             → HasPlayed studio (E.events source.now) self.new next }
         ensures len { IfSome result (λ len. len ≡ datagram_length self.old.mixer.packer.spec) }
         ensures number { IfSome result (λ len. self.new.mixer.packer.number ≡ self.old.mixer.packer.number + 1) }
-        ensures early { IfSome result (λ len. block_start self.old.mixer.packer.spec self.old.mixer.packer.number ≤ℤ pos (2 ^ 61 + 192)) }
+        ensures early { IfSome result
+            (λ len. block_start self.old.mixer.packer.spec self.old.mixer.packer.number ≤ℤ pos (2 ^ 61 + 192)) }
         ensures spec { self.new.mixer.packer.spec ≡ self.old.mixer.packer.spec }
     {
         fill(
@@ -96,18 +116,18 @@ impl Session {
         self.mixer.next_block(out)
     }
 
-    /// The merges of the streams, to be asked for the marks that are left: once no block is ready any
-    /// more.
+    /// Returns the cursors of the streams, for the marks that are left. Call it once no block is ready any more.
     pub fn into_cursors(self) -> Vec<Cursor>
         ensures pulled { (studio : Studio) (events : List TraceEvent) (next : ℕ) → HasPlayed studio events self next
             → ArePulled studio events result.items }
-        ensures ready { (events : List TraceEvent) → All (IsReadyFor events) self.cursors → All (IsReadyFor events) result.items }
+        ensures ready { (events : List TraceEvent) → All (IsReadyFor events) self.cursors
+            → All (IsReadyFor events) result.items }
     {
         self.cursors
     }
 
-    /// The counts of each stream, after all its marks: to be called once no block is ready any more,
-    /// since the marks that weren't fed are dropped.
+    /// Returns the counts of each stream after all its marks. Call it once no block is ready any more, since the
+    /// marks that weren't fed are dropped.
     pub fn counts<E: EventSource>(
         mut self,
         alloc: Global,
@@ -123,9 +143,10 @@ impl Session {
     }
 }
 
-/// A cursor for each stream of a studio, before the first event.
+/// Returns a cursor for each stream of a studio, before the first event.
 pub fn studio_cursors(alloc: Global, spec: &StudioSpec) -> Result<Vec<Cursor>, AllocError>
-    ensures new { IfOk result (λ cursors. AreNew spec.now.streams spec.now.open_at cursors.items (length spec.now.streams)) }
+    ensures new { IfOk result (λ cursors.
+        AreNew spec.now.streams spec.now.open_at cursors.items (length spec.now.streams)) }
     ensures ready { IfOk result (λ cursors. (events : List TraceEvent) → HasPathsBy spec.now events
         → All (IsReadyFor events) cursors.items) }
 {
@@ -133,7 +154,7 @@ pub fn studio_cursors(alloc: Global, spec: &StudioSpec) -> Result<Vec<Cursor>, A
     Ok(cursors)
 }
 
-/// A cursor for each stream, before the first event.
+/// Returns a cursor for each stream, before the first event.
 fn new_cursors(
     alloc: Global,
     streams: &[StreamSpec],
@@ -152,7 +173,7 @@ fn new_cursors(
     Ok(cursors)
 }
 
-/// Hands on each stream's marks until the mixer wants no more, or all were given.
+/// Feeds each stream's marks to the mixer until it wants no more, or all events were taken.
 fn fill<E: EventSource>(
     mixer: &mut Mixer,
     cursors: &mut [Cursor],
@@ -164,10 +185,12 @@ fn fill<E: EventSource>(
     ensures ready { All (IsReadyFor (E.events source.now)) cursors.new }
     ensures stands { (studio : Studio) (next : ℕ) → IsRunnableBy studio (E.events source.now)
         → HasPlayed studio (E.events source.now) (record { mixer = mixer.old; cursors = cursors.old }) next
-        → HasFilled studio (E.events source.now) (record { mixer = mixer.new; cursors = cursors.new }) next (length cursors.old) }
+        → HasFilled studio (E.events source.now) (record { mixer = mixer.new; cursors = cursors.new }) next
+        (length cursors.old) }
     ensures packer { mixer.new.packer ≡ mixer.old.packer }
     ensures streams { length mixer.new.lanes ≡ length mixer.old.lanes }
 {
+    // The loop goes by index, since a proof knows nothing of the elements after `iter_mut().enumerate()`.
     for stream in 0..cursors.len() {
         pull(mixer, stream, &mut cursors[stream], source, room);
     }

@@ -1,36 +1,38 @@
-//! Where the events of a run come from.
+//! The source of a run's events.
 ghost use Rattle.std.specs.Prelude.{◌≡◌, ◌<◌, ℕ, List, length, slice_get, Some, map};
 ghost use Rattle.studio_session.specs.Event.{TraceEvent, Arrival, outline_of, said_by};
 
 use crate::event::{EventHeader, StudioEvent};
 
+// A trace's line has at most 4,096 octets, two for each octet of a datagram.
 /// The most octets of a datagram that arrives.
 pub const MOST_ARRIVAL_OCTETS: usize = 2048;
 
 /// Room for the octets of a datagram.
 pub type DatagramRoom = [u8; MOST_ARRIVAL_OCTETS];
 
-/// The events of a run. No call takes memory.
+/// The events of a run, by their places from 0. No call allocates.
 pub trait EventSource {
-    /// What happened, the earliest first.
+    /// The events, the earliest first.
     ghost events: { Self → List TraceEvent };
 
-    /// How many events there are.
+    /// Returns the number of events.
     fn count(&self) -> usize
         ensures { result ≡ length (events self.now) };
 
-    /// An event without the octets of its datagram.
+    /// Returns an event without the octets of its datagram.
     fn outline(&self, place: usize) -> EventHeader
         requires { place < length (events self.now) }
         ensures { (event : TraceEvent) → slice_get (events self.now) place ≡ Some event → result ≡ outline_of event };
 
-    /// The octets of a datagram that arrived, where they lie in memory or laid out in the room.
+    /// Returns the octets of a datagram that arrived, from where they lie in memory or laid out in `room`.
     fn octets<'a>(&'a self, place: usize, room: &'a mut DatagramRoom) -> &'a [u8]
         requires { place < length (events self.now) }
-        ensures { (stream path : ℕ) (octets : List ℕ) → slice_get (events self.now) place ≡ Some (Arrival stream path octets) → result.now ≡ octets };
+        ensures { (stream path : ℕ) (octets : List ℕ)
+            → slice_get (events self.now) place ≡ Some (Arrival stream path octets) → result.now ≡ octets };
 }
 
-/// Events in memory.
+/// A list of events in memory.
 #[derive(Clone, Copy)]
 pub struct EventList<'a> {
     pub events: &'a [StudioEvent],
@@ -52,7 +54,7 @@ impl<'a> EventSource for EventList<'a> {
     }
 }
 
-/// An event without the octets of its datagram.
+/// Returns an event without the octets of its datagram.
 fn outline_at(event: &StudioEvent) -> EventHeader
     ensures { result ≡ outline_of (said_by event.now) }
 {
@@ -66,9 +68,10 @@ fn outline_at(event: &StudioEvent) -> EventHeader
     }
 }
 
-/// The octets of a datagram that arrived; none of another event.
+/// Returns the octets of a datagram that arrived, none for another event.
 fn octets_at(event: &StudioEvent) -> &[u8]
-    ensures { (stream path : ℕ) (octets : List ℕ) → said_by event.now ≡ Arrival stream path octets → result.now ≡ octets }
+    ensures { (stream path : ℕ) (octets : List ℕ) → said_by event.now ≡ Arrival stream path octets
+        → result.now ≡ octets }
 {
     match event {
         StudioEvent::Arrive { octets, .. } => octets.as_slice(),

@@ -16,9 +16,10 @@ use path_merge::Path;
 use rtp_stream::{PathCounts, StreamCounts};
 use std::alloc::{AllocError, Global};
 
-/// The counts of each path of a stream.
+/// Returns the counts of each path of a stream.
 fn all_path_counts(alloc: Global, cursor: &Cursor) -> Result<Vec<PathCounts>, AllocError>
-    ensures { IfOk result (λ counts. (stream : Stream) (number : ℕ) (events : List TraceEvent) → AreTallies stream number events cursor.now.tallies
+    ensures { IfOk result (λ counts. (stream : Stream) (number : ℕ) (events : List TraceEvent)
+        → AreTallies stream number events cursor.now.tallies
         → tallies_of counts.items ≡ path_tallies stream number events cursor.now.spec.paths) }
 {
     let mut counts = Vec::new(alloc);
@@ -31,7 +32,7 @@ fn all_path_counts(alloc: Global, cursor: &Cursor) -> Result<Vec<PathCounts>, Al
     Ok(counts)
 }
 
-/// The counts of a stream, after all its marks.
+/// Returns the counts of a stream after all its marks.
 fn stream_counts<E: EventSource>(
     alloc: Global,
     cursor: &mut Cursor,
@@ -39,8 +40,10 @@ fn stream_counts<E: EventSource>(
 ) -> Result<StreamCounts, AllocError>
     requires ready { IsReadyFor (E.events source.now) cursor.old }
     ensures ready { IsReadyFor (E.events source.now) cursor.new }
-    ensures counts { IfOk result (λ counts. (stream : Stream) (number : ℕ) (open_at : ℤ) → IsRunnable stream number open_at (E.events source.now)
-        → HasPulledSome stream number open_at (E.events source.now) cursor.old → AreCountsOf stream number open_at (E.events source.now) counts) }
+    ensures counts { IfOk result (λ counts. (stream : Stream) (number : ℕ) (open_at : ℤ)
+        → IsRunnable stream number open_at (E.events source.now)
+        → HasPulledSome stream number open_at (E.events source.now) cursor.old
+        → AreCountsOf stream number open_at (E.events source.now) counts) }
 {
     finish_stream(cursor, source);
     let paths = all_path_counts(alloc, cursor)?;
@@ -50,7 +53,7 @@ fn stream_counts<E: EventSource>(
     })
 }
 
-/// The counts of each stream, after all marks.
+/// Returns the counts of each stream after all marks.
 pub(crate) fn all_counts<E: EventSource>(
     alloc: Global,
     cursors: &mut [Cursor],
