@@ -1,5 +1,23 @@
-//! The reading before which no datagram comes.
-ghost use Rattle.std.specs.Prelude.{◌≡◌, ℕ, ◌%◌, ◌<◌, ◌^◌, ◌+◌, ◌-ℤ◌, ◌+ℤ◌, ◌<ℤ◌, ◌≤ℤ◌, pos, nat_eq, unsigned_abs, List, length, None, IfSome};
+//! The clock reading before which no datagram comes if nothing arrives.
+ghost use Rattle.std.specs.Prelude.{
+  ◌≡◌,
+  ℕ,
+  ◌%◌,
+  ◌<◌,
+  ◌^◌,
+  ◌+◌,
+  ◌-ℤ◌,
+  ◌+ℤ◌,
+  ◌<ℤ◌,
+  ◌≤ℤ◌,
+  pos,
+  nat_eq,
+  unsigned_abs,
+  List,
+  length,
+  None,
+  IfSome,
+};
 ghost use Rattle.path_merge.specs.Steps.{next_deadline_of};
 ghost use Rattle.studio_config.specs.Studio.{Studio};
 ghost use Rattle.studio_session.specs.Event.{TraceEvent};
@@ -9,8 +27,8 @@ use path_merge::clock_fault;
 use studio_mix::Mixer;
 use studio_session::Cursor;
 
-/// The reading, past this time, to which every stream that the next block needs has to come before the block is
-/// ready, if nothing arrives; none past the latest.
+/// Returns the clock reading, later than `time`, that every stream which the next block needs has to reach before the
+/// block is ready, if nothing arrives. `None` if that is past 2^60 sampling instants.
 pub(crate) fn reading_past(time: i64, mixer: &Mixer, cursors: &[Cursor]) -> Option<i64>
     requires streams { length cursors.now ≡ length mixer.now.lanes }
     requires not_late { time ≤ℤ pos (2 ^ 60) }
@@ -18,16 +36,18 @@ pub(crate) fn reading_past(time: i64, mixer: &Mixer, cursors: &[Cursor]) -> Opti
     ensures before { IfSome result (λ reading. (studio : Studio) (events : List TraceEvent) (next : ℕ)
         → IsAtRest studio events mixer.now cursors.now time next → IsUnreadyBefore studio events next reading) }
     ensures never { result ≡ None → (studio : Studio) (events : List TraceEvent) (next : ℕ)
-        → IsAtRest studio events mixer.now cursors.now time next → IsUnreadyBefore studio events next (pos (2 ^ 60 + 1)) }
+        → IsAtRest studio events mixer.now cursors.now time next
+        → IsUnreadyBefore studio events next (pos (2 ^ 60 + 1)) }
 {
     let reading = latest_reading(time, mixer, cursors);
+    // The reading is later than `time`, so the only possible fault is that it is too far.
     match clock_fault(time, false, reading) {
         None => Some(reading),
         Some(_) => None,
     }
 }
 
-/// The latest of these streams' readings, and at least the next one.
+/// Returns the latest of these streams' readings, and at least `time + 1`.
 fn latest_reading(time: i64, mixer: &Mixer, cursors: &[Cursor]) -> i64
     requires streams { length cursors.now ≡ length mixer.now.lanes }
     requires not_late { time ≤ℤ pos (2 ^ 60) }
@@ -38,6 +58,7 @@ fn latest_reading(time: i64, mixer: &Mixer, cursors: &[Cursor]) -> i64
     let end = mixer.block_end();
     let mut reading = time + 1;
     for stream in 0..cursors.len() {
+        // A stream that covers the block already doesn't hold it up.
         if mixer.wants(stream) {
             reading = reading_for(&cursors[stream], end).max(reading);
         }
@@ -45,14 +66,16 @@ fn latest_reading(time: i64, mixer: &Mixer, cursors: &[Cursor]) -> i64
     reading
 }
 
-/// The reading at which a stream's marks come to a block's end, if nothing arrives: the deadline of the slot that
-/// holds the block's last instant, or a latency past the end, where only silence can come.
+/// Returns the clock reading at which a stream's marks come to a block's end, if nothing arrives: the deadline of the
+/// slot that holds the block's last instant, or a latency past the end if only silence can come.
 fn reading_for(cursor: &Cursor, end: i64) -> i64
-    ensures { IsNotPast (next_deadline_of cursor.now.merge) (nat_eq (cursor.now.merge.counts.got + cursor.now.merge.counts.lost) 0)
+    ensures { IsNotPast (next_deadline_of cursor.now.merge)
+        (nat_eq (cursor.now.merge.counts.got + cursor.now.merge.counts.lost) 0)
         cursor.now.spec.frames (end +ℤ pos cursor.now.spec.latency) result }
 {
     let spec = cursor.spec();
     let due = end.saturating_add(i64::from(spec.latency()));
+    // No slot is to come, so only silence can.
     let Some(slot) = cursor.next_deadline() else {
         return due;
     };
@@ -60,6 +83,7 @@ fn reading_for(cursor: &Cursor, end: i64) -> i64
         return slot_before(slot, spec.frames(), due);
     }
     let counts = cursor.counts();
+    // Before the first slot silence may still come, and it reaches the end at `due`.
     if counts.got == 0 && counts.lost == 0 {
         due
     } else {
@@ -67,7 +91,8 @@ fn reading_for(cursor: &Cursor, end: i64) -> i64
     }
 }
 
-/// The last deadline before a time, of slots that come due at `slot` and every `frames` from there.
+/// Returns the last deadline before `due` of the slots that come due at `slot` and every `frames` sampling instants
+/// from there.
 fn slot_before(slot: i64, frames: u16, due: i64) -> i64
     requires some { 0 < frames }
     requires ahead { slot <ℤ due }

@@ -1,4 +1,4 @@
-//! An event, handed to every stream of an engine.
+//! An event, given to every stream of an engine.
 ghost use Rattle.std.specs.Prelude.{◌≡◌, ◌≢◌, ℕ, ◌<◌, ◌≤◌, ◌+◌, List, ℤ, length, slice_get, Some, None, IfSome};
 ghost use Rattle.rtp_stream.specs.declared.stream_spec.Stream.{Stream};
 ghost use Rattle.studio_session.specs.Event.{TraceEvent, Arrival, Reading, Closing};
@@ -10,7 +10,8 @@ ghost use Rattle.studio_engine.specs.Engine.{AreAtRest, HaveCome};
 use path_merge::Path;
 use studio_session::{ArriveOutcome, Cursor};
 
-/// Hands a datagram to a stream, where it is its own; else it is passed over. Answers what became of it.
+/// Gives a datagram to its own stream's cursor and returns the outcome, or lets another stream's cursor skip it and
+/// returns `None`.
 fn hand_one(
     cursor: &mut Cursor,
     number: usize,
@@ -36,8 +37,8 @@ fn hand_one(
     None
 }
 
-/// Hands a datagram to its stream, and passes over it with the others; answers what became of it, where there is
-/// the stream.
+/// Gives a datagram to its stream, lets the other streams skip it, and returns the outcome, or `None` if there is no
+/// such stream.
 pub(crate) fn push_datagram(
     cursors: &mut [Cursor],
     count: usize,
@@ -53,18 +54,22 @@ pub(crate) fn push_datagram(
     ensures come { HaveCome (count + 1) cursors.new }
     ensures rested { AreAtRest cursors.new }
     ensures none { result ≡ None → length cursors.old ≤ stream }
-    ensures receipt { IfSome result (λ receipt. (cursor : CursorState) (spec : Stream) (number : ℕ) (open_at : ℤ) (events : List TraceEvent) (k : ℕ)
-        → slice_get cursors.old stream ≡ Some cursor → count ≡ length events → HasPulled spec number open_at events cursor k
+    ensures receipt { IfSome result
+        (λ receipt. (cursor : CursorState) (spec : Stream) (number : ℕ) (open_at : ℤ) (events : List TraceEvent) (k : ℕ)
+        → slice_get cursors.old stream ≡ Some cursor → count ≡ length events
+        → HasPulled spec number open_at events cursor k
         → receipt ≡ receipt_of spec number open_at events path octets.now) }
 {
+    // The others skip it, and don't leave it out, since each cursor counts the events of all streams.
     let mut receipt = None;
+    // The loop goes by index, since a proof knows nothing of the elements after `iter_mut().enumerate()`.
     for number in 0..cursors.len() {
         receipt = receipt.or(hand_one(&mut cursors[number], number, stream, path, octets));
     }
     receipt
 }
 
-/// Sets out for a reading of the clock with every stream.
+/// Gives a clock reading to every stream.
 pub(crate) fn push_reading(cursors: &mut [Cursor], count: usize, now: i64)
     requires rested { AreAtRest cursors.old }
     requires come { HaveCome count cursors.old }
@@ -77,7 +82,7 @@ pub(crate) fn push_reading(cursors: &mut [Cursor], count: usize, now: i64)
     }
 }
 
-/// Hands a close to every stream.
+/// Gives a close to every stream.
 pub(crate) fn push_close(cursors: &mut [Cursor], count: usize)
     requires rested { AreAtRest cursors.old }
     requires come { HaveCome count cursors.old }

@@ -1,4 +1,4 @@
-//! The marks that no block needs yet, kept stream by stream, so that every merge comes to the reading.
+//! Marks that no block needs yet, kept stream by stream, so that every merge reaches the clock reading.
 ghost use Rattle.std.specs.Prelude.{◌≡◌, ℕ, ◌<◌, ◌≤◌, List, length, true, false, None, IfSome};
 ghost use Rattle.studio_config.specs.Studio.{Studio};
 ghost use Rattle.studio_mix.specs.Feed.{Feed};
@@ -15,7 +15,7 @@ use path_merge::MarkRef;
 use studio_mix::Mixer;
 use studio_session::Cursor;
 
-/// Keeps a mark of a stream, if there is one; false where its lane has no room.
+/// Keeps a mark of a stream, if there is one that the mixer accepts. Returns false if its lane has no room.
 fn keep_one(mixer: &mut Mixer, stream: usize, mark: Option<MarkRef<'_>>) -> bool
     requires stream { stream < length mixer.old.lanes }
     ensures stands { result ≡ true → IfSome mark.entry (TakesMark mixer.old mixer.new stream) }
@@ -39,15 +39,17 @@ fn keep_one(mixer: &mut Mixer, stream: usize, mark: Option<MarkRef<'_>>) -> bool
     true
 }
 
-/// Keeps the marks of the events that a cursor took; false where its lane has no room for one.
+/// Keeps the marks of the events that a cursor took. Returns false if its lane has no room for one.
 fn keep_marks(mixer: &mut Mixer, stream: usize, cursor: &mut Cursor) -> bool
     requires stream { stream < length mixer.old.lanes }
     ensures stands { (studio : Studio) (events : List TraceEvent) (feeds : List Feed) (next : ℕ)
         → IsRunnableBy studio events → stream < length feeds
-        → Plays studio events feeds next stream mixer.old cursor.old → Plays studio events feeds next stream mixer.new cursor.new }
+        → Plays studio events feeds next stream mixer.old cursor.old
+        → Plays studio events feeds next stream mixer.new cursor.new }
     ensures all { (studio : Studio) (events : List TraceEvent) (feeds : List Feed) (next : ℕ)
         → IsAwaited studio events next → HasRooms studio mixer.old → stream < length feeds
-        → Plays studio events feeds next stream mixer.old cursor.old → length events ≤ cursor.old.place → result ≡ true }
+        → Plays studio events feeds next stream mixer.old cursor.old
+        → length events ≤ cursor.old.place → result ≡ true }
     ensures settled { result ≡ true → cursor.new.reading ≡ None }
     ensures rests { cursor.old.reading ≡ None → cursor.new.reading ≡ None }
     ensures kept { IsSameCursor cursor.old cursor.new }
@@ -55,6 +57,7 @@ fn keep_marks(mixer: &mut Mixer, stream: usize, cursor: &mut Cursor) -> bool
     ensures streams { length mixer.new.lanes ≡ length mixer.old.lanes }
     ensures rooms { rooms_of mixer.new.lanes ≡ rooms_of mixer.old.lanes }
 {
+    // The label names the loop in its proof.
     'marks: loop {
         if !keep_one(mixer, stream, cursor.mark()) {
             return false;
@@ -65,7 +68,7 @@ fn keep_marks(mixer: &mut Mixer, stream: usize, cursor: &mut Cursor) -> bool
     }
 }
 
-/// Keeps each stream's marks of the events so far; false where a lane has no room for one.
+/// Keeps each stream's marks of the events so far. Returns false if a lane has no room for one.
 pub(crate) fn keep_early_marks(mixer: &mut Mixer, cursors: &mut [Cursor]) -> bool
     requires streams { length cursors.old ≡ length mixer.old.lanes }
     ensures stands { (studio : Studio) (events : List TraceEvent) (next : ℕ) → IsRunnableBy studio events
@@ -81,6 +84,7 @@ pub(crate) fn keep_early_marks(mixer: &mut Mixer, cursors: &mut [Cursor]) -> boo
     ensures rooms { rooms_of mixer.new.lanes ≡ rooms_of mixer.old.lanes }
 {
     let mut all = true;
+    // The loop goes by index, since a proof knows nothing of the elements after `iter_mut().enumerate()`.
     for stream in 0..cursors.len() {
         all &= keep_marks(mixer, stream, &mut cursors[stream]);
     }

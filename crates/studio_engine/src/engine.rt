@@ -1,5 +1,31 @@
-//! A studio's merges and its mixer, moved by calls.
-ghost use Rattle.std.specs.Prelude.{◌≡◌, ◌⊎◌, ℕ, ◌+◌, ◌^◌, ◌<◌, ◌≤◌, ◌∷◌, ◌++◌, [], List, pos, ◌≤ℤ◌, ◌<ℤ◌, length, slice_get, true, false, None, Some, IfOk, IfErr, IfSome, OnOk, OnErr};
+//! The merges and the mixer of a studio as one object.
+ghost use Rattle.std.specs.Prelude.{
+  ◌≡◌,
+  ◌⊎◌,
+  ℕ,
+  ◌+◌,
+  ◌^◌,
+  ◌<◌,
+  ◌≤◌,
+  ◌∷◌,
+  ◌++◌,
+  [],
+  List,
+  pos,
+  ◌≤ℤ◌,
+  ◌<ℤ◌,
+  length,
+  slice_get,
+  true,
+  false,
+  None,
+  Some,
+  IfOk,
+  IfErr,
+  IfSome,
+  OnOk,
+  OnErr,
+};
 ghost use Rattle.rtp_stream.specs.declared.stream_spec.Stream.{Stream};
 ghost use Rattle.mix_packets.specs.OutSpec.{datagram_length};
 ghost use Rattle.path_merge.specs.Clock.{clock_fault_of};
@@ -31,24 +57,25 @@ use studio_config::StudioSpec;
 use studio_mix::Mixer;
 use studio_session::{ArriveOutcome, Cursor, is_runnable, studio_cursors};
 
-/// No more arrivals are taken once so many events were.
+// At most 2^60 clock readings and a close follow these, so the number of events never wraps.
+/// The number of events after which no more arrivals are taken: 2^62.
 const MOST_EVENTS: usize = 4_611_686_018_427_387_904;
 
 /// A studio as one object.
 ///
-/// Inputs: `arrive`, `turn` and `close`. Outputs: `turn`, and `drain` after a close. Readers: `time`,
-/// `next_deadline`, `stream_deadline`, `counts`, `path_counts`, `saturated`, `settled`. No call but `new` takes memory.
+/// `arrive`, `turn` and `close` take input. `turn`, and `drain` after a close, return datagrams. `time`,
+/// `next_deadline`, `stream_deadline`, `counts`, `path_counts`, `saturated` and `settled` read. Only `new` allocates.
 #[derive(Drop)]
 pub struct Engine {
     mixer: Mixer,
     cursors: Vec<Cursor>,
-    /// The last reading that was taken.
+    /// The last clock reading that was taken, or the opening time.
     time: i64,
-    /// Whether some stream may still be on its way to it.
+    /// True if some stream may still be on its way to `time`.
     turning: bool,
     closed: bool,
     settled: bool,
-    /// How many events were taken.
+    /// The number of events that were taken.
     count: usize,
 }
 
@@ -69,13 +96,16 @@ impl Model for Engine {
 }
 
 impl Engine {
-    /// An engine before its first event. It takes all memory.
+    /// Returns an engine before its first event. It allocates all that the engine ever needs.
     pub fn new(alloc: Global, spec: &StudioSpec) -> Result<Engine, AllocError>
         ensures stands { IfOk result (λ engine. HasSession spec.now engine [] []) }
         ensures output { IfOk result (λ engine. engine.mixer.packer.spec ≡ spec.now.output) }
         ensures rested { IfOk result (λ engine. engine.turning ≡ false) }
     {
+        // Only the clause of this call is wanted.
         is_runnable(spec);
+        // With room for early marks, every merge can reach a clock reading though the next block waits for one of
+        // them.
         let mixer = Mixer::with_room(alloc, spec)?;
         let cursors = studio_cursors(alloc, spec)?;
         Ok(Engine {
@@ -89,7 +119,9 @@ impl Engine {
         })
     }
 
-    /// Takes a datagram of a stream that came on a path, and answers what became of it.
+    /// Takes a datagram of a stream that came in on a path, and returns its outcome.
+    ///
+    /// An error changes nothing: a turn isn't finished, there is no such stream or path, or 2^62 events were taken.
     pub fn arrive(
         &mut self,
         stream: usize,
@@ -99,7 +131,8 @@ impl Engine {
         ensures stands { OnOk result ((studio : Studio) (events : List TraceEvent) (datagrams : List (List ℕ))
             → HasSession studio self.old events datagrams
             → HasSession studio self.new (events ++ Arrival stream path octets.now ∷ []) datagrams) }
-        ensures receipt { IfOk result (λ receipt. (studio : Studio) (events : List TraceEvent) (datagrams : List (List ℕ)) (spec : Stream)
+        ensures receipt { IfOk result
+            (λ receipt. (studio : Studio) (events : List TraceEvent) (datagrams : List (List ℕ)) (spec : Stream)
             → HasSession studio self.old events datagrams → slice_get studio.streams stream ≡ Some spec
             → receipt ≡ receipt_of spec stream studio.open_at events path octets.now) }
         ensures fine { OnOk result (arrive_fault_of self.old stream path ≡ None) }
@@ -112,6 +145,7 @@ impl Engine {
             return Err(fault);
         }
         let cursors = self.cursors.as_mut_slice();
+        // `arrive_fault` has found that there is the stream.
         let Some(receipt) = push_datagram(cursors, self.count, stream, path, octets) else {
             unreachable!()
         };
@@ -119,7 +153,7 @@ impl Engine {
         Ok(receipt)
     }
 
-    /// Why a datagram for a stream and a path isn't taken, if it isn't.
+    /// Returns the reason why a datagram for a stream and a path isn't taken, or `None` if it is.
     fn arrive_fault(&self, stream: usize, path: Path) -> Option<ArriveFault>
         ensures { result ≡ arrive_fault_of self.now stream path }
     {
@@ -132,21 +166,28 @@ impl Engine {
         }
     }
 
-    /// Moves all merges on to a reading of the clock and writes the next datagram to the front of `out`; none
-    /// once all have come there and no block is ready. A turn that isn't finished is finished first.
+    /// Moves all merges on to a clock reading, in sampling instants, and writes the next datagram to the front of
+    /// `out`. Returns its length in octets, or `None` once all have reached the reading and no block is ready.
+    ///
+    /// Call it with the same reading until it returns `None`. A turn that isn't finished is finished first. An error
+    /// changes nothing: the reading goes back, is past 2^60 or comes after a close.
     pub fn turn(&mut self, now: i64, out: &mut [u8]) -> Result<Option<usize>, ClockFault>
         requires room { datagram_length self.old.mixer.packer.spec ≤ length out.old }
-        ensures some { IfOk result (λ given. IfSome given (λ len. (studio : Studio) (events : List TraceEvent) (datagrams : List (List ℕ))
+        ensures some { IfOk result (λ given.
+            IfSome given (λ len. (studio : Studio) (events : List TraceEvent) (datagrams : List (List ℕ))
             → HasSession studio self.old events datagrams
             → Gives studio self.new (turned self.old.time self.new.time events) datagrams out.old out.new len)) }
-        ensures none { IfOk result (λ given. given ≡ None → (studio : Studio) (events : List TraceEvent) (datagrams : List (List ℕ))
+        ensures none { IfOk result (λ given. given ≡ None
+            → (studio : Studio) (events : List TraceEvent) (datagrams : List (List ℕ))
             → HasSession studio self.old events datagrams
             → HasGivenReady studio self.new (turned self.old.time self.new.time events) datagrams) }
-        ensures there { IfOk result (λ given. given ≡ None → (studio : Studio) (events : List TraceEvent) (datagrams : List (List ℕ))
+        ensures there { IfOk result (λ given. given ≡ None
+            → (studio : Studio) (events : List TraceEvent) (datagrams : List (List ℕ))
             → HasSession studio self.old events datagrams → (self.new.turning ≡ false) × (self.new.time ≡ now)) }
         ensures time { OnOk result ((self.new.time ≡ self.old.time) ⊎ (self.new.time ≡ now)) }
         ensures len { IfOk result (λ given. IfSome given (λ len. len ≡ datagram_length self.old.mixer.packer.spec)) }
-        ensures fewer { IfOk result (λ given. IfSome given (λ _. blocks_left self.new.mixer.packer < blocks_left self.old.mixer.packer)) }
+        ensures fewer { IfOk result (λ given.
+            IfSome given (λ _. blocks_left self.new.mixer.packer < blocks_left self.old.mixer.packer)) }
         ensures left { IfOk result (λ given. given ≡ None → self.new.mixer.packer ≡ self.old.mixer.packer) }
         ensures fine { OnOk result (clock_fault_of self.old.time self.old.closed now ≡ None) }
         ensures fault { IfErr result (λ fault. clock_fault_of self.old.time self.old.closed now ≡ Some fault) }
@@ -160,7 +201,7 @@ impl Engine {
         if let Some(len) = self.continue_turn(out) {
             return Ok(Some(len));
         }
-        // No engine that has a session comes here.
+        // No engine that has a session comes here: its turn is finished once no block is ready.
         if self.turning {
             return Ok(None);
         }
@@ -171,14 +212,15 @@ impl Engine {
         Ok(self.continue_turn(out))
     }
 
-    /// Sets out for a later reading.
+    /// Takes a later clock reading, and gives it to every stream.
     fn set_out(&mut self, now: i64)
         requires rested { self.old.turning ≡ false }
         requires open_yet { self.old.closed ≡ false }
         requires later { self.old.time <ℤ now }
         requires not_far { now ≤ℤ pos (2 ^ 60) }
         ensures stands { (studio : Studio) (events : List TraceEvent) (datagrams : List (List ℕ))
-            → HasSession studio self.old events datagrams → HasSession studio self.new (events ++ Reading now ∷ []) datagrams }
+            → HasSession studio self.old events datagrams
+            → HasSession studio self.new (events ++ Reading now ∷ []) datagrams }
         ensures time { self.new.time ≡ now }
         ensures closed { self.new.closed ≡ false }
         ensures packer { self.new.mixer.packer ≡ self.old.mixer.packer }
@@ -189,12 +231,13 @@ impl Engine {
         self.count += 1;
     }
 
-    /// Goes on to the reading, and gives the next datagram.
+    /// Moves the merges on to the last clock reading, and writes the next datagram.
     fn continue_turn(&mut self, out: &mut [u8]) -> Option<usize>
         requires room { datagram_length self.old.mixer.packer.spec ≤ length out.old }
         requires open_yet { self.old.closed ≡ false }
         ensures some { IfSome result (λ len. (studio : Studio) (events : List TraceEvent) (datagrams : List (List ℕ))
-            → HasSession studio self.old events datagrams → Gives studio self.new events datagrams out.old out.new len) }
+            → HasSession studio self.old events datagrams
+            → Gives studio self.new events datagrams out.old out.new len) }
         ensures none { result ≡ None → (studio : Studio) (events : List TraceEvent) (datagrams : List (List ℕ))
             → HasSession studio self.old events datagrams → HasGivenReady studio self.new events datagrams }
         ensures finished { result ≡ None → (studio : Studio) (events : List TraceEvent) (datagrams : List (List ℕ))
@@ -208,6 +251,8 @@ impl Engine {
         ensures output { self.new.mixer.packer.spec ≡ self.old.mixer.packer.spec }
     {
         let given = next_datagram(&mut self.mixer, self.cursors.as_mut_slice(), out);
+        // Early marks come second: only while no block is ready are the marks near enough for all to find room
+        // (`marks_are_near`).
         if given.is_none() {
             let there = keep_early_marks(&mut self.mixer, self.cursors.as_mut_slice());
             self.turning = !there;
@@ -215,10 +260,12 @@ impl Engine {
         given
     }
 
-    /// Takes no more readings, and no more packets.
+    /// Closes the streams: no later packet and no later clock reading is taken. The error changes nothing: a turn
+    /// isn't finished.
     pub fn close(&mut self) -> Result<(), Unfinished>
         ensures stands { OnOk result ((studio : Studio) (events : List TraceEvent) (datagrams : List (List ℕ))
-            → HasSession studio self.old events datagrams → HasSession studio self.new (shut self.old.closed events) datagrams) }
+            → HasSession studio self.old events datagrams
+            → HasSession studio self.new (shut self.old.closed events) datagrams) }
         ensures closed { OnOk result (self.new.closed ≡ true) }
         ensures fine { OnOk result (self.old.turning ≡ false) }
         ensures unfinished { OnErr result (self.old.turning ≡ true) }
@@ -236,11 +283,13 @@ impl Engine {
         Ok(())
     }
 
-    /// Writes the next datagram that is left after a close to the front of `out`; none where none is left.
+    /// Writes the next datagram that is left after a close to the front of `out`, and returns its length in octets,
+    /// or `None` if none is left or the engine isn't closed.
     pub fn drain(&mut self, out: &mut [u8]) -> Option<usize>
         requires room { datagram_length self.old.mixer.packer.spec ≤ length out.old }
         ensures some { IfSome result (λ len. (studio : Studio) (events : List TraceEvent) (datagrams : List (List ℕ))
-            → HasSession studio self.old events datagrams → Gives studio self.new events datagrams out.old out.new len) }
+            → HasSession studio self.old events datagrams
+            → Gives studio self.new events datagrams out.old out.new len) }
         ensures none { result ≡ None → (studio : Studio) (events : List TraceEvent) (datagrams : List (List ℕ))
             → HasSession studio self.old events datagrams → HasSession studio self.new events datagrams }
         ensures settled { result ≡ None → self.new.settled ≡ self.old.closed }
@@ -259,17 +308,19 @@ impl Engine {
         given
     }
 
-    /// The reading before which no datagram comes if nothing arrives; none while a turn isn't finished, after a
-    /// close, and where no reading gives one.
+    /// Returns the clock reading before which no datagram comes if nothing arrives. `None` while a turn isn't
+    /// finished, after a close, and if no reading up to 2^60 sampling instants gives one.
     pub fn next_deadline(&self) -> Option<i64>
         ensures later { IfSome result (λ reading. self.now.time <ℤ reading) }
         ensures rested { IfSome result (λ _. self.now.turning ≡ false) }
         ensures open_yet { IfSome result (λ _. self.now.closed ≡ false) }
-        ensures before { IfSome result (λ reading. (studio : Studio) (events : List TraceEvent) (datagrams : List (List ℕ))
+        ensures before { IfSome result
+            (λ reading. (studio : Studio) (events : List TraceEvent) (datagrams : List (List ℕ))
             → HasSession studio self.now events datagrams → IsUnreadyBefore studio events (length datagrams) reading) }
         ensures never { result ≡ None → self.now.turning ≡ false → self.now.closed ≡ false
             → (studio : Studio) (events : List TraceEvent) (datagrams : List (List ℕ))
-            → HasSession studio self.now events datagrams → IsUnreadyBefore studio events (length datagrams) (pos (2 ^ 60 + 1)) }
+            → HasSession studio self.now events datagrams
+            → IsUnreadyBefore studio events (length datagrams) (pos (2 ^ 60 + 1)) }
     {
         if self.turning {
             return None;
@@ -280,14 +331,14 @@ impl Engine {
         reading_past(self.time, &self.mixer, self.cursors.as_slice())
     }
 
-    /// What is fixed of the output.
+    /// Returns the output.
     pub fn output(&self) -> &OutSpec
         ensures { result.now ≡ self.now.mixer.packer.spec }
     {
         self.mixer.output()
     }
 
-    /// The last reading of the clock that was taken, or the opening time.
+    /// Returns the last clock reading that was taken, or the opening time, in sampling instants.
     pub fn time(&self) -> i64
         ensures value { result ≡ self.now.time }
         ensures not_late { result ≤ℤ pos (2 ^ 60) }
@@ -295,7 +346,7 @@ impl Engine {
         self.time
     }
 
-    /// Whether it was closed, and all was given.
+    /// Returns true if the engine was closed and all datagrams were returned.
     pub fn settled(&self) -> bool
         ensures value { result ≡ self.now.settled }
         ensures whole { result ≡ true → HasAllMarks self.now }
@@ -303,24 +354,25 @@ impl Engine {
         self.settled
     }
 
-    /// How many streams there are.
+    /// Returns the number of streams.
     pub fn streams(&self) -> usize
         ensures { result ≡ length self.now.cursors }
     {
         self.cursors.len()
     }
 
-    /// How many samples of each output channel were saturated in the datagrams so far.
+    /// Returns the number of saturated samples of each output channel in the datagrams so far.
     pub fn saturated(&self) -> &[u64]
         ensures value { result.now ≡ self.now.mixer.saturated }
         ensures stands { (studio : Studio) (events : List TraceEvent) (datagrams : List (List ℕ))
-            → HasSession studio self.now events datagrams → AreSaturated studio (feeds_of studio events) (length datagrams) result.now }
+            → HasSession studio self.now events datagrams
+            → AreSaturated studio (feeds_of studio events) (length datagrams) result.now }
     {
         self.mixer.saturated()
     }
 
-    /// When the next slot of a stream is due: never before its first packet, nor after a close; none, too, where there is
-    /// no such stream.
+    /// Returns the deadline of a stream's next slot, in sampling instants, or `None` before its first packet, after a
+    /// close, and if there is no such stream.
     pub fn stream_deadline(&self, stream: usize) -> Option<i64>
         ensures { result ≡ stream_deadline_of (slice_get self.now.cursors stream) }
     {
@@ -330,10 +382,12 @@ impl Engine {
         }
     }
 
-    /// The counts of a stream's merge, of the marks so far; none where there is no such stream.
+    /// Returns the counts of a stream's merge, of the marks so far, or `None` if there is no such stream.
     pub fn counts(&self, stream: usize) -> Option<Counts>
-        ensures whole { IfSome result (λ counts. (studio : Studio) (events : List TraceEvent) (datagrams : List (List ℕ)) (spec : Stream)
-            → HasSession studio self.now events datagrams → slice_get studio.streams stream ≡ Some spec → HasAllMarks self.now
+        ensures whole { IfSome result
+            (λ counts. (studio : Studio) (events : List TraceEvent) (datagrams : List (List ℕ)) (spec : Stream)
+            → HasSession studio self.now events datagrams → slice_get studio.streams stream ≡ Some spec
+            → HasAllMarks self.now
             → tally_of counts ≡ merge_tally_of spec stream studio.open_at events) }
         ensures none { result ≡ None → length self.now.cursors ≤ stream }
     {
@@ -341,9 +395,10 @@ impl Engine {
         Some(cursor.counts())
     }
 
-    /// What became of the datagrams of a stream's path; none where there is no such stream.
+    /// Returns the counts of the datagrams of a stream's path, or `None` if there is no such stream.
     pub fn path_counts(&self, stream: usize, path: Path) -> Option<PathCounts>
-        ensures value { IfSome result (λ counts. (studio : Studio) (events : List TraceEvent) (datagrams : List (List ℕ)) (spec : Stream)
+        ensures value { IfSome result
+            (λ counts. (studio : Studio) (events : List TraceEvent) (datagrams : List (List ℕ)) (spec : Stream)
             → HasSession studio self.now events datagrams → slice_get studio.streams stream ≡ Some spec
             → path_tally_of counts ≡ received.path_counts_of spec stream path events) }
         ensures none { result ≡ None → length self.now.cursors ≤ stream }
@@ -353,7 +408,8 @@ impl Engine {
     }
 }
 
-/// Why a datagram for a path isn't taken, if it isn't: the stream has so many, and so many events were taken.
+/// Returns the reason why a datagram for a path isn't taken, or `None` if it is. The stream has `paths` paths, and
+/// `count` events were taken.
 fn path_fault(paths: u8, path: Path, count: usize) -> Option<ArriveFault>
     ensures { result ≡ path_fault_of count path paths }
 {

@@ -1,10 +1,10 @@
-//! Why an engine doesn't take what it is handed.
+//! The errors of an engine's calls.
 use thiserror::Error;
 
-/// Why a datagram wasn't taken: the first of these. Nothing has changed.
+/// The reason why a datagram wasn't taken: the first of these. Nothing has changed.
 #[derive(Clone, Copy, Debug, PartialEq, Eq, Error)]
 pub enum ArriveFault {
-    /// The last turn hasn't answered none yet.
+    /// The last turn hasn't returned `None` yet.
     #[error("the turn isn't finished")]
     Unfinished,
     /// There is no such stream.
@@ -18,7 +18,7 @@ pub enum ArriveFault {
     Full,
 }
 
-/// The last turn hasn't answered none yet. Nothing has changed.
+/// The error of a call that has to wait until the last turn has returned `None`. Nothing has changed.
 #[derive(Clone, Copy, Debug, PartialEq, Eq, Error)]
 #[error("the turn isn't finished")]
 pub struct Unfinished;

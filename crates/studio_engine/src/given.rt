@@ -1,4 +1,4 @@
-//! Laws of what an engine gave. Nothing is computed here: the clauses are the laws.
+//! Laws of the datagrams of an engine. Nothing is computed here: the clauses are the laws.
 ghost use Rattle.std.specs.Prelude.{◌≡◌, ℕ, List, true};
 ghost use Rattle.studio_config.specs.Studio.{Studio};
 ghost use Rattle.studio_mix.specs.Blocks.{AreFirstBlocks};
@@ -8,9 +8,9 @@ ghost use Rattle.studio_session.specs.Run.{AreDatagrams};
 ghost use Rattle.studio_engine.specs.Engine.{EngineState};
 ghost use Rattle.studio_engine.specs.Session.{HasGivenReady, HasSession};
 
-/// The datagrams that an engine gave are those of the first blocks by the events that it was handed. Where a turn
-/// answered none they are those of all blocks that are ready; and once the engine is settled they are exactly
-/// those that `run_studio` answers for these events.
+/// States that the datagrams which an engine returned are those of the first blocks of the events that it took. After
+/// a turn that returned `None` they are those of all blocks that are ready. Once the engine is settled they are
+/// exactly those that `run_studio` returns for these events.
 pub fn an_engine_gives_the_datagrams_of_its_events()
     ensures first { (studio : Studio) (engine : EngineState) (events : List TraceEvent) (datagrams : List (List ℕ))
         → HasSession studio engine events datagrams → AreFirstBlocks studio (feeds_of studio events) datagrams }

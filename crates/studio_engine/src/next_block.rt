@@ -1,4 +1,4 @@
-//! The next datagram, and the marks that its block needs, handed on stream by stream.
+//! The next datagram, and the marks that its block needs, fed stream by stream.
 ghost use Rattle.std.specs.Prelude.{◌≡◌, ℕ, ◌<◌, ◌≤◌, List, length, None, IfSome};
 ghost use Rattle.mix_packets.specs.OutSpec.{datagram_length};
 ghost use Rattle.studio_config.specs.Studio.{Studio};
@@ -13,10 +13,11 @@ ghost use Rattle.studio_engine.specs.Give.{GivesBlock, HasNoBlock};
 use studio_mix::Mixer;
 use studio_session::{Cursor, pull_marks};
 
-/// Hands on each stream's marks until the mixer wants no more, or all of the events so far were given.
+/// Feeds each stream's marks to the mixer until it wants no more, or all marks of the events so far were fed.
 fn fill(mixer: &mut Mixer, cursors: &mut [Cursor])
     requires streams { length cursors.old ≡ length mixer.old.lanes }
-    ensures stands { (studio : Studio) (events : List TraceEvent) (next : ℕ) → IsRunnableBy studio events → HaveTaken events cursors.old
+    ensures stands { (studio : Studio) (events : List TraceEvent) (next : ℕ) → IsRunnableBy studio events
+        → HaveTaken events cursors.old
         → HasPlayed studio events (record { mixer = mixer.old; cursors = cursors.old }) next
         → HasFilled studio events (record { mixer = mixer.new; cursors = cursors.new }) next (length cursors.old) }
     ensures come { (count : ℕ) → HaveCome count cursors.old → HaveCome count cursors.new }
@@ -25,20 +26,23 @@ fn fill(mixer: &mut Mixer, cursors: &mut [Cursor])
     ensures streams { length mixer.new.lanes ≡ length mixer.old.lanes }
     ensures rooms { rooms_of mixer.new.lanes ≡ rooms_of mixer.old.lanes }
 {
+    // The loop goes by index, since a proof knows nothing of the elements after `iter_mut().enumerate()`.
     for stream in 0..cursors.len() {
+        // The next block may be ready either way.
         let _ = pull_marks(mixer, stream, &mut cursors[stream]);
     }
 }
 
-/// What holds of every mixer's output, for the contract below. Nothing is computed here.
+/// States what holds of every mixer's output, for the contract below. Nothing is computed here.
 fn has_frames(mixer: &Mixer)
     ensures { 0 < mixer.now.packer.spec.frames }
 {
+    // Only the clauses of this call are wanted: they hold the output's rules.
     let _ = mixer.output().frames();
 }
 
-/// Writes the next datagram of the events so far to the front of `out`, and answers its length; none where no
-/// block is ready.
+/// Writes the next datagram of the events so far to the front of `out` and returns its length in octets, or `None` if
+/// no block is ready.
 pub(crate) fn next_datagram(
     mixer: &mut Mixer,
     cursors: &mut [Cursor],
@@ -49,7 +53,8 @@ pub(crate) fn next_datagram(
     ensures some { IfSome result (λ len. (studio : Studio) (events : List TraceEvent) (datagrams : List (List ℕ))
         → IsRunnableBy studio events → HaveTaken events cursors.old
         → HasGivenBlocks studio events (record { mixer = mixer.old; cursors = cursors.old }) datagrams
-        → GivesBlock studio events (record { mixer = mixer.new; cursors = cursors.new }) datagrams out.old out.new len) }
+        → GivesBlock studio events (record { mixer = mixer.new; cursors = cursors.new }) datagrams
+        out.old out.new len) }
     ensures none { result ≡ None → (studio : Studio) (events : List TraceEvent) (datagrams : List (List ℕ))
         → IsRunnableBy studio events → HaveTaken events cursors.old
         → HasGivenBlocks studio events (record { mixer = mixer.old; cursors = cursors.old }) datagrams
