@@ -13,14 +13,14 @@ use std::marker::Model;
 /// The most octets that are held.
 const MOST_HELD: usize = 65_536;
 
+// The longest lines, those of slots and datagrams, have two digits for each of at most 1,452 octets.
 /// The most octets of one line, with its line feed.
 const MOST_LINE: usize = 4096;
 
-/// Text that a writer has not been given yet: 65,536 octets at most. Its memory is taken when it is
-/// made, and no later call takes any.
+/// Text that no writer has taken yet: at most 65,536 octets. Only `new` allocates.
 ///
-/// Inputs: `write_mark`, `write_datagram`, `write_path_counts`, `write_merge_counts`.
-/// Output: `finish`, after the last of them. After a fault nothing more may be written.
+/// `write_mark`, `write_datagram` and the other functions of a line add a line each, and write what is held if there
+/// is no room. `finish` writes the rest after the last line. After a fault nothing more may be written.
 #[derive(Drop)]
 pub struct TextBuffer {
     held: Vec<u8>,
@@ -37,7 +37,7 @@ impl Model for TextBuffer {
 }
 
 impl TextBuffer {
-    /// Holds nothing.
+    /// Returns an empty buffer.
     pub fn new(alloc: Global) -> Result<Self, AllocError>
         ensures { IfOk result (λ buffer. buffer ≡ []) }
     {
@@ -48,7 +48,8 @@ impl TextBuffer {
     /// Writes all that is held.
     pub fn finish<W: Write>(&mut self, writer: &mut W) -> Result<(), WriteFault>
         ensures ok { OnOk result (Appends (W.contents writer.old) (W.contents writer.new) self.old) }
-        ensures fault { OnErr result ((n : ℕ) × (n < length self.old) × Appends (W.contents writer.old) (W.contents writer.new) (take n self.old)) }
+        ensures fault { OnErr result ((n : ℕ) × (n < length self.old)
+            × Appends (W.contents writer.old) (W.contents writer.new) (take n self.old)) }
         ensures empty { OnOk result (self.new ≡ []) }
     {
         write_text(writer, self.held.as_slice())?;
@@ -62,24 +63,26 @@ impl TextBuffer {
         ensures fault { OnErr result (BreaksOff (W.contents writer.old) self.old (W.contents writer.new) []) }
         ensures room { OnOk result (length self.new + 4096 ≤ 65536) }
     {
+        // The room is made once for a whole line, so that the parts of the line can't fail.
         if self.held.len() > MOST_HELD - MOST_LINE {
             self.finish(writer)?;
         }
         Ok(())
     }
 
-    /// Holds a text.
+    /// Adds a text.
     pub(crate) fn push(&mut self, text: &str)
         requires { length self.old + length text.now ≤ 65536 }
         ensures text { self.new ≡ self.old ++ text.now }
         ensures length { length self.new ≡ length self.old + length text.now }
     {
+        // The capacity is 65,536 octets since `new`, so nothing is allocated here.
         let Ok(()) = self.held.extend_from_slice(text.as_bytes()) else {
             unreachable!()
         };
     }
 
-    /// Holds a decimal number.
+    /// Adds a decimal number.
     pub(crate) fn push_number<I: Integer>(&mut self, number: I)
         requires { length self.old + 40 ≤ 65536 }
         ensures text { self.new ≡ self.old ++ I.text number }
@@ -89,13 +92,14 @@ impl TextBuffer {
         self.push(digits.format(number));
     }
 
-    /// Holds octets, each by two hexadecimal digits.
+    /// Adds octets, each as two hexadecimal digits.
     pub(crate) fn push_octets(&mut self, octets: &[u8])
         requires { length self.old + 2 * length octets.now ≤ 65536 }
         ensures text { self.new ≡ self.old ++ encode_lower octets.now }
         ensures length { length self.new ≡ length self.old + 2 * length octets.now }
     {
         let start = self.held.len();
+        // The capacity is 65,536 octets since `new`, so nothing is allocated here.
         let Ok(()) = self.held.resize(start + 2 * octets.len(), 0) else {
             unreachable!()
         };

@@ -1,4 +1,5 @@
-//! The lines of marks, counts and datagrams, and those of a live run.
+//! The lines that a run writes: `mark` has those of a listing, `counts` those of a report, `running_counts` that of a
+//! stream's counts during a run, and `live` those that only a live run's report has.
 
 pub(crate) mod counts;
 pub(crate) mod live;

@@ -1,4 +1,5 @@
-//! The whole listings and reports of a studio.
+//! The texts of a studio's run: `listing` has the lines of its marks, `report` those of its datagrams,
+//! `studio_counts` those of its counts, and `counted_listing` a listing with the counts next to it.
 
 pub(crate) mod counted_listing;
 pub(crate) mod listing;

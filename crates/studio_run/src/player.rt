@@ -1,10 +1,22 @@
-//! From a trace to the listing of a studio's marks, and to its report.
+//! The listing of a studio's marks, and its report, from a trace.
 ghost use Rattle.std.specs.Prelude.{◌≡◌, None, Ok, OnOk, IfOk, IfErr};
 ghost use Rattle.std.specs.Io.KnownBytes.{Consumes, IsAtEnd};
 ghost use Rattle.studio_session.specs.Fault.{session_fault_of};
 ghost use Rattle.studio_session.specs.Play.{HasPathsBy, IsRunnableBy};
 ghost use Rattle.studio_run.specs.Trace.{trace_events};
-ghost use Rattle.studio_run.specs.Play.{FailsOf, FailsOn, FailsWriting, IsListing, IsTextOf, StopsAt, StopsReading, WritesEvents, WritesText, WritesTextOf, play_fault};
+ghost use Rattle.studio_run.specs.Play.{
+  FailsOf,
+  FailsOn,
+  FailsWriting,
+  IsListing,
+  IsTextOf,
+  StopsAt,
+  StopsReading,
+  WritesEvents,
+  WritesText,
+  WritesTextOf,
+  play_fault,
+};
 ghost use Rattle.studio_run.specs.StudioReport.{IsReport};
 ghost use Rattle.studio_run.specs.declared.player.PlayFault.TheVariants as fault;
 
@@ -20,14 +32,14 @@ use studio_config::StudioSpec;
 use studio_session::{Cursor, Session, StudioFault, first_fault, studio_cursors};
 use thiserror::Error;
 
-/// Why the text of a trace was not written, or only a part of it. They are found in the order Read,
-/// Trace, Run, Write, and Memory where it was refused. Only a write that fails leaves something written.
+/// The reason why the text of a trace was not written, or only a part of it. Faults are found in the order Read,
+/// Trace, Run, Write, and Memory at the allocation that failed. Only a write that fails leaves something written.
 #[derive(Debug, Drop, Error)]
 pub enum PlayFault {
     /// A read failed, or 100,000,000 reads did not reach the end.
     #[error("device: read")]
     Read,
-    /// A growth was refused.
+    /// An allocation failed.
     #[error("out of memory")]
     Memory,
     /// The trace is at fault.
@@ -36,7 +48,7 @@ pub enum PlayFault {
     /// An event of the trace is at fault.
     #[error("{0}")]
     Run(StudioFault),
-    /// A write failed, or took no octet. What was written is a beginning of the text.
+    /// A write failed, or took no octet. A prefix of the text was written.
     #[error("device: write")]
     Write,
 }
@@ -57,7 +69,7 @@ impl From<WriteFault> for PlayFault {
     }
 }
 
-/// Which text is to be written.
+/// The kind of text to be written.
 #[derive(Clone, Copy)]
 pub(crate) enum TextKind {
     Listing,
@@ -71,22 +83,26 @@ pub fn list_marks<R: Read, W: Write>(
     reader: &mut R,
     writer: &mut W,
 ) -> Result<(), PlayFault>
-    ensures ok { OnOk result (WritesTextOf spec.now IsListing (R.remaining reader.old) (R.remaining reader.new) (W.contents writer.old) (W.contents writer.new)) }
-    ensures fault { IfErr result (FailsOf spec.now IsListing (R.remaining reader.old) (R.remaining reader.new) (W.contents writer.old) (W.contents writer.new)) }
+    ensures ok { OnOk result (WritesTextOf spec.now IsListing (R.remaining reader.old) (R.remaining reader.new)
+        (W.contents writer.old) (W.contents writer.new)) }
+    ensures fault { IfErr result (FailsOf spec.now IsListing (R.remaining reader.old) (R.remaining reader.new)
+        (W.contents writer.old) (W.contents writer.new)) }
 {
     write_trace(alloc, spec, TextKind::Listing, reader, writer)
 }
 
-/// Reads a trace to its end, and writes its report: the datagrams of all blocks that are ready, and
-/// the counts of each stream.
+/// Reads a trace to its end, and writes its report: the datagrams of all blocks that are ready, and the counts of
+/// each stream.
 pub fn play<R: Read, W: Write>(
     alloc: Global,
     spec: &StudioSpec,
     reader: &mut R,
     writer: &mut W,
 ) -> Result<(), PlayFault>
-    ensures ok { OnOk result (WritesTextOf spec.now IsReport (R.remaining reader.old) (R.remaining reader.new) (W.contents writer.old) (W.contents writer.new)) }
-    ensures fault { IfErr result (FailsOf spec.now IsReport (R.remaining reader.old) (R.remaining reader.new) (W.contents writer.old) (W.contents writer.new)) }
+    ensures ok { OnOk result (WritesTextOf spec.now IsReport (R.remaining reader.old) (R.remaining reader.new)
+        (W.contents writer.old) (W.contents writer.new)) }
+    ensures fault { IfErr result (FailsOf spec.now IsReport (R.remaining reader.old) (R.remaining reader.new)
+        (W.contents writer.old) (W.contents writer.new)) }
 {
     write_trace(alloc, spec, TextKind::Report, reader, writer)
 }
@@ -99,8 +115,10 @@ fn write_trace<R: Read, W: Write>(
     reader: &mut R,
     writer: &mut W,
 ) -> Result<(), PlayFault>
-    ensures ok { OnOk result (WritesTextOf spec.now (IsTextOf kind) (R.remaining reader.old) (R.remaining reader.new) (W.contents writer.old) (W.contents writer.new)) }
-    ensures fault { IfErr result (FailsOf spec.now (IsTextOf kind) (R.remaining reader.old) (R.remaining reader.new) (W.contents writer.old) (W.contents writer.new)) }
+    ensures ok { OnOk result (WritesTextOf spec.now (IsTextOf kind) (R.remaining reader.old) (R.remaining reader.new)
+        (W.contents writer.old) (W.contents writer.new)) }
+    ensures fault { IfErr result (FailsOf spec.now (IsTextOf kind) (R.remaining reader.old) (R.remaining reader.new)
+        (W.contents writer.old) (W.contents writer.new)) }
 {
     let trace = read_all(alloc, reader)?;
     write_text_of(alloc, spec, kind, trace.as_slice(), writer)?;
@@ -132,15 +150,17 @@ fn write_text_of<W: Write>(
     trace: &[u8],
     writer: &mut W,
 ) -> Result<(), PlayFault>
-    ensures ok { OnOk result (WritesText spec.now (IsTextOf kind) trace.now (W.contents writer.old) (W.contents writer.new)) }
-    ensures fault { IfErr result (FailsOn spec.now (IsTextOf kind) trace.now (W.contents writer.old) (W.contents writer.new)) }
+    ensures ok { OnOk result (WritesText spec.now (IsTextOf kind) trace.now (W.contents writer.old)
+        (W.contents writer.new)) }
+    ensures fault { IfErr result
+        (FailsOn spec.now (IsTextOf kind) trace.now (W.contents writer.old) (W.contents writer.new)) }
 {
     let events = runnable_events(alloc, spec, trace)?;
     write_events(alloc, spec, kind, &events, writer)?;
     Ok(())
 }
 
-/// The events of a trace, if none is at fault.
+/// Returns the events of a trace, if none is at fault.
 pub fn runnable_events<'a>(
     alloc: Global,
     spec: &StudioSpec,
@@ -162,7 +182,7 @@ pub fn runnable_events<'a>(
     }
 }
 
-/// The fault of a trace, or want of memory.
+/// Returns the fault of a trace, or the allocation failure that it stands for.
 fn play_fault(fault: TraceFault) -> PlayFault
     ensures { result ≡ play_fault fault.kind fault }
 {
@@ -172,7 +192,7 @@ fn play_fault(fault: TraceFault) -> PlayFault
     }
 }
 
-/// Writes the text of events of which none is at fault. All memory is taken before.
+/// Writes the text of events of which none is at fault. It allocates before it writes.
 fn write_events<W: Write>(
     alloc: Global,
     spec: &StudioSpec,
@@ -182,8 +202,10 @@ fn write_events<W: Write>(
 ) -> Result<(), PlayFault>
     requires runnable { IsRunnableBy spec.now events.now }
     requires paths { HasPathsBy spec.now events.now }
-    ensures ok { OnOk result (WritesEvents spec.now (IsTextOf kind) events.now (W.contents writer.old) (W.contents writer.new)) }
-    ensures fault { IfErr result (FailsWriting spec.now (IsTextOf kind) events.now (W.contents writer.old) (W.contents writer.new)) }
+    ensures ok { OnOk result (WritesEvents spec.now (IsTextOf kind) events.now (W.contents writer.old)
+        (W.contents writer.new)) }
+    ensures fault { IfErr result
+        (FailsWriting spec.now (IsTextOf kind) events.now (W.contents writer.old) (W.contents writer.new)) }
 {
     match kind {
         TextKind::Listing => write_events_listing(alloc, spec, events, writer),
@@ -200,9 +222,12 @@ fn write_events_listing<W: Write>(
 ) -> Result<(), PlayFault>
     requires runnable { IsRunnableBy spec.now events.now }
     requires paths { HasPathsBy spec.now events.now }
-    ensures ok { OnOk result (WritesEvents spec.now IsListing events.now (W.contents writer.old) (W.contents writer.new)) }
-    ensures fault { IfErr result (FailsWriting spec.now IsListing events.now (W.contents writer.old) (W.contents writer.new)) }
+    ensures ok { OnOk result (WritesEvents spec.now IsListing events.now (W.contents writer.old)
+        (W.contents writer.new)) }
+    ensures fault { IfErr result
+        (FailsWriting spec.now IsListing events.now (W.contents writer.old) (W.contents writer.new)) }
 {
+    // All memory comes before the first write, so that an allocation failure leaves nothing written.
     let mut cursors = studio_cursors(alloc, spec)?;
     let mut text = TextBuffer::new(alloc)?;
     write_whole_listing(&mut text, writer, events, cursors.as_mut_slice())?;
@@ -218,9 +243,12 @@ fn write_events_report<W: Write>(
 ) -> Result<(), PlayFault>
     requires runnable { IsRunnableBy spec.now events.now }
     requires paths { HasPathsBy spec.now events.now }
-    ensures ok { OnOk result (WritesEvents spec.now IsReport events.now (W.contents writer.old) (W.contents writer.new)) }
-    ensures fault { IfErr result (FailsWriting spec.now IsReport events.now (W.contents writer.old) (W.contents writer.new)) }
+    ensures ok { OnOk result (WritesEvents spec.now IsReport events.now (W.contents writer.old)
+        (W.contents writer.new)) }
+    ensures fault { IfErr result
+        (FailsWriting spec.now IsReport events.now (W.contents writer.old) (W.contents writer.new)) }
 {
+    // All memory comes before the first write, so that an allocation failure leaves nothing written.
     let session = Session::new(alloc, spec)?;
     let mut text = TextBuffer::new(alloc)?;
     write_whole_report(&mut text, writer, events, session)?;

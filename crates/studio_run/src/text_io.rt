@@ -8,13 +8,14 @@ use std::alloc::{AllocError, Global};
 use std::io::{Read, Write};
 use thiserror::Error;
 
+// At an octet or more a call, no text comes to this limit before it is too long. It bounds the loop.
 /// The most calls of a reader for one text.
 const MOST_CALLS: u32 = 100_000_000;
 
 /// The most octets of one read.
 const MOST_OCTETS_A_READ: usize = 65_536;
 
-/// Why a text was not read.
+/// The reason why a text was not read.
 #[derive(Clone, Copy, Debug, PartialEq, Eq, Error)]
 pub enum ReadFault {
     /// A read failed, or 100,000,000 reads did not reach the end.
@@ -23,29 +24,32 @@ pub enum ReadFault {
     /// The text has more octets than a trace may have.
     #[error("trace line 0: toomany")]
     TooMany,
-    /// The memory for the text was refused.
+    /// An allocation for the text failed.
     #[error("out of memory")]
     Memory,
 }
 
-/// A write failed, or took no octet.
+/// The fault of a writer: a write failed, or took no octet.
 #[derive(Clone, Copy, Debug, PartialEq, Eq, Error)]
 #[error("device: write")]
 pub struct WriteFault;
 
-/// Reads to the end of the input, or to the first octet that no trace has room for.
+/// Reads to the end of the input, or to the first octet for which a trace has no room.
 pub fn read_text<R: Read>(alloc: Global, reader: &mut R) -> Result<Vec<u8>, ReadFault>
     ensures ok { IfOk result (λ text. Consumes (R.remaining reader.old) (R.remaining reader.new) text.items) }
     ensures end { OnOk result (IsAtEnd (R.remaining reader.new)) }
     ensures fits { IfOk result (λ text. length text.items ≤ MOST_TRACE_OCTETS) }
-    ensures long { IfErr result (λ fault. fault ≡ TooMany → (octets : List ℕ) × (MOST_TRACE_OCTETS < length octets) × Consumes (R.remaining reader.old) (R.remaining reader.new) octets) }
+    ensures long { IfErr result (λ fault. fault ≡ TooMany → (octets : List ℕ) × (MOST_TRACE_OCTETS < length octets)
+        × Consumes (R.remaining reader.old) (R.remaining reader.new) octets) }
 {
     let mut text = Vec::with_capacity(alloc, MOST_OCTETS_A_READ).map_err(|_| ReadFault::Memory)?;
     let mut chunk = [0u8; MOST_OCTETS_A_READ];
+    // The label names the loop in its proof.
     'reads: for _ in 0..MOST_CALLS {
         match reader.read(&mut chunk) {
             Err(_) => return Err(ReadFault::Device),
             Ok(0) => return Ok(text),
+            // The length is tested before the octets are kept, so no text takes more memory than the longest one.
             Ok(count) if count > MOST_TRACE_OCTETS - text.len() => return Err(ReadFault::TooMany),
             Ok(count) => {
                 push_chunk(&mut text, &chunk[..count]).map_err(|_| ReadFault::Memory)?;
@@ -55,12 +59,12 @@ pub fn read_text<R: Read>(alloc: Global, reader: &mut R) -> Result<Vec<u8>, Read
     Err(ReadFault::Device)
 }
 
-/// Adds what was read. Where there is no room, the room is doubled, up to the most octets of a text:
-/// the old room and the new are never more than 3/2 of those.
+/// Appends octets that were read.
 fn push_chunk(text: &mut Vec<u8>, chunk: &[u8]) -> Result<(), AllocError>
     requires fits { vec_len text.old + length chunk.now ≤ MOST_TRACE_OCTETS }
     ensures items { OnOk result (text.new.items ≡ text.old.items ++ chunk.now) }
 {
+    // The room doubles, but not past the longest text: the old room and the new one together are at most 3/2 of that.
     if text.capacity() - text.len() < chunk.len() {
         let room = text.capacity().saturating_mul(2).min(MOST_TRACE_OCTETS);
         text.reserve_exact(room - text.len())?;
@@ -68,14 +72,16 @@ fn push_chunk(text: &mut Vec<u8>, chunk: &[u8]) -> Result<(), AllocError>
     text.extend_from_slice(chunk)
 }
 
-/// Writes a text to its end. On a fault a part from its front was written.
+/// Writes a text to its end. After a fault a prefix of it was written.
 pub fn write_text<W: Write>(writer: &mut W, text: &[u8]) -> Result<(), WriteFault>
     ensures ok { OnOk result (Appends (W.contents writer.old) (W.contents writer.new) text.now) }
-    ensures fault { OnErr result ((n : ℕ) × (n < length text.now) × Appends (W.contents writer.old) (W.contents writer.new) (take n text.now)) }
+    ensures fault { OnErr result ((n : ℕ) × (n < length text.now)
+        × Appends (W.contents writer.old) (W.contents writer.new) (take n text.now)) }
 {
     let mut done = 0;
     while done < text.len() {
         match writer.write(&text[done..]) {
+            // A writer that takes nothing is at fault, since the loop would not end.
             Ok(0) | Err(_) => return Err(WriteFault),
             Ok(count) => done += count,
         }

@@ -3,7 +3,18 @@ ghost use Rattle.std.specs.Prelude.{◌≡◌, ◌+◌, ◌≤◌, ◌<◌, ◌+
 ghost use Rattle.rtp_stream.specs.Counts.{tally_of};
 ghost use Rattle.studio_run.specs.Buffer.{PassesOn, BreaksOff};
 ghost use Rattle.rtp_stream.specs.PathCounts.{path_tally_of};
-ghost use Rattle.studio_run.specs.Report.{datagram_line, path_letter, pair_text, count_text, path_line, taken_text, refused_text, slots_text, tally_text, merge_line};
+ghost use Rattle.studio_run.specs.Report.{
+  datagram_line,
+  path_letter,
+  pair_text,
+  count_text,
+  path_line,
+  taken_text,
+  refused_text,
+  slots_text,
+  tally_text,
+  merge_line,
+};
 
 use crate::buffer::TextBuffer;
 use crate::text_io::WriteFault;
@@ -11,15 +22,17 @@ use path_merge::{Counts, Path};
 use rtp_stream::PathCounts;
 use std::io::Write;
 
-/// Writes the line of a datagram: the 12 octets of its header, and a payload of at most 1,440.
+/// Writes the line of a datagram of the output: an RTP header of 12 octets and a payload of at most 1,440.
 pub fn write_datagram<W: Write>(
     text: &mut TextBuffer,
     writer: &mut W,
     datagram: &[u8],
 ) -> Result<(), WriteFault>
     requires short { length datagram.now ≤ 1452 }
-    ensures ok { OnOk result (PassesOn (W.contents writer.old) text.old (W.contents writer.new) text.new (datagram_line datagram.now)) }
-    ensures fault { OnErr result (BreaksOff (W.contents writer.old) text.old (W.contents writer.new) (datagram_line datagram.now)) }
+    ensures ok { OnOk result (PassesOn (W.contents writer.old) text.old (W.contents writer.new) text.new
+        (datagram_line datagram.now)) }
+    ensures fault { OnErr result
+        (BreaksOff (W.contents writer.old) text.old (W.contents writer.new) (datagram_line datagram.now)) }
 {
     text.make_room(writer)?;
     text.push("out ");
@@ -28,7 +41,7 @@ pub fn write_datagram<W: Write>(
     Ok(())
 }
 
-/// Writes the line of what a path's datagrams came to.
+/// Writes the line of a path's counts.
 pub fn write_path_counts<W: Write>(
     text: &mut TextBuffer,
     writer: &mut W,
@@ -36,15 +49,17 @@ pub fn write_path_counts<W: Write>(
     path: Path,
     counts: &PathCounts,
 ) -> Result<(), WriteFault>
-    ensures ok { OnOk result (PassesOn (W.contents writer.old) text.old (W.contents writer.new) text.new (path_line stream path (path_tally_of counts.now))) }
-    ensures fault { OnErr result (BreaksOff (W.contents writer.old) text.old (W.contents writer.new) (path_line stream path (path_tally_of counts.now))) }
+    ensures ok { OnOk result (PassesOn (W.contents writer.old) text.old (W.contents writer.new) text.new
+        (path_line stream path (path_tally_of counts.now))) }
+    ensures fault { OnErr result (BreaksOff (W.contents writer.old) text.old (W.contents writer.new)
+        (path_line stream path (path_tally_of counts.now))) }
 {
     text.make_room(writer)?;
     push_path_line(text, stream, path, counts);
     Ok(())
 }
 
-/// Writes the line of what a merge came to, whose stream has so many paths.
+/// Writes the line of a merge's counts. Its stream has `paths` paths.
 pub fn write_merge_counts<W: Write>(
     text: &mut TextBuffer,
     writer: &mut W,
@@ -52,15 +67,17 @@ pub fn write_merge_counts<W: Write>(
     paths: u8,
     counts: &Counts,
 ) -> Result<(), WriteFault>
-    ensures ok { OnOk result (PassesOn (W.contents writer.old) text.old (W.contents writer.new) text.new (merge_line stream paths (tally_of counts.now))) }
-    ensures fault { OnErr result (BreaksOff (W.contents writer.old) text.old (W.contents writer.new) (merge_line stream paths (tally_of counts.now))) }
+    ensures ok { OnOk result (PassesOn (W.contents writer.old) text.old (W.contents writer.new) text.new
+        (merge_line stream paths (tally_of counts.now))) }
+    ensures fault { OnErr result (BreaksOff (W.contents writer.old) text.old (W.contents writer.new)
+        (merge_line stream paths (tally_of counts.now))) }
 {
     text.make_room(writer)?;
     push_merge_line(text, stream, paths, counts);
     Ok(())
 }
 
-/// Holds the line of a path.
+/// Adds the line of a path's counts.
 fn push_path_line(text: &mut TextBuffer, stream: u8, path: Path, counts: &PathCounts)
     requires { length text.old + 4096 ≤ 65536 }
     ensures { text.new ≡ text.old ++ path_line stream path (path_tally_of counts.now) }
@@ -78,7 +95,7 @@ fn push_path_line(text: &mut TextBuffer, stream: u8, path: Path, counts: &PathCo
     text.push("\n");
 }
 
-/// Holds the line of a merge.
+/// Adds the line of a merge's counts.
 fn push_merge_line(text: &mut TextBuffer, stream: u8, paths: u8, counts: &Counts)
     requires { length text.old + 4096 ≤ 65536 }
     ensures { text.new ≡ text.old ++ merge_line stream paths (tally_of counts.now) }
@@ -89,8 +106,8 @@ fn push_merge_line(text: &mut TextBuffer, stream: u8, paths: u8, counts: &Counts
     text.push("\n");
 }
 
-/// Holds the counts of a merge whose stream has so many paths, each number after its word and the one
-/// character between them.
+/// Adds the counts of a merge whose stream has `paths` paths. Each number comes after its word and the one character
+/// of `between`.
 pub(crate) fn push_tally(text: &mut TextBuffer, between: &str, paths: u8, counts: &Counts)
     requires one { length between.now ≡ 1 }
     requires room { length text.old + 900 ≤ 65536 }
@@ -104,7 +121,7 @@ pub(crate) fn push_tally(text: &mut TextBuffer, between: &str, paths: u8, counts
     push_slots(text, between, counts);
 }
 
-/// Holds how many arrivals were not taken.
+/// Adds the counts of the arrivals that were not taken.
 fn push_refused(text: &mut TextBuffer, between: &str, counts: &Counts)
     requires one { length between.now ≡ 1 }
     requires room { length text.old + 400 ≤ 65536 }
@@ -119,7 +136,7 @@ fn push_refused(text: &mut TextBuffer, between: &str, counts: &Counts)
     push_field(text, between, "source", counts.wrong_source);
 }
 
-/// Holds how many slots were handed on, and how many restarts there were.
+/// Adds the counts of slots and restarts.
 fn push_slots(text: &mut TextBuffer, between: &str, counts: &Counts)
     requires one { length between.now ≡ 1 }
     requires room { length text.old + 200 ≤ 65536 }
@@ -131,15 +148,16 @@ fn push_slots(text: &mut TextBuffer, between: &str, counts: &Counts)
     push_field(text, between, "restarts", counts.restarts);
 }
 
-/// How many packets were taken from each of so many paths.
+/// Returns the number of packets that were taken from each of the first `paths` paths.
 fn taken_from(paths: u8, counts: &Counts) -> &[u64]
     ensures value { result.now ≡ take paths counts.now.taken_by }
     ensures few { length result.now ≤ 4 }
 {
+    // `taken_by` has 4 places, and `paths` may be any number.
     &counts.taken_by[..usize::from(paths).min(4)]
 }
 
-/// Holds how many packets were taken from each path.
+/// Adds the number of packets that were taken from each path.
 fn push_taken(text: &mut TextBuffer, between: &str, taken_by: &[u64])
     requires one { length between.now ≡ 1 }
     requires few_paths { length taken_by.now ≤ 4 }
@@ -155,7 +173,7 @@ fn push_taken(text: &mut TextBuffer, between: &str, taken_by: &[u64])
     }
 }
 
-/// Holds a number, after a word.
+/// Adds a number after a word and a space.
 pub(crate) fn push_count(text: &mut TextBuffer, word: &str, number: u64)
     requires { length text.old + length word.now + 42 ≤ 65536 }
     ensures text { text.new ≡ text.old ++ count_text word.now number }
@@ -164,7 +182,7 @@ pub(crate) fn push_count(text: &mut TextBuffer, word: &str, number: u64)
     push_field(text, " ", word, number);
 }
 
-/// Holds a number, after a word and the one character between them.
+/// Adds a number after a word and the one character of `between`.
 fn push_field(text: &mut TextBuffer, between: &str, word: &str, number: u64)
     requires one { length between.now ≡ 1 }
     requires room { length text.old + length word.now + 42 ≤ 65536 }
@@ -177,7 +195,7 @@ fn push_field(text: &mut TextBuffer, between: &str, word: &str, number: u64)
     text.push_number(number);
 }
 
-/// The letter of a path, by its number.
+/// Returns the letter of a path by its number.
 pub(crate) fn path_letter(path: u8) -> &'static str
     requires { path < 4 }
     ensures text { result.now ≡ path_letter path }

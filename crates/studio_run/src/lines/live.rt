@@ -1,4 +1,4 @@
-//! The lines of a live run's report that a played one doesn't have.
+//! The lines that only a live run's report has.
 ghost use Rattle.std.specs.Prelude.{◌≡◌, ◌+◌, ◌≤◌, ◌++◌, length, OnOk, OnErr};
 ghost use Rattle.studio_run.specs.Buffer.{PassesOn, BreaksOff};
 ghost use Rattle.studio_run.specs.LiveReport.{feed_line, sink_line};
@@ -9,17 +9,22 @@ use crate::text_io::WriteFault;
 use path_merge::Path;
 use std::io::Write;
 
-/// Datagrams of the output, and how many of them each address took, or didn't take.
+/// The counts of a sink: the output's datagrams, and how its two addresses took them.
 #[derive(Clone, Copy, Debug, PartialEq, Eq)]
 pub struct SinkCounts {
+    /// The number of datagrams of the output.
     pub blocks: u64,
+    /// The number of datagrams that the first address took.
     pub sent_a: u64,
+    /// The number of datagrams that the second address took.
     pub sent_b: u64,
+    /// The number of datagrams that the first address didn't take.
     pub fault_a: u64,
+    /// The number of datagrams that the second address didn't take.
     pub fault_b: u64,
 }
 
-/// Writes the line of a path's feed: how often it failed.
+/// Writes the line of a path's feed: the number of its failures.
 pub fn write_feed_faults<W: Write>(
     text: &mut TextBuffer,
     writer: &mut W,
@@ -27,8 +32,10 @@ pub fn write_feed_faults<W: Write>(
     path: Path,
     faults: u64,
 ) -> Result<(), WriteFault>
-    ensures ok { OnOk result (PassesOn (W.contents writer.old) text.old (W.contents writer.new) text.new (feed_line stream path faults)) }
-    ensures fault { OnErr result (BreaksOff (W.contents writer.old) text.old (W.contents writer.new) (feed_line stream path faults)) }
+    ensures ok { OnOk result (PassesOn (W.contents writer.old) text.old (W.contents writer.new) text.new
+        (feed_line stream path faults)) }
+    ensures fault { OnErr result
+        (BreaksOff (W.contents writer.old) text.old (W.contents writer.new) (feed_line stream path faults)) }
 {
     text.make_room(writer)?;
     push_feed_line(text, stream, path, faults);
@@ -41,15 +48,17 @@ pub fn write_sink_counts<W: Write>(
     writer: &mut W,
     counts: &SinkCounts,
 ) -> Result<(), WriteFault>
-    ensures ok { OnOk result (PassesOn (W.contents writer.old) text.old (W.contents writer.new) text.new (sink_line counts.now)) }
-    ensures fault { OnErr result (BreaksOff (W.contents writer.old) text.old (W.contents writer.new) (sink_line counts.now)) }
+    ensures ok { OnOk result (PassesOn (W.contents writer.old) text.old (W.contents writer.new) text.new
+        (sink_line counts.now)) }
+    ensures fault { OnErr result
+        (BreaksOff (W.contents writer.old) text.old (W.contents writer.new) (sink_line counts.now)) }
 {
     text.make_room(writer)?;
     push_sink_line(text, counts);
     Ok(())
 }
 
-/// Holds the line of a feed.
+/// Adds the line of a feed.
 fn push_feed_line(text: &mut TextBuffer, stream: u8, path: Path, faults: u64)
     requires { length text.old + 4096 ≤ 65536 }
     ensures { text.new ≡ text.old ++ feed_line stream path faults }
@@ -62,7 +71,7 @@ fn push_feed_line(text: &mut TextBuffer, stream: u8, path: Path, faults: u64)
     text.push("\n");
 }
 
-/// Holds the line of a sink.
+/// Adds the line of a sink.
 fn push_sink_line(text: &mut TextBuffer, counts: &SinkCounts)
     requires { length text.old + 4096 ≤ 65536 }
     ensures { text.new ≡ text.old ++ sink_line counts.now }

@@ -16,7 +16,8 @@ pub fn write_mark<W: Write>(
     stream: u8,
     mark: &MarkRef<'_>,
 ) -> Result<(), WriteFault>
-    ensures ok { OnOk result (PassesOn (W.contents writer.old) text.old (W.contents writer.new) text.new (mark_line stream mark.now.kind)) }
+    ensures ok { OnOk result (PassesOn (W.contents writer.old) text.old (W.contents writer.new) text.new
+        (mark_line stream mark.now.kind)) }
     ensures fault { OnErr result (BreaksOff (W.contents writer.old) text.old (W.contents writer.new) []) }
 {
     text.make_room(writer)?;
@@ -31,7 +32,8 @@ pub(crate) fn write_next<W: Write>(
     stream: u8,
     mark: Option<MarkRef<'_>>,
 ) -> Result<(), WriteFault>
-    ensures ok { OnOk result (PassesOn (W.contents writer.old) text.old (W.contents writer.new) text.new (next_line stream mark.entry)) }
+    ensures ok { OnOk result (PassesOn (W.contents writer.old) text.old (W.contents writer.new) text.new
+        (next_line stream mark.entry)) }
     ensures fault { OnErr result (BreaksOff (W.contents writer.old) text.old (W.contents writer.new) []) }
 {
     match mark {
@@ -40,7 +42,7 @@ pub(crate) fn write_next<W: Write>(
     }
 }
 
-/// Holds the line of a mark.
+/// Adds the line of a mark.
 fn push_line(text: &mut TextBuffer, stream: u8, kind: MarkKindRef<'_>)
     requires room { length text.old + 4096 ≤ 65536 }
     requires short { HasShortBody (kind_of kind) }
@@ -52,7 +54,7 @@ fn push_line(text: &mut TextBuffer, stream: u8, kind: MarkKindRef<'_>)
     text.push("\n");
 }
 
-/// Holds what a mark says.
+/// Adds the fields of a mark.
 fn push_mark(text: &mut TextBuffer, kind: MarkKindRef<'_>)
     requires room { length text.old + 4000 ≤ 65536 }
     requires short { HasShortBody (kind_of kind) }
@@ -81,7 +83,7 @@ fn push_mark(text: &mut TextBuffer, kind: MarkKindRef<'_>)
     }
 }
 
-/// Holds an extended sequence number, after its epoch where that is not the first.
+/// Adds an extended sequence number, after its epoch unless that is the first.
 fn push_extended(text: &mut TextBuffer, epoch: u64, number: u64)
     requires { length text.old + 100 ≤ 65536 }
     ensures text { text.new ≡ text.old ++ number_text epoch number }
@@ -94,7 +96,7 @@ fn push_extended(text: &mut TextBuffer, epoch: u64, number: u64)
     text.push_number(number);
 }
 
-/// Holds what a slot got.
+/// Adds the body of a slot.
 fn push_body(text: &mut TextBuffer, payload: Option<&[u8]>)
     requires room { length text.old + 3000 ≤ 65536 }
     requires short { IsShort (body_from (option_copied payload)) }

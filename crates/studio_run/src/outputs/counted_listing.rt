@@ -1,4 +1,4 @@
-//! From a trace to the listing of its marks, with the counts beside it.
+//! The listing of a trace's marks, with the counts in a second text.
 ghost use Rattle.std.specs.Prelude.{IfErr, OnOk};
 ghost use Rattle.studio_session.specs.Play.{HasPathsBy, IsRunnableBy};
 ghost use Rattle.studio_run.specs.CountedListing.{FailsWithCounts, FailsWithCountsOf, ListsAndCounts, ListsAndCountsOf};
@@ -13,8 +13,8 @@ use std::io::{Read, Write};
 use studio_config::StudioSpec;
 use studio_session::studio_cursors;
 
-/// Reads a trace to its end, writes the listing of all marks as `list_marks` does, and then the
-/// lines of what became of each path's datagrams and each stream's packets to another writer.
+/// Reads a trace to its end, writes the listing of all marks as `list_marks` does, and then writes the lines of each
+/// path's and each merge's counts to another writer.
 pub fn list_marks_and_counts<R: Read, W: Write, C: Write>(
     alloc: Global,
     spec: &StudioSpec,
@@ -22,8 +22,10 @@ pub fn list_marks_and_counts<R: Read, W: Write, C: Write>(
     writer: &mut W,
     counts: &mut C,
 ) -> Result<(), PlayFault>
-    ensures ok { OnOk result (ListsAndCountsOf spec.now (R.remaining reader.old) (R.remaining reader.new) (W.contents writer.old) (W.contents writer.new) (C.contents counts.old) (C.contents counts.new)) }
-    ensures fault { IfErr result (FailsWithCountsOf spec.now (R.remaining reader.old) (R.remaining reader.new) (W.contents writer.old) (W.contents writer.new) (C.contents counts.old) (C.contents counts.new)) }
+    ensures ok { OnOk result (ListsAndCountsOf spec.now (R.remaining reader.old) (R.remaining reader.new)
+        (W.contents writer.old) (W.contents writer.new) (C.contents counts.old) (C.contents counts.new)) }
+    ensures fault { IfErr result (FailsWithCountsOf spec.now (R.remaining reader.old) (R.remaining reader.new)
+        (W.contents writer.old) (W.contents writer.new) (C.contents counts.old) (C.contents counts.new)) }
 {
     let trace = read_all(alloc, reader)?;
     let events = runnable_events(alloc, spec, trace.as_slice())?;
@@ -31,8 +33,7 @@ pub fn list_marks_and_counts<R: Read, W: Write, C: Write>(
     Ok(())
 }
 
-/// Writes the listing of events of which none is at fault, and then their counts. All memory is taken
-/// before.
+/// Writes the listing of events of which none is at fault, and then their counts. It allocates before it writes.
 fn write_both<W: Write, C: Write>(
     alloc: Global,
     spec: &StudioSpec,
@@ -42,13 +43,16 @@ fn write_both<W: Write, C: Write>(
 ) -> Result<(), PlayFault>
     requires runnable { IsRunnableBy spec.now events.now }
     requires paths { HasPathsBy spec.now events.now }
-    ensures ok { OnOk result (ListsAndCounts spec.now events.now (W.contents writer.old) (W.contents writer.new) (C.contents counts.old) (C.contents counts.new)) }
-    ensures fault { IfErr result (FailsWithCounts spec.now events.now (W.contents writer.old) (W.contents writer.new) (C.contents counts.old) (C.contents counts.new)) }
+    ensures ok { OnOk result (ListsAndCounts spec.now events.now (W.contents writer.old) (W.contents writer.new)
+        (C.contents counts.old) (C.contents counts.new)) }
+    ensures fault { IfErr result (FailsWithCounts spec.now events.now (W.contents writer.old) (W.contents writer.new)
+        (C.contents counts.old) (C.contents counts.new)) }
 {
     let mut cursors = studio_cursors(alloc, spec)?;
     let mut text = TextBuffer::new(alloc)?;
     let cursors = cursors.as_mut_slice();
     write_whole_listing(&mut text, writer, events, cursors)?;
+    // The buffer is empty again, so it serves the second writer too.
     write_counts(&mut text, counts, events, cursors)?;
     text.finish(counts)?;
     Ok(())

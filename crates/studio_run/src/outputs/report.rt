@@ -28,12 +28,17 @@ fn write_datagrams<E: EventSource, W: Write>(
     requires some { 0 < session.old.mixer.packer.spec.frames }
     requires ready { All (IsReadyFor (E.events source.now)) session.old.cursors }
     ensures ready { All (IsReadyFor (E.events source.now)) session.new.cursors }
-    ensures ok { OnOk result ((studio : Studio) → IsRunnableBy studio (E.events source.now) → HasPlayed studio (E.events source.now) session.old 0
-        → HasReported studio (E.events source.now) (W.contents writer.old) text.old session.new (W.contents writer.new) text.new) }
-    ensures fault { OnErr result ((studio : Studio) (datagrams : List (List ℕ)) → IsRunnableBy studio (E.events source.now) → HasPlayed studio (E.events source.now) session.old 0
-        → AreDatagrams studio (E.events source.now) datagrams → BreaksOff (W.contents writer.old) text.old (W.contents writer.new) (datagrams_text datagrams)) }
+    ensures ok { OnOk result ((studio : Studio) → IsRunnableBy studio (E.events source.now)
+        → HasPlayed studio (E.events source.now) session.old 0
+        → HasReported studio (E.events source.now) (W.contents writer.old) text.old session.new
+        (W.contents writer.new) text.new) }
+    ensures fault { OnErr result ((studio : Studio) (datagrams : List (List ℕ))
+        → IsRunnableBy studio (E.events source.now) → HasPlayed studio (E.events source.now) session.old 0
+        → AreDatagrams studio (E.events source.now) datagrams
+        → BreaksOff (W.contents writer.old) text.old (W.contents writer.new) (datagrams_text datagrams)) }
 {
     let mut out = [0; MOST_OUTPUT_OCTETS];
+    // The label names the loop in its proof.
     'rounds: loop {
         match session.next_datagram(source, &mut out) {
             Some(len) => write_datagram(text, writer, &out[..len])?,
@@ -42,7 +47,7 @@ fn write_datagrams<E: EventSource, W: Write>(
     }
 }
 
-/// Writes the report of a session before its first event.
+/// Writes the report of a session, which is before its first event.
 fn write_report<E: EventSource, W: Write>(
     text: &mut TextBuffer,
     writer: &mut W,
@@ -52,10 +57,13 @@ fn write_report<E: EventSource, W: Write>(
     requires short { datagram_length session.mixer.packer.spec ≤ 1452 }
     requires some { 0 < session.mixer.packer.spec.frames }
     requires ready { All (IsReadyFor (E.events source.now)) session.cursors }
-    ensures ok { OnOk result ((studio : Studio) → IsRunnableBy studio (E.events source.now) → HasPlayed studio (E.events source.now) session 0
+    ensures ok { OnOk result ((studio : Studio) → IsRunnableBy studio (E.events source.now)
+        → HasPlayed studio (E.events source.now) session 0
         → WritesReport studio (E.events source.now) (W.contents writer.old) text.old (W.contents writer.new) text.new) }
-    ensures fault { OnErr result ((studio : Studio) (report : List ℕ) → IsRunnableBy studio (E.events source.now) → HasPlayed studio (E.events source.now) session 0
-        → IsReport studio (E.events source.now) report → BreaksOff (W.contents writer.old) text.old (W.contents writer.new) report) }
+    ensures fault { OnErr result ((studio : Studio) (report : List ℕ) → IsRunnableBy studio (E.events source.now)
+        → HasPlayed studio (E.events source.now) session 0
+        → IsReport studio (E.events source.now) report
+        → BreaksOff (W.contents writer.old) text.old (W.contents writer.new) report) }
 {
     let mut session = session;
     write_datagrams(text, writer, source, &mut session)?;
@@ -64,7 +72,8 @@ fn write_report<E: EventSource, W: Write>(
     Ok(())
 }
 
-/// Writes it through an empty buffer, which is empty again.
+/// Writes the report of a session through an empty buffer, and leaves the buffer empty. The session is before its
+/// first event.
 pub(crate) fn write_whole_report<E: EventSource, W: Write>(
     text: &mut TextBuffer,
     writer: &mut W,
@@ -75,10 +84,14 @@ pub(crate) fn write_whole_report<E: EventSource, W: Write>(
     requires short { datagram_length session.mixer.packer.spec ≤ 1452 }
     requires some { 0 < session.mixer.packer.spec.frames }
     requires ready { All (IsReadyFor (E.events source.now)) session.cursors }
-    ensures ok { OnOk result ((studio : Studio) → IsRunnableBy studio (E.events source.now) → HasPlayed studio (E.events source.now) session 0
-        → (report : List ℕ) × IsReport studio (E.events source.now) report × Appends (W.contents writer.old) (W.contents writer.new) report) }
-    ensures fault { OnErr result ((studio : Studio) (report : List ℕ) → IsRunnableBy studio (E.events source.now) → HasPlayed studio (E.events source.now) session 0
-        → IsReport studio (E.events source.now) report → BreaksOff (W.contents writer.old) [] (W.contents writer.new) report) }
+    ensures ok { OnOk result ((studio : Studio) → IsRunnableBy studio (E.events source.now)
+        → HasPlayed studio (E.events source.now) session 0
+        → (report : List ℕ) × IsReport studio (E.events source.now) report
+        × Appends (W.contents writer.old) (W.contents writer.new) report) }
+    ensures fault { OnErr result ((studio : Studio) (report : List ℕ) → IsRunnableBy studio (E.events source.now)
+        → HasPlayed studio (E.events source.now) session 0
+        → IsReport studio (E.events source.now) report
+        → BreaksOff (W.contents writer.old) [] (W.contents writer.new) report) }
     ensures empty { OnOk result (text.new ≡ []) }
 {
     write_report(text, writer, source, session)?;

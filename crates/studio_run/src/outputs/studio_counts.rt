@@ -23,10 +23,14 @@ fn write_paths<W: Write>(
     writer: &mut W,
     cursor: &Cursor,
 ) -> Result<(), WriteFault>
-    ensures ok { OnOk result ((events : List TraceEvent) → AreTallies cursor.now.spec cursor.now.number events cursor.now.tallies
-        → PassesOn (W.contents writer.old) text.old (W.contents writer.new) text.new (paths_text cursor.now.spec cursor.now.number events cursor.now.spec.paths)) }
-    ensures fault { OnErr result ((events : List TraceEvent) → AreTallies cursor.now.spec cursor.now.number events cursor.now.tallies
-        → BreaksOff (W.contents writer.old) text.old (W.contents writer.new) (paths_text cursor.now.spec cursor.now.number events cursor.now.spec.paths)) }
+    ensures ok { OnOk result ((events : List TraceEvent)
+        → AreTallies cursor.now.spec cursor.now.number events cursor.now.tallies
+        → PassesOn (W.contents writer.old) text.old (W.contents writer.new) text.new
+        (paths_text cursor.now.spec cursor.now.number events cursor.now.spec.paths)) }
+    ensures fault { OnErr result ((events : List TraceEvent)
+        → AreTallies cursor.now.spec cursor.now.number events cursor.now.tallies
+        → BreaksOff (W.contents writer.old) text.old (W.contents writer.new)
+        (paths_text cursor.now.spec cursor.now.number events cursor.now.spec.paths)) }
 {
     for place in 0..cursor.spec().paths() {
         let Some(path) = Path::new(place) else {
@@ -43,7 +47,7 @@ fn write_paths<W: Write>(
     Ok(())
 }
 
-/// Writes the lines of a stream's counts, after all its marks, which are dropped.
+/// Writes the lines of a stream's counts after all its marks, which are dropped.
 fn write_stream_counts<E: EventSource, W: Write>(
     text: &mut TextBuffer,
     writer: &mut W,
@@ -53,12 +57,17 @@ fn write_stream_counts<E: EventSource, W: Write>(
     requires ready { IsReadyFor (E.events source.now) cursor.old }
     ensures ready { IsReadyFor (E.events source.now) cursor.new }
     ensures ok { OnOk result ((stream : Stream) (number : ℕ) (open_at : ℤ)
-        → IsRunnable stream number open_at (E.events source.now) → HasPulledSome stream number open_at (E.events source.now) cursor.old
-        → PassesOn (W.contents writer.old) text.old (W.contents writer.new) text.new (stream_counts_text open_at (E.events source.now) stream number)) }
+        → IsRunnable stream number open_at (E.events source.now)
+        → HasPulledSome stream number open_at (E.events source.now) cursor.old
+        → PassesOn (W.contents writer.old) text.old (W.contents writer.new) text.new
+        (stream_counts_text open_at (E.events source.now) stream number)) }
     ensures fault { OnErr result ((stream : Stream) (number : ℕ) (open_at : ℤ)
-        → IsRunnable stream number open_at (E.events source.now) → HasPulledSome stream number open_at (E.events source.now) cursor.old
-        → BreaksOff (W.contents writer.old) text.old (W.contents writer.new) (stream_counts_text open_at (E.events source.now) stream number)) }
+        → IsRunnable stream number open_at (E.events source.now)
+        → HasPulledSome stream number open_at (E.events source.now) cursor.old
+        → BreaksOff (W.contents writer.old) text.old (W.contents writer.new)
+        (stream_counts_text open_at (E.events source.now) stream number)) }
 {
+    // The counts are complete only once all events were taken.
     finish_stream(cursor, source);
     write_paths(text, writer, cursor)?;
     let paths = cursor.spec().paths();
@@ -74,10 +83,14 @@ pub fn write_counts<E: EventSource, W: Write>(
     cursors: &mut [Cursor],
 ) -> Result<(), WriteFault>
     requires ready { All (IsReadyFor (E.events source.now)) cursors.old }
-    ensures ok { OnOk result ((studio : Studio) → IsRunnableBy studio (E.events source.now) → ArePulled studio (E.events source.now) cursors.old
-        → PassesOn (W.contents writer.old) text.old (W.contents writer.new) text.new (counts_text_of studio (E.events source.now))) }
-    ensures fault { OnErr result ((studio : Studio) → IsRunnableBy studio (E.events source.now) → ArePulled studio (E.events source.now) cursors.old
-        → BreaksOff (W.contents writer.old) text.old (W.contents writer.new) (counts_text_of studio (E.events source.now))) }
+    ensures ok { OnOk result ((studio : Studio) → IsRunnableBy studio (E.events source.now)
+        → ArePulled studio (E.events source.now) cursors.old
+        → PassesOn (W.contents writer.old) text.old (W.contents writer.new) text.new
+        (counts_text_of studio (E.events source.now))) }
+    ensures fault { OnErr result ((studio : Studio) → IsRunnableBy studio (E.events source.now)
+        → ArePulled studio (E.events source.now) cursors.old
+        → BreaksOff (W.contents writer.old) text.old (W.contents writer.new)
+        (counts_text_of studio (E.events source.now))) }
 {
     for number in 0..cursors.len() {
         write_stream_counts(text, writer, source, &mut cursors[number])?;

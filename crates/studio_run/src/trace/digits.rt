@@ -1,4 +1,4 @@
-//! The digits of a datagram.
+//! The hexadecimal digits of a datagram.
 ghost use Rattle.std.specs.Prelude.{◌≡◌, ◌≤◌, ℕ, true, length, take, is_some, IsSome};
 ghost use Rattle.std.specs.List.{list_all};
 ghost use Rattle.hex.specs.Hex.{is_hex_digit, pair_value};
@@ -7,21 +7,22 @@ ghost use Rattle.studio_run.specs.Trace.{octets_of};
 use hex::FromHex;
 use studio_session::DatagramRoom;
 
-/// Whether an octet is a hexadecimal digit, in either case. It takes no branch, which for digits like
-/// chance would often be foretold wrongly.
+/// Returns true if an octet is a hexadecimal digit, in either case.
 fn is_digit(octet: u8) -> bool
     ensures { result ≡ is_hex_digit octet }
 {
+    // The test takes no branch, which for digits like random ones would often be predicted wrongly.
     let decimal = octet.wrapping_sub(b'0') < 10;
     let upper = octet.wrapping_sub(b'A') < 6;
     let lower = octet.wrapping_sub(b'a') < 6;
     decimal || upper || lower
 }
 
-/// Whether all of these are digits. It looks at each, so that the compiler can test many at a time.
+/// Returns true if all of these octets are hexadecimal digits.
 fn are_digits(text: &[u8]) -> bool
     ensures { result ≡ list_all is_hex_digit text.now }
 {
+    // Each octet is looked at, with no early return, so that the compiler can test many at a time.
     let mut all = true;
     for octet in text {
         all &= is_digit(*octet);
@@ -29,26 +30,26 @@ fn are_digits(text: &[u8]) -> bool
     all
 }
 
-/// Whether a field spells octets, one at least, by two hexadecimal digits each. None is decoded.
+/// Returns true if a field spells one or more octets by two hexadecimal digits each. It decodes none.
 pub(crate) fn spells_octets(text: &[u8]) -> bool
     ensures { result ≡ is_some (octets_of text.now) }
 {
     !text.is_empty() && text.len() % 2 == 0 && are_digits(text)
 }
 
-/// The octet that two digits spell; 0 where they are no digits. It is answered either way, so that the
-/// compiler can decode many at a time.
+/// Returns the octet that two digits spell, or 0 if they are no digits.
 fn octet_of(high: u8, low: u8) -> u8
     ensures { is_hex_digit high ≡ true → is_hex_digit low ≡ true → (place : ℕ) → pair_value high low place ≡ Ok result }
 {
     match <[u8; 1] as FromHex>::from_hex([high, low]) {
         Ok(octets) => octets[0],
+        // A fault has a value too, so that the compiler can decode many octets at a time.
         Err(_) => 0,
     }
 }
 
-/// Decodes the octets that a field spells, one at least, by two hexadecimal digits each: how many
-/// there are, from the front of the room.
+/// Decodes the octets that a field spells by two hexadecimal digits each to the front of `room`, and returns their
+/// number.
 pub(crate) fn decode_octets(text: &[u8], room: &mut DatagramRoom) -> usize
     requires short { length text.now ≤ 4096 }
     requires good { IsSome (octets_of text.now) }

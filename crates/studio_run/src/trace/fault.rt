@@ -1,4 +1,4 @@
-//! A trace: the text that says, line by line, what happens to the streams of a studio.
+//! The faults of a trace, and its first line.
 ghost use Rattle.std.specs.Prelude.{◌<◌, length, IfOk, IfErr};
 ghost use Rattle.studio_run.specs.Trace.{FailsInLine};
 ghost use Rattle.studio_run.specs.LineEvent.{IsLineOf};
@@ -9,19 +9,19 @@ use thiserror::Error;
 /// The most events of a trace.
 const MOST_EVENTS: usize = 1_000_000;
 
-/// What is wrong with a line: the first of these that holds. Its text is the kind's word.
+/// The fault of a line: the first of these that holds. Its text is the kind's word.
 #[derive(Clone, Copy, Debug, PartialEq, Eq, Error)]
 pub enum TraceFaultKind {
-    /// It has more than 4,096 octets.
+    /// The line has more than 4,096 octets, without its line feed.
     #[error("toolong")]
     TooLong,
     /// The text ends before its line feed.
     #[error("cut")]
     Cut,
-    /// Its first field is no word of the trace.
+    /// The first field is no word of the trace.
     #[error("word")]
     Word,
-    /// It has too few or too many fields for its word.
+    /// The line has too few or too many fields for its word.
     #[error("fields")]
     Fields,
     /// A time or a stream is no decimal number, or is out of range.
@@ -30,10 +30,10 @@ pub enum TraceFaultKind {
     /// A datagram is no hexadecimal text of one octet or more.
     #[error("hex")]
     Hex,
-    /// It would give event 1,000,001; or, at line 0, the whole text has more than 67,108,864 octets.
+    /// The line would give event 1,000,001; or, at line 0, the whole text has more than 67,108,864 octets.
     #[error("toomany")]
     TooMany,
-    /// The memory for its event was refused. Always at line 0.
+    /// The allocation for an event failed. Always at line 0.
     #[error("memory")]
     Memory,
 }
@@ -42,18 +42,19 @@ pub enum TraceFaultKind {
 #[derive(Clone, Copy, Debug, PartialEq, Eq, Error)]
 #[error("trace line {line}: {kind}")]
 pub struct TraceFault {
-    /// Counted from 1; 0 where no line is at fault.
+    /// The number of the line, counted from 1, or 0 if no line is at fault.
     pub line: u32,
     pub kind: TraceFaultKind,
 }
 
-/// Want of memory, which is of no line.
+/// The fault of an allocation, which belongs to no line.
 pub(crate) const OUT_OF_MEMORY: TraceFault = TraceFault {
     line: 0,
     kind: TraceFaultKind::Memory,
 };
 
-/// Reads the first line after so many events: the event that it gives, if one, and what follows it.
+/// Reads the first line of a text that comes after `events` events: returns the event that it gives, if one, and the
+/// text after it.
 pub(crate) fn read_line<'a>(
     text: &'a [u8],
     events: usize,
@@ -65,6 +66,7 @@ pub(crate) fn read_line<'a>(
     let (line, rest) = split_line(text)?;
     match read_event(line) {
         Ok(Some(event)) => {
+            // The number of events is tested last: event 1,000,001 is too many only if its line is good.
             if events < MOST_EVENTS {
                 Ok((Some(event), rest))
             } else {

@@ -13,13 +13,13 @@ use path_merge::Path;
 /// The most octets of a line, without its line feed.
 const MOST_LINE_OCTETS: usize = 4096;
 
-/// The greatest time: that of an i64.
+/// The greatest time: the greatest `i64`.
 const MOST_TIME: u64 = 9_223_372_036_854_775_807;
 
-/// The greatest number of a stream.
+/// The greatest number of a stream: a studio has at most 16.
 const MOST_STREAM: u64 = 15;
 
-/// The event of a line. The octets of a datagram stand at the line's end, by two digits each.
+/// The event of a line. The digits of a datagram are at the line's end, two for each octet.
 #[derive(Clone, Copy)]
 pub(crate) enum LineEvent<'a> {
     Arrive {
@@ -31,7 +31,7 @@ pub(crate) enum LineEvent<'a> {
     Close,
 }
 
-/// The first line of a text, without its line feed, and what follows it.
+/// Returns the first line of a text, without its line feed, and the text after it.
 pub(crate) fn split_line(text: &[u8]) -> Result<(&[u8], &[u8]), TraceFaultKind>
     ensures line { IfOk result (λ parts. parts.0.now ≡ first_line text.now) }
     ensures rest { IfOk result (λ parts. parts.1.now ≡ after_line text.now) }
@@ -40,6 +40,7 @@ pub(crate) fn split_line(text: &[u8]) -> Result<(&[u8], &[u8]), TraceFaultKind>
     ensures fine { OnOk result (line_fault text.now ≡ None) }
     ensures short { IfOk result (λ parts. length parts.0.now ≤ 4096) }
 {
+    // Only so much is searched, so that a long text without a line feed is refused at once.
     let seen = text.len().min(MOST_LINE_OCTETS + 1);
     match first_place(&text[..seen], b'\n') {
         Some(end) => Ok((&text[..end], &text[end + 1..])),
@@ -48,19 +49,20 @@ pub(crate) fn split_line(text: &[u8]) -> Result<(&[u8], &[u8]), TraceFaultKind>
     }
 }
 
-/// The event that a line gives; none where it is empty or a comment.
+/// Returns the event that a line gives, or `None` if it is empty or a comment.
 pub(crate) fn read_event(line: &[u8]) -> Result<Option<LineEvent<'_>>, TraceFaultKind>
     ensures said { line_said line.now ≡ line_event_of result }
     ensures last { IfOk result (λ event. IfSome event (IsLast line.now)) }
 {
+    // Almost all lines have the common form, which is tested without a search for spaces.
     match read_common_arrival(line) {
         Some(event) => Ok(Some(event)),
         None => read_any(line),
     }
 }
 
-/// The event of an arrival in the form of almost all lines: a letter, one digit for the stream, and a
-/// datagram without fault. None for any other line.
+/// Returns the arrival of a line in the common form: a letter, one digit for the stream, and a datagram without
+/// fault. `None` for any other line.
 fn read_common_arrival(line: &[u8]) -> Option<LineEvent<'_>>
     ensures said { IfSome result (λ event. line_said line.now ≡ Ok (Some (said_in event))) }
     ensures last { IfSome result (IsLast line.now) }
@@ -78,7 +80,8 @@ fn read_common_arrival(line: &[u8]) -> Option<LineEvent<'_>>
     })
 }
 
-/// An octet, a space, an octet, a space, and the rest of a line, if it begins so.
+/// Returns the parts of a line that begins with an octet, a space, an octet and a space: the two octets, and the
+/// rest.
 fn common_fields(line: &[u8]) -> Option<(u8, u8, &[u8])>
     ensures { IfSome result (λ parts. line.now ≡ parts.0 ∷ 32 ∷ parts.1 ∷ 32 ∷ parts.2.now) }
 {
@@ -88,7 +91,7 @@ fn common_fields(line: &[u8]) -> Option<(u8, u8, &[u8])>
     }
 }
 
-/// The value of a decimal digit.
+/// Returns the value of a decimal digit.
 fn digit_value(octet: u8) -> Option<u8>
     ensures digit { IfSome result (λ value. octet ≡ 48 + value) }
     ensures small { IfSome result (λ value. value < 10) }
@@ -99,7 +102,7 @@ fn digit_value(octet: u8) -> Option<u8>
     Some(octet - b'0')
 }
 
-/// As `read_event`, for any line.
+/// Returns the event that any line gives, or `None` if it is empty or a comment.
 fn read_any(line: &[u8]) -> Result<Option<LineEvent<'_>>, TraceFaultKind>
     ensures said { line_said line.now ≡ line_event_of result }
     ensures last { IfOk result (λ event. IfSome event (IsLast line.now)) }
@@ -114,7 +117,7 @@ fn read_any(line: &[u8]) -> Result<Option<LineEvent<'_>>, TraceFaultKind>
     }
 }
 
-/// The event that a word and the fields after it say.
+/// Returns the event that a word and the fields after it say.
 fn read_fields<'a>(word: &[u8], rest: Option<&'a [u8]>) -> Result<LineEvent<'a>, TraceFaultKind>
     ensures said { fields_said (word.now ∷ fields_after rest.entry) ≡ event_of result }
     ensures last { IfOk result (IsLastIn rest.entry) }
@@ -131,7 +134,7 @@ fn read_fields<'a>(word: &[u8], rest: Option<&'a [u8]>) -> Result<LineEvent<'a>,
     }
 }
 
-/// The path that a word of the trace names.
+/// Returns the path that a word of the trace names.
 fn path_of(word: &[u8]) -> Option<Path>
     ensures { result ≡ path_of word.now }
 {
@@ -141,7 +144,7 @@ fn path_of(word: &[u8]) -> Option<Path>
     path_by(word[0])
 }
 
-/// The path that a letter names.
+/// Returns the path that a letter names.
 fn path_by(letter: u8) -> Option<Path>
     ensures { result ≡ path_of (letter ∷ []) }
 {
@@ -151,7 +154,7 @@ fn path_by(letter: u8) -> Option<Path>
     Path::new(letter - b'a')
 }
 
-/// What follows the word `tick`: a time.
+/// Reads the field after the word `tick`: a time in sampling instants.
 fn read_tick<'a>(rest: Option<&'a [u8]>) -> Result<LineEvent<'a>, TraceFaultKind>
     ensures said { tick_of (fields_after rest.entry) ≡ event_of result }
     ensures last { IfOk result (IsLastIn rest.entry) }
@@ -169,7 +172,7 @@ fn read_tick<'a>(rest: Option<&'a [u8]>) -> Result<LineEvent<'a>, TraceFaultKind
     }
 }
 
-/// What follows the word of a path: a stream and a datagram.
+/// Reads the fields after the word of a path: a stream and a datagram.
 fn read_arrival<'a>(path: Path, rest: Option<&'a [u8]>) -> Result<LineEvent<'a>, TraceFaultKind>
     ensures said { arrival_of path (fields_after rest.entry) ≡ event_of result }
     ensures last { IfOk result (IsLastIn rest.entry) }
@@ -185,6 +188,7 @@ fn read_arrival<'a>(path: Path, rest: Option<&'a [u8]>) -> Result<LineEvent<'a>,
     if last.is_some() {
         return Err(TraceFaultKind::Fields);
     }
+    // The number of fields is tested first, then each field: the order of `TraceFaultKind`.
     let Some(stream) = decimal_number(stream, MOST_STREAM) else {
         return Err(TraceFaultKind::Number);
     };
@@ -198,7 +202,7 @@ fn read_arrival<'a>(path: Path, rest: Option<&'a [u8]>) -> Result<LineEvent<'a>,
     })
 }
 
-/// What follows the word `close`: nothing.
+/// Reads the fields after the word `close`, of which there are none.
 fn read_close<'a>(rest: Option<&'a [u8]>) -> Result<LineEvent<'a>, TraceFaultKind>
     ensures said { close_of (fields_after rest.entry) ≡ event_of result }
     ensures last { IfOk result (IsLastIn rest.entry) }

@@ -1,4 +1,4 @@
-//! A trace, read event by event. Nothing here takes memory.
+//! A trace, read event by event. Nothing here allocates.
 ghost use Rattle.std.specs.Prelude.{◌≡◌, ◌<◌, ◌≤◌, [], ◌++◌, List, length, IfOk, IfErr, IfSome, OnOk, Ok, Err, None};
 ghost use Rattle.studio_session.specs.Event.{TraceEvent};
 ghost use Rattle.studio_run.specs.Trace.{trace_events};
@@ -6,18 +6,18 @@ ghost use Rattle.studio_run.specs.Trace.{trace_events};
 use crate::trace::fault::{TraceFault, TraceFaultKind, read_line};
 use crate::trace::text_events::{TextEvent, text_event};
 
-/// The most octets of a trace.
+/// The most octets of a trace: 64 MiB.
 pub(crate) const MOST_TRACE_OCTETS: usize = 67_108_864;
 
 /// A trace, read up to the beginning of a line.
 #[derive(Drop)]
 pub(crate) struct TraceReader<'a> {
     text: &'a [u8],
-    /// Where the next line begins.
+    /// The place where the next line begins.
     at: usize,
     /// The number of the line before it.
     line: u32,
-    /// How many events the lines before it gave.
+    /// The number of events that the lines before it gave.
     events: usize,
     ghost within: { at ≤ length text.now },
     ghost few_lines: { line ≤ at },
@@ -29,7 +29,7 @@ impl<'a> TraceReader<'a> {
     ghost use Rattle.studio_run.specs.Reader.{HasRead};
     ghost use Rattle.studio_run.specs.Places.{IsPlace, said_at};
 
-    /// Nothing is read yet.
+    /// Returns a reader at the first line, or the fault of a text that is too long.
     pub(crate) fn new(text: &'a [u8]) -> Result<Self, TraceFault>
         ensures none { IfOk result (λ reader. HasRead reader []) }
         ensures text { IfOk result (λ reader. reader.text.now ≡ text.now) }
@@ -49,11 +49,14 @@ impl<'a> TraceReader<'a> {
         })
     }
 
-    /// The next event; none at the end.
+    /// Returns the next event, or `None` at the end.
     pub(crate) fn next(&mut self) -> Result<Option<TextEvent>, TraceFault>
-        ensures fault { IfErr result (λ e. (before : List TraceEvent) → HasRead self.old before → trace_events self.old.text.now ≡ Err e) }
-        ensures read { IfOk result (λ place. (before : List TraceEvent) → HasRead self.old before → HasRead self.new (before ++ said_at self.old.text.now place)) }
-        ensures end { result ≡ Ok None → (before : List TraceEvent) → HasRead self.old before → trace_events self.old.text.now ≡ Ok before }
+        ensures fault { IfErr result (λ e. (before : List TraceEvent) → HasRead self.old before
+            → trace_events self.old.text.now ≡ Err e) }
+        ensures read { IfOk result (λ place. (before : List TraceEvent) → HasRead self.old before
+            → HasRead self.new (before ++ said_at self.old.text.now place)) }
+        ensures end { result ≡ Ok None → (before : List TraceEvent) → HasRead self.old before
+            → trace_events self.old.text.now ≡ Ok before }
         ensures text { self.new.text.now ≡ self.old.text.now }
         ensures place { IfOk result (λ place. IfSome place (IsPlace self.old.text.now)) }
         ensures further { IfOk result (λ place. IfSome place (λ _. self.old.at < self.new.at)) }
@@ -67,11 +70,13 @@ impl<'a> TraceReader<'a> {
         Ok(None)
     }
 
-    /// The event of the next line, if it gives one.
+    /// Returns the event of the next line, if it gives one.
     fn next_line(&mut self) -> Result<Option<TextEvent>, TraceFault>
         requires { self.old.at < length self.old.text.now }
-        ensures fault { IfErr result (λ e. (before : List TraceEvent) → HasRead self.old before → trace_events self.old.text.now ≡ Err e) }
-        ensures read { IfOk result (λ place. (before : List TraceEvent) → HasRead self.old before → HasRead self.new (before ++ said_at self.old.text.now place)) }
+        ensures fault { IfErr result (λ e. (before : List TraceEvent) → HasRead self.old before
+            → trace_events self.old.text.now ≡ Err e) }
+        ensures read { IfOk result (λ place. (before : List TraceEvent) → HasRead self.old before
+            → HasRead self.new (before ++ said_at self.old.text.now place)) }
         ensures text { self.new.text.now ≡ self.old.text.now }
         ensures place { IfOk result (λ place. IfSome place (IsPlace self.old.text.now)) }
         ensures further { OnOk result (self.old.at < self.new.at) }

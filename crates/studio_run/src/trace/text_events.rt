@@ -1,16 +1,17 @@
-//! Events of a trace as places of its text.
+//! The events of a trace as places of its text.
 ghost use Rattle.std.specs.Prelude.{◌≡◌, ◌≤◌};
 ghost use Rattle.studio_run.specs.Places.{text_event, digits_in};
 
 use crate::trace::line::LineEvent;
 use path_merge::Path;
 
-/// One event: a datagram by where its digits stand, a reading of the clock, or the close.
+/// An event of a trace: a datagram by the place of its digits, a clock reading in sampling instants, or the close.
 #[derive(Clone, Copy, Debug, PartialEq, Eq)]
 pub enum TextEvent {
     Arrive {
         stream: u8,
         path: Path,
+        // 32 bits are enough for a text of at most 67,108,864 octets, and keep an event at 16 octets.
         start: u32,
         end: u32,
     },
@@ -18,7 +19,7 @@ pub enum TextEvent {
     Close,
 }
 
-/// The place of a line's event, where the line ends here.
+/// Returns the event of a line that ends at `end`, as a place of the text.
 pub(crate) fn text_event(end: u32, event: &LineEvent<'_>) -> TextEvent
     requires { digits_in event.now ≤ end }
     ensures { result ≡ text_event end event.now }

@@ -1,4 +1,4 @@
-//! The events of a trace, left in its text.
+//! The events of a trace, whose datagrams are left in its text.
 ghost use Rattle.std.specs.Prelude.{◌≡◌, ◌≤◌, ℕ, List, length, IsSome};
 ghost use Rattle.studio_session.specs.Event.{Arrival, outline_of};
 ghost use Rattle.studio_run.specs.Trace.{trace_events, octets_of};
@@ -13,8 +13,7 @@ use std::alloc::Global;
 use std::marker::Model;
 use studio_session::{DatagramRoom, EventHeader, EventSource};
 
-/// The events of a trace: 16 octets each, beside the text. Their memory is taken when they are made,
-/// and no later call takes any.
+/// The events of a trace, with 16 octets each next to the text. Only `new` allocates.
 #[derive(Drop)]
 pub struct TracedEvents<'a> {
     text: &'a [u8],
@@ -38,11 +37,12 @@ impl<'a> TracedEvents<'a> {
     ghost use Rattle.studio_run.specs.Trace.{BeginsWithEvents, fault_in};
     ghost use Rattle.studio_run.specs.declared.trace.fault.TraceFaultKind.TheVariants.{Memory};
 
-    /// Finds the events of a trace. Want of memory is answered where a growth is refused, whatever the
-    /// later lines say: only of a trace whose lines up to there have no fault.
+    /// Returns the events of a trace, or its first fault. An allocation failure is the error only if all lines up to
+    /// it are good, whatever later lines say.
     pub fn new(alloc: Global, text: &'a [u8]) -> Result<Self, TraceFault>
         ensures ok { IfOk result (λ events. trace_events text.now ≡ Ok events) }
-        ensures fault { IfErr result (λ e. ((e ≡ fault_in 0 Memory) × BeginsWithEvents text.now) ⊎ (trace_events text.now ≡ Err e)) }
+        ensures fault { IfErr result (λ e. ((e ≡ fault_in 0 Memory) × BeginsWithEvents text.now)
+            ⊎ (trace_events text.now ≡ Err e)) }
     {
         let mut places = Vec::new(alloc);
         let mut reader = TraceReader::new(text)?;
@@ -69,7 +69,7 @@ impl<'a> EventSource for TracedEvents<'a> {
     }
 }
 
-/// An event without the octets of its datagram.
+/// Returns an event without the octets of its datagram.
 fn outline_of(place: &TextEvent) -> EventHeader
     ensures { (text : List ℕ) → result ≡ outline_of (event_at text place.now) }
 {
@@ -83,10 +83,11 @@ fn outline_of(place: &TextEvent) -> EventHeader
     }
 }
 
-/// The octets of a place's datagram, laid out in the room; none of a place without one.
+/// Returns the octets of a place's datagram, laid out in `room`, none of a place without one.
 fn octets_in<'a>(text: &[u8], place: TextEvent, room: &'a mut DatagramRoom) -> &'a [u8]
     requires { IsPlace text.now place }
-    ensures { (stream path : ℕ) (octets : List ℕ) → event_at text.now place ≡ Arrival stream path octets → result.now ≡ octets }
+    ensures { (stream path : ℕ) (octets : List ℕ) → event_at text.now place ≡ Arrival stream path octets
+        → result.now ≡ octets }
 {
     match place {
         TextEvent::Arrive { start, end, .. } => {
@@ -98,7 +99,7 @@ fn octets_in<'a>(text: &[u8], place: TextEvent, room: &'a mut DatagramRoom) -> &
     }
 }
 
-/// The octets that digits spell, laid out in the room.
+/// Returns the octets that digits spell, laid out in `room`.
 fn decoded<'a>(digits: &[u8], room: &'a mut DatagramRoom) -> &'a [u8]
     requires short { length digits.now ≤ 4096 }
     requires good { IsSome (octets_of digits.now) }
