@@ -91,8 +91,8 @@ impl Model for Cursor {
 }
 
 impl Cursor {
-    /// Returns a cursor before the first event. `number` is the stream's place in the studio, and `open_at` its
-    /// opening time in sampling instants.
+    /// Returns a cursor before the first event. `number` is the stream's number in the studio, from 0, and `open_at`
+    /// its opening time in sampling instants.
     pub fn new(
         alloc: Global,
         spec: StreamSpec,

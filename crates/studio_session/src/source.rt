@@ -25,7 +25,7 @@ pub trait EventSource {
         requires { place < length (events self.now) }
         ensures { (event : TraceEvent) → slice_get (events self.now) place ≡ Some event → result ≡ outline_of event };
 
-    /// Returns the octets of a datagram that arrived, from where they lie in memory or laid out in `room`.
+    /// Returns the octets of a datagram that arrived, borrowed from memory or laid out in `room`.
     fn octets<'a>(&'a self, place: usize, room: &'a mut DatagramRoom) -> &'a [u8]
         requires { place < length (events self.now) }
         ensures { (stream path : ℕ) (octets : List ℕ)
