@@ -67,7 +67,8 @@ fn latest_reading(time: i64, mixer: &Mixer, cursors: &[Cursor]) -> i64
 }
 
 /// Returns the clock reading at which a stream's marks come to a block's end, if nothing arrives: the deadline of the
-/// slot that holds the block's last instant, or a latency past the end if only silence can come.
+/// slot that holds the block's last instant, a latency past the end if silence can come before a slot, or else the
+/// next slot's deadline.
 fn reading_for(cursor: &Cursor, end: i64) -> i64
     ensures { IsNotPast (next_deadline_of cursor.now.merge)
         (nat_eq (cursor.now.merge.counts.got + cursor.now.merge.counts.lost) 0)
