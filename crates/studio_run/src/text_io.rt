@@ -8,7 +8,7 @@ use std::alloc::{AllocError, Global};
 use std::io::{Read, Write};
 use thiserror::Error;
 
-// At an octet or more a call, no text comes to this limit before it is too long. It bounds the loop.
+// Each call reads an octet or more, so a text is too long before it comes to this limit. The limit bounds the loop.
 /// The most calls of a reader for one text.
 const MOST_CALLS: u32 = 100_000_000;
 

@@ -54,7 +54,7 @@ pub(crate) fn read_event(line: &[u8]) -> Result<Option<LineEvent<'_>>, TraceFaul
     ensures said { line_said line.now ≡ line_event_of result }
     ensures last { IfOk result (λ event. IfSome event (IsLast line.now)) }
 {
-    // Almost all lines have the common form, which is tested without a search for spaces.
+    // Almost all lines have the common form, which is tested without looking for spaces.
     match read_common_arrival(line) {
         Some(event) => Ok(Some(event)),
         None => read_any(line),
