@@ -1,4 +1,4 @@
-//! The ends of a studio's rings.
+//! The set of all ends that opening a studio returns, and the errors of opening.
 
 use crate::mix_end::MixEnd;
 use crate::monitor_end::MonitorEnd;
@@ -6,7 +6,7 @@ use crate::path_end::PathEnd;
 use crate::stream_end::StreamEnd;
 use thiserror::Error;
 
-/// All ends: of the paths stream by stream and path by path, of the streams, and of the mixer.
+/// All ends of a studio's rings. The paths are ordered by stream and then by path, the streams and monitors by stream.
 #[derive(Drop)]
 pub struct Ends {
     pub paths: Vec<PathEnd>,
@@ -15,13 +15,13 @@ pub struct Ends {
     pub mix: MixEnd,
 }
 
-/// Why there are no rings: the first of these, in this order.
+/// The error of `open` and `open_with_stats`: the first of these that applies.
 #[derive(Clone, Copy, Debug, PartialEq, Eq, Error)]
 pub enum OpenFault {
-    /// Not 1 to 65,536 places.
+    /// The ring length is not 1 to 65,536 places.
     #[error("rings have from 1 to 65536 places")]
     RingLength,
-    /// A growth was refused.
+    /// An allocation failed.
     #[error("out of memory")]
     Memory,
 }

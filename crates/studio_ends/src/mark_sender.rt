@@ -1,4 +1,4 @@
-//! The pushing end of a ring of marks with one size of rooms.
+//! The pushing end of a ring of marks whose cells have one size.
 ghost use Rattle.std.specs.Prelude.{◌≡◌, ◌+◌, ◌<◌, ◌≤◌, ◌++◌, ◌∷◌, [], ◌↔◌, IfSome, IsTrue};
 ghost use Rattle.rtrb.specs.Ring.{Finishes, ProducerLooked, SameProducer, known_free, sent};
 ghost use Rattle.rtp_stream.specs.MarkFacts.{payload_length};
@@ -8,11 +8,12 @@ use path_merge::{Format, MarkRef};
 use rtrb::{Finished, Producer};
 use std::marker::Model;
 
-/// The pushing end of a ring of marks, and a room that each mark is written to before it is pushed.
+/// The pushing end of a ring of marks, and a cell that each mark is written to before it is pushed.
 /// Contracts see it as that end.
 #[derive(Drop)]
 pub(crate) struct SizedMarkProducer<const N: usize> {
     ring: Producer<MarkCell<N>>,
+    // One cell for all marks: its octets are zeroed only if the length changes, and copied to the ring once.
     room: MarkCell<N>,
 }
 
@@ -28,6 +29,7 @@ impl<const N: usize> Model for SizedMarkProducer<N> {
 }
 
 impl<const N: usize> SizedMarkProducer<N> {
+    /// A pushing end over this ring, for marks of this format.
     pub(crate) fn new(ring: Producer<MarkCell<N>>, format: Format) -> SizedMarkProducer<N>
         ensures { result ≡ ring.entry }
     {
@@ -37,7 +39,7 @@ impl<const N: usize> SizedMarkProducer<N> {
         }
     }
 
-    /// Whether no place is seen to be free.
+    /// Returns true if no place is known to be free.
     pub(crate) fn is_full(&mut self) -> bool
         ensures looked { ProducerLooked self.old self.new }
         ensures value { IsTrue result ↔ (known_free self.new ≡ 0) }
@@ -52,12 +54,13 @@ impl<const N: usize> SizedMarkProducer<N> {
         ensures ring { SameProducer self.old self.new }
         ensures sent { sent self.new ≡ sent self.old ++ mark.now ∷ [] }
     {
+        // Called for its contract: the payload has the format's length, so it fits the cell.
         let _kind = mark.kind();
         self.room.fill(mark);
         self.ring.push_reserved(self.room);
     }
 
-    /// The token of the end. None where the other end is gone.
+    /// Consumes the end and returns its token; `None` if the consumer was dropped.
     pub(crate) fn finish(self) -> Option<Finished<MarkCell<N>>>
         ensures { IfSome result (λ done. Finishes self.entry done) }
     {

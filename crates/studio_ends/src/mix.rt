@@ -1,5 +1,22 @@
-//! The end of the mixer.
-ghost use Rattle.std.specs.Prelude.{◌≡◌, ◌↔◌, ◌<◌, ◌≤◌, ◌+◌, ℕ, List, length, IfSome, IsTrue, None, slice_get, Some, take, true, vec_len};
+//! The calls of the mixer's end: marks in, datagrams out.
+ghost use Rattle.std.specs.Prelude.{
+  ◌≡◌,
+  ◌↔◌,
+  ◌<◌,
+  ◌≤◌,
+  ◌+◌,
+  ℕ,
+  List,
+  length,
+  IfSome,
+  IsTrue,
+  None,
+  slice_get,
+  Some,
+  take,
+  true,
+  vec_len,
+};
 ghost use Rattle.mix_packets.specs.OutSpec.{datagram_length};
 ghost use Rattle.mix_packets.specs.declared.out_spec.Output.{Output};
 ghost use Rattle.rtrb.specs.Ring.{all_sent, IsFinishedOf};
@@ -23,19 +40,19 @@ use crate::rings::drained::any_stream_open;
 use crate::stream_end::turns::StreamDone;
 use rtp_stats::MixStatsSender;
 
-/// What a turn of the mixer's end did.
+/// The result of `MixEnd::turn`.
 #[derive(Clone, Copy, Debug)]
 pub struct MixNote {
-    /// How many marks it took of all streams.
+    /// The number of marks that it took of all streams, at most 64 of each.
     pub taken: u32,
-    /// How many of them may not follow those before.
+    /// The number of them that were dropped, since they may not follow the marks before.
     pub strange: u32,
-    /// The length of the datagram, if one was final.
+    /// The length of the datagram, in octets; `None` if no block was ready.
     pub len: Option<usize>,
 }
 
-/// Tells how many samples were saturated, and how loud it is, once a datagram was written to the front of `out`, if somebody
-/// is to be told.
+/// Sends the saturated samples and the peaks, if the mixer has a sender and a datagram of `given` octets was written to
+/// the start of `out`.
 fn send_stats(
     teller: &mut Option<MixStatsSender>,
     given: Option<usize>,
@@ -55,7 +72,7 @@ fn send_stats(
 }
 
 impl MixEnd {
-    /// How many samples of each output channel were saturated in the datagrams so far.
+    /// Returns the number of samples of each output channel that were saturated in the datagrams so far.
     pub fn saturated(&self) -> &[u64]
         ensures value { result.now ≡ self.now.mixer.saturated }
         ensures stands { (studio : Studio) (number : ℕ) → MixHasFeeds studio self.now number
@@ -64,7 +81,7 @@ impl MixEnd {
         self.mixer.saturated()
     }
 
-    /// How many octets a datagram has, its header among them.
+    /// Returns the length of a datagram, in octets, with its RTP header of 12.
     pub fn datagram_len(&self) -> usize
         ensures value { result ≡ datagram_length self.now.mixer.packer.spec }
         ensures most { result ≤ 1452 }
@@ -72,8 +89,11 @@ impl MixEnd {
         self.mixer.output().datagram_len()
     }
 
-    /// Takes the marks of all streams that are wanted, and then writes the next datagram to the front
-    /// of `out` where its block is final.
+    /// Takes the marks that the next block needs, and then writes its datagram to the start of `out` if the block is
+    /// ready.
+    ///
+    /// The caller passes room for `datagram_len` octets, and calls again: one turn takes at most 64 marks of each
+    /// stream and writes at most one datagram.
     pub fn turn(&mut self, out: &mut [u8]) -> MixNote
         requires room { datagram_length self.old.mixer.packer.spec ≤ length out.old }
         ensures taken { AllTakeSome self.old.sides.items self.new.sides.items }
@@ -82,10 +102,12 @@ impl MixEnd {
             → MixesBlock studio self.old result self.new number out.old out.new }
         ensures given { (studio : Studio) (datagrams : List (List ℕ)) → HasGiven studio self.old datagrams
             → HasGiven studio self.new (given_after datagrams result.len out.new) }
-        ensures all { result.len ≡ None → (studio : Studio) (datagrams : List (List ℕ)) → HasGiven studio self.old datagrams
+        ensures all { result.len ≡ None → (studio : Studio) (datagrams : List (List ℕ))
+            → HasGiven studio self.old datagrams
             → AreAllGiven studio self.new datagrams }
         ensures none { result.len ≡ None → out.new ≡ out.old }
-        ensures told { IfSome result.len (λ len. TellsCounts self.new.mixer.saturated (take len out.new) self.old.teller self.new.teller) }
+        ensures told { IfSome result.len (λ len. TellsCounts self.new.mixer.saturated
+            (take len out.new) self.old.teller self.new.teller) }
         ensures spec { self.new.mixer.packer.spec ≡ self.old.mixer.packer.spec }
     {
         let (taken, strange) = take_streams(&mut self.sides, &mut self.mixer);
@@ -98,31 +120,39 @@ impl MixEnd {
         }
     }
 
-    /// Takes the proof that a stream has finished.
+    /// Takes the token of a finished stream. The caller passes it to the stream whose end returned it.
     pub fn stream_done(&mut self, stream: usize, done: StreamDone)
         requires stream { stream < vec_len self.old.sides }
-        requires token { (side : TokenConsumer MarkView) → slice_get self.old.sides.items stream ≡ Some side → IsFinishedOf done.token side.ring }
+        requires token { (side : TokenConsumer MarkView) → slice_get self.old.sides.items stream ≡ Some side
+            → IsFinishedOf done.token side.ring }
         ensures sides { HandsIn self.old.sides.items stream (all_sent done.token) self.new.sides.items }
         ensures mixer { self.new.mixer ≡ self.old.mixer }
-        ensures stands { (studio : Studio) (number : ℕ) → MixHasFeeds studio self.old number → MixHasFeeds studio self.new number }
-        ensures given { (studio : Studio) (datagrams : List (List ℕ)) → HasGiven studio self.old datagrams → HasGiven studio self.new datagrams }
+        ensures stands { (studio : Studio) (number : ℕ) → MixHasFeeds studio self.old number
+            → MixHasFeeds studio self.new number }
+        ensures given { (studio : Studio) (datagrams : List (List ℕ)) → HasGiven studio self.old datagrams
+            → HasGiven studio self.new datagrams }
     {
         self.sides[stream].hand_in(done.token);
     }
 
-    /// Whether every stream has finished, and all its marks were taken. If so, all marks that the
-    /// tokens tell were accepted, and where the turn before gave no datagram, all blocks were given.
+    /// Returns true if every stream has finished and all its marks were taken.
+    ///
+    /// If the turn before wrote no datagram either, all blocks were written.
     pub fn settled(&mut self) -> bool
         ensures value { IsTrue result ↔ AllDrained self.new.sides.items }
         ensures rings { AllLookAt self.old.sides.items self.new.sides.items }
         ensures mixer { self.new.mixer ≡ self.old.mixer }
-        ensures stands { (studio : Studio) (number : ℕ) → MixHasFeeds studio self.old number → MixHasFeeds studio self.new number }
-        ensures given { (studio : Studio) (datagrams : List (List ℕ)) → HasGiven studio self.old datagrams → HasGiven studio self.new datagrams }
+        ensures stands { (studio : Studio) (number : ℕ) → MixHasFeeds studio self.old number
+            → MixHasFeeds studio self.new number }
+        ensures given { (studio : Studio) (datagrams : List (List ℕ)) → HasGiven studio self.old datagrams
+            → HasGiven studio self.new datagrams }
         ensures accepted { result ≡ true → (studio : Studio) (feeds : List Feed) → AreAllTold studio self.new feeds
             → accepted_feeds studio.streams self.new.sides.items ≡ feeds }
-        ensures all { result ≡ true → (studio : Studio) (feeds : List Feed) (datagrams : List (List ℕ)) → AreAllTold studio self.new feeds
+        ensures all { result ≡ true → (studio : Studio) (feeds : List Feed) (datagrams : List (List ℕ))
+            → AreAllTold studio self.new feeds
             → AreAllGiven studio self.old datagrams → AreBlocks studio feeds datagrams }
     {
+        // A studio has at most 16 streams.
         let mut open_yet = [false; 16];
         !any_stream_open(&mut self.sides, &mut open_yet)
     }

@@ -1,9 +1,32 @@
-//! Opens the rings of a studio.
-ghost use Rattle.std.specs.Prelude.{◌≡◌, ◌<◌, ◌≤◌, [], List, ◌++◌, IfOk, IfErr, OnOk, length, vec_len, ℤ, pos, ◌≤ℤ◌, ◌^◌};
+//! Opens the rings of a studio and returns their ends.
+ghost use Rattle.std.specs.Prelude.{
+  ◌≡◌,
+  ◌<◌,
+  ◌≤◌,
+  [],
+  List,
+  ◌++◌,
+  IfOk,
+  IfErr,
+  OnOk,
+  length,
+  vec_len,
+  ℤ,
+  pos,
+  ◌≤ℤ◌,
+  ◌^◌,
+};
 ghost use Rattle.studio_config.specs.Studio.{IsStudio};
 ghost use Rattle.studio_ends.specs.declared.path_end.PathEnd.{PathEnd};
 ghost use Rattle.studio_ends.specs.Datagrams.{HasGiven};
-ghost use Rattle.studio_ends.specs.FreshEnds.{AllFreshPaths, AreFreshRings, AreOpened, IsFreshPath, IsFreshStream, open_fault_of};
+ghost use Rattle.studio_ends.specs.FreshEnds.{
+  AllFreshPaths,
+  AreFreshRings,
+  AreOpened,
+  IsFreshPath,
+  IsFreshStream,
+  open_fault_of,
+};
 ghost use Rattle.studio_ends.specs.Opening.{AddsStream, AllUnread, AreFreshEnds};
 
 use crate::ends::{Ends, OpenFault};
@@ -21,7 +44,7 @@ use std::alloc::{AllocError, Global};
 use studio_config::StudioSpec;
 use studio_mix::Mixer;
 
-/// The ends of some streams, and of their marks' rings.
+/// The ends of some streams, and the consumers of their marks.
 #[derive(Drop)]
 pub(crate) struct StreamEnds {
     pub(crate) paths: Vec<PathEnd>,
@@ -30,7 +53,7 @@ pub(crate) struct StreamEnds {
     pub(crate) marks: Vec<MarkConsumer>,
 }
 
-/// A path's ring, with both ends.
+/// Opens a path's ring and returns both ends.
 fn open_path(
     alloc: Global,
     spec: &StreamSpec,
@@ -50,7 +73,7 @@ fn open_path(
     Ok((end, side))
 }
 
-/// The rings of a stream's paths: their ends join the others, and the stream's sides are answered.
+/// Opens the rings of a stream's paths. Appends the paths' ends to `paths` and returns the consumers.
 fn open_paths(
     alloc: Global,
     spec: &StreamSpec,
@@ -59,7 +82,8 @@ fn open_paths(
     tellers: &mut StatsChannels,
 ) -> Result<Vec<PacketConsumer>, AllocError>
     ensures { IfOk result (λ sides. (own : List PathEnd) × (paths.new.items ≡ paths.old.items ++ own)
-        × (length own ≡ spec.now.paths) × (vec_len sides ≡ spec.now.paths) × AllFreshPaths spec.now ring_len own sides.items) }
+        × (length own ≡ spec.now.paths) × (vec_len sides ≡ spec.now.paths)
+        × AllFreshPaths spec.now ring_len own sides.items) }
 {
     let mut sides = Vec::new(alloc);
     for _ in 0..spec.paths() {
@@ -70,7 +94,7 @@ fn open_paths(
     Ok(sides)
 }
 
-/// A stream's merge, and its rings of marks and of counts.
+/// Makes a stream's merge and opens its rings of marks and counts.
 fn open_stream(
     alloc: Global,
     spec: &StreamSpec,
@@ -88,6 +112,7 @@ fn open_stream(
 {
     let teller = tellers.stream_channel(alloc, spec)?;
     let merge = Merge::new(alloc, *spec, open_at)?;
+    // Called for its contract: a payload has at most 1,440 octets, which `open_marks` requires.
     let _len = spec.payload_len();
     let format = spec.format();
     let (marks, side) = open_marks(alloc, format, ring_len)?;
@@ -103,7 +128,7 @@ fn open_stream(
     Ok((end, MonitorEnd { ring: look }, side))
 }
 
-/// Adds the ends of a stream to those of the streams before it.
+/// Opens the ends of a stream and appends them to those of the streams before it.
 fn add_stream(
     alloc: Global,
     spec: &StreamSpec,
@@ -124,7 +149,7 @@ fn add_stream(
     Ok(())
 }
 
-/// The ends of all streams.
+/// Opens the ends of all streams.
 fn open_streams(
     alloc: Global,
     specs: &[StreamSpec],
@@ -148,7 +173,7 @@ fn open_streams(
     Ok(ends)
 }
 
-/// The mixer's end, over the rings of all streams' marks.
+/// Makes the mixer's end over the rings of all streams' marks.
 fn open_mix(
     alloc: Global,
     studio: &StudioSpec,
@@ -162,6 +187,7 @@ fn open_mix(
     let output = studio.output();
     let teller = tellers.mix_channel(alloc, output)?;
     let mixer = Mixer::new(alloc, studio)?;
+    // Called for its contract: the output is within its limits, which the end's facts need.
     let _frames = output.frames();
     Ok(MixEnd {
         sides,
@@ -170,7 +196,7 @@ fn open_mix(
     })
 }
 
-/// The ends of all paths, streams and monitors, and of the mixer.
+/// Opens the ends of all paths, streams and monitors, and of the mixer.
 fn open_ends(
     alloc: Global,
     studio: &StudioSpec,
@@ -194,9 +220,10 @@ fn open_ends(
     })
 }
 
-/// Opens the rings of a studio, each with so many places: nothing was sent, and nothing happened yet.
+/// Opens the rings of a studio, each with `ring_len` places, 1 to 65,536.
 ///
-/// From then on no call of an end takes memory. Each end may go to a thread of its own.
+/// Allocates all memory that the ends need: no call of an end allocates. Each end may go to a thread of its own.
+/// Returns `OpenFault::RingLength` if `ring_len` is out of range, and `OpenFault::Memory` if an allocation fails.
 pub fn open(alloc: Global, studio: &StudioSpec, ring_len: usize) -> Result<Ends, OpenFault>
     ensures opened { IfOk result (λ ends. AreOpened studio.now ring_len ends) }
     ensures places { IfOk result (λ ends. (1 ≤ ring_len) × (ring_len ≤ 65536)) }
@@ -210,7 +237,8 @@ pub fn open(alloc: Global, studio: &StudioSpec, ring_len: usize) -> Result<Ends,
     )
 }
 
-/// The same, with watches, which are told what becomes of each path's packets and of the mix.
+/// Opens the rings of a studio as `open` does, and the channels that report the statistics of each path, each stream
+/// and the mix.
 pub fn open_with_stats(
     alloc: Global,
     studio: &StudioSpec,
@@ -225,7 +253,7 @@ pub fn open_with_stats(
     Ok((ends, tellers.watches))
 }
 
-/// Opens the rings, and those of the watches that are wanted.
+/// Opens the rings, and the channels of statistics if they are wanted.
 fn open_with(
     alloc: Global,
     studio: &StudioSpec,

@@ -1,4 +1,4 @@
-//! The pushing end of a ring of packets with one size of rooms.
+//! The pushing end of a ring of packets whose cells have one size.
 ghost use Rattle.std.specs.Prelude.{◌≡◌, ◌+◌, ◌<◌, ◌≤◌, ◌++◌, ◌∷◌, [], ◌↔◌, IfSome, IsTrue, length};
 ghost use Rattle.rtrb.specs.Ring.{Finishes, ProducerLooked, SameProducer, known_free, sent};
 ghost use Rattle.rtp_stream.specs.PacketRef.{packet_of};
@@ -8,11 +8,12 @@ use path_merge::PacketRef;
 use rtrb::{Finished, Producer};
 use std::marker::Model;
 
-/// The pushing end of a ring of packets, and a room that each packet is written to before it is pushed.
+/// The pushing end of a ring of packets, and a cell that each packet is written to before it is pushed.
 /// Contracts see it as that end.
 #[derive(Drop)]
 pub(crate) struct SizedPacketProducer<const N: usize> {
     ring: Producer<PacketCell<N>>,
+    // One cell for all packets: its octets are zeroed only if the length changes, and copied to the ring once.
     room: PacketCell<N>,
 }
 
@@ -28,6 +29,7 @@ impl<const N: usize> Model for SizedPacketProducer<N> {
 }
 
 impl<const N: usize> SizedPacketProducer<N> {
+    /// A pushing end over this ring.
     pub(crate) fn new(ring: Producer<PacketCell<N>>) -> SizedPacketProducer<N>
         ensures { result ≡ ring.entry }
     {
@@ -37,7 +39,7 @@ impl<const N: usize> SizedPacketProducer<N> {
         }
     }
 
-    /// Whether no place is seen to be free.
+    /// Returns true if no place is known to be free.
     pub(crate) fn is_full(&mut self) -> bool
         ensures looked { ProducerLooked self.old self.new }
         ensures value { IsTrue result ↔ (known_free self.new ≡ 0) }
@@ -56,7 +58,7 @@ impl<const N: usize> SizedPacketProducer<N> {
         self.ring.push_reserved(self.room);
     }
 
-    /// The token of the end. None where the other end is gone.
+    /// Consumes the end and returns its token; `None` if the consumer was dropped.
     pub(crate) fn finish(self) -> Option<Finished<PacketCell<N>>>
         ensures { IfSome result (λ done. Finishes self.entry done) }
     {

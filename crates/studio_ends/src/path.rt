@@ -1,4 +1,4 @@
-//! The end of a path.
+//! The calls of a path's end: datagrams in, packets into the ring of the path.
 ghost use Rattle.std.specs.Prelude.{◌≡◌, ◌<◌, ◌^◌, IfSome, false, length, true};
 ghost use Rattle.rtrb.specs.Ring.{all_sent, known_free, Finishes, ProducerLooked, SameProducer};
 ghost use Rattle.rtp_stream.specs.declared.packet.Packet.{Packet};
@@ -13,33 +13,36 @@ use crate::rings::packets::{PacketProducer, PacketToken};
 use rtp_stats::PathCountsSender;
 use rtp_stream::{PathCounts, ReceptionRef, receive_ref};
 
-/// What became of a datagram: the first of these that holds.
+/// The outcome of `PathEnd::offer`: the first of these that applies. Each but `CountersFull` is counted.
 #[derive(Clone, Copy, PartialEq, Eq, Debug)]
 pub enum Offer {
     /// 2^62 datagrams were offered before. This one is not counted.
     CountersFull,
-    /// No RTP packet.
+    /// The datagram is not an RTP packet (RFC 3550 5.1).
     Bad,
-    /// Of another payload type.
+    /// The packet has another payload type than the stream.
     WrongType,
-    /// Of another length.
+    /// The payload has another length than the stream's.
     WrongLength,
-    /// No free place was seen in the ring.
+    /// No free place is known in the ring. The caller may offer the datagram again.
     Full,
+    /// The packet was pushed to the ring.
     Sent,
 }
 
-/// The proof that a path's end has finished: what its stream's end wants before it closes.
+/// The token of a finished path's end. `StreamEnd::path_done` takes it, before the stream can close.
 #[derive(Drop)]
 pub struct PathDone {
     pub(crate) token: PacketToken,
 }
 
-/// Whether this is a packet, and no free place is seen for it.
+/// Returns true if the datagram is a packet of the stream and no free place is known for it.
 fn lacks_room(ring: &mut PacketProducer, reception: ReceptionRef<'_>) -> bool
     ensures ring { ProducerLooked ring.old ring.new }
-    ensures full { result ≡ true → ((packet : Packet) × (reception_from reception.entry ≡ Received packet)) × (known_free ring.new ≡ 0) }
-    ensures room { result ≡ false → (packet : Packet) → reception_from reception.entry ≡ Received packet → 0 < known_free ring.new }
+    ensures full { result ≡ true → ((packet : Packet) × (reception_from reception.entry ≡ Received packet))
+        × (known_free ring.new ≡ 0) }
+    ensures room { result ≡ false → (packet : Packet) → reception_from reception.entry ≡ Received packet
+        → 0 < known_free ring.new }
 {
     match reception {
         ReceptionRef::Sent(_) => ring.is_full(),
@@ -49,7 +52,7 @@ fn lacks_room(ring: &mut PacketProducer, reception: ReceptionRef<'_>) -> bool
     }
 }
 
-/// Tells counts, if somebody is to be told.
+/// Sends counts, if the path has a sender.
 fn send_stats(teller: &mut Option<PathCountsSender>, counts: PathCounts) {
     if let Some(teller) = teller {
         teller.send(counts);
@@ -57,7 +60,9 @@ fn send_stats(teller: &mut Option<PathCountsSender>, counts: PathCounts) {
 }
 
 impl PathEnd {
-    /// Sends the packet of a datagram to its stream, if it is one of the stream.
+    /// Pushes the packet of a datagram to the stream's end, if it is a packet of the stream.
+    ///
+    /// Reads the fields that RFC 3550 5.1 defines. Never allocates or blocks.
     pub fn offer(&mut self, datagram: &[u8]) -> Offer
         ensures answer { Offers datagram.now self.old result self.new }
         ensures known { (packet : Packet) → self.old.counts.offered < 2 ^ 62 → 0 < known_free self.old.ring
@@ -65,10 +70,12 @@ impl PathEnd {
         ensures ring { SameProducer self.old.ring self.new.ring }
         ensures spec { self.new.spec ≡ self.old.spec }
     {
+        // From 2^62 on nothing is counted, so no counter ever wraps.
         if self.counts.offered == 1 << 62 {
             return Offer::CountersFull;
         }
         let reception = receive_ref(&self.spec, datagram);
+        // Room is tested before the datagram is counted: each is counted once, as full or as received.
         if lacks_room(&mut self.ring, reception) {
             self.counts.add_full();
             send_stats(&mut self.teller, self.counts);
@@ -87,15 +94,16 @@ impl PathEnd {
         }
     }
 
-    /// Tells its watch what became of the datagrams, if it has one: where none comes for now.
+    /// Sends the counts of datagrams, if the path has a sender. For use while no datagram arrives: `offer` sends
+    /// them itself.
     pub fn send_counts(&mut self)
         ensures { self.new ≡ record self.old { teller = self.new.teller } }
     {
         send_stats(&mut self.teller, self.counts);
     }
 
-    /// Gives up the end: the proof of it, and what became of the datagrams. No proof where the other
-    /// end is gone.
+    /// Consumes the end and returns its token and the counts of its datagrams. The token is `None` if the stream's
+    /// end was dropped.
     pub fn finish(self) -> (Option<PathDone>, PathCounts)
         ensures token { IfSome result.0 (λ done. Finishes self.ring done.token) }
         ensures fit { IfSome result.0 (λ done. fitting self.spec (all_sent done.token) ≡ all_sent done.token) }

@@ -1,4 +1,4 @@
-//! What the end of a path consists of.
+//! The end of a path as a struct, with the facts that its calls keep.
 ghost use Rattle.std.specs.Prelude.{◌≡◌, ◌≤◌, ◌^◌, length};
 ghost use Rattle.rtrb.specs.Ring.{sent};
 ghost use Rattle.rtp_stream.specs.MarkFacts.{payload_length};
@@ -11,15 +11,15 @@ use path_merge::StreamSpec;
 use rtp_stats::PathCountsSender;
 use rtp_stream::PathCounts;
 
-/// The end of a path: its datagrams go in.
+/// The end of a path, which takes the path's datagrams.
 ///
-/// Input: `offer`. At the end: `finish`. Neither takes memory or waits.
+/// `offer` takes a datagram. `finish` ends the path. Neither allocates or blocks.
 #[derive(Drop)]
 pub struct PathEnd {
     pub(crate) spec: StreamSpec,
     pub(crate) ring: PacketProducer,
     pub(crate) counts: PathCounts,
-    /// Who is told these counts, if anybody is.
+    /// The sender of these counts; `None` if the rings were opened without statistics.
     pub(crate) teller: Option<PathCountsSender>,
     ghost few: { counts.offered ≤ 2 ^ 62 },
     ghost all_counted: { counts.sent ≡ length (sent ring) },

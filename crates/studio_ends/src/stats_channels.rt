@@ -1,4 +1,4 @@
-//! Where what becomes of the packets can be looked at.
+//! The channels that report the statistics of a studio's ends, opened together with the ends.
 ghost use Rattle.std.specs.Prelude.{IfOk};
 ghost use Rattle.studio_ends.specs.Stats.{Measures};
 
@@ -10,17 +10,17 @@ use rtp_stats::{
 use rtp_stream::StreamSpec;
 use std::alloc::{AllocError, Global};
 
-/// What a studio's ends tell of the packets of each path: before the merges stream by stream and path by path, and by the
-/// merges stream by stream; and of the mix.
+/// The receivers of a studio's statistics: the datagrams of each path before the merge, ordered by stream and then by
+/// path; the packets of each stream's merge; and the mix.
 #[derive(Drop)]
 pub struct StatsReceivers {
     pub paths: Vec<PathCountsReceiver>,
     pub streams: Vec<StreamStatsReceiver>,
-    /// None until the mixer's end is opened, which is the last.
+    /// `None` until the mixer's end is opened, which is the last. `open_with_stats` always sets it.
     pub mix: Option<MixStatsReceiver>,
 }
 
-/// Watches as they are opened with their ends, or none where nobody is to be told anything.
+/// The receivers that were opened so far. Without statistics it opens none.
 #[derive(Drop)]
 pub(crate) struct StatsChannels {
     pub(crate) watches: StatsReceivers,
@@ -28,7 +28,7 @@ pub(crate) struct StatsChannels {
 }
 
 impl StatsChannels {
-    /// None is opened yet.
+    /// Channels of which none is open yet. If they are not wanted, none is ever opened.
     pub(crate) fn new(alloc: Global, are_wanted: bool) -> StatsChannels {
         StatsChannels {
             watches: StatsReceivers {
@@ -40,7 +40,7 @@ impl StatsChannels {
         }
     }
 
-    /// Whom the next path tells.
+    /// Opens the next path's channel and returns its sender; `None` if statistics are not wanted.
     pub(crate) fn path_channel(
         &mut self,
         alloc: Global,
@@ -53,7 +53,7 @@ impl StatsChannels {
         Ok(Some(teller))
     }
 
-    /// Whom the next stream tells.
+    /// Opens the next stream's channel and returns its sender; `None` if statistics are not wanted.
     pub(crate) fn stream_channel(
         &mut self,
         alloc: Global,
@@ -67,7 +67,7 @@ impl StatsChannels {
         Ok(Some(teller))
     }
 
-    /// Whom the mixer tells of this output.
+    /// Opens the mixer's channel for this output and returns its sender; `None` if statistics are not wanted.
     pub(crate) fn mix_channel(
         &mut self,
         alloc: Global,

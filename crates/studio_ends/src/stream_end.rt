@@ -1,4 +1,5 @@
-//! What the end of a stream consists of.
+//! The end of a stream as a struct. `packets_in` takes packets, `marks_out` pushes marks, and `turns` holds the public
+//! calls.
 ghost use Rattle.std.specs.Prelude.{◌≡◌, vec_len};
 ghost use Rattle.rtp_stream.specs.MarkFacts.{payload_length};
 ghost use Rattle.rtp_stream.specs.StreamSpecFacts.{format_of};
@@ -14,7 +15,7 @@ pub(crate) mod marks_out;
 pub(crate) mod packets_in;
 pub(crate) mod turns;
 
-/// The end of a stream: packets of all paths come in, and marks go out.
+/// The end of a stream. It takes the packets of all paths and pushes marks to the mixer's end.
 #[derive(Drop)]
 pub struct StreamEnd {
     pub(crate) spec: StreamSpec,
@@ -22,7 +23,7 @@ pub struct StreamEnd {
     pub(crate) marks: MarkProducer,
     pub(crate) monitor: Producer<Counts>,
     pub(crate) merge: Merge<SlotWindow>,
-    /// Who is told what becomes of the packets, if anybody is.
+    /// The sender of the packets' statistics; `None` if the rings were opened without them.
     pub(crate) teller: Option<StreamStatsSender>,
     ghost same: { merge.spec ≡ spec },
     ghost paths: { vec_len sides ≡ spec.paths },

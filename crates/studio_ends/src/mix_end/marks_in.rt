@@ -1,5 +1,20 @@
-//! Marks from the rings of the streams to the mixer.
-ghost use Rattle.std.specs.Prelude.{◌≡◌, ℕ, ◌<◌, ◌≤◌, ◌∷◌, [], ◌++◌, List, true, length, slice_get, slice_set, Some, vec_len};
+//! Takes marks from the rings of the streams and feeds them to the mixer.
+ghost use Rattle.std.specs.Prelude.{
+  ◌≡◌,
+  ℕ,
+  ◌<◌,
+  ◌≤◌,
+  ◌∷◌,
+  [],
+  ◌++◌,
+  List,
+  true,
+  length,
+  slice_get,
+  slice_set,
+  Some,
+  vec_len,
+};
 ghost use Rattle.rtp_stream.specs.StreamSpecFacts.{format_of};
 ghost use Rattle.rtp_stream.specs.MarkList.{is_mark_list};
 ghost use Rattle.studio_config.specs.Studio.{Studio};
@@ -13,14 +28,16 @@ use crate::rings::marks::MarkConsumer;
 use crate::stream_end::packets_in::BATCH;
 use studio_mix::Mixer;
 
-/// Feeds a mark if it may follow those of its stream, and says whether.
+/// Feeds a mark to the mixer if it may follow the stream's marks before it. Returns true if it did.
 fn feed_if_accepted<const N: usize>(mixer: &mut Mixer, stream: usize, room: &MarkCell<N>) -> bool
     requires stream { stream < length mixer.old.lanes }
     requires wanted { is_wanted_by mixer.old stream ≡ true }
     ensures stands { (studio : Studio) (feeds : List Feed) (number : ℕ) (feed : Feed)
-        → HasFeeds studio mixer.old feeds number → slice_get feeds stream ≡ Some feed → HasFeeds studio mixer.new (slice_set feeds stream (fed_more feed (room.now ∷ []))) number }
+        → HasFeeds studio mixer.old feeds number → slice_get feeds stream ≡ Some feed
+        → HasFeeds studio mixer.new (slice_set feeds stream (fed_more feed (room.now ∷ []))) number }
     ensures value { (studio : Studio) (feeds : List Feed) (number : ℕ) (feed : Feed)
-        → HasFeeds studio mixer.old feeds number → slice_get feeds stream ≡ Some feed → result ≡ is_mark_list (format_of feed.stream) (feed.marks ++ room.now ∷ []) }
+        → HasFeeds studio mixer.old feeds number → slice_get feeds stream ≡ Some feed
+        → result ≡ is_mark_list (format_of feed.stream) (feed.marks ++ room.now ∷ []) }
     ensures lanes { length mixer.new.lanes ≡ length mixer.old.lanes }
     ensures spec { mixer.new.packer.spec ≡ mixer.old.packer.spec }
 {
@@ -32,7 +49,8 @@ fn feed_if_accepted<const N: usize>(mixer: &mut Mixer, stream: usize, room: &Mar
     false
 }
 
-/// Takes marks of one stream while the mixer wants them: how many, and how many of them may not follow.
+/// Takes marks of one stream while the mixer wants them, at most 64. Returns the number taken and the number of them
+/// that may not follow the marks before.
 pub(crate) fn take_stream<const N: usize>(
     side: &mut TokenConsumer<MarkCell<N>>,
     mixer: &mut Mixer,
@@ -44,6 +62,7 @@ pub(crate) fn take_stream<const N: usize>(
     let mut taken = 0;
     let mut strange = 0;
     while taken < BATCH {
+        // Only marks that the next block needs are taken, so that a lane holds no more than a block and a packet.
         if !mixer.wants(stream) {
             return (taken, strange);
         }
@@ -58,7 +77,8 @@ pub(crate) fn take_stream<const N: usize>(
     (taken, strange)
 }
 
-/// Takes marks of all streams, in order: how many, and how many of them may not follow.
+/// Takes marks of all streams, in order. Returns the number taken and the number of them that may not follow the marks
+/// before.
 pub(crate) fn take_streams(sides: &mut Vec<MarkConsumer>, mixer: &mut Mixer) -> (u32, u32)
     requires count { vec_len sides.old ≡ length mixer.old.lanes }
     requires few { vec_len sides.old ≤ 16 }

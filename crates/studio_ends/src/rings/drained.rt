@@ -1,11 +1,11 @@
-//! Which rings are finished and drained.
+//! Looks for rings that are not drained: whose pushing end has not finished, or whose items were not all taken.
 ghost use Rattle.std.specs.Prelude.{◌≡◌, ◌≤◌, ◌↔◌, length, vec_len, false};
 ghost use Rattle.studio_ends.specs.DrainedRings.{AllDrained, AllFalse, AllLookAt, AreOpen};
 
 use crate::rings::marks::MarkConsumer;
 use crate::rings::packets::PacketConsumer;
 
-/// Says of each path's ring whether it is open yet, and whether any is.
+/// Sets the flag of each path's ring that is still open. Returns true if any is.
 pub(crate) fn any_path_open(sides: &mut Vec<PacketConsumer>, open_yet: &mut [bool]) -> bool
     requires room { vec_len sides.old ≤ length open_yet.old }
     requires clear { AllFalse open_yet.old }
@@ -16,6 +16,7 @@ pub(crate) fn any_path_open(sides: &mut Vec<PacketConsumer>, open_yet: &mut [boo
 {
     let mut any = false;
     for place in 0..sides.len() {
+        // All rings are looked at, also after the first open one: the flags name each.
         let drained = sides[place].is_drained();
         open_yet[place] = !drained;
         any |= !drained;
@@ -23,7 +24,7 @@ pub(crate) fn any_path_open(sides: &mut Vec<PacketConsumer>, open_yet: &mut [boo
     any
 }
 
-/// Says of each stream's ring whether it is open yet, and whether any is.
+/// Sets the flag of each stream's ring that is still open. Returns true if any is.
 pub(crate) fn any_stream_open(sides: &mut Vec<MarkConsumer>, open_yet: &mut [bool]) -> bool
     requires room { vec_len sides.old ≤ length open_yet.old }
     requires clear { AllFalse open_yet.old }
@@ -34,6 +35,7 @@ pub(crate) fn any_stream_open(sides: &mut Vec<MarkConsumer>, open_yet: &mut [boo
 {
     let mut any = false;
     for place in 0..sides.len() {
+        // All rings are looked at, also after the first open one: the flags name each.
         let drained = sides[place].is_drained();
         open_yet[place] = !drained;
         any |= !drained;

@@ -1,4 +1,4 @@
-//! Room for a mark in a ring.
+//! A cell for a mark in a ring.
 ghost use Rattle.std.specs.Prelude.{◌≡◌};
 ghost use Rattle.rtp_stream.specs.MarkRef.{kind_of};
 ghost use Rattle.studio_ends.specs.MarkCells.{octets_in, said_of};
@@ -7,18 +7,18 @@ use crate::rings::payload_cell::PayloadCell;
 use path_merge::{Format, MarkKindRef, MarkRef};
 use std::marker::Model;
 
-/// What a mark says, but for its octets.
+/// The contents of a mark without its payload.
 #[derive(Clone, Copy)]
 enum MarkHeader {
     /// The slot of a packet that came in time.
     Got { epoch: u64, number: u64, media: i64 },
-    /// The slot of one that didn't.
+    /// The slot of a packet that did not.
     Lost { epoch: u64, number: u64, media: i64 },
     Quiet { until: i64 },
     End,
 }
 
-/// A mark whose payload lies in room for `N` octets. Contracts see it as that mark.
+/// A mark whose payload lies in a cell of `N` octets. Contracts see it as that mark.
 #[derive(Clone, Copy)]
 pub(crate) struct MarkCell<const N: usize> {
     format: Format,
@@ -38,13 +38,14 @@ impl<const N: usize> Model for MarkCell<N> {
 
     ghost inverse = { λ m. record { format = m.format; said = said_of m.kind; payload = octets_in m.kind } };
 
-    ghost inverse_ok = { λ r h i. record { format = r.format; said = said_back r.said r.payload i; payload = h.blank i } };
+    ghost inverse_ok = { λ r h i.
+        record { format = r.format; said = said_back r.said r.payload i; payload = h.blank i } };
 }
 
 impl<const N: usize> MarkCell<N> {
     ghost use Rattle.studio_ends.specs.MarkCells.{IsWithin};
 
-    /// The end of a stream.
+    /// The mark of a stream's end.
     pub(crate) fn new(format: Format) -> MarkCell<N> {
         MarkCell {
             format,
@@ -53,7 +54,7 @@ impl<const N: usize> MarkCell<N> {
         }
     }
 
-    /// Becomes a mark that is lent.
+    /// Replaces the mark by a copy of a borrowed one.
     #[inline(always)]
     pub(crate) fn fill(&mut self, mark: &MarkRef<'_>)
         requires { IsWithin N mark.now.kind }
@@ -65,7 +66,7 @@ impl<const N: usize> MarkCell<N> {
         self.payload.fill(octets);
     }
 
-    /// The same mark, its payload lent.
+    /// Returns the mark with its payload borrowed.
     #[inline]
     pub(crate) fn lent(&self) -> MarkRef<'_>
         ensures { result ≡ self.now }
@@ -88,7 +89,7 @@ impl<const N: usize> MarkCell<N> {
     }
 }
 
-/// What a mark says, and its octets: none where it got none.
+/// Returns the contents of a mark and its payload, which is empty for a mark without one.
 #[inline(always)]
 fn split_mark<'a>(kind: MarkKindRef<'a>) -> (MarkHeader, &'a [u8])
     ensures said { result.0 ≡ said_of (kind_of kind.entry) }

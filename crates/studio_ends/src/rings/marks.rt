@@ -1,6 +1,33 @@
-//! A stream's ring of marks, whose places have the room that its payloads need.
-ghost use Rattle.std.specs.Prelude.{◌≡◌, ◌<◌, ◌≤◌, ◌++◌, ◌∷◌, [], ◌↔◌, IfOk, IfSome, IsSomeAnd, IsTrue, MatchOption, None, Some, length};
-ghost use Rattle.rtrb.specs.Ring.{Finishes, IsFinishedOf, IsPair, ProducerLooked, SameConsumer, SameProducer, all_sent, known_free, received, sent};
+//! A stream's ring of marks, with cells of the least of three sizes that its payloads fit.
+ghost use Rattle.std.specs.Prelude.{
+  ◌≡◌,
+  ◌<◌,
+  ◌≤◌,
+  ◌++◌,
+  ◌∷◌,
+  [],
+  ◌↔◌,
+  IfOk,
+  IfSome,
+  IsSomeAnd,
+  IsTrue,
+  MatchOption,
+  None,
+  Some,
+  length,
+};
+ghost use Rattle.rtrb.specs.Ring.{
+  Finishes,
+  IsFinishedOf,
+  IsPair,
+  ProducerLooked,
+  SameConsumer,
+  SameProducer,
+  all_sent,
+  known_free,
+  received,
+  sent,
+};
 ghost use Rattle.rtp_stream.specs.MarkFacts.{payload_length};
 ghost use Rattle.studio_ends.specs.MarksIn.{TakesWanted};
 ghost use Rattle.studio_ends.specs.RoomRings.{HasRoomFor};
@@ -17,7 +44,7 @@ use std::alloc::{AllocError, Global};
 use std::marker::Model;
 use studio_mix::Mixer;
 
-/// A pushing end, by its rooms.
+/// The pushing end of a ring of marks, by the size of its cells.
 #[derive(Drop)]
 enum ProducerBySize {
     Short(SizedMarkProducer<SHORT>),
@@ -25,7 +52,7 @@ enum ProducerBySize {
     Long(SizedMarkProducer<LONG>),
 }
 
-/// A popping end, by its rooms.
+/// The popping end of a ring of marks, by the size of its cells.
 #[derive(Drop)]
 enum ConsumerBySize {
     Short(TokenConsumer<MarkCell<SHORT>>),
@@ -33,7 +60,7 @@ enum ConsumerBySize {
     Long(TokenConsumer<MarkCell<LONG>>),
 }
 
-/// What a pushing end leaves, by its rooms.
+/// The token of a pushing end, by the size of its ring's cells.
 #[derive(Drop)]
 enum TokenBySize {
     Short(Finished<MarkCell<SHORT>>),
@@ -41,13 +68,13 @@ enum TokenBySize {
     Long(Finished<MarkCell<LONG>>),
 }
 
-/// The pushing end. Contracts see it as that of a ring of marks, whose name tells the rooms.
+/// The pushing end. Contracts see it as that of a ring of marks, whose ghost name holds the size of its cells.
 #[derive(Drop)]
 pub(crate) struct MarkProducer {
     end: ProducerBySize,
 }
 
-/// The popping end, with the token of the pushing end once that was handed in.
+/// The popping end, with the token of the pushing end once it was handed in.
 #[derive(Drop)]
 pub(crate) struct MarkConsumer {
     end: ConsumerBySize,
@@ -98,7 +125,7 @@ impl Model for MarkToken {
 }
 
 impl MarkProducer {
-    /// Whether no place is seen to be free.
+    /// Returns true if no place is known to be free.
     pub(crate) fn is_full(&mut self) -> bool
         ensures looked { ProducerLooked self.old self.new }
         ensures value { IsTrue result ↔ (known_free self.new ≡ 0) }
@@ -124,7 +151,7 @@ impl MarkProducer {
         }
     }
 
-    /// Gives up the end: its token. None where the other end is gone.
+    /// Consumes the end and returns its token; `None` if the consumer was dropped.
     pub(crate) fn finish(self) -> Option<MarkToken>
         ensures { IfSome result (λ done. Finishes self done) }
     {
@@ -139,7 +166,8 @@ impl MarkProducer {
 }
 
 impl MarkConsumer {
-    /// Takes marks while the mixer wants them of a stream: how many, and how many of them may not follow.
+    /// Takes marks of a stream while the mixer wants them, at most 64. Returns the number taken and the number of them
+    /// that may not follow the marks before.
     pub(crate) fn take(&mut self, mixer: &mut Mixer, stream: usize) -> (u32, u32)
         requires stream { stream < length mixer.old.lanes }
         ensures { TakesWanted self.old self.new mixer.old mixer.new stream result.0 result.1 }
@@ -156,6 +184,7 @@ impl MarkConsumer {
         requires { IsFinishedOf done self.old.ring }
         ensures { (self.new.ring ≡ self.old.ring) × (self.new.done ≡ Some done) }
     {
+        // A token belongs to one ring, and the ring's ghost name fixes the size: the other sizes cannot come.
         let MarkToken { token } = done;
         match &mut self.end {
             ConsumerBySize::Short(side) => match token {
@@ -176,11 +205,12 @@ impl MarkConsumer {
         }
     }
 
-    /// Whether the pushing end has finished, and all that it pushed was taken.
+    /// Returns true if the pushing end has finished and all that it pushed was taken.
     pub(crate) fn is_drained(&mut self) -> bool
         ensures drained { IsTrue result ↔ IsDrained self.new.ring self.new.done }
         ensures ring { SameConsumer self.old.ring self.new.ring × (received self.new.ring ≡ received self.old.ring) }
-        ensures done { MatchOption self.old.done (self.new.done ≡ None) (λ d. IsSomeAnd self.new.done (λ e. all_sent e ≡ all_sent d)) }
+        ensures done { MatchOption self.old.done (self.new.done ≡ None)
+            (λ d. IsSomeAnd self.new.done (λ e. all_sent e ≡ all_sent d)) }
     {
         match &mut self.end {
             ConsumerBySize::Short(side) => side.is_drained(),
@@ -190,7 +220,7 @@ impl MarkConsumer {
     }
 }
 
-/// Both ends of a ring with one size of rooms.
+/// Opens a ring whose cells have one size and returns both ends.
 fn open_sized<const N: usize>(
     alloc: Global,
     format: Format,
@@ -207,7 +237,7 @@ fn open_sized<const N: usize>(
     ))
 }
 
-/// Both ends of a ring of so many places, with room for the payloads of a format.
+/// Opens a ring of so many places for marks of a format and returns both ends.
 pub(crate) fn open_marks(
     alloc: Global,
     format: Format,

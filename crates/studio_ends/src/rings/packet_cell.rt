@@ -1,4 +1,4 @@
-//! Room for a packet in a ring.
+//! A cell for a packet in a ring.
 ghost use Rattle.std.specs.Prelude.{◌≡◌, ◌≤◌, length};
 ghost use Rattle.rtp_stream.specs.PacketRef.{packet_of};
 
@@ -6,7 +6,7 @@ use crate::rings::payload_cell::PayloadCell;
 use path_merge::PacketRef;
 use std::marker::Model;
 
-/// A packet whose samples lie in room for `N` octets. Contracts see it as that packet.
+/// A packet whose payload lies in a cell of `N` octets. Contracts see it as that packet.
 #[derive(Clone, Copy)]
 pub(crate) struct PacketCell<const N: usize> {
     seq: u16,
@@ -26,7 +26,7 @@ impl<const N: usize> Model for PacketCell<N> {
 }
 
 impl<const N: usize> PacketCell<N> {
-    /// A packet with no samples.
+    /// A packet with an empty payload.
     pub(crate) fn new() -> PacketCell<N> {
         PacketCell {
             seq: 0,
@@ -36,7 +36,7 @@ impl<const N: usize> PacketCell<N> {
         }
     }
 
-    /// Becomes a packet that is lent.
+    /// Replaces the packet by a copy of a borrowed one.
     #[inline(always)]
     pub(crate) fn fill(&mut self, packet: PacketRef<'_>)
         requires { length packet.payload.now ≤ N }
@@ -48,7 +48,7 @@ impl<const N: usize> PacketCell<N> {
         self.payload.fill(packet.payload);
     }
 
-    /// The same packet, its samples lent.
+    /// Returns the packet with its payload borrowed.
     #[inline]
     pub(crate) fn lent(&self) -> PacketRef<'_>
         ensures { packet_of result ≡ self.now }

@@ -1,6 +1,35 @@
-//! A path's ring, whose places have the room that the stream's payloads need.
-ghost use Rattle.std.specs.Prelude.{◌≡◌, ℕ, ◌<◌, ◌≤◌, ◌++◌, ◌∷◌, [], ◌↔◌, List, IfOk, IfSome, IsSomeAnd, IsTrue, MatchOption, None, Some, length};
-ghost use Rattle.rtrb.specs.Ring.{Finishes, IsFinishedOf, IsPair, ProducerLooked, SameConsumer, SameProducer, all_sent, known_free, received, sent};
+//! A path's ring of packets, with cells of the least of three sizes that the stream's payloads fit.
+ghost use Rattle.std.specs.Prelude.{
+  ◌≡◌,
+  ℕ,
+  ◌<◌,
+  ◌≤◌,
+  ◌++◌,
+  ◌∷◌,
+  [],
+  ◌↔◌,
+  List,
+  IfOk,
+  IfSome,
+  IsSomeAnd,
+  IsTrue,
+  MatchOption,
+  None,
+  Some,
+  length,
+};
+ghost use Rattle.rtrb.specs.Ring.{
+  Finishes,
+  IsFinishedOf,
+  IsPair,
+  ProducerLooked,
+  SameConsumer,
+  SameProducer,
+  all_sent,
+  known_free,
+  received,
+  sent,
+};
 ghost use Rattle.rtp_stream.specs.PacketRef.{packet_of};
 ghost use Rattle.rtp_stream.specs.declared.packet.Packet.{Packet};
 ghost use Rattle.studio_ends.specs.Fitting.{fitting};
@@ -19,7 +48,7 @@ use rtrb::{Finished, RingBuffer};
 use std::alloc::{AllocError, Global};
 use std::marker::Model;
 
-/// A pushing end, by its rooms.
+/// The pushing end of a ring of packets, by the size of its cells.
 #[derive(Drop)]
 enum ProducerBySize {
     Short(SizedPacketProducer<SHORT>),
@@ -27,7 +56,7 @@ enum ProducerBySize {
     Long(SizedPacketProducer<LONG>),
 }
 
-/// A popping end, by its rooms.
+/// The popping end of a ring of packets, by the size of its cells.
 #[derive(Drop)]
 enum ConsumerBySize {
     Short(TokenConsumer<PacketCell<SHORT>>),
@@ -35,7 +64,7 @@ enum ConsumerBySize {
     Long(TokenConsumer<PacketCell<LONG>>),
 }
 
-/// What a pushing end leaves, by its rooms.
+/// The token of a pushing end, by the size of its ring's cells.
 #[derive(Drop)]
 enum TokenBySize {
     Short(Finished<PacketCell<SHORT>>),
@@ -43,13 +72,13 @@ enum TokenBySize {
     Long(Finished<PacketCell<LONG>>),
 }
 
-/// The pushing end. Contracts see it as that of a ring of packets, whose name tells the rooms.
+/// The pushing end. Contracts see it as that of a ring of packets, whose ghost name holds the size of its cells.
 #[derive(Drop)]
 pub(crate) struct PacketProducer {
     end: ProducerBySize,
 }
 
-/// The popping end, with the token of the pushing end once that was handed in.
+/// The popping end, with the token of the pushing end once it was handed in.
 #[derive(Drop)]
 pub(crate) struct PacketConsumer {
     end: ConsumerBySize,
@@ -100,7 +129,7 @@ impl Model for PacketToken {
 }
 
 impl PacketProducer {
-    /// Whether no place is seen to be free.
+    /// Returns true if no place is known to be free.
     pub(crate) fn is_full(&mut self) -> bool
         ensures looked { ProducerLooked self.old self.new }
         ensures value { IsTrue result ↔ (known_free self.new ≡ 0) }
@@ -126,7 +155,7 @@ impl PacketProducer {
         }
     }
 
-    /// Gives up the end: its token. None where the other end is gone.
+    /// Consumes the end and returns its token; `None` if the consumer was dropped.
     pub(crate) fn finish(self) -> Option<PacketToken>
         ensures { IfSome result (λ done. Finishes self done) }
     {
@@ -141,7 +170,7 @@ impl PacketProducer {
 }
 
 impl PacketConsumer {
-    /// Offers what the ring has to the merge, as packets of a path: how many.
+    /// Offers the packets in the ring to the merge as those of a path, at most 64. Returns their number.
     pub(crate) fn take(
         &mut self,
         spec: &StreamSpec,
@@ -166,6 +195,7 @@ impl PacketConsumer {
         requires { IsFinishedOf done self.old.ring }
         ensures { (self.new.ring ≡ self.old.ring) × (self.new.done ≡ Some done) }
     {
+        // A token belongs to one ring, and the ring's ghost name fixes the size: the other sizes cannot come.
         let PacketToken { token } = done;
         match &mut self.end {
             ConsumerBySize::Short(side) => match token {
@@ -186,11 +216,12 @@ impl PacketConsumer {
         }
     }
 
-    /// Whether the pushing end has finished, and all that it pushed was taken.
+    /// Returns true if the pushing end has finished and all that it pushed was taken.
     pub(crate) fn is_drained(&mut self) -> bool
         ensures drained { IsTrue result ↔ IsDrained self.new.ring self.new.done }
         ensures ring { SameConsumer self.old.ring self.new.ring × (received self.new.ring ≡ received self.old.ring) }
-        ensures done { MatchOption self.old.done (self.new.done ≡ None) (λ d. IsSomeAnd self.new.done (λ e. all_sent e ≡ all_sent d)) }
+        ensures done { MatchOption self.old.done (self.new.done ≡ None)
+            (λ d. IsSomeAnd self.new.done (λ e. all_sent e ≡ all_sent d)) }
     {
         match &mut self.end {
             ConsumerBySize::Short(side) => side.is_drained(),
@@ -200,7 +231,7 @@ impl PacketConsumer {
     }
 }
 
-/// Both ends of a ring with one size of rooms.
+/// Opens a ring whose cells have one size and returns both ends.
 fn open_sized<const N: usize>(
     alloc: Global,
     places: usize,
@@ -213,7 +244,7 @@ fn open_sized<const N: usize>(
     Ok((SizedPacketProducer::new(push), TokenConsumer::new(pop)))
 }
 
-/// Both ends of a ring of so many places, with room for payloads of a length.
+/// Opens a ring of so many places for payloads of `len` octets and returns both ends.
 pub(crate) fn open_packets(
     alloc: Global,
     len: usize,

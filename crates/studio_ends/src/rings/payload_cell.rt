@@ -1,18 +1,20 @@
-//! Room for the octets of a payload.
+//! A cell of a fixed size for the octets of a payload.
 ghost use Rattle.std.specs.Prelude.{◌≡◌, ◌≤◌, [], length, replicate};
 
 use std::marker::Model;
 
-/// The octets that short rooms hold: 125 microseconds of 3 channels of L24.
+/// The octets that a short cell holds: 125 microseconds of 3 channels of L24 have 54.
+// Cells have three sizes, since a cell of 1,440 octets for a packet of 18 would be copied and zeroed whole.
 pub(crate) const SHORT: usize = 64;
 
-/// The octets that middle rooms hold: a millisecond of 2 channels.
+/// The octets that a middle cell holds: a millisecond of 2 channels of L24 has 288.
 pub(crate) const MIDDLE: usize = 320;
 
-/// The octets of the longest payload.
+/// The octets that a long cell holds: those of the longest payload.
 pub(crate) const LONG: usize = 1440;
 
-/// Octets in room for `N`: it is copied whole, and written over without being blanked. What lies behind them is 0.
+/// Up to `N` octets, in place. The cell is copied whole. The octets behind the payload are 0.
+// They are 0 so that equal payloads are equal cells: contracts see a cell as its payload, and `inverse` goes back.
 #[derive(Clone, Copy)]
 pub(crate) struct PayloadCell<const N: usize> {
     len: usize,
@@ -32,11 +34,12 @@ impl<const N: usize> Model for PayloadCell<N> {
 
     ghost inverse = { λ octets. record { len = length octets; octets = padded N octets } };
 
-    ghost inverse_ok = { λ r h i. record { len = taken_length N r.len r.octets h i; octets = padded_back N r.len r.octets h i } };
+    ghost inverse_ok = { λ r h i.
+        record { len = taken_length N r.len r.octets h i; octets = padded_back N r.len r.octets h i } };
 }
 
 impl<const N: usize> PayloadCell<N> {
-    /// No octets.
+    /// A cell with no octets.
     pub(crate) fn new() -> PayloadCell<N>
         ensures { result ≡ [] }
     {
@@ -46,7 +49,7 @@ impl<const N: usize> PayloadCell<N> {
         }
     }
 
-    /// The octets.
+    /// Returns a reference to the octets.
     #[inline]
     pub(crate) fn octets(&self) -> &[u8]
         ensures value { result.now ≡ self.now }
@@ -55,7 +58,7 @@ impl<const N: usize> PayloadCell<N> {
         &self.octets[..self.len]
     }
 
-    /// Becomes these octets. Where there are as many as before, they alone are written.
+    /// Replaces the octets. If there are as many as before, no other octet is written.
     #[inline(always)]
     pub(crate) fn fill(&mut self, octets: &[u8])
         requires { length octets.now ≤ N }
@@ -66,18 +69,20 @@ impl<const N: usize> PayloadCell<N> {
         self.octets[..len].copy_from_slice(octets);
     }
 
-    /// Has so many octets, whichever.
+    /// Sets the number of octets; their values are arbitrary.
     #[inline(always)]
     fn set_len(&mut self, len: usize)
         requires { len ≤ N }
         ensures { length self.new ≡ len }
     {
+        // Payloads of one stream have one length, so the cell is zeroed only next to marks without a payload.
         if self.len != len {
             self.blank(len);
         }
     }
 
-    /// Becomes so many zeros.
+    /// Replaces the octets by `len` zeros.
+    // Out of line: it runs rarely, and `fill` stays small at each place that it is inlined to.
     #[inline(never)]
     fn blank(&mut self, len: usize)
         requires { len ≤ N }

@@ -1,5 +1,20 @@
-//! Marks from a merge to the ring of its stream.
-ghost use Rattle.std.specs.Prelude.{◌≡◌, ℕ, ◌<◌, ◌≤◌, ◌^◌, ℤ, ◌≤ℤ◌, pos, List, ◌++◌, length, false, None, if◌then◌else◌};
+//! Pushes marks from a merge to the ring of its stream.
+ghost use Rattle.std.specs.Prelude.{
+  ◌≡◌,
+  ℕ,
+  ◌<◌,
+  ◌≤◌,
+  ◌^◌,
+  ℤ,
+  ◌≤ℤ◌,
+  pos,
+  List,
+  ◌++◌,
+  length,
+  false,
+  None,
+  if◌then◌else◌,
+};
 ghost use Rattle.std.specs.Option.{option_to_list};
 ghost use Rattle.rtrb.specs.Ring.{known_free, sent, SameProducer};
 ghost use Rattle.rtp_stream.specs.declared.event.Event.{Event};
@@ -16,30 +31,30 @@ use crate::rings::marks::MarkProducer;
 use crate::stream_end::packets_in::BATCH;
 use path_merge::{Goal, Merge, SlotWindow};
 
-/// Why a turn stopped.
+/// The reason for which a turn stopped.
 #[derive(Clone, Copy, PartialEq, Eq, Debug)]
 pub enum StopReason {
-    /// All marks up to the time asked for were handed on.
+    /// All marks up to the time asked for were pushed.
     CaughtUp,
-    /// 64 marks were.
+    /// 64 marks were pushed. More may be left.
     Batch,
-    /// No free place was seen in the ring.
+    /// No free place is known in the ring.
     NoRoom,
 }
 
-/// What a turn did.
+/// The result of `StreamEnd::turn`.
 #[derive(Clone, Copy, Debug)]
 pub struct TurnNote {
-    /// How many packets it took of each path.
+    /// The number of packets that it took of each path, at most 64 each.
     pub from: [u32; 4],
-    /// How many marks it handed on.
+    /// The number of marks that it pushed, at most 64.
     pub marks: u32,
-    /// The merge's time.
+    /// The merge's time after the turn, in sampling instants at 48 kHz.
     pub reached: i64,
     pub why_stopped: StopReason,
 }
 
-/// Pushes the next mark on the way to a goal, if there is one, and passes it: whether there was one.
+/// Pushes the next mark before a goal and passes it. Returns true if there was one.
 pub(crate) fn push_next(marks: &mut MarkProducer, merge: &mut Merge<SlotWindow>, goal: Goal) -> bool
     requires room { 0 < known_free marks.old }
     requires can { CanReach merge.old goal }
@@ -48,7 +63,8 @@ pub(crate) fn push_next(marks: &mut MarkProducer, merge: &mut Merge<SlotWindow>,
     ensures pushed { sent marks.new ≡ sent marks.old ++ option_to_list (next_to merge.old goal) }
     ensures count { length (option_to_list (next_to merge.old goal)) ≡ (if result then 1 else 0) }
     ensures stands { (stream : Stream) (open_at : ℤ) (events : List Event) (k : ℕ)
-        → HasHistory stream open_at merge.old events k → Gives stream open_at merge.old merge.new events k goal (next_to merge.old goal) }
+        → HasHistory stream open_at merge.old events k
+        → Gives stream open_at merge.old merge.new events k goal (next_to merge.old goal) }
     ensures moved { MovesTo merge.old merge.new goal (next_to merge.old goal) }
     ensures there { result ≡ false → MovesTo merge.old merge.new goal None }
     ensures all { result ≡ false → HasGivenAll merge.new }
@@ -64,7 +80,7 @@ pub(crate) fn push_next(marks: &mut MarkProducer, merge: &mut Merge<SlotWindow>,
     is_some
 }
 
-/// Pushes marks up to a time, while there is room.
+/// Pushes marks up to a time, while there is room. Returns their number and the reason for which it stopped.
 pub(crate) fn push_marks(
     marks: &mut MarkProducer,
     merge: &mut Merge<SlotWindow>,
@@ -80,6 +96,7 @@ pub(crate) fn push_marks(
 {
     let mut count = 0;
     while count < BATCH {
+        // Tested before the merge is asked: a mark is passed only once a place is free for it, so none is lost.
         if marks.is_full() {
             return (count, StopReason::NoRoom);
         }

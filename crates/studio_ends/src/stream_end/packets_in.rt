@@ -1,4 +1,4 @@
-//! Packets from the rings of a stream's paths to its merge.
+//! Takes packets from the rings of a stream's paths and offers them to its merge.
 ghost use Rattle.std.specs.Prelude.{◌≡◌, ℕ, ◌+◌, ◌<◌, List, [], ◌∷◌, length, vec_len, get_or};
 ghost use Rattle.rtp_stream.specs.declared.packet.Packet.{Packet};
 ghost use Rattle.studio_ends.specs.Fitting.{fitting};
@@ -10,10 +10,11 @@ use crate::rings::packets::PacketConsumer;
 use path_merge::{Fate, Merge, PacketRef, Path, SlotWindow, StreamSpec};
 use rtp_stats::StreamStatsSender;
 
-/// How many packets of a path, or marks, one turn takes at most.
+/// The most packets of a path, or marks of a stream, that one turn moves.
+// A limit, so that a ring that never runs empty cannot hold up the rings that a turn comes to after it.
 pub(crate) const BATCH: u32 = 64;
 
-/// Notes what became of a packet, if somebody is to be told.
+/// Notes the fate of a packet, if the stream has a sender of statistics.
 fn note(
     teller: &mut Option<StreamStatsSender>,
     merge: &Merge<SlotWindow>,
@@ -26,7 +27,7 @@ fn note(
     }
 }
 
-/// Offers a packet to the merge if it has the stream's length.
+/// Offers a packet to the merge if its payload has the stream's length. Any other packet is left out.
 fn offer_packet<const N: usize>(
     spec: &StreamSpec,
     merge: &mut Merge<SlotWindow>,
@@ -45,7 +46,7 @@ fn offer_packet<const N: usize>(
     }
 }
 
-/// Offers what a path's ring has to the merge.
+/// Offers the packets in a path's ring to the merge, at most 64. Returns their number.
 pub(crate) fn take_path<const N: usize>(
     side: &mut TokenConsumer<PacketCell<N>>,
     spec: &StreamSpec,
@@ -63,6 +64,7 @@ pub(crate) fn take_path<const N: usize>(
         if side.is_empty() {
             return taken;
         }
+        // The packet is borrowed from its place in the ring, and dropped once the merge has copied it.
         offer_packet(spec, merge, path, side.peek(), teller);
         side.drop_next();
         taken += 1;
@@ -70,7 +72,7 @@ pub(crate) fn take_path<const N: usize>(
     taken
 }
 
-/// Offers what the rings of all paths have to the merge, path by path, and says how many it took of each.
+/// Offers the packets in the rings of all paths to the merge, path by path. Returns the number taken of each path.
 pub(crate) fn take_all(
     sides: &mut Vec<PacketConsumer>,
     spec: &StreamSpec,

@@ -1,5 +1,28 @@
-//! The end of a stream.
-ghost use Rattle.std.specs.Prelude.{◌≡◌, ◌+◌, ◌<◌, ◌⊎◌, slice_get, vec_len, List, [], ◌∷◌, ◌++◌, ℤ, length, true, false, IsOk, IfOk, IfErr, IfSome, OnOk, OnErr, Some, None};
+//! The calls of a stream's end: turns, clock readings, tokens, the close and the marks after it.
+ghost use Rattle.std.specs.Prelude.{
+  ◌≡◌,
+  ◌+◌,
+  ◌<◌,
+  ◌⊎◌,
+  slice_get,
+  vec_len,
+  List,
+  [],
+  ◌∷◌,
+  ◌++◌,
+  ℤ,
+  length,
+  true,
+  false,
+  IsOk,
+  IfOk,
+  IfErr,
+  IfSome,
+  OnOk,
+  OnErr,
+  Some,
+  None,
+};
 ghost use Rattle.rtrb.specs.Ring.{all_sent, sent, known_free, Finishes, IsFinishedOf, SameProducer};
 ghost use Rattle.rtp_stream.specs.declared.stream_spec.Stream.{Stream};
 ghost use Rattle.rtp_stream.specs.Marks.{marks_of};
@@ -25,19 +48,20 @@ use path_merge::{ClockFault, Counts, Merge, SlotWindow, StreamSpec, clock_fault}
 use rtp_stats::StreamStatsSender;
 use rtrb::Producer;
 
-/// Which paths haven't finished, or have sent packets that were not taken.
+/// The error of `StreamEnd::close`. A path is still open if it has not finished or sent packets that were not taken.
 #[derive(Clone, Copy, PartialEq, Eq, Debug)]
 pub struct PathsOpen {
     pub still_open: [bool; 4],
 }
 
-/// The proof that a stream's end has finished: what the mixer's end wants before it is settled.
+/// The token of a finished stream's end. `MixEnd::stream_done` takes it, before the mixer's end can be settled.
 #[derive(Drop)]
 pub struct StreamDone {
     pub(crate) token: MarkToken,
 }
 
-/// Shows counts to the monitor, if there is room.
+/// Pushes counts to the monitor. If its ring is full they are dropped.
+// A monitor that nobody reads must not hold up the stream, and later counts include these.
 fn show_counts(monitor: &mut Producer<Counts>, counts: Counts)
     ensures ring { SameProducer monitor.old monitor.new }
     ensures shows { ShowsCounts monitor.old (tally_of counts) monitor.new }
@@ -48,7 +72,7 @@ fn show_counts(monitor: &mut Producer<Counts>, counts: Counts)
     }
 }
 
-/// Tells what became of the packets, if somebody is to be told.
+/// Sends the packets' statistics, if the stream has a sender.
 fn send_stats(teller: &mut Option<StreamStatsSender>, merge: &Merge<SlotWindow>) {
     if let Some(teller) = teller {
         teller.send(merge.counts(), merge.time());
@@ -56,13 +80,19 @@ fn send_stats(teller: &mut Option<StreamStatsSender>, merge: &Merge<SlotWindow>)
 }
 
 impl StreamEnd {
-    /// Takes packets of all paths, path by path, and then hands on marks up to `now`.
+    /// Takes packets of all paths, path by path, and then pushes marks up to `now`, in sampling instants at 48 kHz.
+    ///
+    /// Takes at most 64 packets of each path and pushes at most 64 marks; no mark is dropped. A packet is judged at
+    /// the merge's time before the turn. Returns a `ClockFault` if `now` is before that time, past 2^60 or after the
+    /// close; nothing changes then.
     pub fn turn(&mut self, now: i64) -> Result<TurnNote, ClockFault>
         ensures turned { IfOk result (λ note. TakesTurn self.old now note self.new) }
         ensures fine { IfOk result (λ note. clock_fault_of self.old.merge.time self.old.merge.closed now ≡ None) }
-        ensures fault { IfErr result (λ fault. clock_fault_of self.old.merge.time self.old.merge.closed now ≡ Some fault) }
+        ensures fault { IfErr result (λ fault. clock_fault_of self.old.merge.time self.old.merge.closed now
+            ≡ Some fault) }
         ensures err { OnErr result (self.new ≡ self.old) }
     {
+        // The reading is tested first, so that an error leaves all packets in their rings.
         if let Some(fault) = clock_fault(self.merge.time(), self.merge.closed(), now) {
             return Err(fault);
         }
@@ -83,12 +113,15 @@ impl StreamEnd {
         })
     }
 
-    /// Takes no packet, and hands on marks up to `now`. By the arrival clock this sets the time of a first
-    /// packet that is taken next.
+    /// Pushes marks up to `now`, in sampling instants at 48 kHz, and takes no packet.
+    ///
+    /// With the arrival clock this sets the time of the first packet, which a later turn takes. Returns a
+    /// `ClockFault` as `turn` does.
     pub fn read_clock(&mut self, now: i64) -> Result<StopReason, ClockFault>
         ensures read { IfOk result (λ why. ReadsClock self.old now why self.new) }
         ensures fine { IfOk result (λ why. clock_fault_of self.old.merge.time self.old.merge.closed now ≡ None) }
-        ensures fault { IfErr result (λ fault. clock_fault_of self.old.merge.time self.old.merge.closed now ≡ Some fault) }
+        ensures fault { IfErr result (λ fault. clock_fault_of self.old.merge.time self.old.merge.closed now
+            ≡ Some fault) }
         ensures err { OnErr result (self.new ≡ self.old) }
     {
         if let Some(fault) = clock_fault(self.merge.time(), self.merge.closed(), now) {
@@ -98,52 +131,64 @@ impl StreamEnd {
         Ok(why_stopped)
     }
 
-    /// When the next slot is due: never before the first packet, nor after a close.
+    /// Returns the deadline of the next slot, in sampling instants at 48 kHz; `None` before the first packet and
+    /// after a close.
     pub fn next_deadline(&self) -> Option<i64>
         ensures { result ≡ next_deadline_of self.now.merge }
     {
         self.merge.next_deadline()
     }
 
-    /// The merge's time.
+    /// Returns the merge's time, in sampling instants at 48 kHz.
     pub fn time(&self) -> i64
         ensures { result ≡ self.now.merge.time }
     {
         self.merge.time()
     }
 
-    /// What is fixed of the stream.
+    /// Returns the stream's parameters.
     pub fn spec(&self) -> &StreamSpec
         ensures { result.now ≡ self.now.spec }
     {
         &self.spec
     }
 
-    /// Takes the proof that a path has finished.
+    /// Takes the token of a finished path. The caller passes it to the path whose end returned it.
     pub fn path_done(&mut self, path: usize, done: PathDone)
         requires path { path < vec_len self.old.sides }
-        requires token { (side : TokenConsumer Packet) → slice_get self.old.sides.items path ≡ Some side → IsFinishedOf done.token side.ring }
+        requires token { (side : TokenConsumer Packet) → slice_get self.old.sides.items path ≡ Some side
+            → IsFinishedOf done.token side.ring }
         ensures sides { HandsIn self.old.sides.items path (all_sent done.token) self.new.sides.items }
-        ensures others { (self.new.merge ≡ self.old.merge) × (self.new.marks ≡ self.old.marks) × (self.new.monitor ≡ self.old.monitor) × (self.new.spec ≡ self.old.spec) }
-        ensures stands { (stream : Stream) (open_at : ℤ) (events : List Event) → StreamHasHistory stream open_at self.old events → StreamHasHistory stream open_at self.new events }
+        ensures others { (self.new.merge ≡ self.old.merge) × (self.new.marks ≡ self.old.marks)
+            × (self.new.monitor ≡ self.old.monitor) × (self.new.spec ≡ self.old.spec) }
+        ensures stands { (stream : Stream) (open_at : ℤ) (events : List Event)
+            → StreamHasHistory stream open_at self.old events → StreamHasHistory stream open_at self.new events }
     {
         self.sides[path].hand_in(done.token);
     }
 
-    /// Closes the stream, once all its paths have finished and all that they sent was taken.
+    /// Closes the stream. A stream that is closed stays so.
+    ///
+    /// Returns `PathsOpen` if a path has not finished or a packet of it was not taken. The caller then makes turns
+    /// and tries again.
     pub fn close(&mut self) -> Result<(), PathsOpen>
         ensures rings { AllLookAt self.old.sides.items self.new.sides.items ⊎ (self.new ≡ self.old) }
         ensures ok { OnOk result (self.old.merge.closed ≡ false → AllDrained self.new.sides.items) }
         ensures closed { OnOk result (self.new.merge ≡ record self.old.merge { closed = true }) }
-        ensures still_open { IfErr result (λ paths. AreOpen paths.still_open self.new.sides.items × (AllDrained self.new.sides.items → ⊥)) }
+        ensures still_open { IfErr result (λ paths. AreOpen paths.still_open self.new.sides.items
+            × (AllDrained self.new.sides.items → ⊥)) }
         ensures err { OnErr result (self.new.merge ≡ self.old.merge) }
         ensures again { self.old.merge.closed ≡ true → (self.new ≡ self.old) × IsOk result }
-        ensures others { (self.new.marks ≡ self.old.marks) × (self.new.monitor ≡ self.old.monitor) × (self.new.spec ≡ self.old.spec) }
-        ensures stands { OnOk result (self.old.merge.closed ≡ false → (stream : Stream) (open_at : ℤ) (events : List Event) → StreamHasHistory stream open_at self.old events → StreamHasHistory stream open_at self.new (events ++ Close ∷ [])) }
+        ensures others { (self.new.marks ≡ self.old.marks) × (self.new.monitor ≡ self.old.monitor)
+            × (self.new.spec ≡ self.old.spec) }
+        ensures stands { OnOk result (self.old.merge.closed ≡ false
+            → (stream : Stream) (open_at : ℤ) (events : List Event) → StreamHasHistory stream open_at self.old events
+            → StreamHasHistory stream open_at self.new (events ++ Close ∷ [])) }
     {
         if self.merge.closed() {
             return Ok(());
         }
+        // Called for its contract: a stream has at most 4 paths, so `still_open` has room for all of them.
         let _paths = self.spec.paths();
         let mut still_open = [false; 4];
         if any_path_open(&mut self.sides, &mut still_open) {
@@ -153,14 +198,20 @@ impl StreamEnd {
         Ok(())
     }
 
-    /// Hands on what is left after a close, and says whether that was all.
+    /// Pushes the marks that are left after a close, at most 64. Returns true if none is left.
+    ///
+    /// Before the close it does nothing and returns false.
     pub fn drain_turn(&mut self) -> bool
         ensures rings { SameProducer self.old.marks self.new.marks }
         ensures open_yet { self.old.merge.closed ≡ false → (self.new ≡ self.old) × (result ≡ false) }
-        ensures some { self.old.merge.closed ≡ true → result ≡ false → (length (sent self.new.marks) ≡ length (sent self.old.marks) + 64) ⊎ (known_free self.new.marks ≡ 0) }
-        ensures stands { (stream : Stream) (open_at : ℤ) (events : List Event) → StreamHasHistory stream open_at self.old events → StreamHasHistory stream open_at self.new events }
-        ensures all { result ≡ true → (stream : Stream) (open_at : ℤ) (events : List Event) → StreamHasHistory stream open_at self.new events → sent self.new.marks ≡ marks_of stream open_at events }
-        ensures others { (self.new.sides ≡ self.old.sides) × (self.new.monitor ≡ self.old.monitor) × (self.new.spec ≡ self.old.spec) }
+        ensures some { self.old.merge.closed ≡ true → result ≡ false
+            → (length (sent self.new.marks) ≡ length (sent self.old.marks) + 64) ⊎ (known_free self.new.marks ≡ 0) }
+        ensures stands { (stream : Stream) (open_at : ℤ) (events : List Event)
+            → StreamHasHistory stream open_at self.old events → StreamHasHistory stream open_at self.new events }
+        ensures all { result ≡ true → (stream : Stream) (open_at : ℤ) (events : List Event)
+            → StreamHasHistory stream open_at self.new events → sent self.new.marks ≡ marks_of stream open_at events }
+        ensures others { (self.new.sides ≡ self.old.sides) × (self.new.monitor ≡ self.old.monitor)
+            × (self.new.spec ≡ self.old.spec) }
     {
         if !self.merge.closed() {
             return false;
@@ -168,7 +219,8 @@ impl StreamEnd {
         drain_marks(&mut self.marks, &mut self.merge)
     }
 
-    /// Gives up the end. None where the other end is gone.
+    /// Consumes the end and returns its token and the stream's counts. The token is `None` if the mixer's end was
+    /// dropped.
     pub fn finish(self) -> (Option<StreamDone>, Counts)
         ensures token { IfSome result.0 (λ done. Finishes self.marks done.token) }
         ensures counts { tally_of result.1 ≡ self.merge.counts }
