@@ -1,4 +1,4 @@
-//! What the workers start from, with all the memory that they need.
+//! Makes the jobs of the workers, with all the memory that they need.
 ghost use Rattle.std.specs.Prelude.{◌≡◌, ◌+◌, ◌≤◌, ◌++◌, List, ℕ, ℤ, length, vec_len, vec_capacity, IfOk};
 ghost use Rattle.std.specs.Vec.Iter.{into_iter_items, into_iter_len};
 ghost use Rattle.rtp_stream.specs.declared.stream_spec.Stream.{Stream};
@@ -14,7 +14,7 @@ use std::sync::atomic::AtomicBool;
 use std::vec::IntoIter;
 use studio_ends::{PathEnd, StreamEnd};
 
-/// So many flags, none of them set.
+/// Allocates so many flags, none of them set.
 pub(crate) fn unset_flags(alloc: Global, count: usize) -> Result<Vec<AtomicBool>, AllocError>
     ensures { IfOk result (λ flags. vec_len flags ≡ count) }
 {
@@ -25,7 +25,7 @@ pub(crate) fn unset_flags(alloc: Global, count: usize) -> Result<Vec<AtomicBool>
     Ok(flags)
 }
 
-/// The jobs of a stream's paths: the next ends, each with the next feed.
+/// Makes the jobs of a stream's paths: the next `count` ends, each with the next feed.
 fn next_paths<F: Drop>(
     alloc: Global,
     count: u8,
@@ -37,7 +37,8 @@ fn next_paths<F: Drop>(
     ensures ends { IfOk result (λ own. into_iter_items ends.old ≡ ends_of own.items ++ into_iter_items ends.new) }
     ensures feeds { IfOk result (λ own. into_iter_items feeds.old ≡ feeds_in own.items ++ into_iter_items feeds.new) }
     ensures count { IfOk result (λ own. vec_len own ≡ count) }
-    ensures left { IfOk result (λ own. (into_iter_len ends.new + count ≡ into_iter_len ends.old) × (into_iter_len feeds.new + count ≡ into_iter_len feeds.old)) }
+    ensures left { IfOk result (λ own. (into_iter_len ends.new + count ≡ into_iter_len ends.old)
+        × (into_iter_len feeds.new + count ≡ into_iter_len feeds.old)) }
 {
     let mut own = Vec::with_capacity(alloc, usize::from(count))?;
     for _ in 0..count {
@@ -52,7 +53,7 @@ fn next_paths<F: Drop>(
     Ok(own)
 }
 
-/// Room for what the workers of a stream's paths come to.
+/// The room for the results of the workers of a stream's paths.
 #[derive(Drop)]
 struct PathRoom {
     ended: Vec<AtomicBool>,
@@ -61,7 +62,7 @@ struct PathRoom {
     faults: Vec<u64>,
 }
 
-/// Room for so many paths, none of which has ended.
+/// Allocates room for so many paths, none of which has ended.
 fn room_for_paths(alloc: Global, count: usize) -> Result<PathRoom, AllocError>
     ensures ended { IfOk result (λ room. vec_len room.ended ≡ count) }
     ensures results { IfOk result (λ room. (vec_len room.results ≡ 0) × (count ≤ vec_capacity room.results)) }
@@ -80,7 +81,7 @@ fn room_for_paths(alloc: Global, count: usize) -> Result<PathRoom, AllocError>
     })
 }
 
-/// The job of a stream.
+/// Makes the job of a stream.
 fn stream_job<F: Drop, C: Drop>(
     alloc: Global,
     end: StreamEnd,
@@ -108,7 +109,7 @@ fn stream_job<F: Drop, C: Drop>(
     })
 }
 
-/// The jobs of all streams. The paths' ends and the feeds stand stream by stream and path by path.
+/// Makes the jobs of all streams. The paths' ends and the feeds are ordered by stream and then by path.
 pub(crate) fn stream_jobs<F: Drop, C: Drop>(
     alloc: Global,
     paths: Vec<PathEnd>,
@@ -116,7 +117,8 @@ pub(crate) fn stream_jobs<F: Drop, C: Drop>(
     streams: Vec<StreamEnd>,
     clocks: Vec<C>,
 ) -> Result<Vec<StreamJob<F, C>>, AllocError>
-    requires streams { (open_at : ℤ) × (places : ℕ) × (specs : List Stream) × AllFreshStreams open_at places specs paths.items streams.items }
+    requires streams { (open_at : ℤ) × (places : ℕ) × (specs : List Stream)
+        × AllFreshStreams open_at places specs paths.items streams.items }
     requires feeds { length feeds.items ≡ length paths.items }
     requires clocks { length clocks.items ≡ length streams.items }
     ensures jobs { IfOk result (λ jobs. AreJobsOf paths.items feeds.items clocks.items streams.items jobs.items) }

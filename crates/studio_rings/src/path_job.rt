@@ -1,21 +1,21 @@
-//! What a path's worker starts from, and what it comes to.
+//! The job of a path's worker, and its result.
 
 use rtp_stream::PathCounts;
 use studio_ends::{PathDone, PathEnd};
 
-/// A path's end, and what feeds it.
+/// The job of a path's worker: a path's end and its feed.
 #[derive(Drop)]
 pub struct PathJob<F> {
     pub end: PathEnd,
     pub feed: F,
 }
 
-/// What is left of a path's worker.
+/// The result of a path's worker.
 #[derive(Drop)]
 pub struct PathResult {
-    /// The proof of its end. None where it was stopped, or where the stream's end is gone.
+    /// The token of the path's end; `None` if the worker was stopped or the stream's end was dropped.
     pub done: Option<PathDone>,
     pub counts: PathCounts,
-    /// How often the feed answered a fault.
+    /// The number of faults that the feed returned.
     pub faults: u64,
 }

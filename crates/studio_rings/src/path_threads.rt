@@ -1,4 +1,4 @@
-//! The workers of a stream's paths, each beside those before it, and the first beside the stream's turns.
+//! Runs the workers of a stream's paths, each in a thread of its own, and the stream's turns in the calling thread.
 ghost use Rattle.std.specs.Prelude.{◌≡◌, ◌+◌, ◌≤◌, ◌++◌, [], ◌∷◌, List, length, vec_len, vec_capacity, IfOk};
 ghost use Rattle.std.specs.Thread.{IsSync};
 ghost use Rattle.std.specs.List.{AllZip};
@@ -15,11 +15,11 @@ use std::thread;
 use std::thread::{Promise, Threads};
 use studio_io::{Clock, Feed};
 
-/// A worker couldn't be started, and the others were told to stop.
+/// The error of a run whose workers must stop, since a thread could not be started.
 #[derive(Clone, Copy, Debug)]
 pub(crate) struct WorkerStopped;
 
-/// Makes turns until all paths have ended, or until the workers are to stop.
+/// Makes turns until all paths have ended or the workers must stop.
 fn run_turns<R: Wait, C: Clock>(
     rt: &R,
     stream: ClockedStream<C>,
@@ -39,7 +39,7 @@ fn run_turns<R: Wait, C: Clock>(
     unreachable!()
 }
 
-/// What a path's worker comes to.
+/// The promise of a path's thread: its result is that of running this job.
 #[derive(Drop)]
 struct PathPromise<F> {
     job: Snapshot<PathJob<F>>,
@@ -49,8 +49,8 @@ impl<F: Feed> Promise<PathResult> for PathPromise<F> {
     ghost kept_by = { λ p r. IsPathResult F.told p.job.value r };
 }
 
-/// Runs each path beside those before it, and the first beside the turns of their stream. The results
-/// join those that there are, in the order of the paths.
+/// Runs each path in a thread of its own, and the stream's turns in the calling thread. Appends the results in the
+/// order of the paths. Returns `WorkerStopped` if a thread cannot be started.
 pub(crate) fn run_paths<R: Threads + Wait + Sync, F: Feed + Send, C: Clock>(
     rt: &R,
     jobs: Vec<PathJob<F>>,
@@ -61,17 +61,21 @@ pub(crate) fn run_paths<R: Threads + Wait + Sync, F: Feed + Send, C: Clock>(
 ) -> Result<(Vec<PathResult>, ClockedStream<C>), WorkerStopped>
     requires room { vec_len results + vec_len jobs ≤ vec_capacity results }
     requires flags { vec_len jobs ≤ length ended.now }
-    ensures results { IfOk result (λ r. (own : List PathResult) × (r.0.items ≡ results.items ++ own) × AllZip (IsPathResult F.told) jobs.items own) }
+    ensures results { IfOk result (λ r. (own : List PathResult) × (r.0.items ≡ results.items ++ own)
+        × AllZip (IsPathResult F.told) jobs.items own) }
     ensures stream { IfOk result (λ r. GoesOn C.told stream r.1) }
     ensures len { IfOk result (λ r. vec_len r.0 ≡ vec_len results + vec_len jobs) }
     ensures capacity { IfOk result (λ r. vec_capacity r.0 ≡ vec_capacity results) }
 {
     let mut jobs = jobs;
+    // The last path's thread is started first and the calls below start the others, so the results come in order: the
+    // last path's is pushed after theirs.
     let Some(job) = jobs.pop() else {
         let stream = run_turns(rt, stream, ended, stop);
         return Ok((results, stream));
     };
     let flag = &ended[jobs.len()];
+    // The join says no more of a thread's result than the thread's promise does.
     let promise = PathPromise {
         job: Snapshot::of(&job),
     };
@@ -83,7 +87,8 @@ pub(crate) fn run_paths<R: Threads + Wait + Sync, F: Feed + Send, C: Clock>(
             requires room { vec_len results + vec_len jobs + 1 ≤ vec_capacity results }
             requires flags { vec_len jobs ≤ length ended.now }
             requires promise { promise.job.value ≡ job }
-            ensures results { IfOk result (λ r. (own : List PathResult) × (r.0.items ≡ results.items ++ own) × AllZip (IsPathResult F.told) (jobs.items ++ job ∷ []) own) }
+            ensures results { IfOk result (λ r. (own : List PathResult) × (r.0.items ≡ results.items ++ own)
+                × AllZip (IsPathResult F.told) (jobs.items ++ job ∷ []) own) }
             ensures stream { IfOk result (λ r. GoesOn C.told stream r.1) }
             ensures len { IfOk result (λ r. vec_len r.0 ≡ vec_len results + vec_len jobs + 1) }
             ensures capacity { IfOk result (λ r. vec_capacity r.0 ≡ vec_capacity results) }
@@ -92,6 +97,7 @@ pub(crate) fn run_paths<R: Threads + Wait + Sync, F: Feed + Send, C: Clock>(
                 stop.store(true, Ordering::SeqCst);
                 return Err(WorkerStopped);
             };
+            // The thread is joined before an error of the others is returned.
             let rest = run_paths(rt, jobs, results, stream, ended, stop);
             let result = child.join(rt);
             let (mut all, stream) = rest?;

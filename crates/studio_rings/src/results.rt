@@ -1,4 +1,4 @@
-//! What the streams' workers came to, in the parts of a report.
+//! Collects the results of the streams' workers into the parts of a report.
 ghost use Rattle.std.specs.Prelude.{◌≡◌, ◌≤◌, vec_len, vec_capacity, IfOk};
 ghost use Rattle.studio_rings.specs.StreamResults.{counts_in, dones_in, fault_numbers};
 
@@ -7,7 +7,7 @@ use rtp_stream::StreamCounts;
 use std::alloc::{AllocError, Global};
 use studio_ends::StreamDone;
 
-/// The tokens of the streams, their counts, and the number of each feed's faults.
+/// The tokens and counts of the streams, and the number of faults of each feed.
 #[derive(Drop)]
 pub(crate) struct RunResults {
     pub(crate) dones: Vec<Option<StreamDone>>,
@@ -15,7 +15,7 @@ pub(crate) struct RunResults {
     pub(crate) feed_faults: Vec<u64>,
 }
 
-/// Room for the parts of so many streams and feeds.
+/// Allocates room for the results of so many streams and feeds.
 pub(crate) fn reserve_results(
     alloc: Global,
     streams: usize,
@@ -35,7 +35,7 @@ pub(crate) fn reserve_results(
     })
 }
 
-/// Takes the results apart. The room for all was taken before, so nothing grows.
+/// Splits the results into the parts of a report. The room for them was allocated before, so nothing grows.
 pub(crate) fn collect_results(results: Vec<StreamResult>, parts: RunResults) -> RunResults
     requires dones { (vec_len parts.dones ≡ 0) × (vec_len results ≤ vec_capacity parts.dones) }
     requires streams { (vec_len parts.streams ≡ 0) × (vec_len results ≤ vec_capacity parts.streams) }

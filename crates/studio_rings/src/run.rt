@@ -1,4 +1,4 @@
-//! The workers of a studio.
+//! Runs the workers of a studio and makes the report of the run.
 ghost use Rattle.std.specs.Prelude.{◌≡◌, ◌≤◌, ◌↔◌, ℕ, ℤ, List, IsTrue, true, map, length, vec_len, vec_capacity, IfOk};
 ghost use Rattle.rtp_stream.specs.declared.stream_spec.Stream.{Stream};
 ghost use Rattle.studio_config.specs.Studio.{IsStudio, Studio};
@@ -25,7 +25,7 @@ use std::thread::Threads;
 use studio_ends::{Ends, PathEnd, StreamEnd};
 use studio_io::{Clock, Feed, Sink, WorkFault, WorkReport};
 
-/// All that the workers start from, and room for all that they come to.
+/// The jobs of the workers, and the room for all their results.
 #[derive(Drop)]
 struct RunMemory<F, C> {
     jobs: Vec<StreamJob<F, C>>,
@@ -34,7 +34,8 @@ struct RunMemory<F, C> {
     parts: RunResults,
 }
 
-/// Takes all memory of a run.
+/// Allocates all memory of a run.
+// In one function before the first thread starts, so that a run which has begun cannot fail for memory.
 fn reserve_memory<F: Drop, C: Drop>(
     alloc: Global,
     paths: Vec<PathEnd>,
@@ -42,15 +43,19 @@ fn reserve_memory<F: Drop, C: Drop>(
     streams: Vec<StreamEnd>,
     clocks: Vec<C>,
 ) -> Result<RunMemory<F, C>, AllocError>
-    requires streams { (open_at : ℤ) × (places : ℕ) × (specs : List Stream) × AllFreshStreams open_at places specs paths.items streams.items }
+    requires streams { (open_at : ℤ) × (places : ℕ) × (specs : List Stream)
+        × AllFreshStreams open_at places specs paths.items streams.items }
     requires feeds { length feeds.items ≡ length paths.items }
     requires clocks { length clocks.items ≡ length streams.items }
-    ensures jobs { IfOk result (λ m. AreJobsOf paths.items feeds.items clocks.items streams.items m.jobs.items × HaveRoom m.jobs.items) }
+    ensures jobs { IfOk result (λ m. AreJobsOf paths.items feeds.items clocks.items streams.items m.jobs.items
+        × HaveRoom m.jobs.items) }
     ensures results { IfOk result (λ m. (vec_len m.results ≡ 0) × (vec_len m.jobs ≤ vec_capacity m.results)) }
     ensures ended { IfOk result (λ m. vec_len m.ended ≡ vec_len m.jobs) }
     ensures dones { IfOk result (λ m. (vec_len m.parts.dones ≡ 0) × (vec_len m.jobs ≤ vec_capacity m.parts.dones)) }
-    ensures counts { IfOk result (λ m. (vec_len m.parts.streams ≡ 0) × (vec_len m.jobs ≤ vec_capacity m.parts.streams)) }
-    ensures faults { IfOk result (λ m. (vec_len m.parts.feed_faults ≡ 0) × (vec_len feeds ≤ vec_capacity m.parts.feed_faults)) }
+    ensures counts { IfOk result (λ m. (vec_len m.parts.streams ≡ 0)
+        × (vec_len m.jobs ≤ vec_capacity m.parts.streams)) }
+    ensures faults { IfOk result (λ m. (vec_len m.parts.feed_faults ≡ 0)
+        × (vec_len feeds ≤ vec_capacity m.parts.feed_faults)) }
 {
     let count = streams.len();
     let parts = reserve_results(alloc, count, feeds.len())?;
@@ -65,7 +70,7 @@ fn reserve_memory<F: Drop, C: Drop>(
     })
 }
 
-/// What came of a run, and its sink.
+/// Makes the report of a run, and returns it with the sink.
 fn report<K: Drop>(mixed: MixResult<K>, parts: RunResults) -> (WorkReport, K)
     requires tokens { AreTokensOf parts.dones.items mixed.end.sides.items }
     ensures balance { Balances result.0.blocks result.0.sent_a result.0.fault_a result.0.sent_b result.0.fault_b }
@@ -75,7 +80,8 @@ fn report<K: Drop>(mixed: MixResult<K>, parts: RunResults) -> (WorkReport, K)
     ensures sink { result.1 ≡ mixed.sink }
     ensures exactly { IsTrue result.0.settled ↔ AreAllDrained parts.dones.items mixed.end.sides.items }
     ensures given { result.0.settled ≡ true → AllGiveTokens parts.dones.items }
-    ensures settled { result.0.settled ≡ true → (studio : Studio) (feeds : List FeedMarks) (datagrams : List (List ℕ)) → AreTold studio parts.dones.items feeds
+    ensures settled { result.0.settled ≡ true → (studio : Studio) (feeds : List FeedMarks) (datagrams : List (List ℕ))
+        → AreTold studio parts.dones.items feeds
         → AreAllGiven studio mixed.end datagrams → AreBlocks studio feeds datagrams }
 {
     let MixResult { end, sink, counts } = mixed;
@@ -98,12 +104,13 @@ fn report<K: Drop>(mixed: MixResult<K>, parts: RunResults) -> (WorkReport, K)
     (report, sink)
 }
 
-/// Runs a worker for each path, each stream and the mixer, each in a thread of its own, until all feeds
-/// have ended and all datagrams were sent.
+/// Runs a worker for each path and each stream, each in a thread of its own, and the mixer's in the calling thread,
+/// until all feeds have ended and all datagrams were sent.
 ///
-/// The ends are those of one `open`, not used yet; the monitors' ends may be elsewhere. The feeds stand
-/// stream by stream and path by path. All memory is taken before the first worker starts. Where a
-/// worker can't be started, the others stop and are joined.
+/// The caller passes the unused ends of one `open`; it may have taken the monitors' ends out. The feeds are ordered by
+/// stream and then by path, the clocks by stream. All memory is allocated before the first worker starts. Returns
+/// `WorkFault::Memory` if an allocation fails. Returns `WorkFault::Start` if a thread cannot be started; the other
+/// workers are stopped and joined first.
 pub fn run_workers<R: Threads + Wait + Sync, F: Feed + Send, C: Clock + Send, K: Sink>(
     rt: &R,
     alloc: Global,
@@ -117,8 +124,10 @@ pub fn run_workers<R: Threads + Wait + Sync, F: Feed + Send, C: Clock + Send, K:
     requires clocks { length clocks.items ≡ length ends.streams.items }
     ensures balance { IfOk result (λ r. Balances r.0.blocks r.0.sent_a r.0.fault_a r.0.sent_b r.0.fault_b) }
     ensures faults { IfOk result (λ r. length r.0.feed_faults.items ≡ length feeds.items) }
-    ensures settled { IfOk result (λ r. r.0.settled ≡ true → (studio : Studio) (places : ℕ) → AreOpenedTogether studio places ends
-        → IsSettledRun studio places (map F.told feeds.items) (map C.told clocks.items) r.0 (K.handed sink) (K.handed r.1)) }
+    ensures settled { IfOk result (λ r. r.0.settled ≡ true → (studio : Studio) (places : ℕ)
+        → AreOpenedTogether studio places ends
+        → IsSettledRun studio places (map F.told feeds.items) (map C.told clocks.items) r.0 (K.handed sink)
+        (K.handed r.1)) }
 {
     let Ends {
         paths,
@@ -133,6 +142,7 @@ pub fn run_workers<R: Threads + Wait + Sync, F: Feed + Send, C: Clock + Send, K:
         ended,
         parts,
     } = memory;
+    // Set by the first worker that cannot start a thread. Every worker reads it between its steps.
     let stop = AtomicBool::new(false);
     let Ok((results, mixed)) = run_streams(rt, jobs, results, mix, sink, &ended, &stop) else {
         return Err(WorkFault::Start);

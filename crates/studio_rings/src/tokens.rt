@@ -1,4 +1,4 @@
-//! The end of the mixer's end: the tokens of all streams, and whether that is all.
+//! The last step of a run: passes the streams' tokens to the mixer's end and tests if it is settled.
 ghost use Rattle.std.specs.Prelude.{◌≡◌, ◌↔◌, ℕ, List, IsTrue, true};
 ghost use Rattle.studio_config.specs.Studio.{Studio};
 ghost use Rattle.studio_mix.specs.Feed.{Feed};
@@ -8,7 +8,7 @@ ghost use Rattle.studio_rings.specs.StreamTokens.{AllGiveTokens, AreAllDrained, 
 
 use studio_ends::{MixEnd, StreamDone};
 
-/// Hands in the proofs that the streams have finished.
+/// Passes the token of each stream that has one to the mixer's end.
 fn hand_in_all(end: &mut MixEnd, dones: Vec<Option<StreamDone>>)
     requires { AreTokensOf dones.items end.old.sides.items }
     ensures sides { HaveTokens dones.items end.old.sides.items end.new.sides.items }
@@ -23,12 +23,15 @@ fn hand_in_all(end: &mut MixEnd, dones: Vec<Option<StreamDone>>)
     }
 }
 
-/// Whether all streams have finished, and all their marks were taken.
+/// Returns true if all streams have finished and the mixer's end took all their marks.
+///
+/// `dones` has an entry for each stream, in order; `None` for a stream that gave no token.
 pub fn is_settled_with(end: MixEnd, dones: Vec<Option<StreamDone>>) -> bool
     requires { AreTokensOf dones.items end.sides.items }
     ensures exactly { IsTrue result ↔ AreAllDrained dones.items end.sides.items }
     ensures tokens { result ≡ true → AllGiveTokens dones.items }
-    ensures blocks { result ≡ true → (studio : Studio) (feeds : List Feed) (datagrams : List (List ℕ)) → AreTold studio dones.items feeds
+    ensures blocks { result ≡ true → (studio : Studio) (feeds : List Feed) (datagrams : List (List ℕ))
+        → AreTold studio dones.items feeds
         → AreAllGiven studio end datagrams → AreBlocks studio feeds datagrams }
 {
     let mut end = end;

@@ -1,4 +1,5 @@
-//! How a worker waits that has nothing to do.
+//! The pause of a worker that has nothing to do. `path`, `stream` and `mixer` are the workers; `clocked_stream` and
+//! `clocked_turn` are a stream's end with its clock, and its turns.
 
 use std::sync::Wait;
 use std::thread::Parker;
@@ -10,10 +11,12 @@ pub(crate) mod mixer;
 pub(crate) mod path;
 pub(crate) mod stream;
 
-/// The first pause of most workers, in microseconds.
+/// The first pause of most workers, in microseconds: 1 ms.
 const FIRST: u64 = 1_000;
 
-/// Pauses that grow while nothing comes: each is twice the one before, up to a longest.
+/// Pauses that grow while nothing arrives: each is twice the one before, up to a longest.
+// A worker rests instead of being woken for each packet, which costs more: packets are passed on at deadlines, not at
+// arrivals. So nobody wakes the parker.
 #[derive(Drop)]
 pub struct Backoff {
     parker: Parker,
@@ -23,7 +26,7 @@ pub struct Backoff {
 }
 
 impl Backoff {
-    /// Pauses of at most so many microseconds.
+    /// Pauses of at most `longest` microseconds. The first is 1 ms, or `longest` if that is shorter.
     pub fn up_to(longest: u64) -> Backoff {
         Backoff::between(FIRST.min(longest), longest)
     }
@@ -38,28 +41,30 @@ impl Backoff {
         }
     }
 
-    /// Waits. It may end early.
+    /// Waits for the next pause. It may end early.
     pub fn snooze<R: Wait>(&mut self, rt: &R) {
         self.wait(rt, self.next);
     }
 
-    /// Waits until the clock, which reads this in sampling instants, comes to a multiple of the pause. So
-    /// workers that have the same pause wake together, which costs the machine less. It may end early.
+    /// Waits until the clock, which now reads `now` sampling instants, reaches a multiple of the pause. It may end
+    /// early.
+    // Workers that have the same pause wake together, which costs the machine less.
     pub(crate) fn snooze_aligned<R: Wait>(&mut self, rt: &R, now: i64) {
-        // There are 6 sampling instants in 125 microseconds.
+        // There are 6 sampling instants in 125 microseconds. The length is at least 1, so that the
+        // remainder by it exists.
         let length = (self.next.saturating_mul(6) / 125).max(1);
         let gone = now.unsigned_abs() % length;
         self.wait(rt, self.next.saturating_sub(gone.saturating_mul(125) / 6));
     }
 
-    /// Waits for so many microseconds. The next pause is longer.
+    /// Waits for so many microseconds and doubles the next pause, up to the longest.
     fn wait<R: Wait>(&mut self, rt: &R, microseconds: u64) {
         self.parker
             .park_timeout(rt, Duration::from_micros(microseconds));
         self.next = self.next.saturating_mul(2).min(self.longest);
     }
 
-    /// Something came: the next pause is the first again.
+    /// Sets the next pause to the first again. For use when something arrived.
     pub(crate) fn reset(&mut self) {
         self.next = self.first;
     }

@@ -1,4 +1,4 @@
-//! A stream's end, with the clock that its turns go by.
+//! A stream's end with the clock that its turns follow.
 ghost use Rattle.std.specs.Prelude.{◌≡◌, ◌^◌, ◌≤ℤ◌, pos, false};
 
 use crate::worker::Backoff;
@@ -6,12 +6,13 @@ use path_merge::{Counts, StreamSpec};
 use studio_ends::{StreamDone, StreamEnd};
 use studio_io::Clock;
 
-/// The longest pause after a turn, in microseconds.
+/// The longest pause after a turn, in microseconds: 5 ms.
 const TURN_PAUSE: u64 = 5_000;
 
-/// The longest pause after a turn of a stream, in microseconds: at most half of what its window spans
-/// beyond its latency. A packet is judged at the time of the last turn, so a longer one makes packets
-/// too far ahead. There are 48,000 sampling instants a second.
+/// Returns the longest pause after a turn of a stream, in microseconds: at most half of what its window spans beyond
+/// its latency.
+// A packet is judged at the time of the last turn. After a longer pause it would be too early for the window.
+// There are 6 sampling instants in 125 microseconds.
 fn longest_pause(spec: &StreamSpec) -> u64 {
     let span = u64::from(spec.window()) * u64::from(spec.frames());
     let spare = span.saturating_sub(u64::from(spec.latency()));
@@ -23,7 +24,7 @@ fn longest_pause(spec: &StreamSpec) -> u64 {
 pub struct ClockedStream<C> {
     pub end: StreamEnd,
     pub(crate) clock: C,
-    /// The greatest answer of the clock so far, from the opening time to 2^60.
+    /// The greatest clock reading so far, from the opening time to 2^60, in sampling instants at 48 kHz.
     pub(crate) now: i64,
     pub(crate) pause: Backoff,
     ghost open_yet: { end.merge.closed ≡ false },
@@ -32,7 +33,7 @@ pub struct ClockedStream<C> {
 }
 
 impl<C: Clock> ClockedStream<C> {
-    /// A stream's end, which is not closed, with a clock that wasn't asked yet.
+    /// A stream's end that is not closed, with a clock that was not read yet.
     pub fn new(end: StreamEnd, clock: C) -> ClockedStream<C>
         requires open_yet { end.merge.closed ≡ false }
         requires in_time { end.merge.time ≤ℤ pos (2 ^ 60) }
@@ -48,7 +49,7 @@ impl<C: Clock> ClockedStream<C> {
         }
     }
 
-    /// Gives up the end as it is.
+    /// Consumes the end without closing it, and returns its token and counts.
     pub fn finish(self) -> (Option<StreamDone>, Counts) {
         let ClockedStream {
             end,

@@ -1,4 +1,4 @@
-//! A turn of a stream at its clock's time, and its close.
+//! The turns of a stream at its clock's readings, and its close.
 ghost use Rattle.std.specs.Prelude.{◌≡◌, ◌^◌, ◌≤ℤ◌, pos, false, IfOk, IfErr};
 ghost use Rattle.studio_ends.specs.Streams.{TakesTurn};
 ghost use Rattle.studio_rings.specs.Turns.{Closes, GoesOn, KeepsTokens, ReadsFirst};
@@ -10,7 +10,7 @@ use std::sync::Wait;
 use studio_ends::{StopReason, StreamEnd, TurnNote};
 use studio_io::Clock;
 
-/// A turn that no clock fault refuses.
+/// Makes a turn at a reading that no clock fault refuses.
 fn turn_at(end: &mut StreamEnd, now: i64) -> TurnNote
     requires open_yet { end.old.merge.closed ≡ false }
     requires low { end.old.merge.time ≤ℤ now }
@@ -23,7 +23,9 @@ fn turn_at(end: &mut StreamEnd, now: i64) -> TurnNote
     }
 }
 
-/// Reads the clock before a first packet is taken: by the arrival clock the packet has this time.
+/// Passes a reading to a stream with the arrival clock before its first packet is taken.
+// The first packet has the time of the reading before it. A turn takes packets before it moves on to its own reading,
+// so without this the first packet would have the time of the turn before.
 fn read_first(end: &mut StreamEnd, now: i64)
     requires open_yet { end.old.merge.closed ≡ false }
     requires low { end.old.merge.time ≤ℤ now }
@@ -39,12 +41,13 @@ fn read_first(end: &mut StreamEnd, now: i64)
     }
 }
 
-/// Rests where a turn at this time left nothing to do before packets come or time passes, and longer
-/// while none come.
+/// Rests if a turn at this time left nothing to do until packets arrive or time passes. The pauses grow while no packet
+/// arrives.
 fn snooze_after<R: Wait>(rt: &R, pause: &mut Backoff, now: i64, note: &TurnNote) {
     if note.from.iter().any(|count| *count > 0) {
         pause.reset();
     }
+    // A turn takes at most 64 packets of a path, so a path that gave 64 may have more.
     let more = note.from.iter().any(|count| *count == 64);
     if !more && note.why_stopped != StopReason::Batch {
         pause.snooze_aligned(rt, now);
@@ -52,19 +55,21 @@ fn snooze_after<R: Wait>(rt: &R, pause: &mut Backoff, now: i64, note: &TurnNote)
 }
 
 impl<C: Clock> ClockedStream<C> {
-    /// Makes a turn at the greatest answer of the clock so far. It rests where there is nothing to do
-    /// before packets come or time passes.
+    /// Makes a turn at the greatest clock reading so far, and rests if nothing is left to do until packets arrive or
+    /// time passes.
     pub fn turn<R: Wait>(&mut self, rt: &R)
         ensures later { GoesOn C.told self.old self.new }
         ensures tokens { KeepsTokens self.old.end.sides.items self.new.end.sides.items }
     {
+        // A reading before the last one or after 2^60 would be a clock fault, whatever the clock returns.
         self.now = self.clock.now().clamp(self.now, 1 << 60);
         read_first(&mut self.end, self.now);
         let note = turn_at(&mut self.end, self.now);
         snooze_after(rt, &mut self.pause, self.now, &note);
     }
 
-    /// Closes the stream where all that its paths sent was taken.
+    /// Closes the stream if all that its paths sent was taken. Returns the open stream otherwise.
+    // Consumes the stream, since a `ClockedStream` is never closed: a turn of it can then have no clock fault.
     pub fn try_close(self) -> Result<StreamEnd, ClockedStream<C>>
         ensures closed { IfOk result (λ end. Closes self.end end) }
         ensures later { IfErr result (λ rest. GoesOn C.told self rest) }

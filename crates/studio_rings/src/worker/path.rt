@@ -1,4 +1,4 @@
-//! The worker of a path.
+//! The worker of a path: each datagram of its feed to its end.
 ghost use Rattle.std.specs.Prelude.{◌≡◌, true, length, IfSome, None};
 ghost use Rattle.rtrb.specs.Ring.{all_sent, Finishes, SameProducer};
 ghost use Rattle.studio_ends.specs.Fitting.{fitting};
@@ -12,25 +12,26 @@ use std::sync::atomic::{AtomicBool, Ordering};
 use studio_ends::{Offer, PathEnd};
 use studio_io::{Feed, FeedAnswer};
 
-/// The longest pause after a feed had nothing, in microseconds.
+/// The longest pause after a feed had nothing, in microseconds: 10 ms.
 const FEED_PAUSE: u64 = 10_000;
 
-/// The longest pause after a feed failed, in microseconds: a datagram may lie behind the fault. 1,000 of
-/// them are two seconds.
+/// The longest pause after a feed failed, in microseconds: 2 ms.
+// Short, since a datagram may wait behind the fault. 1,000 faults in a row, which end a feed, take two seconds.
 const FAULT_PAUSE: u64 = 2_000;
 
-/// The pause between two tries at a full ring, in microseconds. 1,000 of them are far longer than a
-/// stream's longest.
+/// The pause between two offers at a full ring, in microseconds: 0.2 ms.
+// 1,000 of them are 200 ms, far longer than the 5 ms that a stream pauses at most before it takes packets.
 const FULL_PAUSE: u64 = 200;
 
-/// Offers a datagram, and again while the answer is `Full`, at most 1,000 times more. It answers
-/// false where it was stopped.
+/// Offers a datagram, and again while the result is `Full`, at most 1,000 times more. Returns false if it was stopped
+/// before the datagram was taken.
 fn offer_until_taken<R: Wait>(rt: &R, end: &mut PathEnd, datagram: &[u8], stop: &AtomicBool) -> bool
     ensures ring { SameProducer end.old.ring end.new.ring }
     ensures spec { end.new.spec ≡ end.old.spec }
     ensures offers { result ≡ true → OffersAgain datagram.now end.old end.new }
 {
     let mut pause = Backoff::up_to(FULL_PAUSE);
+    // One offer and 1,000 more. A datagram for which all fail is dropped, and the path goes on with the next.
     for _ in 0..1001u32 {
         if end.offer(datagram) != Offer::Full {
             return true;
@@ -43,7 +44,7 @@ fn offer_until_taken<R: Wait>(rt: &R, end: &mut PathEnd, datagram: &[u8], stop: 
     true
 }
 
-/// Gives up the end, and says so.
+/// Finishes the end and sets the path's flag.
 fn finish_path(end: PathEnd, faults: u64, ended: &AtomicBool) -> PathResult
     ensures done { IfSome result.done (λ done. Finishes end.ring done.token) }
     ensures fit { IfSome result.done (λ done. fitting end.spec (all_sent done.token) ≡ all_sent done.token) }
@@ -59,7 +60,7 @@ fn finish_path(end: PathEnd, faults: u64, ended: &AtomicBool) -> PathResult
     }
 }
 
-/// Gives up the end with no proof, since not all of the feed was sent.
+/// Finishes the end without a token, since not all of the feed was sent, and sets the path's flag.
 fn abandon_path(end: PathEnd, faults: u64, ended: &AtomicBool) -> PathResult
     ensures { result.done ≡ None }
 {
@@ -79,7 +80,7 @@ fn rest_for<R: Wait, F: Feed>(rt: &R, feed: &F, pause: &mut Backoff) {
     }
 }
 
-/// Sends what the feed gives until it ends, or until the workers are to stop.
+/// Sends the datagrams of the feed until it ends or the workers must stop.
 fn run_feed<R: Wait, F: Feed>(
     rt: &R,
     end: PathEnd,
@@ -90,12 +91,14 @@ fn run_feed<R: Wait, F: Feed>(
     ensures token { IfSome result.done (λ done. IsTokenOf end done) }
     ensures fit { IfSome result.done (λ done. fitting end.spec (all_sent done.token) ≡ all_sent done.token) }
     ensures count { IfSome result.done (λ done. result.counts.sent ≡ length (all_sent done.token)) }
-    ensures sent { reaches_end 0 (F.told feed) ≡ true → IfSome result.done (λ done. SendsFeed (F.told feed) end (all_sent done.token) result.counts) }
+    ensures sent { reaches_end 0 (F.told feed) ≡ true
+        → IfSome result.done (λ done. SendsFeed (F.told feed) end (all_sent done.token) result.counts) }
 {
     let mut end = end;
     let mut feed = feed;
     let mut pause = Backoff::up_to(FEED_PAUSE);
     let mut fault_pause = Backoff::up_to(FAULT_PAUSE);
+    // 2,048 octets, the length for which `Feed::next` says what it gives: more than a standard Ethernet frame carries.
     let mut buf = [0u8; 2048];
     let mut in_a_row = 0u32;
     let mut faults = 0u64;
@@ -113,11 +116,13 @@ fn run_feed<R: Wait, F: Feed>(
             }
             FeedAnswer::Nothing => {
                 in_a_row = 0;
+                // `offer` sends the counts with each datagram. While none comes, a reader gets the last ones here.
                 end.send_counts();
                 rest_for(rt, &feed, &mut pause);
             }
             FeedAnswer::Fault => {
                 faults = faults.saturating_add(1);
+                // The 1,000th fault in a row ends the feed.
                 if in_a_row == 999 {
                     return finish_path(end, faults, ended);
                 }
@@ -130,7 +135,9 @@ fn run_feed<R: Wait, F: Feed>(
     unreachable!()
 }
 
-/// Runs a path, and says when it has ended.
+/// Runs a path until its feed ends, fails 1,000 times in a row, or the workers must stop.
+///
+/// Sets `ended` at the end. The caller sets `stop` to stop it; the result then has no token.
 pub fn run_path<R: Wait, F: Feed>(
     rt: &R,
     job: PathJob<F>,

@@ -1,7 +1,16 @@
-//! The worker of a stream.
+//! The worker of a stream: its paths, its turns, and its end once they have ended.
 ghost use Rattle.std.specs.Prelude.{◌≡◌, ◌≤◌, map, length, vec_len, vec_capacity, true, IfOk};
 ghost use Rattle.studio_rings.specs.Turns.{GoesOn, HaveTold};
-ghost use Rattle.studio_rings.specs.StreamWorkers.{AllTokensFit, EndsStream, FitsAt, HandsOne, PathsGiveTokens, IsReady, IsStreamResult, told_by};
+ghost use Rattle.studio_rings.specs.StreamWorkers.{
+  AllTokensFit,
+  EndsStream,
+  FitsAt,
+  HandsOne,
+  PathsGiveTokens,
+  IsReady,
+  IsStreamResult,
+  told_by,
+};
 ghost use Rattle.studio_rings.specs.StreamClose.{ClosesLater, Drains};
 
 use crate::path_job::PathResult;
@@ -16,10 +25,10 @@ use std::thread::Threads;
 use studio_ends::{PathDone, StreamEnd};
 use studio_io::{Clock, Feed};
 
-/// The longest pause at a full ring of marks, in microseconds.
+/// The longest pause at a full ring of marks, in microseconds: 2 ms.
 const DRAIN_PAUSE: u64 = 2_000;
 
-/// Hands in the token of the path at a place, and says whether it gave one.
+/// Passes the token of the path at a place to the stream. Returns true if there is one.
 fn pass_token<C: Clock>(stream: &mut ClockedStream<C>, place: usize, done: Option<PathDone>) -> bool
     requires { FitsAt done place stream.old.end.sides.items }
     ensures later { GoesOn C.told stream.old stream.new }
@@ -34,8 +43,8 @@ fn pass_token<C: Clock>(stream: &mut ClockedStream<C>, place: usize, done: Optio
     }
 }
 
-/// Hands in the tokens of the paths, and says whether each path gave one. The counts of each path and
-/// of its feed's faults go to their places.
+/// Passes the tokens of the paths to the stream, and appends each path's counts and faults. Returns true if every path
+/// gave a token.
 fn pass_tokens<C: Clock>(
     stream: &mut ClockedStream<C>,
     results: Vec<PathResult>,
@@ -67,7 +76,8 @@ fn pass_tokens<C: Clock>(
     all
 }
 
-/// Makes turns until all that the paths sent was taken, and closes the stream.
+/// Makes turns until all that the paths sent was taken, and closes the stream. Returns `WorkerStopped` if the workers
+/// must stop.
 fn close_when_taken<R: Wait, C: Clock>(
     rt: &R,
     stream: ClockedStream<C>,
@@ -89,7 +99,7 @@ fn close_when_taken<R: Wait, C: Clock>(
     unreachable!()
 }
 
-/// Hands on what is left after the close.
+/// Pushes the marks that are left after the close. Returns `WorkerStopped` if the workers must stop.
 fn drain<R: Wait>(rt: &R, end: StreamEnd, stop: &AtomicBool) -> Result<StreamEnd, WorkerStopped>
     ensures { IfOk result (λ r. Drains end r) }
 {
@@ -107,8 +117,9 @@ fn drain<R: Wait>(rt: &R, end: StreamEnd, stop: &AtomicBool) -> Result<StreamEnd
     unreachable!()
 }
 
-/// Ends a stream whose paths have ended: hands in their tokens, takes the rest, closes it and hands on
-/// what is left. Where a path gave no token it stays open, and gives none itself.
+/// Ends a stream whose paths have ended: passes in their tokens, takes the packets that are left, closes the stream and
+/// pushes the marks that are left. If a path gave no token the stream stays open, and gives none itself.
+// Without a path's token its ring is never drained, so waiting for the close would not end.
 fn end_stream<R: Wait, C: Clock>(
     rt: &R,
     stream: ClockedStream<C>,
@@ -151,7 +162,7 @@ fn end_stream<R: Wait, C: Clock>(
     })
 }
 
-/// Runs a stream and its paths until all feeds have ended and all marks were handed on.
+/// Runs a stream and its paths until all feeds have ended and all marks were pushed.
 fn run_stream_and_paths<R: Threads + Wait + Sync, F: Feed + Send, C: Clock>(
     rt: &R,
     job: StreamJob<F, C>,
@@ -174,7 +185,7 @@ fn run_stream_and_paths<R: Threads + Wait + Sync, F: Feed + Send, C: Clock>(
     end_stream(rt, stream, results, counts, faults, stop)
 }
 
-/// Runs a stream, and says when it has ended.
+/// Runs a stream and its paths, and sets the stream's flag at the end.
 pub(crate) fn run_stream<R: Threads + Wait + Sync, F: Feed + Send, C: Clock>(
     rt: &R,
     job: StreamJob<F, C>,
@@ -184,6 +195,7 @@ pub(crate) fn run_stream<R: Threads + Wait + Sync, F: Feed + Send, C: Clock>(
     requires { IsReady job }
     ensures { IfOk result (λ r. IsStreamResult F.told C.told job r) }
 {
+    // The flag is set on every way out, since the mixer's worker waits for the flags of all streams.
     let result = run_stream_and_paths(rt, job, stop);
     ended.store(true, Ordering::SeqCst);
     result
