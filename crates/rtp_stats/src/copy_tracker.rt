@@ -1,4 +1,4 @@
-//! What becomes of each path's packets beside those of the others.
+//! Tracks the copies that each path brings of a stream's packets (SMPTE ST 2022-7), with their arrival margins.
 ghost use Rattle.std.specs.Prelude.{◌≡◌, ℕ, ◌∷◌, [], List, Option, IfOk};
 ghost use Rattle.rtp_stream.specs.declared.stream_spec.Stream.{Stream};
 ghost use Rattle.rtp_stats.specs.Offer.{Offer};
@@ -11,7 +11,7 @@ use crate::tally::StreamTally;
 use rtp_stream::{Fate, Path, StreamSpec};
 use std::alloc::{AllocError, Global};
 
-/// What came of a stream's packets, path by path.
+/// A tracker of the fates and arrival margins of a stream's packets, path by path.
 #[derive(Drop)]
 pub struct CopyTracker {
     deadlines: Deadlines,
@@ -19,7 +19,8 @@ pub struct CopyTracker {
 }
 
 impl CopyTracker {
-    /// A stream of which nothing was offered. It takes all memory.
+    /// A tracker of a stream of which no packet was offered yet. Allocates all its memory, and returns `AllocError` if
+    /// that fails.
     pub fn new(alloc: Global, spec: &StreamSpec) -> Result<CopyTracker, AllocError>
         ensures { IfOk result (λ watch. HasTally spec.now [] watch.tally) }
     {
@@ -29,11 +30,14 @@ impl CopyTracker {
         })
     }
 
-    /// Notes what became of a packet that was offered on a path at a reading of the clock, where the stream's next slot is due
-    /// then at `due`.
+    /// Notes the fate of a packet that was offered on a path.
+    ///
+    /// `due` is the stream's next deadline after the offer and `now` the clock reading of the offer, both in sampling
+    /// instants at 48 kHz.
     pub fn note(&mut self, path: Path, seq: u16, ts: u32, fate: Fate, due: Option<i64>, now: i64)
         ensures { (stream : Stream) (offers : List Offer) → HasTally stream offers self.old.tally → (spare : Option ℕ)
-            × HasTally stream (record { path = path; fate = fate; seq = seq; spare = spare; now = now } ∷ offers) self.new.tally }
+            × HasTally stream (record { path = path; fate = fate; seq = seq; spare = spare; now = now } ∷ offers)
+            self.new.tally }
     {
         let spare = match self.deadlines.deadline(fate, ts, due) {
             Some(deadline) => margin_before(deadline, now),
@@ -42,9 +46,10 @@ impl CopyTracker {
         self.tally.add(path, fate, seq, spare, now);
     }
 
-    /// What became of a path's packets, at a reading of the clock.
+    /// Returns the statistics of a path's packets at the clock reading `now`, in sampling instants at 48 kHz.
     pub fn stats(&self, path: Path, now: i64) -> PathStats
-        ensures { (stream : Stream) (offers : List Offer) → HasTally stream offers self.now.tally → AreNumbers stream offers path now result }
+        ensures { (stream : Stream) (offers : List Offer) → HasTally stream offers self.now.tally
+            → AreNumbers stream offers path now result }
     {
         PathStats {
             tally: self.tally.path(path),

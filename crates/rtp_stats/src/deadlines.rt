@@ -1,18 +1,29 @@
-//! The deadlines of a stream's packets, by their timestamps.
+//! The deadlines of a stream's packets, computed from their RTP timestamps (RFC 3550 5.1).
 ghost use Rattle.std.specs.Prelude.{◌≡◌, ◌⊎◌, ℕ, ◌^◌, true, false, None, Some, pos, ◌+ℤ◌, ◌≤ℤ◌, IfSome, MatchOption};
 ghost use Rattle.rtp_stream.specs.Anchor.{deadline_of};
 ghost use Rattle.rtp_stream.specs.Grid.{is_on_grid};
 ghost use Rattle.rtp_stream.specs.declared.anchor.Anchor.{Anchor};
 ghost use Rattle.rtp_stream.specs.declared.fate.Fate.TheVariants.{Taken};
 ghost use Rattle.rtp_stream.specs.declared.stream_spec.Stream.{Stream};
-ghost use Rattle.rtp_stats.specs.Deadlines.{IsDeadlineOf, IsNearby, IsShortTime, IsSpareBefore, KnownDeadline, is_opening, is_placed, known_from};
+ghost use Rattle.rtp_stats.specs.Deadlines.{
+  IsDeadlineOf,
+  IsNearby,
+  IsShortTime,
+  IsSpareBefore,
+  KnownDeadline,
+  is_opening,
+  is_placed,
+  known_from,
+};
 
 use rtp_stream::{Fate, near32};
 use std::marker::Model;
 
-/// How long before a deadline it is at a reading of the clock, in sampling instants; none from the deadline on.
+/// Returns the time from the clock reading `now` to a deadline, in sampling instants at 48 kHz; `None` at and after the
+/// deadline, and for 2^32 instants or more.
 pub fn margin_before(deadline: i64, now: i64) -> Option<u32>
-    ensures { MatchOption result ((deadline ≤ℤ now) ⊎ ((now +ℤ pos (2 ^ 32)) ≤ℤ deadline)) (IsSpareBefore deadline now) }
+    ensures { MatchOption result ((deadline ≤ℤ now) ⊎ ((now +ℤ pos (2 ^ 32)) ≤ℤ deadline))
+        (IsSpareBefore deadline now) }
 {
     let left = deadline.saturating_sub(now);
     if left < 1 || left > 4_294_967_295 {
@@ -21,18 +32,21 @@ pub fn margin_before(deadline: i64, now: i64) -> Option<u32>
     Some(left as u32)
 }
 
-/// The deadline of a packet of this timestamp, where that of another is known.
+/// Returns the deadline of a packet with the timestamp `ts`, from the known deadline of another packet.
+// A timestamp has 32 bits and wraps, so the nearest to the known one is meant.
 #[inline(always)]
 fn deadline_from(known_ts: u32, known_at: i64, ts: u32) -> i64
     ensures { (stream : Stream) (anchor : Anchor) (before number : ℕ) →
-        IsDeadlineOf stream anchor before (record { ts = known_ts; at = known_at }) → is_on_grid stream anchor number ts ≡ true →
-        IsNearby stream before number → IsShortTime (deadline_of stream anchor number) → result ≡ deadline_of stream anchor number }
+        IsDeadlineOf stream anchor before (record { ts = known_ts; at = known_at }) →
+        is_on_grid stream anchor number ts ≡ true →
+        IsNearby stream before number → IsShortTime (deadline_of stream anchor number) →
+        result ≡ deadline_of stream anchor number }
 {
     let from = i64::from(known_ts);
     known_at.saturating_add(near32(ts, from) - from)
 }
 
-/// What is known of a stream's deadlines: that of its last packet that was taken.
+/// The deadline of the last packet that was taken from a stream, from which the deadlines of other packets follow.
 #[derive(Debug, Drop)]
 pub struct Deadlines {
     known: bool,
@@ -50,7 +64,7 @@ impl Model for Deadlines {
 }
 
 impl Deadlines {
-    /// No packet was taken.
+    /// The state of a stream of which no packet was taken.
     pub fn new() -> Deadlines
         ensures { result ≡ None }
     {
@@ -61,25 +75,29 @@ impl Deadlines {
         }
     }
 
-    /// The deadline of a packet that was offered, by its fate and timestamp; none where it has no place in time.
+    /// Returns the deadline of a packet that was offered, by its fate and timestamp, in sampling instants at 48 kHz;
+    /// `None` if the packet did not come in time or is not in step, or if no deadline is known.
     ///
-    /// `due` is the stream's next deadline as it stands after the offer: once an epoch's first packet was taken,
-    /// it is that packet's own.
+    /// `due` is the stream's next deadline after the offer. After the first packet of an epoch it is that packet's own.
     pub fn deadline(&mut self, fate: Fate, ts: u32, due: Option<i64>) -> Option<i64>
         ensures opening { is_opening self.old fate ≡ true → (result ≡ due) × (self.new ≡ known_from ts due) }
         ensures in_step { (stream : Stream) (anchor : Anchor) (before number : ℕ) (known : KnownDeadline) →
-            self.old ≡ Some known → IsDeadlineOf stream anchor before known → is_opening self.old fate ≡ false → is_placed fate ≡ true →
-            is_on_grid stream anchor number ts ≡ true → IsNearby stream before number → IsShortTime (deadline_of stream anchor number) →
+            self.old ≡ Some known → IsDeadlineOf stream anchor before known → is_opening self.old fate ≡ false →
+            is_placed fate ≡ true →
+            is_on_grid stream anchor number ts ≡ true → IsNearby stream before number →
+            IsShortTime (deadline_of stream anchor number) →
             result ≡ Some (deadline_of stream anchor number) }
         ensures taken { (stream : Stream) (anchor : Anchor) (before number : ℕ) (known : KnownDeadline) →
             self.old ≡ Some known → IsDeadlineOf stream anchor before known → fate ≡ Taken →
-            is_on_grid stream anchor number ts ≡ true → IsNearby stream before number → IsShortTime (deadline_of stream anchor number) →
+            is_on_grid stream anchor number ts ≡ true → IsNearby stream before number →
+            IsShortTime (deadline_of stream anchor number) →
             IfSome self.new (IsDeadlineOf stream anchor number) }
         ensures kept { is_opening self.old fate ≡ false → (fate ≡ Taken → ⊥) → self.new ≡ self.old }
         ensures unplaced { is_placed fate ≡ false → result ≡ None }
         ensures unknown { self.old ≡ None → is_opening self.old fate ≡ false → result ≡ None }
     {
         match fate {
+            // A restart begins an epoch, whose timestamps follow from its first packet alone.
             Fate::Restarted => self.of_first(ts, due),
             Fate::Taken => self.of_taken(ts, due),
             Fate::Double | Fate::Unlike => self.of_copy(ts),
@@ -92,16 +110,18 @@ impl Deadlines {
         }
     }
 
-    /// The deadline of a packet that was taken, which is known from then on.
+    /// Returns the deadline of a packet that was taken, and keeps it as the known one.
     fn of_taken(&mut self, ts: u32, due: Option<i64>) -> Option<i64>
         ensures opening { self.old ≡ None → (result ≡ due) × (self.new ≡ known_from ts due) }
         ensures in_step { (stream : Stream) (anchor : Anchor) (before number : ℕ) (known : KnownDeadline) →
             self.old ≡ Some known → IsDeadlineOf stream anchor before known →
-            is_on_grid stream anchor number ts ≡ true → IsNearby stream before number → IsShortTime (deadline_of stream anchor number) →
+            is_on_grid stream anchor number ts ≡ true → IsNearby stream before number →
+            IsShortTime (deadline_of stream anchor number) →
             result ≡ Some (deadline_of stream anchor number) }
         ensures taken { (stream : Stream) (anchor : Anchor) (before number : ℕ) (known : KnownDeadline) →
             self.old ≡ Some known → IsDeadlineOf stream anchor before known →
-            is_on_grid stream anchor number ts ≡ true → IsNearby stream before number → IsShortTime (deadline_of stream anchor number) →
+            is_on_grid stream anchor number ts ≡ true → IsNearby stream before number →
+            IsShortTime (deadline_of stream anchor number) →
             IfSome self.new (IsDeadlineOf stream anchor number) }
     {
         if !self.known {
@@ -112,11 +132,12 @@ impl Deadlines {
         Some(self.at)
     }
 
-    /// The deadline of a further copy.
+    /// Returns the deadline of a duplicate.
     fn of_copy(&self, ts: u32) -> Option<i64>
         ensures in_step { (stream : Stream) (anchor : Anchor) (before number : ℕ) (known : KnownDeadline) →
             self.now ≡ Some known → IsDeadlineOf stream anchor before known →
-            is_on_grid stream anchor number ts ≡ true → IsNearby stream before number → IsShortTime (deadline_of stream anchor number) →
+            is_on_grid stream anchor number ts ≡ true → IsNearby stream before number →
+            IsShortTime (deadline_of stream anchor number) →
             result ≡ Some (deadline_of stream anchor number) }
         ensures unknown { self.now ≡ None → result ≡ None }
     {
@@ -126,7 +147,7 @@ impl Deadlines {
         Some(deadline_from(self.ts, self.at, ts))
     }
 
-    /// Takes the deadline of an epoch's first packet.
+    /// Returns the deadline of an epoch's first packet, which is the next deadline, and keeps it as the known one.
     fn of_first(&mut self, ts: u32, due: Option<i64>) -> Option<i64>
         ensures result { result ≡ due }
         ensures new { self.new ≡ known_from ts due }

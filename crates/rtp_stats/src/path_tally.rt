@@ -1,16 +1,16 @@
-//! What is told of a path.
+//! The counts of one path's packets.
 
-/// What a path's offers came to. Each number stands still at 2^64 - 1.
+/// The numbers of a path's packets by fate. Each stays at 2^64 - 1 once it is reached.
 #[derive(Clone, Copy, Debug, PartialEq, Eq)]
 pub struct PathTally {
-    /// Packets that were the first copies of their numbers.
+    /// The packets that were the first copies of their numbers.
     pub first: u64,
-    /// Further copies, with the payload of the first.
+    /// The duplicates, with the payload of the first copy.
     pub double: u64,
-    /// Further copies, with another payload than the first.
+    /// The duplicates with a different payload than the first copy.
     pub unlike: u64,
-    /// Packets that came after their deadlines.
+    /// The packets that arrived after their deadlines.
     pub late: u64,
-    /// Numbers that another path brought, and of which this one brought no copy until one a window later was taken.
+    /// The numbers that another path brought and this one did not, until a number one window later was taken.
     pub missed: u64,
 }

@@ -1,10 +1,11 @@
-//! The peaks of a payload's channels.
+//! The peaks of a payload's channels: L16 (RFC 3551 4.5) or L24 (RFC 3190 4).
 ghost use Rattle.std.specs.Prelude.{◌≡◌, ℕ, ◌+◌, ◌%◌, ◌<◌, length, max, slice_index, EachIndex};
 ghost use Rattle.rtp_stats.specs.Peaks.{peak_of};
 
 use rtp_wire::{Enc, sample};
 
-/// The channel of the sample that follows one of a channel.
+/// Returns the channel of the sample that follows a sample of this channel.
+// Samples are interleaved. A comparison serves in place of a division for each sample.
 #[inline(always)]
 fn channel_after(channel: usize, channels: usize) -> usize
     requires { channel < channels }
@@ -17,10 +18,10 @@ fn channel_after(channel: usize, channels: usize) -> usize
     }
 }
 
-/// Raises each channel's peak to the greatest magnitude of its samples in a payload, the octets behind a
-/// datagram's header: of 8,388,608 at full scale, whichever the encoding.
+/// Raises each channel's peak to the greatest magnitude of its samples in a payload.
 ///
-/// There are as many channels as peaks.
+/// `octets` are the samples behind a datagram's header. There are as many channels as peaks. Full scale is 8,388,608
+/// in both encodings.
 pub fn raise_peaks(peaks: &mut [u32], enc: Enc, octets: &[u8])
     requires { 0 < length peaks.old }
     ensures { EachIndex peaks.new (λ channel. slice_index peaks.new channel

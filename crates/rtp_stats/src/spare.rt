@@ -1,9 +1,10 @@
-//! How near their deadlines packets come.
+//! The arrival margins of packets: the time between an arrival and the packet's deadline.
 
-/// How long before their deadlines the packets of a second came, in sampling instants.
+/// The arrival margins of the packets of a second, in sampling instants at 48 kHz.
 #[derive(Clone, Copy, Debug, PartialEq, Eq)]
 pub struct ArrivalMargin {
+    /// The least margin.
     pub least: u32,
-    /// Rounded down to 6, and at most 6,138.
+    /// The median margin, rounded down to a multiple of 6, and at most 6,138 (128 ms).
     pub median: u32,
 }

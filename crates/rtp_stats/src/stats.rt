@@ -1,31 +1,32 @@
-//! What is told of a stream, and of the mix.
+//! The statistics that the channels report: of a path, of a stream and of the mix.
 
 use crate::path_tally::PathTally;
 use crate::spare::ArrivalMargin;
 use rtp_stream::Counts;
 
-/// What became of the packets of one path.
+/// The statistics of the packets of one path.
 #[derive(Clone, Copy, Debug, PartialEq, Eq)]
 pub struct PathStats {
+    /// The packets by fate, and the numbers that the path missed.
     pub tally: PathTally,
-    /// How long before their deadlines they came in the last whole second; none where none came.
+    /// The arrival margins of the last whole second; `None` if no packet arrived in time then.
     pub spare: Option<ArrivalMargin>,
 }
 
-/// What became of a stream's packets, at one moment of its merge.
+/// The statistics of a stream's packets, at one time of its merge.
 #[derive(Clone, Copy, Debug)]
 pub struct StreamStats {
     pub counts: Counts,
-    /// Path by path. Of a path that the stream hasn't all is 0.
+    /// The statistics of each path. Those of a path that the stream does not have are 0 and `None`.
     pub paths: [PathStats; 4],
 }
 
-/// How many samples of the mix were saturated, at one moment, and how loud it was since the numbers before these.
+/// The saturated samples of the mix at one time, and its peaks since the statistics before these.
 #[derive(Clone, Copy, Debug, PartialEq, Eq)]
 pub struct MixStats {
-    /// Channel by channel. Of a channel that the output hasn't it is 0.
+    /// The number of saturated samples of each channel; 0 for a channel that the output does not have.
     pub saturated: [u64; 8],
-    /// Channel by channel the greatest magnitude of the samples, of 8,388,608 at full scale, in the datagrams since the numbers
-    /// that went through the ring before these. Of a channel that the output hasn't it is 0.
+    /// The greatest magnitude of each channel's samples since the statistics sent before these; 0 for a channel that
+    /// the output does not have. Full scale is 8,388,608.
     pub peaks: [u32; 8],
 }

@@ -1,5 +1,20 @@
-//! The tally of a stream's offers.
-ghost use Rattle.std.specs.Prelude.{◌≡◌, ◌^◌, ◌<◌, List, [], ◌∷◌, length, replicate, slice_index_or, slice_set, IfOk, IfSome, IsNone};
+//! The tally of a stream's packets. `fate_counts` counts fates, `window_copies` finds missed numbers, and `margins`
+//! keeps arrival margins.
+ghost use Rattle.std.specs.Prelude.{
+  ◌≡◌,
+  ◌^◌,
+  ◌<◌,
+  List,
+  [],
+  ◌∷◌,
+  length,
+  replicate,
+  slice_index_or,
+  slice_set,
+  IfOk,
+  IfSome,
+  IsNone,
+};
 ghost use Rattle.rtp_stream.specs.declared.stream_spec.Stream.{Stream};
 ghost use Rattle.rtp_stats.specs.Offer.{Offer};
 ghost use Rattle.rtp_stats.specs.declared.tally.margins.MarginSecond.{MarginSecond};
@@ -22,16 +37,17 @@ mod fate_counts;
 mod margins;
 mod window_copies;
 
-/// What became of the offers of one stream, path by path.
+/// The fates and arrival margins of the packets that were offered to one stream, path by path.
 ///
-/// No call but `new` takes memory.
+/// `new` allocates all memory. No other call allocates.
 #[derive(Drop)]
 pub struct StreamTally {
     counts: FateCounts,
     missed: [u64; 4],
-    /// A place for each number of the window.
+    /// An entry for each place of the window.
     entries: Vec<WindowCopies>,
-    /// Of each path the latest even second in which a packet came, and the latest odd one.
+    /// The latest even second and the latest odd second of each path in which a packet arrived.
+    // Two for each path: one second is read while the next one is filled.
     seconds: Vec<MarginSecond>,
 }
 
@@ -41,12 +57,13 @@ impl Model for StreamTally {
 
     ghost Value = { TallyState };
 
-    ghost view = { λ t. record { counts = t.counts; missed = t.missed; entries = t.entries.items; seconds = t.seconds.items } };
+    ghost view = { λ t.
+        record { counts = t.counts; missed = t.missed; entries = t.entries.items; seconds = t.seconds.items } };
 
     ghost invariant = { λ t. record { places : 0 < length t.entries.items; eight : length t.seconds.items ≡ 8 } };
 }
 
-/// The places of a window.
+/// Allocates the entries of a window.
 fn new_entries(alloc: Global, window: u16) -> Result<Vec<WindowCopies>, AllocError>
     ensures { IfOk result (λ entries. entries.items ≡ replicate window empty_entry) }
 {
@@ -57,7 +74,7 @@ fn new_entries(alloc: Global, window: u16) -> Result<Vec<WindowCopies>, AllocErr
     Ok(entries)
 }
 
-/// The seconds of four paths, each path's even one first.
+/// Allocates the seconds of four paths, each path's even second first.
 fn new_seconds(alloc: Global) -> Result<Vec<MarginSecond>, AllocError>
     ensures { IfOk result (λ seconds. AreNewSeconds 8 seconds.items) }
 {
@@ -68,7 +85,7 @@ fn new_seconds(alloc: Global) -> Result<Vec<MarginSecond>, AllocError>
     Ok(seconds)
 }
 
-/// The place of a path's second.
+/// Returns the place of a path's second, 0 to 7.
 #[inline(always)]
 fn place_of(path: Path, second: u64) -> usize
     ensures value { result ≡ place_of path second }
@@ -77,7 +94,7 @@ fn place_of(path: Path, second: u64) -> usize
     2 * usize::from(path.number()) + (second % 2) as usize
 }
 
-/// Notes the spare time of a path's packet.
+/// Notes the arrival margin of a path's packet.
 #[inline(always)]
 fn note_spare(seconds: &mut [MarginSecond], path: Path, spare: u32, now: i64)
     requires { length seconds.old ≡ 8 }
@@ -91,7 +108,7 @@ fn note_spare(seconds: &mut [MarginSecond], path: Path, spare: u32, now: i64)
 impl StreamTally {
     ghost use Rattle.rtp_stats.specs.Tally.{HasTally, TallyState};
 
-    /// The tally of a stream of which nothing was offered yet.
+    /// A tally of a stream of which no packet was offered yet. Returns `AllocError` if an allocation fails.
     pub fn new(alloc: Global, spec: &StreamSpec) -> Result<StreamTally, AllocError>
         ensures { IfOk result (λ tally. HasTally spec.now [] tally) }
     {
@@ -105,14 +122,15 @@ impl StreamTally {
         })
     }
 
-    /// Takes a packet that was offered on a path at this reading of the clock, and what became of it.
+    /// Adds a packet that was offered on a path at the clock reading `now`, with its fate.
     ///
-    /// `spare` says how long before its deadline it came, in sampling instants; none where it came later, or has
-    /// no place.
+    /// `spare` is its arrival margin, in sampling instants at 48 kHz; `None` if it arrived at or after its deadline or
+    /// has none.
     #[inline]
     pub fn add(&mut self, path: Path, fate: Fate, seq: u16, spare: Option<u32>, now: i64)
         ensures { (stream : Stream) (offers : List Offer) → HasTally stream offers self.old
-            → HasTally stream (record { path = path; fate = fate; seq = seq; spare = spare; now = now } ∷ offers) self.new }
+            → HasTally stream (record { path = path; fate = fate; seq = seq; spare = spare; now = now } ∷ offers)
+            self.new }
     {
         self.counts.add(path, fate);
         note_copy(
@@ -127,13 +145,18 @@ impl StreamTally {
         }
     }
 
-    /// What a path's offers came to.
+    /// Returns the counts of a path's packets.
     pub fn path(&self, path: Path) -> PathTally
-        ensures first { (stream : Stream) (offers : List Offer) → HasTally stream offers self.now → result.first ≡ count_in_64_bits (first_of path offers) }
-        ensures double { (stream : Stream) (offers : List Offer) → HasTally stream offers self.now → result.double ≡ count_in_64_bits (double_of path offers) }
-        ensures unlike { (stream : Stream) (offers : List Offer) → HasTally stream offers self.now → result.unlike ≡ count_in_64_bits (unlike_of path offers) }
-        ensures late { (stream : Stream) (offers : List Offer) → HasTally stream offers self.now → result.late ≡ count_in_64_bits (late_of path offers) }
-        ensures missed { (stream : Stream) (offers : List Offer) → HasTally stream offers self.now → result.missed ≡ count_in_64_bits (missed_of stream.window path offers) }
+        ensures first { (stream : Stream) (offers : List Offer) → HasTally stream offers self.now
+            → result.first ≡ count_in_64_bits (first_of path offers) }
+        ensures double { (stream : Stream) (offers : List Offer) → HasTally stream offers self.now
+            → result.double ≡ count_in_64_bits (double_of path offers) }
+        ensures unlike { (stream : Stream) (offers : List Offer) → HasTally stream offers self.now
+            → result.unlike ≡ count_in_64_bits (unlike_of path offers) }
+        ensures late { (stream : Stream) (offers : List Offer) → HasTally stream offers self.now
+            → result.late ≡ count_in_64_bits (late_of path offers) }
+        ensures missed { (stream : Stream) (offers : List Offer) → HasTally stream offers self.now
+            → result.missed ≡ count_in_64_bits (missed_of stream.window path offers) }
     {
         let at = usize::from(path.number());
         PathTally {
@@ -145,14 +168,21 @@ impl StreamTally {
         }
     }
 
-    /// The least and the median spare time of a path's packets in the whole second before this reading's; none
-    /// where there was none, and none of an earlier second where the clock went back.
+    /// Returns the arrival margins of a path's packets in the whole second before that of the clock reading `now`;
+    /// `None` if there were none.
+    ///
+    /// After the clock went back it may return `None` for an earlier second that had packets.
     pub fn spare(&self, path: Path, now: i64) -> Option<ArrivalMargin>
-        ensures least { (stream : Stream) (offers : List Offer) → HasTally stream offers self.now → IfSome result (λ spare. IsLeast (last_spares path now offers) spare.least) }
-        ensures median { (stream : Stream) (offers : List Offer) → HasTally stream offers self.now → length (last_spares path now offers) < 2 ^ 32 → IfSome result (λ spare. IsMedian (last_spares path now offers) spare.median) }
-        ensures none { (stream : Stream) (offers : List Offer) → HasTally stream offers self.now → IsLatest now offers → IsNone result → last_spares path now offers ≡ [] }
+        ensures least { (stream : Stream) (offers : List Offer) → HasTally stream offers self.now
+            → IfSome result (λ spare. IsLeast (last_spares path now offers) spare.least) }
+        ensures median { (stream : Stream) (offers : List Offer) → HasTally stream offers self.now
+            → length (last_spares path now offers) < 2 ^ 32
+            → IfSome result (λ spare. IsMedian (last_spares path now offers) spare.median) }
+        ensures none { (stream : Stream) (offers : List Offer) → HasTally stream offers self.now → IsLatest now offers
+            → IsNone result → last_spares path now offers ≡ [] }
     {
         let second = second_of(now);
+        // There is no second before the first.
         if second == 0 {
             return None;
         }

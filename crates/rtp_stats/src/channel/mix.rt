@@ -1,4 +1,4 @@
-//! A ring of how many samples of the mix were saturated, and of how loud it was.
+//! The channel that reports the saturated samples and the peaks of the mix.
 ghost use Rattle.std.specs.Prelude.{◌≡◌, min, slice_index, IfOk};
 ghost use Rattle.rtrb.specs.Ring.{SameConsumer, SameProducer};
 ghost use Rattle.rtp_stats.specs.Channel.{IsNewest};
@@ -12,16 +12,19 @@ use rtp_wire::Enc;
 use rtrb::{Consumer, RingBuffer};
 use std::alloc::{AllocError, Global};
 
-/// How many octets of a datagram of the mix stand before its samples.
+/// The number of octets before the samples of a datagram of the mix: the fixed RTP header (RFC 3550 5.1).
 const RTP_HEADER_LEN: usize = 12;
 
-/// Where what is told of the mix can be looked at.
+/// The receiver of the statistics of the mix.
 #[derive(Drop)]
 pub struct MixStatsReceiver {
     ring: Consumer<MixStats>,
 }
 
-/// Both ends for a mix of so many channels, up to eight, of a ring with one place. It takes all memory.
+/// Opens the channel for a mix of so many channels, of which at most the first 8 are reported.
+///
+/// Allocates all memory of both ends. Returns `AllocError` if that fails.
+// One place is enough: the peaks stay with the sender until the place is free, so none is lost.
 pub fn mix_stats_channel(
     alloc: Global,
     enc: Enc,
@@ -42,8 +45,8 @@ pub fn mix_stats_channel(
 }
 
 impl MixStatsSender {
-    /// Tells these counts, channel by channel and of the first eight, and the peaks with a datagram's samples among them, if the
-    /// last ones were looked at. Else the peaks stay for the next time.
+    /// Sends the counts of saturated samples and the peaks, with those of the datagram's samples, for the first 8
+    /// channels. If the receiver did not take the last ones, it sends nothing and keeps the peaks for the next call.
     pub fn send(&mut self, saturated: &[u64], datagram: &[u8])
         ensures told { TellsMix saturated.now datagram.now self.old self.new }
         ensures ring { SameProducer self.old.ring self.new.ring }
@@ -51,12 +54,13 @@ impl MixStatsSender {
         ensures channels { self.new.channels ≡ self.old.channels }
     {
         self.peaks = self.raised(datagram);
+        // The peaks start again only once they were sent: a peak between two looks of the receiver is never lost.
         if try_send(&mut self.ring, numbers_of(saturated, self.peaks)) {
             self.peaks = [0; MAX_CHANNELS];
         }
     }
 
-    /// The peaks with those of a datagram's samples among them.
+    /// Returns the peaks, raised by the samples of a datagram.
     fn raised(&self, datagram: &[u8]) -> [u32; MAX_CHANNELS]
         ensures { AreRaised self.now.enc self.now.channels datagram.now self.now.peaks result }
     {
@@ -73,7 +77,7 @@ impl MixStatsSender {
     }
 }
 
-/// The numbers that say these counts and peaks.
+/// Returns these counts and peaks as statistics.
 fn numbers_of(saturated: &[u64], peaks: [u32; MAX_CHANNELS]) -> MixStats
     ensures counts { IsByChannel saturated.now result }
     ensures peaks { result.peaks ≡ peaks }
@@ -88,7 +92,7 @@ fn numbers_of(saturated: &[u64], peaks: [u32; MAX_CHANNELS]) -> MixStats
     }
 }
 
-/// The count of a channel; 0 where the output hasn't it.
+/// Returns the count of a channel; 0 if the output does not have it.
 fn count_at(saturated: &[u64], channel: usize) -> u64
     ensures { result ≡ slice_index saturated.now channel }
 {
@@ -99,7 +103,8 @@ fn count_at(saturated: &[u64], channel: usize) -> u64
 }
 
 impl MixStatsReceiver {
-    /// The numbers that came since the last look, if any did: those of the first datagram of the mix after it.
+    /// Returns the statistics that were sent since the last call; `None` if none were. They are of the first datagram
+    /// of the mix after that call.
     pub fn latest(&mut self) -> Option<MixStats>
         ensures newest { IsNewest 1 result self.old.ring self.new.ring }
         ensures ring { SameConsumer self.old.ring self.new.ring }

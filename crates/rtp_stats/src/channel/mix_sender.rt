@@ -1,19 +1,19 @@
-//! What tells of the mix.
+//! The sending end of the channel of the mix, as a struct.
 ghost use Rattle.std.specs.Prelude.{◌≤◌};
 
 use crate::stats::MixStats;
 use rtp_wire::Enc;
 use rtrb::Producer;
 
-/// The most output channels.
+/// The greatest number of output channels.
 pub(crate) const MAX_CHANNELS: usize = 8;
 
-/// Tells how many samples of the mix were saturated, and each channel's peak.
+/// The sender of the statistics of the mix: the saturated samples and the peak of each channel.
 #[derive(Drop)]
 pub struct MixStatsSender {
     pub(crate) enc: Enc,
     pub(crate) channels: usize,
-    /// The peak of each channel since the last numbers that went through.
+    /// The peak of each channel since the last statistics that were sent.
     pub(crate) peaks: [u32; MAX_CHANNELS],
     pub(crate) ring: Producer<MixStats>,
     ghost few: { channels ≤ 8 },

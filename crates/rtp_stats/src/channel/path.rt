@@ -1,4 +1,4 @@
-//! A ring of what becomes of a path's datagrams before the merge.
+//! The channel that reports the outcomes of a path's datagrams before the merge.
 ghost use Rattle.rtrb.specs.Ring.{SameConsumer, SameProducer};
 ghost use Rattle.rtp_stats.specs.Channel.{Gives, IsNewest};
 
@@ -7,19 +7,20 @@ use rtp_stream::PathCounts;
 use rtrb::{Consumer, Producer, RingBuffer};
 use std::alloc::{AllocError, Global};
 
-/// Tells what becomes of a path's datagrams.
+/// The sender of the counts of a path's datagrams.
 #[derive(Drop)]
 pub struct PathCountsSender {
     ring: Producer<PathCounts>,
 }
 
-/// Where what becomes of a path's datagrams can be looked at.
+/// The receiver of the counts of a path's datagrams.
 #[derive(Drop)]
 pub struct PathCountsReceiver {
     ring: Consumer<PathCounts>,
 }
 
-/// Both ends, of a ring with one place. It takes all memory.
+/// Opens the channel. Allocates all memory of both ends, and returns `AllocError` if that fails.
+// One place is enough, since later counts include the earlier ones.
 pub fn path_counts_channel(
     alloc: Global,
 ) -> Result<(PathCountsSender, PathCountsReceiver), AllocError> {
@@ -31,7 +32,7 @@ pub fn path_counts_channel(
 }
 
 impl PathCountsSender {
-    /// Tells these counts, if the last ones were looked at.
+    /// Sends these counts, if the receiver has taken the last ones. Drops them otherwise.
     pub fn send(&mut self, counts: PathCounts)
         ensures told { Gives counts self.old.ring self.new.ring }
         ensures ring { SameProducer self.old.ring self.new.ring }
@@ -41,7 +42,8 @@ impl PathCountsSender {
 }
 
 impl PathCountsReceiver {
-    /// The counts that came since the last look, if any did: those of the first datagram after it.
+    /// Returns the counts that were sent since the last call; `None` if none were. They are the first that were sent
+    /// after that call.
     pub fn latest(&mut self) -> Option<PathCounts>
         ensures newest { IsNewest 1 result self.old.ring self.new.ring }
         ensures ring { SameConsumer self.old.ring self.new.ring }

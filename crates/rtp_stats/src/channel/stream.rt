@@ -1,4 +1,4 @@
-//! A ring of what becomes of a stream's packets.
+//! The channel that reports the fates of a stream's packets.
 ghost use Rattle.std.specs.Prelude.{◌≡◌, ℕ, ◌<◌, ◌^◌, ◌∷◌, [], List, Option, IfOk, ℤ, pos, neg_ℤ, ◌+ℤ◌, ◌<ℤ◌, ◌≤ℤ◌};
 ghost use Rattle.rtrb.specs.Ring.{SameConsumer, SameProducer};
 ghost use Rattle.rtp_stream.specs.declared.stream_spec.Stream.{Stream};
@@ -15,28 +15,30 @@ use rtp_stream::{Counts, Fate, PacketRef, Path, StreamSpec};
 use rtrb::{Consumer, Producer, RingBuffer};
 use std::alloc::{AllocError, Global};
 
-/// From one telling to the next, in sampling instants: a tenth of a second.
+/// The least time between two sends, in sampling instants at 48 kHz: a tenth of a second.
 const TENTH: i64 = 4_800;
 
-/// How many numbers may wait for whoever looks.
+/// The number of places in the ring: statistics of 0.4 s may wait for the receiver.
 const PLACES: usize = 4;
 
-/// Tells what becomes of a stream's packets.
+/// The sender of the statistics of a stream's packets.
 #[derive(Drop)]
 pub struct StreamStatsSender {
     watch: CopyTracker,
     ring: Producer<StreamStats>,
-    /// When it tells again, in sampling instants.
+    /// The time from which it sends again, in sampling instants at 48 kHz.
     next: i64,
 }
 
-/// Where what becomes of a stream's packets can be looked at.
+/// The receiver of the statistics of a stream's packets.
 #[derive(Drop)]
 pub struct StreamStatsReceiver {
     ring: Consumer<StreamStats>,
 }
 
-/// Both ends for a stream of which nothing was offered. It takes all memory.
+/// Opens the channel for a stream of which no packet was offered yet.
+///
+/// Allocates all memory of both ends. Returns `AllocError` if that fails.
 pub fn stream_stats_channel(
     alloc: Global,
     spec: &StreamSpec,
@@ -49,14 +51,17 @@ pub fn stream_stats_channel(
     let teller = StreamStatsSender {
         watch,
         ring: producer,
+        // Before every reading, so that the first call of `send` sends.
         next: i64::MIN,
     };
     Ok((teller, StreamStatsReceiver { ring: consumer }))
 }
 
 impl StreamStatsSender {
-    /// Notes what became of a packet that was offered on a path at a reading of the clock, where the stream's next slot is due
-    /// then at `due`.
+    /// Notes the fate of a packet that was offered on a path.
+    ///
+    /// `due` is the stream's next deadline after the offer and `now` the clock reading of the offer, both in sampling
+    /// instants at 48 kHz.
     pub fn note(
         &mut self,
         path: Path,
@@ -65,17 +70,21 @@ impl StreamStatsSender {
         due: Option<i64>,
         now: i64,
     )
-        ensures noted { (stream : Stream) (offers : List Offer) → HasTally stream offers self.old.watch.tally → (spare : Option ℕ)
-            × HasTally stream (record { path = path; fate = fate; seq = packet.entry.seq; spare = spare; now = now } ∷ offers) self.new.watch.tally }
+        ensures noted { (stream : Stream) (offers : List Offer) → HasTally stream offers self.old.watch.tally
+            → (spare : Option ℕ)
+            × HasTally stream
+            (record { path = path; fate = fate; seq = packet.entry.seq; spare = spare; now = now } ∷ offers)
+            self.new.watch.tally }
         ensures ring { self.new.ring ≡ self.old.ring }
     {
         self.watch.note(path, packet.seq, packet.ts, fate, due, now);
     }
 
-    /// Tells these counts and the paths' numbers at a reading of the clock, if a tenth of a second went by since the last
-    /// time and there is room.
+    /// Sends these counts and the paths' statistics at the clock reading `now`, in sampling instants at 48 kHz, if a
+    /// tenth of a second went by since the last send and there is room.
     pub fn send(&mut self, counts: Counts, now: i64)
-        ensures told { (stream : Stream) (offers : List Offer) → HasTally stream offers self.old.watch.tally → Tells stream offers counts self.old.next now self.old.ring self.new.ring }
+        ensures told { (stream : Stream) (offers : List Offer) → HasTally stream offers self.old.watch.tally
+            → Tells stream offers counts self.old.next now self.old.ring self.new.ring }
         ensures early { now <ℤ self.old.next → self.new.next ≡ self.old.next }
         ensures next { self.old.next ≤ℤ now → self.new.next ≤ℤ (now +ℤ TENTH) }
         ensures ring { SameProducer self.old.ring self.new.ring }
@@ -84,6 +93,7 @@ impl StreamStatsSender {
         if now < self.next {
             return;
         }
+        // Set also if the ring turns out to be full: a receiver that is gone then costs ten tries a second.
         self.next = now.saturating_add(TENTH);
         let numbers = StreamStats {
             counts,
@@ -98,10 +108,11 @@ impl StreamStatsSender {
     }
 }
 
-/// The numbers of the path of a number.
+/// Returns the statistics of the path with this number, 0 to 3.
 fn numbers_at(watch: &CopyTracker, number: u8, now: i64) -> PathStats
     requires { number < 4 }
-    ensures { (stream : Stream) (offers : List Offer) → HasTally stream offers watch.now.tally → AreNumbers stream offers number now result }
+    ensures { (stream : Stream) (offers : List Offer) → HasTally stream offers watch.now.tally
+        → AreNumbers stream offers number now result }
 {
     match Path::new(number) {
         Some(path) => watch.stats(path, now),
@@ -110,7 +121,7 @@ fn numbers_at(watch: &CopyTracker, number: u8, now: i64) -> PathStats
 }
 
 impl StreamStatsReceiver {
-    /// The latest numbers that came since the last look, if any did.
+    /// Returns the newest of the statistics that were sent since the last call; `None` if none were.
     pub fn latest(&mut self) -> Option<StreamStats>
         ensures newest { IsNewest PLACES result self.old.ring self.new.ring }
         ensures ring { SameConsumer self.old.ring self.new.ring }

@@ -1,10 +1,10 @@
-//! Counters of a path's offers by fate.
+//! Counters of packets by path and fate.
 ghost use Rattle.std.specs.Prelude.{◌≡◌, ◌<◌, [], ◌∷◌};
 ghost use Rattle.rtp_stats.specs.Counts.{one_more};
 
 use rtp_stream::{Fate, Path};
 
-/// Adds one to a path's number, which stands still at the greatest.
+/// Adds one to a path's counter, which stays at its greatest value once it is reached.
 #[inline(always)]
 fn add_one_at(numbers: &mut [u64; 4], at: usize)
     requires { at < 4 }
@@ -13,7 +13,7 @@ fn add_one_at(numbers: &mut [u64; 4], at: usize)
     numbers[at] = numbers[at].saturating_add(1);
 }
 
-/// Numbers of offers, by path.
+/// The numbers of packets with four fates, by path. `PathTally` says which fates.
 #[derive(Clone, Copy, Debug)]
 pub(crate) struct FateCounts {
     pub(crate) first: [u64; 4],
@@ -25,7 +25,7 @@ pub(crate) struct FateCounts {
 impl FateCounts {
     ghost use Rattle.rtp_stats.specs.Counts.{with_fate};
 
-    /// Of no offer.
+    /// Counters that are all 0.
     pub(crate) fn new() -> FateCounts
         ensures { result ≡ record { first = 0 ∷ 0 ∷ 0 ∷ 0 ∷ []; double = 0 ∷ 0 ∷ 0 ∷ 0 ∷ []; unlike = 0 ∷ 0 ∷ 0 ∷ 0 ∷ []; late = 0 ∷ 0 ∷ 0 ∷ 0 ∷ [] } }
     {
@@ -37,7 +37,7 @@ impl FateCounts {
         }
     }
 
-    /// Counts an offer.
+    /// Counts a packet by its path and fate.
     #[inline(always)]
     pub(crate) fn add(&mut self, path: Path, fate: Fate)
         ensures value { self.new ≡ with_fate path fate self.old }

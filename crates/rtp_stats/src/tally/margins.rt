@@ -1,14 +1,15 @@
-//! The spare times of one path in one second.
+//! The arrival margins of one path in one second.
 ghost use Rattle.std.specs.Prelude.{◌≡◌, ◌<◌, MatchOption};
 ghost use Rattle.rtp_stats.specs.Margins.{second_of};
 ghost use Rattle.rtp_stats.specs.MarginSecond.{IsMiddle, IsSpareOf, empty_second, second_after, with_spare};
 
 use crate::spare::ArrivalMargin;
 
-/// The bins of a second, one for each 6 sampling instants.
+/// The number of bins of a second. Each holds margins of 6 sampling instants, and the last all longer ones.
+// 6 sampling instants are 125 microseconds, the shortest packet time of SMPTE ST 2110-30.
 const BINS: usize = 1_024;
 
-/// The second of the clock in which a time lies.
+/// Returns the second of the clock that a time is in, with 48,000 sampling instants each; 0 for a time before 0.
 #[inline(always)]
 pub(crate) fn second_of(now: i64) -> u64
     ensures { result ≡ second_of now }
@@ -16,19 +17,20 @@ pub(crate) fn second_of(now: i64) -> u64
     if now < 0 { 0 } else { now as u64 / 48_000 }
 }
 
-/// The spare times that a path's packets had in a second.
+/// The arrival margins of a path's packets in a second.
+// Bins in place of the margins: the size is fixed, however many packets arrive.
 #[derive(Drop)]
 pub(crate) struct MarginSecond {
     second: u64,
-    /// How many.
+    /// The number of margins.
     count: u32,
-    /// The least, in sampling instants.
+    /// The least margin, in sampling instants.
     least: u32,
     bins: [u32; BINS],
 }
 
 impl MarginSecond {
-    /// A second in which nothing came yet.
+    /// A second in which no packet arrived yet.
     pub(crate) fn new(second: u64) -> MarginSecond
         ensures { result ≡ empty_second second }
     {
@@ -40,7 +42,8 @@ impl MarginSecond {
         }
     }
 
-    /// Begins another second.
+    /// Begins another second, with no margin.
+    // Out of line: it runs once a second, and `note` stays small at each place that it is inlined to.
     #[inline(never)]
     fn begin(&mut self, second: u64)
         ensures { self.new ≡ empty_second second }
@@ -51,7 +54,7 @@ impl MarginSecond {
         self.bins = [0; BINS];
     }
 
-    /// With one more spare time.
+    /// Adds one margin to this second.
     #[inline(always)]
     fn add(&mut self, spare: u32)
         ensures { self.new ≡ with_spare spare self.old }
@@ -64,7 +67,7 @@ impl MarginSecond {
         self.bins[bin] = self.bins[bin].saturating_add(1);
     }
 
-    /// Takes the spare time that a packet had in this second, unless a later one has begun.
+    /// Notes the margin of a packet in a second, unless a later second has begun.
     #[inline(always)]
     pub(crate) fn note(&mut self, second: u64, spare: u32)
         ensures { self.new ≡ second_after second spare self.old }
@@ -77,7 +80,7 @@ impl MarginSecond {
         }
     }
 
-    /// The least and the median, where it is of this second and there is one.
+    /// Returns the least and the median margin of a second; `None` if this is another second or has no margin.
     pub(crate) fn margin_in(&self, second: u64) -> Option<ArrivalMargin>
         ensures { MatchOption result (self.now.second ≡ second → self.now.count ≡ 0) (IsSpareOf self.now second) }
     {
@@ -91,7 +94,7 @@ impl MarginSecond {
     }
 }
 
-/// The bin in which the middle one of so many lies, or the last.
+/// Returns the bin that the middle one of `count` margins is in, or the last bin.
 fn middle_of(bins: &[u32; BINS], count: u32) -> u32
     requires { 0 < count }
     ensures { IsMiddle bins.now count result }

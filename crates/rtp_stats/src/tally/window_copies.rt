@@ -1,22 +1,34 @@
-//! The number that was taken last at a place of the window.
-ghost use Rattle.std.specs.Prelude.{◌≡◌, ℕ, ◌+◌, ◌%◌, ◌<◌, ◌&&◌, length, slice_index, slice_index_or, slice_set, if◌then◌else◌};
+//! The copies of the last number that was taken at each place of the window, from which missed numbers follow.
+ghost use Rattle.std.specs.Prelude.{
+  ◌≡◌,
+  ℕ,
+  ◌+◌,
+  ◌%◌,
+  ◌<◌,
+  ◌&&◌,
+  length,
+  slice_index,
+  slice_index_or,
+  slice_set,
+  if◌then◌else◌,
+};
 ghost use Rattle.rtp_stats.specs.Offers.{count_in_64_bits};
 ghost use Rattle.rtp_stats.specs.WindowCopies.{empty_entry, entry_after, entry_of, misses, with_copy};
 ghost use Rattle.rtp_stream.specs.Counts.{is_taken_fate};
 
 use rtp_stream::{Fate, Path, is_taken};
 
-/// The number that was taken last at a place, and which paths brought copies of it since.
+/// The last number that was taken at a place of the window, and the paths that brought a copy of it since.
 #[derive(Clone, Copy, Debug)]
 pub(crate) struct WindowCopies {
-    /// One was taken.
+    /// True once a number was taken at this place.
     taken: bool,
     seq: u16,
     brought: [bool; 4],
 }
 
 impl WindowCopies {
-    /// None was taken.
+    /// A place at which no number was taken.
     pub(crate) fn new() -> WindowCopies
         ensures { result ≡ empty_entry }
     {
@@ -27,7 +39,7 @@ impl WindowCopies {
         }
     }
 
-    /// A number that was taken from a path.
+    /// A place at which a number was just taken from a path.
     #[inline(always)]
     fn of(path: Path, seq: u16) -> WindowCopies
         ensures { result ≡ entry_of path seq }
@@ -41,7 +53,7 @@ impl WindowCopies {
         }
     }
 
-    /// With a further copy of a number.
+    /// Returns the place after a further copy of a number.
     #[inline(always)]
     fn with_copy(mut self, path: Path, seq: u16) -> WindowCopies
         ensures { result ≡ with_copy path seq self }
@@ -52,7 +64,7 @@ impl WindowCopies {
         self
     }
 
-    /// After one more offer at its place.
+    /// Returns the place after one more packet with a number at it.
     #[inline(always)]
     fn after(self, path: Path, fate: Fate, seq: u16) -> WindowCopies
         ensures { result ≡ entry_after path fate seq self }
@@ -65,7 +77,7 @@ impl WindowCopies {
         }
     }
 
-    /// Whether a path brought no copy of it.
+    /// Returns true if a number was taken and this path brought no copy of it.
     #[inline(always)]
     fn misses(&self, path: usize) -> bool
         requires { path < 4 }
@@ -75,12 +87,13 @@ impl WindowCopies {
     }
 }
 
-/// Counts a number for each path that brought no copy of it.
+/// Counts the number of a place as missed for each path that brought no copy of it.
 #[inline(always)]
 fn add_missed(missed: &mut [u64; 4], entry: &WindowCopies)
     ensures four { length missed.new ≡ 4 }
     ensures each { (path : ℕ) → path < 4 → slice_index missed.new path
-        ≡ (if misses entry.now path then count_in_64_bits (slice_index missed.old path + 1) else slice_index missed.old path) }
+        ≡ (if misses entry.now path then count_in_64_bits (slice_index missed.old path + 1)
+        else slice_index missed.old path) }
 {
     for path in 0..4 {
         if entry.misses(path) {
@@ -89,7 +102,8 @@ fn add_missed(missed: &mut [u64; 4], entry: &WindowCopies)
     }
 }
 
-/// Notes an offer at the place of its number; one that is taken ends the time of the number that was kept there.
+/// Notes a packet at the place of its number. If the packet is taken, the paths without a copy of the number that was
+/// there before have missed it.
 #[inline(always)]
 pub(crate) fn note_copy(
     entries: &mut [WindowCopies],
@@ -100,12 +114,14 @@ pub(crate) fn note_copy(
 )
     requires { 0 < length entries.old }
     ensures kept { (d : WindowCopies) → entries.new
-        ≡ slice_set entries.old (seq % length entries.old) (entry_after path fate seq (slice_index_or entries.old (seq % length entries.old) d)) }
+        ≡ slice_set entries.old (seq % length entries.old)
+        (entry_after path fate seq (slice_index_or entries.old (seq % length entries.old) d)) }
     ensures four { length missed.new ≡ 4 }
     ensures missed { (d : WindowCopies) (on : ℕ) → on < 4 → slice_index missed.new on
         ≡ (if is_taken_fate fate && misses (slice_index_or entries.old (seq % length entries.old) d) on
         then count_in_64_bits (slice_index missed.old on + 1) else slice_index missed.old on) }
 {
+    // The window divides 65,536, so the low 16 bits of a number give its place.
     let at = usize::from(seq) % entries.len();
     let entry = entries[at];
     if is_taken(fate) {
