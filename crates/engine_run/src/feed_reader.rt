@@ -1,23 +1,23 @@
-//! A feed of a run, and how far it has come.
+//! A feed of a run with the state of reading it.
 ghost use Rattle.std.specs.Prelude.{◌≡◌, map, IsTrue, IfOk};
 ghost use Rattle.engine_run.specs.Intake.{AllEnded, HaveBegun, HaveEnded, new_taker};
 
 use std::alloc::{AllocError, Global};
 
-/// A feed, and how far it has come.
+/// A feed with the state of reading it.
 #[derive(Drop)]
 pub(crate) struct FeedReader<F> {
     pub(crate) feed: F,
-    /// How many faults it has answered in a row, at most 999.
+    /// The number of faults that it returned in a row, at most 999. The 1,000th ends it.
     pub(crate) in_a_row: u32,
-    /// How many it has answered in all.
+    /// The number of faults that it returned in all.
     pub(crate) faults: u64,
-    /// It is not asked any more.
+    /// True once the feed has ended. It is not asked again.
     pub(crate) ended: bool,
 }
 
 impl<F: Drop> FeedReader<F> {
-    /// A feed that wasn't asked yet.
+    /// A reader of a feed that was not asked yet.
     pub(crate) fn new(feed: F) -> FeedReader<F>
         ensures { result ≡ new_taker feed }
     {
@@ -30,7 +30,7 @@ impl<F: Drop> FeedReader<F> {
     }
 }
 
-/// The feeds of a stream, none asked yet.
+/// Allocates the readers of a stream's feeds, none of which was asked yet.
 fn readers_of<F: Drop>(alloc: Global, feeds: Vec<F>) -> Result<Vec<FeedReader<F>>, AllocError>
     ensures { IfOk result (λ readers. readers.items ≡ map new_taker feeds.items) }
 {
@@ -41,7 +41,7 @@ fn readers_of<F: Drop>(alloc: Global, feeds: Vec<F>) -> Result<Vec<FeedReader<F>
     Ok(readers)
 }
 
-/// The feeds of all streams, none asked yet.
+/// Allocates the readers of the feeds of all streams, none of which was asked yet.
 pub(crate) fn all_readers<F: Drop>(
     alloc: Global,
     feeds: Vec<Vec<F>>,
@@ -55,7 +55,7 @@ pub(crate) fn all_readers<F: Drop>(
     Ok(readers)
 }
 
-/// Whether each feed of a stream has ended.
+/// Returns true if every feed of a stream has ended.
 fn have_ended<F: Drop>(readers: &[FeedReader<F>]) -> bool
     ensures { IsTrue result → HaveEnded readers.now }
 {
@@ -67,7 +67,7 @@ fn have_ended<F: Drop>(readers: &[FeedReader<F>]) -> bool
     true
 }
 
-/// Whether each feed has ended.
+/// Returns true if every feed has ended.
 pub(crate) fn have_all_ended<F: Drop>(streams: &[Vec<FeedReader<F>>]) -> bool
     ensures { IsTrue result → AllEnded streams.now }
 {

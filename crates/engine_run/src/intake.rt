@@ -1,4 +1,4 @@
-//! What the feeds have, handed to the engine.
+//! Takes datagrams from the feeds and passes them to the engine.
 ghost use Rattle.std.specs.Prelude.{◌≡◌, ℕ, List, length, IfOk, OnOk};
 ghost use Rattle.studio_config.specs.Studio.{Studio};
 ghost use Rattle.studio_session.specs.Event.{TraceEvent};
@@ -11,27 +11,31 @@ use path_merge::Path;
 use studio_engine::{ArriveFault, Engine};
 use studio_io::{Feed, FeedAnswer};
 
-/// How many datagrams of a feed a round takes at most.
+/// The greatest number of datagrams that a round takes from one feed.
+// A limit, so that a feed that never runs dry cannot hold up the other feeds, the clock and the sink.
 const MOST_TAKEN: u32 = 64;
 
-/// The longest rest, in sampling instants: 50 ms.
+/// The longest rest, in sampling instants at 48 kHz: 50 ms.
 pub(crate) const LONGEST_REST: i64 = 2_400;
 
-/// The longest rest after a feed failed, in sampling instants: 2 ms. A datagram may lie behind the fault.
+/// The longest rest after a feed failed, in sampling instants at 48 kHz: 2 ms.
+// Short, since a datagram may wait behind the fault.
 const FAULT_REST: i64 = 96;
 
-/// What a feed answered.
+/// The outcome of asking a feed once.
 #[derive(Clone, Copy, PartialEq, Eq, Debug)]
 enum FeedOutcome {
-    /// A datagram, which the engine took.
+    /// The feed gave a datagram, which the engine took.
     Datagram,
-    /// A fault.
+    /// The feed returned a fault.
     Fault,
-    /// Nothing, or it has ended.
+    /// The feed had nothing, or it has ended.
     Nothing,
 }
 
-/// Asks a feed once, hands its datagram to the engine, and tells the tap of it.
+/// Asks a feed once, passes its datagram to the engine, and notifies the observer.
+///
+/// Returns the engine's `ArriveFault` if the engine does not take it.
 fn take_one<F: Feed, T: RunObserver<F>>(
     engine: &mut Engine,
     stream: usize,
@@ -41,8 +45,10 @@ fn take_one<F: Feed, T: RunObserver<F>>(
     buf: &mut [u8],
 ) -> Result<FeedOutcome, ArriveFault>
     requires room { length buf.old ≡ 2048 }
-    ensures { OnOk result ((studio : Studio) (events : List TraceEvent) (datagrams : List (List ℕ)) → HasSession studio engine.old events datagrams
-        → Takes F.told studio engine.new events datagrams stream path reader.old reader.new (T.heard tap.old) (T.heard tap.new) 1) }
+    ensures { OnOk result ((studio : Studio) (events : List TraceEvent) (datagrams : List (List ℕ))
+        → HasSession studio engine.old events datagrams
+        → Takes F.told studio engine.new events datagrams stream path reader.old reader.new (T.heard tap.old)
+        (T.heard tap.new) 1) }
 {
     if reader.ended {
         return Ok(FeedOutcome::Nothing);
@@ -60,6 +66,7 @@ fn take_one<F: Feed, T: RunObserver<F>>(
         }
         FeedAnswer::Fault => {
             reader.faults = reader.faults.saturating_add(1);
+            // The 1,000th fault in a row ends the feed.
             if reader.in_a_row < 999 {
                 reader.in_a_row += 1;
             } else {
@@ -74,7 +81,8 @@ fn take_one<F: Feed, T: RunObserver<F>>(
     }
 }
 
-/// Takes what a feed has, but at most 64 datagrams, and answers how long the run may rest for it.
+/// Takes the datagrams of a feed, at most 64. Returns the time that the run may rest for it, in sampling instants at
+/// 48 kHz: 0 if the feed may have more.
 fn take_some<F: Feed, T: RunObserver<F>>(
     engine: &mut Engine,
     stream: usize,
@@ -84,8 +92,10 @@ fn take_some<F: Feed, T: RunObserver<F>>(
     buf: &mut [u8],
 ) -> Result<i64, ArriveFault>
     requires room { length buf.old ≡ 2048 }
-    ensures { OnOk result ((studio : Studio) (events : List TraceEvent) (datagrams : List (List ℕ)) → HasSession studio engine.old events datagrams
-        → Takes F.told studio engine.new events datagrams stream path reader.old reader.new (T.heard tap.old) (T.heard tap.new) 64) }
+    ensures { OnOk result ((studio : Studio) (events : List TraceEvent) (datagrams : List (List ℕ))
+        → HasSession studio engine.old events datagrams
+        → Takes F.told studio engine.new events datagrams stream path reader.old reader.new (T.heard tap.old)
+        (T.heard tap.new) 64) }
 {
     for _ in 0..MOST_TAKEN {
         match take_one(engine, stream, path, reader, tap, buf)? {
@@ -97,7 +107,7 @@ fn take_some<F: Feed, T: RunObserver<F>>(
     Ok(0)
 }
 
-/// The path of this number. An engine's streams lack any other.
+/// Returns the path with this number, and `ArriveFault::Path` if it is not 0 to 3: no stream has such a path.
 fn path_of(number: usize) -> Result<Path, ArriveFault>
     ensures { IfOk result (λ path. path ≡ number) }
 {
@@ -107,7 +117,7 @@ fn path_of(number: usize) -> Result<Path, ArriveFault>
     }
 }
 
-/// Takes what the feeds of a stream have, and answers how long the run may rest.
+/// Takes the datagrams of a stream's feeds. Returns the time that the run may rest for them, in sampling instants.
 fn take_stream<F: Feed, T: RunObserver<F>>(
     engine: &mut Engine,
     stream: usize,
@@ -116,9 +126,12 @@ fn take_stream<F: Feed, T: RunObserver<F>>(
     buf: &mut [u8],
 ) -> Result<i64, ArriveFault>
     requires room { length buf.old ≡ 2048 }
-    ensures { OnOk result ((studio : Studio) (events : List TraceEvent) (datagrams : List (List ℕ)) → HasSession studio engine.old events datagrams
-        → TakesStream F.told studio engine.new events datagrams stream readers.old readers.new (T.heard tap.old) (T.heard tap.new) (length readers.old)) }
+    ensures { OnOk result ((studio : Studio) (events : List TraceEvent) (datagrams : List (List ℕ))
+        → HasSession studio engine.old events datagrams
+        → TakesStream F.told studio engine.new events datagrams stream readers.old readers.new (T.heard tap.old)
+        (T.heard tap.new) (length readers.old)) }
 {
+    // The feed that allows the shortest rest decides.
     let mut most = LONGEST_REST;
     for number in 0..readers.len() {
         let path = path_of(number)?;
@@ -127,7 +140,8 @@ fn take_stream<F: Feed, T: RunObserver<F>>(
     Ok(most)
 }
 
-/// Takes what the feeds of a stream have, in place.
+/// Takes the datagrams of a stream's feeds, which are in a `Vec`.
+// `take_stream` with its clause on the items of the `Vec`, which is what the loop over all streams needs.
 fn take_own<F: Feed, T: RunObserver<F>>(
     engine: &mut Engine,
     stream: usize,
@@ -136,13 +150,15 @@ fn take_own<F: Feed, T: RunObserver<F>>(
     buf: &mut [u8],
 ) -> Result<i64, ArriveFault>
     requires room { length buf.old ≡ 2048 }
-    ensures { OnOk result ((studio : Studio) (events : List TraceEvent) (datagrams : List (List ℕ)) → HasSession studio engine.old events datagrams
-        → TakesStream F.told studio engine.new events datagrams stream own.old.items own.new.items (T.heard tap.old) (T.heard tap.new) (length own.old.items)) }
+    ensures { OnOk result ((studio : Studio) (events : List TraceEvent) (datagrams : List (List ℕ))
+        → HasSession studio engine.old events datagrams
+        → TakesStream F.told studio engine.new events datagrams stream own.old.items own.new.items (T.heard tap.old)
+        (T.heard tap.new) (length own.old.items)) }
 {
     take_stream(engine, stream, own.as_mut_slice(), tap, buf)
 }
 
-/// Takes what all feeds have, and answers how long the run may rest.
+/// Takes the datagrams of all feeds. Returns the time that the run may rest for them, in sampling instants at 48 kHz.
 pub(crate) fn take_all<F: Feed, T: RunObserver<F>>(
     engine: &mut Engine,
     streams: &mut [Vec<FeedReader<F>>],
@@ -150,8 +166,10 @@ pub(crate) fn take_all<F: Feed, T: RunObserver<F>>(
     buf: &mut [u8],
 ) -> Result<i64, ArriveFault>
     requires room { length buf.old ≡ 2048 }
-    ensures { OnOk result ((studio : Studio) (events : List TraceEvent) (datagrams : List (List ℕ)) → HasSession studio engine.old events datagrams
-        → TakesAll F.told studio engine.new events datagrams streams.old streams.new (T.heard tap.old) (T.heard tap.new) (length streams.old)) }
+    ensures { OnOk result ((studio : Studio) (events : List TraceEvent) (datagrams : List (List ℕ))
+        → HasSession studio engine.old events datagrams
+        → TakesAll F.told studio engine.new events datagrams streams.old streams.new (T.heard tap.old)
+        (T.heard tap.new) (length streams.old)) }
 {
     let mut most = LONGEST_REST;
     for stream in 0..streams.len() {

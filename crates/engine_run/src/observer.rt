@@ -1,4 +1,4 @@
-//! What is told of what a run takes.
+//! The observer of a run, which is notified of what the engine takes.
 ghost use Rattle.std.specs.Prelude.{List, [], ◌∷◌, Option, None};
 ghost use Rattle.engine_run.specs.Observers.{Heard, Hears, Came, Closed};
 
@@ -6,13 +6,15 @@ use path_merge::Path;
 use studio_engine::Engine;
 use studio_session::ArriveOutcome;
 
-/// Is told each datagram that the engine took, and the close, and may look at the engine before each rest. What it does
-/// delays the run.
+/// An observer of a run. It is notified of each datagram that the engine took, of each rest, and of the close.
+///
+/// Its calls run in the run's thread, so they delay the run.
 pub trait RunObserver<F>: Drop {
-    /// All that the tap was told, in order, where it tells. One that has stopped never tells again.
+    /// Everything that the observer was notified of, in order; `None` if that is not known. Once it is not known it
+    /// never is again.
     ghost heard: { Self → Option (List Heard) };
 
-    /// A datagram of a path arrived, which `feed` gave just now; the engine took it at its time, and answered this of it.
+    /// Notes a datagram of a path, which `feed` just gave. The engine took it at its time and returned `receipt`.
     fn arrived(
         &mut self,
         engine: &Engine,
@@ -24,16 +26,16 @@ pub trait RunObserver<F>: Drop {
     )
         ensures heard { Hears (heard self.old) (Came stream path engine.now.time octets.now ∷ []) (heard self.new) };
 
-    /// The run is about to rest.
+    /// Notes that the run is about to rest. The observer may look at the engine.
     fn before_wait(&mut self, engine: &Engine)
         ensures heard { Hears (heard self.old) [] (heard self.new) };
 
-    /// The engine was closed at its time.
+    /// Notes that the engine was closed at its time.
     fn closed(&mut self, engine: &Engine)
         ensures heard { Hears (heard self.old) (Closed engine.now.time ∷ []) (heard self.new) };
 }
 
-/// A tap that does nothing with what it is told.
+/// An observer that ignores all that it is notified of.
 #[derive(Clone, Copy, Debug)]
 pub struct NoObserver;
 

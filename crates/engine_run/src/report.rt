@@ -1,4 +1,4 @@
-//! The report of a run.
+//! Makes the report of a run.
 ghost use Rattle.std.specs.Prelude.{◌≡◌, ◌<◌, ℕ, List, Some, slice_get, IfOk};
 ghost use Rattle.rtp_stream.specs.declared.stream_spec.Stream.{Stream};
 ghost use Rattle.rtp_stream.specs.PathCounts.{tallies_of};
@@ -18,7 +18,8 @@ use std::alloc::{AllocError, Global};
 use studio_engine::Engine;
 use studio_io::WorkReport;
 
-/// The memory that a report needs, taken before the run.
+/// The memory that a report needs, allocated before the run.
+// So a run that has sent its datagrams does not lose its report for memory.
 #[derive(Drop)]
 pub(crate) struct ReportBuffers {
     streams: Vec<StreamCounts>,
@@ -27,13 +28,14 @@ pub(crate) struct ReportBuffers {
 }
 
 impl ReportBuffers {
-    /// Room for the counts of these streams, and for the faults of their feeds.
+    /// Allocates room for the counts of these streams and the faults of their feeds.
     pub(crate) fn new(alloc: Global, specs: &[StreamSpec]) -> Result<ReportBuffers, AllocError> {
         let streams = Vec::with_capacity(alloc, specs.len())?;
         let mut paths = Vec::with_capacity(alloc, specs.len())?;
         for spec in specs {
             paths.push(Vec::with_capacity(alloc, usize::from(spec.paths()))?)?;
         }
+        // A stream has at most 4 paths.
         let faults = Vec::with_capacity(alloc, specs.len().saturating_mul(4))?;
         Ok(ReportBuffers {
             streams,
@@ -43,7 +45,7 @@ impl ReportBuffers {
     }
 }
 
-/// The counts of so many paths of a stream, in a room for them.
+/// Returns the counts of the first `count` paths of a stream, in `room`.
 fn path_counts(
     engine: &Engine,
     stream: usize,
@@ -51,7 +53,8 @@ fn path_counts(
     room: Vec<PathCounts>,
 ) -> Result<Vec<PathCounts>, AllocError>
     requires few { count < 5 }
-    ensures { IfOk result (λ counts. (studio : Studio) (events : List TraceEvent) (datagrams : List (List ℕ)) (spec : Stream)
+    ensures { IfOk result (λ counts. (studio : Studio) (events : List TraceEvent) (datagrams : List (List ℕ))
+        (spec : Stream)
         → HasSession studio engine.now events datagrams → slice_get studio.streams stream ≡ Some spec
         → tallies_of counts.items ≡ path_tallies spec stream events count) }
 {
@@ -68,7 +71,7 @@ fn path_counts(
     Ok(counts)
 }
 
-/// The counts of a stream, in a room for those of its paths.
+/// Returns the counts of a stream, with those of its paths in `room`.
 fn stream_counts(
     engine: &Engine,
     stream: usize,
@@ -76,7 +79,8 @@ fn stream_counts(
     room: Vec<PathCounts>,
 ) -> Result<StreamCounts, AllocError>
     ensures { IfOk result (λ counts. (studio : Studio) (events : List TraceEvent) (datagrams : List (List ℕ))
-        → HasSession studio engine.now events datagrams → HasAllMarks engine.now → slice_get studio.streams stream ≡ Some spec.now
+        → HasSession studio engine.now events datagrams → HasAllMarks engine.now
+        → slice_get studio.streams stream ≡ Some spec.now
         → AreCountsOf spec.now stream studio.open_at events counts) }
 {
     let paths = path_counts(engine, stream, spec.paths(), room)?;
@@ -87,7 +91,7 @@ fn stream_counts(
     Ok(StreamCounts { paths, merge })
 }
 
-/// The counts of these streams, in a room for them.
+/// Returns the counts of these streams, in `room` and `paths`.
 fn all_counts(
     alloc: Global,
     engine: &Engine,
@@ -109,7 +113,7 @@ fn all_counts(
     Ok(counts)
 }
 
-/// How often each feed failed, stream by stream and path by path, in a room for it.
+/// Returns the number of faults of each feed, ordered by stream and then by path, in `room`.
 fn all_faults<F: Drop>(
     streams: &[Vec<FeedReader<F>>],
     room: Vec<u64>,
@@ -124,7 +128,7 @@ fn all_faults<F: Drop>(
     Ok(faults)
 }
 
-/// What came of a run, its sink and its tap.
+/// Makes the report of a run, and returns it with the sink and the observer.
 pub(crate) fn work_report<F: Drop, C: Drop, K: Drop, T: Drop>(
     alloc: Global,
     state: RunState<F, C, K, T>,

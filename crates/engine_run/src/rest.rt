@@ -1,12 +1,13 @@
-//! How a run waits between two rounds.
+//! The wait of a run between two rounds.
 
 use studio_engine::Engine;
 
-/// What a run does while nothing has come.
+/// A way to wait until a feed may have a datagram.
 pub trait IdleWait: Drop {
-    /// Waits until something may have come to a feed, at most for so many sampling instants, of which none may be
-    /// left, and answers whether what has come is to be judged by the reading before, the engine's time; else the clock is
-    /// read again. It may end early; where it ends late, what has come meanwhile is judged late. The engine is there
-    /// to be looked at.
+    /// Waits until a feed may have a datagram, at most `most` sampling instants at 48 kHz, which may be 0.
+    ///
+    /// Returns true if the datagrams that arrived are to be judged by the clock reading before the wait, the engine's
+    /// time. After false the clock is read again first. It may end early. If it ends late, the datagrams that arrived
+    /// meanwhile are judged late.
     fn wait_for_input(&mut self, engine: &Engine, most: i64) -> bool;
 }

@@ -1,4 +1,4 @@
-//! A studio in one thread.
+//! Runs a studio in one thread, from its feeds, clock and sink to the report.
 ghost use Rattle.std.specs.Prelude.{◌≡◌, ℕ, ℤ, List, Option, true, map, IfOk};
 ghost use Rattle.studio_config.specs.Studio.{Studio};
 ghost use Rattle.studio_io.specs.Answers.{Answer};
@@ -21,8 +21,9 @@ use studio_io::{Clock, Feed, SendCounts, Sink, WorkReport};
 
 /// Runs a studio in this thread until all feeds have ended and all datagrams were sent.
 ///
-/// The feeds stand stream by stream and path by path, a list for each stream. All memory is taken before the clock
-/// is read first. A run that is not settled was handed a feed for a path that its stream lacks, or took 2^62 events.
+/// The caller passes a list of feeds for each stream, one for each of its paths, in order. All memory is allocated
+/// before the clock is first read, and `AllocError` is returned if that fails. A run is settled unless it was passed
+/// a feed for a path that its stream does not have, or took 2^62 events.
 pub fn run_engine<R: Wait, F: Feed, C: Clock, K: Sink, T: RunObserver<F>, P: IdleWait>(
     rt: &R,
     alloc: Global,
@@ -35,7 +36,8 @@ pub fn run_engine<R: Wait, F: Feed, C: Clock, K: Sink, T: RunObserver<F>, P: Idl
 ) -> Result<(WorkReport, K, T), AllocError>
     ensures balance { IfOk result (λ r. Balances r.0.blocks r.0.sent_a r.0.fault_a r.0.sent_b r.0.fault_b) }
     ensures settled { IfOk result (λ r. r.0.settled ≡ true
-        → IsSettledRun studio.now (map (λ own. map F.told own.items) feeds.items) (C.told clock) r.0 (K.handed sink) (K.handed r.1) (T.heard tap) (T.heard r.2)) }
+        → IsSettledRun studio.now (map (λ own. map F.told own.items) feeds.items) (C.told clock) r.0 (K.handed sink)
+        (K.handed r.1) (T.heard tap) (T.heard r.2)) }
 {
     let specs = studio.streams();
     let room = ReportBuffers::new(alloc, specs)?;
@@ -49,21 +51,26 @@ pub fn run_engine<R: Wait, F: Feed, C: Clock, K: Sink, T: RunObserver<F>, P: Idl
     };
     let mut rest = rest;
     let ended = run_rounds(rt, &mut state, &mut rest);
+    // The engine is closed also after rounds that stopped early, so that the sink gets the datagrams that are left.
     let settled = settle(&mut state) && ended;
     work_report(alloc, state, specs, room, settled)
 }
 
-/// Makes rounds until all feeds have ended; answers false where the engine took no more.
+/// Makes rounds until all feeds have ended. Returns false if the engine stopped taking events before that.
 fn run_rounds<R: Wait, F: Feed, C: Clock, K: Sink, T: RunObserver<F>, P: IdleWait>(
     rt: &R,
     state: &mut RunState<F, C, K, T>,
     rest: &mut P,
 ) -> bool
-    ensures on { result ≡ true → (studio : Studio) (all : List (List (List Answer))) (clock : List ℤ) (before : Option (List (List ℕ))) (earlier : Option (List Heard))
-        → IsUnderWay F.told C.told K.handed T.heard studio all clock before earlier state.old → IsUnderWay F.told C.told K.handed T.heard studio all clock before earlier state.new }
+    ensures on { result ≡ true → (studio : Studio) (all : List (List (List Answer))) (clock : List ℤ)
+        (before : Option (List (List ℕ))) (earlier : Option (List Heard))
+        → IsUnderWay F.told C.told K.handed T.heard studio all clock before earlier state.old
+        → IsUnderWay F.told C.told K.handed T.heard studio all clock before earlier state.new }
     ensures ended { result ≡ true → AllEnded state.new.readers.items }
 {
+    // The first round does not rest: no feed was asked yet.
     let mut most = 0;
+    // 2,048 octets, the length for which `Feed::next` says what it gives: more than a standard Ethernet frame carries.
     let mut buf = [0u8; 2048];
     for _ in rt.forever() {
         match state.round(rest, most, &mut buf) {

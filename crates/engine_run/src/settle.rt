@@ -1,4 +1,4 @@
-//! The end of a run.
+//! Ends a run: the close of the engine and the datagrams after it.
 ghost use Rattle.std.specs.Prelude.{◌≡◌, ℕ, ℤ, List, Option, IsTrue};
 ghost use Rattle.studio_config.specs.Studio.{Studio};
 ghost use Rattle.studio_io.specs.Answers.{Answer};
@@ -11,12 +11,15 @@ use crate::output::send_rest;
 use crate::state::RunState;
 use studio_io::{Clock, Feed, Sink};
 
-/// Closes the engine, tells the tap of it, and sends what is left. Answers whether all was given.
+/// Closes the engine, notifies the observer, and sends the datagrams that are left. Returns true if the engine closed
+/// and all its datagrams were sent.
 pub(crate) fn settle<F: Feed, C: Clock, K: Sink, T: RunObserver<F>>(
     state: &mut RunState<F, C, K, T>,
 ) -> bool
-    ensures { IsTrue result → (studio : Studio) (all : List (List (List Answer))) (clock : List ℤ) (before : Option (List (List ℕ))) (earlier : Option (List Heard))
-        → AllEnded state.old.readers.items → IsUnderWay F.told C.told K.handed T.heard studio all clock before earlier state.old
+    ensures { IsTrue result → (studio : Studio) (all : List (List (List Answer))) (clock : List ℤ)
+        (before : Option (List (List ℕ))) (earlier : Option (List Heard))
+        → AllEnded state.old.readers.items
+        → IsUnderWay F.told C.told K.handed T.heard studio all clock before earlier state.old
         → IsDone K.handed T.heard studio all clock before earlier state.new }
 {
     if state.engine.close().is_err() {

@@ -1,4 +1,4 @@
-//! All that a run in one thread moves, round by round.
+//! The state of a run in one thread, and its rounds.
 ghost use Rattle.std.specs.Prelude.{◌≡◌, ◌≤ℤ◌, pos, ◌^◌, ℕ, ℤ, List, Option, None, length, IfOk, OnOk};
 ghost use Rattle.studio_config.specs.Studio.{Studio};
 ghost use Rattle.studio_io.specs.Answers.{Answer};
@@ -16,10 +16,12 @@ use path_merge::ClockFault;
 use studio_engine::{ArriveFault, Engine};
 use studio_io::{Clock, Feed, SendCounts, Sink};
 
-/// The latest reading that is taken.
+/// The greatest clock reading that the engine takes: 2^60 sampling instants.
+// A later one would be a clock fault, so readings are limited to it.
 const LATEST: i64 = 1_152_921_504_606_846_976;
 
-/// The engine takes no more: it has taken 2^62 events, or was handed what it lacks a path for.
+/// The error of an engine that takes no more events: it has taken 2^62, or was passed a datagram of a path that it does
+/// not have.
 #[derive(Clone, Copy, Debug)]
 pub(crate) struct EngineStopped;
 
@@ -35,11 +37,11 @@ impl From<ClockFault> for EngineStopped {
     }
 }
 
-/// The engine, its feeds, the clock, the sink and the tap of a run, and what was sent.
+/// The engine, feeds, clock, sink and observer of a run, and the counts of datagrams sent.
 #[derive(Drop)]
 pub(crate) struct RunState<F, C, K, T> {
     pub(crate) engine: Engine,
-    /// The feeds, stream by stream and path by path.
+    /// The feeds, ordered by stream and then by path.
     pub(crate) readers: Vec<Vec<FeedReader<F>>>,
     pub(crate) clock: C,
     pub(crate) sink: K,
@@ -48,10 +50,12 @@ pub(crate) struct RunState<F, C, K, T> {
 }
 
 impl<F: Feed, C: Clock, K: Sink, T: RunObserver<F>> RunState<F, C, K, T> {
-    /// Reads the clock, and sends what is due by then.
+    /// Reads the clock and sends the datagrams that are due by then.
     fn turn(&mut self) -> Result<(), EngineStopped>
-        ensures on { OnOk result ((studio : Studio) (all : List (List (List Answer))) (clock : List ℤ) (before : Option (List (List ℕ))) (earlier : Option (List Heard))
-            → IsUnderWay F.told C.told K.handed T.heard studio all clock before earlier self.old → IsTurned F.told C.told K.handed T.heard studio all clock before earlier self.new) }
+        ensures on { OnOk result ((studio : Studio) (all : List (List (List Answer))) (clock : List ℤ)
+            (before : Option (List (List ℕ))) (earlier : Option (List Heard))
+            → IsUnderWay F.told C.told K.handed T.heard studio all clock before earlier self.old
+            → IsTurned F.told C.told K.handed T.heard studio all clock before earlier self.new) }
     {
         let answer = self.clock.now();
         let now = greatest(self.engine.time(), answer);
@@ -59,10 +63,12 @@ impl<F: Feed, C: Clock, K: Sink, T: RunObserver<F>> RunState<F, C, K, T> {
         Ok(())
     }
 
-    /// The same, but where the last reading is new enough to judge by it what came since.
+    /// Makes a turn, unless the last clock reading is new enough to judge by it the datagrams that arrived since.
     fn turn_if_stale(&mut self, is_new: bool) -> Result<(), EngineStopped>
-        ensures on { OnOk result ((studio : Studio) (all : List (List (List Answer))) (clock : List ℤ) (before : Option (List (List ℕ))) (earlier : Option (List Heard))
-            → IsTurned F.told C.told K.handed T.heard studio all clock before earlier self.old → IsTurned F.told C.told K.handed T.heard studio all clock before earlier self.new) }
+        ensures on { OnOk result ((studio : Studio) (all : List (List (List Answer))) (clock : List ℤ)
+            (before : Option (List (List ℕ))) (earlier : Option (List Heard))
+            → IsTurned F.told C.told K.handed T.heard studio all clock before earlier self.old
+            → IsTurned F.told C.told K.handed T.heard studio all clock before earlier self.new) }
     {
         if is_new {
             return Ok(());
@@ -70,20 +76,25 @@ impl<F: Feed, C: Clock, K: Sink, T: RunObserver<F>> RunState<F, C, K, T> {
         self.turn()
     }
 
-    /// Lets the tap look at the engine.
+    /// Notifies the observer that the run is about to rest.
     fn notify_before_wait(&mut self)
-        ensures on { (studio : Studio) (all : List (List (List Answer))) (clock : List ℤ) (before : Option (List (List ℕ))) (earlier : Option (List Heard))
-            → IsTurned F.told C.told K.handed T.heard studio all clock before earlier self.old → IsTurned F.told C.told K.handed T.heard studio all clock before earlier self.new }
+        ensures on { (studio : Studio) (all : List (List (List Answer))) (clock : List ℤ)
+            (before : Option (List (List ℕ))) (earlier : Option (List Heard))
+            → IsTurned F.told C.told K.handed T.heard studio all clock before earlier self.old
+            → IsTurned F.told C.told K.handed T.heard studio all clock before earlier self.new }
         ensures readers { self.new.readers ≡ self.old.readers }
     {
         self.tap.before_wait(&self.engine);
     }
 
-    /// Takes what the feeds have, and answers for how many sampling instants the run may rest for them.
+    /// Takes the datagrams of the feeds. Returns the time that the run may rest for them, in sampling instants at
+    /// 48 kHz.
     fn take(&mut self, buf: &mut [u8]) -> Result<i64, EngineStopped>
         requires room { length buf.old ≡ 2048 }
-        ensures on { OnOk result ((studio : Studio) (all : List (List (List Answer))) (clock : List ℤ) (before : Option (List (List ℕ))) (earlier : Option (List Heard))
-            → IsTurned F.told C.told K.handed T.heard studio all clock before earlier self.old → IsUnderWay F.told C.told K.handed T.heard studio all clock before earlier self.new) }
+        ensures on { OnOk result ((studio : Studio) (all : List (List (List Answer))) (clock : List ℤ)
+            (before : Option (List (List ℕ))) (earlier : Option (List Heard))
+            → IsTurned F.told C.told K.handed T.heard studio all clock before earlier self.old
+            → IsUnderWay F.told C.told K.handed T.heard studio all clock before earlier self.new) }
     {
         let most = take_all(
             &mut self.engine,
@@ -94,9 +105,11 @@ impl<F: Feed, C: Clock, K: Sink, T: RunObserver<F>> RunState<F, C, K, T> {
         Ok(most)
     }
 
-    /// Reads the clock, sends what is due by then, lets the tap look, rests for so many sampling instants at most, and takes what the feeds
-    /// have by the last reading, or by another one where that is old. Answers for how many instants the run may rest
-    /// for the feeds; none where all of them had ended before.
+    /// Makes one round: reads the clock, sends the datagrams that are due, notifies the observer, rests for at most
+    /// `most` sampling instants, and takes the datagrams of the feeds. Reads the clock again after the rest if it was
+    /// long.
+    ///
+    /// Returns the time that the next round may rest, in sampling instants at 48 kHz; `None` if all feeds had ended.
     pub(crate) fn round<P: IdleWait>(
         &mut self,
         rest: &mut P,
@@ -104,8 +117,10 @@ impl<F: Feed, C: Clock, K: Sink, T: RunObserver<F>> RunState<F, C, K, T> {
         buf: &mut [u8],
     ) -> Result<Option<i64>, EngineStopped>
         requires room { length buf.old ≡ 2048 }
-        ensures on { OnOk result ((studio : Studio) (all : List (List (List Answer))) (clock : List ℤ) (before : Option (List (List ℕ))) (earlier : Option (List Heard))
-            → IsUnderWay F.told C.told K.handed T.heard studio all clock before earlier self.old → IsUnderWay F.told C.told K.handed T.heard studio all clock before earlier self.new) }
+        ensures on { OnOk result ((studio : Studio) (all : List (List (List Answer))) (clock : List ℤ)
+            (before : Option (List (List ℕ))) (earlier : Option (List Heard))
+            → IsUnderWay F.told C.told K.handed T.heard studio all clock before earlier self.old
+            → IsUnderWay F.told C.told K.handed T.heard studio all clock before earlier self.new) }
         ensures ended { IfOk result (λ most. most ≡ None → AllEnded self.new.readers.items) }
     {
         self.turn()?;
@@ -114,6 +129,9 @@ impl<F: Feed, C: Clock, K: Sink, T: RunObserver<F>> RunState<F, C, K, T> {
         }
         self.notify_before_wait();
         let most = until_deadline(&self.engine, most);
+        // The rest comes between the reading and the datagrams: one that arrives in a short rest is judged by the
+        // reading before it, so none is late that came in time. After a long rest that reading is too old, and another
+        // is made.
         let is_new = rest.wait_for_input(&self.engine, most);
         self.turn_if_stale(is_new)?;
         let most = self.take(buf)?;
@@ -121,14 +139,16 @@ impl<F: Feed, C: Clock, K: Sink, T: RunObserver<F>> RunState<F, C, K, T> {
     }
 }
 
-/// The greatest answer of a clock so far, with one more.
+/// Returns the greatest clock reading so far with one more, at most 2^60.
+// A clock that goes back would be a clock fault; its earlier readings are ignored.
 fn greatest(time: i64, answer: i64) -> i64
     ensures { result ≡ time_with time answer }
 {
     time.max(answer.min(LATEST))
 }
 
-/// For how many instants a run may rest: no longer than to the engine's next deadline.
+/// Returns the time that a run may rest, in sampling instants: `most`, or the time to the engine's next deadline if
+/// that is shorter.
 fn until_deadline(engine: &Engine, most: i64) -> i64 {
     match engine.next_deadline() {
         Some(reading) => reading.saturating_sub(engine.time()).min(most),
