@@ -1,33 +1,34 @@
-//! What hands datagrams to a path.
+//! The feed of a path: the source of its datagrams.
 ghost use Rattle.std.specs.Prelude.{◌≡◌, List, length};
 ghost use Rattle.studio_io.specs.Answers.{Answer, IsWithin, Tells};
 
-/// What a feed answers.
+/// The result of `Feed::next`.
 #[derive(Clone, Copy, PartialEq, Eq, Debug)]
 pub enum FeedAnswer {
-    /// So many octets of the buffer are a datagram.
+    /// The first so many octets of the buffer are a datagram.
     Datagram(usize),
-    /// None has come.
+    /// No datagram has arrived yet.
     Nothing,
     /// The device failed. After 1,000 faults in a row, with a rest after each, the feed is not asked again.
     Fault,
-    /// None will come any more.
+    /// No datagram will arrive any more.
     Ended,
 }
 
-/// A source of datagrams. `next` may wait for one, but not for long: a stream ends only when its
-/// feeds answer.
+/// A source of datagrams. `next` may wait for one, but not for long: a stream ends only once its feeds have
+/// returned.
 pub trait Feed: Drop {
-    /// The answers that the feed is known to give next. Of later ones nothing is known.
+    /// The next results of `next`, as far as they are known. Nothing is known of later ones.
     ghost told: { Self → List Answer };
 
-    /// The next answer. A datagram lies at the front of `buf`.
+    /// Writes the next datagram to the start of `buf`, if there is one, and returns the result. A run passes 2,048
+    /// octets.
     fn next(&mut self, buf: &mut [u8]) -> FeedAnswer
         ensures within { IsWithin result (length buf.old) }
         ensures tells { length buf.old ≡ 2048 → Tells (told self.old) buf.new result (told self.new) };
 
-    /// Whether `next` waits by itself before it answers `Nothing`. Where it does, its path's worker asks
-    /// again at once: a rest of the worker's would make what comes meanwhile late.
+    /// Returns true if `next` waits by itself before it returns `Nothing`. The path's worker then asks again at once.
+    // A rest of the worker in addition would delay the datagrams that arrive meanwhile.
     fn waits(&self) -> bool {
         false
     }

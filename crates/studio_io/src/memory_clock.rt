@@ -1,10 +1,10 @@
-//! Readings in memory.
+//! A clock over readings in memory.
 ghost use Rattle.std.specs.Prelude.{◌≡◌, drop};
 
 use crate::clock::Clock;
 
-/// Gives these readings, one after another, and tells so; then the last again and again, or 0 where there
-/// is none.
+/// A clock that returns these readings in order, and then the last one again and again, or 0 if there are none.
+/// Contracts know its readings.
 #[derive(Drop)]
 pub struct MemoryClock<'a> {
     readings: &'a [i64],
@@ -13,7 +13,7 @@ pub struct MemoryClock<'a> {
 }
 
 impl<'a> MemoryClock<'a> {
-    /// A clock that gives these readings, in sampling instants.
+    /// A clock that returns these readings, in sampling instants at 48 kHz.
     pub fn new(readings: &'a [i64]) -> MemoryClock<'a>
         ensures { drop result.next result.readings.now ≡ readings.now }
     {

@@ -1,16 +1,17 @@
-//! Datagrams in memory.
+//! A feed over datagrams in memory.
 ghost use Rattle.std.specs.Prelude.{◌≡◌};
 ghost use Rattle.studio_io.specs.Memory.{told_of};
 
 use crate::feed::{Feed, FeedAnswer};
 use std::marker::Model;
 
-/// Gives these datagrams, one after another, and tells so. Of one that is longer than the buffer it
-/// gives the front. Contracts see it as the answers that it is to give.
+/// A feed that gives these datagrams in order, and then ends. It cuts a datagram that is longer than the buffer.
+/// Contracts see it as the results that are left.
 #[derive(Drop)]
 pub struct MemoryFeed<'a> {
     datagrams: &'a [Vec<u8>],
     next: usize,
+    // Set by the call that returns `Ended`: contracts count that result among those that are left until then.
     ended: bool,
 }
 
@@ -25,7 +26,7 @@ impl<'a> Model for MemoryFeed<'a> {
 }
 
 impl<'a> MemoryFeed<'a> {
-    /// Before the first datagram.
+    /// A feed that has given none of these datagrams yet.
     pub fn new(datagrams: &'a [Vec<u8>]) -> MemoryFeed<'a>
         ensures { result ≡ told_of datagrams.now }
     {

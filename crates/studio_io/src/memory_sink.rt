@@ -1,4 +1,4 @@
-//! Datagrams kept in memory.
+//! A sink that keeps datagrams in memory.
 ghost use Rattle.std.specs.Prelude.{◌≡◌, [], ◌∷◌, ◌++◌, Some, is_some, OnOk, IfSome};
 ghost use Rattle.studio_io.specs.Memory.{octets_of};
 
@@ -6,12 +6,13 @@ use crate::sink::{SendAnswer, Sink};
 use std::alloc::{AllocError, Global};
 use std::marker::Model;
 
-/// Keeps the datagrams that it is handed, in order. One for which memory is refused fails at both
-/// addresses. Contracts see it as all that it was handed, and as None once a datagram was not kept.
+/// A sink that keeps the datagrams that it is passed, in order. If the allocation for one fails, that datagram fails at
+/// both addresses. Contracts see it as all the datagrams that it was passed, and as `None` once one was not kept.
 #[derive(Drop)]
 pub struct MemorySink {
     alloc: Global,
     kept: Vec<Vec<u8>>,
+    /// True while all datagrams were kept.
     whole: bool,
 }
 
@@ -25,7 +26,7 @@ impl Model for MemorySink {
 }
 
 impl MemorySink {
-    /// Keeps none yet.
+    /// A sink that was passed no datagram yet.
     pub fn new(alloc: Global) -> MemorySink
         ensures { result ≡ Some [] }
     {
@@ -36,14 +37,14 @@ impl MemorySink {
         }
     }
 
-    /// The datagrams that were kept, in order.
+    /// Returns the datagrams that were kept, in order.
     pub fn kept(&self) -> &[Vec<u8>]
         ensures { IfSome self.now (λ handed. octets_of result.now ≡ handed) }
     {
         self.kept.as_slice()
     }
 
-    /// Whether all were kept.
+    /// Returns true if all datagrams were kept.
     pub fn is_whole(&self) -> bool
         ensures { result ≡ is_some self.now }
     {
@@ -51,7 +52,7 @@ impl MemorySink {
     }
 }
 
-/// Keeps one more.
+/// Appends a copy of a datagram. Returns `AllocError` if an allocation fails.
 fn keep(alloc: Global, kept: &mut Vec<Vec<u8>>, datagram: &[u8]) -> Result<(), AllocError>
     ensures { OnOk result (octets_of kept.new.items ≡ octets_of kept.old.items ++ datagram.now ∷ []) }
 {
@@ -64,6 +65,7 @@ impl Sink for MemorySink {
     ghost handed = { λ sink. sink };
 
     fn send(&mut self, datagram: &[u8]) -> SendAnswer {
+        // A sink has no other way to report an allocation failure than the addresses that it did not reach.
         let kept = keep(self.alloc, &mut self.kept, datagram).is_ok();
         self.whole &= kept;
         SendAnswer { a: kept, b: kept }

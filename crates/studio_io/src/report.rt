@@ -1,4 +1,4 @@
-//! What came of a run.
+//! The report of a run, and the error of a run in threads that has none.
 ghost use Rattle.std.specs.Prelude.{◌≡◌};
 ghost use Rattle.studio_io.specs.declared.report.WorkFault.TheVariants as fault;
 
@@ -6,32 +6,37 @@ use rtp_stream::StreamCounts;
 use std::alloc::AllocError;
 use thiserror::Error;
 
-/// What came of a run: the counts of each stream, the faults of each feed, and the datagrams by what
-/// the sink answered.
+/// The report of a run: the counts of each stream, the faults of each feed, and the datagrams of the mix by the result
+/// of sending them.
 #[derive(Debug, Drop)]
 pub struct WorkReport {
+    /// The counts of each stream.
     pub streams: Vec<StreamCounts>,
-    /// How often each feed answered a fault, stream by stream and path by path. A number stays at
-    /// the greatest of its type.
+    /// The number of faults of each feed, ordered by stream and then by path. A number stays at 2^64 - 1 once it is
+    /// reached.
     pub feed_faults: Vec<u64>,
-    /// How many datagrams were sent.
+    /// The number of datagrams that the sink was passed.
     pub blocks: u64,
+    /// The datagrams that the first address took.
     pub sent_a: u64,
+    /// The datagrams that the second address took.
     pub sent_b: u64,
+    /// The datagrams that failed at the first address.
     pub fault_a: u64,
+    /// The datagrams that failed at the second address.
     pub fault_b: u64,
-    /// Every ring was finished and drained. True exactly where each stream gave its token, and all the
-    /// marks that it tells came to the mixer.
+    /// True if nothing was left over: the sink was passed the datagrams of all blocks that were ready. In a run in
+    /// threads it is true exactly if every stream gave its token and the mixer's end took all its marks.
     pub settled: bool,
 }
 
-/// Why a run didn't begin.
+/// The error of a run in threads, which then has no report.
 #[derive(Clone, Copy, Debug, PartialEq, Eq, Error)]
 pub enum WorkFault {
-    /// A growth was refused. No worker was started.
+    /// An allocation failed. No worker was started.
     #[error("out of memory")]
     Memory,
-    /// A worker couldn't be started. The others were stopped and joined.
+    /// A thread could not be started. The other workers were stopped and joined.
     #[error("a worker couldn't be started")]
     Start,
 }

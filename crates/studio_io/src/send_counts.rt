@@ -1,23 +1,27 @@
-//! Datagrams by what became of them at a sink's two addresses.
+//! The counts of datagrams by their results at a sink's two addresses.
 ghost use Rattle.std.specs.Prelude.{◌≡◌, ◌+◌, ◌<◌, ◌^◌};
 
 use crate::sink::SendAnswer;
 
-/// The datagrams that a sink was handed. At each address they balance in every value.
+/// The numbers of datagrams that a sink was passed. At each address the sent and the failed ones add up to all of them.
 #[derive(Clone, Copy, Debug)]
 pub struct SendCounts {
-    /// All of them.
+    /// The number of all datagrams.
     pub blocks: u64,
+    /// The datagrams that the first address took.
     pub sent_a: u64,
+    /// The datagrams that the second address took.
     pub sent_b: u64,
+    /// The datagrams that failed at the first address.
     pub fault_a: u64,
+    /// The datagrams that failed at the second address.
     pub fault_b: u64,
     ghost balanced_a: { sent_a + fault_a ≡ blocks },
     ghost balanced_b: { sent_b + fault_b ≡ blocks },
 }
 
 impl SendCounts {
-    /// None was handed yet.
+    /// The counts of a sink that was passed no datagram yet.
     pub fn new() -> SendCounts
         ensures { result.blocks ≡ 0 }
     {
@@ -30,10 +34,11 @@ impl SendCounts {
         }
     }
 
-    /// Counts one more. After as many as there are numbers it counts no further.
+    /// Counts a datagram by its result. After 2^64 - 1 datagrams it counts no more.
     pub fn add(&mut self, answer: SendAnswer)
         ensures { self.old.blocks + 1 < 2 ^ 64 → self.new.blocks ≡ self.old.blocks + 1 }
     {
+        // Nothing is counted from here on: single counters that stay at their greatest would not add up any more.
         if self.blocks == u64::MAX {
             return;
         }
