@@ -1,4 +1,4 @@
-//! Tests of a studio's rings and of a run: worked cases over the public calls from `studio_rings` to `studio_uses`.
+//! Tests of a studio's rings and of a run: worked cases over the public calls from `studio_run` to `engine_run`.
 //!
 //! Tests of the operator's page, octet by octet.
 #![tactic(auto)]

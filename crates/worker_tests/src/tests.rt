@@ -1,10 +1,8 @@
-//! The tests: of rings, of workers and of one thread, and of the callers of `studio_uses`.
+//! The tests: of rings, of workers and of one thread.
 mod alone;
-mod callers;
 mod fakes;
 mod holding;
 mod memory;
-mod mixing;
 mod packets;
 mod rings;
 mod threads;

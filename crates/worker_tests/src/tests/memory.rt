@@ -2,50 +2,32 @@
 //!
 //! The tests of this file pass for every N: the call that meets it says so, and the next succeeds.
 
-use super::callers::{REPORT, TRACE, arrival, both_packets, on_paths, path};
 use super::fakes::NoRest;
-use super::packets::{FIRST, SECOND};
-use super::workers::one_stream;
+use super::packets::both_packets;
+use super::workers::{one_stream, try_run};
 use engine_run::{NoObserver, run_engine};
-use engine_tests::small_studios::stream;
-use example_callers::{
-    Arrival, ReceiveFault, RunFault, receive_stream, report_trace, run_in_threads,
-};
-use path_merge::StreamSpec;
 use std::alloc::Global;
 use std::process::Abort;
 use std::sync::Wait;
 use std::thread::Threads;
 use studio_config::StudioSpec;
-use studio_ends::OpenFault;
 use studio_io::{MemoryClock, MemoryFeed, MemorySink};
-use studio_rings::{WorkFault, WorkReport};
-use studio_run::PlayFault;
+use studio_rings::WorkReport;
+use studio_run::{PlayFault, play};
 
-/// Whether the marks of both packets were given; else memory was refused.
-fn is_received(rt: &impl Abort, alloc: Global, spec: StreamSpec, arrivals: &[Arrival<'_>]) -> bool {
-    match receive_stream(alloc, spec, 0, arrivals) {
-        Ok(marks) => marks.len() == 3,
-        Err(fault) => {
-            assert!(rt;
-                matches!(fault, ReceiveFault::Memory),
-                "only memory can lack"
-            );
-            false
-        }
-    }
-}
+/// Both packets on the first path, with the readings at which they are due.
+const TRACE: &str = "tick 0\n\
+    a 0 806000010000000000000001000001000002000003000004000005000006\n\
+    a 0 80600002000000060000000100000700000800000900000a00000b00000c\n\
+    tick 12\ntick 18\nclose\n";
 
-/// One stream received with any one allocation refused: want of memory, and then its marks.
-#[test]
-fn each_refused_allocation_of_arrivals_is_answered(rt: HostRuntime) {
-    let spec = stream(6, 12, 2).expect(&rt, "a stream");
-    let (a, b) = (path(&rt, 0), path(&rt, 1));
-    let arrivals = [arrival(0, a, &FIRST), arrival(12, b, &SECOND)];
-    let first = is_received(&rt, rt.alloc(), spec, &arrivals);
-    let second = is_received(&rt, rt.alloc(), spec, &arrivals);
-    assert!(rt; first || second, "with memory again");
-}
+/// The report of that trace.
+const REPORT: &str = "out 8061ffff0000000000000002000001000002000003000004000005000006\n\
+    out 80610000000000060000000200000700000800000900000a00000b00000c\n\
+    path 0 a offered 2 sent 2 bad 0 type 0 length 0 full 0\n\
+    path 0 b offered 0 sent 0 bad 0 type 0 length 0 full 0\n\
+    merge 0 arrived 2 taken 2 from_a 2 from_b 0 double 0 unlike 0 off_grid 0 late 0 ahead 0 source 0 \
+    got 2 lost 0 restarts 0\n";
 
 /// A studio of one stream, though one allocation may be refused.
 fn one_stream_at_last(rt: &impl Abort, alloc: Global) -> StudioSpec {
@@ -53,10 +35,15 @@ fn one_stream_at_last(rt: &impl Abort, alloc: Global) -> StudioSpec {
     studio.expect(rt, "with memory again")
 }
 
-/// Whether the stored trace's report was written; else memory was refused.
+/// Whether the trace's report was written; else memory was refused.
 fn is_reported(rt: &impl Abort, alloc: Global, studio: &StudioSpec) -> bool {
-    match report_trace(alloc, studio, TRACE.as_bytes()) {
-        Ok(report) => report.as_slice() == REPORT.as_bytes(),
+    let mut reader = TRACE.as_bytes();
+    let mut report = Vec::new(alloc);
+    match play(alloc, studio, &mut reader, &mut report) {
+        Ok(()) => {
+            assert!(rt; report.as_slice() == REPORT.as_bytes());
+            true
+        }
         Err(fault) => {
             let wants = matches!(fault, PlayFault::Memory) || matches!(fault, PlayFault::Write);
             assert!(rt; wants, "only memory can lack");
@@ -84,31 +71,30 @@ fn kept_or_told(rt: &impl Abort, report: &WorkReport, sink: &MemorySink) {
     assert!(rt; sink.is_whole() == (kept == 2));
 }
 
-/// A run of two blocks, or its fault. What the sink could not keep is told as a fault of both addresses.
-fn attempt<R: Threads + Wait + Abort + Sync>(
+/// The feeds of two paths; none where memory is refused.
+fn two_feeds<'a>(alloc: Global, packets: &'a [Vec<u8>]) -> Option<Vec<MemoryFeed<'a>>> {
+    Vec::from_array(alloc, [MemoryFeed::new(packets), MemoryFeed::new(packets)]).ok()
+}
+
+/// The clock of one stream; none where memory is refused.
+fn one_clock(alloc: Global) -> Option<Vec<MemoryClock<'static>>> {
+    Vec::from_array(alloc, [MemoryClock::new(&[0])]).ok()
+}
+
+/// A run of two blocks by workers; none where memory, or a thread, is refused. What the sink could not keep is told as
+/// a fault of both addresses.
+fn run_by_workers<R: Threads + Wait + Abort + Sync>(
     rt: &R,
     alloc: Global,
     studio: &StudioSpec,
-    lists: &[Vec<Vec<u8>>],
-) -> Option<RunFault> {
-    match run_in_threads(rt, alloc, studio, lists, &[0], MemorySink::new(alloc)) {
-        Ok((report, sink)) => {
-            kept_or_told(rt, &report, &sink);
-            None
-        }
-        Err(fault) => Some(fault),
-    }
-}
-
-/// Whether a run says that it wants memory. A thread may be refused too.
-fn wants_memory(fault: RunFault) -> bool {
-    match fault {
-        RunFault::Paths => false,
-        RunFault::Open(fault) => fault == OpenFault::Memory,
-        RunFault::Work(WorkFault::Memory) => true,
-        RunFault::Work(WorkFault::Start) => true,
-        RunFault::Memory(_) => true,
-    }
+    packets: &[Vec<u8>],
+) -> Option<()> {
+    let feeds = two_feeds(alloc, packets)?;
+    let clocks = one_clock(alloc)?;
+    let sink = MemorySink::new(alloc);
+    let (report, sink) = try_run(rt, alloc, studio, 64, feeds, clocks, sink)?;
+    kept_or_told(rt, &report, &sink);
+    Some(())
 }
 
 /// A run by workers with any one allocation refused: each block is kept or told as a fault, or the run answers want of memory, and then succeeds.
@@ -116,19 +102,17 @@ fn wants_memory(fault: RunFault) -> bool {
 fn each_refused_allocation_of_a_run_is_answered(rt: HostRuntime) {
     let alloc = rt.alloc();
     let studio = one_stream_at_last(&rt, alloc);
-    let lists = on_paths(alloc, 2).or_else(|| on_paths(alloc, 2));
-    let lists = lists.expect(&rt, "with memory again");
-    if let Some(fault) = attempt(&rt, alloc, &studio, lists.as_slice()) {
-        assert!(rt; wants_memory(fault), "only memory can lack");
-        let again = attempt(&rt, alloc, &studio, lists.as_slice());
-        assert!(rt; again.is_none(), "with memory again");
-    }
+    let packets = both_packets(alloc).or_else(|| both_packets(alloc));
+    let packets = packets.expect(&rt, "with memory again");
+    let first = run_by_workers(&rt, alloc, &studio, &packets);
+    let second = run_by_workers(&rt, alloc, &studio, &packets);
+    assert!(rt; first.is_some() || second.is_some(), "with memory again");
 }
 
-/// The feeds of two paths; none where memory is refused.
-fn two_feeds<'a>(alloc: Global, packets: &'a [Vec<u8>]) -> Option<Vec<Vec<MemoryFeed<'a>>>> {
-    let own = Vec::from_array(alloc, [MemoryFeed::new(packets), MemoryFeed::new(packets)]);
-    Vec::from_array(alloc, [own.ok()?]).ok()
+/// The feeds of one stream on two paths; none where memory is refused.
+fn feeds_of_one<'a>(alloc: Global, packets: &'a [Vec<u8>]) -> Option<Vec<Vec<MemoryFeed<'a>>>> {
+    let own = two_feeds(alloc, packets)?;
+    Vec::from_array(alloc, [own]).ok()
 }
 
 /// Whether a run of two blocks in one thread was made; else memory was refused.
@@ -138,7 +122,7 @@ fn is_run_alone<R: Wait + Abort>(
     studio: &StudioSpec,
     packets: &[Vec<u8>],
 ) -> bool {
-    let Some(feeds) = two_feeds(alloc, packets) else {
+    let Some(feeds) = feeds_of_one(alloc, packets) else {
         return false;
     };
     let (clock, sink) = (MemoryClock::new(&[0]), MemorySink::new(alloc));

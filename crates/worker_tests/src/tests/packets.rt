@@ -12,6 +12,14 @@ pub(super) const SECOND: [u8; 30] = [
     12,
 ];
 
+/// Both packets; none where memory is refused.
+pub(super) fn both_packets(alloc: Global) -> Option<Vec<Vec<u8>>> {
+    let mut packets = Vec::new(alloc);
+    packets.push(Vec::from_slice(alloc, &FIRST).ok()?).ok()?;
+    packets.push(Vec::from_slice(alloc, &SECOND).ok()?).ok()?;
+    Some(packets)
+}
+
 /// A header, and each of these samples so many times, one behind another.
 pub(super) fn datagram(
     alloc: Global,

@@ -19,7 +19,29 @@ pub(super) fn one_stream(alloc: Global) -> Option<StudioSpec> {
     sum_of(alloc, &[spec], 6)
 }
 
-/// Runs the workers of a studio over rings of so many places.
+/// Runs the workers of a studio over rings of so many places; none where memory, or a thread, is refused.
+pub(super) fn try_run<R: Threads + Wait + Abort + Sync, F: Feed + Send, C: Clock + Send, K: Sink>(
+    rt: &R,
+    alloc: Global,
+    studio: &StudioSpec,
+    places: usize,
+    feeds: Vec<F>,
+    clocks: Vec<C>,
+    sink: K,
+) -> Option<(WorkReport, K)> {
+    let _sound = studio.streams();
+    let Ok(ends) = open(alloc, studio, places) else {
+        return None;
+    };
+    assert!(rt; feeds.len() == ends.paths.len(), "a feed for each path");
+    assert!(rt;
+        clocks.len() == ends.streams.len(),
+        "a clock for each stream"
+    );
+    run_workers(rt, alloc, ends, feeds, clocks, sink).ok()
+}
+
+/// The same, where nothing is refused.
 pub(super) fn run<R: Threads + Wait + Abort + Sync, F: Feed + Send, C: Clock + Send, K: Sink>(
     rt: &R,
     alloc: Global,
@@ -29,16 +51,7 @@ pub(super) fn run<R: Threads + Wait + Abort + Sync, F: Feed + Send, C: Clock + S
     clocks: Vec<C>,
     sink: K,
 ) -> (WorkReport, K) {
-    let _sound = studio.streams();
-    let Ok(ends) = open(alloc, studio, places) else {
-        panic!(rt; "there is memory")
-    };
-    assert!(rt; feeds.len() == ends.paths.len(), "a feed for each path");
-    assert!(rt;
-        clocks.len() == ends.streams.len(),
-        "a clock for each stream"
-    );
-    let Ok(done) = run_workers(rt, alloc, ends, feeds, clocks, sink) else {
+    let Some(done) = try_run(rt, alloc, studio, places, feeds, clocks, sink) else {
         panic!(rt; "there is memory")
     };
     done

@@ -1,4 +1,4 @@
-use Rattle.worker_tests.proofs.tests.workers.run.Goals as goal
+use Rattle.worker_tests.proofs.tests.workers.try_run.Goals as goal
 
 pub run_workers-requires-clause-opened : goal.run_workers-requires-clause-opened
 run_workers-requires-clause-opened g c = λ κs within. let o = c.in-Ok.ensures.opened in
