@@ -1,20 +1,19 @@
 //! A first call: two packets of one stream over two paths, merged into marks.
-#![tactic(auto)]
-
 ghost use Rattle.std.specs.Prelude.{◌≡◌};
 
 use anyhow::bail;
 use path_merge::{Merge, Path, SlotWindow, StreamClock, StreamSpec};
 use rtp_wire::{Enc, read};
+use std::alloc::Global;
 
-/// Mono L24 in packets of 6 sampling instants (125 us), each handed on 12 instants after its media time.
+/// Returns a stream of mono L24 in packets of 6 sampling instants (125 us). Each slot is due 12 instants after its media time.
 fn stream() -> anyhow::Result<StreamSpec> {
     let clock = StreamClock::Media { offset: 0 };
     let spec = StreamSpec::new(Enc::L24, 1, 6, 96, None, clock, 12, 8, 2)?;
     Ok(spec)
 }
 
-/// An RTP datagram of six samples: version 2, type 96, its number, its timestamp and source 7.
+/// Builds an RTP datagram of six samples: version 2, payload type 96, its number, its timestamp and source 7.
 fn datagram(number: u8, timestamp: u8) -> [u8; 30] {
     let mut octets = [0; 30];
     octets[0] = 0x80;
@@ -49,12 +48,13 @@ fn receive(
     Ok(())
 }
 
-fn main(rt: HostRuntime) -> anyhow::Result<()> {
+/// Merges two packets, the first of which comes on both paths, and prints each packet's fate and each mark.
+pub(crate) fn first_call(rt: &impl Print, alloc: Global) -> anyhow::Result<()> {
     let spec = stream()?;
-    let mut merge = Merge::new(rt.alloc(), spec, 0)?;
-    receive(&rt, &mut merge, &spec, 0, &datagram(1, 0))?;
-    receive(&rt, &mut merge, &spec, 1, &datagram(1, 0))?;
-    receive(&rt, &mut merge, &spec, 1, &datagram(2, 6))?;
+    let mut merge = Merge::new(alloc, spec, 0)?;
+    receive(rt, &mut merge, &spec, 0, &datagram(1, 0))?;
+    receive(rt, &mut merge, &spec, 1, &datagram(1, 0))?;
+    receive(rt, &mut merge, &spec, 1, &datagram(2, 6))?;
     if let Some(mark) = merge.advance(12)? {
         println!(rt; "{:?}", mark.kind())?;
     }

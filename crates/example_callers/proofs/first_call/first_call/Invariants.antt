@@ -1,5 +1,5 @@
 use Rattle.path_merge.specs.Steps.{marks_left}
-use Rattle.first_call.proofs.main.Given as goal
+use Rattle.example_callers.proofs.first_call.first_call.Given as goal
 
 -- the marks that are left
 abbrev pub decreases-loop-mark : goal.decreases-loop-mark
