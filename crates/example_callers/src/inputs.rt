@@ -1,7 +1,7 @@
 //! Packets and configurations.
 
 use crate::arrival::Arrival;
-use anyhow::{Context, bail};
+use anyhow::Context;
 use path_merge::Path;
 use std::alloc::{AllocError, Global};
 use studio_config::StudioSpec;
@@ -75,9 +75,7 @@ gains = [[65536, 65536]]
 
 /// Reads a configuration.
 pub(crate) fn studio_of(alloc: Global, config: &str) -> anyhow::Result<StudioSpec> {
-    let Ok(table) = toml::table_from_str(alloc, config) else {
-        bail!("the configuration is not TOML");
-    };
+    let table = toml::table_from_str(alloc, config)?;
     Ok(StudioSpec::from_table(alloc, &table)?)
 }
 
