@@ -1,4 +1,4 @@
-//! A datagram as it came in.
+//! What a receiver knows of a datagram that came in.
 
 use path_merge::Path;
 

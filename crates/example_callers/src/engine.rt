@@ -1,4 +1,4 @@
-//! An engine's calls, in a program with a loop of its own.
+//! The calls of an engine, for a program with a loop of its own.
 ghost use Rattle.std.specs.Prelude.{◌≡◌, ℕ, ◌≤◌, List, length, false, None, Some, IfErr, OnOk, OnErr};
 ghost use Rattle.mix_packets.specs.OutSpec.{datagram_length};
 ghost use Rattle.path_merge.specs.Clock.{clock_fault_of};
@@ -11,10 +11,10 @@ use path_merge::ClockFault;
 use studio_engine::Engine;
 use studio_io::Sink;
 
-/// Moves an engine on to a reading of the clock, and hands the sink each datagram that is then due.
+/// Moves an engine to a clock reading and sends each datagram that is then due.
 ///
-/// Call it at `Engine::next_deadline`, and at each arrival's time before that is handed on. `out` is room for
-/// one datagram. After a fault nothing was moved and nothing sent.
+/// Call it when `Engine::next_deadline` is reached, and at the time of each arrival before `Engine::arrive`.
+/// `out` has room for one datagram. After an error the engine is as it was, and nothing was sent.
 pub fn send_due<K: Sink>(
     engine: &mut Engine,
     now: i64,
@@ -38,7 +38,7 @@ pub fn send_due<K: Sink>(
     Ok(())
 }
 
-/// Hands the sink each datagram that is left after `Engine::close`.
+/// Sends each datagram that is left after `Engine::close`.
 pub fn send_rest<K: Sink>(engine: &mut Engine, out: &mut [u8], sink: &mut K)
     requires room { datagram_length engine.old.mixer.packer.spec ≤ length out.old }
     ensures sent { (studio : Studio) (events : List TraceEvent) (datagrams : List (List ℕ))

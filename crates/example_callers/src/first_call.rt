@@ -6,7 +6,7 @@ use path_merge::{Merge, Path, SlotWindow, StreamClock, StreamSpec};
 use rtp_wire::{Enc, read};
 use std::alloc::Global;
 
-/// Returns a stream of mono L24 in packets of 6 sampling instants (125 us). Each slot is due 12 instants after its media time.
+/// Returns a stream of mono L24, in packets of 6 sampling instants (125 us). Each slot is due 12 instants after its media time.
 fn stream() -> anyhow::Result<StreamSpec> {
     let clock = StreamClock::Media { offset: 0 };
     let spec = StreamSpec::new(Enc::L24, 1, 6, 96, None, clock, 12, 8, 2)?;
@@ -25,7 +25,7 @@ fn datagram(number: u8, timestamp: u8) -> [u8; 30] {
     octets
 }
 
-/// Offers what came in on a path, if it is a packet of the stream, and prints what became of it.
+/// Offers a packet that came in on a path, and prints its fate.
 fn receive(
     rt: &impl Print,
     merge: &mut Merge<SlotWindow>,

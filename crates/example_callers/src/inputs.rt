@@ -84,7 +84,7 @@ pub(crate) fn path(number: u8) -> anyhow::Result<Path> {
     Path::new(number).context("a path is 0 to 3")
 }
 
-/// Returns a datagram that came on a path at this reading of the clock.
+/// Returns the arrival of a datagram on a path, at this clock reading.
 pub(crate) fn arrival(time: i64, path: Path, datagram: &[u8]) -> Arrival<'_> {
     Arrival {
         time,
@@ -93,7 +93,7 @@ pub(crate) fn arrival(time: i64, path: Path, datagram: &[u8]) -> Arrival<'_> {
     }
 }
 
-/// Builds a packet: a header with this number and timestamp, and then a sample so many times.
+/// Builds a packet of source 1: this number, this timestamp and so many equal samples.
 pub(crate) fn packet(
     alloc: Global,
     number: u8,

@@ -1,4 +1,4 @@
-//! The marks of two streams, to the output's datagrams.
+//! Two streams, from marks to the output's datagrams.
 ghost use Rattle.std.specs.Prelude.{◌≡◌, ℕ, ◌+◌, ◌<◌, ◌≤◌, List, [], ◌∷◌, ◌++◌, length, take, drop, slice_get, slice_set, Some, None, is_some, IfSome};
 ghost use Rattle.mix_packets.specs.OutSpec.{datagram_length};
 ghost use Rattle.studio_config.specs.Studio.{Studio};
@@ -11,8 +11,7 @@ ghost use Rattle.example_callers.specs.Mix.{IsTaken, feed_with, feeds_with};
 use path_merge::Mark;
 use studio_mix::Mixer;
 
-/// How many marks of each stream were taken, and the length of the datagram that was written, if its
-/// block is final.
+/// The number of marks that were taken of each stream, and the length of the datagram, if one was written.
 #[derive(Clone, Copy, Debug)]
 pub struct Mixed {
     pub first: usize,
@@ -20,9 +19,9 @@ pub struct Mixed {
     pub len: Option<usize>,
 }
 
-/// Feeds a stream's next marks while the next block wants them, and answers how many it took.
+/// Feeds a stream's next marks until they are final to the end of the next block, and returns how many it took.
 ///
-/// It stops before a mark that may not follow.
+/// It stops before a mark that cannot follow the stream's marks so far.
 pub fn feed_wanted(mixer: &mut Mixer, stream: usize, marks: &[Mark]) -> usize
     requires { stream < length mixer.old.lanes }
     ensures count { result ≤ length marks.now }
@@ -45,10 +44,9 @@ pub fn feed_wanted(mixer: &mut Mixer, stream: usize, marks: &[Mark]) -> usize
     marks.len()
 }
 
-/// Feeds two streams' next marks, and writes the next datagram to the front of `out` where its block is
-/// final by them.
+/// Feeds two streams' next marks, and writes the next datagram to the front of `out` if its block is final then.
 ///
-/// The next call goes on with the marks that weren't taken.
+/// The next call goes on with the marks that were not taken.
 pub fn mix_next(mixer: &mut Mixer, first: &[Mark], second: &[Mark], out: &mut [u8]) -> Mixed
     requires streams { length mixer.old.lanes ≡ 2 }
     requires room { datagram_length mixer.old.packer.spec ≤ length out.old }

@@ -11,16 +11,16 @@ use rtp_wire::read;
 use std::alloc::{AllocError, AllocFailed, Global};
 use thiserror::Error;
 
-/// Why datagrams gave no marks.
+/// The reason why arrivals have no marks.
 #[derive(Debug, Drop, Error)]
 pub enum ReceiveFault {
-    /// A datagram came on a path that the stream lacks.
+    /// A datagram came on a path that the stream does not have.
     #[error("a path that the stream lacks")]
     Path,
-    /// A reading of the clock goes back, or past 2^60.
+    /// A clock reading is less than the one before it, or more than 2^60.
     #[error("{0}")]
     Clock(ClockFault),
-    /// A growth was refused.
+    /// An allocation failed.
     #[error("out of memory")]
     Memory,
 }
@@ -49,7 +49,7 @@ impl<T: Drop> From<AllocFailed<T>> for ReceiveFault {
     }
 }
 
-/// Answers a path that the stream lacks.
+/// Returns an error for a path that the stream does not have.
 fn check_path(spec: &StreamSpec, path: Path) -> Result<(), ReceiveFault>
     ensures here { OnOk result (path < spec.now.paths) }
     ensures lacking { IfErr result (λ fault. (fault ≡ NoPath) × (spec.now.paths ≤ path)) }
@@ -60,11 +60,10 @@ fn check_path(spec: &StreamSpec, path: Path) -> Result<(), ReceiveFault>
     Ok(())
 }
 
-/// The marks of one stream whose datagrams came in as these arrivals, the earliest first, and which was
-/// then closed.
+/// Returns the marks of a stream that had these arrivals, the earliest first, and was then closed.
 ///
-/// Each arrival's time is a reading of the clock: it hands on the slots whose deadlines it reaches, and
-/// then the datagram is offered, if it is a packet of the stream.
+/// The time of an arrival is a clock reading. First the slots whose deadlines it reaches become marks; then the
+/// datagram is offered, if it is a packet of the stream.
 pub fn receive_stream(
     alloc: Global,
     spec: StreamSpec,

@@ -1,4 +1,4 @@
-//! A trace in memory, from its octets to its report.
+//! A trace in memory, from its text to its report.
 ghost use Rattle.std.specs.Prelude.{IfOk, IfErr};
 ghost use Rattle.example_callers.specs.Report.{IsFaultOf, IsReportOf};
 
@@ -6,10 +6,10 @@ use std::alloc::Global;
 use studio_config::StudioSpec;
 use studio_run::{PlayFault, play};
 
-/// The report of a trace: a line for each datagram of the output, and the counts of each stream.
+/// Returns the report of a trace: a line for each datagram of the output, and the counts of each stream.
 ///
-/// A slice is a reader, and a `Vec` a writer; any others will do for `play`, as a file or a pipe. A growth
-/// of the report that is refused is a write that fails.
+/// `play` takes any reader and writer, such as files and pipes; here they are a slice and a `Vec`. If the
+/// report cannot grow, the error is that a write failed.
 pub fn report_trace(alloc: Global, studio: &StudioSpec, trace: &[u8]) -> Result<Vec<u8>, PlayFault>
     ensures report { IfOk result (λ text. IsReportOf studio.now trace.now text.items) }
     ensures fault { IfErr result (IsFaultOf studio.now trace.now) }

@@ -1,4 +1,4 @@
-//! A studio in threads, over datagrams in memory.
+//! A studio in threads, over feeds, clocks and a sink in memory.
 ghost use Rattle.std.specs.Prelude.{◌≡◌, true, map, IfOk};
 ghost use Rattle.studio_rings.specs.Balances.{Balances};
 ghost use Rattle.studio_rings.specs.Runs.{IsSettledRun};
@@ -13,22 +13,22 @@ use studio_io::{MemoryClock, MemoryFeed};
 use studio_rings::{Sink, WorkFault, WorkReport, run_workers};
 use thiserror::Error;
 
-/// How many packets, marks or counts a ring holds.
+/// The number of packets, marks or counts that a ring holds.
 const PLACES: usize = 64;
 
-/// Why a run didn't begin.
+/// The reason why a run did not begin.
 #[derive(Debug, Drop, Error)]
 pub enum RunFault {
-    /// There aren't as many lists of datagrams as the streams have paths.
+    /// There are not as many lists of datagrams as the streams have paths.
     #[error("a list of datagrams for each path")]
     Paths,
     /// The rings could not be opened.
     #[error("{0}")]
     Open(#[from] OpenFault),
-    /// The workers didn't begin.
+    /// The workers could not be started.
     #[error("{0}")]
     Work(#[from] WorkFault),
-    /// A growth was refused.
+    /// An allocation failed.
     #[error("out of memory")]
     Memory(#[from] AllocError),
 }
@@ -39,11 +39,11 @@ impl<T: Drop> From<AllocFailed<T>> for RunFault {
     }
 }
 
-/// Runs a studio's workers over these datagrams, a list for each path, stream by stream and path by
-/// path. Each stream's clock has the same readings, and a stream goes by them.
+/// Runs a studio's workers over these datagrams: a list for each path, stream by stream and path by path.
+/// The clock of each stream gives these readings.
 ///
-/// Where the report is settled, a sink that tells at the end what it was handed was handed the datagrams
-/// of exactly the ready blocks. A `MemorySink` tells it where it is whole.
+/// If the report is settled, and the sink's contents are known at the end, then the sink was handed the
+/// datagrams of exactly the ready blocks. The contents of a `MemorySink` are known if it is whole.
 pub fn run_in_threads<R: Threads + Wait + Sync, K: Sink>(
     rt: &R,
     alloc: Global,

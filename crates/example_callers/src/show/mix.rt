@@ -42,7 +42,7 @@ fn print_next(
     // No datagram is longer than `out`: `datagram_len` ensures it.
     let _short = mixer.output().datagram_len();
     let mixed = mix_next(mixer, first, second, &mut out);
-    println!(rt; "{} and {} marks", mixed.first, mixed.second)?;
+    println!(rt; "took {} and {} marks", mixed.first, mixed.second)?;
     if let Some(len) = mixed.len {
         print_datagram(rt, &out[..len])?;
     }
