@@ -1,4 +1,4 @@
-"""What the sources say of themselves: tests, edits, public calls and lemma files, each with its sentence."""
+"""What the sources say of themselves: crates, tests, edits, public calls and lemma files, each with its sentence."""
 import re
 from functools import cache
 from pathlib import Path
@@ -12,6 +12,8 @@ CLAUSE = re.compile(r"\b(requires|ensures)(?: (\w+))? $")
 FIELD = re.compile(r"^    (?:pub )?ghost (\w+):", re.MULTILINE)
 EXPORT = re.compile(r"^pub use (\w+)::(?:\{([^}]*)\}|(\w+));", re.MULTILINE)
 COMMENT = re.compile(r"$|//|--(?!\S)")
+HEAD_LINE = re.compile(r"^//! ?(.*)$", re.MULTILINE)
+FIRST_SENTENCE = re.compile(r"\s*(.*?\.(?=\s)|.*)")
 REFUSED = re.compile(r"(.*\.) \[(\w+(?:::\w+)?: \w+)\]")
 
 
@@ -59,15 +61,36 @@ class Edit(NamedTuple):
 
 
 @cache
+def crate_lines():
+    """The lines of crates.txt that name a crate: its section, its name and what it depends on. A line `# TITLE` begins a section."""
+    lines, section = [], ""
+    for line in (ROOT / "crates.txt").read_text().splitlines():
+        code, sign, comment = line.partition("#")
+        name, colon, below = code.partition(":")
+        if colon:
+            lines.append((section, name.strip(), below.split()))
+        elif sign:
+            section = comment.strip()
+    return lines
+
+
+@cache
 def dependencies():
-    """The crates that each crate names in crates.txt, the lowest first."""
-    lines = [line.split("#")[0].partition(":") for line in (ROOT / "crates.txt").read_text().splitlines()]
-    return {name.strip(): below.split() for name, colon, below in lines if colon}
+    """The crates and libraries that each crate names in crates.txt, the lowest first."""
+    return {name: below for _, name, below in crate_lines()}
 
 
 def crates():
     """The names of all crates, the lowest first."""
     return list(dependencies())
+
+
+def sections():
+    """The crates of each section of crates.txt, by its title."""
+    found = {}
+    for section, name, _ in crate_lines():
+        found.setdefault(section, []).append(name)
+    return found
 
 
 @cache
@@ -76,6 +99,33 @@ def below(crate):
     named = [name for name in dependencies()[crate] if name in dependencies()]
     found = {*named, *(deeper for name in named for deeper in below(name))}
     return [name for name in crates() if name in found]
+
+
+def root_of(crate):
+    """The text of a crate's root file."""
+    files = [ROOT / "crates" / crate / "src" / name for name in ("lib.rt", "main.rt")]
+    return next((file.read_text() for file in files if file.is_file()), "")
+
+
+def crate_sentence(crate):
+    """What a crate is: the first sentence of the `//!` text in its root file."""
+    return FIRST_SENTENCE.match(" ".join(HEAD_LINE.findall(root_of(crate))))[1]
+
+
+def line_count(crate, suffix):
+    """The number of lines in a crate's files with this suffix."""
+    files = (ROOT / "crates" / crate).rglob(f"*{suffix}")
+    return sum(file.read_text().count("\n") for file in files if "out" not in file.relative_to(ROOT).parts)
+
+
+def crate_map(with_lines=False):
+    """The map of the crates: for each section its title, then a line for each crate with its sentence and, if asked for, its lines."""
+    for section, names in sections().items():
+        yield section
+        for name in names:
+            counts = f"{line_count(name, '.rt'):6} {line_count(name, '.antt'):6}  " if with_lines else ""
+            yield f"  {name:16}{counts}{crate_sentence(name)}"
+        yield ""
 
 
 def code_of(crate):
