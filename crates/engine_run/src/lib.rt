@@ -1,12 +1,19 @@
-//! A studio in one thread: an engine, its feeds, a clock and a sink, moved round by round.
+//! Runs an engine in one thread: datagrams of feeds go in, and the mix goes to a sink, by a clock.
 //!
-//! `run_engine` takes a `Feed` for each path, a list for each stream, a `Clock`, a `Sink`, a `RunObserver` and an `IdleWait`. Each round
-//! reads the clock, sends what is due by then, lets the tap look, rests, and asks each feed for what has come, at most 64
-//! datagrams of it.
-//! These are judged by that reading, or after a long rest by another one: so none is late that came in time, and none
-//! is judged by an old reading. Once every feed has ended the clock is read
-//! a last time, the engine is closed, and what is left is sent. Where the report is `settled`, there is one list of
-//! events of which the sink was handed the datagrams, the tap was told the arrivals and the report has the counts.
+//! Begin with `run_engine`. It takes a list of `Feed`s for each stream, one per path, a `Clock`, a
+//! `Sink`, a `RunObserver` and an `IdleWait`. Each round
+//!
+//! 1. reads the clock and sends what is due by then;
+//! 2. calls `before_wait` of the observer;
+//! 3. waits by the `IdleWait`;
+//! 4. takes at most 64 datagrams from each feed.
+//!
+//! The datagrams of a round are judged by the reading of that round, or after a long wait by a new
+//! one. So no datagram that came in time is judged late, and none is judged by an old reading.
+//!
+//! Once every feed has ended, the clock is read a last time, the engine is closed, and the remaining
+//! datagrams are sent. If the report is `settled`, there is one list of events for which the sink
+//! received the datagrams, the observer the arrivals, and the report the counts.
 #![tactic(auto)]
 
 mod feed_reader;

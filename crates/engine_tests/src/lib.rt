@@ -1,6 +1,7 @@
-//! Tests of a studio without threads: worked cases over the public calls from `gain_mix` to `studio_engine`.
+//! Tests of a studio without threads: worked cases over the public calls from `gain_mix` to
+//! `studio_engine`.
 //!
-//! Its small studios are those of `worker_tests` too.
+//! `worker_tests` uses the small studios of this crate too.
 #![tactic(auto)]
 
 pub mod small_studios;

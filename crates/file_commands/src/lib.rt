@@ -1,16 +1,13 @@
-//! The words of the command line: `parse_args` says what they ask for, or why they ask for nothing.
+//! The commands over files and standard input: marks, play, chart, check, streams, import and replay.
 //!
-//! What a configuration means, in lines for people: `write_summary` writes them.
+//! `run_marks`, `run_play`, `run_chart`, `run_check`, `run_streams`, `run_import` and `run_replay`
+//! each run one command, with the arguments that `command_line` found. They write the text of the
+//! command to `output`, or return a `CommandFault`, which has its line and exit status.
+//! `run_quick_start` is the run without words.
 //!
-//! What RTP flows a capture holds, as a text.
-//!
-//! `table_text` tells the flows of a `pcap_flows::FlowTable`, a line a flow, and what fits each flow's packets. It takes memory for the
-//! text and for what it asks of `capture_streams`.
-//!
-//! The program's commands over files and standard input: all but live runs.
-//!
-//! Each takes the words of one command, as `command_words` finds them, and writes its text to `output`, or answers a `CommandFault`,
-//! which tells its line and exit status. Where configurations, captures and WAV files lie is the caller's: it hands in `Files`.
+//! The caller passes `Files`, which opens and creates files by path: no command opens a file itself.
+//! `read_config` and `parse_studio` read a configuration, and `write_summary` writes the lines of
+//! check.
 #![tactic(auto)]
 
 mod config_summary;

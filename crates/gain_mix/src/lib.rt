@@ -1,11 +1,14 @@
-//! Gains: a matrix, a schedule of matrices, and output samples that are rounded once and saturated
+//! The gain matrix: output samples are exact sums of gains times inputs, rounded once and saturated
 //! once.
 //!
-//! `Matrix::new` takes the gains row by row, one row for each output, and the memory for them;
-//! `Schedule::new` takes a first matrix and later ones with their times. No other call takes memory.
-//! `mix_frame` mixes the inputs of one frame by a matrix, `mix_block` those of a block, and `mix_span`
-//! those of a block by the gains in force at each of its times; `mix_counted` also counts which samples were
-//! saturated. Inputs are samples of 24 bits, frame by frame; the shift is 16 for outputs of 24 bits and 24 for outputs of 16. The caller keeps both slices.
+//! 1. `Matrix::new` takes the gains row by row, one row for each output. `Schedule::new` takes a
+//!    first matrix and later ones with their times. Only these two calls allocate.
+//! 2. `mix_frame` mixes the inputs of one frame by a matrix, and `mix_block` those of a block.
+//!    `mix_span` mixes a block by the gains in force at each of its times, and `mix_counted` also
+//!    counts the saturated samples.
+//!
+//! Inputs are 24-bit samples, frame by frame. The shift is 16 for 24-bit outputs and 24 for 16-bit
+//! outputs. The caller keeps both slices.
 #![tactic(auto)]
 
 mod four_rows;

@@ -1,12 +1,18 @@
-//! The marks of one stream as the values of its channels at media times, block by block.
+//! Aligns one stream: its marks go in, and the values of its channels at media times come out, block
+//! by block.
 //!
-//! `Lane::new` takes all memory. Then, for each block: while the lane `wants` the block's end, take the
-//! stream's next mark and `feed` it, where the lane `accepts` it; a mark that may not follow those before
-//! is the caller's to drop. Once the block's end is covered, `read_block` writes its values, frame by
-//! frame, and the lane stands at the next block. `cover` says how far the values are final, `end` where
-//! the last of them lies.
+//! `Lane::new` allocates; no later call does. For each block:
 //!
-//! A lane of `Lane::with_room` also keeps marks before they are wanted: by `keep_ref`, where it `has_room`.
+//! 1. As long as the lane `wants` the end of the block, take the next mark of the stream and `feed`
+//!    it if the lane `accepts` it. The caller drops a mark that is not accepted.
+//! 2. `read_block` then writes the values of the block, frame by frame, and moves the lane to the
+//!    next block.
+//!
+//! `cover` returns the time up to which the values are final, and `end` the time at which the last
+//! mark ends.
+//!
+//! `Lane::with_room` makes a lane that also takes marks before they are wanted: `keep_ref` takes a
+//! mark if the lane `has_room` for it.
 #![tactic(auto)]
 
 mod cover;

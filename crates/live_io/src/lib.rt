@@ -1,19 +1,17 @@
-//! What a live run is made of beside its sockets: what it is set up with, its clock, and the report that it ends with.
+//! The sockets, clock and record of a live run: a feed per path, a sink of two copies, and the pcapng
+//! file of what arrived.
 //!
-//! `LivePorts::of` finds the ports that a studio needs, or names the first that is absent; `addresses_of` says where
-//! each path is received, and `InheritedSockets::from_env` which sockets are there already. By `tai_now` a studio can be opened
-//! now; a `RunPeriod` has the clock of the run, and says when that ends its feeds. `write_report` writes what a run came to.
-//!
-//! The sockets of a live run.
-//!
-//! `open_sockets` binds a socket for each path, at the address that `addresses_of` says, and two for the output, but for those
-//! that were inherited. `udp_feeds` makes a `Feed` of each that receives; the `UdpSink` of those that send is a `Sink`.
-//!
-//! The record of a live run: a capture of what it received, from which it can be replayed.
-//!
-//! A `RecordChannel` has two ends of a ring. The run's thread tells its `RecordObserver` of each datagram that came, which puts whole
-//! blocks into the ring and waits for nothing; `write_record`, in a thread beside it, writes what comes through the ring to
-//! the record's file. Where the file doesn't take blocks in time, and the ring is full, the record ends.
+//! 1. `LivePorts::of` finds the ports that a studio needs, or returns the first that is missing.
+//!    `addresses_of` returns the addresses of each path, and `InheritedSockets::from_env` the sockets
+//!    that systemd passed in.
+//! 2. `tai_now` returns the time at which a studio opens by International Atomic Time. `RunPeriod`
+//!    has the clock of the run, and decides when the feeds end.
+//! 3. `open_sockets` binds a socket for each path and two for the output, except those that are
+//!    inherited. `udp_feeds` makes a `Feed` of each receiving socket. `UdpSink` is the `Sink` of the
+//!    two sending sockets.
+//! 4. A `RecordChannel` has two ends of a ring. The thread of the run passes each datagram to its
+//!    `RecordObserver`, which pushes whole blocks and never waits. `write_record`, in another thread,
+//!    writes them to the file. If the file is too slow and the ring is full, the record ends there.
 #![tactic(auto)]
 
 mod clock;

@@ -1,23 +1,21 @@
-//! What a live run is in either form: what it is set in, what goes on beside it, and what it comes to.
+//! A live run of a studio on real sockets, with one thread per path and stream or in a single thread.
 //!
-//! A form of it, by workers or in one thread, is handed a `RunContext`, answers a report of which `IsRunOf` holds, and begins no run
-//! but for an early `LiveFault`. It runs by `run_supervised` beside a watcher, which ends the feeds as the setting says, or where a
-//! signal that asks for it was held back; and `with_scoped_thread` runs anything else in a thread beside it.
+//! Begin with `run_studio_live`. It opens the sockets, runs the studio in the form that `LiveOptions`
+//! asks for until all feeds have ended, and writes the report. The caller passes the runtime, the
+//! memory, both writers and, for a record, its file.
 //!
-//! A live run by workers: a thread for each path and each stream, and one for the mix.
+//! The modules, in the order of a run:
 //!
-//! `run_in_workers` runs a studio's workers on the sockets of its paths, beside a watcher that shows what their watches tell.
+//! - `launch` opens sockets and status, and calls one of the two forms with a `RunContext`.
+//! - `workers` is the form with a thread for each path and stream and one for the mix,
+//!   `run_in_workers`.
+//! - `single_thread` is the form with an engine in one thread, `run_in_one_thread`. It waits for its
+//!   sockets by their readiness, and may write a record in another thread.
+//! - `report` writes the text of the final report.
+//! - `supervisor` is the thread that ends the feeds, as the options say or on a pending signal that
+//!   was blocked at the start, and runs the status task (`run_supervised`).
 //!
-//! A live run in one thread: an engine on real sockets.
-//!
-//! `run_in_one_thread` runs a studio's engine, which waits for its sockets by their readiness, beside a watcher. Its `RecordOutput` may
-//! have a record of what the run takes, which is written in a thread beside it.
-//!
-//! A studio on real sockets.
-//!
-//! `run_studio_live` binds a socket for each path, at the address that `addresses_of` says, and two for the output, but
-//! for those that were inherited. It starts the workers, or an engine in this thread, with a watcher beside them,
-//! and writes the report once all feeds have ended. Its caller hands in the runtime, the memory and both writers.
+//! If a form returns an early `LiveFault`, no run has begun.
 #![tactic(auto)]
 
 mod asked;

@@ -1,15 +1,16 @@
-//! What is seen of a live run while it goes on: snapshots for its page, and lines on standard error.
+//! The status of a running studio: snapshots for its page, and count lines on standard error.
 //!
-//! A `StatusPublisher` has what a snapshot says beside counts and peaks: names, conditions. Once it `is_due`, its caller fills a blank
-//! snapshot with the numbers that it knows, and `publish` pushes that to the page's ring and writes the lines that are due from it.
-//! An `EngineStatus` does so for an engine, and tallies each path's copies; for workers `fill_stream`, `fill_datagrams` and `fill_outputs` say
-//! what their watches were told. A `Meter` measures the mix's peaks where one thread sends it.
+//! 1. `open_status` binds the port of the page if one is asked for, writes the line of addresses, and
+//!    returns an `OpenStatus`: the `PageThread`, which serves the page from snapshots that come
+//!    through a ring, and the `StatusOutputs`.
+//! 2. A `StatusPublisher` knows the names and conditions of the streams. Once it `is_due`, its caller
+//!    takes a `blank_snapshot`, fills in the numbers, and calls `publish`: that pushes the snapshot
+//!    to the page and writes the count lines that are due.
+//! 3. For a run in one thread, `EngineStatus` does step 2 from an engine, and tallies the copies of
+//!    each path. For workers, `fill_stream`, `fill_datagrams` and `fill_outputs` fill a snapshot from
+//!    the statistics that were received.
 //!
-//! Where a live run is shown while it goes on: by lines on standard error, and on a page.
-//!
-//! `open_status` binds the page's port, if a page is asked for, tells where the run receives, sends and is shown, and answers an `OpenStatus`:
-//! the `PageThread`, which answers the page's clients in a thread of its own from snapshots that come through a ring, and what
-//! the run shows of itself.
+//! A `Meter` measures the peaks of the mix if one thread sends it.
 #![tactic(auto)]
 
 mod copies;

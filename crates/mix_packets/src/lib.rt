@@ -1,8 +1,11 @@
-//! Blocks of samples as RTP packets of an output, one datagram from one block.
+//! The packetizer of the output: each block of samples becomes one RTP datagram.
 //!
-//! `OutSpec::of` fixes the output, or says its first fault. A `Packer` of it numbers the blocks from 0:
-//! `next` writes the datagram of the next one to the front of the caller's slice, header and samples,
-//! and answers its length, which is the output's `datagram_len` each time. Nothing here takes memory.
+//! 1. `OutSpec::of` checks the parameters of the output, or returns its first fault.
+//! 2. `Packer::next` writes the datagram of the next block to the front of the caller's slice: the
+//!    header, then the samples. It returns the length of the datagram, which is `datagram_len` of the
+//!    output each time.
+//!
+//! A `Packer` numbers the blocks from 0. Nothing here allocates.
 #![tactic(auto)]
 
 mod laws;

@@ -1,26 +1,36 @@
-//! Reorder windows: the packets of a stream that are held until their deadlines, by number.
+//! Merges the paths of one stream into a list of marks, with a window that holds packets until their
+//! deadlines.
 //!
-//! A window has room for `size` numbers from `base` on. `put_ref` takes a packet where its number has none,
-//! and answers whether a further copy is alike; `front` reads the packet at the base, and `drop_front` lets
-//! it go and moves on. `SlotWindow` has a slot for each number, and no call takes longer the more is held;
-//! `SortedWindow` keeps its packets sorted, the plain form beside it. Only their `new` takes memory.
+//! Begin with `Merge`. `Merge::new` allocates a `SlotWindow` for it; `Merge::with_window` takes any
+//! `Window`. No later call allocates.
 //!
-//! One stream that comes in on several paths, merged into a list of marks.
+//! 1. `offer` takes each packet with its path, in the order of arrival, and returns its fate.
+//! 2. `advance` takes a clock reading and returns the next mark that is due by then. Call it again
+//!    with the same reading as long as it returns a slot: more slots may be due.
+//! 3. `close` ends the stream. `drain` then returns the remaining marks, one with each call.
 //!
-//! There are two ways to each step, with one contract. The plain one takes and answers values: `admit`,
-//! `offer`, `advance`, and after `close` `drain`. Take it wherever a packet or a mark is kept, and where
-//! speed doesn't matter: each value carries room for 1,440 octets, and is copied as it is handed on.
+//! `run_merge` does all of this for a list of events.
 //!
-//! The fast one lends: a packet's samples are copied once, from the datagram into the window's slot, and
-//! are read there. `admit_ref` makes a `PacketRef` of a datagram's view, and `offer_ref` takes it. Marks are
-//! taken to a `Goal`: `goal` tests a reading of the clock once, and after a close the goal is the end.
-//! `mark_to` lends the mark that is next on the way, and `pass_to` lets it go:
+//! These calls copy each packet and mark with room for 1,440 octets. Use them if packets or marks are
+//! kept, or if speed does not matter. The following calls have the same contracts, and copy a payload
+//! once, from the datagram to its slot in the window:
+//!
+//! - `StreamSpec::admit_ref` makes a `PacketRef` from the view of a datagram, and `offer_ref` takes
+//!   it.
+//! - `goal` checks a clock reading once. After a close the goal is the end.
+//! - `mark_to` returns a reference to the next mark on the way to the goal. `pass_to` removes that
+//!   mark, and returns whether more may follow.
+//!
+//! For example:
 //!
 //!     let goal = merge.goal(now)?;
 //!     loop { use_up(merge.mark_to(goal)); if !merge.pass_to(goal) { break; } }
 //!
-//! A `MarkRef` ends before the next `&mut` call; `to_mark` keeps it. `advance` is `goal`, `mark_to` with that
-//! copy and then `pass_to`; `drain` is the same to the end.
+//! A `MarkRef` ends before the next `&mut` call; `to_mark` copies it.
+//!
+//! A `Window` has room for `size` numbers from `base` on. `SlotWindow` has a slot for each number, so
+//! no call takes longer if more packets are held. `SortedWindow` keeps its packets sorted, and is the
+//! plain implementation to compare with. Only their `new` allocates.
 #![tactic(auto)]
 
 mod clock;

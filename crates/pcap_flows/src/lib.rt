@@ -1,16 +1,19 @@
-//! The RTP flows of a capture: which there are, what was lost of each, and which are paths of one stream.
+//! The RTP flows of a capture: which there are, which are paths of one stream, and a trace and
+//! configuration made of them.
 //!
-//! `FlowTable::of` reads a capture once and answers a `FlowTable` of its flows, in the order of their first packets, with the counts
-//! of each; `channels_that_fit` tells what fits a flow's packets. Flows of one source that share numbers are paths of one stream: `group_streams`
-//! finds them, and `skews_of` reads the capture once more for the times between them.
+//! Begin with `FlowTable`. The caller keeps the octets of the capture.
 //!
-//! The capture's octets are the caller's. Memory is taken for the table, and for the times of 16 pairs of paths at most.
+//! 1. `FlowTable::of` reads the capture once and returns its flows with their counts, in the order of
+//!    their first packets. `format_of` and `channels_that_fit` return which packet format a flow has.
+//! 2. `group_streams` finds the flows that are paths of one stream: flows of one source that share
+//!    numbers. `skews_of` reads the capture once more, for the times between paths.
+//! 3. `routes_of` decides which flow is which path of which stream.
+//! 4. `trace_text` writes the trace of the capture by these routes, and `config_text` a configuration
+//!    that fits it. The clock of a trace counts sampling instants at 48 kHz from the time of the
+//!    first datagram, and never goes back.
+//! 5. `table_text` writes a line for each flow of the table.
 //!
-//! A capture as a trace: the datagrams of its RTP flows, stream by stream and path by path, at readings of a clock.
-//!
-//! `routes_of` says which flow is which path of which stream, `trace_text` writes the trace of a capture by such routes, and
-//! `config_text` a configuration that fits it. The clock counts sampling instants at 48 kHz from the first datagram's time on,
-//! and never goes back. The capture's octets are the caller's. Memory is taken for the routes and the texts.
+//! The table, the routes, the texts and the times of up to 16 pairs of paths are allocated.
 #![tactic(auto)]
 
 mod fault;

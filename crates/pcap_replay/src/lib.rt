@@ -1,10 +1,18 @@
-//! A capture of any length, played to its report in memory that its length doesn't change.
+//! Replays a capture of any length, or the record of a live run, to its report.
 //!
-//! `scan_flows` goes over the file once, for its flows, of which `capture_import` makes routes. `replay` goes over it once more, and
-//! writes the report of the events that the capture says by these routes: those of the trace that `capture_import` writes.
-//! `record_opening` says whether a file is the record of a live run, by what stands before its first packet. `replay_record` goes over
-//! such a file once, by its interfaces and its times, up to the close that it tells, with the studio that it was a run of.
-//! A `ReplayObserver` is told of these events and of the datagrams that they give: a `WavObserver` writes them to a WAV file.
+//! Memory does not grow with the length of the capture. Each call reads the file once, from the
+//! front; the caller opens it.
+//!
+//! 1. `record_opening` returns when the studio was opened if the file is the record of a live run,
+//!    from what comes before its first packet.
+//! 2. For a record, `replay_record` reads the file, with the studio of that run, up to the close that
+//!    the record contains.
+//! 3. For any other capture, `scan_flows` finds the flows, from which `pcap_flows` makes routes.
+//!    `replay` then writes the report of the same events as in the trace that `pcap_flows` would
+//!    write.
+//!
+//! A `ReplayObserver` is called with these events and with the datagrams that they give.
+//! `WavObserver` writes the datagrams to a WAV file; `NoObserver` does nothing.
 #![tactic(auto)]
 
 mod count_lines;

@@ -1,9 +1,14 @@
-//! A trace as a picture: what each path gave to each stream, over media time.
+//! An SVG chart of a trace: what each path gave to each stream, over media time.
 //!
-//! `chart` is the whole: it reads a trace to its end as `studio_run::play` does, and writes one SVG. Each stream is watched
-//! twice: for the `Extent` of its media time, and then to fill its `Bins` and `Margins`, which count what was seen by span.
-//! Where events come one by one, as those of a capture, `StudioTracker` watches all side by side, twice as well. Their numbers
-//! beside the picture are sums over the bins; the counts below are those of the report.
+//! `chart` is the whole: it reads a trace to its end as `studio_run::play` does, and writes one SVG.
+//! Each stream is tracked twice. The first pass finds the `Extent` of its media time. The second
+//! fills its `Bins` and `Margins`, which count packets, slots and arrival margins.
+//!
+//! If events come one by one, as from a capture, a `StudioTracker` tracks all streams side by side,
+//! in two passes as well.
+//!
+//! The numbers next to a row are sums over its bins. The counts below a panel are those of the
+//! report.
 #![tactic(auto)]
 
 mod draw;

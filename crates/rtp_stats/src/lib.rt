@@ -1,23 +1,25 @@
-//! What became of the offers of one stream, path by path, and the peaks of a payload: what an operator is shown.
+//! Statistics of a stream's paths and of the mix: copies, misses, arrival margins and peaks, and the
+//! channels that carry them to another thread.
 //!
-//! `StreamTally::new` takes all memory. `add` is told each packet that was offered to the stream's merge, with
-//! the fate that it had, whichever that was; it takes some tens of instructions, and no memory. `path` and
-//! `spare` may be asked at any time: `path` for a path's counts, `spare` for how long before their deadlines its
-//! packets came in the last whole second. A number is missed by a path once the numbers of a whole window lie
-//! between it and one that was taken, so that `missed` comes as long after as a window lasts.
+//! Begin with `CopyTracker`, one for each stream. `new` allocates. `note` takes each packet that was
+//! offered to the merge of the stream, with its fate. `stats` returns the `PathStats` of a path at
+//! any time. The tracker is made of two parts:
 //!
-//! How long before its deadline a packet came is told by `Deadlines::deadline`, of its fate and timestamp, and
-//! `margin_before`: of the deadline it needs no more than the stream's next one after an epoch's first packet.
+//! - `Deadlines::deadline` returns the deadline of an offered packet, from its fate and timestamp,
+//!   and `margin_before` returns how long before the deadline it came.
+//! - `StreamTally` counts per path. `path` returns the counts, and `spare` the least and the median
+//!   arrival margin in the last whole second. A path has missed a number once the numbers of a whole
+//!   window lie between it and a number that was taken, so `missed` is late by the length of a
+//!   window.
 //!
-//! `raise_peaks` reads a payload's samples; whoever shows peaks sets them to 0 again.
+//! `raise_peaks` raises the peak of each channel to the samples of a payload. Whoever shows peaks
+//! sets them to 0 again.
 //!
-//! What becomes of a stream's packets, path by path, told through a ring while its merge goes on.
-//!
-//! A `CopyTracker` is told each packet that was offered to the merge, and what became of it; its `numbers` may be asked at any
-//! time. `stream_stats_channel` gives a `StreamStatsSender`, for whoever has the merge, and a `StreamStatsReceiver`, for whoever looks: `tell` hands
-//! the numbers on ten times a second, if there is room, and nothing waits. A `PathCountsSender` and a `PathCountsReceiver` do so for what becomes of a
-//! path's datagrams before the merge, a `MixStatsSender` and a `MixStatsReceiver` for the mix's saturated samples and its peaks. Only `new`
-//! and the calls that open take memory.
+//! A channel carries the newest statistics through a ring to another thread, at most ten times a
+//! second. No end waits: if the ring has no room, nothing is sent, and a later value takes its place.
+//! `stream_stats_channel` makes one for the statistics of a stream, `path_counts_channel` for the
+//! datagrams of a path before the merge, and `mix_stats_channel` for the saturated samples and peaks
+//! of the mix. Only `new` and these three calls allocate.
 #![tactic(auto)]
 
 mod channel;

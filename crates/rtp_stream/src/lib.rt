@@ -1,16 +1,22 @@
-//! One stream: its packets, paths, marks and counts, and the rules of reception as definitions.
+//! One stream: its parameters, packets, marks and counts, and the rules of reception as definitions.
 //!
-//! `StreamSpec::of` fixes a stream. `admit` and `admit_ref` make packets of its datagrams' views. What a
-//! list of `Event`s comes to is said in `specs`, over whole lists and unbounded numbers: the anchors and
-//! epochs (`Epochs`), the copies of each number (`Copies`), the fate of an arrival (`Fate`), the counts
-//! (`Counts`) and the marks (`Marks`). No definition mentions a window or a queue.
+//! 1. `StreamSpec::of` checks the parameters of a stream, a `Stream`. Begin there; the caller keeps
+//!    the result.
+//! 2. `StreamSpec::admit` makes a `Packet` from the view of a datagram, or returns why the datagram
+//!    is not a packet of this stream. `admit_ref` does the same with the payload left in the
+//!    datagram.
+//! 3. `receive` and `receive_ref` do step 2 from the octets of the datagram. `PathCounts` counts what
+//!    they return.
 //!
-//! `receive` and `receive_ref` take a packet of the stream out of a datagram, or say what is wrong with
-//! it; a path's `PathCounts` count these answers.
+//! The rules of reception are definitions in `specs/`, over whole lists of `Event`s and unbounded
+//! numbers: anchors and epochs (`Epochs`), the copies of each number (`Copies`), the fate of an
+//! arrival (`Fate`), the counts (`Counts`) and the marks (`Marks`). No definition mentions a window
+//! or a queue.
 //!
-//! The functions beside them decide about one packet: its place or why it has none (`place_of`, of
-//! `number_of` and `is_in_step`), whether it may be an epoch's first (`fate_of_first`, `goes_on`), and
-//! whether it completes its path's probation (`update_probation`). Merges are made of them.
+//! Merges are built from functions that decide about one packet. `place_of` returns the number of the
+//! packet or why it has none, from `number_of` and `is_in_step`. `fate_of_first` and `goes_on` decide
+//! whether the packet may begin an epoch. `update_probation` decides whether it completes the
+//! probation of its path.
 #![tactic(auto)]
 
 mod anchor;

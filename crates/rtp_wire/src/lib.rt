@@ -1,12 +1,14 @@
-//! RTP packets as they stand in a datagram, and the linear PCM samples in them.
+//! RTP datagrams: their header and payload, and the linear PCM samples in it, read and written.
 //!
-//! `read` answers the header and the payload of a datagram, or its first fault; the payload lies in the
-//! datagram, which the caller keeps. `read_samples` reads all its samples, and `sample` one. The other
-//! way, `write_head` writes a header to the front of the caller's slice, and `write_samples` the samples
-//! behind it; each answers how many octets it wrote.
+//! Begin with `read`: it returns the header and the payload of a datagram as an `RtpView`, or its
+//! first fault as a `WireFault`. The payload stays in the datagram, which the caller keeps.
+//! `read_samples` then reads all samples of a payload, and `sample` reads one.
 //!
-//! RFC 3550 (5.1 and 5.3.1) gives the header, RFC 3551 the 16-bit samples and RFC 3190 the 24-bit
-//! ones; AES67 (7.2) gives the packet times. Nothing here keeps state, takes memory or reads a socket.
+//! To write a datagram, call `write_head` with a slice, and `write_samples` with the rest of it. Each
+//! returns the number of octets that it wrote. The caller keeps the slice.
+//!
+//! The header follows RFC 3550 (5.1 and 5.3.1), 16-bit samples RFC 3551, 24-bit samples RFC 3190, and
+//! packet times AES67 (7.2). Nothing here keeps state, allocates or reads a socket.
 #![tactic(auto)]
 
 mod datagram;

@@ -1,17 +1,19 @@
-//! The operator's page: what a browser, a script and Prometheus are answered about a run.
+//! The operator's page of a run: HTML, JSON and Prometheus metrics of a snapshot, and their HTTP
+//! server on 127.0.0.1.
 //!
-//! The caller keeps a `Page` with the newest `Snapshot` of the run, and for each client a connection that `new_connection` makes. Once
-//! octets came it calls `read_from` and `answer`, and while the connection `wants_write` then `write_to` and `answer`; it lets
-//! the connection go once that `is_done`. Nothing here reads, writes or waits.
+//! - **What is shown**: `Snapshot` holds everything. `StreamField`, `PathField` and `OutputField`
+//!   list its numbers with their keys, once for JSON and metrics. `SignalPresence` decides when a
+//!   stream counts as lost.
+//! - **Without sockets**: the caller keeps a `Page` with the newest snapshot, and for each client a
+//!   connection from `new_connection`. After octets came, call `read_from` and `Page::answer`. As
+//!   long as the connection `wants_write`, call `write_to` and `answer`. Drop the connection once it
+//!   `is_done`. The page is at `/`, `state_json` at `/state`, and `metrics_text` at `/metrics`.
+//! - **With sockets**: `PageServer::bind` listens on 127.0.0.1, and each `turn` waits for sockets and
+//!   responds from the page. `serve_page` does so in a thread of its own, and takes a newer snapshot
+//!   from its `SnapshotSource` before each turn.
 //!
-//! `/` answers the page itself, `/state` the snapshot as JSON (`state_tokens`), `/metrics` the same in the text form of
-//! Prometheus (`metrics_text`). A `SignalPresence` for each stream tells its condition. `PathField`, `StreamField` and `OutputField` name each number for both.
-//!
-//! The page on a port of this machine: sockets, and whose turn it is.
-//!
-//! `PageServer::bind` listens at 127.0.0.1. Its `turn` waits for sockets and answers what came from a page's snapshot; `serve_page` does so
-//! again and again in a thread of its own, and asks a `SnapshotSource` for what is newer before each. Nothing waits for that thread: a client
-//! that reads nothing waits alone, and is dropped after a while, as is each past the 64th.
+//! Nothing else waits for the server's thread. A client that reads nothing delays only itself. It is
+//! dropped after ten seconds, and so is every client beyond the 64th.
 #![tactic(auto)]
 
 mod condition;

@@ -1,7 +1,8 @@
-//! Times the kernels that carry the load, each by its word, and plays a trace through an engine; without words it
-//! writes nothing.
+//! Benchmarks: times the kernels that carry the load, and plays a trace through an engine.
 //!
-//! The scripts in `bench/` build it for a processor, run it beside C and compare; `diff/run engine` compares with `play`.
+//! Its first word selects a kernel; without words it writes nothing. The scripts in `bench/` build it
+//! for a processor, run it next to C and compare. `diff/run engine` compares its word `engine` with
+//! the program's `play`.
 #![tactic(auto)]
 
 mod datagrams;

@@ -1,8 +1,12 @@
-//! What is fixed of a studio before anything happens: its streams, output, gains, ports and addresses.
+//! The configuration of a studio, its streams, output, gains, ports and addresses, and the reader of
+//! its TOML text.
 //!
-//! `StudioSpec::new` joins parts that were made one by one, with no port or address known. `from_table` reads
-//! them from a parsed TOML table, or answers the first fault by its table and key. What either gives
-//! keeps that gains fit streams and output, and the crates above take it by reference. `shifted` moves its times.
+//! Begin with `StudioSpec`. `StudioSpec::from_table` reads a parsed TOML table, or returns its first
+//! fault as a `SpecError` with its table and key. `StudioSpec::new` joins parts that were made one by
+//! one; ports and addresses are then unknown. In every `StudioSpec` the gains fit the streams and the
+//! output. The caller keeps it, and the crates above borrow it.
+//!
+//! `shifted` moves the studio to another opening time.
 #![tactic(auto)]
 
 mod config;

@@ -1,13 +1,23 @@
-//! The ends of a studio's rings: each path, each stream and the mixer in a thread of its own.
+//! The ends of a studio's rings: one per path, per stream and for the mixer, each for a thread of its
+//! own.
 //!
-//! `open` takes all memory and gives the ends. Of a path: `offer` each datagram, and at the end `finish`,
-//! which gives the proof of it. Of a stream: a `turn` for each reading of the clock, and
-//! before the first of a stream by the arrival clock `read_clock`, whose reading is then the first packet's
-//! time; at the end `path_done` with each path's proof, `close` until it is `Ok` (turns take what is left),
-//! `drain_turn` until it is true, and `finish`. Of the mixer: a `turn` with room for a datagram, again and again; at
-//! the end `stream_done` with each stream's proof, and turns until `settled` is true and one gives
-//! nothing. Of a monitor: `next`. `open_with_stats` gives `StatsReceivers` besides, which tell what becomes of each path's packets. The caller sees that a proof goes to the ends it was opened with.
-//! `studio_workers` does all of this in threads.
+//! `open` allocates and returns the ends; `open_with_stats` also returns `StatsReceivers`, which
+//! receive the statistics of paths and mix. No call of an end allocates or waits.
+//!
+//! - **`PathEnd`**: `offer` takes each datagram. `finish` ends the path and returns its token, a
+//!   `PathDone`.
+//! - **`StreamEnd`**: `turn` takes a clock reading, moves packets to the merge and marks to the
+//!   mixer. By the arrival clock, call `read_clock` before the first `turn`: its reading is the time
+//!   of the first packet. At the end: `path_done` with the token of each path; `close` until it
+//!   returns `Ok`, with a `turn` in between; `drain_turn` until it returns `true`; `finish`, which
+//!   returns the token of the stream, a `StreamDone`.
+//! - **`MixEnd`**: `turn` writes the next datagram if its block is ready. At the end: `stream_done`
+//!   with the token of each stream, then `turn` until `settled` returns `true` and a turn writes
+//!   nothing.
+//! - **`MonitorEnd`**: `next` returns the counts of a stream's turns.
+//!
+//! The caller makes sure that a token goes to the ends it was opened with. `run_workers` of
+//! `studio_rings` makes all these calls in threads.
 #![tactic(auto)]
 
 mod drain;

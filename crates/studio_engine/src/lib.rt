@@ -1,11 +1,15 @@
-//! A studio as one object: datagrams and readings of the clock go in, datagrams come out. It has no thread,
-//! no socket and no list.
+//! A studio as one object without I/O: datagrams and clock readings go in, datagrams come out.
 //!
-//! `Engine::new` takes all memory. `arrive` takes a datagram of a stream that came on a path, and answers what
-//! became of it. `turn` takes a reading, moves all merges on to it, and gives the next datagram; it is called
-//! with the same reading until it answers none, for until then nothing else is taken. `next_deadline` is the
-//! reading before which no datagram comes if nothing arrives. After `close`, `drain` gives what is left, and
-//! once it answers none the engine is `settled`, and its counts are whole.
+//! Begin with `Engine`. `Engine::new` allocates; no later call does. The engine has no thread, no
+//! socket and no list of events.
+//!
+//! 1. `arrive` takes a datagram of a stream with its path, and returns what became of it.
+//! 2. `turn` takes a clock reading, moves all merges to it, and writes the next datagram. Call it
+//!    with the same reading until it returns `None`: until then it takes nothing else.
+//!    `next_deadline` returns the reading before which no datagram comes if nothing arrives.
+//! 3. `close` ends all streams. `drain` then writes the remaining datagrams, until it returns `None`.
+//!
+//! Afterwards the engine is `settled`, and its counts are complete.
 #![tactic(auto)]
 
 mod deadline;

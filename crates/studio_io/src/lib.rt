@@ -1,8 +1,15 @@
-//! What a run is handed, and what it answers.
+//! What a run is given and returns: the traits `Feed`, `Clock` and `Sink`, and the report.
 //!
-//! A caller hands a run a `Feed` for each path, which gives its datagrams, a `Clock` and a `Sink`, which takes the mix; a
-//! run in threads has a clock for each stream. It answers a `WorkReport`, or the `WorkFault` for which it did not begin.
-//! Each device may tell what it is known to give next, or was handed: that is what a run's promises speak of.
+//! The caller of a run passes
+//!
+//! - a `Feed` for each path, which returns its datagrams;
+//! - a `Clock`, or one for each stream if the run has a thread per stream;
+//! - a `Sink`, which takes the datagrams of the mix.
+//!
+//! The run returns a `WorkReport`, or the `WorkFault` for which it did not begin.
+//!
+//! A feed or a clock may state what it will return, and a sink what it was given. The contracts of a
+//! run are about feeds, clocks and sinks that do so. `MemoryFeed`, `MemoryClock` and `MemorySink` do.
 #![tactic(auto)]
 
 mod clock;

@@ -1,9 +1,9 @@
-//! The program's commands: to run a studio live, and those over files.
+//! The program `darbexum`: the live command, exit statuses and the host's files.
 //!
-//! `run` is the whole: from the words of a command line to its exit status. Where configurations, captures and WAV files lie is the
-//! caller's: it hands in `Files`.
-//!
-//! The program, over the host's words, files and streams.
+//! `main` collects the words of the command line. `run` is the whole after that: it parses the words
+//! by `command_line`, runs the command, and returns the exit status. `file_commands` runs a command
+//! over files, and `run_live_config` the live command. A `ProgramFault` has the line and the exit
+//! status of every fault. `HostFiles` opens files by path.
 #![tactic(auto)]
 
 mod fault;

@@ -1,12 +1,17 @@
-//! The streams of a studio, their gains and the packets of its output, joined block by block.
+//! The mixer over all streams of a studio: their marks go in, and the datagrams of the output come
+//! out.
 //!
-//! `Mixer::new` takes all memory. Then, in any order of the streams: while the mixer `wants` a mark of a
-//! stream, take that stream's next one and `feed` it, where the mixer `accepts` it. `next_block` writes
-//! the next datagram to the front of the caller's slice once every stream is final to its block's end,
-//! and else changes nothing. After all streams have ended it gives the blocks that are left, and then
-//! none.
+//! `Mixer::new` allocates; no later call does. The streams may take turns in any order:
 //!
-//! A mixer of `Mixer::with_room` also keeps marks before they are wanted: by `keep_ref`, where it `has_room`.
+//! 1. As long as the mixer `wants` a mark of a stream, take the next mark of that stream and `feed`
+//!    it if the mixer `accepts` it.
+//! 2. `next_block` writes the next datagram to the front of the caller's slice once every stream is
+//!    final to the end of its block. Until then it changes nothing and returns `None`.
+//!
+//! After all streams have ended, `next_block` writes the blocks that are left.
+//!
+//! `Mixer::with_room` makes a mixer that also takes marks before they are wanted: `keep_ref` takes a
+//! mark if the mixer `has_room` for it.
 #![tactic(auto)]
 
 mod interleave;

@@ -1,17 +1,21 @@
-//! What each worker of a studio does by itself, in whatever thread it runs.
+//! Runs a studio in threads: one worker per path, one per stream and one for the mixer.
 //!
-//! `run_path` sends what a path's feed gives until it ends, and comes to the token of its ring. A `ClockedStream` is a stream's
-//! end with its clock: each `turn` goes by the greatest answer so far, and `try_close` closes it once all that its paths
-//! sent was taken. `run_mixer` hands the sink each datagram that the mixer gives, and `settle` says whether all that the
-//! streams' tokens tell came to it. `studio_workers` runs them side by side.
+//! 1. `studio_ends::open` returns the ends of the rings. Take the monitors' ends out of them if
+//!    counts are to be read during the run.
+//! 2. `run_workers` takes the ends, a `Feed` for each path, stream by stream and path by path, a
+//!    `Clock` for each stream, and a `Sink`. It returns once every feed has ended and every datagram
+//!    was sent, with a `WorkReport` and the sink.
 //!
-//! The workers of a studio: a thread for each path, each stream and the mixer.
+//! If the report is `settled`, the sink was given the datagrams of exactly the ready blocks.
 //!
-//! `studio_ends::open` gives the ends. `run_workers` takes them with a `Feed` for each path, stream by
-//! stream and path by path, a `Clock` for each stream, and a `Sink`. It returns once every feed has ended
-//! and every datagram was sent, with a report and the sink. Where the report is `settled`, the sink was
-//! handed the datagrams of exactly the ready blocks of the streams' marks. A caller that wants counts on
-//! the way takes the monitors' ends out before. The tests are those of `studio_uses`.
+//! Each worker is also a function or type of its own, for callers that start threads themselves:
+//!
+//! - `run_path` offers what a feed returns until the feed ends, and returns the token of the path's
+//!   ring.
+//! - `ClockedStream` is the end of a stream with its clock. `turn` goes to the greatest clock reading
+//!   so far, and `try_close` closes the stream once everything that its paths sent was taken.
+//! - `run_mixer` passes each datagram of the mixer to the sink. `is_settled_with` returns whether
+//!   everything that the streams' tokens report reached the mixer.
 #![tactic(auto)]
 
 mod jobs;

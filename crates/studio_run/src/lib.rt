@@ -1,10 +1,18 @@
-//! What happens to the streams of a studio, read from a trace, and the texts of what came of it.
+//! The texts of a studio: traces are read, and listings and reports are written from them.
 //!
-//! `list_marks` and `play` are the whole: from a reader's octets to a writer's. They read to the end and
-//! find the first fault, and all memory is taken before the first write. `list_marks_and_counts` writes
-//! the counts to a second writer after the listing. Their parts stand beside them: `read_text` and `read_all`,
-//! `TracedEvents` and `runnable_events` (the events of a text by their places), and the lines through a `TextBuffer`,
-//! whose `finish` writes what is held at the end. The types of a studio and of its run are named here again.
+//! `list_marks` and `play` are the whole, from the octets of a reader to those of a writer. They read
+//! to the end, find the first fault and allocate everything before the first write.
+//! `list_marks_and_counts` also writes the counts, to a second writer, after the listing.
+//!
+//! Their parts are exported for other commands:
+//!
+//! - `read_text` and `read_all` read the octets of a trace; `read_trace` returns its events.
+//! - `TracedEvents` and `runnable_events` return the events of a text by index.
+//! - `write_mark`, `write_datagram` and the like write one line each to a `TextBuffer`, whose
+//!   `finish` writes what it still holds.
+//!
+//! This crate also exports the types of a studio and of its run, so a program that runs one offline
+//! needs no other import.
 #![tactic(auto)]
 
 mod buffer;

@@ -1,12 +1,22 @@
-//! A studio on one thread: the events of a session, and the datagrams and counts that come of them.
+//! A studio run offline, in one thread: from a list of events to its datagrams and counts.
 //!
-//! `run_studio` is the whole: from a list of events to all datagrams and counts, in memory. Its parts
-//! serve where there is no room for lists. An `EventSource` gives events by place. `first_fault` says
-//! which of them is at fault, if one is; then `Session::new` takes all memory. `next_datagram` is called
-//! until it answers none, and `into_cursors` gives each stream's cursor for its counts, after
-//! `finish_stream`. Where events come one by one, cursors are handed each by `push_datagram` and its like,
-//! and `pull_marks` hands on what it gives. For marks in place of datagrams, `studio_cursors` gives a cursor
-//! for each stream, which lends its marks.
+//! `run_studio` is the whole: it returns all datagrams and counts in memory. If there is no memory
+//! for lists, use its parts in this order:
+//!
+//! 1. An `EventSource` returns events by index, and stays with the caller. `EventList` is one in
+//!    memory.
+//! 2. `first_fault` returns the first event at fault, if there is one.
+//! 3. `Session::new` allocates; no later call does.
+//! 4. `Session::next_datagram` writes the next datagram. Call it until it returns `None`.
+//! 5. `Session::into_cursors` returns a `Cursor` for each stream. `finish_stream` brings its counts
+//!    to the end.
+//!
+//! If events come one by one, give each to every cursor: the cursor of its stream takes a datagram by
+//! `push_datagram` and the others `skip` it; all take a reading by `push_reading` and a close by
+//! `push_close`. `pull_marks` then passes the marks of a cursor on.
+//!
+//! For marks instead of datagrams, `studio_cursors` returns a cursor for each stream, which returns
+//! references to the marks.
 #![tactic(auto)]
 
 mod cursor;

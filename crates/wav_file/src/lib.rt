@@ -1,17 +1,16 @@
-//! A WAV file of linear PCM samples, written as they come: RIFF WAVE, and RF64 past 4 GiB.
+//! WAV and RF64 files of PCM samples, written as they come: of the mix, or of one stream.
 //!
-//! `WavWriter::begin` writes the head, with room for the sizes of a long file; `push` the samples of a packet's
-//! payload; and `finish` the sizes, over the head. After a failed `push` call `finish_partial`: it sets the sizes to those of
-//! the payloads before. The writer is the caller's, lent to each call: any `Overwrite`, as a `SeekFile` of what seeks.
-//! Nothing here takes memory.
+//! - `play_to_wav` reads a trace to its end as `studio_run::play` does, creates the file with the
+//!   caller's `CreateFile`, and writes the report and the samples of its datagrams. `write_mix_wav`
+//!   does the same for events, to a file that exists.
+//! - `list_to_wav` writes a listing as `studio_run::list_marks` does, and before it the samples of
+//!   one stream, by `write_stream_wav`.
+//! - `WavWriter` is the writer below both. `begin` writes the header with room for the sizes of a
+//!   file beyond 4 GiB, `push` the samples of a payload, and `finish` the sizes. If `push` fails,
+//!   call `finish_partial`: it sets the sizes to those of the whole payloads before.
 //!
-//! A studio's report or listing, with a WAV file of its mix or of one stream beside it.
-//!
-//! `play_to_wav` is the whole: it reads a trace to its end as `studio_run::play` does, then makes the file through
-//! the caller's `CreateFile`, and writes the report's datagrams and their samples side by side. `write_mix_wav` does so of
-//! events, to a file that was made. After a fault of a writer the file's sizes are those of its whole payloads.
-//! `list_to_wav` writes a listing as `studio_run::list_marks` does, and before it the samples of one stream, by
-//! `write_stream_wav`.
+//! The caller keeps the file, an `Overwrite`. `SeekFile` makes one of any file that seeks.
+//! `WavWriter` does not allocate.
 #![tactic(auto)]
 
 mod fault;

@@ -1,8 +1,8 @@
-//! Tests of reception: worked cases over the public calls of the crates from `rtp_wire` to `lane_align`.
+//! Tests of reception, of a live run's record and of statistics: worked cases over public calls.
 //!
-//! Tests of a live run's record: its octets as `capture_write` writes them, and what `capture_read` tells of them.
-//!
-//! Tests of a stream's tally and of peaks: their calls one by one.
+//! - `tests`: reception, over the crates from `rtp_wire` to `lane_align`.
+//! - `record_tests`: the octets of a record as `pcap_file` writes them, and what it reads in them.
+//! - `tally_tests`: the statistics of `rtp_stats`, call by call.
 #![tactic(auto)]
 
 #[cfg(test)]

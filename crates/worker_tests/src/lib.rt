@@ -1,6 +1,7 @@
-//! Tests of a studio's rings and of a run: worked cases over the public calls from `studio_run` to `engine_run`.
+//! Tests of a studio over rings, of a run and of its page: worked cases over public calls.
 //!
-//! Tests of the operator's page, octet by octet.
+//! - `tests`: the crates from `studio_run` to `engine_run`.
+//! - `page_tests`: the operator's page, octet by octet.
 #![tactic(auto)]
 
 #[cfg(test)]
