@@ -144,7 +144,7 @@ def owners_in(text):
 
 
 def lines_above(text, place):
-    """The attributes and the `///` lines that stand right above a place."""
+    """The attributes and the `///` lines right above a place. A `//` line among them is a reason, and is left out."""
     attributes, sentence = [], []
     for line in reversed(text[:place].splitlines()):
         line = line.strip()
@@ -152,7 +152,7 @@ def lines_above(text, place):
             sentence.insert(0, line[3:].strip())
         elif line.startswith("#["):
             attributes.append(line)
-        else:
+        elif not line.startswith("//"):
             break
     return attributes, sentence
 
