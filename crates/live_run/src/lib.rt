@@ -9,8 +9,8 @@
 //! - `launch` opens sockets and status, and calls one of the two forms with a `RunContext`.
 //! - `workers` is the form with a thread for each path and stream and one for the mix,
 //!   `run_in_workers`.
-//! - `single_thread` is the form with an engine in one thread, `run_in_one_thread`. It waits for its
-//!   sockets by their readiness, and may write a record in another thread.
+//! - `single_thread` is the form with an engine in one thread, `run_in_one_thread`. It waits by
+//!   poll(2) until a socket has a datagram. If a record is asked for, another thread writes it.
 //! - `report` writes the text of the final report.
 //! - `supervisor` is the thread that ends the feeds, as the options say or on a pending signal that
 //!   was blocked at the start, and runs the status task (`run_supervised`).

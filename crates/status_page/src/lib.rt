@@ -2,10 +2,10 @@
 //! server on 127.0.0.1.
 //!
 //! - **What is shown**: `Snapshot` holds everything. `StreamField`, `PathField` and `OutputField`
-//!   list its numbers with their keys, once for JSON and metrics. `SignalPresence` decides when a
+//!   list its numbers with their keys, for both JSON and metrics. `SignalPresence` decides when a
 //!   stream counts as lost.
 //! - **Without sockets**: the caller keeps a `Page` with the newest snapshot, and for each client a
-//!   connection from `new_connection`. After octets came, call `read_from` and `Page::answer`. As
+//!   connection from `new_connection`. After octets arrived, call `read_from` and `Page::answer`. As
 //!   long as the connection `wants_write`, call `write_to` and `answer`. Drop the connection once it
 //!   `is_done`. The page is at `/`, `state_json` at `/state`, and `metrics_text` at `/metrics`.
 //! - **With sockets**: `PageServer::bind` listens on 127.0.0.1, and each `turn` waits for sockets and
