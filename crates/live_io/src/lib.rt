@@ -4,8 +4,8 @@
 //! 1. `LivePorts::of` finds the ports that a studio needs, or returns the first that is missing.
 //!    `addresses_of` returns the addresses of each path, and `InheritedSockets::from_env` the sockets
 //!    that systemd passed in.
-//! 2. `tai_now` returns the time at which a studio opens by International Atomic Time. `RunPeriod`
-//!    has the clock of the run, and decides when the feeds end.
+//! 2. `tai_now` returns the present International Atomic Time, at which a studio can be opened.
+//!    `RunPeriod` has the clock of the run, and decides when the feeds end.
 //! 3. `open_sockets` binds a socket for each path and two for the output, except those that are
 //!    inherited. `udp_feeds` makes a `Feed` of each receiving socket. `UdpSink` is the `Sink` of the
 //!    two sending sockets.

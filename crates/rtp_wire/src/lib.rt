@@ -1,4 +1,4 @@
-//! RTP datagrams: their header and payload, and the linear PCM samples in it, read and written.
+//! RTP datagrams, read and written: their header, their payload and its linear PCM samples.
 //!
 //! Begin with `read`: it returns the header and the payload of a datagram as an `RtpView`, or its
 //! first fault as a `WireFault`. The payload stays in the datagram, which the caller keeps.

@@ -11,8 +11,7 @@
 //! - `write_mark`, `write_datagram` and the like write one line each to a `TextBuffer`, whose
 //!   `finish` writes what it still holds.
 //!
-//! This crate also exports the types of a studio and of its run, so a program that runs one offline
-//! needs no other import.
+//! This crate also exports the types of a studio and of its run.
 #![tactic(auto)]
 
 mod buffer;
