@@ -4,6 +4,7 @@ A line holds the crate, how many edits it has, how many of them were refused, th
 the crates below it show to it. While both hold, no edit of the crate can have become provable.
 """
 import hashlib
+import re
 import sys
 from functools import cache
 from pathlib import Path
@@ -13,6 +14,7 @@ sys.path.insert(0, str(Path(__file__).resolve().parent.parent / "docs"))
 import sources
 
 FILE = Path(__file__).resolve().parent / "refused.txt"
+TOKEN = re.compile(r"[\w']+|[^\w\s]")
 HEAD = "# crate, edits, refused, date, checksum of the crate, checksum of what the crates below show: written by make mutants"
 
 
@@ -32,8 +34,10 @@ def sum_of(parts):
 
 
 def code(text):
-    """A text without comments and layout, so that changes of these cost no new try."""
-    return " ".join(" ".join(sources.code_lines(text)).split())
+    """The tokens of a text without comments, so that a change of comments or layout costs no new try."""
+    tokens = TOKEN.findall("\n".join(sources.code_lines(text)))
+    # A list that is broken over lines has a comma more.
+    return " ".join(token for token, after in zip(tokens, [*tokens[1:], ""]) if token != "," or after not in (")", "]", "}"))
 
 
 def edit(text):
