@@ -1,4 +1,4 @@
-//! The lines of streams and paths, of the output and its copies, and of the gains.
+//! The summary of a configuration: lines for its streams and their paths, the output and its copies, and the gains.
 use gain_mix::Matrix;
 use mix_packets::OutSpec;
 use rtp_stream::{Path, StreamClock, StreamSpec};
@@ -8,7 +8,8 @@ use std::io::Write;
 use std::net::Ipv4Addr;
 use studio_config::{Networks, OutputAddresses, Ports, StudioSpec};
 
-/// Writes a line for each stream and its paths, one for the output and its copies, and the gains by time.
+/// Writes a line for each stream and each of its paths, for the output and each of its copies, and the gains with the
+/// times from which they are in force. Returns the writer's error if a write fails.
 pub fn write_summary<W: Write>(studio: &StudioSpec, output: &mut W) -> io::Result<()> {
     for (number, stream) in studio.streams().iter().enumerate() {
         write_stream(number, stream, output)?;
@@ -26,12 +27,14 @@ pub fn write_summary<W: Write>(studio: &StudioSpec, output: &mut W) -> io::Resul
     Ok(())
 }
 
-/// Sampling instants at 48 kHz as milliseconds, and thousandths of one.
+/// Returns sampling instants at 48 kHz as whole milliseconds, and the rest in microseconds, rounded down.
 fn millis(instants: u64) -> (u64, u64) {
+    // 1,000,000 / 48,000 microseconds for each instant, in lowest terms.
     let micros = instants.saturating_mul(125) / 6;
     (micros / 1000, micros % 1000)
 }
 
+/// Writes the line of a stream.
 fn write_stream<W: Write>(number: usize, stream: &StreamSpec, output: &mut W) -> io::Result<()> {
     let enc = name_of(stream.enc());
     let (channels, frames, pt) = (stream.channels(), stream.frames(), stream.pt());
@@ -45,7 +48,7 @@ fn write_stream<W: Write>(number: usize, stream: &StreamSpec, output: &mut W) ->
     write_wait(stream, output)
 }
 
-/// The one source of a stream's packets, if one is said.
+/// Writes the source (SSRC) that a stream's packets must have, or that it takes any source.
 fn write_source<W: Write>(ssrc: Option<u32>, output: &mut W) -> io::Result<()> {
     match ssrc {
         Some(ssrc) => write!(output, ", source {ssrc}"),
@@ -53,7 +56,7 @@ fn write_source<W: Write>(ssrc: Option<u32>, output: &mut W) -> io::Result<()> {
     }
 }
 
-/// By which clock media times are counted.
+/// Writes the clock by which media times are counted.
 fn write_clock<W: Write>(clock: StreamClock, output: &mut W) -> io::Result<()> {
     match clock {
         StreamClock::Media { offset } => write!(output, ", media clock, offset {offset}"),
@@ -61,7 +64,7 @@ fn write_clock<W: Write>(clock: StreamClock, output: &mut W) -> io::Result<()> {
     }
 }
 
-/// How long packets are waited for, and how many may be held.
+/// Writes how long a stream waits for packets, and how many it may hold.
 fn write_wait<W: Write>(stream: &StreamSpec, output: &mut W) -> io::Result<()> {
     let (latency, window) = (stream.latency(), stream.window());
     let (wait, wait_us) = millis(u64::from(latency));
@@ -72,7 +75,7 @@ fn write_wait<W: Write>(stream: &StreamSpec, output: &mut W) -> io::Result<()> {
     )
 }
 
-/// The ports of a stream's paths, each in a line, with the address where one is said.
+/// Writes a line for each path of a stream: its port, and its addresses if the configuration has them.
 fn write_paths<W: Write>(
     number: usize,
     paths: u8,
@@ -85,6 +88,7 @@ fn write_paths<W: Write>(
         .enumerate()
         .take(usize::from(paths))
     {
+        // Never none: `Path::new` takes the places of the four names.
         let Some(path) = Path::new(place as u8) else {
             return Ok(());
         };
@@ -97,7 +101,8 @@ fn write_paths<W: Write>(
     Ok(())
 }
 
-/// A path's port, and the addresses at which and from which it takes packets, where they are said.
+/// Writes a path's port, and, if the configuration has them, the address to which its packets come and the source
+/// address that they must have.
 fn write_path<W: Write>(
     name: &str,
     port: Option<u16>,
@@ -114,6 +119,7 @@ fn write_path<W: Write>(
     writeln!(output)
 }
 
+/// Writes the line of the output.
 fn write_output<W: Write>(spec: &OutSpec, output: &mut W) -> io::Result<()> {
     let enc = name_of(spec.enc());
     let (channels, frames, pt) = (spec.channels(), spec.frames(), spec.pt());
@@ -126,7 +132,8 @@ fn write_output<W: Write>(spec: &OutSpec, output: &mut W) -> io::Result<()> {
     )
 }
 
-/// The ports of the output's copies, each in a line, with what is said of its addresses.
+/// Writes a line for each copy of the output that has a port: the port, its addresses and the time to live, if the
+/// configuration has them.
 fn write_copies<W: Write>(
     ports: &Ports,
     senders: &OutputAddresses,
@@ -150,7 +157,7 @@ fn write_copies<W: Write>(
     Ok(())
 }
 
-/// An address behind a word, if there is one.
+/// Writes a word and an address, or nothing if there is no address.
 fn write_address<W: Write>(
     word: &str,
     address: Option<Ipv4Addr>,
@@ -162,9 +169,10 @@ fn write_address<W: Write>(
     }
 }
 
-/// A line for each output channel, with a gain for each input channel; 65536 is one.
+/// Writes a line for each output channel, with a gain for each input channel in units of 1/65,536.
 fn write_gains<W: Write>(matrix: &Matrix, output: &mut W) -> io::Result<()> {
     for (place, gain) in matrix.gains().iter().enumerate() {
+        // A matrix has at least one input. `max` shows that the divisor is not 0.
         let first = place % matrix.ins().max(1) == 0;
         if first && place > 0 {
             writeln!(output)?;
@@ -175,6 +183,7 @@ fn write_gains<W: Write>(matrix: &Matrix, output: &mut W) -> io::Result<()> {
     writeln!(output)
 }
 
+/// Returns an encoding's name, as configurations write it.
 fn name_of(enc: Enc) -> &'static str {
     match enc {
         Enc::L16 => "L16",

@@ -1,4 +1,4 @@
-//! The faults of a command over files: their lines and exit statuses.
+//! The faults of a command over files, with their lines on standard error and their exit statuses.
 use pcap_file::{CaptureFault, ReaderFault};
 use pcap_flows::ImportFault;
 use pcap_replay::ReplayFault;
@@ -9,77 +9,80 @@ use studio_run::{PlayFault, SpecError, StudioFault, WriteFault};
 use thiserror::Error;
 use wav_file::{FileFault, StreamWavFault};
 
-/// The fault that ended a command before it wrote all of its text.
+/// The fault that ended a command over files. Its `Display` is the fault's line, without the path that precedes a
+/// fault of a file: the command writes that to `faults` itself.
 #[derive(Debug, Drop, Error)]
 pub enum CommandFault {
-    /// The name of a path is no address and port.
+    /// A word of `--path` is not an IPv4 address and a port.
     #[error("usage: a path is not ADDRESS:PORT")]
     Address,
-    /// The stream of a WAV file is named by no number.
+    /// The STREAM of `--wav` is not a number from 0 to 255.
     #[error("usage: STREAM is not a number from 0 to 15")]
     StreamNumber,
-    /// The configuration is at fault.
+    /// The configuration was not read, or has a fault.
     #[error("{0}")]
     Config(ConfigFault),
-    /// A trace was not run.
+    /// A trace was not run to its end, or its text was not written.
     #[error("{0}")]
     Play(#[from] PlayFault),
-    /// The capture is at fault.
+    /// A capture was not read, or has a fault.
     #[error("{0}")]
     Capture(CaptureInputFault),
-    /// A capture was not replayed to its end.
+    /// A capture was not replayed to its end, or its report was not written.
     #[error("{0}")]
     Replay(#[from] ReplayFault),
-    /// No WAV file is written of a stream, after the file's path.
+    /// The studio has no such stream, or the stream has too many channels for a WAV file. The file's path was written
+    /// to `faults`.
     #[error("{0}")]
     StreamWav(StreamWavFault),
-    /// A WAV file was not made or not written, after its path.
+    /// A WAV file or a chart was not created or not written. The file's path was written to `faults`.
     #[error("{0}")]
     Wav(FileFault),
-    /// Memory was refused.
+    /// An allocation failed.
     #[error("out of memory")]
     Memory,
-    /// The output took only a part of the text.
+    /// A write to the output failed, or took no octet. The output has a prefix of the text.
     #[error("device: write")]
     Write,
 }
 
-/// Why a configuration says no studio.
+/// The fault of a configuration.
 #[derive(Clone, Copy, Debug, PartialEq, Eq, Error)]
 pub enum ConfigFault {
-    /// It could not be read.
+    /// The configuration could not be read.
     #[error("device: config")]
     Unread,
-    /// It has more than 1,048,576 octets.
+    /// The configuration has more than 1,048,576 octets.
     #[error("config: too long")]
     TooLong,
-    /// It is no TOML, or no text.
+    /// The configuration is not TOML, or not UTF-8.
     #[error("config: not TOML")]
     NotToml,
-    /// Its first fault as a studio.
+    /// The configuration's first fault as a studio.
     #[error("config {0}")]
     Studio(SpecError),
 }
 
-/// Why a capture was not told to its end.
+/// The fault of a capture.
 #[derive(Clone, Copy, Debug, PartialEq, Eq, Error)]
 pub enum CaptureInputFault {
-    /// It could not be read.
+    /// The capture could not be read.
     #[error("device: capture")]
     Unread,
-    /// It has more octets than a trace may have.
+    /// The capture has more than 67,108,864 octets, as many as a trace may have. `replay` has no such limit.
     #[error("capture: too long")]
     TooLong,
-    /// Its first fault.
+    /// The capture's first fault in its format, with the octet at which it is.
     #[error("capture {0}")]
     Octet(CaptureFault),
-    /// It gives no trace, or no configuration.
+    /// No trace or no configuration can be made from the capture.
     #[error("capture: {0}")]
     Import(ImportFault),
 }
 
 impl CommandFault {
-    /// The exit status of the program.
+    /// Returns the exit status of the program: 1 for a fault of a trace, an event or a capture, 2 for one of the
+    /// command line, 3 for one of the configuration, 4 if an allocation failed, and 5 if a read or a write failed.
     pub fn status(&self) -> u8 {
         match self {
             CommandFault::Address | CommandFault::StreamNumber | CommandFault::StreamWav(_) => 2,
@@ -114,8 +117,9 @@ impl From<WriteFault> for CommandFault {
 }
 
 impl From<SpecError> for CommandFault {
-    /// What is wrong with a studio, or want of memory.
+    /// Returns `Memory` if an allocation failed, or else the configuration's fault.
     fn from(fault: SpecError) -> CommandFault {
+        // A `SpecError` of kind `Memory` is no fault of the configuration: its status is 4, not 3.
         match fault.kind {
             SpecErrorKind::Memory => CommandFault::Memory,
             _ => CommandFault::Config(ConfigFault::Studio(fault)),
@@ -129,7 +133,7 @@ impl From<ReaderFault> for CommandFault {
     }
 }
 
-/// What a write to the output came to.
+/// Returns `CommandFault::Write` if a write to the output failed.
 pub fn output_result(write: io::Result<()>) -> Result<(), CommandFault> {
     match write {
         Ok(()) => Ok(()),
@@ -137,7 +141,7 @@ pub fn output_result(write: io::Result<()>) -> Result<(), CommandFault> {
     }
 }
 
-/// The exit status of a trace that was not run.
+/// Returns the exit status for a trace that was not run to its end.
 fn play_status(fault: &PlayFault) -> u8 {
     match fault {
         PlayFault::Memory | PlayFault::Run(StudioFault::Memory(_)) => 4,
@@ -146,7 +150,7 @@ fn play_status(fault: &PlayFault) -> u8 {
     }
 }
 
-/// The exit status of a capture that was not replayed to its end.
+/// Returns the exit status for a capture that was not replayed to its end.
 fn replay_status(fault: &ReplayFault) -> u8 {
     match fault {
         ReplayFault::Memory | ReplayFault::Capture(ReaderFault::Memory) => 4,

@@ -1,4 +1,4 @@
-//! A capture as a trace, and the configuration that fits it.
+//! The command `import`: a capture as a trace, or the configuration that fits it.
 use crate::fault::{CaptureInputFault, CommandFault};
 use crate::files::Files;
 use crate::streams_command::{capture_of, own_fault};
@@ -9,8 +9,8 @@ use std::io::Write;
 use std::net::SocketAddrV4;
 use studio_run::write_text;
 
-/// Writes the trace of the capture at a path, or the configuration that fits it. A fault of the capture comes behind them.
-/// How many flows were left out is told where faults go.
+/// Writes the trace of the capture at a path, or the configuration that fits it. If some flows were left out, it writes
+/// their number to `faults`. A fault of the capture itself is returned after that, since the packets before it count.
 pub fn run_import<C: Files, W: Write, E: Write>(
     files: &C,
     alloc: Global,
@@ -26,12 +26,13 @@ pub fn run_import<C: Files, W: Write, E: Write>(
     let routes = routed(alloc, &table, names.as_slice())?;
     write_import(alloc, &table, octets, &routes, options, output)?;
     if routes.left_out() > 0 {
+        // If this line cannot be written it is lost, as a fault's line is.
         let _ = writeln!(faults, "capture: flows left out: {}", routes.left_out());
     }
     own_fault(&table)
 }
 
-/// The routes of a capture's flows to these addresses, or of all that fit.
+/// Returns the routes of a capture's flows to these addresses, or, if there are none, of all flows that fit a stream.
 pub(crate) fn routed(
     alloc: Global,
     table: &FlowTable,
@@ -43,8 +44,9 @@ pub(crate) fn routed(
     }
 }
 
-/// A capture's own fault, or why it has no routes.
+/// Returns the fault of a capture that has no routes.
 fn unrouted(table: &FlowTable, fault: ImportFault) -> CommandFault {
+    // A flow may be missing only because the capture was read up to its own fault, which is then the cause.
     match (fault, table.fault()) {
         (ImportFault::NoFlow | ImportFault::UnknownAddress, Some(fault)) => {
             CommandFault::Capture(CaptureInputFault::Octet(fault))
@@ -53,7 +55,7 @@ fn unrouted(table: &FlowTable, fault: ImportFault) -> CommandFault {
     }
 }
 
-/// Writes what was asked for.
+/// Writes the configuration if the options ask for it, or else the trace.
 fn write_import<W: Write>(
     alloc: Global,
     table: &FlowTable,
@@ -97,7 +99,7 @@ fn write_trace<W: Write>(
     }
 }
 
-/// What is wrong with a capture as a trace, or want of memory.
+/// Returns `Memory` if an allocation failed, or else the fault of the capture as a trace.
 fn fault_of(fault: ImportFault) -> CommandFault {
     match fault {
         ImportFault::Memory => CommandFault::Memory,
@@ -105,7 +107,7 @@ fn fault_of(fault: ImportFault) -> CommandFault {
     }
 }
 
-/// The addresses and ports that words say.
+/// Returns the addresses and ports that words name. Returns `CommandFault::Address` for a word that names none.
 fn addresses_in(alloc: Global, words: &[&str]) -> Result<Vec<SocketAddrV4>, CommandFault> {
     let mut addresses = Vec::new(alloc);
     for word in words.iter() {

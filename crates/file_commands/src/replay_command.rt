@@ -1,4 +1,4 @@
-//! A capture as the report of what it says, with a WAV file and a picture beside it.
+//! The command `replay`: the report of a capture, with a WAV file and a chart in addition to it.
 ghost use Rattle.std.specs.Prelude.{[]};
 
 use crate::fault::{CaptureInputFault, CommandFault};
@@ -15,16 +15,16 @@ use std::io::Write;
 use studio_config::StudioSpec;
 use studio_run::ReadFault;
 
-/// What is known of a capture before it is replayed.
+/// The kind of a capture, which is known before it is replayed.
 #[derive(Drop)]
 enum CaptureKind {
-    /// It is the record of a live run.
+    /// The record of a live run.
     Record,
-    /// Its flows have routes.
+    /// Another capture, with the routes of its flows.
     Flows(Routes),
 }
 
-/// A capture, and the studio that it is replayed by.
+/// A capture, and the studio that plays it.
 #[derive(Drop)]
 struct ReplaySource<'a> {
     path: &'a str,
@@ -32,10 +32,12 @@ struct ReplaySource<'a> {
     known: CaptureKind,
 }
 
-/// Writes the report of a capture, by the configuration at a path. It reads the front of the capture, up to its first packet,
-/// for whether it is the record of a live run. Over a record it goes once; over another capture twice, first for its flows,
-/// which have to be known before the first event; and once more after the report for a picture. Before a fault of a file
-/// beside it its path is told where faults go.
+/// Writes the report of a capture, by the configuration at a path. Before the fault of a WAV file or a chart its path
+/// is written to `faults`.
+///
+/// The capture is opened several times, so that it need not fit in memory: for its start up to the first packet, which
+/// says if it is the record of a live run; for its flows, if it is not a record; for the report; and for the chart, if
+/// one is asked for.
 pub fn run_replay<C: Files, W: Write, E: Write>(
     files: &C,
     alloc: Global,
@@ -49,7 +51,7 @@ pub fn run_replay<C: Files, W: Write, E: Write>(
     source.replay(files, alloc, words, output, faults)
 }
 
-/// The capture at a path, and the studio for it: of a live run's record that opened when it was.
+/// Returns the capture at a path, with its kind and the studio for it.
 fn source_of<'a, C: Files>(
     files: &C,
     alloc: Global,
@@ -66,13 +68,14 @@ fn source_of<'a, C: Files>(
     }
 }
 
-/// A live run's record at a path, and the studio for it, which opens when the run did.
+/// Returns the record at a path, and the studio for it, which opens at the time at which the recorded run opened.
 fn recorded<'a>(
     alloc: Global,
     studio: StudioSpec,
     path: &'a str,
     opening: u64,
 ) -> Result<ReplaySource<'a>, CommandFault> {
+    // A time of 2^63 or more becomes one that `shifted` refuses: it is past 2^60.
     let open_at = i64::try_from(opening).unwrap_or(i64::MAX);
     Ok(ReplaySource {
         path,
@@ -81,26 +84,26 @@ fn recorded<'a>(
     })
 }
 
-/// When the studio of a live run was opened, if the capture at a path is the record of one.
+/// Returns the opening time of a live run, in sampling instants, if the capture at a path is the record of one.
 fn opening_at<C: Files>(files: &C, alloc: Global, path: &str) -> Result<Option<u64>, CommandFault> {
     let mut input = input_at(files, path)?;
     Ok(record_opening(alloc, &mut input)?)
 }
 
-/// The routes of the flows of the capture at a path.
+/// Returns the routes of the flows of the capture at a path.
 fn routes_at<C: Files>(files: &C, alloc: Global, path: &str) -> Result<Routes, CommandFault> {
     let table = table_at(files, alloc, path)?;
     routed(alloc, &table, &[])
 }
 
-/// The flows of the capture at a path.
+/// Returns the flows of the capture at a path.
 fn table_at<C: Files>(files: &C, alloc: Global, path: &str) -> Result<FlowTable, CommandFault> {
     let mut input = input_at(files, path)?;
     Ok(scan_flows(alloc, &mut input)?)
 }
 
 impl ReplaySource<'_> {
-    /// Writes the report, and what is asked for beside it.
+    /// Writes the report, and then the WAV file and the chart that the words ask for.
     fn replay<C: Files, W: Write, E: Write>(
         &self,
         files: &C,
@@ -124,7 +127,7 @@ impl ReplaySource<'_> {
         }
     }
 
-    /// Writes the report, and tells a listener.
+    /// Writes the report, and reports each event and each datagram to an observer.
     fn play<C: Files, W: Write, L: ReplayObserver>(
         &self,
         files: &C,
@@ -151,7 +154,7 @@ impl ReplaySource<'_> {
         Ok(played?)
     }
 
-    /// Goes over the capture again, and draws what was seen of it to the file at a path.
+    /// Plays the capture again, and draws what its streams received to the file at a path.
     fn draw<C: Files, E: Write>(
         &self,
         files: &C,
@@ -164,6 +167,8 @@ impl ReplaySource<'_> {
             sound: None,
             streams: Some(streams.for_drawing(alloc, &self.studio)?),
         };
+        // The first pass measured the span of each stream's media time, which the chart's bins divide, so only this
+        // second pass can fill the bins. Its report was written by the first.
         self.play(files, alloc, &mut io::sink(), &mut beside)?;
         match &beside.streams {
             Some(seen) => {
@@ -175,7 +180,7 @@ impl ReplaySource<'_> {
     }
 }
 
-/// The capture at a path.
+/// Opens the capture at a path.
 fn input_at<C: Files>(files: &C, path: &str) -> Result<C::Input, CommandFault> {
     match files.open(path) {
         Ok(input) => Ok(input),

@@ -1,4 +1,4 @@
-//! What is written of a capture beside its report.
+//! The files that `replay` writes in addition to its report.
 ghost use Rattle.std.specs.Prelude.{[], IfOk};
 ghost use Rattle.pcap_replay.specs.WavObserver.{HasSoundedIf};
 
@@ -12,7 +12,7 @@ use std::io::Write;
 use studio_run::write_text;
 use wav_file::{FileFault, Overwrite};
 
-/// The mix's file, and the streams that are watched, where they are asked for.
+/// The observer of a replay: the mix's WAV file and the trackers of the chart, each if it is asked for.
 #[derive(Drop)]
 pub(crate) struct ReplayOutputs<F: Overwrite, O> {
     pub(crate) sound: Option<WavObserver<F>>,
@@ -20,6 +20,7 @@ pub(crate) struct ReplayOutputs<F: Overwrite, O> {
 }
 
 impl<F: Overwrite + Drop, O: ReceptionObserver + Drop> ReplayObserver for ReplayOutputs<F, O> {
+    // Contracts follow the WAV file alone. The chart is outside them.
     ghost heard = { λ begun now events datagrams. HasSoundedIf begun.sound now.sound events datagrams };
 
     fn arrived(&mut self, stream: usize, path: Path, octets: &[u8]) {
@@ -48,7 +49,7 @@ impl<F: Overwrite + Drop, O: ReceptionObserver + Drop> ReplayObserver for Replay
     }
 }
 
-/// Begins the mix's file, if one is asked for.
+/// Creates the mix's WAV file and writes its header, if one is asked for.
 pub(crate) fn create_wav<C: Files, E: Write>(
     files: &C,
     path: Option<&str>,
@@ -70,7 +71,7 @@ pub(crate) fn create_wav<C: Files, E: Write>(
     }
 }
 
-/// Ends the mix's file behind a report, or behind the fault that ended that.
+/// Completes the mix's WAV file after a report, or after the fault that ended the report.
 pub(crate) fn finish_wav<F: Overwrite + Drop, E: Write>(
     sound: Option<WavObserver<F>>,
     played: Result<(), CommandFault>,
@@ -80,6 +81,7 @@ pub(crate) fn finish_wav<F: Overwrite + Drop, E: Write>(
     let (Some(sound), Some(path)) = (sound, path) else {
         return played;
     };
+    // The report's fault came first, so it is the answer, whatever becomes of the file.
     if played.is_err() {
         let _ = sound.break_off();
         return played;
@@ -90,7 +92,7 @@ pub(crate) fn finish_wav<F: Overwrite + Drop, E: Write>(
     }
 }
 
-/// Writes a picture to the file at a path.
+/// Writes a chart to a new file at a path.
 pub(crate) fn write_chart<C: Files, E: Write>(
     files: &C,
     path: &str,
@@ -107,7 +109,7 @@ pub(crate) fn write_chart<C: Files, E: Write>(
     }
 }
 
-/// Writes a picture to its file.
+/// Writes a chart's text to its file.
 fn written_picture<W: Write>(file: &mut W, picture: &[u8]) -> Result<(), FileFault> {
     match write_text(file, picture) {
         Ok(()) => Ok(()),
@@ -115,7 +117,7 @@ fn written_picture<W: Write>(file: &mut W, picture: &[u8]) -> Result<(), FileFau
     }
 }
 
-/// The fault of a file, whose path is told first.
+/// Writes the path of a file to `faults`, and returns the fault that its line goes on with.
 fn file_fault<E: Write>(word: &str, path: &str, fault: FileFault, faults: &mut E) -> CommandFault {
     let _ = write!(faults, "{word} {path}: ");
     CommandFault::Wav(fault)

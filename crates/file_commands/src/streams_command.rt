@@ -1,4 +1,4 @@
-//! What a capture holds.
+//! The command `streams`: the RTP flows of a capture.
 use crate::fault::{CaptureInputFault, CommandFault};
 use crate::files::Files;
 use pcap_flows::{FlowTable, table_text};
@@ -6,7 +6,8 @@ use std::alloc::Global;
 use std::io::Write;
 use studio_run::{ReadFault, write_text};
 
-/// Writes a line for each RTP flow of the capture at a path, stream by stream. A fault of the capture comes behind them.
+/// Writes a line for each RTP flow of the capture at a path, stream by stream. A fault of the capture itself is
+/// returned after the lines of the flows before it are written.
 pub fn run_streams<C: Files, W: Write>(
     files: &C,
     alloc: Global,
@@ -17,7 +18,7 @@ pub fn run_streams<C: Files, W: Write>(
     write_streams(alloc, octets.as_slice(), output)
 }
 
-/// The octets of the capture at a path.
+/// Returns the octets of the capture at a path.
 pub(crate) fn capture_of<C: Files>(
     files: &C,
     alloc: Global,
@@ -31,7 +32,7 @@ pub(crate) fn capture_of<C: Files>(
     }
 }
 
-/// The same of a capture's octets.
+/// Writes the lines of the flows of a capture's octets, and returns the capture's own fault.
 fn write_streams<W: Write>(
     alloc: Global,
     octets: &[u8],
@@ -53,7 +54,7 @@ fn write_table<W: Write>(
     Ok(write_text(output, text.as_bytes())?)
 }
 
-/// A capture's own fault, if it has one.
+/// Returns a capture's own fault as an error, if it has one.
 pub(crate) fn own_fault(table: &FlowTable) -> Result<(), CommandFault> {
     match table.fault() {
         Some(fault) => Err(CommandFault::Capture(CaptureInputFault::Octet(fault))),

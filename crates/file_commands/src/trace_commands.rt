@@ -1,4 +1,4 @@
-//! What a configuration makes of the trace on standard input, as one text.
+//! The commands over a trace on standard input that write one text, and `check`.
 use crate::config_summary::write_summary;
 use crate::fault::{CommandFault, output_result};
 use crate::files::{Files, quick_start_studio, studio_of};
@@ -7,7 +7,7 @@ use std::alloc::Global;
 use std::io::{Read, Write};
 use studio_run::{list_marks, list_marks_and_counts, play};
 
-/// Lists the marks of the trace by the configuration of a run without words.
+/// Writes the marks of the trace in `input` by the configuration of examples/first.
 pub fn run_quick_start<I: Read, W: Write>(
     alloc: Global,
     input: &mut I,
@@ -17,7 +17,7 @@ pub fn run_quick_start<I: Read, W: Write>(
     Ok(list_marks(alloc, &studio, input, output)?)
 }
 
-/// Lists the marks of the trace by the configuration at a path.
+/// Writes the marks of the trace in `input` by the configuration at a path.
 pub fn run_marks<C: Files, I: Read, W: Write>(
     files: &C,
     alloc: Global,
@@ -29,7 +29,8 @@ pub fn run_marks<C: Files, I: Read, W: Write>(
     Ok(list_marks(alloc, &studio, input, output)?)
 }
 
-/// The same, and writes the counts where faults go.
+/// Writes the marks of the trace in `input` by the configuration at a path, and the counts of paths and merges to
+/// `faults`.
 pub fn run_marks_with_counts<C: Files, I: Read, W: Write, E: Write>(
     files: &C,
     alloc: Global,
@@ -42,7 +43,7 @@ pub fn run_marks_with_counts<C: Files, I: Read, W: Write, E: Write>(
     Ok(list_marks_and_counts(alloc, &studio, input, output, faults)?)
 }
 
-/// Writes the report of the trace by the configuration at a path.
+/// Writes the report of the trace in `input` by the configuration at a path.
 pub fn run_play<C: Files, I: Read, W: Write>(
     files: &C,
     alloc: Global,
@@ -54,7 +55,7 @@ pub fn run_play<C: Files, I: Read, W: Write>(
     Ok(play(alloc, &studio, input, output)?)
 }
 
-/// Draws the trace by the configuration at a path.
+/// Writes a chart of what the streams of the trace in `input` received, by the configuration at a path, as an SVG.
 pub fn run_chart<C: Files, I: Read, W: Write>(
     files: &C,
     alloc: Global,
@@ -66,7 +67,7 @@ pub fn run_chart<C: Files, I: Read, W: Write>(
     Ok(chart(alloc, &studio, input, output)?)
 }
 
-/// Says what the configuration at a path means.
+/// Writes the summary of the configuration at a path.
 pub fn run_check<C: Files, W: Write>(
     files: &C,
     alloc: Global,

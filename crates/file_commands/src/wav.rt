@@ -1,4 +1,4 @@
-//! A report or a listing, with a WAV file of the mix or of a stream beside it.
+//! The commands over a trace on standard input that also write a WAV file, of the mix or of one stream.
 use crate::fault::CommandFault;
 use crate::files::{Files, studio_of};
 use crate::named_file::NamedFile;
@@ -7,8 +7,8 @@ use std::alloc::Global;
 use std::io::{Read, Write};
 use wav_file::{WavRunFault, list_to_wav, play_to_wav};
 
-/// Plays the trace by the configuration at a path, and writes the mix to the file at another. Before a fault of that
-/// file its path is told where faults go.
+/// Writes the report of the trace in `input` by the configuration at a path, and the mix to the WAV file at another
+/// path. Before a fault of that file its path is written to `faults`.
 pub fn run_play_to_wav<C: Files, I: Read, W: Write, E: Write>(
     files: &C,
     alloc: Global,
@@ -26,8 +26,9 @@ pub fn run_play_to_wav<C: Files, I: Read, W: Write, E: Write>(
     }
 }
 
-/// Writes a stream's samples to a file, and lists the marks of the trace, by the configuration at a path. Before a fault
-/// of that file its path is told where faults go.
+/// Writes the marks of the trace in `input` by the configuration at a path, and one stream's samples to a WAV file.
+/// Returns `CommandFault::StreamNumber` if the stream's word is not a number from 0 to 255. Before a fault of the file
+/// its path is written to `faults`.
 pub fn run_marks_to_wav<C: Files, I: Read, W: Write, E: Write>(
     files: &C,
     alloc: Global,
@@ -37,6 +38,7 @@ pub fn run_marks_to_wav<C: Files, I: Read, W: Write, E: Write>(
     output: &mut W,
     faults: &mut E,
 ) -> Result<(), CommandFault> {
+    // The words are tested before the configuration is read: a fault of the command line comes first.
     let Ok(stream) = words.stream.parse::<u8>() else {
         return Err(CommandFault::StreamNumber);
     };
@@ -49,7 +51,7 @@ pub fn run_marks_to_wav<C: Files, I: Read, W: Write, E: Write>(
     }
 }
 
-/// The fault of a run. Of a file's the path is told first.
+/// Returns the fault of a run with a WAV file. Before a fault of the file or of its stream it writes the file's path.
 fn wav_fault<E: Write>(fault: WavRunFault, path: &str, faults: &mut E) -> CommandFault {
     match fault {
         WavRunFault::Play(fault) => CommandFault::Play(fault),
