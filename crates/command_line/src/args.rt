@@ -1,90 +1,91 @@
-//! The commands and their arguments, as the program takes them.
+//! The commands of the program and their arguments.
 
-/// The command that the words of the command line ask for.
+/// The command that the command line asks for.
 #[derive(Drop)]
 pub enum CliCommand<'a> {
     /// A command over files and standard input.
     File(FileCommand<'a>),
-    /// A run, on sockets, of the studio of the configuration at this path.
+    /// A live run, over sockets, of the studio of the configuration at this path.
     Live(&'a str, LiveArgs<'a>),
 }
 
-/// A command over files and standard input. A configuration and a capture are named by their paths.
+/// A command over files and standard input. Configurations and captures are named by their paths.
 #[derive(Drop)]
 pub enum FileCommand<'a> {
-    /// The marks of the stream of the quick start.
+    /// The marks of a trace, by the configuration of examples/first: the command of a command line without words.
     QuickStart,
-    /// The marks of a configuration's streams.
+    /// The marks of a trace, by a configuration.
     Marks(&'a str),
-    /// The marks, and the counts on standard error.
+    /// The marks of a trace, and its counts on standard error.
     MarksAndCounts(&'a str),
-    /// The marks, and a WAV file of one stream.
+    /// The marks of a trace, and a WAV file of one stream.
     MarksToWav(&'a str, StreamWavArgs<'a>),
-    /// The report of a configuration's studio.
+    /// The report of a trace, by a configuration.
     Play(&'a str),
-    /// The report, and a WAV file of the mix at the second path.
+    /// The report of a trace, and a WAV file of the mix at the second path.
     PlayToWav(&'a str, &'a str),
-    /// A chart of what a configuration's streams received.
+    /// A chart of what the streams of a trace received, by a configuration.
     Chart(&'a str),
-    /// A configuration in lines for people.
+    /// The summary of a configuration, in lines for people.
     Check(&'a str),
     /// The RTP flows of a capture.
     Streams(&'a str),
-    /// A capture as a trace, or the configuration that fits it.
+    /// A capture as a trace, or a configuration that fits it.
     Import(&'a str, ImportArgs<'a>),
-    /// The report of a capture, by a configuration.
+    /// The report of a capture, by a configuration, whose path comes first.
     Replay(&'a str, ReplayArgs<'a>),
 }
 
-/// A stream, and the WAV file that its samples go to.
+/// The arguments of `marks --wav`: a stream, and the WAV file for its samples.
 #[derive(Clone, Copy)]
 pub struct StreamWavArgs<'a> {
-    /// The stream's number.
+    // The option takes two words of one kind, a number and a path, so the program parses the number itself.
+    /// The stream's number, as the word that was given.
     pub stream: &'a str,
     /// The file's path.
     pub file: &'a str,
 }
 
-/// A capture that is replayed, and what is written beside its report.
+/// The arguments of `replay`: the capture, and the files that are written in addition to its report.
 #[derive(Clone, Copy)]
 pub struct ReplayArgs<'a> {
     /// The capture's path.
     pub file: &'a str,
     /// The path of the mix's WAV file, if one is asked for.
     pub wav: Option<&'a str>,
-    /// The path of the picture, if one is asked for.
+    /// The path of the chart, if one is asked for.
     pub chart: Option<&'a str>,
 }
 
-/// What is imported of a capture.
+/// The options of `import`.
 #[derive(Drop)]
 pub struct ImportArgs<'a> {
-    /// Addresses and ports of the flows; none for all that fit.
+    /// The addresses and ports of the flows, as the words that were given. Empty: all flows that fit a stream.
     pub addresses: Vec<&'a str>,
-    /// The configuration is asked for in place of the trace.
+    /// True if the configuration is asked for in place of the trace.
     pub config: bool,
-    /// Its latency in milliseconds.
+    /// The latency of the configuration's streams in milliseconds. None: one that follows from the skew between paths.
     pub latency: Option<u32>,
 }
 
-/// What a live run is asked for.
+/// The options of `live`.
 #[derive(Clone, Copy)]
 pub struct LiveArgs<'a> {
-    /// After how many sampling instants it ends; if none, not by the clock.
+    /// The number of sampling instants at 48 kHz after which the run ends. None: the clock does not end it.
     pub instants: Option<i64>,
-    /// Every how many seconds each stream's counts are told; if none, only at the end.
+    /// The seconds from one report of each stream's counts to the next. None: they are reported at the end only.
     pub stats: Option<u32>,
-    /// The port at which a page shows the run, if one is asked for.
+    /// The port of 127.0.0.1 at which a page shows the run, if one is asked for. At 0 the system picks one.
     pub page: Option<u16>,
-    /// Whether it ends where standard input does.
+    /// True if the end of standard input ends the run.
     pub until_eof: bool,
-    /// Whether it runs in one thread.
+    /// True if an engine in one thread does all that the workers would do.
     pub one_thread: bool,
-    /// Whether sockets are taken that were handed over.
+    /// True if the run uses the sockets that it inherited, as by sd_listen_fds(3).
     pub listen_fds: bool,
-    /// How far International Atomic Time, by which the run opens, is ahead: seconds, or `system`. If none, the run
-    /// opens at the configuration's time.
+    /// The offset of International Atomic Time from the system's time of day, if the run opens by that time: a number
+    /// of seconds, or `system` for the offset that the system knows. None: the run opens at the configuration's time.
     pub tai_offset: Option<&'a str>,
-    /// The path of the file that the run's record goes to, if one is asked for.
+    /// The path of the run's record, if one is asked for.
     pub record: Option<&'a str>,
 }

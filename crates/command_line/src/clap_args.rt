@@ -1,9 +1,9 @@
-//! What may stand behind a word that the program knows.
+//! The arguments of a command as constants, and clap's arguments of them.
 use clap::builder::ValueParser;
 use clap::{Arg, ArgAction};
 use std::alloc::{AllocError, Global};
 
-/// A path or an option.
+/// An argument of a command: a path or an option.
 #[derive(Clone, Copy)]
 pub(crate) struct ArgSpec {
     pub(crate) name: &'static str,
@@ -12,33 +12,33 @@ pub(crate) struct ArgSpec {
     pub(crate) bound: ArgRelation,
 }
 
-/// How a part is written.
+/// The form of an argument.
 #[derive(Clone, Copy)]
 pub(crate) enum ArgKind {
-    /// A path alone, which must be there.
+    /// A path, which is required.
     Path,
-    /// An option, what it does, what help calls its values, and which of them it takes.
+    /// An option, with its action, the names of its values in help, and the values that it takes.
     Option(ArgAction, &'static [&'static str], ValueParser<'static>),
 }
 
 impl ArgKind {
-    /// An option that stands alone.
+    /// An option without a value.
     pub(crate) const FLAG: ArgKind = ArgKind::Option(ArgAction::SetTrue, &[], ValueParser::Bool);
 }
 
-/// What else is given where an option is.
+/// The relation of an option to another one.
 #[derive(Clone, Copy)]
 pub(crate) enum ArgRelation {
-    /// Anything.
+    /// The option can be given with and without any other.
     Free,
-    /// This option.
+    /// The option needs this other one.
     Needs(&'static str),
-    /// Not this option.
+    /// The option cannot be given with this other one.
     Excludes(&'static str),
 }
 
 impl ArgSpec {
-    /// The part for the parser of words.
+    /// Returns clap's argument for this one.
     pub(crate) fn arg<'a>(&self, alloc: Global) -> Result<Arg<'a>, AllocError> {
         let arg = Arg::new(alloc, self.name).help(self.help);
         match self.form {
@@ -52,7 +52,7 @@ impl ArgSpec {
 }
 
 impl ArgRelation {
-    /// An option that is bound to others so.
+    /// Returns clap's argument with this relation.
     fn bind<'a>(&self, arg: Arg<'a>) -> Result<Arg<'a>, AllocError> {
         match *self {
             ArgRelation::Free => Ok(arg),

@@ -1,30 +1,34 @@
-//! The words that the program knows, with what may stand behind them, and their help.
+//! The table of the program's commands, with their arguments and their help.
 use crate::clap_args::{ArgKind, ArgRelation, ArgSpec};
 use clap::ArgAction;
 use clap::builder::ValueParser;
 
-/// The most sampling instants of a live run.
+// 2^40, which are 265 days.
+/// The greatest number of sampling instants of a live run.
 const MOST_INSTANTS: i64 = 1_099_511_627_776;
 
-/// The most milliseconds of an imported stream's latency: no window is longer.
+// The widest window, 16,384 packets, of the longest packets, 192 sampling instants, holds 65,536 ms.
+/// The greatest latency of an imported stream, in milliseconds.
 const MOST_LATENCY: i64 = 65_536;
 
-/// The most seconds from one telling of a live run's counts to the next.
+// The greatest value of `LiveArgs::stats`.
+/// The greatest number of seconds from one report of a live run's counts to the next.
 const MOST_SECONDS: i64 = 4_294_967_295;
 
 /// The greatest port.
 const LAST_PORT: i64 = 65_535;
 
-/// A word that the program knows.
+/// A command: its word, its help and its arguments.
 #[derive(Clone, Copy)]
 pub(crate) struct CommandSpec {
     pub(crate) name: &'static str,
     pub(crate) about: &'static str,
-    /// What may stand behind it, in the order of its help.
+    /// The arguments, in the order of the command's help.
     pub(crate) parts: &'static [ArgSpec],
 }
 
-/// The words that the program knows, in the order of its help.
+// A table of constants, so that one loop makes the parser of all commands.
+/// The commands, in the order of the program's help.
 pub(crate) const COMMANDS: &[CommandSpec] = &[
     CommandSpec {
         name: "marks",
@@ -113,7 +117,7 @@ pub(crate) const COMMANDS: &[CommandSpec] = &[
     },
 ];
 
-/// What may stand behind the word of a live run.
+/// The arguments of a live run.
 const LIVE: &[ArgSpec] = &[
     CONFIG,
     ArgSpec {
@@ -200,7 +204,7 @@ const MIX: ArgSpec = ArgSpec {
     ..FILE
 };
 
-/// An option that stands alone.
+/// An option without a value, whose name and help are still to be filled in.
 const FLAG: ArgSpec = ArgSpec {
     name: "",
     help: "",
@@ -208,7 +212,7 @@ const FLAG: ArgSpec = ArgSpec {
     bound: ArgRelation::Free,
 };
 
-/// An option with the path of a file.
+/// An option with the path of a file, whose name and help are still to be filled in.
 const FILE: ArgSpec = ArgSpec {
     name: "",
     help: "",

@@ -1,20 +1,22 @@
-//! From the words to the command.
+//! The command of a command line's words.
 use crate::args::{CliCommand, FileCommand, ImportArgs, LiveArgs, ReplayArgs, StreamWavArgs};
 use crate::clap_command::command;
 use clap::{ArgMatches, Error};
 use std::alloc::Global;
 
-/// Returns the command that the words ask for. Help and the version are errors too, with their texts.
+/// Returns the command that the words ask for. The program's name is not among the words. Help and the version are
+/// errors too, with their texts, and so is an allocation failure.
 pub fn parse_args<'a>(alloc: Global, words: &'a [String]) -> Result<CliCommand<'a>, Error> {
     let matches = command(alloc)?.try_get_matches_from(words)?;
     parse_command(alloc, &matches)
 }
 
-/// Returns the command of words that the program knows.
+/// Returns the command of words that match the parser.
 fn parse_command<'a>(alloc: Global, matches: &ArgMatches<'a>) -> Result<CliCommand<'a>, Error> {
     let Some((name, inner)) = matches.subcommand() else {
         return Ok(CliCommand::File(FileCommand::QuickStart));
     };
+    // The paths tell most commands apart: `import` and `streams` take no configuration.
     let command = match (inner.get_str("CONFIG"), inner.get_str("FILE")) {
         (Some(path), _) if name == "live" => return Ok(CliCommand::Live(path, live_words(inner))),
         (Some(path), _) => parse_config_command(name, path, inner),
@@ -22,12 +24,13 @@ fn parse_command<'a>(alloc: Global, matches: &ArgMatches<'a>) -> Result<CliComma
             FileCommand::Import(path, import_options(alloc, inner)?)
         }
         (None, Some(path)) => FileCommand::Streams(path),
+        // Never: each command requires one of these paths.
         (None, None) => FileCommand::QuickStart,
     };
     Ok(CliCommand::File(command))
 }
 
-/// Returns the command of a word that takes a configuration, but for `live`.
+/// Returns the command of a word that takes a configuration, other than `live`.
 fn parse_config_command<'a>(
     name: &str,
     path: &'a str,
@@ -61,17 +64,17 @@ fn play_in<'a>(path: &'a str, matches: &ArgMatches<'a>) -> FileCommand<'a> {
     }
 }
 
-/// What a capture is replayed to.
+/// Returns the arguments of `replay`.
 fn replay_words<'a>(config: &'a str, matches: &ArgMatches<'a>) -> ReplayArgs<'a> {
     ReplayArgs {
+        // `replay` requires FILE, so the other path is never taken.
         file: matches.get_str("FILE").unwrap_or(config),
         wav: matches.get_str("wav"),
         chart: matches.get_str("chart"),
     }
 }
 
-/// What a live run is asked for. Where it opens by International Atomic Time, the system says how far that is ahead if
-/// no word does.
+/// Returns the options of `live`. With `--clock tai` and no `--tai-offset`, the offset is the one that the system knows.
 fn live_words<'a>(matches: &ArgMatches<'a>) -> LiveArgs<'a> {
     let offset = matches.get_str("tai-offset").unwrap_or("system");
     LiveArgs {
@@ -86,7 +89,7 @@ fn live_words<'a>(matches: &ArgMatches<'a>) -> LiveArgs<'a> {
     }
 }
 
-/// What is imported.
+/// Returns the options of `import`.
 fn import_options<'a>(alloc: Global, matches: &ArgMatches<'a>) -> Result<ImportArgs<'a>, Error> {
     let mut addresses = Vec::new(alloc);
     if let Some(words) = matches.get_strs("path") {
