@@ -1,4 +1,4 @@
-//! The faults of the program: their lines and exit statuses.
+//! The faults of the program, with their lines on standard error and their exit statuses.
 use file_commands::CommandFault;
 use live_io::InheritedSocketFault;
 use live_run::LiveFault;
@@ -7,13 +7,13 @@ use std::io::Write;
 use studio_config::SpecError;
 use thiserror::Error;
 
-/// The fault that ended the program.
+/// The fault that ended the program. Its `Display` is the fault's line.
 #[derive(Debug, Drop, Error)]
 pub enum ProgramFault {
     /// A word of the command line is not UTF-8.
     #[error("usage: a word of the command line is not UTF-8")]
     Usage,
-    /// The offset of International Atomic Time is not a number of seconds.
+    /// The word of `--tai-offset` is neither a number of seconds nor `system`.
     #[error("usage: --tai-offset is neither seconds nor system")]
     TaiOffset,
     /// A clock could not be read, or the system does not know how far International Atomic Time is ahead.
@@ -25,19 +25,20 @@ pub enum ProgramFault {
     /// A live run ended early.
     #[error("{0}")]
     Live(#[from] LiveFault),
-    /// Inherited sockets are refused.
+    /// Sockets that the program inherited are refused, or an allocation for them failed.
     #[error("{0}")]
     Inherited(#[from] InheritedSocketFault),
-    /// The file of a live run's record could not be made.
+    /// The file of a live run's record could not be created.
     #[error("device: record")]
     Record,
-    /// A live run was reported, but its record was not written to its end.
+    /// A live run's report was written, but a write to its record failed.
     #[error("device: record write")]
     RecordWrite,
 }
 
 impl ProgramFault {
-    /// Returns the exit status of the program.
+    /// Returns the exit status of the program: 2 for a fault of the command line, 4 if an allocation failed, 5 if a
+    /// device failed, and else the status of the command.
     pub fn status(&self) -> u8 {
         match self {
             ProgramFault::Usage | ProgramFault::TaiOffset => 2,

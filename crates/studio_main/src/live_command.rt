@@ -1,4 +1,4 @@
-//! Live runs, from the octets of a configuration.
+//! The command `live`: a live run, from a configuration to its report.
 use crate::fault::ProgramFault;
 use crate::names::names_in;
 use command_line::LiveArgs;
@@ -19,17 +19,17 @@ use std::thread::Threads;
 use std::time::{Clock, Duration};
 use studio_config::StudioSpec;
 
-/// The names of a stream's paths.
+/// The names of a stream's paths in a report.
 const NAMES: [&str; 4] = ["a", "b", "c", "d"];
 
-/// A studio, and what the system's monotonic clock reads at its opening time.
+/// A studio, and the reading of the system's monotonic clock at its opening time, if that clock could be read.
 #[derive(Drop)]
 struct OpenedStudio {
     studio: StudioSpec,
     began: Option<Duration>,
 }
 
-/// Runs the studio of the configuration at a path.
+/// Runs the studio of the configuration at a path, as `run_live_config` does with the configuration's octets.
 pub(crate) fn run_live<
     R: Threads + Wait + Sync + Net + Clock + RandomSource + Env + AllocGlobal,
     C: Files,
@@ -48,8 +48,9 @@ pub(crate) fn run_live<
     run_live_config(rt, files, alloc, config.as_slice(), words, output, faults)
 }
 
-/// Runs the studio that a configuration says, whose report goes to `output`. Where counts are asked for
-/// while it runs, they go where faults go. The file of its record is made before the first socket is bound.
+/// Runs the studio of a configuration's octets over sockets, and writes its report to `output`. If counts are asked for
+/// while it runs, they go to `faults`. Returns the first fault: of the configuration, of the offset or the time of
+/// `--clock`, of a missing port or an inherited socket, of the record's file, or of the run.
 pub fn run_live_config<
     R: Threads + Wait + Sync + Net + Clock + RandomSource + Env + AllocGlobal,
     C: Files,
@@ -66,6 +67,7 @@ pub fn run_live_config<
 ) -> Result<(), ProgramFault> {
     let started = opened(rt, alloc, parse_studio(alloc, config)?, words.tai_offset)?;
     let given = given_of(rt, alloc, &started.studio, config, words.listen_fds)?;
+    // Before the run binds a socket: a run whose record cannot be created receives nothing.
     let record = record_of(files, words.record)?;
     let recorded = RecordResult::new();
     let setup = LiveInputs {
@@ -89,7 +91,7 @@ pub fn run_live_config<
     finish(ran, &started.studio, setup, words, output)
 }
 
-/// What a run is given beside its studio.
+/// The inputs of a live run in addition to its studio.
 #[derive(Drop)]
 struct LoadedInputs {
     ports: LivePorts,
@@ -98,7 +100,7 @@ struct LoadedInputs {
     strangers: UnexpectedSources,
 }
 
-/// What a run of a configuration's studio is given.
+/// Returns the inputs of a run of a configuration's studio.
 fn given_of<R: Env + AllocGlobal>(
     rt: &R,
     alloc: Global,
@@ -118,7 +120,7 @@ fn given_of<R: Env + AllocGlobal>(
     })
 }
 
-/// The sockets that were handed over, if they are to be taken.
+/// Returns the inherited sockets, or none if the words do not ask for them.
 fn handed_of<R: Env + AllocGlobal>(
     rt: &R,
     alloc: Global,
@@ -131,7 +133,7 @@ fn handed_of<R: Env + AllocGlobal>(
     Ok(InheritedSockets::from_env(rt, alloc, studio.streams())?)
 }
 
-/// Writes what follows the report, where there is one, and answers what the run came to.
+/// Writes the lines after the report, if there is a report, and returns the result of the run.
 fn finish<W: Write>(
     ran: Result<(), LiveFault>,
     studio: &StudioSpec,
@@ -139,6 +141,7 @@ fn finish<W: Write>(
     words: LiveArgs<'_>,
     output: &mut W,
 ) -> Result<(), ProgramFault> {
+    // A run that is not settled has a report too.
     if matches!(ran, Ok(()) | Err(LiveFault::Unsettled)) {
         write_after_report(studio, setup, words, output)?;
     }
@@ -149,7 +152,7 @@ fn finish<W: Write>(
     Ok(())
 }
 
-/// How the run ends, what it tells while it goes on, and in which form it runs.
+/// Returns the options of the run.
 fn options_of(words: LiveArgs<'_>) -> LiveOptions {
     LiveOptions {
         instants: words.instants,
@@ -160,7 +163,7 @@ fn options_of(words: LiveArgs<'_>) -> LiveOptions {
     }
 }
 
-/// A file at the path of a record, if one is asked for.
+/// Creates the file of a record, if one is asked for.
 fn record_of<C: Files>(files: &C, path: Option<&str>) -> Result<Option<C::File>, ProgramFault> {
     match path {
         Some(path) => match files.create(path) {
@@ -171,7 +174,8 @@ fn record_of<C: Files>(files: &C, path: Option<&str>) -> Result<Option<C::File>,
     }
 }
 
-/// Writes what follows the report: when the run was opened, if the system said so, the strangers, and what came of the record.
+/// Writes the lines after the report: the opening time, if the run opened by International Atomic Time, the datagrams
+/// from unexpected sources, and the datagrams of the record, if there is one.
 fn write_after_report<W: Write>(
     studio: &StudioSpec,
     setup: LiveInputs<'_>,
@@ -189,7 +193,7 @@ fn write_after_report<W: Write>(
     Ok(())
 }
 
-/// Writes how many datagrams the record has of those that came.
+/// Writes the number of datagrams in the record, and of those that were received.
 fn write_record_line<W: Write>(
     recorded: &RecordResult,
     output: &mut W,
@@ -199,7 +203,7 @@ fn write_record_line<W: Write>(
     Ok(())
 }
 
-/// The studio at its opening time, or, where an offset is said, opened now by International Atomic Time.
+/// Returns the studio as the configuration has it, or, if an offset is given, opened now by International Atomic Time.
 fn opened<R: Clock>(
     rt: &R,
     alloc: Global,
@@ -218,7 +222,7 @@ fn opened<R: Clock>(
     })
 }
 
-/// Now by International Atomic Time, which is as far ahead as a word says.
+/// Returns the present International Atomic Time, by the offset that a word gives.
 fn opening_of<R: Clock>(rt: &R, word: &str) -> Result<TaiTime, ProgramFault> {
     match tai_now(rt, offset_of(word)?) {
         Some(opening) => Ok(opening),
@@ -226,7 +230,7 @@ fn opening_of<R: Clock>(rt: &R, word: &str) -> Result<TaiTime, ProgramFault> {
     }
 }
 
-/// The offset that a word says.
+/// Returns the offset that a word gives: a number of seconds, or `system`.
 fn offset_of(word: &str) -> Result<TaiOffset, ProgramFault> {
     if word == "system" {
         return Ok(TaiOffset::System);
@@ -237,12 +241,13 @@ fn offset_of(word: &str) -> Result<TaiOffset, ProgramFault> {
     }
 }
 
-/// Writes how many datagrams came from elsewhere, for each path that has a source.
+/// Writes the number of datagrams from unexpected sources, for each path that has a source address.
 fn write_unexpected<W: Write>(
     studio: &StudioSpec,
     strangers: &UnexpectedSources,
     output: &mut W,
 ) -> Result<(), ProgramFault> {
+    // The counters are numbered through all paths, stream by stream.
     let mut place = 0;
     for (number, stream) in studio.streams().iter().enumerate() {
         for path in 0..stream.paths() {
@@ -253,7 +258,7 @@ fn write_unexpected<W: Write>(
     Ok(())
 }
 
-/// Writes the count of a path that takes datagrams from one source alone.
+/// Writes the count of a path, if the path has a source address.
 fn write_unexpected_of<W: Write>(
     studio: &StudioSpec,
     stream: usize,
@@ -270,7 +275,7 @@ fn write_unexpected_of<W: Write>(
     Ok(())
 }
 
-/// Whether a path takes datagrams from one source alone.
+/// Returns true if the configuration has a source address for a path.
 fn has_source(studio: &StudioSpec, stream: usize, path: u8) -> bool {
     match Path::new(path) {
         Some(path) => studio.networks().source(stream, path).is_some(),

@@ -25,7 +25,7 @@ use std::{env, fs};
 use studio_run::{ReadFault, read_text};
 use wav_file::{FileFault, SeekFile};
 
-/// The files of the host.
+/// The files of the host system.
 #[derive(Clone, Copy)]
 struct HostFiles<'a> {
     rt: &'a HostRuntime,
@@ -76,7 +76,7 @@ fn main(rt: HostRuntime) -> ExitCode {
     ExitCode::from(status)
 }
 
-/// The words of the command line, without the program's name.
+/// Returns the words of the command line, without the program's name.
 fn program_args(rt: &(impl Env + AllocGlobal)) -> Result<Vec<String>, ProgramFault> {
     match env::args(rt) {
         Ok(all) => words_in(rt.alloc(), all),
@@ -84,7 +84,7 @@ fn program_args(rt: &(impl Env + AllocGlobal)) -> Result<Vec<String>, ProgramFau
     }
 }
 
-/// All words but the first, which is the program's name.
+/// Returns all words but the first, which is the program's name.
 fn words_in(alloc: Global, all: Args) -> Result<Vec<String>, ProgramFault> {
     let mut words = Vec::new(alloc);
     for word in all.skip(1) {
@@ -93,7 +93,7 @@ fn words_in(alloc: Global, all: Args) -> Result<Vec<String>, ProgramFault> {
     Ok(words)
 }
 
-/// Why the words of the command line are not known.
+/// Returns the fault of a command line that could not be read.
 fn fault_of(kind: ErrorKind) -> ProgramFault {
     match kind {
         ErrorKind::OutOfMemory => ProgramFault::Command(CommandFault::Memory),

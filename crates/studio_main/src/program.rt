@@ -1,4 +1,4 @@
-//! From the words of a command line to its exit status.
+//! The program: from the words of its command line to its exit status.
 use crate::fault::ProgramFault;
 use crate::live_command::run_live;
 use crate::told::report_usage;
@@ -16,8 +16,8 @@ use std::sync::Wait;
 use std::thread::Threads;
 use std::time::Clock;
 
-/// Runs the program: its text goes to `output`, and the line of a fault to `faults`. Answers the
-/// exit status.
+/// Runs the program and returns its exit status. The words do not include the program's name. The text goes to
+/// `output`, and the line of a fault to `faults`.
 pub fn run<
     R: Threads + Wait + Sync + Net + Clock + RandomSource + Env + AllocGlobal,
     C: Files,
@@ -67,7 +67,7 @@ fn dispatch<
     }
 }
 
-/// Runs a command over files. The counts next to a listing go to `faults`.
+/// Runs a command over files. The counts of `marks --counts` go to `faults`.
 fn run_file_command<C: Files, I: Read, W: Write, E: Write>(
     files: &C,
     alloc: Global,
