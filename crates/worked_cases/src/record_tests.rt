@@ -1,4 +1,5 @@
-//! The tests, from octets that are written to marks and packets that are read.
+//! The tests of a live run's record: `record` has its octets, `octets` the calls that write and read them, and `marks`
+//! the times that its blocks give.
 mod marks;
 mod octets;
 mod record;

@@ -1,4 +1,4 @@
-//! A stream of two paths with a window of eight packets, and payloads.
+//! The tests of a stream's tally, on two paths with a window of eight packets, and of peaks and deadlines.
 
 use rtp_stats::{ArrivalMargin, Deadlines, StreamTally, margin_before, raise_peaks};
 use rtp_stream::{Fate, Path, StreamClock, StreamSpec};
@@ -6,7 +6,7 @@ use rtp_wire::Enc;
 use std::alloc::Global;
 use std::process::Abort;
 
-/// The tally of a stream of which nothing was offered yet.
+/// Returns the tally of a stream to which no packet was offered yet.
 fn new_tally(rt: &impl Abort, alloc: Global) -> StreamTally {
     let clock = StreamClock::Media { offset: 0 };
     let spec = StreamSpec::new(Enc::L24, 1, 48, 96, None, clock, 96, 8, 2);
@@ -14,11 +14,12 @@ fn new_tally(rt: &impl Abort, alloc: Global) -> StreamTally {
     tally.expect(rt, "there is memory")
 }
 
+/// Returns the path of this number.
 fn path(rt: &impl Abort, number: u8) -> Path {
     Path::new(number).expect(rt, "the path is one of four")
 }
 
-/// A number that one path alone brought is missed by the other once the number a window later is taken, and once.
+/// A number that only one path brought counts as missed by the other, once, when the number a window later is taken.
 #[test]
 fn a_number_is_missed_a_window_after_it_was_taken(rt: HostRuntime) {
     let (a, b) = (path(&rt, 0), path(&rt, 1));
@@ -40,7 +41,7 @@ fn a_number_is_missed_a_window_after_it_was_taken(rt: HostRuntime) {
     assert!(rt; tally.path(b).late == 1);
 }
 
-/// The spare times are those of the whole second before the reading's, on the path alone.
+/// The arrival margins are those of the last whole second before the clock reading, of one path.
 #[test]
 fn a_second_tells_its_spare_times_once_it_is_over(rt: HostRuntime) {
     let (a, b) = (path(&rt, 0), path(&rt, 1));
@@ -75,7 +76,7 @@ fn a_second_tells_its_spare_times_once_it_is_over(rt: HostRuntime) {
     assert!(rt; tally.spare(b, 144_000) == None, "nothing came");
 }
 
-/// A spare time of more than 128 ms is told apart by its least alone.
+/// The least arrival margin is exact. A median of more than 128 ms is given as that of the last bin.
 #[test]
 fn a_median_is_at_most_that_of_the_last_bin(rt: HostRuntime) {
     let a = path(&rt, 0);
@@ -90,7 +91,7 @@ fn a_median_is_at_most_that_of_the_last_bin(rt: HostRuntime) {
     );
 }
 
-/// Peaks are on one scale in both encodings, channel by channel, and stay until they are set to 0.
+/// Peaks of both encodings are on the scale of 24 bits, channel by channel. They only rise until they are set to 0.
 #[test]
 fn peaks_are_on_the_scale_of_24_bits(rt: HostRuntime) {
     let mut peaks = [0, 5];
@@ -106,7 +107,7 @@ fn peaks_are_on_the_scale_of_24_bits(rt: HostRuntime) {
     assert!(rt; peaks[1] == 256);
 }
 
-/// Timestamps tell deadlines from an epoch's first packet on, also where they wrap, and anew after a restart.
+/// Deadlines follow from timestamps, from an epoch's first packet on, also if they wrap, and again after a restart.
 #[test]
 fn timestamps_tell_deadlines(rt: HostRuntime) {
     let mut deadlines = Deadlines::new();

@@ -1,9 +1,9 @@
-//! What the blocks of a record tell, and what others don't.
+//! The opening and the close of a run, as the blocks of its record give them, and headers that give none.
 use super::record::{latest_header, record};
 use pcap_file::{BlockParser, RecordMark};
 use std::process::Abort;
 
-/// The length of each block, and what it tells.
+/// The length of each block of the record, and the mark that it gives.
 const PARTS: [(usize, Option<RecordMark>); 5] = [
     (60, Some(RecordMark::Opened(1000))),
     (40, None),
@@ -12,13 +12,14 @@ const PARTS: [(usize, Option<RecordMark>); 5] = [
     (24, Some(RecordMark::Closed(4_295_083_334))),
 ];
 
-/// Whether what comes next has this length and tells this, and what stands behind it.
+/// Returns the octets after the next block, if that block has this length and gives this mark.
 fn goes_on<'a>(
     parts: &mut BlockParser,
     rest: &'a [u8],
     len: usize,
     mark: Option<RecordMark>,
 ) -> Option<&'a [u8]> {
+    // `next` needs an octet, and a place so small that the lengths cannot overflow. The record has 228 octets.
     if rest.is_empty() || parts.place() > 1000 {
         return None;
     }
@@ -28,7 +29,7 @@ fn goes_on<'a>(
     }
 }
 
-/// A record says at which time its studio was opened, and at which it was closed.
+/// A record gives the time at which its studio was opened and the one at which it was closed.
 #[test]
 fn a_record_says_its_opening_and_its_close(rt: HostRuntime) {
     let record = record();
@@ -43,7 +44,7 @@ fn a_record_says_its_opening_and_its_close(rt: HostRuntime) {
     assert!(rt; left == Some(&[]), "five blocks, and nothing more");
 }
 
-/// A place in a header that says the latest opening, the octet to stand there, and what it tells then.
+/// A place in the header of the latest opening, the octet that is written there, and the mark that the header gives then.
 const CHANGES: [(usize, u8, Option<RecordMark>); 12] = [
     (0, 0x0a, Some(RecordMark::Opened(9_223_372_036_854_775_807))),
     (26, 26, Some(RecordMark::Opened(922_337_203_685_477_580))),
@@ -67,17 +68,19 @@ const CHANGES: [(usize, u8, Option<RecordMark>); 12] = [
     (67, b'n', None),
 ];
 
-/// What a header tells.
+/// Returns the mark that a header gives.
 fn told(rt: &impl Abort, header: &[u8; 76]) -> Option<RecordMark> {
     let mut parts = BlockParser::open(header).expect(rt, "a header");
     parts.next(header).expect(rt, "a block").mark
 }
 
-/// A comment of another form, of another writer or past 2^63 says no opening, and nor do options that are cut; none is a fault.
+/// A comment of another form, of another writer or of 2^63 and more gives no opening. Neither do options that are cut.
+/// None of them is a fault.
 #[test]
 fn only_a_whole_number_of_ours_is_an_opening(rt: HostRuntime) {
     for (place, octet, mark) in &CHANGES {
         let mut octets = latest_header();
+        // The remainder shows that the place is one of the header's.
         octets[*place % 76] = *octet;
         assert!(rt; told(&rt, &octets) == *mark, "{octet} at {place}");
     }

@@ -1,4 +1,4 @@
-//! The blocks of a record as they are written, and the packets that are read of them.
+//! The octets of a record's blocks, and the packets that a reader finds in them.
 ghost use Rattle.std.specs.Prelude.{◌≡◌, length};
 
 use super::record::record;
@@ -8,7 +8,7 @@ use pcap_file::{
 };
 use std::net::Ipv4Addr;
 
-/// A datagram of three octets, on the second interface.
+/// The record's datagram: three octets, on the second interface.
 fn arrival() -> RecordedDatagram<'static>
     ensures { length result.octets.now ≡ 3 }
 {
@@ -23,12 +23,13 @@ fn arrival() -> RecordedDatagram<'static>
     }
 }
 
-/// Whether a call wrote these octets, and nothing behind them.
+/// Returns true if a call wrote these octets, and nothing after them.
 fn is_written(out: &[u8], len: usize, want: Option<&[u8]>) -> bool {
+    // 0x55 is the octet that each test fills its buffer with.
     out.get(..len) == want && out.get(len) == Some(&0x55)
 }
 
-/// Each call writes one block to the front, and nothing behind it.
+/// Each call writes one block to the start of its buffer, and nothing after it.
 #[test]
 fn the_opening_and_interfaces_are_these_octets(rt: HostRuntime) {
     let record = record();
@@ -45,7 +46,7 @@ fn the_opening_and_interfaces_are_these_octets(rt: HostRuntime) {
     assert!(rt; is_written(&out, len, record.get(100..140)), "the second");
 }
 
-/// A datagram stands in an IPv4 packet with a right checksum, and the close in an interface's statistics.
+/// A datagram is written as an IPv4 packet with a correct checksum, and the close as an interface's statistics.
 #[test]
 fn a_datagram_and_the_close_are_these_octets(rt: HostRuntime) {
     let record = record();
@@ -57,7 +58,7 @@ fn a_datagram_and_the_close_are_these_octets(rt: HostRuntime) {
     assert!(rt; is_written(&out, len, record.get(204..)), "the close");
 }
 
-/// Sampling instants, and the nanosecond that isn't before them.
+/// Sampling instants after the opening, and the first nanosecond that is not before them.
 const TIMES: [(u64, Option<u64>); 7] = [
     (0, Some(0)),
     (1, Some(20_834)),
@@ -68,7 +69,7 @@ const TIMES: [(u64, Option<u64>); 7] = [
     (885_443_715_538_059, None),
 ];
 
-/// A time is rounded up, and there is none past 64 bits.
+/// A time is rounded up to a nanosecond. One that does not fit into 64 bits gives none.
 #[test]
 fn times_are_rounded_up(rt: HostRuntime) {
     for (instants, want) in &TIMES {
@@ -76,7 +77,7 @@ fn times_are_rounded_up(rt: HostRuntime) {
     }
 }
 
-/// That datagram as it is read.
+/// The record's datagram as a reader finds it.
 fn packet() -> Packet<'static> {
     Packet {
         time: Some(4_295_020_834),
@@ -93,7 +94,7 @@ fn packet() -> Packet<'static> {
     }
 }
 
-/// A record is a capture of the datagrams that came.
+/// A record is a capture of the datagrams that arrived.
 #[test]
 fn a_record_is_a_capture_of_its_datagrams(rt: HostRuntime) {
     let record = record();

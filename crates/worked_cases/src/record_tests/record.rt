@@ -1,7 +1,11 @@
-//! The octets of a record, by the format's text and RFC 791.
+//! The octets of a record, written by hand by the text of the pcapng format and RFC 791.
 
-/// The section header of a studio that was opened at 1000, up to 60; the first path of stream 0, to 100, and the second of stream
-/// 12, to 140; three octets on the second interface, 206,161 sampling instants after the opening, to 204; and the close at 206,164.
+/// A record of these blocks:
+///
+/// - the section header of a studio that was opened at 1000, octets 0 to 59;
+/// - the interfaces of the first path of stream 0, to 99, and of the second path of stream 12, to 139;
+/// - three octets on the second interface, 206,161 sampling instants after the opening, to 203;
+/// - the close at 206,164 sampling instants after the opening, to 227.
 pub(crate) fn record() -> [u8; 228] {
     [
         0x0a, 0x0d, 0x0d, 0x0a, 0x3c, 0, 0, 0, 0x4d, 0x3c, 0x2b, 0x1a, 1, 0, 0, 0, 0xff, 0xff,
@@ -18,7 +22,7 @@ pub(crate) fn record() -> [u8; 228] {
     ]
 }
 
-/// A section header whose comment says the latest opening, 2^63 - 1.
+/// A section header whose comment gives the latest opening time, 2^63 - 1.
 pub(crate) fn latest_header() -> [u8; 76] {
     [
         0x0a, 0x0d, 0x0d, 0x0a, 0x4c, 0, 0, 0, 0x4d, 0x3c, 0x2b, 0x1a, 1, 0, 0, 0, 0xff, 0xff,

@@ -1,4 +1,4 @@
-//! A merge to which steps happen, and what comes of them, in words.
+//! A merge that takes steps, and its fates, marks and counts in words.
 ghost use Rattle.std.specs.Prelude.{◌≡◌};
 
 use super::steps::{Sent, Step, step_of};
@@ -7,7 +7,7 @@ use path_merge::{Fate, Mark, MarkKind, Merge, Path, SlotWindow, SortedWindow, St
 use std::alloc::Global;
 use std::process::Abort;
 
-/// A stream's merge, and what it answered.
+/// A stream's merge, the fates that it returned and its marks in words.
 #[derive(Drop)]
 pub struct Bench<W: Window> {
     pub spec: StreamSpec,
@@ -18,7 +18,7 @@ pub struct Bench<W: Window> {
 }
 
 impl<W: Window> Bench<W> {
-    /// A merge to which nothing has happened.
+    /// Returns the bench of a merge that has taken no step yet.
     fn new(alloc: Global, spec: StreamSpec, merge: Merge<W>) -> Bench<W>
         requires { merge.spec ≡ spec }
     {
@@ -30,27 +30,28 @@ impl<W: Window> Bench<W> {
         }
     }
 
-    /// The fates are these, in words.
+    /// Tests that the fates are these, in words.
     pub fn has_fates(&self, rt: &impl Abort, wanted: &str, shows: &str) {
         let mut text = String::new(*self.fates.allocator());
         say_fates(rt, &mut text, &self.fates);
         says(rt, &text, wanted, shows);
     }
 
-    /// The counts are these, in words.
+    /// Tests that the counts are these, in words.
     pub fn has_counts(&self, rt: &impl Abort, wanted: &str, shows: &str) {
         let mut text = String::new(*self.fates.allocator());
         say_counts(rt, &mut text, &self.merge.counts());
         says(rt, &text, wanted, shows);
     }
 
-    /// Lets steps happen, which stand in a text with commas between them.
+    /// Takes the steps of a text, with commas between them.
     pub fn take_all(&mut self, rt: &impl Abort, steps: &str) {
         for words in steps.split(',') {
             self.take(rt, step_of(rt, words));
         }
     }
 
+    /// Takes a step.
     fn take(&mut self, rt: &impl Abort, step: Step) {
         match step {
             Step::On(path, first, times) => self.offer_all(rt, path, first, times),
@@ -70,7 +71,7 @@ impl<W: Window> Bench<W> {
         }
     }
 
-    /// Offers a packet. Nothing is counted after a close.
+    /// Offers a packet, and tests that nothing is counted after a close.
     pub fn offer(&mut self, rt: &impl Abort, path: Path, sent: Sent) -> Fate {
         let packet = sent.packet(&self.spec);
         assert!(rt; path.number() < self.spec.paths() && self.spec.fits(&packet));
@@ -81,8 +82,9 @@ impl<W: Window> Bench<W> {
         fate
     }
 
-    /// Advances until the reading is passed, one mark a call: each slot comes at its deadline.
+    /// Advances until the reading is passed, one mark a call, and tests that each slot comes at its deadline.
     pub fn tick(&mut self, rt: &impl Abort, now: i64) {
+        // The bound ends the loop if a merge never comes to the reading. No step of a case gives 1,000 marks.
         for _ in 0..1000u32 {
             let given = self.merge.advance(now);
             let Some(mark) = given.expect(rt, "the reading is in order") else {
@@ -98,7 +100,7 @@ impl<W: Window> Bench<W> {
         assert!(rt; self.merge.time() == now, "the reading is not passed");
     }
 
-    /// One call of `advance`: its mark, `nothing` or the fault, and the time behind it.
+    /// Calls `advance` once, and says its mark, `nothing` or the fault, and the time after it.
     fn advance(&mut self, rt: &impl Abort, now: i64) {
         match self.merge.advance(now) {
             Ok(Some(mark)) => say_mark(rt, &self.spec, &mut self.marks, &mark),
@@ -109,7 +111,7 @@ impl<W: Window> Bench<W> {
         write!(self.marks, " at {time}").expect(rt, "there is memory");
     }
 
-    /// Closes and drains, one mark a call; a second close and further drains change nothing.
+    /// Closes and drains, one mark a call, and tests that a second close and further drains change nothing.
     pub fn close(&mut self, rt: &impl Abort) {
         assert!(rt;
             self.merge.closed() || self.merge.drain().is_none(),
@@ -122,6 +124,7 @@ impl<W: Window> Bench<W> {
         assert!(rt; self.merge.drain().is_none(), "drained after the end");
     }
 
+    /// Drains the marks that are left.
     fn drain_all(&mut self, rt: &impl Abort) {
         for _ in 0..1000u32 {
             let Some(mark) = self.merge.drain() else {
@@ -132,7 +135,7 @@ impl<W: Window> Bench<W> {
     }
 }
 
-/// A bench of a merge over a window of slots.
+/// Returns a bench of a merge over a window of slots.
 pub fn slots_bench(
     rt: &impl Abort,
     alloc: Global,
@@ -144,7 +147,7 @@ pub fn slots_bench(
     Bench::new(alloc, spec, merge)
 }
 
-/// A bench of a merge over a sorted window.
+/// Returns a bench of a merge over a sorted window.
 pub fn sorted_bench(
     rt: &impl Abort,
     alloc: Global,
@@ -157,7 +160,7 @@ pub fn sorted_bench(
     Bench::new(alloc, spec, merge)
 }
 
-/// How long behind its media time a slot comes at this time; none for other marks.
+/// Returns how long after its media time a slot comes at this time, in sampling instants. None for other marks.
 fn lateness(mark: &Mark, time: i64) -> Option<i64> {
     match mark.kind() {
         MarkKind::Slot { media, .. } => Some(time.wrapping_sub(*media)),

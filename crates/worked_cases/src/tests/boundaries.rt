@@ -1,4 +1,4 @@
-//! Deadlines and the reorder window, at each boundary, by both windows.
+//! The tests of each boundary of deadlines and of the reorder window, with both kinds of window.
 use super::bench::{Bench, slots_bench, sorted_bench};
 use super::cases::{STREAM, spec_of};
 use super::steps::Sent;
@@ -6,7 +6,8 @@ use path_merge::{Fate, Path, Stream, StreamClock, Window};
 use std::alloc::Global;
 use std::process::Abort;
 
-/// The fate of a packet on the second path; at a time, if one is given, behind (1, 0) on the first.
+/// Returns the fate of a packet on the second path. If a time is given, the packet (1, 0) came before it on the first
+/// path, and the clock was read at that time.
 fn fate_on<W: Window>(
     rt: &impl Abort,
     bench: &mut Bench<W>,
@@ -22,7 +23,7 @@ fn fate_on<W: Window>(
     bench.offer(rt, Path::new(1).expect(rt, "a path"), sent)
 }
 
-/// The same by both windows, at a stream with this clock and opening time.
+/// Returns that fate in a stream with this clock and opening time, and tests that both kinds of window agree.
 fn fate_of(
     rt: &impl Abort,
     alloc: Global,
@@ -38,17 +39,19 @@ fn fate_of(
     slots
 }
 
+/// The media clock whose timestamp 0 is media time 0.
 const MEDIA: StreamClock = StreamClock::Media { offset: 0 };
 
+/// The media clock whose timestamp 1000 is media time 0.
 const OFFSET: StreamClock = StreamClock::Media { offset: 1000 };
 
-/// The fate of number 65537 + k, whose timestamp is 6 k, at a time, behind the first packet.
+/// Returns the fate of number 65537 + k, whose timestamp is 6 k, at a time, after the first packet.
 fn fate_at(rt: &impl Abort, alloc: Global, time: i64, k: u32) -> Fate {
     let sent = Sent::new((k.wrapping_add(1) % 65_536) as u16, k.wrapping_mul(6));
     fate_of(rt, alloc, (MEDIA, 0), Some(time), sent)
 }
 
-/// A time, which number is due next, and the fate of a packet of that number.
+/// A time, the k of the number next due, and the fate of a packet of that number.
 const TIMES: [(i64, u32, Fate); 10] = [
     (0, 0, Fate::Double),
     (11, 0, Fate::Double),
@@ -62,7 +65,7 @@ const TIMES: [(i64, u32, Fate); 10] = [
     (25, 3, Fate::Taken),
 ];
 
-/// How many numbers behind the next one, and the fate.
+/// The distance of a number from the one next due, and the fate of its packet.
 const AROUND: [(i32, Fate); 4] = [
     (-1, Fate::Late),
     (1, Fate::Taken),
@@ -70,7 +73,8 @@ const AROUND: [(i32, Fate); 4] = [
     (8, Fate::Ahead),
 ];
 
-/// Number 65537 + k, due at 12 + 6 k, at the times around three deadlines: taken from the next due on, for eight numbers.
+/// Number 65537 + k is due at 12 + 6 k. At the times around three deadlines, packets of the number next due and of the
+/// seven after it are taken.
 #[test]
 fn every_boundary_of_a_deadline_and_of_the_window(rt: HostRuntime) {
     for (time, next, first) in &TIMES {
@@ -80,7 +84,7 @@ fn every_boundary_of_a_deadline_and_of_the_window(rt: HostRuntime) {
     }
 }
 
-/// The fates of the numbers around the next one.
+/// Tests the fates of the numbers around the one next due.
 fn fates_around(rt: &impl Abort, alloc: Global, time: i64, next: u32) {
     for (after, want) in &AROUND {
         let fate = fate_at(rt, alloc, time, next.wrapping_add_signed(*after));
@@ -104,7 +108,8 @@ const FIRSTS: [(StreamClock, u32, Fate); 12] = [
     (StreamClock::Arrival, 4_294_967_295, Fate::Taken),
 ];
 
-/// First packets at the opening time 100: due after 100, and within eight packets of 6 from then on; by the arrival clock any.
+/// At the opening time 100, a first packet is taken if it is due after 100 and within eight packets of 6 from then on.
+/// By the arrival clock any first packet is taken.
 #[test]
 fn every_boundary_of_a_first_packet(rt: HostRuntime) {
     for (clock, ts, want) in &FIRSTS {

@@ -1,4 +1,4 @@
-//! Cases of one stream, tried by single calls of a merge over each window, and by `run_merge`.
+//! Cases of one stream, tried by single calls of a merge over each kind of window, and by `run_merge`.
 ghost use Rattle.std.specs.Prelude.{All, IsTrue};
 ghost use Rattle.path_merge.specs.Run.{IsEventOf};
 
@@ -12,7 +12,7 @@ use rtp_wire::Enc;
 use std::alloc::Global;
 use std::process::Abort;
 
-/// L24, one channel, 6 sampling instants a packet, on two paths.
+/// A stream of L24 in one channel, of 6 sampling instants a packet, on two paths.
 pub const STREAM: Stream = Stream {
     enc: Enc::L24,
     channels: 1,
@@ -25,19 +25,20 @@ pub const STREAM: Stream = Stream {
     paths: 2,
 };
 
-/// A stream in which there is no fault.
+/// Returns the specification of a stream that has no fault.
 pub fn spec_of(rt: &impl Abort, stream: Stream) -> StreamSpec {
     checked(stream).expect(rt, "a stream")
 }
 
+/// Returns the specification of a stream, or its fault.
 fn checked(stream: Stream) -> Result<StreamSpec, SpecFault> {
     StreamSpec::of(stream)
 }
 
-/// What happens to a stream, and what has to come of it, in the words of `steps` and `bench`.
+/// The steps of a stream, and the fates, marks and counts that they have to give, in the words of `steps` and `words`.
 #[derive(Clone, Copy)]
 pub struct Case {
-    /// What it shows.
+    /// The claim that the case shows, as a failure reports it.
     pub shows: &'static str,
     pub stream: Stream,
     pub open_at: i64,
@@ -48,7 +49,7 @@ pub struct Case {
 }
 
 impl Case {
-    /// Tries the case by single calls over each window, and by `run_merge`.
+    /// Tries the case by single calls over each kind of window, and by `run_merge`.
     pub fn check(&self, rt: &impl Abort, alloc: Global) {
         self.check_calls(rt, alloc);
         let spec = spec_of(rt, self.stream);
@@ -57,13 +58,14 @@ impl Case {
         self.has_marks(rt, spec, &marks);
     }
 
-    /// Tries the case by single calls over each window.
+    /// Tries the case by single calls over each kind of window.
     pub fn check_calls(&self, rt: &impl Abort, alloc: Global) {
         let spec = spec_of(rt, self.stream);
         self.check_on(rt, &mut slots_bench(rt, alloc, spec, self.open_at));
         self.check_on(rt, &mut sorted_bench(rt, alloc, spec, self.open_at));
     }
 
+    /// Tries the case on a bench.
     fn check_on<W: Window>(&self, rt: &impl Abort, bench: &mut Bench<W>) {
         bench.take_all(rt, self.steps);
         bench.has_fates(rt, self.fates, self.shows);
@@ -71,7 +73,7 @@ impl Case {
         bench.has_counts(rt, self.counts, self.shows);
     }
 
-    /// A run gave these marks.
+    /// Tests that the marks of a run are the case's.
     fn has_marks(&self, rt: &impl Abort, spec: StreamSpec, marks: &Vec<Mark>) {
         let mut text = String::new(*marks.allocator());
         for mark in marks {
@@ -81,7 +83,7 @@ impl Case {
     }
 }
 
-/// The marks of a run.
+/// Returns the marks of `run_merge` over these events.
 fn marks_of(
     rt: &impl Abort,
     alloc: Global,
@@ -98,7 +100,7 @@ fn marks_of(
     )
 }
 
-/// Whether all are events that the stream can have.
+/// Returns true if all are events that the stream can have.
 pub fn are_events_of(spec: &StreamSpec, events: &[Event]) -> bool
     ensures { IsTrue result → All (IsEventOf spec.now) events.now }
 {
@@ -108,7 +110,7 @@ pub fn are_events_of(spec: &StreamSpec, events: &[Event]) -> bool
     })
 }
 
-/// The events that steps say.
+/// Returns the events of the steps of a text.
 pub fn events_of(rt: &impl Abort, alloc: Global, spec: &StreamSpec, steps: &str) -> Vec<Event>
     ensures { All (IsEventOf spec.now) result.items }
 {
@@ -120,7 +122,7 @@ pub fn events_of(rt: &impl Abort, alloc: Global, spec: &StreamSpec, steps: &str)
     events
 }
 
-/// The events of a step, behind others.
+/// Appends the events of a step.
 fn push_events(rt: &impl Abort, spec: &StreamSpec, events: &mut Vec<Event>, step: Step) {
     match step {
         Step::On(path, first, times) => push_arrivals(rt, spec, events, path, first, times),
@@ -130,7 +132,7 @@ fn push_events(rt: &impl Abort, spec: &StreamSpec, events: &mut Vec<Event>, step
     }
 }
 
-/// Packets in sequence, behind others.
+/// Appends the arrivals of packets in sequence.
 fn push_arrivals(
     rt: &impl Abort,
     spec: &StreamSpec,

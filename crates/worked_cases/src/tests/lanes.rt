@@ -1,4 +1,4 @@
-//! What a trace can't say of lanes: marks that may not follow, a room that is full, and refused memory.
+//! The tests of lanes that no trace can make: marks that may not follow, a full lane, and failed allocations.
 ghost use Rattle.std.specs.Prelude.{◌≡◌};
 ghost use Rattle.rtp_stream.specs.MarkFacts.{HasLength, payload_length};
 
@@ -9,12 +9,13 @@ use rtp_wire::Payload;
 use std::alloc::Global;
 use std::process::Abort;
 
-/// A stream of one channel, in packets of six.
+/// Returns a stream of one channel, in packets of 6 sampling instants.
 fn mono(rt: &impl Abort) -> StreamSpec
     ensures channels { result.channels ≡ 1 }
     ensures frames { result.frames ≡ 6 }
 {
     let spec = spec_of(rt, STREAM);
+    // The contract of `spec_of` does not say these, so they are tested.
     assert!(rt; spec.channels() == 1 && spec.frames() == 6);
     spec
 }
@@ -26,12 +27,12 @@ enum Plain {
     Quiet(i16),
     /// A lost slot: its epoch, number and media time.
     Lost(u8, u32, i16),
-    /// The slot that stands in its place, with these samples.
+    /// A slot with these samples: its epoch, number and media time.
     Got(u8, u32, i16, [u8; 6]),
     End,
 }
 
-/// The mark of these values, in a stream of this format.
+/// Returns the mark of these values, in a stream of this format.
 fn mark_of(format: Format, plain: Plain) -> Mark {
     match plain {
         Plain::Quiet(until) => Mark::quiet(format, i64::from(until)),
@@ -43,6 +44,7 @@ fn mark_of(format: Format, plain: Plain) -> Mark {
     }
 }
 
+/// Returns the slot of these values.
 fn slot(format: Format, epoch: u8, number: u32, media: i16, body: Body) -> Mark
     requires { HasLength (payload_length format) body }
 {
@@ -50,7 +52,7 @@ fn slot(format: Format, epoch: u8, number: u32, media: i16, body: Body) -> Mark
     Mark::slot(format, epoch, number, i64::from(media), body)
 }
 
-/// These samples, if they fill a packet.
+/// Returns a payload of L24 with these samples, or a lost body if they do not fill a packet of the format.
 fn body_of(format: Format, samples: &[u8]) -> Body
     ensures { HasLength (payload_length format) result }
 {
@@ -66,19 +68,20 @@ fn body_of(format: Format, samples: &[u8]) -> Body
     Body::Got(octets)
 }
 
-/// What is done with a lane, and what has to come of it.
+/// A call of a lane, and its result.
 #[derive(Clone, Copy)]
 enum Step {
-    /// A mark that is wanted is fed.
+    /// The lane wants and accepts this mark, and is fed it.
     Feed(Plain),
-    /// A mark that there is room for is kept, though it may not be wanted.
+    /// The lane accepts this mark and has room for it, and keeps it. It may not want it yet.
     Keep(Plain),
+    /// The lane has no room for this mark.
     NoRoom(Plain),
-    /// A mark may not follow what the lane has.
+    /// The lane does not accept this mark after those that it has.
     Refuse(Plain),
-    /// The same of a mark in a stream of two channels.
+    /// The lane does not accept this mark of a stream of two channels.
     RefuseOther(Plain),
-    /// No mark is wanted for the next block.
+    /// The lane wants no mark for the next block.
     Covered,
     /// The next block has these samples.
     Play([i32; 12]),
@@ -93,7 +96,7 @@ struct Player {
 }
 
 impl Player {
-    /// Begins at 22.
+    /// Returns a player whose lane begins at media time 22.
     fn new(rt: &impl Abort, alloc: Global) -> Player {
         let lane = Lane::new(alloc, mono(rt), 22, 12);
         Player {
@@ -101,7 +104,7 @@ impl Player {
         }
     }
 
-    /// Begins at 0, with room for 30 frames.
+    /// Returns a player whose lane begins at media time 0 and has room for 30 frames.
     fn with_room(rt: &impl Abort, alloc: Global) -> Player {
         let lane = Lane::with_room(alloc, mono(rt), 0, 12, 30);
         Player {
@@ -109,14 +112,14 @@ impl Player {
         }
     }
 
-    /// Takes these steps.
+    /// Takes these steps, and tests each result.
     fn take(&mut self, rt: &impl Abort, steps: &[Step]) {
         for (place, step) in steps.iter().enumerate() {
             assert!(rt; self.is_as_told(*step), "step {place}");
         }
     }
 
-    /// Whether what came of a step is what had to.
+    /// Takes a step, and returns true if it gave the step's result.
     fn is_as_told(&mut self, step: Step) -> bool {
         let format = self.lane.format();
         match step {
@@ -136,6 +139,7 @@ impl Player {
         }
     }
 
+    /// Feeds a mark, if the lane wants and accepts it, and returns true if so.
     fn feeds(&mut self, mark: &Mark) -> bool {
         let mark = mark.lent();
         let is_taken = self.lane.wants(self.lane.position() + 12) && self.lane.accepts_ref(&mark);
@@ -145,6 +149,7 @@ impl Player {
         is_taken
     }
 
+    /// Keeps a mark, if the lane accepts it and has room for it, and returns true if so.
     fn keeps(&mut self, mark: &Mark) -> bool {
         let mark = mark.lent();
         let is_taken = self.lane.accepts_ref(&mark) && self.lane.has_room(&mark);
@@ -154,6 +159,7 @@ impl Player {
         is_taken
     }
 
+    /// Reads the next block, and returns true if it has these samples.
     fn plays(&mut self, samples: &[i32; 12]) -> bool {
         let mut out = [0; 12];
         let position = self.lane.position();
@@ -180,7 +186,8 @@ const A_ROOM: [Step; 12] = [
     Step::Play([7, 8, 9, 10, 11, 12, 13, 14, 15, 16, 17, 18]),
 ];
 
-/// Marks of two epochs, kept before they are wanted in a room of 30 frames, which begins at the next block.
+/// A lane with room for 30 frames keeps marks of two epochs before they are wanted, up to the last frame. The room begins
+/// at the next block.
 #[test]
 fn a_room_is_filled_to_its_last_frame(rt: HostRuntime) {
     let player = &mut Player::with_room(&rt, rt.alloc());
@@ -209,13 +216,14 @@ const FOLLOWERS: [Step; 17] = [
     Step::Refuse(Plain::End),
 ];
 
-/// After silence up to 3, a slot at 27, one of the next epoch and the end: marks of other times, numbers, epochs and streams.
+/// After silence up to 3, a slot at 27, one of the next epoch and the end, a lane refuses marks of other times, numbers,
+/// epochs and streams.
 #[test]
 fn marks_that_do_not_follow_are_refused(rt: HostRuntime) {
     Player::new(&rt, rt.alloc()).take(&rt, &FOLLOWERS);
 }
 
-/// A lane, made twice: with one allocation refused, one of them at most says want of memory.
+/// A lane is made twice: if one allocation fails, at most one of the two calls returns an error.
 #[test]
 fn each_refused_allocation_is_answered(rt: HostRuntime) {
     let spec = spec_of(

@@ -1,7 +1,7 @@
-//! Cases of one stream: what comes in, its fates, its marks and its counts.
+//! The cases of one stream: its steps, fates, marks and counts.
 //!
-//! Those of restarts begin with the packet (1, 0), handed on at 12. The sender's packets after its restart
-//! are (500, -22), whose timestamp is written 4294967274, and so on, the eighth at 20.
+//! Cases of restarts begin with the packet (1, 0), whose slot comes at 12. After its restart the sender continues with
+//! (500, -22), whose timestamp is written 4294967274, and so on, the eighth packet at 20.
 use super::cases::{Case, STREAM};
 use path_merge::{Stream, StreamClock};
 
@@ -49,7 +49,8 @@ const NUMBERS: [Case; 4] = [
     },
 ];
 
-/// Packets past 65535, of other cycles and off the grid, and 64 channels: each packet's fate, the marks and the counts.
+/// Sequence numbers wrap from 65535 to 0, packets of other cycles are off the grid, and a stream may have 64 channels
+/// (ST 2110-30, level C).
 #[test]
 fn numbers_wrap_and_other_cycles_are_off_the_grid(rt: HostRuntime) {
     for case in &NUMBERS {
@@ -123,7 +124,8 @@ const ORDER: [Case; 7] = [
     },
 ];
 
-/// Packets missing, out of order, late, ahead or before the anchor: each number once, got or lost.
+/// Packets are missing, out of order, late, too early for the window or before the anchor. Each number that is due gives
+/// one slot, got or lost.
 #[test]
 fn slots_come_in_order_at_their_deadlines(rt: HostRuntime) {
     for case in &ORDER {
@@ -173,7 +175,8 @@ const COPIES: [Case; 4] = [
     },
 ];
 
-/// Copies on two and three paths, and packets of two sources: the first good one is taken, and the others named (SMPTE ST 2022-7).
+/// Of copies on two and three paths the first is taken, and the others are named duplicates or late (SMPTE ST 2022-7).
+/// Packets of another source are refused.
 #[test]
 fn the_first_copy_counts(rt: HostRuntime) {
     for case in &COPIES {
@@ -206,7 +209,8 @@ const CLOCKS: [Case; 2] = [
     },
 ];
 
-/// Readings before and between packets, by the media clock and by the arrival clock: where silence and slots stand.
+/// Clock readings before and between packets give the times of silence and of slots, by the media clock and by the
+/// arrival clock.
 #[test]
 fn silence_is_told_and_the_arrival_clock_followed(rt: HostRuntime) {
     for case in &CLOCKS {
@@ -244,7 +248,8 @@ const CLOSES: [Case; 3] = [
     },
 ];
 
-/// Closes of a merge that is empty, that holds packets, and that holds none: one end, and nothing after it.
+/// A close of a merge that is empty, that holds packets or that holds none gives the slots that are held and one end,
+/// and nothing after it.
 #[test]
 fn a_close_gives_what_is_held_and_the_end(rt: HostRuntime) {
     for case in &CLOSES {
@@ -323,7 +328,8 @@ const RESTARTS: [Case; 7] = [
     },
 ];
 
-/// Senders that begin anew up to four times: the epoch that the eighth packet in sequence opens, and when it may.
+/// A sender restarts up to four times. The eighth packet in sequence opens an epoch, if nothing is held and media time
+/// does not go back.
 #[test]
 fn eight_packets_in_sequence_restart(rt: HostRuntime) {
     for case in &RESTARTS {
@@ -413,7 +419,8 @@ const PROBATIONS: [Case; 8] = [
     },
 ];
 
-/// Seven or eight packets in sequence, on two paths, of two sources, and others amid them: whether a restart comes of it.
+/// Eight packets in sequence restart a stream only if they come on one path, from one source that the stream allows, and
+/// no other packet of the stream comes between them on that path.
 #[test]
 fn a_probation_is_of_one_path_and_source(rt: HostRuntime) {
     for case in &PROBATIONS {
@@ -447,7 +454,8 @@ const SINGLE_CALLS: [Case; 2] = [
     },
 ];
 
-/// Readings that stand still, go back, lie past 2^60 or follow a close, and a close amid due slots: one call each.
+/// Each call gives one mark, or the fault of a reading that goes back, is past 2^60 or follows a close. A close between
+/// due slots gives those that are left.
 #[test]
 fn each_call_gives_one_mark_or_its_fault(rt: HostRuntime) {
     for case in &SINGLE_CALLS {

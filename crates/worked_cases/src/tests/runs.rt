@@ -1,4 +1,4 @@
-//! Long runs of a merge, by both windows, and runs over a list of events.
+//! The tests of long runs of a merge with both kinds of window, and of `run_merge` over a list of events.
 ghost use Rattle.std.specs.Prelude.{◌<◌, ◌^◌, pos, ◌≤ℤ◌, All};
 ghost use Rattle.path_merge.specs.Run.{IsEventOf};
 
@@ -9,7 +9,8 @@ use path_merge::{Event, Fate, Merge, Path, RunFault, StreamSpec, Window, run_mer
 use std::alloc::Global;
 use std::process::Abort;
 
-/// Packets 65,537 to 265,536, each at its own media time but for every thousandth: those alone are lost, through three cycles.
+/// Of packets 65,537 to 265,536, through three cycles of sequence numbers, every thousandth is missing. Those alone are
+/// lost.
 #[test]
 fn three_cycles_with_every_thousandth_lost(rt: HostRuntime) {
     let spec = spec_of(&rt, STREAM);
@@ -17,6 +18,7 @@ fn three_cycles_with_every_thousandth_lost(rt: HostRuntime) {
     loses_every_thousandth(&rt, &mut sorted_bench(&rt, rt.alloc(), spec, 0));
 }
 
+/// Tests that on a bench.
 fn loses_every_thousandth<W: Window>(rt: &impl Abort, bench: &mut Bench<W>) {
     for step in 0..200_000u32 {
         bench.tick(rt, i64::from(step) * 6);
@@ -33,21 +35,21 @@ fn loses_every_thousandth<W: Window>(rt: &impl Abort, bench: &mut Bench<W>) {
     );
 }
 
-/// Offers the packet of a number, which is taken.
+/// Offers the packet of a number, and tests that it is taken.
 fn take_in_time<W: Window>(rt: &impl Abort, bench: &mut Bench<W>, number: u32, ts: u32) {
     let path = Path::new(0).expect(rt, "a path");
     let fate = bench.offer(rt, path, Sent::new((number % 65_536) as u16, ts));
     assert!(rt; fate == Fate::Taken, "number {number}");
 }
 
-/// Whether a step's number is a thousandth.
+/// Returns true if a step's number is a multiple of 1,000.
 fn is_lost(step: u32) -> bool
     requires { step < 200_000 }
 {
     (65_537 + step) % 1000 == 0
 }
 
-/// The marks are those that the steps give.
+/// Tests that the marks are those that the steps give.
 fn has_wanted_marks(rt: &impl Abort, alloc: Global, marks: &str) {
     let mut wanted = String::from_str(alloc, "quiet -6").expect(rt, "there is memory");
     for step in 0..200_000u32 {
@@ -61,7 +63,7 @@ fn has_wanted_marks(rt: &impl Abort, alloc: Global, marks: &str) {
     );
 }
 
-/// Packets 65,536 to 131,071, and then a restart: the epoch's first number is 66,043, as near 65,536 as ever.
+/// After packets 65,536 to 131,071 a restart opens an epoch. Its first number is again near 65,536: 66,043.
 #[test]
 fn numbers_begin_again_with_an_epoch(rt: HostRuntime) {
     let spec = spec_of(&rt, STREAM);
@@ -69,6 +71,7 @@ fn numbers_begin_again_with_an_epoch(rt: HostRuntime) {
     restarts_after_a_cycle(&rt, &mut sorted_bench(&rt, rt.alloc(), spec, 0));
 }
 
+/// Tests that on a bench.
 fn restarts_after_a_cycle<W: Window>(rt: &impl Abort, bench: &mut Bench<W>) {
     for step in 0..65_536u32 {
         bench.tick(rt, i64::from(step) * 6);
@@ -81,7 +84,7 @@ fn restarts_after_a_cycle<W: Window>(rt: &impl Abort, bench: &mut Bench<W>) {
     bench.has_counts(rt, counts, "");
 }
 
-/// An opening time, steps, and the place of the first reading out of order.
+/// An opening time, steps, and the place of the first clock reading that is out of order.
 type Readings = (i64, &'static str, Option<usize>);
 
 const READINGS: [Readings; 5] = [
@@ -96,7 +99,7 @@ const READINGS: [Readings; 5] = [
     (0, "tick 6, tick 6, close, close", None),
 ];
 
-/// Where the first reading out of order stands in a run over these events, if there is one.
+/// Returns the place of the first clock reading that is out of order in a run over these events, if there is one.
 fn place_of_fault(alloc: Global, spec: StreamSpec, open_at: i64, events: &[Event]) -> Option<usize>
     requires not_low { pos 0 ≤ℤ open_at }
     requires not_high { open_at ≤ℤ pos (2 ^ 60) }
@@ -108,7 +111,8 @@ fn place_of_fault(alloc: Global, spec: StreamSpec, open_at: i64, events: &[Event
     }
 }
 
-/// Readings that go back, lie before the opening or past 2^60, or follow a close: `run_merge` names the first by its place.
+/// `run_merge` names the place of the first clock reading that goes back, is before the opening or past 2^60, or follows
+/// a close.
 #[test]
 fn a_run_names_the_first_reading_out_of_order(rt: HostRuntime) {
     let spec = spec_of(&rt, STREAM);
@@ -120,7 +124,8 @@ fn a_run_names_the_first_reading_out_of_order(rt: HostRuntime) {
     }
 }
 
-/// A run of 101 marks, whose list grows several times, made twice: with one allocation refused, all marks or want of memory.
+/// A run of 101 marks, whose list grows several times, is made twice: if one allocation fails, each run gives all marks
+/// or an error, and at most one gives an error.
 #[test]
 fn each_refused_allocation_of_a_run_is_answered(rt: HostRuntime) {
     let spec = spec_of(&rt, STREAM);
@@ -136,13 +141,13 @@ fn each_refused_allocation_of_a_run_is_answered(rt: HostRuntime) {
     );
 }
 
-/// The packet (1, 0) on the first path.
+/// Returns the arrival of the packet (1, 0) on the first path.
 fn arrival(rt: &impl Abort, spec: &StreamSpec) -> Event {
     let path = Path::new(0).expect(rt, "a path");
     Event::Arrive(path, Sent::new(1, 0).packet(spec))
 }
 
-/// How many marks a run gave, or none for want of memory.
+/// Returns the number of marks that a run gave, or none if an allocation failed.
 fn mark_count(rt: &impl Abort, alloc: Global, spec: StreamSpec, events: &[Event]) -> Option<usize>
     requires { All (IsEventOf spec) events.now }
 {
@@ -153,7 +158,7 @@ fn mark_count(rt: &impl Abort, alloc: Global, spec: StreamSpec, events: &[Event]
     }
 }
 
-/// A merge, made twice: with one allocation refused, one of them at most says want of memory.
+/// A merge is made twice: if one allocation fails, at most one of the two calls returns an error.
 #[test]
 fn each_refused_allocation_is_answered(rt: HostRuntime) {
     let spec = spec_of(&rt, STREAM);

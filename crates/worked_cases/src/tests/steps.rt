@@ -1,8 +1,10 @@
-//! What happens to a stream, in words.
+//! The steps of a stream, in words.
 //!
-//! A step is `tick T`, which calls `advance` until T is passed; `advance T`, one call; `close`; or a packet's
-//! path, sequence number and timestamp, as `a 1 0`. Behind these may stand `of S`, its source where that is
-//! not 1; `odd`, for a payload of its own; `x 8`, for so many packets in sequence.
+//! - `tick T`: calls of `advance` until T is passed.
+//! - `advance T`: one call.
+//! - `close`: the close.
+//! - `a 1 0`: a packet's path, sequence number and timestamp. After these may come `of S`, its source if that is not 1;
+//!   `odd`, for a payload that differs from the other copies'; and `x 8`, for so many packets in sequence.
 use path_merge::{Packet, Path, StreamSpec};
 use rtp_wire::Payload;
 use std::process::Abort;
@@ -18,7 +20,7 @@ pub struct Sent {
 }
 
 impl Sent {
-    /// A packet of the first source.
+    /// Returns a packet of source 1.
     pub fn new(seq: u16, ts: u32) -> Sent {
         Sent {
             seq,
@@ -28,7 +30,7 @@ impl Sent {
         }
     }
 
-    /// The next packet of its sender.
+    /// Returns the next packet of this one's sender, 6 sampling instants later.
     pub fn next(self) -> Sent {
         Sent {
             seq: self.seq.wrapping_add(1),
@@ -37,7 +39,8 @@ impl Sent {
         }
     }
 
-    /// The packet for a stream: its payload counts up from 1, and ends in the sequence number's low octet.
+    /// Returns the packet for a stream. Its payload counts up from 1, and ends in the sequence number's low octet, or in
+    /// that octet's complement if the packet is odd.
     pub fn packet(self, spec: &StreamSpec) -> Packet {
         let [_, low] = self.seq.to_be_bytes();
         let last = if self.odd { !low } else { low };
@@ -51,7 +54,7 @@ impl Sent {
     }
 }
 
-/// So many octets, which count up from 1, but for the last.
+/// Returns a payload of so many octets, which count up from 1, except for the last one.
 pub fn payload_of(len: usize, last: u8) -> Payload {
     let mut payload = Payload::new();
     for place in 1..len {
@@ -61,19 +64,20 @@ pub fn payload_of(len: usize, last: u8) -> Payload {
     payload
 }
 
-/// What happens to a stream.
+/// A step of a stream.
 #[derive(Clone, Copy)]
 pub enum Step {
-    /// So many packets in sequence come in on a path.
+    /// So many packets in sequence arrive on a path, from this one on.
     On(Path, Sent, u16),
-    /// Readings of the clock, until this one is passed.
+    /// `advance` is called until this clock reading is passed.
     Tick(i64),
-    /// One call for this reading.
+    /// `advance` is called once, with this clock reading.
     Advance(i64),
+    /// The stream is closed.
     Close,
 }
 
-/// The step that words say.
+/// Returns the step of a text. Aborts if the text has another form.
 pub fn step_of(rt: &impl Abort, text: &str) -> Step {
     let words = &mut text.split_whitespace();
     let word = words.next().expect(rt, "a step is missing");
@@ -83,7 +87,7 @@ pub fn step_of(rt: &impl Abort, text: &str) -> Step {
     }
 }
 
-/// The path of a word, if it says one.
+/// Returns the path of a word, if the word is one's name.
 fn path_of(word: &str) -> Option<Path> {
     match word {
         "a" => Path::new(0),
@@ -93,7 +97,7 @@ fn path_of(word: &str) -> Option<Path> {
     }
 }
 
-/// A reading of the clock, or the close.
+/// Returns the step of a clock reading, or of the close.
 fn reading(rt: &impl Abort, word: &str, words: &mut SplitWhitespace<'_>) -> Step {
     match word {
         "tick" => Step::Tick(number(rt, words)),
@@ -103,10 +107,11 @@ fn reading(rt: &impl Abort, word: &str, words: &mut SplitWhitespace<'_>) -> Step
     }
 }
 
-/// The packets that come in on a path.
+/// Returns the step of packets that arrive on a path.
 fn arrival(rt: &impl Abort, path: Path, words: &mut SplitWhitespace<'_>) -> Step {
     let mut sent = Sent::new(number(rt, words), number(rt, words));
     let mut times = 1;
+    // There are three words that may follow, each at most once.
     for _ in 0..3u8 {
         let Some(word) = words.next() else {
             break;
@@ -121,7 +126,7 @@ fn arrival(rt: &impl Abort, path: Path, words: &mut SplitWhitespace<'_>) -> Step
     Step::On(path, sent, times)
 }
 
-/// The next word, which is a number.
+/// Returns the next word as a number. Aborts if it is none.
 pub fn number<N: FromStr>(rt: &impl Abort, words: &mut SplitWhitespace<'_>) -> N {
     let word = words.next().expect(rt, "a number is missing");
     match word.parse::<N>() {

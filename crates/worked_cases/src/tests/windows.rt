@@ -1,4 +1,4 @@
-//! The rules of a reorder window, each tried at every window.
+//! The tests of a reorder window, tried with both kinds.
 ghost use Rattle.std.specs.Prelude.{◌≡◌};
 ghost use Rattle.path_merge.specs.Window.{IsEmpty};
 
@@ -8,7 +8,8 @@ use path_merge::{SlotWindow, SortedWindow, Window};
 use rtp_stream::{Put, StreamSpec};
 use std::process::Abort;
 
-/// 131070 and 131078, one remainder by the width of 8: taken in turn, a copy double or unlike, by both windows.
+/// Numbers 131070 and 131078 have one remainder by the window's width of 8, so they use one slot in turn. A copy of the
+/// second is a duplicate with the same payload or with a different one.
 #[test]
 fn slots_are_used_again_after_the_wrap(rt: HostRuntime) {
     let spec = spec_of(&rt, STREAM);
@@ -19,6 +20,7 @@ fn slots_are_used_again_after_the_wrap(rt: HostRuntime) {
     keeps_packets_by_number(&rt, &mut sorted.expect(&rt, "there is memory"), &spec);
 }
 
+/// Tests that on an empty window.
 fn keeps_packets_by_number<W: Window>(rt: &impl Abort, window: &mut W, spec: &StreamSpec)
     requires empty { IsEmpty (W.held window.old) }
     requires size { W.size window.old ≡ 8 }
@@ -42,7 +44,7 @@ fn keeps_packets_by_number<W: Window>(rt: &impl Abort, window: &mut W, spec: &St
     assert!(rt; (window.base(), window.end()) == (131_072, 131_079));
 }
 
-/// Each window, made twice: with one allocation refused, one of them at most says want of memory.
+/// Each kind of window is made twice: if one allocation fails, at most one of the two calls returns an error.
 #[test]
 fn each_refused_allocation_is_answered(rt: HostRuntime) {
     let spec = spec_of(&rt, STREAM);

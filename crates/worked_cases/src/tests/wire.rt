@@ -1,12 +1,13 @@
-//! Vectors for headers, payloads and samples.
+//! Test vectors of RTP headers (RFC 3550, 5.1), payloads and samples.
 ghost use Rattle.rtp_wire.specs.Sample.{FitsEncoding};
 
 use rtp_wire::{Enc, WireFault, read, read_samples, sample, write_sample, write_samples};
 
-/// A datagram, and its fault, or its payload where it has none.
+/// A datagram, its fault if it has one, and else its payload.
 type Row = (&'static [u8], Option<WireFault>, &'static [u8]);
 
-/// Eleven octets; fifteen sources, of which the last is cut and whole; and headers of type 96, number 1, timestamp 0 and source 1.
+/// Eleven octets; headers with fifteen contributing sources, the last of which is cut and then whole; and headers of type
+/// 96, number 1, timestamp 0 and source 1.
 const ROWS: [Row; 13] = [
     (
         &[0x60, 0, 1, 0, 0, 0, 0, 0, 0, 0, 1],
@@ -65,7 +66,7 @@ const ROWS: [Row; 13] = [
     (&[0x80, 0x60, 0, 1, 0, 0, 0, 0, 0, 0, 0, 1, 9], None, &[9]),
 ];
 
-/// Whether a datagram has this fault, or this payload where that is none.
+/// Returns true if a datagram has this fault, or, if there is no fault, this payload.
 fn is_told(octets: &[u8], fault: Option<WireFault>, payload: &[u8]) -> bool {
     match read(octets) {
         Ok(view) => fault == None && view.payload == payload,
@@ -73,7 +74,8 @@ fn is_told(octets: &[u8], fault: Option<WireFault>, payload: &[u8]) -> bool {
     }
 }
 
-/// Cut headers, other versions, sources, extensions and padding: the first fault, or the payload.
+/// Of cut headers, other versions, contributing sources, extensions and padding, `read` returns the first fault or the
+/// payload.
 #[test]
 fn header_faults_and_payloads(rt: HostRuntime) {
     for (place, row) in ROWS.iter().enumerate() {
@@ -82,13 +84,13 @@ fn header_faults_and_payloads(rt: HostRuntime) {
     }
 }
 
-/// A header with two sources, an extension and padding, and its payload.
+/// A datagram with two contributing sources, an extension and padding.
 const FULL: [u8; 33] = [
     0xb2, 0x60, 0, 1, 0, 0, 0, 0, 0, 0, 0, 1, 1, 1, 1, 1, 2, 2, 2, 2, 0xbe, 0xef, 0, 1, 3, 3, 3, 3,
     0xaa, 0xbb, 0, 0, 3,
 ];
 
-/// The fault of the first octets of that, where there are so many.
+/// Returns the fault of the first k octets of `FULL`, or none if those are all.
 fn fault_of_cut(k: usize) -> Option<WireFault> {
     match k {
         0..=11 => Some(WireFault::Short),
@@ -99,7 +101,8 @@ fn fault_of_cut(k: usize) -> Option<WireFault> {
     }
 }
 
-/// The first k octets of a header with two sources, an extension and padding, k from 0 to 33: the fault of each.
+/// Each cut of a datagram with two contributing sources, an extension and padding has the fault of the part in which the
+/// cut is.
 #[test]
 fn each_cut_of_a_full_header_has_its_fault(rt: HostRuntime) {
     for k in 0..34usize {
@@ -108,12 +111,14 @@ fn each_cut_of_a_full_header_has_its_fault(rt: HostRuntime) {
     }
 }
 
-/// The least and greatest samples and others, of L16 and of L24.
+/// The samples -1, the least and the greatest of L16.
 const EDGES_16: [u8; 6] = [0xff, 0xff, 0x80, 0, 0x7f, 0xff];
 
+/// The least and the greatest sample of L24, and one between them.
 const EDGES_24: [u8; 9] = [0x80, 0, 0, 0x7f, 0xff, 0xff, 1, 2, 3];
 
-/// The least and greatest samples of L16 and L24: their values on 24 bits.
+/// The least and greatest samples of L16 and L24 have their values on 24 bits: they are signed and big-endian (RFC 3551,
+/// 4.5; RFC 3190, 4).
 #[test]
 fn samples_are_signed_and_big_endian(rt: HostRuntime) {
     assert!(rt; sample(Enc::L16, &EDGES_16, 0) == -256);
@@ -124,7 +129,7 @@ fn samples_are_signed_and_big_endian(rt: HostRuntime) {
     assert!(rt; sample(Enc::L24, &EDGES_24, 2) == 66_051);
 }
 
-/// What a sample is written as, over four octets of 0x55, read as one number.
+/// Returns four octets as one number: those of a written sample, and 0x55 in the rest.
 fn octets_of(enc: Enc, value: i32) -> u32
     requires { FitsEncoding enc value }
 {
@@ -133,7 +138,7 @@ fn octets_of(enc: Enc, value: i32) -> u32
     u32::from_be_bytes(out)
 }
 
-/// The least and greatest samples of L16 and L24 as octets, behind which nothing is written.
+/// The least and greatest samples of L16 and L24 are written in network order, and nothing after them.
 #[test]
 fn samples_are_written_in_network_order(rt: HostRuntime) {
     assert!(rt; octets_of(Enc::L16, -1) == 0xffff_5555);
@@ -146,12 +151,14 @@ fn samples_are_written_in_network_order(rt: HostRuntime) {
 /// Four samples of L24, or six of L16, and an octet that is none.
 const OCTETS: [u8; 13] = [0, 1, 2, 0x80, 0, 0, 0x7f, 0xff, 0xff, 0xff, 0xff, 0xfe, 9];
 
-/// The samples of L24, behind which nothing is written, and those of L16.
+/// The samples of `OCTETS` as L24, and the rest of the buffer, which is not written.
 const OF_24: [i32; 7] = [258, -8_388_608, 8_388_607, -2, 5, 5, 5];
 
+/// The samples of `OCTETS` as L16, and the rest of the buffer, which is not written.
 const OF_16: [i32; 7] = [256, 163_840, 0, 8_388_352, -256, -512, 5];
 
-/// Twelve octets as L24 and as L16: four and six samples; two octets are no sample of L24.
+/// Twelve octets are four samples of L24 or six of L16. Octets that do not fill a sample are not read: a thirteenth one,
+/// and two of L24.
 #[test]
 fn blocks_are_their_samples_side_by_side(rt: HostRuntime) {
     let mut out = [5i32; 7];
@@ -160,12 +167,13 @@ fn blocks_are_their_samples_side_by_side(rt: HostRuntime) {
     assert!(rt; read_samples(Enc::L16, &OCTETS, &mut out) == 6 && out == OF_16);
 }
 
-/// Two samples in the octets of L24 and of L16, behind which nothing is written.
+/// The samples 258 and -2 in the octets of L24, and the rest of the buffer, which is not written.
 const AS_24: [u8; 8] = [0, 1, 2, 0xff, 0xff, 0xfe, 0x55, 0x55];
 
+/// The samples 258 and -2 in the octets of L16, and the rest of the buffer, which is not written.
 const AS_16: [u8; 8] = [1, 2, 0xff, 0xfe, 0x55, 0x55, 0x55, 0x55];
 
-/// Two samples, written as L24 and as L16: six and four octets.
+/// Two samples are written next to each other, as six octets of L24 and as four of L16.
 #[test]
 fn samples_are_written_side_by_side(rt: HostRuntime) {
     let mut out = [0x55u8; 8];

@@ -1,9 +1,9 @@
-//! Fates, marks and counts in words, with commas between them.
+//! The fates, marks and counts of a case in words, with commas between them.
 use super::steps::payload_of;
 use path_merge::{Body, ClockFault, Counts, Fate, Mark, MarkKind, StreamSpec};
 use std::process::Abort;
 
-/// Says a word, behind others.
+/// Appends a word.
 pub fn say(rt: &impl Abort, text: &mut String, word: &str) {
     if !text.is_empty() {
         text.push_str(", ").expect(rt, "there is memory");
@@ -11,11 +11,12 @@ pub fn say(rt: &impl Abort, text: &mut String, word: &str) {
     text.push_str(word).expect(rt, "there is memory");
 }
 
-/// What was said is what had to be.
+/// Tests that a text is the one that is wanted. A failure reports what the case shows.
 pub fn says(rt: &impl Abort, text: &str, wanted: &str, shows: &str) {
     assert!(rt; text == wanted, "{shows}: {text}");
 }
 
+/// Says the fault of a clock reading.
 pub fn say_fault(rt: &impl Abort, text: &mut String, fault: ClockFault) {
     let word = match fault {
         ClockFault::WentBack => "WentBack",
@@ -25,7 +26,8 @@ pub fn say_fault(rt: &impl Abort, text: &mut String, fault: ClockFault) {
     say(rt, text, word);
 }
 
-/// Says a mark: `got N M`, `lost N M`, of a later epoch with `K:` before N; `quiet T`; `end`.
+/// Says a mark: `got N M` or `lost N M` with the number and media time, and with `K:` before N in a later epoch K;
+/// `quiet T`; or `end`.
 pub fn say_mark(rt: &impl Abort, spec: &StreamSpec, text: &mut String, mark: &Mark) {
     assert!(rt;
         mark.format() == spec.format(),
@@ -58,7 +60,7 @@ fn say_place(rt: &impl Abort, text: &mut String, epoch: u64, number: u64, media:
     }
 }
 
-/// Whether a slot got its packet, whose payload has to be the packet's own.
+/// Returns `got` or `lost` for a slot, and tests that a payload is that of the packet with the slot's number.
 fn word_of(rt: &impl Abort, number: u64, body: &Body) -> &'static str {
     let Body::Got(payload) = body else {
         return "lost";
@@ -72,7 +74,7 @@ fn word_of(rt: &impl Abort, number: u64, body: &Body) -> &'static str {
     "got"
 }
 
-/// Says fates, each with how often it came in a row.
+/// Says fates, each with the number of times that it came in a row.
 pub fn say_fates(rt: &impl Abort, text: &mut String, fates: &[Fate]) {
     let mut times: usize = 0;
     for (place, fate) in fates.iter().enumerate() {
@@ -85,19 +87,19 @@ pub fn say_fates(rt: &impl Abort, text: &mut String, fates: &[Fate]) {
     }
 }
 
-/// Says how many there are of something.
+/// Says a count and its name.
 fn say_count(rt: &impl Abort, text: &mut String, count: u64, name: &str) {
     say(rt, text, "");
     write!(text, "{count} {name}").expect(rt, "there is memory");
 }
 
-/// What `say_counts` calls the counts, in their order.
+/// The names of the counts, in the order of `values_of`.
 const NAMES: [&str; 14] = [
     "arrived", "from_a", "from_b", "from_c", "from_d", "double", "unlike", "off_grid", "late",
     "ahead", "source", "got", "lost", "restarts",
 ];
 
-/// Says the counts that are not 0; `taken` is by path.
+/// Says the counts that are not 0. `taken` is said path by path.
 pub fn say_counts(rt: &impl Abort, text: &mut String, counts: &Counts) {
     for (name, count) in NAMES.iter().zip(values_of(counts).iter()) {
         if *count != 0 {
@@ -106,7 +108,7 @@ pub fn say_counts(rt: &impl Abort, text: &mut String, counts: &Counts) {
     }
 }
 
-/// The counts in that order.
+/// Returns the counts in the order of `NAMES`.
 fn values_of(counts: &Counts) -> [u64; 14] {
     let [a, b, c, d] = counts.taken_by;
     [
