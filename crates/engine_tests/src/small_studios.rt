@@ -1,4 +1,4 @@
-//! Studios of streams of one channel, which are added.
+//! Small studios: streams of one channel, added into one channel.
 use gain_mix::{Matrix, Schedule};
 use mix_packets::OutSpec;
 use rtp_stream::{SpecFault, StreamClock, StreamSpec};
@@ -6,15 +6,16 @@ use rtp_wire::Enc;
 use std::alloc::Global;
 use studio_config::{StudioSpec, channel_total};
 
-/// A stream of one channel of L24, by the media clock, over a window of eight numbers. `frames` and `latency` are
-/// sampling instants.
+/// Returns a stream of one channel of L24, by the media clock, with a window of eight packets. `frames` and `latency` are
+/// in sampling instants at 48 kHz.
 pub fn stream(frames: u16, latency: u32, paths: u8) -> Result<StreamSpec, SpecFault> {
     let clock = StreamClock::Media { offset: 0 };
     StreamSpec::new(Enc::L24, 1, frames, 96, None, clock, latency, 8, paths)
 }
 
-/// The streams, added at gain 1 into one channel of L24, in packets of so many sampling instants. The first has
-/// number 65,535. None where memory is refused, or the streams have no such sum.
+/// Returns the studio that adds the streams at gain 1 into one channel of L24, in packets of so many sampling instants.
+/// The first datagram has sequence number 65,535. None if an allocation fails, if there are no streams or more than 16,
+/// or if no output has packets of this length.
 pub fn sum_of(alloc: Global, specs: &[StreamSpec], frames: u16) -> Option<StudioSpec> {
     let output = OutSpec::new(Enc::L24, 1, frames, 97, 2, 65_535, 0, 0).ok()?;
     let mut streams = Vec::new(alloc);
@@ -26,13 +27,14 @@ pub fn sum_of(alloc: Global, specs: &[StreamSpec], frames: u16) -> Option<Studio
     }
     let ins = channel_total(&streams);
     let schedule = gain_of_one(alloc, ins)?;
+    // Never, but `StudioSpec::new` requires equal shapes, which no clause of `gain_of_one` gives.
     if schedule.outs() != usize::from(output.channels()) || schedule.ins() != ins {
         return None;
     }
     Some(StudioSpec::new(0, streams, output, schedule))
 }
 
-/// The gain 1 of so many inputs.
+/// Returns a schedule of gain 1 from each of so many inputs to one output, without changes.
 fn gain_of_one(alloc: Global, ins: usize) -> Option<Schedule> {
     let mut gains = Vec::new(alloc);
     gains.resize(ins, 65_536).ok()?;
@@ -40,8 +42,8 @@ fn gain_of_one(alloc: Global, ins: usize) -> Option<Schedule> {
     Schedule::new(matrix, Vec::new(alloc)).ok()
 }
 
-/// Two streams of six and of 48 sampling instants a packet, on so many paths and on one, added into packets of 48.
-/// None where memory is refused.
+/// Returns a studio that adds two streams into packets of 48 sampling instants: one of 6 sampling instants a packet on so
+/// many paths, and one of 48 on one path. None if an allocation fails.
 pub fn six_and_forty_eight(alloc: Global, paths: u8) -> Option<StudioSpec> {
     let specs = [stream(6, 12, paths).ok()?, stream(48, 48, 1).ok()?];
     sum_of(alloc, &specs, 48)

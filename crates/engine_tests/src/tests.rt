@@ -1,4 +1,5 @@
-//! The tests: of gains, of datagrams, of a mixer, of a list of events, and of an engine.
+//! The tests of a studio: `gains` has those of gains, `datagrams` of outputs, `mixer` of a mixer, `lists` of a list of
+//! events, and `calls` and `deadlines` of an engine, whose calls `studios` makes.
 mod calls;
 mod datagrams;
 mod deadlines;

@@ -1,4 +1,4 @@
-//! The calls of an engine, one by one.
+//! The tests of an engine's calls, one by one.
 use super::studios::{
     Step, answers, block_of_48, block_of_six, gives, packet_of_48, packet_of_six, play, six,
     six_and_forty_eight,
@@ -9,7 +9,7 @@ use std::process::Abort;
 use studio_engine::{ArriveFault, Engine, Unfinished};
 use studio_session::ArriveOutcome;
 
-/// What is told of a packet that is taken.
+/// The result of `arrive` for a packet that is taken.
 pub const TAKEN: Result<ArriveOutcome, ArriveFault> = Ok(ArriveOutcome::Offered(Fate::Taken));
 
 const BLOCK_BY_BLOCK: [Step; 6] = [
@@ -21,7 +21,7 @@ const BLOCK_BY_BLOCK: [Step; 6] = [
     Step::Turn(18, Ok(None)),
 ];
 
-/// Two packets of six, due at 12 and 18: a turn to 18 gives both blocks, one by one, and then none.
+/// Two packets of 6 sampling instants are due at 12 and 18. Turns to 18 give both blocks, one by one, and then none.
 #[test]
 fn each_turn_gives_one_block(rt: HostRuntime) {
     play(&rt, rt.alloc(), &BLOCK_BY_BLOCK);
@@ -37,7 +37,7 @@ const BETWEEN_TURNS: [Step; 7] = [
     Step::Hand(0, 2, Ok(ArriveOutcome::Offered(Fate::Late))),
 ];
 
-/// A packet that comes between two turns is in the second one's datagram; one that comes after its deadline is late.
+/// A packet that arrives between two turns is in the second one's datagram. One that arrives after its deadline is late.
 #[test]
 fn a_packet_comes_between_two_turns(rt: HostRuntime) {
     play(&rt, rt.alloc(), &BETWEEN_TURNS);
@@ -53,17 +53,19 @@ const WITHIN_A_TURN: [Step; 7] = [
     Step::Close(Ok(())),
 ];
 
-/// Until a turn has answered none, neither a packet nor a close is taken, and a later reading finishes it first.
+/// Until a turn has returned no block, neither a packet nor a close is taken. A turn to a later clock reading goes on
+/// with it first.
 #[test]
 fn nothing_is_taken_within_a_turn(rt: HostRuntime) {
     play(&rt, rt.alloc(), &WITHIN_A_TURN);
 }
 
+/// Returns the path of this number.
 fn path(rt: &impl Abort, number: u8) -> Path {
     Path::new(number).expect(rt, "a path")
 }
 
-/// A stream that is none, and a path that the stream lacks: each by its name.
+/// A number without a stream and a path that a stream does not have are each refused by a fault of their own.
 #[test]
 fn a_wrong_place_has_a_name(rt: HostRuntime) {
     let engine = &mut six(&rt, rt.alloc());
@@ -73,14 +75,14 @@ fn a_wrong_place_has_a_name(rt: HostRuntime) {
     assert!(rt; engine.path_counts(1, first).is_none() && engine.counts(1).is_none());
 }
 
-/// A packet of six, and an octet too many.
+/// Returns a packet of 6 sampling instants with one octet too many.
 fn long_packet() -> [u8; 31] {
     let mut long = [0u8; 31];
     long[..30].copy_from_slice(&packet_of_six(1, 0, 1));
     long
 }
 
-/// What is no packet of the stream: nothing, another type, and an octet too many. Each is told by its name, and counted.
+/// An empty datagram, one of another payload type and one with an octet too many are each reported by name and counted.
 #[test]
 fn what_is_no_packet_has_a_name(rt: HostRuntime) {
     let engine = &mut six(&rt, rt.alloc());
@@ -103,7 +105,7 @@ const OUT_OF_ORDER: [Step; 7] = [
     Step::Turn(18, Err(ClockFault::Closed)),
 ];
 
-/// A reading that goes back, one past 2^60 and one after a close: each changes nothing.
+/// A clock reading that goes back, one past 2^60 and one after a close are refused, and change nothing.
 #[test]
 fn a_reading_out_of_order_is_refused(rt: HostRuntime) {
     play(&rt, rt.alloc(), &OUT_OF_ORDER);
@@ -122,7 +124,8 @@ const LEFT: [Step; 10] = [
     Step::Settled(true),
 ];
 
-/// After a close the packet that waits is given, and then all is settled: before, a drain gives nothing. A second close is none.
+/// Before a close a drain gives nothing. After it the packet that is held is given, and then all is settled. A second
+/// close changes nothing.
 #[test]
 fn what_is_left_comes_after_a_close(rt: HostRuntime) {
     play(&rt, rt.alloc(), &LEFT);
@@ -138,13 +141,13 @@ const SETTLED: [Step; 7] = [
     Step::Settled(true),
 ];
 
-/// Once all is settled the counts are whole, and what arrives is told that it comes after the close.
+/// Once all is settled the counts are complete, and a packet that arrives then is refused as closed.
 #[test]
 fn counts_are_whole_once_settled(rt: HostRuntime) {
     play(&rt, rt.alloc(), &SETTLED);
 }
 
-/// The first block of both streams: the packet of six from 24 on, and silence beside it.
+/// Returns the first block of both streams: the packet of 6 sampling instants from 24 on, and silence around it.
 fn first_of_both() -> [u8; 156] {
     let mut octets = block_of_48(0, 0);
     for instant in 24..30usize {
@@ -153,7 +156,8 @@ fn first_of_both() -> [u8; 156] {
     octets
 }
 
-/// A block needs the stream of 48, which comes by 84 later: what the stream of six gives until then is kept for its block.
+/// A block needs both streams, and the one of packets of 48 has its deadlines 84 later. Until then the marks of the other
+/// one are kept for their block.
 #[test]
 fn marks_are_kept_until_the_slower_stream_has_come(rt: HostRuntime) {
     let engine = &mut six_and_forty_eight(&rt, rt.alloc());
@@ -166,10 +170,11 @@ fn marks_are_kept_until_the_slower_stream_has_come(rt: HostRuntime) {
     assert!(rt; answers(engine, 144, Ok(None)));
 }
 
-/// An engine, made twice with any one allocation refused: want of memory at most once.
+/// An engine is made twice: if one allocation fails, at most one of the two calls returns an error.
 #[test]
 fn each_refused_allocation_of_an_engine_is_answered(rt: HostRuntime) {
     let alloc = rt.alloc();
+    // The allocation that fails may be one of the studio's, so that is tried twice as well.
     let spec = studio(alloc, 2).or_else(|| studio(alloc, 2));
     let spec = spec.expect(&rt, "with memory again");
     let first = Engine::new(alloc, &spec).is_ok();

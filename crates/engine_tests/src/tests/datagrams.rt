@@ -1,9 +1,9 @@
-//! Vectors for outputs and their datagrams.
+//! Test vectors of outputs and their datagrams.
 use mix_packets::{OutSpec, Packer};
 use rtp_wire::{Enc, read};
 use std::process::Abort;
 
-/// 2^60, the latest start.
+/// The latest start of an output, 2^60.
 const LATEST: i64 = 1_152_921_504_606_846_976;
 
 /// Sequence number 65535 and timestamp 2^32 - 48 are followed by 0 and 0.
@@ -14,6 +14,7 @@ fn sequence_and_timestamp_wrap(rt: HostRuntime) {
     };
     let mut packer = Packer::new(spec);
     assert!(rt; packer.number() == 0);
+    // One octet more than a datagram has, to see that nothing is written after it.
     let mut out = [0x55u8; 157];
     assert!(rt; packer.next(&[1000; 48], &mut out) == 156);
     assert!(rt;
@@ -38,7 +39,7 @@ const OFFSETS: [(i64, u32, u32); 5] = [
     (4_294_967_296 * 5 + 1000, 10, 1010),
 ];
 
-/// The first timestamp is the start plus the offset, modulo 2^32, up to the last start.
+/// The first timestamp is the start plus the offset, modulo 2^32, up to the latest start.
 #[test]
 fn the_offset_is_ahead_of_the_start(rt: HostRuntime) {
     for (start, offset, want) in &OFFSETS {
@@ -47,7 +48,7 @@ fn the_offset_is_ahead_of_the_start(rt: HostRuntime) {
     }
 }
 
-/// The timestamp of the first datagram of an output of L16.
+/// Returns the timestamp of the first datagram of an output of L16.
 fn first_timestamp(rt: &impl Abort, start: i64, offset: u32) -> u32 {
     let spec = OutSpec::new(Enc::L16, 1, 6, 96, 1, 0, start, offset).expect(rt, "an output");
     let mut out = [0u8; 24];
@@ -55,7 +56,7 @@ fn first_timestamp(rt: &impl Abort, start: i64, offset: u32) -> u32 {
     read(&out).expect(rt, "a datagram").ts
 }
 
-/// The octets of the least, the greatest and ordinary samples of L16.
+/// The least, the greatest and ordinary samples of L16 are written frame by frame (RFC 3551, 4.5).
 #[test]
 fn samples_of_16_bits_stand_frame_by_frame_at_their_extremes(rt: HostRuntime) {
     let spec = OutSpec::new(Enc::L16, 2, 6, 96, 1, 0, 0, 0).expect(&rt, "an output");
@@ -66,7 +67,7 @@ fn samples_of_16_bits_stand_frame_by_frame_at_their_extremes(rt: HostRuntime) {
     assert!(rt; &out[34..] == [1, 2].as_slice());
 }
 
-/// The octets of the least, the greatest and ordinary samples of L24.
+/// The least, the greatest and ordinary samples of L24 are written frame by frame (RFC 3190, 4).
 #[test]
 fn samples_of_24_bits_stand_frame_by_frame_at_their_extremes(rt: HostRuntime) {
     let spec = OutSpec::new(Enc::L24, 1, 6, 96, 1, 0, 0, 0).expect(&rt, "an output");

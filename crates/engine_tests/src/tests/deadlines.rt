@@ -1,4 +1,4 @@
-//! The reading before which no datagram comes.
+//! The test of an engine's next deadline, the clock reading before which no datagram comes.
 use super::calls::TAKEN;
 use super::studios::{Step, play};
 
@@ -14,8 +14,8 @@ const DEADLINES: [Step; 9] = [
     Step::Deadline(None),
 ];
 
-/// With no packet the first block of six is silence at 18, a latency past its end; with one at 0 it comes at 12. There is none
-/// while a turn isn't finished, and none after a close.
+/// Without a packet the first block of 6 sampling instants is silence and comes at 18, a latency after its end. With a
+/// packet at 0 it comes at 12. There is no deadline within a turn and none after a close.
 #[test]
 fn the_next_deadline_is_that_of_the_block(rt: HostRuntime) {
     play(&rt, rt.alloc(), &DEADLINES);

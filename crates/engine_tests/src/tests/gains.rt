@@ -1,4 +1,4 @@
-//! Gains, rounding, saturation and its count, faults and changes of gain, by worked examples.
+//! The tests of gains by worked examples: rounding, saturation and its count, and changes of gains and their faults.
 ghost use Rattle.std.specs.Prelude.{IsTrue, All};
 ghost use Rattle.gain_mix.specs.Mix.{Is24Bits};
 
@@ -8,7 +8,7 @@ use gain_mix::{
 use std::alloc::Global;
 use std::process::Abort;
 
-/// Whether all values have 24 bits.
+/// Returns true if all values have 24 bits.
 fn are_24_bits(values: &[i32]) -> bool
     ensures { IsTrue result → All Is24Bits values.now }
 {
@@ -17,8 +17,9 @@ fn are_24_bits(values: &[i32]) -> bool
         .all(|value| -8_388_608 <= *value && *value <= 8_388_607)
 }
 
-/// Mixes a block whose lengths, values and shift are tested first.
+/// Mixes a block.
 fn mix(rt: &impl Abort, matrix: &Matrix, ins: &[i32], outs: &mut [i32], frames: usize, shift: u32) {
+    // `mix_block` requires these lengths, values and shifts.
     assert!(rt; frames.checked_mul(matrix.ins()) == Some(ins.len()));
     assert!(rt; frames.checked_mul(matrix.outs()) == Some(outs.len()));
     assert!(rt; are_24_bits(ins));
@@ -26,7 +27,7 @@ fn mix(rt: &impl Abort, matrix: &Matrix, ins: &[i32], outs: &mut [i32], frames: 
     mix_block(matrix, ins, outs, frames, shift);
 }
 
-/// Gains, inputs, the shift, and their sum.
+/// Gains, inputs, the shift, and the mixed sample.
 type Sum = ([i32; 3], [i32; 3], u32, i32);
 
 const SUMS: [Sum; 9] = [
@@ -41,7 +42,7 @@ const SUMS: [Sum; 9] = [
     ([65_536, 0, 0], [8_388_607, 0, 0], 24, 32_767),
 ];
 
-/// The table of sums in MIXING.md: halves go up, and the sum alone is limited.
+/// The table of sums in MIXING.md holds: halves round up, and only the sum saturates.
 #[test]
 fn rounds_half_up_and_saturates_once(rt: HostRuntime) {
     for (gains, ins, shift, sum) in &SUMS {
@@ -52,11 +53,12 @@ fn rounds_half_up_and_saturates_once(rt: HostRuntime) {
     }
 }
 
+/// Returns a matrix of these gains.
 fn matrix_of(rt: &impl Abort, alloc: Global, outs: usize, ins: usize, gains: &[i32]) -> Matrix {
     Matrix::new(alloc, outs, ins, gains).expect(rt, "a shape that fits, and memory")
 }
 
-/// The table of frames in MIXING.md: each output by its own row of gains.
+/// The table of frames in MIXING.md holds: each output is mixed by its own row of gains.
 #[test]
 fn gains_mix_inputs_by_row(rt: HostRuntime) {
     let matrix = matrix_of(&rt, rt.alloc(), 2, 2, &[65_536, 0, 32_768, -32_768]);
@@ -66,7 +68,7 @@ fn gains_mix_inputs_by_row(rt: HostRuntime) {
     assert!(rt; outs == [10, 4, -8_388_608, -8_388_607]);
 }
 
-/// A change, with a matrix of so many outputs and inputs, whose gains are all the same.
+/// Appends a change at a time, to a matrix of so many outputs and inputs whose gains are all the same.
 fn push_change(
     rt: &impl Abort,
     later: &mut Vec<(i64, Matrix)>,
@@ -78,14 +80,14 @@ fn push_change(
     assert!(rt; later.push((time, matrix)).is_ok(), "there is memory");
 }
 
-/// A matrix of so many outputs and inputs, whose gains are all the same.
+/// Returns a matrix of so many outputs and inputs, whose gains are all the same.
 fn even_matrix(rt: &impl Abort, alloc: Global, shape: (usize, usize), gain: i32) -> Matrix {
     let (outs, ins) = shape;
     assert!(rt; outs <= 2 && ins <= 3);
     matrix_of(rt, alloc, outs, ins, &[gain; 6][..outs * ins])
 }
 
-/// The fault of a schedule of these times and shapes, if any.
+/// Returns the fault of a schedule whose changes have these times and shapes, if it has one.
 fn schedule_fault(
     rt: &impl Abort,
     alloc: Global,
@@ -98,10 +100,10 @@ fn schedule_fault(
     Schedule::new(even_matrix(rt, alloc, (2, 3), 0), later).err()
 }
 
-/// Two changes, each a time with its matrix' outputs and inputs, and the fault.
+/// Two changes, each a time with its matrix' outputs and inputs, and the schedule's fault.
 type Pair = ([(i64, usize, usize); 2], Option<ScheduleFault>);
 
-/// The last time that a change may have.
+/// The latest time that a change may have, 2^60.
 const LAST: i64 = 1 << 60;
 
 const PAIRS: [Pair; 9] = [
@@ -116,7 +118,8 @@ const PAIRS: [Pair; 9] = [
     ([(3, 2, 2), (3, 2, 3)], Some(ScheduleFault::Shape)),
 ];
 
-/// Each limit of a schedule's times and shapes from both sides: `Shape`, `Time`, `Order`.
+/// Each limit of a schedule's shapes and times is tried from both sides. Of several faults `Shape` comes before `Time`,
+/// and `Time` before `Order`.
 #[test]
 fn schedule_faults(rt: HostRuntime) {
     for (changes, want) in &PAIRS {
@@ -126,7 +129,7 @@ fn schedule_faults(rt: HostRuntime) {
     assert!(rt; schedule_fault(&rt, rt.alloc(), &[]) == None, "no change");
 }
 
-/// A gain of 1, from 100 on of 2, and from 103 on of -1.
+/// Returns a schedule of gain 1, from 100 on 2, and from 103 on -1.
 fn two_changes(rt: &impl Abort, alloc: Global) -> Schedule {
     let mut later = Vec::new(alloc);
     push_change(rt, &mut later, 100, (1, 1), 131_072);
@@ -135,7 +138,7 @@ fn two_changes(rt: &impl Abort, alloc: Global) -> Schedule {
     schedule.expect(rt, "changes in order")
 }
 
-/// Times, and the gain that is in force then.
+/// A time, and the gain that is in force then.
 const IN_FORCE: [(i64, i32); 5] = [
     (0, 65_536),
     (99, 65_536),
@@ -154,7 +157,7 @@ fn gains_are_in_force_from_their_time_on(rt: HostRuntime) {
     }
 }
 
-/// The table of changes in MIXING.md: each takes effect at its own instant, within a span.
+/// The table of changes in MIXING.md holds: each change takes effect at its own sampling instant, within a span.
 #[test]
 fn gains_change_within_a_span(rt: HostRuntime) {
     let schedule = two_changes(&rt, rt.alloc());
@@ -166,10 +169,11 @@ fn gains_change_within_a_span(rt: HostRuntime) {
     assert!(rt; outs == [1, 2, 6, 8, 10, -6]);
 }
 
-/// Inputs of two outputs, which are twice them and their opposites.
+// Samples of 24 bits are from -8,388,608 to 8,388,607: twice 4,194,304 is past them, and minus twice that just is not.
+/// Inputs on both sides of half of full scale.
 const LOUD: [i32; 4] = [4_194_303, 4_194_304, -4_194_304, -4_194_305];
 
-/// A sample is counted where its sum lies past full scale, and not where it is just there.
+/// A sample counts as saturated if its sum is past full scale, and not if the sum is exactly full scale.
 #[test]
 fn saturated_samples_are_counted(rt: HostRuntime) {
     let matrix = matrix_of(&rt, rt.alloc(), 2, 1, &[131_072, -131_072]);
@@ -186,7 +190,7 @@ fn saturated_samples_are_counted(rt: HostRuntime) {
     assert!(rt; counts == [2, 7]);
 }
 
-/// Whether a matrix was made, with its gains; else memory was refused.
+/// Returns true if a matrix was made, and tests its gains. Returns false if an allocation failed.
 fn is_made(rt: &impl Abort, alloc: Global, gains: &[i32]) -> bool {
     match Matrix::new(alloc, 2, 2, gains) {
         Ok(matrix) => {
@@ -200,7 +204,7 @@ fn is_made(rt: &impl Abort, alloc: Global, gains: &[i32]) -> bool {
     }
 }
 
-/// A matrix, made twice with any one allocation refused: want of memory at most once.
+/// A matrix is made twice: if one allocation fails, at most one of the two calls returns an error.
 #[test]
 fn each_refused_allocation_is_answered(rt: HostRuntime) {
     let gains = [65_536, 0, 0, 65_536];

@@ -1,4 +1,4 @@
-//! Engines for the tests, their packets, and the calls that they make of an engine.
+//! The engines of the tests, their packets, and steps that call an engine.
 use crate::small_studios::{stream, sum_of};
 use path_merge::{ClockFault, Path, StreamSpec};
 use std::alloc::Global;
@@ -6,34 +6,35 @@ use std::process::Abort;
 use studio_engine::{ArriveFault, Engine, Unfinished};
 use studio_session::ArriveOutcome;
 
-/// The most octets of an output's datagram.
+/// The greatest number of octets of an output's datagram.
 const MOST: usize = 1452;
 
-/// An engine of one stream of packets of six, into packets of six.
+/// Returns an engine of one stream, in and out in packets of 6 sampling instants.
 pub fn six(rt: &impl Abort, alloc: Global) -> Engine {
     let six = stream(6, 12, 2).expect(rt, "a stream");
     engine_of(rt, alloc, &[six], 6)
 }
 
-/// An engine of streams of packets of six and of 48, into packets of 48.
+/// Returns an engine of a stream in packets of 6 sampling instants and one in packets of 48, into packets of 48.
 pub fn six_and_forty_eight(rt: &impl Abort, alloc: Global) -> Engine {
     let six = stream(6, 12, 2).expect(rt, "a stream");
     let forty_eight = stream(48, 96, 2).expect(rt, "a stream");
     engine_of(rt, alloc, &[six, forty_eight], 48)
 }
 
-/// An engine of streams that are added into packets of so many sampling instants.
+/// Returns an engine of streams that are added into packets of so many sampling instants.
 fn engine_of(rt: &impl Abort, alloc: Global, streams: &[StreamSpec], block: u16) -> Engine {
     let spec = sum_of(alloc, streams, block).expect(rt, "there is memory");
     Engine::new(alloc, &spec).expect(rt, "there is memory")
 }
 
-/// A path by its number.
+/// Returns the path of this number.
 pub fn path(rt: &impl Abort, number: u8) -> Path {
     Path::new(number).expect(rt, "a path")
 }
 
-/// A header of this payload type, number, timestamp and source, and so many samples of which all are this one.
+/// Returns a datagram of N octets: a header of this payload type, sequence number, timestamp and source, and samples of
+/// L24 that are all this one.
 fn octets<const N: usize>(pt: u8, seq: u16, ts: u8, ssrc: u8, sample: u8) -> [u8; N] {
     let [high, low] = seq.to_be_bytes();
     let mut octets = [0u8; N];
@@ -52,22 +53,22 @@ fn octets<const N: usize>(pt: u8, seq: u16, ts: u8, ssrc: u8, sample: u8) -> [u8
     octets
 }
 
-/// A packet of six of this number and timestamp, all of whose samples are this one.
+/// Returns a packet of 6 sampling instants with this sequence number and timestamp, whose samples are all this one.
 pub fn packet_of_six(seq: u8, ts: u8, sample: u8) -> [u8; 30] {
     octets(96, u16::from(seq), ts, 1, sample)
 }
 
-/// The same of 48.
+/// Returns a packet of 48 sampling instants with this sequence number and timestamp, whose samples are all this one.
 pub fn packet_of_48(seq: u8, ts: u8, sample: u8) -> [u8; 156] {
     octets(96, u16::from(seq), ts, 1, sample)
 }
 
-/// The sequence number of a block: that of block 0 is 65,535.
+/// Returns the sequence number of a block: that of block 0 is 65,535.
 fn number_of(block: u8) -> u16 {
     u16::from(block).wrapping_sub(1)
 }
 
-/// Block 0 or 1 of an output of six.
+/// Returns the datagram of block 0 or 1 of an output in packets of 6 sampling instants.
 pub fn block_of_six(block: u8, sample: u8) -> [u8; 30] {
     octets(
         97,
@@ -78,7 +79,7 @@ pub fn block_of_six(block: u8, sample: u8) -> [u8; 30] {
     )
 }
 
-/// Block 0 or 1 of an output of 48.
+/// Returns the datagram of block 0 or 1 of an output in packets of 48 sampling instants.
 pub fn block_of_48(block: u8, sample: u8) -> [u8; 156] {
     octets(
         97,
@@ -89,27 +90,31 @@ pub fn block_of_48(block: u8, sample: u8) -> [u8; 156] {
     )
 }
 
-/// What is done with an engine of one stream of packets of six, and what has to come of it. A block is 0 or 1, and all its
-/// samples are one.
+/// A call of an engine of one stream in packets of 6 sampling instants, and its result. A block is 0 or 1, and its samples
+/// are all one value.
 #[derive(Clone, Copy)]
 pub enum Step {
-    /// A path brings packet 1 or 2, from 0 or from 6 on, all of whose samples are its number.
+    /// Packet 1 or 2, at 0 or 6, arrives on a path. Its samples are all its number.
     Hand(u8, u8, Result<ArriveOutcome, ArriveFault>),
-    /// A turn to a reading gives a block.
+    /// A turn to a clock reading gives this block with this sample.
     Give(i64, u8, u8),
-    /// A turn to a reading gives none, or fails.
+    /// A turn to a clock reading gives no block, or is refused.
     Turn(i64, Result<Option<usize>, ClockFault>),
+    /// A close, with its result.
     Close(Result<(), Unfinished>),
-    /// A drain gives a block.
+    /// A drain gives this block with this sample.
     DrainOne(u8, u8),
+    /// A drain gives nothing.
     DrainNone,
+    /// `settled`, with its result.
     Settled(bool),
-    /// The stream's packets taken, and its slots got and lost.
+    /// The numbers of the stream's packets taken, and of its slots got and lost.
     Counts(u64, u64, u64),
+    /// `next_deadline`, with its result.
     Deadline(Option<i64>),
 }
 
-/// Does these with a new engine.
+/// Takes these steps with a new engine, and tests each result.
 pub fn play(rt: &impl Abort, alloc: Global, steps: &[Step]) {
     let engine = &mut six(rt, alloc);
     for (place, step) in steps.iter().enumerate() {
@@ -117,7 +122,7 @@ pub fn play(rt: &impl Abort, alloc: Global, steps: &[Step]) {
     }
 }
 
-/// Whether what came of a step is what had to.
+/// Takes a step, and returns true if it gave the step's result.
 fn is_as_told(engine: &mut Engine, step: Step) -> bool {
     match step {
         Step::Hand(on, number, want) => hand(engine, on, number) == Some(want),
@@ -135,28 +140,32 @@ fn is_as_told(engine: &mut Engine, step: Step) -> bool {
     }
 }
 
+/// Returns the result of `arrive` for packet 1 or 2 on a path, or none if there is no such path.
 fn hand(engine: &mut Engine, on: u8, number: u8) -> Option<Result<ArriveOutcome, ArriveFault>> {
     let ts = if number == 1 { 0 } else { 6 };
     Some(engine.arrive(0, Path::new(on)?, &packet_of_six(number, ts, number)))
 }
 
-/// Whether a turn gives this datagram.
+/// Returns true if a turn gives this datagram.
 pub fn gives(engine: &mut Engine, now: i64, want: &[u8]) -> bool {
     let mut out = [0u8; MOST];
+    // Called for its clause: a datagram has at most `MOST` octets, so `out` has room.
     let _short = engine.output().datagram_len();
     engine.turn(now, &mut out) == Ok(Some(want.len())) && out.starts_with(want)
 }
 
-/// Whether a turn answers so.
+/// Returns true if a turn returns this result.
 pub fn answers(engine: &mut Engine, now: i64, want: Result<Option<usize>, ClockFault>) -> bool {
     let mut out = [0u8; MOST];
+    // Called for its clause, as in `gives`.
     let _short = engine.output().datagram_len();
     engine.turn(now, &mut out) == want
 }
 
-/// Whether a drain gives these octets, or none.
+/// Returns true if a drain gives a datagram of this length and these octets, or none if there is no length.
 fn drains(engine: &mut Engine, len: Option<usize>, want: &[u8]) -> bool {
     let mut out = [0u8; MOST];
+    // Called for its clause, as in `gives`.
     let _short = engine.output().datagram_len();
     engine.drain(&mut out) == len && out.starts_with(want)
 }
