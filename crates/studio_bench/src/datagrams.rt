@@ -1,28 +1,30 @@
-//! Ready datagrams of one stream, and the words that ask for them.
+//! The datagrams of one stream, made before a kernel is timed, and the numbers of the command line.
 use path_merge::{StreamClock, StreamSpec};
 use rtp_wire::Enc;
 use std::alloc::Global;
 use std::env::Args;
 
-/// The octets of a fixed header.
+/// The number of octets of a fixed RTP header (RFC 3550, 5.1).
 const HEADER: usize = 12;
 
-/// How many datagrams there are, by their numbers from 0 on.
+// The same as `NUMBERS` in bench/merge.c, whose sum has to be equal.
+/// The number of datagrams, which are numbered from 0 on.
 pub(crate) const NUMBERS: u32 = 12_000;
 
-/// Datagrams of one length, side by side.
+/// Datagrams of one length, next to each other in memory.
 #[derive(Drop)]
 pub(crate) struct Datagrams {
     octets: Vec<u8>,
     len: usize,
 }
 
-/// The number that the next word says.
+/// Returns the next word as a number, or none if it is none.
 pub(crate) fn number(words: &mut Args) -> Option<u32> {
     words.next()?.parse::<u32>().ok()
 }
 
-/// A stream whose packets have so many octets, with the longest latency that the window spans.
+/// Returns a stream of L24 whose payloads have so many octets, with a window of `width` packets and the longest latency
+/// that it spans. None for other lengths than 18, 144, 288 and 1,152, or if the window is not allowed.
 pub(crate) fn stream(octets: u32, width: u32) -> Option<StreamSpec> {
     let (channels, frames) = match octets {
         18 => (1, 6),
@@ -32,6 +34,7 @@ pub(crate) fn stream(octets: u32, width: u32) -> Option<StreamSpec> {
         _ => return None,
     };
     let width = u16::try_from(width).ok()?;
+    // A window has to span the latency and two packets.
     let latency = u32::from(width.saturating_sub(2)) * u32::from(frames);
     let clock = StreamClock::Media { offset: 0 };
     StreamSpec::new(
@@ -48,7 +51,7 @@ pub(crate) fn stream(octets: u32, width: u32) -> Option<StreamSpec> {
     .ok()
 }
 
-/// The datagrams of all numbers.
+/// Returns the datagrams of all numbers, or none if an allocation fails.
 pub(crate) fn make_datagrams(alloc: Global, spec: &StreamSpec) -> Option<Datagrams> {
     let len = HEADER + spec.payload_len();
     let mut octets = vec![in alloc; 0u8; len * NUMBERS as usize].ok()?;
@@ -58,7 +61,7 @@ pub(crate) fn make_datagrams(alloc: Global, spec: &StreamSpec) -> Option<Datagra
     Some(Datagrams { octets, len })
 }
 
-/// Writes the datagram of a number.
+/// Writes the datagram of a number: a header of payload type 96 and source 7, and octets that count up from the number.
 fn write_datagram(datagram: &mut [u8], number: u32, frames: u32) {
     let [_, _, high, low] = number.to_be_bytes();
     let [first, second, third, fourth] = number.wrapping_mul(frames).to_be_bytes();
@@ -74,7 +77,7 @@ fn write_datagram(datagram: &mut [u8], number: u32, frames: u32) {
 }
 
 impl Datagrams {
-    /// The datagram of a number, if there is one.
+    /// Returns the datagram of a number, if there is one.
     pub(crate) fn of(&self, number: u32) -> Option<&[u8]> {
         let begin = (number as usize).wrapping_mul(self.len);
         self.octets.as_slice().get(begin..)?.get(..self.len)

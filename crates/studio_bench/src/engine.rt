@@ -1,4 +1,4 @@
-//! A trace, handed to an engine event by event, and the report of what the engine gave, in the words of `play`.
+//! A trace that an engine takes event by event, and the report of it, in the form of `play`.
 use anyhow::{anyhow, bail};
 use path_merge::{Path, StreamSpec};
 use std::alloc::Global;
@@ -11,18 +11,18 @@ use studio_run::{
     write_path_counts,
 };
 
-/// The octets of the longest datagram of an output.
+/// The greatest number of octets of an output's datagram.
 const MOST_OCTETS: usize = 1452;
 
-/// The lines of a report, on their way to a writer.
+/// The lines of a report that are not written yet, and their writer.
 #[derive(Drop)]
 struct Lines<'a, W: Write> {
     text: TextBuffer,
     output: &'a mut W,
 }
 
-/// Plays the trace of standard input over the configuration that the next word names. At the first event that is at
-/// fault it breaks off.
+/// Plays the trace on standard input by the configuration at the path that the next word is. Stops at the first event
+/// that has a fault, after the datagrams before it.
 pub fn play_trace(rt: &HostRuntime, words: &mut Args) -> anyhow::Result<()> {
     let Some(path) = words.next() else {
         bail!("engine: which configuration");
@@ -32,13 +32,13 @@ pub fn play_trace(rt: &HostRuntime, words: &mut Args) -> anyhow::Result<()> {
     play(rt, &spec, events.as_slice())
 }
 
-/// The studio that a file's configuration says.
+/// Returns the studio of the configuration at a path.
 fn studio_at(rt: &HostRuntime, path: &str) -> anyhow::Result<StudioSpec> {
     let config = read_text(rt.alloc(), &mut fs::open(rt, path)?)?;
     studio_of(rt.alloc(), config.as_slice())
 }
 
-/// The studio that the octets of a configuration say.
+/// Returns the studio of a configuration's octets.
 fn studio_of(alloc: Global, octets: &[u8]) -> anyhow::Result<StudioSpec> {
     let text = str::from_utf8(octets)?;
     let Ok(table) = toml::table_from_str(alloc, text) else {
@@ -47,13 +47,13 @@ fn studio_of(alloc: Global, octets: &[u8]) -> anyhow::Result<StudioSpec> {
     StudioSpec::from_table(alloc, &table).map_err(|error| anyhow!("config {error}"))
 }
 
-/// The events of the trace of standard input.
+/// Returns the events of the trace on standard input.
 fn trace_of(rt: &HostRuntime) -> anyhow::Result<Vec<StudioEvent>> {
     let trace = read_text(rt.alloc(), &mut rt.stdin())?;
     Ok(read_trace(rt.alloc(), trace.as_slice())?)
 }
 
-/// Hands events to an engine, and writes what it gives and its counts.
+/// Passes the events to an engine, and writes its datagrams and its counts.
 fn play(rt: &HostRuntime, spec: &StudioSpec, events: &[StudioEvent]) -> anyhow::Result<()> {
     let mut engine = Engine::new(rt.alloc(), spec)?;
     let mut lines = Lines {
@@ -65,7 +65,7 @@ fn play(rt: &HostRuntime, spec: &StudioSpec, events: &[StudioEvent]) -> anyhow::
     finish(&mut lines)
 }
 
-/// Hands all events on, and writes the datagrams that they give.
+/// Passes all events to an engine, and writes the datagrams that they give.
 fn take_events<W: Write>(
     engine: &mut Engine,
     events: &[StudioEvent],
@@ -77,7 +77,7 @@ fn take_events<W: Write>(
     Ok(())
 }
 
-/// Hands an event on, and writes the datagrams that it gives.
+/// Passes an event to an engine, and writes the datagrams that it gives.
 fn take_event<W: Write>(
     engine: &mut Engine,
     event: &StudioEvent,
@@ -100,12 +100,13 @@ fn take_event<W: Write>(
     Ok(())
 }
 
-/// Writes the datagrams of a turn, or those that a drain gives.
+/// Writes the datagrams of a turn to a clock reading, or, without one, those of a drain.
 fn write_all<W: Write>(
     engine: &mut Engine,
     now: Option<i64>,
     lines: &mut Lines<'_, W>,
 ) -> anyhow::Result<()> {
+    // The range bounds the loop. The engine has no further datagram long before.
     for _ in 0..u64::MAX {
         if !write_next(engine, now, lines)? {
             break;
@@ -114,13 +115,14 @@ fn write_all<W: Write>(
     Ok(())
 }
 
-/// Writes the next datagram; false where there is none.
+/// Writes the next datagram. Returns false if there is none.
 fn write_next<W: Write>(
     engine: &mut Engine,
     now: Option<i64>,
     lines: &mut Lines<'_, W>,
 ) -> anyhow::Result<bool> {
     let mut out = [0; MOST_OCTETS];
+    // Called for its clause: a datagram has at most `MOST_OCTETS` octets, so `out` has room.
     let _short = engine.output().datagram_len();
     let given = match now {
         Some(now) => engine.turn(now, &mut out)?,
@@ -145,6 +147,7 @@ fn write_counts<W: Write>(
     Ok(())
 }
 
+/// Writes the lines of a stream's counts.
 fn write_stream<W: Write>(
     engine: &Engine,
     number: u8,
@@ -164,7 +167,7 @@ fn write_stream<W: Write>(
     Ok(())
 }
 
-/// Writes the lines that are held.
+/// Writes the lines that are left.
 fn finish<W: Write>(lines: &mut Lines<'_, W>) -> anyhow::Result<()> {
     lines.text.finish(lines.output)?;
     Ok(())

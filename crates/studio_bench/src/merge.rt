@@ -1,6 +1,7 @@
-//! Merging of two paths: ready datagrams in, their slots out, over a window that is as good as full.
+//! The benchmark of merging two paths (ST 2022-7): ready datagrams in, their slots out, over a window that is as good as
+//! full.
 //!
-//! `bench/merge.c` does the same, and comes to the same sum.
+//! `bench/merge.c` does the same work, and comes to the same sum.
 ghost use Rattle.std.specs.Prelude.{◌≡◌};
 
 use crate::datagrams::{Datagrams, NUMBERS, make_datagrams, number, stream};
@@ -12,24 +13,27 @@ use std::env::Args;
 use std::rt::Clock;
 use std::time::Instant;
 
-/// What happens to a merge at a number: a packet comes in on each path, or none, and then the clock moves on by a packet's time.
+/// The work of a merge at a number: at most one packet arrives on each path, and then the clock advances by a packet's
+/// time.
 #[derive(Clone, Copy)]
 struct Turn {
     first: Arrival,
     second: Arrival,
 }
 
-/// The datagram of a number comes in on a path.
+/// An arrival on a path, if there is one.
 #[derive(Clone, Copy)]
 enum Arrival {
+    /// The datagram of a number arrives on a path.
     On(Path, u32),
+    /// No datagram arrives.
     Nothing,
 }
 
-/// Merges one shape as the words say: OCTETS WIDTH HALVES.
+/// Merges the datagrams of one shape, which the words OCTETS WIDTH HALVES give.
 ///
-/// The first half fills the window. Where there are two, the second is timed: prints the shape, the
-/// picoseconds that an arrival took, and a sum over fates and marks.
+/// The first half fills the window. If there are two halves, the second is timed. Prints the shape, the picoseconds
+/// that an arrival took, or 0, and a sum over fates and marks.
 pub fn time_merge(
     rt: &(impl Clock + Print),
     alloc: Global,
@@ -46,7 +50,8 @@ pub fn time_merge(
     Ok(())
 }
 
-/// The picoseconds that an arrival took, and the sum.
+/// Returns the picoseconds that an arrival took, and the sum. None if there is no such stream, or if an allocation or a
+/// clock fails.
 fn time_shape(
     clock: &impl Clock,
     alloc: Global,
@@ -60,7 +65,7 @@ fn time_shape(
     time_halves(clock, alloc, merge, &spec, &datagrams, halves)
 }
 
-/// Fills the window by the first half, and times the second where there is one.
+/// Fills the window with the first half, and times the second if there is one.
 fn time_halves(
     clock: &impl Clock,
     alloc: Global,
@@ -79,11 +84,12 @@ fn time_halves(
     }
     let start = Instant::now(clock).ok()?;
     let more = merge_all(merge, spec, datagrams, second);
+    // Half of the numbers on each of two paths are `NUMBERS` arrivals, but for the lost ones.
     let picos = start.elapsed(clock).ok()?.as_nanos() * 1000 / u128::from(NUMBERS);
     Some((picos, sum.wrapping_add(more)))
 }
 
-/// What happens at each number.
+/// Returns the work at each number.
 fn make_turns(alloc: Global) -> Option<Vec<Turn>> {
     let (first, second) = (Path::new(0)?, Path::new(1)?);
     let mut turns = Vec::new(alloc);
@@ -97,7 +103,7 @@ fn make_turns(alloc: Global) -> Option<Vec<Turn>> {
     Some(turns)
 }
 
-/// The first path swaps two in fifty.
+/// Returns the number of the first path's packet. The path swaps two in fifty.
 fn swapped(number: u32) -> u32 {
     match number % 50 {
         10 => number.saturating_add(1),
@@ -106,8 +112,9 @@ fn swapped(number: u32) -> u32 {
     }
 }
 
-/// A path's packet, of which it loses one in a hundred. The second path is four behind, and begins with none.
+/// Returns the arrival of a path's packet, of which the path loses one in a hundred.
 fn packet_of(path: Path, number: u32, lost: u32) -> Arrival {
+    // The second path is four packets behind, so its first four numbers wrapped below 0.
     if number >= NUMBERS || number % 100 == lost {
         Arrival::Nothing
     } else {
@@ -115,7 +122,7 @@ fn packet_of(path: Path, number: u32, lost: u32) -> Arrival {
     }
 }
 
-/// Takes these turns, and sums what the fates and marks say.
+/// Does the work of these turns, and returns a sum over fates and marks.
 fn merge_all(
     merge: &mut Merge<SlotWindow>,
     spec: &StreamSpec,
@@ -134,7 +141,7 @@ fn merge_all(
     sum
 }
 
-/// Takes what comes in, and says what it adds to the sum.
+/// Takes an arrival, and returns what it adds to the sum.
 #[inline(always)]
 fn take(
     merge: &mut Merge<SlotWindow>,
@@ -154,7 +161,8 @@ fn take(
     }
 }
 
-/// Offers the packet of a datagram. A call of its own, as a receiver makes it for each datagram.
+// Never inlined: a receiver makes a call for each datagram, too.
+/// Offers the packet of a datagram, and returns its fate as a number, or 0 if the datagram is refused.
 #[inline(never)]
 fn arrive(merge: &mut Merge<SlotWindow>, spec: &StreamSpec, path: Path, datagram: &[u8]) -> u64
     requires { merge.old.spec ≡ spec.now }
@@ -172,7 +180,7 @@ fn arrive(merge: &mut Merge<SlotWindow>, spec: &StreamSpec, path: Path, datagram
     merge.offer_ref(path, packet) as u64
 }
 
-/// Takes the marks of the reading that is a packet's time after the last.
+/// Takes the marks of the clock reading that is a packet's time after the last, and returns what they add to the sum.
 fn give(merge: &mut Merge<SlotWindow>, spec: &StreamSpec) -> u64
     ensures { merge.new.spec ≡ merge.old.spec }
 {
@@ -181,6 +189,7 @@ fn give(merge: &mut Merge<SlotWindow>, spec: &StreamSpec) -> u64
         return 0;
     };
     let mut sum = 0u64;
+    // The range bounds the loop. The goal is reached long before.
     for _ in 0..u64::MAX {
         if let Some(mark) = merge.mark_to(goal) {
             sum = sum.wrapping_add(sum_of(&mark));
@@ -192,7 +201,7 @@ fn give(merge: &mut Merge<SlotWindow>, spec: &StreamSpec) -> u64
     sum
 }
 
-/// What a mark adds to the sum.
+/// Returns what a mark adds to the sum.
 fn sum_of(mark: &MarkRef<'_>) -> u64 {
     match mark.kind() {
         MarkKindRef::Slot {
@@ -209,7 +218,7 @@ fn sum_of(mark: &MarkRef<'_>) -> u64 {
     }
 }
 
-/// The first octet and the last.
+/// Returns the sum of the first octet and the last.
 fn ends_of(octets: &[u8]) -> u64 {
     match octets {
         [first, .., last] => u64::from(*first) + u64::from(*last),

@@ -1,4 +1,4 @@
-//! Mixing of blocks: inputs into outputs by a matrix of gains.
+//! The benchmark of mixing blocks: inputs into outputs by a matrix of gains. `bench/mix.c` does the same work.
 ghost use Rattle.std.specs.Prelude.{IsTrue, All};
 ghost use Rattle.gain_mix.specs.Mix.{Is24Bits};
 
@@ -11,13 +11,13 @@ use std::time::Instant;
 /// The sampling instants of a block.
 const FRAMES: usize = 48;
 
-/// The blocks that are mixed between two readings of the clock.
+/// The number of blocks that are mixed between two clock readings.
 const BLOCKS: u32 = 500;
 
-/// The outputs and inputs that are timed; the first pair is the one that is compared.
+/// The numbers of outputs and inputs that are timed, those of bench/mix.c.
 const SHAPES: [(usize, usize); 5] = [(8, 128), (8, 64), (4, 128), (1, 128), (8, 1024)];
 
-/// Prints for each shape its outputs, its inputs, frames a second, and a sum of the outputs.
+/// Prints a line for each shape: its outputs, its inputs, the frames a second, and a sum of the outputs.
 pub fn time_shapes(rt: &(impl Clock + Print), alloc: Global) -> anyhow::Result<()> {
     for (outs, ins) in &SHAPES {
         time_shape(rt, alloc, *outs, *ins)?;
@@ -25,6 +25,7 @@ pub fn time_shapes(rt: &(impl Clock + Print), alloc: Global) -> anyhow::Result<(
     Ok(())
 }
 
+/// Prints the line of a shape.
 fn time_shape(
     rt: &(impl Clock + Print),
     alloc: Global,
@@ -38,7 +39,7 @@ fn time_shape(
     Ok(())
 }
 
-/// Frames a second, and a sum of the outputs; none where there is no memory.
+/// Returns the frames a second, and a sum of the outputs. None if an allocation or a clock fails.
 fn rate_of_shape(
     clock: &impl Clock,
     alloc: Global,
@@ -52,12 +53,13 @@ fn rate_of_shape(
     Some((rate, check_of(&samples)))
 }
 
+/// Returns a matrix of pseudorandom gains.
 fn noisy_matrix(alloc: Global, outs: usize, ins: usize) -> Option<Matrix> {
     let gains = noise(alloc, outs.saturating_mul(ins), 11, -1_048_576)?;
     Matrix::new(alloc, outs, ins, &gains).ok()
 }
 
-/// A sum of samples that their order changes.
+/// Returns a sum of samples that depends on their order.
 fn check_of(samples: &[i32]) -> i64 {
     let mut check: i64 = 0;
     for sample in samples {
@@ -66,24 +68,26 @@ fn check_of(samples: &[i32]) -> i64 {
     check
 }
 
-/// So many numbers that look like chance, of the top bits that a shift leaves, from a least one on.
+/// Returns so many pseudorandom numbers from a least one on, of the top bits that a shift leaves.
 fn noise(alloc: Global, count: usize, shift: u32, least: i32) -> Option<Vec<i32>> {
     let mut numbers = vec![in alloc; 0; count].ok()?;
     let mut seed: u32 = 1;
     for number in numbers.as_mut_slice().iter_mut() {
+        // A linear congruential generator, whose top bits are its best. bench/mix.c has the same one.
         seed = seed.wrapping_mul(1_664_525).wrapping_add(1_013_904_223);
         *number = least.wrapping_add(seed.wrapping_shr(shift).cast_signed());
     }
     Some(numbers)
 }
 
-/// Mixes blocks for L16 output, and says how many frames a second it took.
+/// Mixes the block many times, for output as L16, and returns the frames a second.
 fn rate_of(
     clock: &impl Clock,
     matrix: &Matrix,
     values: &[i32],
     samples: &mut [i32],
 ) -> Option<u128> {
+    // Never false, but `mix_block` requires these.
     let fits = FRAMES.checked_mul(matrix.ins()) == Some(values.len())
         && FRAMES.checked_mul(matrix.outs()) == Some(samples.len());
     if !fits || !are_24_bits(values) {
@@ -93,10 +97,12 @@ fn rate_of(
     for _ in 0..BLOCKS {
         mix_block(matrix, values, samples, FRAMES, 24);
     }
+    // `max` shows that the divisor is not 0.
     let nanos = start.elapsed(clock).ok()?.as_nanos().max(1);
     Some(u128::from(BLOCKS) * FRAMES as u128 * 1_000_000_000 / nanos)
 }
 
+/// Returns true if all values have 24 bits.
 fn are_24_bits(values: &[i32]) -> bool
     ensures { IsTrue result → All Is24Bits values.now }
 {
