@@ -74,7 +74,8 @@ fn replay_words<'a>(config: &'a str, matches: &ArgMatches<'a>) -> ReplayArgs<'a>
     }
 }
 
-/// Returns the options of `live`. With `--clock tai` and no `--tai-offset`, the offset is the one that the system knows.
+/// Returns the options of `live`. With `--clock tai` and no `--tai-offset`, the offset is the one that the system
+/// knows.
 fn live_words<'a>(matches: &ArgMatches<'a>) -> LiveArgs<'a> {
     let offset = matches.get_str("tai-offset").unwrap_or("system");
     LiveArgs {
