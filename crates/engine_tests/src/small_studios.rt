@@ -6,8 +6,8 @@ use rtp_wire::Enc;
 use std::alloc::Global;
 use studio_config::{StudioSpec, channel_total};
 
-/// Returns a stream of one channel of L24, by the media clock, with a window of eight packets. `frames` and `latency` are
-/// in sampling instants at 48 kHz.
+/// Returns a stream of one channel of L24, by the media clock, with a window of eight packets. `frames` and `latency`
+/// are in sampling instants at 48 kHz.
 pub fn stream(frames: u16, latency: u32, paths: u8) -> Result<StreamSpec, SpecFault> {
     let clock = StreamClock::Media { offset: 0 };
     StreamSpec::new(Enc::L24, 1, frames, 96, None, clock, latency, 8, paths)
@@ -42,8 +42,8 @@ fn gain_of_one(alloc: Global, ins: usize) -> Option<Schedule> {
     Schedule::new(matrix, Vec::new(alloc)).ok()
 }
 
-/// Returns a studio that adds two streams into packets of 48 sampling instants: one of 6 sampling instants a packet on so
-/// many paths, and one of 48 on one path. None if an allocation fails.
+/// Returns a studio that adds two streams into packets of 48 sampling instants: one of 6 sampling instants a packet on
+/// so many paths, and one of 48 on one path. None if an allocation fails.
 pub fn six_and_forty_eight(alloc: Global, paths: u8) -> Option<StudioSpec> {
     let specs = [stream(6, 12, paths).ok()?, stream(48, 48, 1).ok()?];
     sum_of(alloc, &specs, 48)

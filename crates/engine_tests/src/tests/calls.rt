@@ -37,7 +37,8 @@ const BETWEEN_TURNS: [Step; 7] = [
     Step::Hand(0, 2, Ok(ArriveOutcome::Offered(Fate::Late))),
 ];
 
-/// A packet that arrives between two turns is in the second one's datagram. One that arrives after its deadline is late.
+/// A packet that arrives between two turns is in the second one's datagram. One that arrives after its deadline is
+/// late.
 #[test]
 fn a_packet_comes_between_two_turns(rt: HostRuntime) {
     play(&rt, rt.alloc(), &BETWEEN_TURNS);
@@ -156,8 +157,8 @@ fn first_of_both() -> [u8; 156] {
     octets
 }
 
-/// A block needs both streams, and the one of packets of 48 has its deadlines 84 later. Until then the marks of the other
-/// one are kept for their block.
+/// A block needs both streams, and the one of packets of 48 has its deadlines 84 later. Until then the marks of the
+/// other one are kept for their block.
 #[test]
 fn marks_are_kept_until_the_slower_stream_has_come(rt: HostRuntime) {
     let engine = &mut six_and_forty_eight(&rt, rt.alloc());

@@ -163,6 +163,7 @@ fn gains_change_within_a_span(rt: HostRuntime) {
     let schedule = two_changes(&rt, rt.alloc());
     let ins = [1, 2, 3, 4, 5, 6];
     let mut outs = [0; 6];
+    // `mix_span` requires these values and this shape.
     assert!(rt; are_24_bits(&ins));
     assert!(rt; schedule.first().ins() == 1 && schedule.first().outs() == 1);
     mix_span(&schedule, 98, &ins, &mut outs, 6, 16);
@@ -182,7 +183,9 @@ fn saturated_samples_are_counted(rt: HostRuntime) {
         "a schedule of no change",
     );
     let mut outs = [0; 8];
+    // The second count begins at 5, to see that the call adds to it.
     let mut counts = [0, 5];
+    // `mix_counted` requires these values and this shape.
     assert!(rt; are_24_bits(&LOUD));
     assert!(rt; schedule.first().ins() == 1 && schedule.first().outs() == 2);
     mix_counted(&schedule, 0, &LOUD, &mut outs, 4, 16, &mut counts);

@@ -19,6 +19,7 @@ fn with_room(rt: &impl Abort, alloc: Global, spec: &StudioSpec) -> Mixer {
 
 /// Tests that a mixer with room keeps a stream's slot that is within the room, and has none for one that is beyond it.
 fn keeps(rt: &impl Abort, mixer: &mut Mixer, number: usize, within: &Mark, beyond: &Mark) {
+    // The calls of a mixer require a number of one of its streams.
     assert!(rt; number < mixer.streams());
     assert!(rt; !mixer.has_room(number, &beyond.lent()), "stream {number}");
     assert!(rt; mixer.has_room(number, &within.lent()), "stream {number}");
@@ -32,11 +33,12 @@ fn has_none(rt: &impl Abort, mixer: &Mixer, number: usize, mark: &Mark) {
     assert!(rt; !mixer.has_room(number, &mark.lent()), "stream {number}");
 }
 
-/// A stream's number, its sampling instants a packet, its latency, and the media time of the last slot that its lane has
-/// room for.
+/// A stream's number, its sampling instants a packet, its latency, and the media time of the last slot that its lane
+/// has room for.
 const ROOMS: [(usize, u16, u32, i16); 2] = [(0, 6, 12, 468), (1, 48, 48, 432)];
 
-/// Next to a stream that lags by 432 sampling instants, a stream of latency 12 has room for 474: for a slot of 6 at 468.
+/// Next to a stream that lags by 432 sampling instants, a stream of latency 12 has room for 474: for a slot of 6 at
+/// 468.
 #[test]
 fn a_lane_has_room_beside_the_stream_that_lags_most(rt: HostRuntime) {
     let studio = six_and_forty_eight(rt.alloc(), 1).expect(&rt, "there is memory");

@@ -90,8 +90,8 @@ pub fn block_of_48(block: u8, sample: u8) -> [u8; 156] {
     )
 }
 
-/// A call of an engine of one stream in packets of 6 sampling instants, and its result. A block is 0 or 1, and its samples
-/// are all one value.
+/// A call of an engine of one stream in packets of 6 sampling instants, and its result. A block is 0 or 1, and its
+/// samples are all one value.
 #[derive(Clone, Copy)]
 pub enum Step {
     /// Packet 1 or 2, at 0 or 6, arrives on a path. Its samples are all its number.
