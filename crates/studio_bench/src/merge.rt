@@ -1,5 +1,5 @@
-//! The benchmark of merging two paths (ST 2022-7): ready datagrams in, their slots out, over a window that is as good as
-//! full.
+//! The benchmark of merging two paths (ST 2022-7): ready datagrams in, their slots out, over a window that is as good
+//! as full.
 //!
 //! `bench/merge.c` does the same work, and comes to the same sum.
 ghost use Rattle.std.specs.Prelude.{◌≡◌};
