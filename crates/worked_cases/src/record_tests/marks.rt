@@ -44,7 +44,8 @@ fn a_record_says_its_opening_and_its_close(rt: HostRuntime) {
     assert!(rt; left == Some(&[]), "five blocks, and nothing more");
 }
 
-/// A place in the header of the latest opening, the octet that is written there, and the mark that the header gives then.
+/// A place in the header of the latest opening, the octet that is written there, and the mark that the header gives
+/// then.
 const CHANGES: [(usize, u8, Option<RecordMark>); 12] = [
     (0, 0x0a, Some(RecordMark::Opened(9_223_372_036_854_775_807))),
     (26, 26, Some(RecordMark::Opened(922_337_203_685_477_580))),

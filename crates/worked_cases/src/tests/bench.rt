@@ -74,6 +74,7 @@ impl<W: Window> Bench<W> {
     /// Offers a packet, and tests that nothing is counted after a close.
     pub fn offer(&mut self, rt: &impl Abort, path: Path, sent: Sent) -> Fate {
         let packet = sent.packet(&self.spec);
+        // `Merge::offer` requires these.
         assert!(rt; path.number() < self.spec.paths() && self.spec.fits(&packet));
         let before = self.merge.counts().arrived;
         let fate = self.merge.offer(path, packet);
@@ -142,6 +143,7 @@ pub fn slots_bench(
     spec: StreamSpec,
     open_at: i64,
 ) -> Bench<SlotWindow> {
+    // `Merge::new` requires an opening time from 0 to 2^60. The cases have small ones.
     assert!(rt; 0 <= open_at && open_at <= 1_000_000);
     let merge = Merge::new(alloc, spec, open_at).expect(rt, "there is memory");
     Bench::new(alloc, spec, merge)
@@ -154,6 +156,7 @@ pub fn sorted_bench(
     spec: StreamSpec,
     open_at: i64,
 ) -> Bench<SortedWindow> {
+    // As in `slots_bench`.
     assert!(rt; 0 <= open_at && open_at <= 1_000_000);
     let window = SortedWindow::new(alloc, &spec).expect(rt, "there is memory");
     let merge = Merge::with_window(window, spec, open_at);

@@ -93,6 +93,7 @@ fn marks_of(
 ) -> Vec<Mark>
     requires { All (IsEventOf spec) events.now }
 {
+    // `run_merge` requires an opening time from 0 to 2^60. The cases have small ones.
     assert!(rt; 0 <= open_at && open_at <= 1_000_000);
     run_merge(alloc, spec, open_at, events).expect(
         rt,

@@ -186,8 +186,8 @@ const A_ROOM: [Step; 12] = [
     Step::Play([7, 8, 9, 10, 11, 12, 13, 14, 15, 16, 17, 18]),
 ];
 
-/// A lane with room for 30 frames keeps marks of two epochs before they are wanted, up to the last frame. The room begins
-/// at the next block.
+/// A lane with room for 30 frames keeps marks of two epochs before they are wanted, up to the last frame. The room
+/// begins at the next block.
 #[test]
 fn a_room_is_filled_to_its_last_frame(rt: HostRuntime) {
     let player = &mut Player::with_room(&rt, rt.alloc());
@@ -216,8 +216,8 @@ const FOLLOWERS: [Step; 17] = [
     Step::Refuse(Plain::End),
 ];
 
-/// After silence up to 3, a slot at 27, one of the next epoch and the end, a lane refuses marks of other times, numbers,
-/// epochs and streams.
+/// After silence up to 3, a slot at 27, one of the next epoch and the end, a lane refuses marks of other times,
+/// numbers, epochs and streams.
 #[test]
 fn marks_that_do_not_follow_are_refused(rt: HostRuntime) {
     Player::new(&rt, rt.alloc()).take(&rt, &FOLLOWERS);

@@ -124,8 +124,8 @@ const ORDER: [Case; 7] = [
     },
 ];
 
-/// Packets are missing, out of order, late, too early for the window or before the anchor. Each number that is due gives
-/// one slot, got or lost.
+/// Packets are missing, out of order, late, too early for the window or before the anchor. Each number that is due
+/// gives one slot, got or lost.
 #[test]
 fn slots_come_in_order_at_their_deadlines(rt: HostRuntime) {
     for case in &ORDER {
@@ -419,8 +419,8 @@ const PROBATIONS: [Case; 8] = [
     },
 ];
 
-/// Eight packets in sequence restart a stream only if they come on one path, from one source that the stream allows, and
-/// no other packet of the stream comes between them on that path.
+/// Eight packets in sequence restart a stream only if they come on one path, from one source that the stream allows,
+/// and no other packet of the stream comes between them on that path.
 #[test]
 fn a_probation_is_of_one_path_and_source(rt: HostRuntime) {
     for case in &PROBATIONS {
@@ -428,6 +428,7 @@ fn a_probation_is_of_one_path_and_source(rt: HostRuntime) {
     }
 }
 
+// Tried by `check_calls` alone: `run_merge` gives no marks if a reading is out of order, and has no single `advance`.
 const SINGLE_CALLS: [Case; 2] = [
     Case {
         shows: "readings are checked in order, and a refused one moves nothing",

@@ -111,8 +111,8 @@ fn place_of_fault(alloc: Global, spec: StreamSpec, open_at: i64, events: &[Event
     }
 }
 
-/// `run_merge` names the place of the first clock reading that goes back, is before the opening or past 2^60, or follows
-/// a close.
+/// `run_merge` names the place of the first clock reading that goes back, is before the opening or past 2^60, or
+/// follows a close.
 #[test]
 fn a_run_names_the_first_reading_out_of_order(rt: HostRuntime) {
     let spec = spec_of(&rt, STREAM);

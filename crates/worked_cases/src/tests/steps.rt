@@ -39,8 +39,8 @@ impl Sent {
         }
     }
 
-    /// Returns the packet for a stream. Its payload counts up from 1, and ends in the sequence number's low octet, or in
-    /// that octet's complement if the packet is odd.
+    /// Returns the packet for a stream. Its payload counts up from 1, and ends in the sequence number's low octet, or
+    /// in that octet's complement if the packet is odd.
     pub fn packet(self, spec: &StreamSpec) -> Packet {
         let [_, low] = self.seq.to_be_bytes();
         let last = if self.odd { !low } else { low };

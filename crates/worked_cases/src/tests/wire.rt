@@ -6,8 +6,8 @@ use rtp_wire::{Enc, WireFault, read, read_samples, sample, write_sample, write_s
 /// A datagram, its fault if it has one, and else its payload.
 type Row = (&'static [u8], Option<WireFault>, &'static [u8]);
 
-/// Eleven octets; headers with fifteen contributing sources, the last of which is cut and then whole; and headers of type
-/// 96, number 1, timestamp 0 and source 1.
+/// Eleven octets; headers with fifteen contributing sources, the last of which is cut and then whole; and headers of
+/// type 96, number 1, timestamp 0 and source 1.
 const ROWS: [Row; 13] = [
     (
         &[0x60, 0, 1, 0, 0, 0, 0, 0, 0, 0, 1],
@@ -101,8 +101,8 @@ fn fault_of_cut(k: usize) -> Option<WireFault> {
     }
 }
 
-/// Each cut of a datagram with two contributing sources, an extension and padding has the fault of the part in which the
-/// cut is.
+/// Each cut of a datagram with two contributing sources, an extension and padding has the fault of the part in which
+/// the cut is.
 #[test]
 fn each_cut_of_a_full_header_has_its_fault(rt: HostRuntime) {
     for k in 0..34usize {
@@ -117,8 +117,8 @@ const EDGES_16: [u8; 6] = [0xff, 0xff, 0x80, 0, 0x7f, 0xff];
 /// The least and the greatest sample of L24, and one between them.
 const EDGES_24: [u8; 9] = [0x80, 0, 0, 0x7f, 0xff, 0xff, 1, 2, 3];
 
-/// The least and greatest samples of L16 and L24 have their values on 24 bits: they are signed and big-endian (RFC 3551,
-/// 4.5; RFC 3190, 4).
+/// The least and greatest samples of L16 and L24 have their values on 24 bits: they are signed and big-endian (RFC
+/// 3551, 4.5; RFC 3190, 4).
 #[test]
 fn samples_are_signed_and_big_endian(rt: HostRuntime) {
     assert!(rt; sample(Enc::L16, &EDGES_16, 0) == -256);
@@ -157,8 +157,8 @@ const OF_24: [i32; 7] = [258, -8_388_608, 8_388_607, -2, 5, 5, 5];
 /// The samples of `OCTETS` as L16, and the rest of the buffer, which is not written.
 const OF_16: [i32; 7] = [256, 163_840, 0, 8_388_352, -256, -512, 5];
 
-/// Twelve octets are four samples of L24 or six of L16. Octets that do not fill a sample are not read: a thirteenth one,
-/// and two of L24.
+/// Twelve octets are four samples of L24 or six of L16. Octets that do not fill a sample are not read: a thirteenth
+/// one, and two of L24.
 #[test]
 fn blocks_are_their_samples_side_by_side(rt: HostRuntime) {
     let mut out = [5i32; 7];

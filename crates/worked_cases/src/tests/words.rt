@@ -80,6 +80,7 @@ pub fn say_fates(rt: &impl Abort, text: &mut String, fates: &[Fate]) {
     for (place, fate) in fates.iter().enumerate() {
         times = times.saturating_add(1);
         if fates.get(place + 1) != Some(fate) {
+            // The empty word writes the comma.
             say(rt, text, "");
             write!(text, "{times} {fate:?}").expect(rt, "there is memory");
             times = 0;
@@ -89,6 +90,7 @@ pub fn say_fates(rt: &impl Abort, text: &mut String, fates: &[Fate]) {
 
 /// Says a count and its name.
 fn say_count(rt: &impl Abort, text: &mut String, count: u64, name: &str) {
+    // The empty word writes the comma.
     say(rt, text, "");
     write!(text, "{count} {name}").expect(rt, "there is memory");
 }
