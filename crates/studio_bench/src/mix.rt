@@ -14,7 +14,7 @@ const FRAMES: usize = 48;
 /// The number of blocks that are mixed between two clock readings.
 const BLOCKS: u32 = 500;
 
-/// The numbers of outputs and inputs that are timed, those of bench/mix.c.
+/// The numbers of outputs and inputs that are timed, those of bench/mix.c. The first pair is compared with C.
 const SHAPES: [(usize, usize); 5] = [(8, 128), (8, 64), (4, 128), (1, 128), (8, 1024)];
 
 /// Prints a line for each shape: its outputs, its inputs, the frames a second, and a sum of the outputs.
