@@ -1,4 +1,4 @@
-//! A capture's UDP packets, one by one.
+//! The UDP packets of a capture whose octets are all in memory, one by one.
 ghost use Rattle.std.specs.Prelude.{◌≡◌, ◌<◌, ◌≤◌, [], ◌∷◌, length, MatchOption, IfOk, IfErr, Err};
 ghost use Rattle.pcap_file.specs.Capture as spec;
 ghost use Rattle.pcap_file.specs.Capture.{HasRead, item_view, packets_left, packets_of, state_of};
@@ -11,7 +11,8 @@ use crate::decode::pcap::{FILE_HEADER, read_header, read_record};
 use crate::decode::pcapng::{SECTION_HEADER, Section};
 use crate::fault::{CaptureFault, CaptureFaultKind};
 
-/// Opens a capture, of which `octets` are the whole file.
+/// Opens a capture whose whole file is `octets`, and returns an iterator over its UDP packets. Returns the fault of the
+/// file's header if it has one; a section header of pcapng is read by the iterator.
 #[tactic(auto, unfolding(crate::specs::Capture::packets_of))]
 pub fn open(octets: &[u8]) -> Result<Capture<'_>, CaptureFault>
     ensures packets { IfOk result (λ capture. packets_left capture ≡ packets_of octets.now) }
@@ -36,7 +37,7 @@ pub fn open(octets: &[u8]) -> Result<Capture<'_>, CaptureFault>
     }
 }
 
-/// Whether a section header's block stands first.
+/// Returns true if a section header block comes first, so that the file is pcapng.
 pub(crate) fn is_pcapng(octets: &[u8]) -> bool
     ensures { result ≡ spec.is_pcapng octets.now }
 {
@@ -58,7 +59,7 @@ impl<'a> Capture<'a> {
         }
     }
 
-    /// Passes over the record or the block that comes next, and answers what is told of it.
+    /// Passes over the record or the block that comes next, and returns its packet or its fault, if it has one.
     fn advance(&mut self) -> Option<Result<Packet<'a>, CaptureFault>>
         requires { 1 ≤ length self.old.octets.now }
         ensures told { MatchOption result (packets_left self.new ≡ packets_left self.old)
@@ -75,6 +76,7 @@ impl<'a> Capture<'a> {
                 }
             }
             Err(kind) => {
+                // No record or block can be found behind a fault, so it ends the iteration.
                 self.octets = &[];
                 Some(Err(CaptureFault {
                     place: self.place,

@@ -1,4 +1,4 @@
-//! A place in a capture.
+//! The position in a capture up to which its packets were returned.
 ghost use Rattle.std.specs.Prelude.{◌+◌, ◌<◌, ◌^◌, length};
 
 use crate::decode::pcap::Pcap;
@@ -11,12 +11,12 @@ pub(crate) enum Format {
     Pcapng,
 }
 
-/// A place in a capture: an iterator over the UDP packets from there on, up to the first fault, which comes last.
+/// An iterator over the UDP packets of a capture, up to the first fault, which comes last.
 #[derive(Drop)]
 pub struct Capture<'a> {
     pub(crate) format: Format,
     pub(crate) section: Section,
-    /// How many octets stand before those that are left.
+    /// The number of octets before those that are left.
     pub(crate) place: usize,
     /// The octets that are left.
     pub(crate) octets: &'a [u8],

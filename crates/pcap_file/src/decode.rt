@@ -1,4 +1,5 @@
-//! One captured packet.
+//! A captured packet. The submodules read the formats: pcap, pcapng with its interfaces, options and marks, the header
+//! of a link, and IPv4 with UDP.
 ghost use Rattle.std.specs.Prelude.{◌≡◌, option_map};
 ghost use Rattle.pcap_file.specs.Packet as spec;
 ghost use Rattle.pcap_file.specs.Packet.{packet_view};
@@ -15,17 +16,18 @@ pub(crate) mod pcap;
 pub(crate) mod pcapng;
 pub(crate) mod record_mark;
 
-/// An IPv4 packet of UDP as it was captured.
+/// An IPv4 packet of UDP as it was captured. Its payload is borrowed from the capture's octets.
 #[derive(Clone, Copy, Debug, PartialEq, Eq)]
 pub struct Packet<'a> {
-    /// In nanoseconds since 1970 began, UTC; a simple packet block has none.
+    /// The time in nanoseconds since 1970-01-01 00:00 UTC; a simple packet block has none.
     pub time: Option<u64>,
     /// The interface's number in its section, from 0; 0 in a pcap file.
     pub interface: u32,
+    /// The addresses of the packet, and its datagram.
     pub ip: UdpPacket<'a>,
 }
 
-/// The UDP packet in a frame of a link, if there is one.
+/// Returns the UDP packet in a frame of a link, if there is one.
 #[tactic(auto, unfolding(crate::specs::Packet::packet_in))]
 pub(crate) fn packet_in(
     link: LinkType,

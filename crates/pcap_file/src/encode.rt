@@ -1,7 +1,14 @@
-//! The blocks of a record.
+//! The blocks of a record. The submodules hold a block's body, a recorded datagram, and its IPv4 and UDP headers.
 ghost use Rattle.std.specs.Prelude.{◌≡◌, ◌+◌, ◌*◌, ◌%◌, ◌≤◌, ◌++◌, length, drop};
 ghost use Rattle.pcap_file.specs.RecordedDatagram.{arrival_view};
-ghost use Rattle.pcap_file.specs.Blocks.{block_octets, closing_block, datagram_block, interface_block, padded, section_block};
+ghost use Rattle.pcap_file.specs.Blocks.{
+  block_octets,
+  closing_block,
+  datagram_block,
+  interface_block,
+  padded,
+  section_block,
+};
 
 use crate::encode::datagram::RecordedDatagram;
 use crate::heads::{closing_body, datagram_body, interface_body, section_body};
@@ -11,10 +18,12 @@ pub(crate) mod body;
 pub(crate) mod datagram;
 pub(crate) mod ip_header;
 
-/// The most octets of a block.
+/// The greatest length of a block, in octets.
+// 12 octets of the block itself, 20 of a packet's fields, 28 of the IPv4 and UDP headers, and 2,048 of a datagram.
 pub const MAX_BLOCK_LEN: usize = 2_108;
 
-/// Writes the section header of a record, whose studio was opened at this time in sampling instants. Answers its length.
+/// Writes the section header of a record to the start of `out`, and returns its length in octets. `open_at` is the time
+/// at which the studio was opened, in sampling instants at 48 kHz.
 #[tactic(auto, unfolding(crate::specs::Blocks::section_block, crate::specs::Blocks::padded))]
 pub fn write_section_header(open_at: u64, out: &mut [u8]) -> usize
     requires { 2108 ≤ length out.old }
@@ -25,7 +34,8 @@ pub fn write_section_header(open_at: u64, out: &mut [u8]) -> usize
     write_block(0x0a0d_0d0a, section_body(open_at).as_slice(), &[], out)
 }
 
-/// Writes the description of a path's interface, by its stream's number and its letter. Answers its length.
+/// Writes the description of a path's interface to the start of `out`, and returns its length in octets. The
+/// interface's name is the stream's number and the path's letter.
 #[tactic(auto, unfolding(crate::specs::Blocks::interface_block, crate::specs::Blocks::padded))]
 pub fn write_interface(stream: u16, letter: u8, out: &mut [u8]) -> usize
     requires { 2108 ≤ length out.old }
@@ -36,7 +46,7 @@ pub fn write_interface(stream: u16, letter: u8, out: &mut [u8]) -> usize
     write_block(1, interface_body(stream, letter).as_slice(), &[], out)
 }
 
-/// Writes the packet of a datagram that came. Answers its length.
+/// Writes a datagram as an IPv4 packet to the start of `out`, and returns the block's length in octets.
 #[tactic(auto, unfolding(crate::specs::Blocks::datagram_block))]
 pub fn write_packet(arrival: &RecordedDatagram<'_>, out: &mut [u8]) -> usize
     requires few { length arrival.now.octets.now ≤ 2048 }
@@ -48,7 +58,8 @@ pub fn write_packet(arrival: &RecordedDatagram<'_>, out: &mut [u8]) -> usize
     write_block(6, datagram_body(arrival).as_slice(), arrival.octets, out)
 }
 
-/// Writes that the studio was closed so many nanoseconds after it was opened. Answers its length.
+/// Writes the interface statistics of a record's end to the start of `out`, and returns their length in octets. The
+/// studio was closed `nanoseconds` after it was opened.
 #[tactic(auto, unfolding(crate::specs::Blocks::closing_block, crate::specs::Blocks::padded))]
 pub fn write_statistics(nanoseconds: u64, out: &mut [u8]) -> usize
     requires { 2108 ≤ length out.old }
@@ -59,7 +70,7 @@ pub fn write_statistics(nanoseconds: u64, out: &mut [u8]) -> usize
     write_block(5, closing_body(nanoseconds).as_slice(), &[], out)
 }
 
-/// Writes a block of a type, which holds these octets, and others behind them up to whole words.
+/// Writes a block of a type, with a head and octets, which zeros fill up to whole words of 4. Returns its length.
 fn write_block(kind: u32, head: &[u8], octets: &[u8], out: &mut [u8]) -> usize
     requires few { length head.now + (length octets.now + 3 * length octets.now % 4) ≤ 2096 }
     requires room { 2108 ≤ length out.old }

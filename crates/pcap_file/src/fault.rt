@@ -1,19 +1,20 @@
-//! What can be wrong with a capture.
+//! The faults of captures.
 use thiserror::Error;
 
-/// What is wrong where a capture's header, record or block should stand.
+/// The kind of a capture's fault.
 #[derive(Clone, Copy, Debug, PartialEq, Eq, Error)]
 pub enum CaptureFaultKind {
     /// The first four octets are those of neither format.
     #[error("neither pcap nor pcapng")]
     Format,
-    /// The header's, the record's or the block's octets end after the file.
+    /// The file ends within the header, the record or the block.
     #[error("it is cut")]
     Truncated,
-    /// The magic number of a section's order of octets is wrong.
+    /// The magic number of a section's byte order is wrong.
     #[error("the order of octets is unknown")]
     ByteOrder,
-    /// A block's length is under 12, no multiple of 4, not the one at its end, or too short for what the block says.
+    /// A block's length is less than 12, no multiple of 4, another than the one at its end, or too short for its
+    /// fields.
     #[error("the lengths are wrong")]
     Length,
     /// The format's version is not 2.4 of pcap, nor 1.0 or 1.2 of pcapng.
@@ -28,16 +29,17 @@ pub enum CaptureFaultKind {
     /// A packet's interface has no description before it in its section.
     #[error("the interface is unknown")]
     Interface,
-    /// A packet's time is before 1970, or 64 bits of nanoseconds don't hold it.
+    /// A packet's time is before 1970, or doesn't fit 64 bits in nanoseconds.
     #[error("the time is out of range")]
     Time,
 }
 
-/// The first thing that is wrong with a capture, and where.
+/// The first fault of a capture, with its place.
 #[derive(Clone, Copy, Debug, PartialEq, Eq, Error)]
 #[error("octet {place}: {kind}")]
 pub struct CaptureFault {
-    /// Where the header, the record or the block begins: how many octets stand before it.
+    /// The place at which the header, the record or the block begins: the number of octets before it.
     pub place: usize,
+    /// The kind of the fault.
     pub kind: CaptureFaultKind,
 }

@@ -1,5 +1,22 @@
-//! Octets on their way from a file to who is lent them, 983,040 at most.
-ghost use Rattle.std.specs.Prelude.{◌≡◌, ◌≤◌, ◌<◌, ◌+◌, ◌++◌, [], length, take, drop, vec_len, IfOk, IfErr, OnOk, OnErr, true, false};
+//! The methods of `ReadBuffer`, which holds the octets of a file between reading and parsing.
+ghost use Rattle.std.specs.Prelude.{
+  ◌≡◌,
+  ◌≤◌,
+  ◌<◌,
+  ◌+◌,
+  ◌++◌,
+  [],
+  length,
+  take,
+  drop,
+  vec_len,
+  IfOk,
+  IfErr,
+  OnOk,
+  OnErr,
+  true,
+  false,
+};
 ghost use Rattle.pcap_file.specs.ReadBuffer.{octets_of, Reads};
 ghost use Rattle.pcap_file.specs.declared.reader_fault.ReaderFault.TheVariants.{ReadFailed};
 
@@ -8,17 +25,18 @@ use crate::reader_fault::ReaderFault;
 use std::alloc::{AllocError, Global};
 use std::io::Read;
 
-/// The most octets that are lent: a record or block has no more.
+/// The greatest number of octets that are borrowed at once; a record or block has no more.
+// With the octets of a read these are 1 MiB, which is all memory that a reader takes.
 const MOST_LENT: usize = 983_040;
 
-/// The most octets of one read.
+/// The greatest number of octets of one read.
 const MOST_READ: usize = 65_536;
 
-/// The most octets that are held.
+/// The greatest number of octets that are held.
 const MOST_HELD: usize = MOST_LENT + MOST_READ;
 
 impl ReadBuffer {
-    /// Before the first octet.
+    /// An empty buffer with room for 1 MiB. Returns `AllocError` if the allocation fails.
     pub(crate) fn new(alloc: Global) -> Result<ReadBuffer, AllocError>
         ensures none { IfOk result (λ window. octets_of window ≡ []) }
         ensures going { IfOk result (λ window. window.ended ≡ false) }
@@ -31,7 +49,7 @@ impl ReadBuffer {
         })
     }
 
-    /// The first octets that are not passed over, 983,040 at most.
+    /// Returns the first octets that are not passed over, 983,040 at most.
     pub(crate) fn front(&self) -> &[u8]
         ensures { result.now ≡ take 983040 (octets_of self.now) }
     {
@@ -39,7 +57,7 @@ impl ReadBuffer {
         &left[..left.len().min(MOST_LENT)]
     }
 
-    /// Whether as many are there as are lent at most.
+    /// Returns true if 983,040 octets or more are not passed over.
     pub(crate) fn is_full(&self) -> bool
         ensures full { result ≡ true → 983040 ≤ length (octets_of self.now) }
         ensures room { result ≡ false → length (octets_of self.now) < 983040 }
@@ -47,14 +65,14 @@ impl ReadBuffer {
         self.held.len() - self.passed >= MOST_LENT
     }
 
-    /// Whether the file is at its end.
+    /// Returns true if a read found the file's end.
     pub(crate) fn is_ended(&self) -> bool
         ensures { result ≡ self.now.ended }
     {
         self.ended
     }
 
-    /// Passes over octets: the length of what was answered.
+    /// Passes over `count` octets, the length of the block that `next_block` returned.
     pub fn consume(&mut self, count: usize)
         requires { count ≤ length (octets_of self.old) }
         ensures octets { octets_of self.new ≡ drop count (octets_of self.old) }
@@ -63,10 +81,11 @@ impl ReadBuffer {
         self.passed += count;
     }
 
-    /// Reads on once.
+    /// Reads once, and appends what was read. Returns `ReadFailed` if the read fails.
     pub(crate) fn read_more<R: Read>(&mut self, reader: &mut R) -> Result<(), ReaderFault>
         requires { length (octets_of self.old) < 983040 }
-        ensures ok { OnOk result (Reads (R.remaining reader.old) (R.remaining reader.new) (octets_of self.old) (octets_of self.new) self.new.ended) }
+        ensures ok { OnOk result (Reads (R.remaining reader.old) (R.remaining reader.new)
+            (octets_of self.old) (octets_of self.new) self.new.ended) }
         ensures unread { IfErr result (λ fault. fault ≡ ReadFailed) }
     {
         let mut chunk = [0u8; MOST_READ];
@@ -80,11 +99,12 @@ impl ReadBuffer {
         }
     }
 
-    /// Holds octets behind the others.
+    /// Appends octets.
     fn take(&mut self, octets: &[u8])
         requires { length (octets_of self.old) + length octets.now ≤ 1048576 }
         ensures { octets_of self.new ≡ octets_of self.old ++ octets.now }
     {
+        // Octets move only if there is no room behind them: once in many reads.
         if self.held.capacity() - self.held.len() < octets.len() {
             self.make_room();
         }
@@ -93,7 +113,7 @@ impl ReadBuffer {
         };
     }
 
-    /// Moves the octets that are not passed over to the front.
+    /// Moves the octets that are not passed over to the start of the memory.
     fn make_room(&mut self)
         ensures same { octets_of self.new ≡ octets_of self.old }
         ensures alone { vec_len self.new.held ≡ length (octets_of self.old) }

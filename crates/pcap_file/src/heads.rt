@@ -1,4 +1,4 @@
-//! What each block holds, without a datagram's octets.
+//! The body of each kind of block, without a datagram's octets.
 ghost use Rattle.std.specs.Prelude.{◌≡◌, ◌+◌, ◌≤◌, ◌++◌, length};
 ghost use Rattle.arrayvec.specs.ArrayVec.{array_vec_len};
 ghost use Rattle.pcap_file.specs.Mark.{opening_text};
@@ -11,13 +11,13 @@ use crate::encode::datagram::RecordedDatagram;
 use crate::encode::ip_header::{push_ipv4, push_udp};
 use itoa::Buffer;
 
-/// The number by which a section header says the order of its octets.
+/// The number in a section header that shows its byte order.
 const BYTE_ORDER_MAGIC: u32 = 0x1a2b_3c4d;
 
-/// The link of IP packets with nothing in front of them.
+/// The link type of IP packets with no header in front of them.
 const RAW: u16 = 101;
 
-/// What a section header holds.
+/// Returns the body of a section header, of version 1.0.
 pub(crate) fn section_body(open_at: u64) -> BlockBody
     ensures { result.items ≡ spec.section_body open_at }
 {
@@ -25,6 +25,7 @@ pub(crate) fn section_body(open_at: u64) -> BlockBody
     push(&mut head, &BYTE_ORDER_MAGIC.to_le_bytes());
     push(&mut head, &1_u16.to_le_bytes());
     push(&mut head, &0_u16.to_le_bytes());
+    // All ones mean that the section's length isn't known: a live run goes on behind it.
     push(&mut head, &u64::MAX.to_le_bytes());
     push_opening(&mut head, open_at);
     push_option(&mut head, 4, b"darbexum");
@@ -32,7 +33,7 @@ pub(crate) fn section_body(open_at: u64) -> BlockBody
     head
 }
 
-/// Adds the comment that says the opening.
+/// Appends the comment with the time of the opening.
 fn push_opening(head: &mut BlockBody, open_at: u64)
     requires { array_vec_len head.old + 32 ≤ 64 }
     ensures items { head.new.items ≡ head.old.items ++ option_octets 1 (opening_text open_at) }
@@ -44,7 +45,7 @@ fn push_opening(head: &mut BlockBody, open_at: u64)
     push_option(head, 1, text.as_slice());
 }
 
-/// What an interface's description holds.
+/// Returns the body of an interface's description.
 #[tactic(auto, unfolding(crate::specs::Blocks::interface_body))]
 pub(crate) fn interface_body(stream: u16, letter: u8) -> BlockBody
     ensures { result.items ≡ spec.interface_body stream letter }
@@ -52,14 +53,16 @@ pub(crate) fn interface_body(stream: u16, letter: u8) -> BlockBody
     let mut head = BlockBody::new();
     push(&mut head, &RAW.to_le_bytes());
     push(&mut head, &0_u16.to_le_bytes());
+    // 0 means that packets are captured whole.
     push(&mut head, &0_u32.to_le_bytes());
     push_name(&mut head, stream, letter);
+    // The option `if_tsresol`: times are in nanoseconds.
     push_option(&mut head, 9, &[9]);
     push(&mut head, &0_u32.to_le_bytes());
     head
 }
 
-/// Adds an interface's name.
+/// Appends an interface's name.
 fn push_name(head: &mut BlockBody, stream: u16, letter: u8)
     requires { array_vec_len head.old + 12 ≤ 64 }
     ensures items { head.new.items ≡ head.old.items ++ option_octets 2 (interface_text stream letter) }
@@ -71,7 +74,7 @@ fn push_name(head: &mut BlockBody, stream: u16, letter: u8)
     push_option(head, 2, text.as_slice());
 }
 
-/// What stands before a datagram in its block.
+/// Returns the octets before a datagram in its block: the packet's fields, and the IPv4 and UDP headers.
 #[tactic(auto, unfolding(crate::specs::Blocks::datagram_head))]
 pub(crate) fn datagram_body(arrival: &RecordedDatagram<'_>) -> BlockBody
     requires { length arrival.now.octets.now ≤ 2048 }
@@ -82,6 +85,7 @@ pub(crate) fn datagram_body(arrival: &RecordedDatagram<'_>) -> BlockBody
     let mut head = BlockBody::new();
     push(&mut head, &arrival.interface.to_le_bytes());
     push_time(&mut head, arrival.nanoseconds);
+    // The captured length, and the length on the network.
     push(&mut head, &packet.to_le_bytes());
     push(&mut head, &packet.to_le_bytes());
     push_ipv4(&mut head, arrival);
@@ -89,18 +93,19 @@ pub(crate) fn datagram_body(arrival: &RecordedDatagram<'_>) -> BlockBody
     head
 }
 
-/// What the statistics at the close hold.
+/// Returns the body of the statistics at the close.
 #[tactic(auto, unfolding(crate::specs::Blocks::closing_body))]
 pub(crate) fn closing_body(nanoseconds: u64) -> BlockBody
     ensures { result.items ≡ spec.closing_body nanoseconds }
 {
     let mut head = BlockBody::new();
+    // The block needs an interface, and every record has the first one.
     push(&mut head, &0_u32.to_le_bytes());
     push_time(&mut head, nanoseconds);
     head
 }
 
-/// Adds a time, its high word first.
+/// Appends a time, its high word of 32 bits first.
 fn push_time(head: &mut BlockBody, nanoseconds: u64)
     requires { array_vec_len head.old + 8 ≤ 64 }
     ensures items { head.new.items ≡ head.old.items ++ time_octets nanoseconds }

@@ -1,4 +1,4 @@
-//! What the definitions promise together. Nothing is computed here: the clauses are the laws.
+//! Laws of writing and reading records. These functions compute nothing: their clauses are the laws.
 ghost use Rattle.std.specs.Prelude.{◌≡◌, ◌<◌, ◌≤◌, ◌^◌, ◌∷◌, ◌++◌, [], ℕ, List, length};
 ghost use Rattle.std.specs.List.{All};
 ghost use Rattle.pcap_file.specs.Capture.{packets_of};
@@ -6,28 +6,46 @@ ghost use Rattle.pcap_file.specs.Entries.{Mark, entries_of};
 ghost use Rattle.pcap_file.specs.declared.decode.record_mark.RecordMark.TheVariants.{Closed, Opened};
 ghost use Rattle.pcap_file.specs.RecordedDatagram.{ArrivalView};
 ghost use Rattle.pcap_file.specs.IpHeader.{HasAddresses, carried, header_octets, words_sum};
-ghost use Rattle.pcap_file.specs.WrittenRecord.{IsArrival, IsName, Name, closed_record, items_of, open_record, packet_entries};
+ghost use Rattle.pcap_file.specs.WrittenRecord.{
+  IsArrival,
+  IsName,
+  Name,
+  closed_record,
+  items_of,
+  open_record,
+  packet_entries,
+};
 ghost use Rattle.pcap_file.specs.Times.{instants_in, nanoseconds_of};
 
-/// Sampling instants that are written as nanoseconds come back.
+/// Sampling instants that are written as nanoseconds are read back unchanged.
 pub fn instants_come_back()
     ensures { (instants : ℕ) → instants_in (nanoseconds_of instants) ≡ instants }
 {}
 
 /// The one's complement sum of an IPv4 header's words is all ones, with the checksum among them (RFC 1071).
 pub fn checksums_are_right()
-    ensures { (a : ArrivalView) → HasAddresses a → length a.octets ≤ 2048 → carried (carried (words_sum (header_octets a))) ≡ 65535 }
+    ensures { (a : ArrivalView) → HasAddresses a → length a.octets ≤ 2048
+        → carried (carried (words_sum (header_octets a))) ≡ 65535 }
 {}
 
-/// A record is read as the datagrams that were written, behind its opening, and before its close if that was written: the blocks of the
-/// opening, of up to 64 interfaces, of datagrams on these, and of the close, each behind the one before.
+/// A record is read back as it was written: its opening, its datagrams, and its close if there is one. Its blocks, in
+/// this order, are the section header, up to 64 interfaces, the datagrams on these, and the statistics.
 pub fn records_are_read_back()
-    ensures open_packets { (open_at : ℕ) (names : List Name) (arrivals : List ArrivalView) → open_at < 2 ^ 63 → All IsName names → length names ≤ 64
-        → All (IsArrival (length names)) arrivals → packets_of (open_record open_at names arrivals) ≡ items_of arrivals }
-    ensures open_entries { (open_at : ℕ) (names : List Name) (arrivals : List ArrivalView) → open_at < 2 ^ 63 → All IsName names → length names ≤ 64
-        → All (IsArrival (length names)) arrivals → entries_of (open_record open_at names arrivals) ≡ Mark (Opened open_at) ∷ packet_entries arrivals }
-    ensures closed_packets { (open_at : ℕ) (names : List Name) (arrivals : List ArrivalView) (closed : ℕ) → open_at < 2 ^ 63 → All IsName names → 1 ≤ length names → length names ≤ 64
-        → All (IsArrival (length names)) arrivals → closed < 2 ^ 64 → packets_of (closed_record open_at names arrivals closed) ≡ items_of arrivals }
-    ensures closed_entries { (open_at : ℕ) (names : List Name) (arrivals : List ArrivalView) (closed : ℕ) → open_at < 2 ^ 63 → All IsName names → 1 ≤ length names → length names ≤ 64
-        → All (IsArrival (length names)) arrivals → closed < 2 ^ 64 → entries_of (closed_record open_at names arrivals closed) ≡ Mark (Opened open_at) ∷ (packet_entries arrivals ++ Mark (Closed closed) ∷ []) }
+    ensures open_packets { (open_at : ℕ) (names : List Name) (arrivals : List ArrivalView)
+        → open_at < 2 ^ 63 → All IsName names → length names ≤ 64
+        → All (IsArrival (length names)) arrivals
+        → packets_of (open_record open_at names arrivals) ≡ items_of arrivals }
+    ensures open_entries { (open_at : ℕ) (names : List Name) (arrivals : List ArrivalView)
+        → open_at < 2 ^ 63 → All IsName names → length names ≤ 64
+        → All (IsArrival (length names)) arrivals
+        → entries_of (open_record open_at names arrivals) ≡ Mark (Opened open_at) ∷ packet_entries arrivals }
+    ensures closed_packets { (open_at : ℕ) (names : List Name) (arrivals : List ArrivalView) (closed : ℕ)
+        → open_at < 2 ^ 63 → All IsName names → 1 ≤ length names → length names ≤ 64
+        → All (IsArrival (length names)) arrivals → closed < 2 ^ 64
+        → packets_of (closed_record open_at names arrivals closed) ≡ items_of arrivals }
+    ensures closed_entries { (open_at : ℕ) (names : List Name) (arrivals : List ArrivalView) (closed : ℕ)
+        → open_at < 2 ^ 63 → All IsName names → 1 ≤ length names → length names ≤ 64
+        → All (IsArrival (length names)) arrivals → closed < 2 ^ 64
+        → entries_of (closed_record open_at names arrivals closed)
+        ≡ Mark (Opened open_at) ∷ (packet_entries arrivals ++ Mark (Closed closed) ∷ []) }
 {}

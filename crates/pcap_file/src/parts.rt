@@ -1,5 +1,25 @@
-//! A capture's records and blocks, where its octets come piece by piece.
-ghost use Rattle.std.specs.Prelude.{◌≡◌, ◌⊎◌, ◌+◌, ◌<◌, ◌≤◌, ◌^◌, ◌++◌, ◌∷◌, ℕ, List, [], false, drop, length, option_map, IfOk, IfErr, OnErr, Err};
+//! The parser of a capture whose octets are read piece by piece.
+ghost use Rattle.std.specs.Prelude.{
+  ◌≡◌,
+  ◌⊎◌,
+  ◌+◌,
+  ◌<◌,
+  ◌≤◌,
+  ◌^◌,
+  ◌++◌,
+  ◌∷◌,
+  ℕ,
+  List,
+  [],
+  false,
+  drop,
+  length,
+  option_map,
+  IfOk,
+  IfErr,
+  OnErr,
+  Err,
+};
 ghost use Rattle.pcap_file.specs.Capture.{HasRead, packets_of, with_packet};
 ghost use Rattle.pcap_file.specs.Packet.{packet_view};
 ghost use Rattle.pcap_file.specs.Entries.{entries_at, entries_in, entries_of};
@@ -12,22 +32,26 @@ use crate::decode::pcap::{FILE_HEADER, is_record_cut, read_header, read_record};
 use crate::decode::pcapng::{Section, is_block_cut};
 use crate::fault::{CaptureFault, CaptureFaultKind};
 
-/// A place in a capture. The octets from there on are the caller's, who lends as many as came so far.
+/// A parser at a place in a capture. The caller holds the octets from there on, and passes those that were read so far.
 #[derive(Drop)]
 pub struct BlockParser {
     pub(crate) format: Format,
     pub(crate) section: Section,
-    /// How many octets stand before it.
+    /// The number of octets before the place.
     pub(crate) place: usize,
 }
 
 impl BlockParser {
-    /// The place of the first record or block, of a capture that begins with these octets: at least 24, or all that there are.
+    /// A parser at the first record or block of a capture that begins with these octets: at least 24, or the whole
+    /// file. Returns the fault of the file's header if it has one.
     pub fn open(front: &[u8]) -> Result<BlockParser, CaptureFault>
-        ensures parts { IfOk result (λ parts. (rest : List ℕ) → IsEnough front.now rest → packets_of (front.now ++ rest) ≡ items_at parts (drop parts.place (front.now ++ rest))) }
-        ensures entries { IfOk result (λ parts. (rest : List ℕ) → IsEnough front.now rest → entries_of (front.now ++ rest) ≡ entries_at parts (drop parts.place (front.now ++ rest))) }
+        ensures parts { IfOk result (λ parts. (rest : List ℕ) → IsEnough front.now rest
+            → packets_of (front.now ++ rest) ≡ items_at parts (drop parts.place (front.now ++ rest))) }
+        ensures entries { IfOk result (λ parts. (rest : List ℕ) → IsEnough front.now rest
+            → entries_of (front.now ++ rest) ≡ entries_at parts (drop parts.place (front.now ++ rest))) }
         ensures place { IfOk result (λ parts. parts.place ≤ length front.now) }
-        ensures fault { IfErr result (λ fault. (rest : List ℕ) → IsEnough front.now rest → packets_of (front.now ++ rest) ≡ Err fault ∷ []) }
+        ensures fault { IfErr result (λ fault. (rest : List ℕ) → IsEnough front.now rest
+            → packets_of (front.now ++ rest) ≡ Err fault ∷ []) }
     {
         if is_pcapng(front) {
             return Ok(BlockParser {
@@ -46,14 +70,14 @@ impl BlockParser {
         }
     }
 
-    /// How many octets stand before the place.
+    /// Returns the number of octets before the place.
     pub fn place(&self) -> usize
         ensures { result ≡ self.now.place }
     {
         self.place
     }
 
-    /// Whether the record or the block that these octets begin with ends behind them.
+    /// Returns true if the record or the block that these octets begin with isn't whole, so that more are to be read.
     pub fn is_cut(&self, front: &[u8]) -> bool
         ensures { result ≡ is_cut_in self.now front.now }
     {
@@ -76,18 +100,24 @@ impl BlockParser {
         }
     }
 
-    /// Passes over the record or the block that these octets begin with: all that there are, where it is cut.
+    /// Passes over the record or the block that these octets begin with, and returns it. If `is_cut` returns true, the
+    /// octets have to be all that are left. Returns a fault if the record or the block isn't whole or is wrong.
     pub fn next<'a>(&mut self, front: &'a [u8]) -> Result<CaptureBlock<'a>, CaptureFault>
         requires some { 1 ≤ length front.now }
         requires place { self.old.place + length front.now < 2 ^ 64 }
         ensures part { IfOk result (λ part. (rest : List ℕ) → (is_cut_in self.old front.now ≡ false) ⊎ (rest ≡ [])
-            → items_at self.old (front.now ++ rest) ≡ with_packet (option_map packet_view part.packet) (items_at self.new (drop part.len front.now ++ rest))) }
+            → items_at self.old (front.now ++ rest)
+            ≡ with_packet (option_map packet_view part.packet) (items_at self.new (drop part.len front.now ++ rest))) }
         ensures entries { IfOk result (λ part. (rest : List ℕ) → (is_cut_in self.old front.now ≡ false) ⊎ (rest ≡ [])
-            → entries_at self.old (front.now ++ rest) ≡ entries_in (option_map packet_view part.packet) part.mark ++ entries_at self.new (drop part.len front.now ++ rest)) }
-        ensures len { IfOk result (λ part. (1 ≤ part.len) × (part.len ≤ length front.now) × (self.new.place ≡ self.old.place + part.len)) }
+            → entries_at self.old (front.now ++ rest)
+            ≡ entries_in (option_map packet_view part.packet) part.mark
+            ++ entries_at self.new (drop part.len front.now ++ rest)) }
+        ensures len { IfOk result (λ part. (1 ≤ part.len) × (part.len ≤ length front.now)
+            × (self.new.place ≡ self.old.place + part.len)) }
         ensures fault { IfErr result (λ fault. (rest : List ℕ) → (is_cut_in self.old front.now ≡ false) ⊎ (rest ≡ [])
             → items_at self.old (front.now ++ rest) ≡ Err fault ∷ []) }
-        ensures no_entry { OnErr result ((rest : List ℕ) → (is_cut_in self.old front.now ≡ false) ⊎ (rest ≡ []) → entries_at self.old (front.now ++ rest) ≡ []) }
+        ensures no_entry { OnErr result ((rest : List ℕ) → (is_cut_in self.old front.now ≡ false) ⊎ (rest ≡ [])
+            → entries_at self.old (front.now ++ rest) ≡ []) }
     {
         match self.read(front) {
             Ok(part) => {

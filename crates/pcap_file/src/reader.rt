@@ -1,8 +1,37 @@
-//! A capture's records and blocks, one by one.
-ghost use Rattle.std.specs.Prelude.{◌≡◌, ℕ, ◌≤◌, ◌<◌, ◌++◌, List, [], Option, length, false, true, take, drop, IfOk, IfErr, OnOk, IfSome};
+//! The reader of a capture of any length: its records and blocks, one by one, in memory of a fixed size. The submodule
+//! holds its buffer.
+ghost use Rattle.std.specs.Prelude.{
+  ◌≡◌,
+  ℕ,
+  ◌≤◌,
+  ◌<◌,
+  ◌++◌,
+  List,
+  [],
+  Option,
+  length,
+  false,
+  true,
+  take,
+  drop,
+  IfOk,
+  IfErr,
+  OnOk,
+  IfSome,
+};
 ghost use Rattle.pcap_file.specs.Entries.{Entry};
 ghost use Rattle.pcap_file.specs.ReadBuffer.{octets_of, Reads};
-ghost use Rattle.pcap_file.specs.Reader.{HasEntries, HasOpened, HasTold, IsFaultBehind, IsFilled, IsLong, IsNext, IsOpenFault, part_entries};
+ghost use Rattle.pcap_file.specs.Reader.{
+  HasEntries,
+  HasOpened,
+  HasTold,
+  IsFaultBehind,
+  IsFilled,
+  IsLong,
+  IsNext,
+  IsOpenFault,
+  part_entries,
+};
 ghost use Rattle.pcap_file.specs.declared.reader_fault.ReaderFault.TheVariants.{ReadFailed};
 
 use crate::block_parser::CaptureBlock;
@@ -15,21 +44,24 @@ use std::io::Read;
 
 pub(crate) mod buffer;
 
-/// The most octets before a record or a block.
+/// The greatest number of octets before a record or a block, 2^63.
+// A place then stays below 2^64 with the length of a record or a block added, as `BlockParser::next` requires.
 const MOST_PLACE: usize = 9_223_372_036_854_775_808;
 
-/// The octets of the longest header of a file.
+/// The length of the longest header of a file, that of pcap, in octets.
 const FILE_HEADER: usize = 24;
 
 /// More reads than a record or a block can take, each of which brings an octet or the file's end.
 const MOST_READS: u32 = 1_000_000;
 
-/// Opens a capture by the header of its file.
+/// Opens a capture by the header of its file. Returns an error if the allocation of 1 MiB or a read fails, and the
+/// fault of the header if it has one.
 pub fn open_reader<R: Read>(
     alloc: Global,
     reader: &mut R,
 ) -> Result<(ReadBuffer, BlockParser), ReaderFault>
-    ensures told { IfOk result (λ opened. IfSome (R.remaining reader.old) (λ file. HasTold file [] (R.remaining reader.new) opened.1 (octets_of opened.0) opened.0.ended)) }
+    ensures told { IfOk result (λ opened. IfSome (R.remaining reader.old) (λ file.
+        HasTold file [] (R.remaining reader.new) opened.1 (octets_of opened.0) opened.0.ended)) }
     ensures fault { IfErr result (λ fault. IfSome (R.remaining reader.old) (λ file. IsOpenFault file fault)) }
 {
     let mut window = ReadBuffer::new(alloc)?;
@@ -43,11 +75,12 @@ pub fn open_reader<R: Read>(
     }
 }
 
-/// Reads on until the header of a file is there, or the file ends.
+/// Reads until the header of a file is there, or the file ends.
 fn fill_header<R: Read>(window: &mut ReadBuffer, reader: &mut R) -> Result<(), ReaderFault>
     requires first { octets_of window.old ≡ [] }
     requires going { window.old.ended ≡ false }
-    ensures ok { OnOk result (HasOpened (R.remaining reader.old) (R.remaining reader.new) (octets_of window.new) window.new.ended) }
+    ensures ok { OnOk result (HasOpened (R.remaining reader.old) (R.remaining reader.new)
+        (octets_of window.new) window.new.ended) }
     ensures unread { IfErr result (λ fault. fault ≡ ReadFailed) }
 {
     'reads: for _turn in 0..FILE_HEADER {
@@ -62,16 +95,19 @@ fn fill_header<R: Read>(window: &mut ReadBuffer, reader: &mut R) -> Result<(), R
     Ok(())
 }
 
-/// Reads on until the record or the block that comes next is whole, or the file ends. Answers whether one comes.
+/// Reads until the next record or block is whole, or the file ends. Returns true if one comes. Returns `ReadFailed` if
+/// a read fails, and `TooLong` if the record or block is longer than 983,040 octets or begins behind 2^63.
 pub fn has_block<R: Read>(
     parts: &BlockParser,
     window: &mut ReadBuffer,
     reader: &mut R,
 ) -> Result<bool, ReaderFault>
-    ensures told { OnOk result ((file : List ℕ) (entries : List Entry) → HasTold file entries (R.remaining reader.old) parts.now (octets_of window.old) window.old.ended
+    ensures told { OnOk result ((file : List ℕ) (entries : List Entry)
+        → HasTold file entries (R.remaining reader.old) parts.now (octets_of window.old) window.old.ended
         → HasTold file entries (R.remaining reader.new) parts.now (octets_of window.new) window.new.ended) }
     ensures next { IfOk result (λ some. some ≡ true → IsNext parts.now (octets_of window.new) window.new.ended) }
-    ensures end { IfOk result (λ some. some ≡ false → (file : List ℕ) (entries : List Entry) → HasTold file entries (R.remaining reader.old) parts.now (octets_of window.old) window.old.ended
+    ensures end { IfOk result (λ some. some ≡ false → (file : List ℕ) (entries : List Entry)
+        → HasTold file entries (R.remaining reader.old) parts.now (octets_of window.old) window.old.ended
         → HasEntries file entries) }
     ensures fault { IfErr result (λ fault. IsLong fault) }
 {
@@ -85,13 +121,14 @@ pub fn has_block<R: Read>(
     Ok(true)
 }
 
-/// Reads on until the record or the block that comes next is whole, or the file ends.
+/// Reads until the next record or block is whole, or the file ends.
 fn fill<R: Read>(
     parts: &BlockParser,
     window: &mut ReadBuffer,
     reader: &mut R,
 ) -> Result<(), ReaderFault>
-    ensures told { OnOk result ((file : List ℕ) (entries : List Entry) → HasTold file entries (R.remaining reader.old) parts.now (octets_of window.old) window.old.ended
+    ensures told { OnOk result ((file : List ℕ) (entries : List Entry)
+        → HasTold file entries (R.remaining reader.old) parts.now (octets_of window.old) window.old.ended
         → HasTold file entries (R.remaining reader.new) parts.now (octets_of window.new) window.new.ended) }
     ensures filled { OnOk result (IsFilled parts.now (octets_of window.new) window.new.ended) }
     ensures fault { IfErr result (λ fault. IsLong fault) }
@@ -103,6 +140,7 @@ fn fill<R: Read>(
         if window.is_full() {
             return Err(ReaderFault::TooLong(parts.place()));
         }
+        // What the file's end cuts is left to `next_block`, which returns the fault.
         if window.is_ended() {
             return Ok(());
         }
@@ -111,16 +149,20 @@ fn fill<R: Read>(
     Err(ReaderFault::ReadFailed)
 }
 
-/// The record or the block that comes next, to be passed over by its length.
+/// Returns the next record or block, after `has_block` returned true. The caller then passes over it with
+/// `ReadBuffer::consume`. Returns the capture's first fault, after which nothing more is read.
 pub fn next_block<'a>(
     parts: &mut BlockParser,
     window: &'a ReadBuffer,
 ) -> Result<CaptureBlock<'a>, CaptureFault>
     requires { IsNext parts.old (octets_of window.now) window.now.ended }
     ensures len { IfOk result (λ part. part.len ≤ length (octets_of window.now)) }
-    ensures told { IfOk result (λ part. (file : List ℕ) (entries : List Entry) (left : Option (List ℕ)) → HasTold file entries left parts.old (octets_of window.now) window.now.ended
-        → HasTold file (entries ++ part_entries part) left parts.new (drop part.len (octets_of window.now)) window.now.ended) }
-    ensures fault { IfErr result (λ fault. (file : List ℕ) (entries : List Entry) (left : Option (List ℕ)) → HasTold file entries left parts.old (octets_of window.now) window.now.ended
+    ensures told { IfOk result (λ part. (file : List ℕ) (entries : List Entry) (left : Option (List ℕ))
+        → HasTold file entries left parts.old (octets_of window.now) window.now.ended
+        → HasTold file (entries ++ part_entries part) left parts.new
+        (drop part.len (octets_of window.now)) window.now.ended) }
+    ensures fault { IfErr result (λ fault. (file : List ℕ) (entries : List Entry) (left : Option (List ℕ))
+        → HasTold file entries left parts.old (octets_of window.now) window.now.ended
         → IsFaultBehind file entries fault) }
 {
     parts.next(window.front())

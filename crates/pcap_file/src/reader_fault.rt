@@ -1,4 +1,4 @@
-//! Why a capture was not read to its end.
+//! The errors of a reader.
 ghost use Rattle.std.specs.Prelude.{◌≡◌};
 ghost use Rattle.pcap_file.specs.declared.reader_fault.ReaderFault.TheVariants as fault;
 
@@ -6,7 +6,7 @@ use crate::fault::CaptureFault;
 use std::alloc::AllocError;
 use thiserror::Error;
 
-/// Why a capture was not read to its end.
+/// The error because of which a capture was not read to its end.
 #[derive(Clone, Copy, Debug, PartialEq, Eq, Error)]
 pub enum ReaderFault {
     /// A read failed.
@@ -15,10 +15,10 @@ pub enum ReaderFault {
     /// The first fault of the capture.
     #[error("capture {0}")]
     Capture(CaptureFault),
-    /// The record or block behind so many octets is longer than 983,040, or begins past 2^63.
+    /// The record or block behind so many octets is longer than 983,040 octets, or begins behind 2^63.
     #[error("capture octet {0}: it is too long")]
     TooLong(usize),
-    /// Memory was refused.
+    /// An allocation failed.
     #[error("out of memory")]
     Memory,
 }

@@ -1,20 +1,20 @@
-//! Numbers of several octets, in the order that the capture was written in.
+//! Numbers of several octets, in the byte order of the machine that wrote the capture.
 ghost use Rattle.std.specs.Prelude.{◌≡◌, ◌≤◌, ◌+◌, length};
 ghost use Rattle.pcap_file.specs.Octets.{number_at};
 
 use byteorder::{BigEndian, ByteOrder, LittleEndian};
 
-/// Which octet of a number stands first.
+/// The byte order of a capture's numbers.
 #[derive(Clone, Copy, Debug, PartialEq, Eq)]
 pub enum Endian {
-    /// The most significant.
+    /// The most significant octet comes first.
     Big,
-    /// The least significant.
+    /// The least significant octet comes first.
     Little,
 }
 
 impl Endian {
-    /// The number of two octets at a place.
+    /// Returns the number of two octets at a place.
     #[tactic(auto, unfolding(crate::specs::Octets::number_at))]
     pub(crate) fn read_u16(self, octets: &[u8], place: usize) -> u16
         requires { place + 2 ≤ length octets.now }
@@ -26,7 +26,7 @@ impl Endian {
         }
     }
 
-    /// The number of four octets at a place.
+    /// Returns the number of four octets at a place.
     #[tactic(auto, unfolding(crate::specs::Octets::number_at))]
     pub(crate) fn read_u32(self, octets: &[u8], place: usize) -> u32
         requires { place + 4 ≤ length octets.now }
@@ -38,7 +38,7 @@ impl Endian {
         }
     }
 
-    /// The number of eight octets at a place.
+    /// Returns the number of eight octets at a place.
     #[tactic(auto, unfolding(crate::specs::Octets::number_at))]
     pub(crate) fn read_u64(self, octets: &[u8], place: usize) -> u64
         requires { place + 8 ≤ length octets.now }

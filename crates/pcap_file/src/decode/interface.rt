@@ -7,28 +7,31 @@ use crate::decode::link::{LinkType, link_of};
 use crate::decode::options::option_at;
 use crate::fault::CaptureFaultKind;
 
-/// Numbers of the options that an interface's times need.
+/// The code of the option `if_tsresol`.
 const TIME_RESOLUTION: u16 = 9;
 
+/// The code of the option `if_tsoffset`.
 const TIME_OFFSET: u16 = 14;
 
-/// What a section says of an interface.
+/// The description of an interface.
 #[derive(Clone, Copy, Debug, Default, PartialEq, Eq)]
 pub struct Interface {
+    /// The header in front of each IP packet.
     pub link: LinkType,
-    /// How many octets of a packet are captured at most; 0 for all.
+    /// The greatest number of octets that are captured of a packet; 0 if there is no limit.
     pub limit: u32,
-    /// The option `if_tsresol`: a second has 10 to this many units, or 2 to 128 less than it.
+    /// The option `if_tsresol`: a second has 10^n units for n below 128, else 2^(n - 128).
     pub resolution: u8,
-    /// The option `if_tsoffset`: the seconds from 1970 from which times count.
+    /// The option `if_tsoffset`: the seconds after 1970 at which times begin.
     pub offset: i64,
 }
 
-/// The interface that a block describes.
+/// Returns the interface that a block describes.
 #[tactic(auto, unfolding(crate::specs::Interface::interface_of))]
 pub(crate) fn read_interface(order: Endian, block: &[u8]) -> Result<Interface, CaptureFaultKind>
     ensures { result ≡ spec.interface_of order block.now }
 {
+    // 16 octets up to the options, and the length again at the end.
     if block.len() < 20 {
         return Err(CaptureFaultKind::Length);
     }
@@ -43,7 +46,7 @@ pub(crate) fn read_interface(order: Endian, block: &[u8]) -> Result<Interface, C
     })
 }
 
-/// The resolution that options give, or 6, for microseconds.
+/// Returns the resolution that options give, or 6, for microseconds, if they give none.
 #[tactic(auto, unfolding(crate::specs::Interface::resolution_of))]
 fn read_resolution(order: Endian, options: &[u8]) -> Result<u8, CaptureFaultKind>
     ensures { result ≡ spec.resolution_of order options.now }
@@ -55,7 +58,7 @@ fn read_resolution(order: Endian, options: &[u8]) -> Result<u8, CaptureFaultKind
     }
 }
 
-/// The offset that options give, or 0.
+/// Returns the offset that options give, or 0 if they give none.
 #[tactic(auto, unfolding(crate::specs::Interface::offset_of))]
 fn read_offset(order: Endian, options: &[u8]) -> Result<i64, CaptureFaultKind>
     ensures { result ≡ spec.offset_of order options.now }
@@ -67,7 +70,7 @@ fn read_offset(order: Endian, options: &[u8]) -> Result<i64, CaptureFaultKind>
     }
 }
 
-/// The time of a block in its interface's units: its high word, and its low word.
+/// Returns the time of a block in its interface's units, which is written as a high and a low word of 32 bits.
 pub(crate) fn time_units(order: Endian, block: &[u8]) -> u64
     requires { 20 ≤ length block.now }
     ensures { result ≡ spec.time_units order block.now }
@@ -75,7 +78,7 @@ pub(crate) fn time_units(order: Endian, block: &[u8]) -> u64
     u64::from(order.read_u32(block, 12)) * 0x1_0000_0000 + u64::from(order.read_u32(block, 16))
 }
 
-/// A packet's time in nanoseconds since 1970, if 64 bits hold it.
+/// Returns a packet's time in nanoseconds since 1970, if it isn't before 1970 and fits 64 bits.
 #[tactic(auto, unfolding(crate::specs::Interface::time_of))]
 pub(crate) fn time_of(interface: &Interface, units: u64) -> Option<u64>
     ensures { result ≡ spec.time_of interface.now units }
@@ -85,18 +88,19 @@ pub(crate) fn time_of(interface: &Interface, units: u64) -> Option<u64>
     u64::try_from(time).ok()
 }
 
-/// The nanoseconds of a number of units, rounded down.
+/// Returns the nanoseconds of a number of units, rounded down.
 fn nanoseconds(resolution: u8, units: u64) -> u128
     ensures value { result ≡ units * 1_000_000_000 / spec.units_per_second resolution }
     ensures bound { result < 2 ^ 94 }
 {
     match units_per_second(resolution) {
         Some(count) => u128::from(units) * 1_000_000_000 / count,
+        // A nanosecond then has more units than 64 bits hold.
         None => 0,
     }
 }
 
-/// How many units a second has, if 128 bits hold it.
+/// Returns the number of units in a second, if it fits 128 bits.
 fn units_per_second(resolution: u8) -> Option<u128>
     ensures { MatchOption result (2 ^ 128 ≤ spec.units_per_second resolution)
         (λ count. count ≡ spec.units_per_second resolution) }

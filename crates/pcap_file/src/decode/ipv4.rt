@@ -1,4 +1,4 @@
-//! UDP datagrams in IPv4 packets (RFC 791, 3.1; RFC 768).
+//! The UDP datagrams in IPv4 packets (RFC 791, 3.1; RFC 768).
 ghost use Rattle.std.specs.Prelude.{◌≡◌, ◌≤◌, ◌+◌, length, option_map, true};
 ghost use Rattle.std.specs.Net.Addr.{ipv4_octets};
 ghost use Rattle.pcap_file.specs.UdpPacket as spec;
@@ -7,43 +7,49 @@ ghost use Rattle.pcap_file.specs.UdpPacket.{address_at, body_of, body_view, ipv4
 use crate::decode::endian::Endian;
 use std::net::Ipv4Addr;
 
-/// The octets of an IPv4 header without options, and of an UDP header.
+/// The length of an IPv4 header without options, in octets.
 const IPV4_HEADER: usize = 20;
 
+/// The length of a UDP header, in octets.
 const UDP_HEADER: usize = 8;
 
-/// UDP's number among the protocols of an IPv4 header.
+/// The protocol number of UDP in an IPv4 header.
 const UDP: u8 = 17;
 
-/// An IPv4 packet of UDP.
+/// An IPv4 packet of UDP, whose payload is borrowed.
 #[derive(Clone, Copy, Debug, PartialEq, Eq)]
 pub struct UdpPacket<'a> {
+    /// The address of the sender.
     pub source: Ipv4Addr,
+    /// The address of the receiver, often a multicast group.
     pub destination: Ipv4Addr,
+    /// The datagram, if the packet holds a whole one.
     pub body: UdpBody<'a>,
 }
 
-/// What an IPv4 packet of UDP carries.
+/// The body of an IPv4 packet of UDP.
 #[derive(Clone, Copy, Debug, PartialEq, Eq)]
 pub enum UdpBody<'a> {
     /// A whole datagram.
     Datagram(UdpDatagram<'a>),
-    /// A fragment of a datagram, which isn't put together.
+    /// A fragment of a datagram. Fragments are not reassembled.
     Fragment,
-    /// Less than a datagram: it was captured in part, or a length of its headers is wrong.
+    /// Less than a datagram: it was captured in part, or a length in its headers is wrong.
     Truncated,
 }
 
-/// A UDP datagram. Its checksum isn't looked at, since senders often leave it to their network card.
+/// A UDP datagram. Its checksum isn't tested: a sender's network card often fills it in after the capture.
 #[derive(Clone, Copy, Debug, PartialEq, Eq)]
 pub struct UdpDatagram<'a> {
+    /// The sender's port.
     pub source_port: u16,
+    /// The receiver's port.
     pub destination_port: u16,
-    /// The octets behind the header.
+    /// The octets behind the UDP header.
     pub payload: &'a [u8],
 }
 
-/// The UDP packet that octets begin with, unless they are something else.
+/// Returns the UDP packet at the start of octets, or none if they are something else.
 #[tactic(auto, unfolding(crate::specs::UdpPacket::ipv4_of))]
 pub(crate) fn read_ipv4(octets: &[u8]) -> Option<UdpPacket<'_>>
     ensures { option_map ipv4_view result ≡ ipv4_of octets.now }
@@ -58,14 +64,14 @@ pub(crate) fn read_ipv4(octets: &[u8]) -> Option<UdpPacket<'_>>
     })
 }
 
-/// Whether the fixed fields of a header of version 4 and protocol UDP stand first.
+/// Returns true if octets begin with the fixed fields of a header of version 4 and protocol UDP.
 fn begins_with_header(octets: &[u8]) -> bool
     ensures { result ≡ spec.has_udp_header octets.now }
 {
     octets.len() >= IPV4_HEADER && octets[0] / 16 == 4 && octets[9] == UDP
 }
 
-/// The octets of the header, with its options.
+/// Returns the length of the header with its options, in octets.
 fn header_length(octets: &[u8]) -> usize
     requires { 1 ≤ length octets.now }
     ensures { result ≡ spec.header_length octets.now }
@@ -73,7 +79,7 @@ fn header_length(octets: &[u8]) -> usize
     4 * usize::from(octets[0] % 16)
 }
 
-/// The address whose four octets stand at a place.
+/// Returns the address of four octets at a place.
 fn read_address(octets: &[u8], place: usize) -> Ipv4Addr
     requires { place + 4 ≤ length octets.now }
     ensures { ipv4_octets result ≡ address_at place octets.now }
@@ -86,12 +92,14 @@ fn read_address(octets: &[u8], place: usize) -> Ipv4Addr
     )
 }
 
-/// What an IPv4 packet carries, of which the fixed fields are there.
+/// Returns the body of an IPv4 packet whose fixed fields are all there.
 #[tactic(auto, unfolding(crate::specs::UdpPacket::body_of))]
 fn read_body(octets: &[u8]) -> UdpBody<'_>
     requires { spec.has_udp_header octets.now ≡ true }
     ensures { body_view result ≡ body_of octets.now }
 {
+    // The flag of more fragments or an offset: the remainder leaves out the reserved flag and "don't fragment". This
+    // comes first, since a fragment's octets aren't a whole datagram, whatever its lengths are.
     if Endian::Big.read_u16(octets, 6) % 16384 != 0 {
         return UdpBody::Fragment;
     }
@@ -106,7 +114,7 @@ fn read_body(octets: &[u8]) -> UdpBody<'_>
     }
 }
 
-/// The datagram that octets are, unless they are too few or its length lies.
+/// Returns the datagram at the start of octets, or none if they are too few or its length is wrong.
 #[tactic(auto, unfolding(crate::specs::UdpPacket::udp_of))]
 fn read_udp(octets: &[u8]) -> Option<UdpDatagram<'_>>
     ensures { option_map udp_view result ≡ udp_of octets.now }

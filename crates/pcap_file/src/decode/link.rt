@@ -4,7 +4,7 @@ ghost use Rattle.pcap_file.specs.LinkType as spec;
 
 use crate::decode::endian::Endian;
 
-/// What stands in front of the IP packets of a link.
+/// The type of a link, which says what header comes before an IP packet.
 #[derive(Clone, Copy, Debug, Default, PartialEq, Eq)]
 pub enum LinkType {
     /// The protocol's family in four octets, in the order of the machine that captured (`NULL`).
@@ -19,12 +19,12 @@ pub enum LinkType {
     LinuxSll,
     /// Linux's header of 20 octets, which begins with the protocol (`LINUX_SLL2`).
     LinuxSll2,
-    /// Another header, behind which nothing is looked for.
+    /// Another header. Frames with it are passed over.
     #[default]
     Other,
 }
 
-/// The link that a number of the registry names.
+/// Returns the link type of a number of the registry.
 pub(crate) fn link_of(number: u16) -> LinkType
     ensures { result ≡ spec.link_of number }
 {
@@ -40,7 +40,7 @@ pub(crate) fn link_of(number: u16) -> LinkType
     }
 }
 
-/// The octets of the IPv4 packet in a frame, if its header announces one.
+/// Returns the octets of the IPv4 packet in a frame, if its header announces one.
 pub(crate) fn ip_octets(link: LinkType, frame: &[u8]) -> Option<&[u8]>
     ensures { option_map (λ octets. octets.now) result ≡ spec.ip_octets link frame.now }
 {
@@ -48,13 +48,14 @@ pub(crate) fn ip_octets(link: LinkType, frame: &[u8]) -> Option<&[u8]>
     Some(&frame[place..])
 }
 
-/// Where the IPv4 packet of a frame begins.
+/// Returns the place at which the IPv4 packet of a frame begins, if its header announces one.
 #[tactic(auto, unfolding(crate::specs::LinkType::ip_place))]
 fn ip_place(link: LinkType, frame: &[u8]) -> Option<usize>
     ensures place { result ≡ spec.ip_place link frame.now }
     ensures within { IfSome result (λ place. place ≤ length frame.now) }
 {
     match link {
+        // The file's order may be another than that of the machine that captured, so both are tried.
         LinkType::Null => (has_family(Endian::Big, frame)
             || has_family(Endian::Little, frame)).then_some(4),
         LinkType::Ethernet => {
@@ -69,7 +70,7 @@ fn ip_place(link: LinkType, frame: &[u8]) -> Option<usize>
     }
 }
 
-/// Where an Ethernet frame's type stands: behind its addresses and up to two tags.
+/// Returns the place of an Ethernet frame's type: behind its addresses and up to two tags.
 fn type_place(frame: &[u8]) -> usize
     ensures { result ≡ spec.type_place frame.now }
 {
@@ -79,7 +80,7 @@ fn type_place(frame: &[u8]) -> usize
     if has_tag(frame, 16) { 20 } else { 16 }
 }
 
-/// Whether a VLAN tag stands at a place.
+/// Returns true if a VLAN tag (IEEE 802.1Q or 802.1ad) is at a place.
 fn has_tag(frame: &[u8], place: usize) -> bool
     requires { place ≤ 16 }
     ensures { result ≡ spec.has_tag frame.now place }
@@ -87,7 +88,7 @@ fn has_tag(frame: &[u8], place: usize) -> bool
     has_type(frame, place, 0x8100) || has_type(frame, place, 0x88a8)
 }
 
-/// Whether a type of two octets stands at a place.
+/// Returns true if a type of two octets is at a place.
 fn has_type(frame: &[u8], place: usize, kind: u16) -> bool
     requires { place ≤ 20 }
     ensures { result ≡ spec.has_type frame.now place kind }
@@ -95,7 +96,7 @@ fn has_type(frame: &[u8], place: usize, kind: u16) -> bool
     frame.len() >= place + 2 && Endian::Big.read_u16(frame, place) == kind
 }
 
-/// Whether the family of IPv4, 2, stands first, in an order.
+/// Returns true if the frame begins with the address family of IPv4, 2, in a byte order.
 fn has_family(order: Endian, frame: &[u8]) -> bool
     ensures { result ≡ spec.has_family order frame.now }
 {

@@ -5,7 +5,8 @@ ghost use Rattle.pcap_file.specs.Options as spec;
 use crate::decode::endian::Endian;
 use crate::fault::CaptureFaultKind;
 
-/// The octets of the first option with a code, if there is one before the options' end.
+/// Returns the octets of the first option with a code, if there is one before the options' end. Returns `Options` if an
+/// option before that is cut.
 #[tactic(auto, unfolding(crate::specs::Options::option_among))]
 pub(crate) fn option_at(
     order: Endian,
@@ -18,6 +19,7 @@ pub(crate) fn option_at(
     while rest.len() >= 4 {
         let kind = order.read_u16(rest, 0);
         let end = 4 + usize::from(order.read_u16(rest, 2));
+        // The code 0 is `opt_endofopt`.
         if kind == 0 {
             return Ok(None);
         }
@@ -27,6 +29,7 @@ pub(crate) fn option_at(
         if kind == code {
             return Ok(Some(&rest[4..end]));
         }
+        // The last option may lack its padding.
         let next = 4 * ((end + 3) / 4);
         rest = &rest[next.min(rest.len())..];
     }

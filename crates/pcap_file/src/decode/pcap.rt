@@ -11,23 +11,25 @@ use crate::decode::link::{LinkType, link_of};
 use crate::decode::packet_in;
 use crate::fault::CaptureFaultKind;
 
-/// The octets of a file's header, and of a record's.
+/// The length of a file's header, in octets.
 pub(crate) const FILE_HEADER: usize = 24;
 
+/// The length of a record's header, in octets.
 const RECORD_HEADER: usize = 16;
-/// The numbers that a file with microseconds begins with, and one with nanoseconds.
+/// The magic number of a file whose times are in microseconds.
 const MICROSECONDS: u32 = 0xa1b2_c3d4;
 
+/// The magic number of a file whose times are in nanoseconds.
 const NANOSECONDS: u32 = 0xa1b2_3c4d;
 
-/// The smaller unit of a file's times.
+/// The unit of the second word of a record's time; the first has whole seconds.
 #[derive(Clone, Copy, Debug, PartialEq, Eq)]
 pub(crate) enum TimeUnit {
     Microsecond,
     Nanosecond,
 }
 
-/// What a pcap file's header says.
+/// The fields of a pcap file's header by which its records are read.
 #[derive(Clone, Copy, Debug, PartialEq, Eq)]
 pub(crate) struct Pcap {
     pub(crate) order: Endian,
@@ -35,7 +37,7 @@ pub(crate) struct Pcap {
     pub(crate) link: LinkType,
 }
 
-/// The order and the unit that a file's first four octets say, if they are a pcap file's.
+/// Returns the byte order and the time unit of a file's first four octets, if they are the magic number of pcap.
 fn read_magic(octets: &[u8]) -> Option<(Endian, TimeUnit)>
     requires { 4 ≤ length octets.now }
     ensures { result ≡ spec.magic_of octets.now }
@@ -55,7 +57,8 @@ fn read_magic(octets: &[u8]) -> Option<(Endian, TimeUnit)>
     }
 }
 
-/// The header of a pcap file, which octets begin with.
+/// Returns the header of a pcap file, which octets begin with. Returns `Format` if the magic number is wrong,
+/// `Truncated` if the header isn't whole, and `Version` if it isn't 2.4.
 #[tactic(auto, unfolding(crate::specs::Pcap::pcap_of, crate::specs::Pcap::header_in))]
 pub(crate) fn read_header(octets: &[u8]) -> Result<Pcap, CaptureFaultKind>
     ensures header { result ≡ pcap_of octets.now }
@@ -74,11 +77,12 @@ pub(crate) fn read_header(octets: &[u8]) -> Result<Pcap, CaptureFaultKind>
     Ok(Pcap {
         order,
         unit,
+        // The upper half of the word has other fields: the length of a frame check sequence.
         link: link_of((order.read_u32(octets, 20) % 65536) as u16),
     })
 }
 
-/// The packet record that octets begin with.
+/// Returns the packet record that octets begin with, or `Truncated` if it isn't whole.
 #[tactic(auto, unfolding(crate::specs::Pcap::record_of))]
 pub(crate) fn read_record<'a>(
     pcap: &Pcap,
@@ -109,7 +113,7 @@ pub(crate) fn read_record<'a>(
     })
 }
 
-/// Whether the record that octets begin with ends behind them.
+/// Returns true if the record that octets begin with isn't whole.
 pub(crate) fn is_record_cut(pcap: &Pcap, octets: &[u8]) -> bool
     ensures { result ≡ parts.is_record_cut pcap.now octets.now }
 {
@@ -117,7 +121,7 @@ pub(crate) fn is_record_cut(pcap: &Pcap, octets: &[u8]) -> bool
         || octets.len() - RECORD_HEADER < pcap.order.read_u32(octets, 8) as usize
 }
 
-/// A record's time in nanoseconds since 1970.
+/// Returns a record's time in nanoseconds since 1970.
 fn read_time(pcap: &Pcap, octets: &[u8]) -> u64
     requires { 16 ≤ length octets.now }
     ensures { result ≡ spec.record_time pcap.now octets.now }

@@ -1,4 +1,5 @@
-//! A section of the pcapng format, block by block (draft-ietf-opsawg-pcapng, General File Structure and Block Definitions).
+//! A section of the pcapng format, read block by block (draft-ietf-opsawg-pcapng, General File Structure and Block
+//! Definitions).
 ghost use Rattle.std.specs.Prelude.{◌≡◌, ◌≤◌, ◌*◌, MatchResult, IfOk, None, Ok, Err, Some, length, option_copied};
 ghost use Rattle.pcap_file.specs.BlockParser as parts;
 ghost use Rattle.pcap_file.specs.Section as spec;
@@ -14,18 +15,20 @@ use crate::decode::{Packet, packet_in};
 use crate::fault::CaptureFaultKind;
 use arrayvec::ArrayVec;
 
-/// How many interfaces a section may describe.
+/// The greatest number of interfaces of a section.
+// A record has at most 16 streams with 4 paths each. The limit lets the interfaces lie in an array, so that reading
+// allocates nothing.
 const INTERFACES: usize = 64;
-/// The octets of a block that holds nothing: its type, and its length twice.
+/// The length of an empty block in octets: its type, and its length twice.
 const EMPTY_BLOCK: usize = 12;
-/// The type of a section header, which is the same in either order.
+/// The block type of a section header, which is the same in both byte orders.
 pub(crate) const SECTION_HEADER: u32 = 0x0a0d_0d0a;
-/// The type of an interface's statistics.
+/// The block type of an interface's statistics.
 const STATISTICS: u32 = 5;
-/// The number by which a section header says its order.
+/// The number in a section header that shows its byte order.
 const BYTE_ORDER_MAGIC: u32 = 0x1a2b_3c4d;
 
-/// What a block is, by its type.
+/// The kind of a block, by its type.
 #[derive(Clone, Copy, Debug, PartialEq, Eq)]
 pub(crate) enum BlockKind {
     SectionHeader,
@@ -36,7 +39,7 @@ pub(crate) enum BlockKind {
     Other,
 }
 
-/// What a section's blocks said so far.
+/// The byte order of a section, and the interfaces that it has described so far.
 #[derive(Drop)]
 pub(crate) struct Section {
     pub(crate) order: Endian,
@@ -54,7 +57,8 @@ impl Section {
         }
     }
 
-    /// Reads the block that octets begin with.
+    /// Returns the block that octets begin with, and takes over its byte order or its interface. Returns a fault if the
+    /// block isn't whole or is wrong.
     #[tactic(auto, unfolding(crate::specs::Section::block_of))]
     pub(crate) fn read_block<'a>(
         &mut self,
@@ -69,6 +73,7 @@ impl Section {
         if octets.len() < EMPTY_BLOCK {
             return Err(CaptureFaultKind::Truncated);
         }
+        // The order comes before the length, which a section header gives in its own order.
         self.order = read_order(self.order, octets)?;
         let len = read_length(self.order, octets)?;
         let packet = self.read_content(&octets[..len])?;
@@ -76,7 +81,7 @@ impl Section {
         Ok(CaptureBlock { len, packet, mark })
     }
 
-    /// Takes in what a whole block says, and answers the UDP packet in it.
+    /// Takes over a whole block's section or interface, and returns the UDP packet in it, if there is one.
     fn read_content<'a>(&mut self, block: &'a [u8]) -> Result<Option<Packet<'a>>, CaptureFaultKind>
         requires { 12 ≤ length block.now }
         ensures { AnswersContent (spec.content_of (section_view self.old) block.now) (section_view self.new) result }
@@ -90,7 +95,7 @@ impl Section {
         }
     }
 
-    /// What a whole block tells of a record.
+    /// Returns the mark of a record in a whole block, if there is one.
     fn read_mark(&self, block: &[u8]) -> Option<RecordMark>
         requires { 12 ≤ length block.now }
         ensures { result ≡ mark_of self.now.order (section_view self.now).interfaces block.now }
@@ -102,7 +107,7 @@ impl Section {
         }
     }
 
-    /// Begins the section that a header says: it has no interface yet.
+    /// Begins the section of a header: its interfaces are numbered from 0 again.
     #[tactic(auto, unfolding(crate::specs::Section::begun_by))]
     fn begin<'a>(&mut self, block: &'a [u8]) -> Result<Option<Packet<'a>>, CaptureFaultKind>
         ensures { AnswersContent (spec.begun_by (section_view self.old) block.now) (section_view self.new) result }
@@ -112,7 +117,7 @@ impl Section {
         Ok(None)
     }
 
-    /// Takes in an interface's description.
+    /// Adds an interface by its description. Returns `TooMany` after 64.
     #[tactic(auto, unfolding(crate::specs::Section::described_by))]
     fn add_interface<'a>(&mut self, block: &'a [u8]) -> Result<Option<Packet<'a>>, CaptureFaultKind>
         ensures { AnswersContent (spec.described_by (section_view self.old) block.now) (section_view self.new) result }
@@ -125,7 +130,7 @@ impl Section {
         Ok(None)
     }
 
-    /// The UDP packet in an enhanced packet block.
+    /// Returns the UDP packet in an enhanced packet block, if there is one.
     #[tactic(auto, unfolding(crate::specs::Section::enhanced_of))]
     fn read_enhanced<'a>(&self, block: &'a [u8]) -> Result<Option<Packet<'a>>, CaptureFaultKind>
         ensures { AnswersPacket (spec.enhanced_of (section_view self.now) block.now) result }
@@ -149,7 +154,7 @@ impl Section {
         ))
     }
 
-    /// The UDP packet in a simple packet block, which is of the first interface.
+    /// Returns the UDP packet in a simple packet block, which belongs to the first interface, if there is one.
     #[tactic(auto, unfolding(crate::specs::Section::simple_of))]
     fn read_simple<'a>(&self, block: &'a [u8]) -> Result<Option<Packet<'a>>, CaptureFaultKind>
         ensures { AnswersPacket (spec.simple_of (section_view self.now) block.now) result }
@@ -165,7 +170,7 @@ impl Section {
         Ok(packet_in(interface.link, None, 0, &block[12..12 + captured]))
     }
 
-    /// The interface with a number, if it is described.
+    /// Returns the interface with a number, or the fault `Interface` if it isn't described.
     #[tactic(auto, unfolding(crate::specs::Section::interface_at))]
     fn interface(&self, number: u32) -> Result<Interface, CaptureFaultKind>
         ensures { result ≡ spec.interface_at (section_view self.now) number }
@@ -178,7 +183,7 @@ impl Section {
     }
 }
 
-/// What a block of a type is.
+/// Returns the kind of a block type.
 fn block_kind(number: u32) -> BlockKind
     ensures { result ≡ spec.kind_of number }
 {
@@ -191,7 +196,7 @@ fn block_kind(number: u32) -> BlockKind
     }
 }
 
-/// How many octets of a packet of a length a simple packet block holds.
+/// Returns the number of octets that a simple packet block holds of a packet of a length.
 fn captured_of(interface: &Interface, original: u32) -> u32
     ensures { result ≡ spec.captured_of interface.now original }
 {
@@ -202,7 +207,7 @@ fn captured_of(interface: &Interface, original: u32) -> u32
     }
 }
 
-/// The order of a block's octets: that of its section, or what a section header says.
+/// Returns the byte order of a block: that of its section, or of a section header its own.
 #[tactic(auto, unfolding(crate::specs::Section::order_of))]
 fn read_order(order: Endian, octets: &[u8]) -> Result<Endian, CaptureFaultKind>
     requires { 12 ≤ length octets.now }
@@ -219,7 +224,7 @@ fn read_order(order: Endian, octets: &[u8]) -> Result<Endian, CaptureFaultKind>
     }
 }
 
-/// The length that a block gives itself at both its ends.
+/// Returns the length of a block in octets, which it gives at its start and at its end.
 #[tactic(auto, unfolding(crate::specs::Section::length_of))]
 fn read_length(order: Endian, octets: &[u8]) -> Result<usize, CaptureFaultKind>
     requires { 12 ≤ length octets.now }
@@ -239,7 +244,7 @@ fn read_length(order: Endian, octets: &[u8]) -> Result<usize, CaptureFaultKind>
     Ok(len)
 }
 
-/// Whether the block that octets begin with, of a section in this order, ends behind them.
+/// Returns true if the block that octets begin with, of a section in this byte order, isn't whole.
 pub(crate) fn is_block_cut(order: Endian, octets: &[u8]) -> bool
     ensures { result ≡ parts.is_block_cut order octets.now }
 {
@@ -248,11 +253,12 @@ pub(crate) fn is_block_cut(order: Endian, octets: &[u8]) -> bool
     }
     match read_order(order, octets) {
         Ok(order) => is_length_cut(order, octets),
+        // A block with a fault isn't cut: no further octets would make it right.
         Err(_) => false,
     }
 }
 
-/// Whether a block gives itself a length that can be one, and ends behind these octets.
+/// Returns true if a block has a possible length and isn't whole.
 fn is_length_cut(order: Endian, octets: &[u8]) -> bool
     requires { 12 ≤ length octets.now }
     ensures { result ≡ parts.is_length_cut (Ok order) octets.now }
@@ -261,7 +267,7 @@ fn is_length_cut(order: Endian, octets: &[u8]) -> bool
     len >= EMPTY_BLOCK && len % 4 == 0 && octets.len() < len
 }
 
-/// Tests whether a section's version is one that is read.
+/// Tests that a section's version is 1.0 or 1.2.
 #[tactic(auto, unfolding(crate::specs::Section::section_fault))]
 fn check_version(order: Endian, block: &[u8]) -> Result<(), CaptureFaultKind>
     ensures { MatchResult result (λ _. spec.section_fault order block.now ≡ None)

@@ -1,4 +1,4 @@
-//! What a block tells of a record, a live run that was written down.
+//! The marks of a record, the capture that a live run wrote: the times at which the studio was opened and closed.
 ghost use Rattle.std.specs.Prelude.{◌≡◌, ◌≤◌, length};
 ghost use Rattle.pcap_file.specs.Mark as spec;
 
@@ -7,21 +7,23 @@ use crate::decode::endian::Endian;
 use crate::decode::interface::{Interface, time_of, time_units};
 use crate::decode::options::option_at;
 
-/// The numbers of the options that a record's section header has.
+/// The code of the option that holds a comment.
 const COMMENT: u16 = 1;
 
+/// The code of the option that holds the name of a section's writer.
 const USER_APPLICATION: u16 = 4;
 
-/// What a block tells of a record, a live run that was written down.
+/// A block of a record that is no datagram.
 #[derive(Clone, Copy, Debug, PartialEq, Eq)]
 pub enum RecordMark {
-    /// A section header of `darbexum`'s: when the studio was opened, in sampling instants below 2^63.
+    /// A section header of `darbexum`: the time at which the studio was opened, in sampling instants at 48 kHz, below
+    /// 2^63.
     Opened(u64),
-    /// An interface's statistics: their time in nanoseconds, which in a record is when the studio was closed.
+    /// An interface's statistics: their time in nanoseconds. In a record the studio was closed then.
     Closed(u64),
 }
 
-/// The mark of a section header: its writer is `darbexum`, and its comment says the opening.
+/// Returns the mark of a section header, if its writer is `darbexum` and its comment has the time of the opening.
 #[tactic(auto, unfolding(crate::specs::Mark::opened_by))]
 pub(crate) fn read_opening(order: Endian, block: &[u8]) -> Option<RecordMark>
     ensures { result ≡ spec.opened_by order block.now }
@@ -39,24 +41,25 @@ pub(crate) fn read_opening(order: Endian, block: &[u8]) -> Option<RecordMark>
     }
 }
 
-/// The text of an option, or none where there is no such option before the options' end.
+/// Returns the text of an option, or an empty text if there is no such option before the options' end.
 fn text_at(order: Endian, code: u16, options: &[u8]) -> &[u8]
     ensures { result.now ≡ spec.text_at order code options.now }
 {
     match option_at(order, code, options) {
         Ok(Some(text)) => text,
+        // A capture of another program is no record, but it isn't wrong: a cut option is no fault here.
         _ => &[],
     }
 }
 
-/// The opening that a comment says.
+/// Returns the time of the opening that a comment gives, if it gives one.
 fn opening_in(comment: &[u8]) -> Option<u64>
     ensures { result ≡ spec.opening_in comment.now }
 {
     number_in(comment.strip_prefix(b"open_at ")?)
 }
 
-/// The mark of an interface's statistics: their time.
+/// Returns the mark of an interface's statistics, if their interface is described and their time fits.
 #[tactic(auto, unfolding(crate::specs::Mark::closed_by))]
 pub(crate) fn read_closing(
     order: Endian,

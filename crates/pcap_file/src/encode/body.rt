@@ -1,14 +1,15 @@
-//! What a block holds in front of a datagram, piece by piece.
+//! The body of a block in front of a datagram, put together piece by piece.
 ghost use Rattle.std.specs.Prelude.{◌≡◌, ◌+◌, ◌*◌, ◌%◌, ◌≤◌, ◌++◌, length};
 ghost use Rattle.arrayvec.specs.ArrayVec.{array_vec_len};
 ghost use Rattle.pcap_file.specs.Blocks.{option_octets};
 
 use arrayvec::ArrayVec;
 
-/// The octets that a block holds, without a datagram's.
+/// The octets of a block's body, without a datagram's.
+// A section header has the longest: 16 octets of fields, a comment of up to 32, 12 of the application, 4 of the end.
 pub(crate) type BlockBody = ArrayVec<u8, 64>;
 
-/// Adds octets.
+/// Appends octets.
 pub(crate) fn push(head: &mut BlockBody, octets: &[u8])
     requires { array_vec_len head.old + length octets.now ≤ 64 }
     ensures items { head.new.items ≡ head.old.items ++ octets.now }
@@ -19,13 +20,14 @@ pub(crate) fn push(head: &mut BlockBody, octets: &[u8])
     };
 }
 
-/// Adds an option.
+/// Appends an option: its code, its length, its value, and zeros up to whole words of 4 octets.
 #[tactic(auto, unfolding(crate::specs::Blocks::option_octets, crate::specs::Blocks::padded))]
 pub(crate) fn push_option(head: &mut BlockBody, code: u16, value: &[u8])
     requires few { length value.now ≤ 64 }
     requires room { array_vec_len head.old + (4 + length value.now + 3 * length value.now % 4) ≤ 64 }
     ensures items { head.new.items ≡ head.old.items ++ option_octets code value.now }
-    ensures length { array_vec_len head.new ≡ array_vec_len head.old + (4 + length value.now + 3 * length value.now % 4) }
+    ensures length { array_vec_len head.new
+        ≡ array_vec_len head.old + (4 + length value.now + 3 * length value.now % 4) }
 {
     push(head, &code.to_le_bytes());
     push(head, &(value.len() as u16).to_le_bytes());

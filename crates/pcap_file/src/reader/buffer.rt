@@ -1,13 +1,13 @@
-//! The octets of a file that came.
+//! The buffer of a reader, which holds octets of its file.
 ghost use Rattle.std.specs.Prelude.{◌≤◌, vec_len, vec_capacity};
 
-/// The octets that came, of which the first are passed over. Their memory is taken when it is made.
+/// The octets that were read, of which the first are passed over. Its memory, 1 MiB, is allocated once.
 #[derive(Drop)]
 pub struct ReadBuffer {
     pub(crate) held: Vec<u8>,
-    /// How many of them are passed over.
+    /// The number of octets that are passed over.
     pub(crate) passed: usize,
-    /// Whether the file is at its end.
+    /// True if a read found the file's end.
     pub(crate) ended: bool,
     pub(crate) ghost within: { passed ≤ vec_len held },
     pub(crate) ghost room: { 1048576 ≤ vec_capacity held },
