@@ -1,14 +1,15 @@
-//! Why a capture gives no trace.
+//! The errors of importing a capture.
 ghost use Rattle.std.specs.Prelude.{◌≡◌};
 ghost use Rattle.pcap_flows.specs.declared.fault.ImportFault.TheVariants as fault;
 
 use std::alloc::AllocError;
 use thiserror::Error;
 
-/// Why a capture gives no trace or no configuration: what it lacks, or what goes beyond a trace's limits.
+/// The error because of which a capture gives no trace or no configuration: it lacks something, or it exceeds a limit
+/// of traces.
 #[derive(Clone, Copy, Debug, PartialEq, Eq, Error)]
 pub enum ImportFault {
-    /// No flow goes to an address that was named.
+    /// No flow goes to a named address.
     #[error("no flow goes to a named address")]
     UnknownAddress,
     /// No flow fits a stream.
@@ -17,13 +18,13 @@ pub enum ImportFault {
     /// There are more than 16 streams.
     #[error("more than 16 streams")]
     Streams,
-    /// The packets of a stream that was named fit none.
+    /// The packets of a named flow fit no stream: their lengths or timestamp steps vary, or are no linear PCM.
     #[error("a named flow fits no stream")]
     NoFormat,
-    /// No window spans the latency.
+    /// The latency is too long for the greatest window.
     #[error("the latency is too long for a window")]
     Latency,
-    /// A datagram has more than 2,045 octets, for which a line has no room.
+    /// A datagram has more than 2,045 octets, so that its line would be too long.
     #[error("a datagram is too long for a trace")]
     DatagramTooLong,
     /// There are more than 1,000,000 events.
@@ -32,7 +33,7 @@ pub enum ImportFault {
     /// The text has more than 67,108,864 octets.
     #[error("more than 67108864 octets of trace")]
     TooLong,
-    /// Memory was refused.
+    /// An allocation failed.
     #[error("out of memory")]
     Memory,
 }

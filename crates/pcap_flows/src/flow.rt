@@ -1,4 +1,4 @@
-//! One flow and its counts.
+//! A flow of RTP packets and its counts.
 ghost use Rattle.std.specs.Prelude.{◌≡◌, IfOk};
 ghost use Rattle.pcap_flows.specs.Flow.{flow_first, flow_view, flow_with, lost_of};
 ghost use Rattle.pcap_flows.specs.ReceivedNumbers.{numbers_view};
@@ -9,7 +9,7 @@ use crate::received_numbers::ReceivedNumbers;
 use crate::steps::Steps;
 use std::alloc::{AllocError, Global};
 
-/// A flow of RTP packets.
+/// The counts of a flow of RTP packets. It keeps none of the packets.
 #[derive(Drop)]
 pub struct Flow {
     packets: u64,
@@ -19,7 +19,7 @@ pub struct Flow {
 }
 
 impl Flow {
-    /// A flow's first packet.
+    /// A flow with its first packet. Returns `AllocError` if the allocation of 512 KiB fails.
     pub fn new(alloc: Global, first: &FlowPacket) -> Result<Flow, AllocError>
         ensures { IfOk result (λ flow. flow_view flow ≡ flow_first first.now) }
     {
@@ -32,7 +32,7 @@ impl Flow {
         })
     }
 
-    /// Takes in a packet of the flow.
+    /// Counts a packet of the flow, in the order of the capture.
     pub fn add(&mut self, next: &FlowPacket)
         ensures { flow_view self.new ≡ flow_with (flow_view self.old) next.now }
     {
@@ -42,21 +42,21 @@ impl Flow {
         self.steps.add(next.seq, next.ts);
     }
 
-    /// All its packets, those of repeated numbers too.
+    /// Returns the number of all its packets, those with repeated numbers too.
     pub fn packets(&self) -> u64
         ensures { result ≡ self.now.packets }
     {
         self.packets
     }
 
-    /// Its numbers.
+    /// Returns its sequence numbers.
     pub fn numbers(&self) -> &ReceivedNumbers
         ensures { result.now ≡ self.now.numbers }
     {
         &self.numbers
     }
 
-    /// How many numbers from the least to the greatest didn't come.
+    /// Returns the number of sequence numbers from the least to the greatest that the capture lacks (RFC 3550, A.3).
     pub fn lost(&self) -> u64
         ensures { result ≡ lost_of (flow_view self.now) }
     {
@@ -64,14 +64,14 @@ impl Flow {
         self.numbers.span().saturating_sub(came)
     }
 
-    /// Its payload lengths.
+    /// Returns its payload lengths.
     pub fn lengths(&self) -> Lengths
         ensures { result ≡ self.now.lengths }
     {
         self.lengths
     }
 
-    /// Its timestamp steps.
+    /// Returns its timestamp steps.
     pub fn steps(&self) -> Steps
         ensures { result ≡ self.now.steps }
     {

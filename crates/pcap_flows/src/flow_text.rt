@@ -1,4 +1,4 @@
-//! What a capture holds, as a text.
+//! The text that lists a capture's flows.
 use crate::fit::channels_that_fit;
 use crate::flow::Flow;
 use crate::lengths::Lengths;
@@ -19,8 +19,8 @@ const FURTHER: [&str; 3] = ["b", "c", "d"];
 /// The encodings, with the octets of a sample.
 const ENCODINGS: [(&str, usize); 2] = [("L16", 2), ("L24", 3)];
 
-/// A line for each flow of a capture's table, stream by stream; behind those of a stream of several paths one for each
-/// further path's skew. The octets are the capture's.
+/// Returns a line for each flow of a capture's table, stream by stream. A stream of several paths has a line for the
+/// skew of each further path behind these. `octets` is the capture. Returns `AllocError` if an allocation fails.
 pub fn table_text(alloc: Global, table: &FlowTable, octets: &[u8]) -> Result<String, AllocError> {
     let streams = group_streams(alloc, table)?;
     let pairs = pairs_of(alloc, table, streams.as_slice())?;
@@ -31,7 +31,7 @@ pub fn table_text(alloc: Global, table: &FlowTable, octets: &[u8]) -> Result<Str
     Ok(text)
 }
 
-/// The lines of each stream, whose skews stand stream by stream.
+/// Appends the lines of each stream; `skews` has those of all streams in their order.
 fn push_streams(
     text: &mut String,
     table: &FlowTable,
@@ -49,7 +49,7 @@ fn push_streams(
     Ok(())
 }
 
-/// The line of each path.
+/// Appends the line of each path.
 fn push_flows(
     text: &mut String,
     table: &FlowTable,
@@ -78,7 +78,7 @@ fn push_path(
     push_flow(text, &key, flow)
 }
 
-/// A flow's addresses, counts and form.
+/// Appends a flow's addresses, counts and format.
 fn push_flow(text: &mut String, key: &FlowKey, flow: &Flow) -> Result<(), AllocError> {
     push_ends(text, key)?;
     let (packets, lost, repeated) = (flow.packets(), flow.lost(), flow.numbers().repeated());
@@ -90,7 +90,7 @@ fn push_flow(text: &mut String, key: &FlowKey, flow: &Flow) -> Result<(), AllocE
     push_steps(text, flow.lengths(), flow.steps())
 }
 
-/// Where a flow's packets come from and go to, and their type.
+/// Appends a flow's addresses, source (SSRC) and payload type.
 fn push_ends(text: &mut String, key: &FlowKey) -> Result<(), AllocError> {
     let (from, to) = (Ipv4Addr::from_bits(key.from), Ipv4Addr::from_bits(key.to));
     let (from_port, to_port, ssrc, pt) = (key.from_port, key.to_port, key.ssrc, key.pt);
@@ -100,7 +100,7 @@ fn push_ends(text: &mut String, key: &FlowKey) -> Result<(), AllocError> {
     )
 }
 
-/// Payload lengths.
+/// Appends payload lengths.
 fn push_lengths(text: &mut String, lengths: Lengths) -> Result<(), AllocError> {
     let (least, greatest) = (lengths.least, lengths.greatest);
     if least == greatest {
@@ -110,7 +110,7 @@ fn push_lengths(text: &mut String, lengths: Lengths) -> Result<(), AllocError> {
     }
 }
 
-/// Timestamp steps, and what fits them and the payload lengths.
+/// Appends timestamp steps, and the encodings that fit them and the payload lengths.
 fn push_steps(text: &mut String, lengths: Lengths, steps: Steps) -> Result<(), AllocError> {
     match steps.first {
         None => text.push_str("step unknown\n"),
@@ -120,18 +120,19 @@ fn push_steps(text: &mut String, lengths: Lengths, steps: Steps) -> Result<(), A
     }
 }
 
-/// A step, the encodings and channels that fit it, and the packet time.
+/// Appends a step, the encodings and channels that fit it, and the packet time.
 fn push_fits(text: &mut String, len: usize, step: u32) -> Result<(), AllocError> {
     write!(text, "step {step}: ")?;
     if !push_encodings(text, len, step)? {
         return text.push_str("no L16 or L24\n");
     }
+    // A sampling instant at 48 kHz is 125/6 microseconds.
     let micros = u64::from(step) * 125 / 6;
     let (ms, us) = (micros / 1000, micros % 1000);
     writeln!(text, ", packets of {ms}.{us:03} ms at 48 kHz")
 }
 
-/// The encodings and channels that fit, if any do.
+/// Appends the encodings and channels that fit. Returns true if any do.
 fn push_encodings(text: &mut String, len: usize, step: u32) -> Result<bool, AllocError> {
     let mut before = "";
     for (name, octets) in ENCODINGS {
@@ -144,7 +145,7 @@ fn push_encodings(text: &mut String, len: usize, step: u32) -> Result<bool, Allo
     Ok(!before.is_empty())
 }
 
-/// A stream's first path with each further one, stream by stream.
+/// Returns each stream's first path with each further one, stream by stream.
 fn pairs_of(
     alloc: Global,
     table: &FlowTable,
@@ -157,7 +158,7 @@ fn pairs_of(
     Ok(pairs)
 }
 
-/// The first of some flows with each further one.
+/// Appends the first of some flows with each further one.
 fn add_pairs(
     pairs: &mut Vec<FlowPair>,
     table: &FlowTable,
@@ -174,14 +175,14 @@ fn add_pairs(
     Ok(())
 }
 
-/// The flows at two places of a table.
+/// Returns the flows at two places of a table, if they are there.
 fn pair_of(table: &FlowTable, first: usize, second: usize) -> Option<FlowPair> {
     let (first, _) = table.flow(first)?;
     let (second, _) = table.flow(second)?;
     Some(FlowPair { first, second })
 }
 
-/// A line for the skew of each further path.
+/// Appends a line for the skew of each further path.
 fn push_skews(text: &mut String, number: usize, skews: &[Option<Skew>]) -> Result<(), AllocError> {
     for (path, skew) in skews.iter().enumerate() {
         push_behind(text, number, path, skew)?;
@@ -203,7 +204,7 @@ fn push_behind(
     push_skew(text, skew)
 }
 
-/// A path's skew.
+/// Appends a path's skew.
 fn push_skew(text: &mut String, skew: &Skew) -> Result<(), AllocError> {
     push_time(text, "least", skew.least)?;
     push_time(text, ", median", skew.median)?;
@@ -211,9 +212,10 @@ fn push_skew(text: &mut String, skew: &Skew) -> Result<(), AllocError> {
     text.push_str("\n")
 }
 
-/// Nanoseconds as milliseconds with three places, cut, behind a name.
+/// Appends nanoseconds as milliseconds with three places, rounded towards zero, behind a name.
 fn push_time(text: &mut String, name: &str, nanoseconds: i64) -> Result<(), AllocError> {
     let micros = nanoseconds.unsigned_abs() / 1000;
+    // A time that is shown as 0 has no sign.
     let sign = if nanoseconds < 0 && micros > 0 {
         "-"
     } else {
@@ -223,7 +225,7 @@ fn push_time(text: &mut String, name: &str, nanoseconds: i64) -> Result<(), Allo
     write!(text, "{name} {sign}{ms}.{us:03} ms")
 }
 
-/// What isn't in a flow's line.
+/// Appends the numbers of packets that are in no flow's line.
 fn push_rest(text: &mut String, table: &FlowTable) -> Result<(), AllocError> {
     let (beyond, others) = (table.untracked(), table.not_rtp());
     if beyond > 0 {

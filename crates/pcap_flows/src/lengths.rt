@@ -2,15 +2,17 @@
 ghost use Rattle.std.specs.Prelude.{◌≡◌};
 ghost use Rattle.pcap_flows.specs.Flow.{lengths_first, lengths_with};
 
-/// The least and the greatest, in octets.
+/// The least and the greatest payload length of a flow, in octets.
 #[derive(Clone, Copy)]
 pub struct Lengths {
+    /// The least length.
     pub least: usize,
+    /// The greatest length.
     pub greatest: usize,
 }
 
 impl Lengths {
-    /// Those of one packet.
+    /// The lengths of a single packet.
     pub fn new(len: usize) -> Lengths
         ensures { result ≡ lengths_first len }
     {
@@ -20,7 +22,7 @@ impl Lengths {
         }
     }
 
-    /// Takes in a packet's.
+    /// Adds the length of a packet.
     pub fn add(&mut self, len: usize)
         ensures { self.new ≡ lengths_with self.old len }
     {

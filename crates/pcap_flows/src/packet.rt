@@ -1,4 +1,4 @@
-//! An RTP packet as it was captured.
+//! Captured RTP packets, and the keys by which they are sorted into flows.
 ghost use Rattle.std.specs.Prelude.{◌≡◌};
 ghost use Rattle.pcap_file.specs.Packet.{packet_view};
 ghost use Rattle.pcap_flows.specs.FlowPacket.{same_flow, flow_packet_of};
@@ -6,22 +6,26 @@ ghost use Rattle.pcap_flows.specs.FlowPacket.{same_flow, flow_packet_of};
 use pcap_file::{Packet, UdpBody};
 use rtp_wire::read;
 
-/// What tells flows apart: where packets come from and go to, their source and their payload type. An address is its
-/// four octets as one number.
+/// The key of a flow: the addresses and ports of its packets, their source and their payload type. An address is its
+/// four octets as one number, the first the most significant.
 #[derive(Clone, Copy)]
 pub struct FlowKey {
+    /// The sender's address.
     pub from: u32,
+    /// The sender's port.
     pub from_port: u16,
+    /// The receiver's address, often a multicast group.
     pub to: u32,
+    /// The receiver's port.
     pub to_port: u16,
-    /// The synchronisation source (RFC 3550, 5.1).
+    /// The synchronization source (RFC 3550, 5.1).
     pub ssrc: u32,
-    /// The payload type.
+    /// The payload type (RFC 3550, 5.1).
     pub pt: u8,
 }
 
 impl FlowKey {
-    /// Whether both are of one flow.
+    /// Returns true if both keys are the same.
     pub fn is_same(&self, other: &FlowKey) -> bool
         ensures { result ≡ same_flow self.now other.now }
     {
@@ -34,20 +38,22 @@ impl FlowKey {
     }
 }
 
-/// An RTP packet of a flow.
+/// The header fields of a captured RTP packet, with its length and time.
 #[derive(Clone, Copy)]
 pub struct FlowPacket {
+    /// The key of its flow.
     pub key: FlowKey,
+    /// The sequence number (RFC 3550, 5.1).
     pub seq: u16,
-    /// In sampling instants.
+    /// The timestamp in sampling instants (RFC 3550, 5.1).
     pub ts: u32,
-    /// The payload's octets.
+    /// The length of the payload, in octets.
     pub len: usize,
-    /// In nanoseconds since 1970 began, if the capture has it.
+    /// The time in nanoseconds since 1970, if the capture has it.
     pub time: Option<u64>,
 }
 
-/// The RTP packet in a captured one, unless it is cut, a fragment or no RTP.
+/// Returns the RTP packet in a captured one, or none if it is cut, a fragment or no RTP.
 #[tactic(auto, unfolding(crate::specs::FlowPacket::flow_packet_of))]
 pub fn flow_packet(packet: &Packet<'_>) -> Option<FlowPacket>
     ensures { result ≡ flow_packet_of (packet_view packet.now) }

@@ -1,16 +1,16 @@
-//! The extended numbers of a flow, and which of them came.
+//! The extended sequence numbers of a flow that a capture has (RFC 3550, A.1).
 ghost use Rattle.std.specs.Prelude.{◌≡◌, IfOk, vec_len};
 
 use crate::sequence::{first_number, no_numbers, number_near};
 use std::alloc::{AllocError, Global};
 
-/// Which numbers of a flow came, and how often one came again.
+/// The least and the greatest sequence number of a flow, extended by their cycles, and the number of repeated ones.
 #[derive(Drop)]
 pub struct ReceivedNumbers {
     least: u64,
     greatest: u64,
     repeated: u64,
-    /// For each 16 bits the number that came last with them, or 0.
+    /// The last extended number for each number of 16 bits; 0 if there was none.
     last_seen: Vec<u64>,
     ghost filled: { vec_len last_seen ≡ 65536 },
 }
@@ -18,7 +18,7 @@ pub struct ReceivedNumbers {
 impl ReceivedNumbers {
     ghost use Rattle.pcap_flows.specs.ReceivedNumbers.{numbers_first, numbers_view, numbers_with, span_of};
 
-    /// That of one packet.
+    /// The numbers of a single packet. Returns `AllocError` if the allocation of 512 KiB fails.
     pub fn new(alloc: Global, seq: u16) -> Result<ReceivedNumbers, AllocError>
         ensures { IfOk result (λ numbers. numbers_view numbers ≡ numbers_first seq) }
     {
@@ -33,7 +33,7 @@ impl ReceivedNumbers {
         })
     }
 
-    /// Takes in a packet's, by the nearest extended number.
+    /// Adds the number of a packet, extended to the one nearest to the greatest so far.
     pub fn add(&mut self, seq: u16)
         ensures { numbers_view self.new ≡ numbers_with (numbers_view self.old) seq }
     {
@@ -46,22 +46,23 @@ impl ReceivedNumbers {
         self.greatest = self.greatest.max(number);
     }
 
-    /// How often a number came again.
+    /// Returns the number of packets with a number that an earlier packet had.
     pub fn repeated(&self) -> u64
         ensures { result ≡ self.now.repeated }
     {
         self.repeated
     }
 
-    /// How many numbers there are from the least to the greatest.
+    /// Returns the number of sequence numbers from the least to the greatest.
     pub fn span(&self) -> u64
         ensures { result ≡ span_of (numbers_view self.now) }
     {
         self.greatest.saturating_sub(self.least).saturating_add(1)
     }
 
-    /// Whether both flows have a packet of the same 16 bits.
+    /// Returns true if both flows have a packet with the same number of 16 bits.
     pub fn overlaps(&self, other: &ReceivedNumbers) -> bool {
+        // Extended numbers can't be compared: each flow counts its cycles from its own first packet.
         for (a, b) in self.last_seen.iter().zip(other.last_seen.iter()) {
             if *a != 0 && *b != 0 {
                 return true;

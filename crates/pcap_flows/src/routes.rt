@@ -8,7 +8,7 @@ use crate::table::FlowTable;
 use std::alloc::Global;
 use std::net::SocketAddrV4;
 
-/// The most streams of a trace.
+/// The greatest number of streams of a trace.
 const MOST_STREAMS: u8 = 16;
 
 /// The letters of a stream's paths.
@@ -18,24 +18,27 @@ const LETTERS: [u8; 4] = [b'a', b'b', b'c', b'd'];
 #[derive(Drop)]
 pub struct Routes {
     pub(crate) list: Vec<Route>,
+    /// The number of streams.
     pub(crate) streams: u8,
+    /// The number of flows without a route.
     left_out: usize,
 }
 
 impl Routes {
-    /// The routes, for `trace_text`.
+    /// Returns the routes, which `trace_text` takes.
     pub fn list(&self) -> &[Route] {
         self.list.as_slice()
     }
 
-    /// How many flows have none.
+    /// Returns the number of flows without a route.
     pub fn left_out(&self) -> usize {
         self.left_out
     }
 }
 
-/// Routes of the flows to these addresses, or of all that fit a stream where none is named. The streams are those that
-/// `group_streams` finds.
+/// Returns routes of the flows to these addresses, or of all streams with a format if no address is named. The streams
+/// are those of `group_streams`. Returns an error if no flow goes to a named address, there is no route, or there are
+/// more than 16 streams.
 pub fn routes_of(
     alloc: Global,
     table: &FlowTable,
@@ -58,7 +61,7 @@ pub fn routes_of(
     Ok(routes)
 }
 
-/// Tests whether each name is that of a flow.
+/// Tests that a flow goes to each named address.
 fn check_names(table: &FlowTable, names: &[SocketAddrV4]) -> Result<(), ImportFault> {
     for name in names.iter() {
         if !table.keys().iter().any(|key| is_named(key, name)) {
@@ -68,13 +71,13 @@ fn check_names(table: &FlowTable, names: &[SocketAddrV4]) -> Result<(), ImportFa
     Ok(())
 }
 
-/// Whether a flow goes to an address and a port.
+/// Returns true if a flow goes to an address and a port.
 fn is_named(key: &FlowKey, name: &SocketAddrV4) -> bool {
     name.ip().to_bits() == key.to && name.port() == key.to_port
 }
 
 impl Routes {
-    /// Adds those of a stream's paths that are wanted.
+    /// Adds the paths of a stream that are named, or all of them if no address is named.
     fn add(
         &mut self,
         table: &FlowTable,
@@ -93,6 +96,7 @@ impl Routes {
                 self.push(*key, *letter)?;
             }
         }
+        // A stream of which no path was added leaves its number to the next.
         if letters.len() < LETTERS.len() {
             self.streams = self.streams.saturating_add(1);
         }
@@ -116,7 +120,7 @@ impl Routes {
     }
 }
 
-/// The form of the first of a stream's flows that has one.
+/// Returns the format of the first of a stream's flows that has one.
 fn form_in(table: &FlowTable, stream: &StreamFlows) -> Option<PacketFormat> {
     for place in stream.places().iter() {
         if let Some((key, flow)) = table.flow(*place)

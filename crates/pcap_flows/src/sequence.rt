@@ -4,17 +4,18 @@ ghost use Rattle.pcap_flows.specs.ReceivedNumbers as spec;
 
 use std::alloc::{AllocError, Global};
 
-/// How many numbers 16 bits have.
+/// The number of sequence numbers in a cycle, 2^16.
 pub(crate) const CYCLE: usize = 65_536;
 
-/// The extended number of a first packet: two cycles stand before it.
+/// Returns the extended number of a first packet, which has two cycles before it.
+// The numbers of packets that were sent before the first one then stay above 0, which stands for none.
 pub(crate) fn first_number(seq: u16) -> u64
     ensures { result ≡ spec.first_number seq }
 {
     131_072 + u64::from(seq)
 }
 
-/// The extended number nearest to the greatest so far, of which the low 16 bits are `seq`.
+/// Returns the extended number nearest to the greatest so far whose low 16 bits are `seq`.
 #[tactic(auto, unfolding(crate::specs::ReceivedNumbers::number_near))]
 pub(crate) fn number_near(greatest: u64, seq: u16) -> u64
     ensures { result ≡ spec.number_near greatest seq }
@@ -27,7 +28,7 @@ pub(crate) fn number_near(greatest: u64, seq: u16) -> u64
     }
 }
 
-/// No number came.
+/// Returns a list of 2^16 zeros, each of which means that there was no packet with this number.
 #[tactic(auto, unfolding(crate::specs::ReceivedNumbers::no_numbers))]
 pub(crate) fn no_numbers(alloc: Global) -> Result<Vec<u64>, AllocError>
     ensures items { IfOk result (λ last_seen. last_seen.items ≡ spec.no_numbers) }

@@ -1,19 +1,22 @@
-//! The times between the arrivals of the same number on two paths.
+//! The skew of two paths: the times between the arrivals of the same packet (SMPTE ST 2022-7).
 use crate::packet::{FlowKey, FlowPacket, flow_packet};
 use crate::sequence::{CYCLE, first_number, number_near};
 use pcap_file::{Capture, open};
 use std::alloc::{AllocError, Global};
 
-/// How much later than on the first path packets came on the second, in nanoseconds; below 0 earlier.
+/// The delays of packets on the second path behind the same ones on the first, in nanoseconds; negative if the second
+/// path is earlier.
 #[derive(Clone, Copy)]
 pub struct Skew {
+    /// The least delay.
     pub least: i64,
-    /// The lower of the middle two, where there are two.
+    /// The median delay; the lower of the middle two if their number is even.
     pub median: i64,
+    /// The greatest delay.
     pub greatest: i64,
 }
 
-/// When a number came first on each of the two paths.
+/// The times of the first packet with a number on each of the two paths.
 #[derive(Clone, Copy)]
 struct Times {
     number: u64,
@@ -21,17 +24,19 @@ struct Times {
     second: Option<u64>,
 }
 
-/// Two flows.
+/// Two flows that are paths of one stream.
 #[derive(Clone, Copy)]
 pub struct FlowPair {
+    /// The flow from which delays count.
     pub first: FlowKey,
+    /// The other flow.
     pub second: FlowKey,
 }
 
-/// The most pairs whose times are kept at once. Those of a pair take 2.5 MiB.
+/// The greatest number of pairs whose times are kept at once. Those of a pair take 2.5 MiB.
 const MOST_PAIRS: usize = 16;
 
-/// What is kept of a pair while the capture is read.
+/// The times and skews of a pair while a capture is read.
 #[derive(Drop)]
 struct PairTimes {
     pair: FlowPair,
@@ -41,7 +46,7 @@ struct PairTimes {
 }
 
 impl PairTimes {
-    /// Before the first packet.
+    /// A pair of which no packet was noted yet.
     fn new(alloc: Global, pair: FlowPair) -> Result<PairTimes, AllocError> {
         let none = Times {
             number: 0,
@@ -57,7 +62,7 @@ impl PairTimes {
         })
     }
 
-    /// Notes a packet, if it is of one of the flows.
+    /// Notes the time of a packet, if it belongs to one of the flows.
     fn note(&mut self, next: &FlowPacket) -> Result<(), AllocError> {
         let on_first = next.key.is_same(&self.pair.first);
         if !on_first && !next.key.is_same(&self.pair.second) {
@@ -77,14 +82,15 @@ impl PairTimes {
         Ok(())
     }
 
-    /// The skew of all that was noted.
+    /// Returns the skew of all noted packets, if there is one.
     fn skew(&mut self) -> Option<Skew> {
         self.skews.sort_unstable();
         skew_in(self.skews.as_slice())
     }
 }
 
-/// The skew of the second flow behind the first, over the numbers that came on both. None where no such number has its times.
+/// Returns the skew of the second flow behind the first, over the packets that both have. Returns none if no such
+/// packet has times. Returns `AllocError` if an allocation fails.
 pub fn skew_of(
     alloc: Global,
     capture: Capture<'_>,
@@ -107,7 +113,8 @@ pub fn skew_of(
     Ok(notes.skew())
 }
 
-/// The skew of each pair, in their order. The capture, which octets are, is read once for 16 pairs.
+/// Returns the skew of each pair, in the same order. The capture `octets` is read once for each 16 pairs. Returns
+/// `AllocError` if an allocation fails.
 pub fn skews_of(
     alloc: Global,
     octets: &[u8],
@@ -127,7 +134,7 @@ pub fn skews_of(
     Ok(skews)
 }
 
-/// Notes all packets of a capture.
+/// Notes all packets of a capture for each pair.
 fn note_all(notes: &mut Vec<PairTimes>, octets: &[u8]) -> Result<(), AllocError> {
     if notes.is_empty() {
         return Ok(());
@@ -148,7 +155,7 @@ fn note_all(notes: &mut Vec<PairTimes>, octets: &[u8]) -> Result<(), AllocError>
     Ok(())
 }
 
-/// Adds the skews of what was noted, and lets it go.
+/// Appends the skew of each pair, and removes the pairs.
 fn take_skews(notes: &mut Vec<PairTimes>, skews: &mut Vec<Option<Skew>>) -> Result<(), AllocError> {
     for pair in notes.iter_mut() {
         skews.push(pair.skew())?;
@@ -157,7 +164,7 @@ fn take_skews(notes: &mut Vec<PairTimes>, skews: &mut Vec<Option<Skew>>) -> Resu
     Ok(())
 }
 
-/// Notes a time, and answers the skew of its number where this is the second of its first two.
+/// Notes a time. Returns the skew of its packet if the other path already has it and this path didn't.
 fn set_time(times: &mut Times, number: u64, on_first: bool, time: u64) -> Option<i64> {
     if times.number != number {
         *times = Times {
@@ -187,7 +194,7 @@ fn set_time(times: &mut Times, number: u64, on_first: bool, time: u64) -> Option
     }
 }
 
-/// How much later a time is than another; what 64 bits don't hold is their end.
+/// Returns the time by which one time is later than another, saturated to 64 bits.
 fn difference(later: u64, earlier: u64) -> i64 {
     if later >= earlier {
         i64::try_from(later - earlier).unwrap_or(i64::MAX)
@@ -196,7 +203,7 @@ fn difference(later: u64, earlier: u64) -> i64 {
     }
 }
 
-/// Least, median and greatest of sorted skews.
+/// Returns the least, the median and the greatest of sorted skews, if there are any.
 fn skew_in(sorted: &[i64]) -> Option<Skew> {
     let least = *sorted.first()?;
     let greatest = *sorted.last()?;

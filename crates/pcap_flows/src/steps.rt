@@ -2,20 +2,21 @@
 ghost use Rattle.std.specs.Prelude.{◌≡◌};
 ghost use Rattle.pcap_flows.specs.Flow.{steps_first, steps_with};
 
-/// How far the timestamp goes from a packet to the one of the next number, where that came next.
+/// The timestamp steps from each packet to the next in the capture, if that has the next sequence number.
 #[derive(Clone, Copy)]
 pub struct Steps {
-    /// The number and the timestamp of the packet that came last.
+    /// The sequence number of the last packet.
     pub seq: u16,
+    /// The timestamp of the last packet.
     pub ts: u32,
     /// The first such step, in sampling instants.
     pub first: Option<u32>,
-    /// Another one was unlike it.
+    /// True if another step was different.
     pub varies: bool,
 }
 
 impl Steps {
-    /// Those of one packet.
+    /// The steps of a single packet, which has none.
     pub fn new(seq: u16, ts: u32) -> Steps
         ensures { result ≡ steps_first seq ts }
     {
@@ -27,7 +28,7 @@ impl Steps {
         }
     }
 
-    /// Takes in the packet that comes next.
+    /// Adds the next packet of the capture.
     #[tactic(auto, unfolding(crate::specs::Flow::steps_with))]
     pub fn add(&mut self, seq: u16, ts: u32)
         ensures { self.new ≡ steps_with self.old seq ts }

@@ -4,10 +4,11 @@ use crate::packet::FlowKey;
 use crate::table::FlowTable;
 use std::alloc::{AllocError, Global};
 
-/// The most paths of a stream.
+/// The greatest number of paths of a stream.
 const MOST_PATHS: usize = 4;
 
-/// The paths of a stream: places of its flows in the table, in their order; a flow alone is a stream of one path.
+/// The paths of a stream, as the places of its flows in the table, in their order. A single flow is a stream of one
+/// path.
 #[derive(Clone, Copy)]
 pub struct StreamFlows {
     places: [usize; 4],
@@ -15,7 +16,7 @@ pub struct StreamFlows {
 }
 
 impl StreamFlows {
-    /// The places of its flows.
+    /// Returns the places of its flows in the table.
     pub fn places(&self) -> &[usize] {
         self.places.get(..self.len).unwrap_or(&[])
     }
@@ -29,13 +30,15 @@ impl StreamFlows {
     }
 }
 
-/// Whether two flows carry the same packets: one source and payload type, other addresses, and a number in common.
+/// Returns true if two flows carry the same packets: they have the same source and payload type, and a sequence number
+/// in common.
 fn carry_same_packets(a: (FlowKey, &Flow), b: (FlowKey, &Flow)) -> bool {
     let ((one, counts), (other, others)) = (a, b);
     one.ssrc == other.ssrc && one.pt == other.pt && counts.numbers().overlaps(others.numbers())
 }
 
-/// The streams of flows, in the order of their first paths. A fifth path begins a stream of its own.
+/// Returns the streams of a table's flows, in the order of their first paths. A fifth path begins a stream of its own.
+/// Returns `AllocError` if an allocation fails.
 pub fn group_streams(alloc: Global, table: &FlowTable) -> Result<Vec<StreamFlows>, AllocError> {
     let mut taken = Vec::from_elem(alloc, false, table.flows().len())?;
     let mut streams = Vec::new(alloc);
@@ -49,7 +52,7 @@ pub fn group_streams(alloc: Global, table: &FlowTable) -> Result<Vec<StreamFlows
     Ok(streams)
 }
 
-/// The stream of which a flow is the first path; its flows are taken.
+/// Returns the stream whose first path is a flow, and marks its flows as taken.
 fn stream_from(
     table: &FlowTable,
     taken: &mut [bool],

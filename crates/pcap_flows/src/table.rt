@@ -1,4 +1,4 @@
-//! All flows of a capture.
+//! The table of a capture's flows.
 ghost use Rattle.std.specs.Prelude.{◌≡◌, ◌≤◌, IfOk, OnOk, length, vec_len, position};
 ghost use Rattle.pcap_file.specs.Capture.{item_view, packets_left, packets_of};
 ghost use Rattle.pcap_flows.specs.FlowPacket.{same_flow};
@@ -8,7 +8,8 @@ use crate::packet::{FlowKey, FlowPacket, flow_packet};
 use pcap_file::{Capture, CaptureFault, Packet, open};
 use std::alloc::{AllocError, Global};
 
-/// The most flows of a table.
+/// The greatest number of flows of a table.
+// Each takes 512 KiB for its sequence numbers, so a table takes little more than 128 MiB.
 pub const MOST_FLOWS: usize = 256;
 
 /// The flows of a capture, in the order of their first packets.
@@ -16,19 +17,27 @@ pub const MOST_FLOWS: usize = 256;
 pub struct FlowTable {
     keys: Vec<FlowKey>,
     flows: Vec<Flow>,
-    /// Packets of flows beyond the table's.
+    /// The number of packets of flows that have no room in the table.
     untracked: u64,
-    /// UDP packets that are cut, fragments or no RTP.
+    /// The number of UDP packets that are cut, fragments or no RTP.
     not_rtp: u64,
-    /// What is wrong with the capture behind what was found.
+    /// The fault at which the capture ended.
     fault: Option<CaptureFault>,
     ghost same: { vec_len flows ≡ vec_len keys },
 }
 
 impl FlowTable {
-    ghost use Rattle.pcap_flows.specs.FlowTable.{no_table, table_after, table_begun, table_seeing, table_view, table_with};
+    ghost use Rattle.pcap_flows.specs.FlowTable.{
+      no_table,
+      table_after,
+      table_begun,
+      table_seeing,
+      table_view,
+      table_with,
+    };
 
-    /// The flows of the capture that octets are, up to its end or its fault.
+    /// Returns the flows of the capture `octets`, up to its end or its fault. Returns `AllocError` if an allocation
+    /// fails.
     #[tactic(auto, using(crate::proofs::FlowTableLemmas::table_after_fault))]
     pub fn of(alloc: Global, octets: &[u8]) -> Result<FlowTable, AllocError>
         ensures { IfOk result (λ table. table_view table ≡ table_after no_table (packets_of octets.now)) }
@@ -46,7 +55,7 @@ impl FlowTable {
         }
     }
 
-    /// Nothing was seen.
+    /// A table without flows.
     pub fn new(alloc: Global) -> FlowTable
         ensures { table_view result ≡ no_table }
     {
@@ -59,7 +68,8 @@ impl FlowTable {
         }
     }
 
-    /// Takes in a packet of a flow.
+    /// Counts a packet in its flow; the first of a flow begins it, if there are fewer than 256. Returns `AllocError` if
+    /// an allocation fails.
     #[tactic(auto, unfolding(crate::specs::FlowTable::table_seeing))]
     pub fn add(&mut self, alloc: Global, next: &FlowPacket) -> Result<(), AllocError>
         ensures { OnOk result (table_view self.new ≡ table_seeing (table_view self.old) next.now) }
@@ -81,6 +91,7 @@ impl FlowTable {
     fn add_flow(&mut self, alloc: Global, first: &FlowPacket) -> Result<(), AllocError>
         ensures { OnOk result (table_view self.new ≡ table_begun (table_view self.old) first.now) }
     {
+        // Both lists take their room first, so that they can't get different lengths.
         self.keys.reserve(1)?;
         self.flows.reserve(1)?;
         let flow = Flow::new(alloc, first)?;
@@ -89,7 +100,8 @@ impl FlowTable {
         Ok(())
     }
 
-    /// Takes in what is told of a capture: a packet, or the fault that comes last.
+    /// Counts an item of a capture: a packet, or the fault that comes last. Returns `AllocError` if an allocation
+    /// fails.
     #[tactic(auto, unfolding(crate::specs::FlowTable::table_with))]
     pub fn take(
         &mut self,
@@ -108,7 +120,7 @@ impl FlowTable {
         Ok(())
     }
 
-    /// Takes in what is left of a capture.
+    /// Counts all items that are left of a capture.
     #[tactic(auto, using(crate::proofs::FlowTableLemmas::table_after_none, crate::proofs::FlowTableLemmas::table_after_next))]
     fn read(&mut self, alloc: Global, mut capture: Capture<'_>) -> Result<(), AllocError>
         ensures { OnOk result (table_view self.new ≡ table_after (table_view self.old) (packets_left capture.entry)) }
@@ -119,40 +131,40 @@ impl FlowTable {
         Ok(())
     }
 
-    /// The flows' keys, in the order of their first packets.
+    /// Returns the keys of the flows, in the order of their first packets.
     pub fn keys(&self) -> &[FlowKey]
         ensures { result.now ≡ self.now.keys.items }
     {
         self.keys.as_slice()
     }
 
-    /// What was counted of each, in the same order.
+    /// Returns the counts of the flows, in the same order.
     pub fn flows(&self) -> &[Flow]
         ensures { result.now ≡ self.now.flows.items }
     {
         self.flows.as_slice()
     }
 
-    /// The flow at a place.
+    /// Returns the key and the counts of the flow at a place, if there is one.
     pub fn flow(&self, place: usize) -> Option<(FlowKey, &Flow)> {
         Some((*self.keys.get(place)?, self.flows.get(place)?))
     }
 
-    /// How many packets are of flows beyond the table's.
+    /// Returns the number of packets of flows that have no room in the table.
     pub fn untracked(&self) -> u64
         ensures { result ≡ self.now.untracked }
     {
         self.untracked
     }
 
-    /// How many UDP packets are cut, fragments or no RTP.
+    /// Returns the number of UDP packets that are cut, fragments or no RTP.
     pub fn not_rtp(&self) -> u64
         ensures { result ≡ self.now.not_rtp }
     {
         self.not_rtp
     }
 
-    /// What is wrong with the capture behind what was found.
+    /// Returns the fault at which the capture ended, if it has one.
     pub fn fault(&self) -> Option<CaptureFault>
         ensures { result ≡ self.now.fault }
     {
@@ -160,7 +172,7 @@ impl FlowTable {
     }
 }
 
-/// The place of a flow.
+/// Returns the place of a flow, if it is in the table.
 fn place_of(keys: &[FlowKey], key: &FlowKey) -> Option<usize>
     ensures { result ≡ position (same_flow key.now) keys.now }
 {

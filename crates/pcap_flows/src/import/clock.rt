@@ -1,17 +1,18 @@
-//! A clock that reads the times of a capture.
+//! The clock of a capture, which its packets' times move on.
 ghost use Rattle.std.specs.Prelude.{◌≡◌};
 ghost use Rattle.pcap_flows.specs.Clock.{clock_begun, clock_with};
 
-/// Sampling instants at 48 kHz since a first time.
+/// A clock of sampling instants at 48 kHz since the first time that it was given. It never goes back.
 #[derive(Clone, Copy)]
 pub struct CaptureClock {
-    /// The first time, in nanoseconds since 1970 began.
+    /// The first time, in nanoseconds since 1970.
     pub(crate) origin: Option<u64>,
+    /// The greatest clock reading so far, in sampling instants.
     pub(crate) reading: u64,
 }
 
 impl CaptureClock {
-    /// No time was seen.
+    /// A clock at 0 that was given no time yet.
     pub fn new() -> CaptureClock
         ensures { result ≡ clock_begun }
     {
@@ -21,7 +22,8 @@ impl CaptureClock {
         }
     }
 
-    /// Reads a datagram's time, if it has one. A time that goes back leaves the reading.
+    /// Moves the clock to a datagram's time, in nanoseconds since 1970, if it has one and isn't earlier than the
+    /// others.
     #[tactic(auto, unfolding(crate::specs::Clock::clock_with))]
     pub fn read(&mut self, time: Option<u64>)
         ensures { self.new ≡ clock_with self.old time }
@@ -30,12 +32,13 @@ impl CaptureClock {
             return;
         };
         let origin = self.origin.unwrap_or(time);
+        // 3 sampling instants are 62,500 nanoseconds.
         let instants = u128::from(time.saturating_sub(origin)) * 3 / 62_500;
         self.origin = Some(origin);
         self.reading = self.reading.max(instants as u64);
     }
 
-    /// The sampling instants that it reads.
+    /// Returns the clock reading, in sampling instants at 48 kHz.
     pub fn reading(&self) -> u64
         ensures { result ≡ self.now.reading }
     {

@@ -6,15 +6,16 @@ use crate::table::FlowTable;
 use rtp_wire::Enc;
 use std::alloc::{AllocError, Global};
 
-/// The most channels of an output.
+/// The greatest number of channels of an output.
 const MOST_OUTPUTS: usize = 8;
 
-/// The most octets of a datagram's samples.
+/// The greatest length of a datagram's payload, in octets.
 const MOST_SAMPLES: usize = 1440;
 
-/// The configuration by which the trace of these routes is played: each stream from its first packet on, with a latency in
-/// milliseconds or, without one, twice the greatest skew of its paths and 10 ms at least; and an output of the first
-/// channels of all streams, at most 8, as they are. The octets are the capture's, of which the table tells the flows.
+/// Returns the configuration for the trace of these routes: each stream with an offset by which its first packet is in
+/// time, and an output of the first channels of all streams, at most 8, unchanged. `latency` is in milliseconds; if it
+/// is none, a stream's latency is twice the greatest skew of its paths, and at least 10 ms. `octets` is the capture,
+/// and `table` has its flows. Returns an error if a stream has no format or no window, or an allocation fails.
 pub fn config_text(
     alloc: Global,
     table: &FlowTable,
@@ -27,7 +28,7 @@ pub fn config_text(
     Ok(text)
 }
 
-/// The text of streams, whose latencies were chosen or asked for.
+/// Returns the text of streams, with a comment if their latencies were chosen.
 fn text_of(alloc: Global, plans: &[StreamPlan], is_chosen: bool) -> Result<String, AllocError> {
     let mut text = String::from_str(alloc, "open_at = 0\n")?;
     if is_chosen {
@@ -42,7 +43,7 @@ fn text_of(alloc: Global, plans: &[StreamPlan], is_chosen: bool) -> Result<Strin
     Ok(text)
 }
 
-/// The table of a stream.
+/// Appends the table of a stream.
 fn push_stream(text: &mut String, alloc: Global, plan: &StreamPlan) -> Result<(), AllocError> {
     let form = plan.form;
     let (enc, channels, frames, pt) = (name_of(form.enc), form.channels, form.frames, form.pt);
@@ -57,7 +58,7 @@ fn push_stream(text: &mut String, alloc: Global, plan: &StreamPlan) -> Result<()
     text.push_str(&times)
 }
 
-/// The name of samples.
+/// Returns the name of an encoding.
 fn name_of(enc: Enc) -> &'static str {
     match enc {
         Enc::L16 => "L16",
@@ -65,7 +66,7 @@ fn name_of(enc: Enc) -> &'static str {
     }
 }
 
-/// The table of the output.
+/// Appends the table of the output.
 fn push_output(text: &mut String, alloc: Global, plans: &[StreamPlan]) -> Result<(), AllocError> {
     let mut inputs = 0usize;
     for plan in plans.iter() {
@@ -84,7 +85,7 @@ fn push_output(text: &mut String, alloc: Global, plans: &[StreamPlan]) -> Result
     text.push_str("]\n")
 }
 
-/// The first stream's sampling instants a packet, or 48 where so many have no room.
+/// Returns the first stream's sampling instants per packet, or 48 if so many don't fit an output's packet.
 fn frames_for(plans: &[StreamPlan], channels: usize) -> u16 {
     match plans.first() {
         Some(plan)
@@ -92,11 +93,12 @@ fn frames_for(plans: &[StreamPlan], channels: usize) -> u16 {
                 .saturating_mul(3)
                 .saturating_mul(usize::from(plan.form.frames))
                 <= MOST_SAMPLES => { plan.form.frames }
+        // 8 channels of L24 then take 1,152 octets.
         _ => 48,
     }
 }
 
-/// The gains of an output: of the input with its number 1, of others 0.
+/// Appends the gains of an output channel: 1 for the input with its number, and 0 for the others.
 fn push_row(text: &mut String, output: usize, inputs: usize) -> Result<(), AllocError> {
     text.push_str("    [")?;
     for input in 0..inputs {

@@ -10,13 +10,13 @@ use std::alloc::Global;
 /// A stream's first packet.
 #[derive(Clone, Copy)]
 pub(crate) struct FirstPacket {
-    /// Its timestamp.
+    /// Its RTP timestamp.
     pub(crate) ts: u32,
-    /// What the trace's clock reads as it comes in.
+    /// The reading of the trace's clock at its arrival, in sampling instants at 48 kHz.
     pub(crate) reading: u64,
 }
 
-/// The first packets of all streams in a capture, whose octets these are.
+/// Returns the first packet of each stream in the capture `octets`, or none for a stream that has no packet.
 pub(crate) fn first_packets_in(
     alloc: Global,
     octets: &[u8],
@@ -32,6 +32,7 @@ pub(crate) fn first_packets_in(
             && let Some(route) = route_in(routes.list(), &packet)
             && let Some(next) = flow_packet(&packet)
         {
+            // Every packet moves the clock, as in the trace.
             clock.read(packet.time);
             if let Some(start) = starts.get_mut(usize::from(route.stream))
                 && start.is_none()

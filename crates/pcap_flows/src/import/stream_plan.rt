@@ -10,23 +10,26 @@ use crate::table::FlowTable;
 use pcap_file::open;
 use std::alloc::Global;
 
-/// The least latency that is chosen, 10 ms in sampling instants.
+/// The least latency that is chosen: 10 ms, in sampling instants at 48 kHz.
 const LEAST_LATENCY: u32 = 480;
 
-/// A stream that fits some flows.
+/// The configuration of a stream that fits some flows.
 #[derive(Clone, Copy)]
 pub(crate) struct StreamPlan {
+    /// The format of its packets.
     pub(crate) form: PacketFormat,
+    /// The number of its paths.
     pub(crate) paths: u8,
-    /// By how much its timestamps are ahead of the trace's clock as the first packet comes in.
+    /// The first packet's timestamp minus the reading of the trace's clock at its arrival, modulo 2^32.
     pub(crate) offset: u32,
-    /// In sampling instants.
+    /// The latency in sampling instants at 48 kHz.
     pub(crate) latency: u32,
-    /// In packets.
+    /// The window in packets.
     pub(crate) window: u16,
 }
 
-/// A plan for each stream of the routes. Without a latency, in milliseconds, it is twice the greatest skew of its paths.
+/// Returns a plan for each stream of the routes. `latency` is in milliseconds; if it is none, it is twice the greatest
+/// skew of a stream's paths, and at least 10 ms.
 pub(crate) fn stream_plans(
     alloc: Global,
     table: &FlowTable,
@@ -49,7 +52,7 @@ pub(crate) fn stream_plans(
     Ok(plans)
 }
 
-/// The flows of a stream.
+/// Returns the flows of a stream.
 fn keys_of(alloc: Global, routes: &[Route], number: usize) -> Result<Vec<FlowKey>, ImportFault> {
     let mut keys = Vec::new(alloc);
     for route in routes.iter() {
@@ -60,7 +63,8 @@ fn keys_of(alloc: Global, routes: &[Route], number: usize) -> Result<Vec<FlowKey
     Ok(keys)
 }
 
-/// The plan of a stream.
+/// Returns the plan of a stream. Returns `NoFormat` if none of its flows has a format, and `Latency` if no window spans
+/// the latency.
 fn plan_of(
     alloc: Global,
     table: &FlowTable,
@@ -87,7 +91,7 @@ fn plan_of(
     })
 }
 
-/// The form of the first of the flows that has one.
+/// Returns the format of the first of the flows that has one.
 fn form_for(table: &FlowTable, keys: &[FlowKey]) -> Option<PacketFormat> {
     for key in keys.iter() {
         for (other, flow) in table.keys().iter().zip(table.flows().iter()) {
@@ -101,7 +105,7 @@ fn form_for(table: &FlowTable, keys: &[FlowKey]) -> Option<PacketFormat> {
     None
 }
 
-/// How far a further path was behind the first or before it, in nanoseconds.
+/// Returns the greatest time by which a further path was behind the first or before it, in nanoseconds.
 fn greatest_skew(alloc: Global, octets: &[u8], keys: &[FlowKey]) -> Result<u64, ImportFault> {
     let mut greatest = 0;
     let Some(first) = keys.first() else {
@@ -120,21 +124,24 @@ fn greatest_skew(alloc: Global, octets: &[u8], keys: &[FlowKey]) -> Result<u64, 
     Ok(greatest)
 }
 
-/// Twice a skew in sampling instants, rounded up, and no less than the least latency.
+/// Returns twice a skew in sampling instants, rounded up, and at least 10 ms.
 fn latency_for(skew: u64) -> u32 {
+    // A nanosecond is 3/62,500 of a sampling instant.
     let instants = (u128::from(skew) * 6).div_ceil(62_500);
     u32::try_from(instants)
         .unwrap_or(u32::MAX)
         .max(LEAST_LATENCY)
 }
 
-/// The least window that spans twice the latency and two packets, so that a path that comes first is not ahead; or where
-/// there is none the greatest that spans the latency.
+/// Returns the least window that spans twice the latency and two packets. If there is none it returns the greatest that
+/// spans the latency, if there is one.
+// The latency is twice the skew, so packets of the earlier path are not too early for the window.
 fn window_for(form: &PacketFormat, latency: u32, paths: u8) -> Option<u16> {
     let wanted = u64::from(latency)
         .saturating_add(u64::from(form.frames))
         .saturating_mul(2);
     let mut greatest = None;
+    // The windows of streams are the powers of two from 8 to 16,384.
     for power in 3..15u32 {
         let window = 1u16.wrapping_shl(power);
         if form.is_stream(latency, window, paths) {

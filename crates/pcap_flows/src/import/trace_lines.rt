@@ -7,10 +7,11 @@ use crate::fault::ImportFault;
 use crate::route::Route;
 use std::alloc::AllocError;
 
-/// The most octets of a datagram whose line a trace has room for.
+/// The greatest length of a datagram in a trace, in octets.
+// A line has at most 4,096 octets: a letter, a number of up to two digits, two spaces, and two digits for each octet.
 const MOST_DATAGRAM: usize = 2045;
 
-/// Adds the line of a reading, where it is a later one.
+/// Appends the line of a clock reading, if it is later than the earlier one.
 pub(crate) fn push_tick(text: &mut Vec<u8>, earlier: u64, reading: u64) -> Result<(), AllocError>
     ensures { OnOk result (text.new.items ≡ text.old.items ++ tick_text earlier reading) }
 {
@@ -23,7 +24,7 @@ pub(crate) fn push_tick(text: &mut Vec<u8>, earlier: u64, reading: u64) -> Resul
     Ok(())
 }
 
-/// Adds the line of a datagram.
+/// Appends the line of a datagram. Returns `DatagramTooLong` if that line would be too long.
 pub(crate) fn push_arrival(
     text: &mut Vec<u8>,
     route: &Route,
@@ -38,7 +39,7 @@ pub(crate) fn push_arrival(
     Ok(())
 }
 
-/// The same of a datagram for which a line has room.
+/// Appends the line of a datagram of at most 2,045 octets.
 fn push_short(text: &mut Vec<u8>, route: &Route, octets: &[u8]) -> Result<(), AllocError>
     requires { length octets.now ≤ 2045 }
     ensures { OnOk result (text.new.items ≡ text.old.items ++ arrival_line route.now octets.now) }
@@ -52,7 +53,7 @@ fn push_short(text: &mut Vec<u8>, route: &Route, octets: &[u8]) -> Result<(), Al
     text.extend_from_slice(b"\n")
 }
 
-/// Adds octets, each by two hexadecimal digits.
+/// Appends octets, each as two hexadecimal digits.
 fn push_octets(text: &mut Vec<u8>, octets: &[u8]) -> Result<(), AllocError>
     requires { length octets.now ≤ 2045 }
     ensures { OnOk result (text.new.items ≡ text.old.items ++ encode_lower octets.now) }
@@ -65,7 +66,7 @@ fn push_octets(text: &mut Vec<u8>, octets: &[u8]) -> Result<(), AllocError>
     Ok(())
 }
 
-/// Adds the line of the end.
+/// Appends the line of the close.
 pub(crate) fn push_close(text: &mut Vec<u8>) -> Result<(), AllocError>
     ensures { OnOk result (text.new.items ≡ text.old.items ++ close_line) }
 {
