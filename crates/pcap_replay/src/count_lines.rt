@@ -1,4 +1,4 @@
-//! The lines of an engine's counts, once it is settled.
+//! The lines of an engine's counts, which end a report.
 ghost use Rattle.std.specs.Prelude.{◌≡◌, ◌≤◌, ◌<◌, ℕ, List, length, slice_get, Some, OnOk, OnErr};
 ghost use Rattle.studio_config.specs.Studio.{Studio};
 ghost use Rattle.studio_session.specs.Event.{TraceEvent};
@@ -21,12 +21,16 @@ fn write_paths<W: Write>(
     stream: &StreamSpec,
 ) -> Result<(), WriteFault>
     requires there { number < length engine.now.cursors }
-    ensures ok { OnOk result ((studio : Studio) (events : List TraceEvent) (datagrams : List (List ℕ)) → HasSession studio engine.now events datagrams
+    ensures ok { OnOk result ((studio : Studio) (events : List TraceEvent) (datagrams : List (List ℕ))
+        → HasSession studio engine.now events datagrams
         → slice_get studio.streams number ≡ Some stream.now
-        → PassesOn (W.contents writer.old) text.old (W.contents writer.new) text.new (paths_text stream.now number events stream.now.paths)) }
-    ensures fault { OnErr result ((studio : Studio) (events : List TraceEvent) (datagrams : List (List ℕ)) → HasSession studio engine.now events datagrams
+        → PassesOn (W.contents writer.old) text.old (W.contents writer.new) text.new
+        (paths_text stream.now number events stream.now.paths)) }
+    ensures fault { OnErr result ((studio : Studio) (events : List TraceEvent) (datagrams : List (List ℕ))
+        → HasSession studio engine.now events datagrams
         → slice_get studio.streams number ≡ Some stream.now
-        → BreaksOff (W.contents writer.old) text.old (W.contents writer.new) (paths_text stream.now number events stream.now.paths)) }
+        → BreaksOff (W.contents writer.old) text.old (W.contents writer.new)
+        (paths_text stream.now number events stream.now.paths)) }
 {
     for place in 0..stream.paths() {
         let Some(path) = Path::new(place) else {
@@ -50,12 +54,16 @@ fn write_stream_counts<W: Write>(
 ) -> Result<(), WriteFault>
     requires there { number < length engine.now.cursors }
     requires whole { HasAllMarks engine.now }
-    ensures ok { OnOk result ((studio : Studio) (events : List TraceEvent) (datagrams : List (List ℕ)) → HasSession studio engine.now events datagrams
+    ensures ok { OnOk result ((studio : Studio) (events : List TraceEvent) (datagrams : List (List ℕ))
+        → HasSession studio engine.now events datagrams
         → slice_get studio.streams number ≡ Some stream.now
-        → PassesOn (W.contents writer.old) text.old (W.contents writer.new) text.new (stream_counts_text studio.open_at events stream.now number)) }
-    ensures fault { OnErr result ((studio : Studio) (events : List TraceEvent) (datagrams : List (List ℕ)) → HasSession studio engine.now events datagrams
+        → PassesOn (W.contents writer.old) text.old (W.contents writer.new) text.new
+        (stream_counts_text studio.open_at events stream.now number)) }
+    ensures fault { OnErr result ((studio : Studio) (events : List TraceEvent) (datagrams : List (List ℕ))
+        → HasSession studio engine.now events datagrams
         → slice_get studio.streams number ≡ Some stream.now
-        → BreaksOff (W.contents writer.old) text.old (W.contents writer.new) (stream_counts_text studio.open_at events stream.now number)) }
+        → BreaksOff (W.contents writer.old) text.old (W.contents writer.new)
+        (stream_counts_text studio.open_at events stream.now number)) }
 {
     write_paths(text, writer, engine, number, stream)?;
     let Some(counts) = engine.counts(usize::from(number)) else {
@@ -75,10 +83,12 @@ pub(crate) fn write_all_counts<W: Write>(
     requires few { length streams.now ≤ 16 }
     requires all { length streams.now ≡ length engine.now.cursors }
     requires whole { HasAllMarks engine.now }
-    ensures ok { OnOk result ((studio : Studio) (events : List TraceEvent) (datagrams : List (List ℕ)) → HasSession studio engine.now events datagrams
+    ensures ok { OnOk result ((studio : Studio) (events : List TraceEvent) (datagrams : List (List ℕ))
+        → HasSession studio engine.now events datagrams
         → studio.streams ≡ streams.now
         → PassesOn (W.contents writer.old) text.old (W.contents writer.new) text.new (counts_text_of studio events)) }
-    ensures fault { OnErr result ((studio : Studio) (events : List TraceEvent) (datagrams : List (List ℕ)) → HasSession studio engine.now events datagrams
+    ensures fault { OnErr result ((studio : Studio) (events : List TraceEvent) (datagrams : List (List ℕ))
+        → HasSession studio engine.now events datagrams
         → studio.streams ≡ streams.now
         → BreaksOff (W.contents writer.old) text.old (W.contents writer.new) (counts_text_of studio events)) }
 {

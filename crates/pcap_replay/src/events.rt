@@ -1,5 +1,27 @@
-//! The events of a capture, packet by packet.
-ghost use Rattle.std.specs.Prelude.{◌≡◌, ◌≤◌, ◌<◌, ◌+◌, ◌^◌, ◌∷◌, ◌++◌, [], ℕ, pos, List, Option, None, length, drop, false, is_some, IfOk, IfErr, IfSome, OnOk};
+//! The events of a capture: for each packet that has a path a clock reading and an arrival.
+ghost use Rattle.std.specs.Prelude.{
+  ◌≡◌,
+  ◌≤◌,
+  ◌<◌,
+  ◌+◌,
+  ◌^◌,
+  ◌∷◌,
+  ◌++◌,
+  [],
+  ℕ,
+  pos,
+  List,
+  Option,
+  None,
+  length,
+  drop,
+  false,
+  is_some,
+  IfOk,
+  IfErr,
+  IfSome,
+  OnOk,
+};
 ghost use Rattle.pcap_file.specs.Packet.{PacketView, packet_view};
 ghost use Rattle.pcap_file.specs.ReadBuffer.{octets_of};
 ghost use Rattle.pcap_file.specs.Reader.{IsNext, packets_in};
@@ -10,7 +32,16 @@ ghost use Rattle.studio_session.specs.Event.{TraceEvent, Arrival};
 ghost use Rattle.pcap_replay.specs.Events.{events_of, events_with, read_at};
 ghost use Rattle.pcap_replay.specs.Routing.{clock_past, opening_of, plan_view, target_of};
 ghost use Rattle.pcap_replay.specs.Record.{closing_with};
-ghost use Rattle.pcap_replay.specs.Replay.{HasGoneOver, HasReplayed, HasTaken, IsOwn, IsReplaying, IsRun, Stops, StopsFile};
+ghost use Rattle.pcap_replay.specs.Replay.{
+  HasGoneOver,
+  HasReplayed,
+  HasTaken,
+  IsOwn,
+  IsReplaying,
+  IsRun,
+  Stops,
+  StopsFile,
+};
 ghost use Rattle.studio_session.specs.Fault.{time_at};
 ghost use Rattle.studio_engine.specs.Session.{turned};
 
@@ -30,8 +61,8 @@ use studio_engine::{ArriveFault, Engine};
 use studio_session::StudioFault;
 
 impl ReplayState {
-    /// Takes the events of what is left of a capture, up to its end. Answers when the studio was closed, in nanoseconds, by the
-    /// first mark that tells it.
+    /// Takes the events of all that is left of a capture, up to its end. Returns the time of the first mark of a close,
+    /// if there is one, in nanoseconds from the studio's opening on.
     pub(crate) fn run_events<R: Read, W: Write, L: ReplayObserver>(
         &mut self,
         plan: &Routing<'_>,
@@ -41,18 +72,27 @@ impl ReplayState {
         writer: &mut W,
         listener: &mut L,
     ) -> Result<Option<u64>, ReplayFault>
-        ensures ok { IfOk result (λ closing. (studio : Studio) (first : Option (List ℕ)) (written : Option (List ℕ)) (begun : L)
-            → IsReplaying studio (plan_view plan.now) first written self.old parts.old (octets_of window.old) window.old.ended (R.remaining reader.old) (W.contents writer.old) (L.heard begun listener.old) None
-            → HasGoneOver studio (plan_view plan.now) first written self.new (W.contents writer.new) (L.heard begun listener.new) closing) }
-        ensures fault { IfErr result (λ fault. (studio : Studio) (first : Option (List ℕ)) (written : Option (List ℕ)) (begun : L)
-            → IsReplaying studio (plan_view plan.now) first written self.old parts.old (octets_of window.old) window.old.ended (R.remaining reader.old) (W.contents writer.old) (L.heard begun listener.old) None
-            → StopsFile studio (plan_view plan.now) first written self.new (W.contents writer.new) (L.heard begun listener.new) fault) }
+        ensures ok { IfOk result
+            (λ closing. (studio : Studio) (first : Option (List ℕ)) (written : Option (List ℕ)) (begun : L)
+            → IsReplaying studio (plan_view plan.now) first written self.old parts.old
+            (octets_of window.old) window.old.ended (R.remaining reader.old) (W.contents writer.old)
+            (L.heard begun listener.old) None
+            → HasGoneOver studio (plan_view plan.now) first written self.new (W.contents writer.new)
+            (L.heard begun listener.new) closing) }
+        ensures fault { IfErr result
+            (λ fault. (studio : Studio) (first : Option (List ℕ)) (written : Option (List ℕ)) (begun : L)
+            → IsReplaying studio (plan_view plan.now) first written self.old parts.old
+            (octets_of window.old) window.old.ended (R.remaining reader.old) (W.contents writer.old)
+            (L.heard begun listener.old) None
+            → StopsFile studio (plan_view plan.now) first written self.new (W.contents writer.new)
+            (L.heard begun listener.new) fault) }
     {
         let mut closing = None;
         'parts: for _ in 0..u64::MAX {
             if !has_block(parts, window, reader)? {
                 return Ok(closing);
             }
+            // The block borrows the window, so only its length and its mark come back before `consume`.
             let (len, mark) = self.take_next(plan, parts, window, writer, listener)?;
             closing = first_close(closing, mark);
             window.consume(len);
@@ -60,7 +100,7 @@ impl ReplayState {
         Err(ReplayFault::TooManyEvents)
     }
 
-    /// Takes the events of what comes next, and answers its length and its mark.
+    /// Takes the events of the next record or block. Returns its length in octets and its mark.
     fn take_next<W: Write, L: ReplayObserver>(
         &mut self,
         plan: &Routing<'_>,
@@ -71,12 +111,21 @@ impl ReplayState {
     ) -> Result<(usize, Option<RecordMark>), ReplayFault>
         requires next { IsNext parts.old (octets_of window.now) window.now.ended }
         ensures len { IfOk result (λ passed. passed.0 ≤ length (octets_of window.now)) }
-        ensures ok { IfOk result (λ passed. (studio : Studio) (first : Option (List ℕ)) (written : Option (List ℕ)) (begun : L) (left : Option (List ℕ)) (closing : Option ℕ)
-            → IsReplaying studio (plan_view plan.now) first written self.old parts.old (octets_of window.now) window.now.ended left (W.contents writer.old) (L.heard begun listener.old) closing
-            → IsReplaying studio (plan_view plan.now) first written self.new parts.new (drop passed.0 (octets_of window.now)) window.now.ended left (W.contents writer.new) (L.heard begun listener.new) (closing_with closing passed.1)) }
-        ensures fault { IfErr result (λ fault. (studio : Studio) (first : Option (List ℕ)) (written : Option (List ℕ)) (begun : L) (left : Option (List ℕ)) (closing : Option ℕ)
-            → IsReplaying studio (plan_view plan.now) first written self.old parts.old (octets_of window.now) window.now.ended left (W.contents writer.old) (L.heard begun listener.old) closing
-            → StopsFile studio (plan_view plan.now) first written self.new (W.contents writer.new) (L.heard begun listener.new) fault) }
+        ensures ok { IfOk result
+            (λ passed. (studio : Studio) (first : Option (List ℕ)) (written : Option (List ℕ))
+            (begun : L) (left : Option (List ℕ)) (closing : Option ℕ)
+            → IsReplaying studio (plan_view plan.now) first written self.old parts.old
+            (octets_of window.now) window.now.ended left (W.contents writer.old) (L.heard begun listener.old) closing
+            → IsReplaying studio (plan_view plan.now) first written self.new parts.new
+            (drop passed.0 (octets_of window.now)) window.now.ended left (W.contents writer.new)
+            (L.heard begun listener.new) (closing_with closing passed.1)) }
+        ensures fault { IfErr result
+            (λ fault. (studio : Studio) (first : Option (List ℕ)) (written : Option (List ℕ)) (begun : L)
+            (left : Option (List ℕ)) (closing : Option ℕ)
+            → IsReplaying studio (plan_view plan.now) first written self.old parts.old
+            (octets_of window.now) window.now.ended left (W.contents writer.old) (L.heard begun listener.old) closing
+            → StopsFile studio (plan_view plan.now) first written self.new (W.contents writer.new)
+            (L.heard begun listener.new) fault) }
     {
         match next_block(parts, window) {
             Ok(part) => {
@@ -95,10 +144,17 @@ impl ReplayState {
         writer: &mut W,
         listener: &mut L,
     ) -> Result<(), ReplayFault>
-        ensures ok { OnOk result ((studio : Studio) (packets : List PacketView) (written : Option (List ℕ)) (begun : L) → HasTaken studio (plan_view plan.now) packets written self.old (W.contents writer.old) (L.heard begun listener.old)
-            → HasTaken studio (plan_view plan.now) (packets ++ packets_in part.now) written self.new (W.contents writer.new) (L.heard begun listener.new)) }
-        ensures fault { IfErr result (λ fault. (studio : Studio) (packets : List PacketView) (written : Option (List ℕ)) (begun : L) → HasTaken studio (plan_view plan.now) packets written self.old (W.contents writer.old) (L.heard begun listener.old)
-            → Stops studio (events_of studio (plan_view plan.now) (packets ++ packets_in part.now)) written self.new (W.contents writer.new) (L.heard begun listener.new) fault) }
+        ensures ok { OnOk result ((studio : Studio) (packets : List PacketView) (written : Option (List ℕ)) (begun : L)
+            → HasTaken studio (plan_view plan.now) packets written self.old (W.contents writer.old)
+            (L.heard begun listener.old)
+            → HasTaken studio (plan_view plan.now) (packets ++ packets_in part.now) written self.new
+            (W.contents writer.new) (L.heard begun listener.new)) }
+        ensures fault { IfErr result
+            (λ fault. (studio : Studio) (packets : List PacketView) (written : Option (List ℕ)) (begun : L)
+            → HasTaken studio (plan_view plan.now) packets written self.old (W.contents writer.old)
+            (L.heard begun listener.old)
+            → Stops studio (events_of studio (plan_view plan.now) (packets ++ packets_in part.now)) written self.new
+            (W.contents writer.new) (L.heard begun listener.new) fault) }
         ensures kind { IfErr result (λ fault. IsOwn fault) }
     {
         match part.packet {
@@ -107,7 +163,7 @@ impl ReplayState {
         }
     }
 
-    /// Takes the events of a packet.
+    /// Takes the events of a packet: a clock reading and an arrival, if it has a path.
     fn take<W: Write, L: ReplayObserver>(
         &mut self,
         plan: &Routing<'_>,
@@ -115,12 +171,23 @@ impl ReplayState {
         writer: &mut W,
         listener: &mut L,
     ) -> Result<(), ReplayFault>
-        ensures ok { OnOk result ((studio : Studio) (events : List TraceEvent) (written : Option (List ℕ)) (begun : L) → HasReplayed studio events written self.old (W.contents writer.old) (L.heard begun listener.old)
-            → HasReplayed studio (events_with studio.open_at (opening_of (plan_view plan.now)) self.old.clock events (packet_view packet.now) (target_of (plan_view plan.now) (packet_view packet.now))) written self.new (W.contents writer.new) (L.heard begun listener.new)) }
+        ensures ok { OnOk result ((studio : Studio) (events : List TraceEvent) (written : Option (List ℕ)) (begun : L)
+            → HasReplayed studio events written self.old (W.contents writer.old) (L.heard begun listener.old)
+            → HasReplayed studio
+            (events_with studio.open_at (opening_of (plan_view plan.now)) self.old.clock events (packet_view packet.now)
+            (target_of (plan_view plan.now) (packet_view packet.now))) written self.new (W.contents writer.new)
+            (L.heard begun listener.new)) }
         ensures kind { IfErr result (λ fault. IsOwn fault) }
-        ensures clock { OnOk result (self.new.clock ≡ clock_past self.old.clock (packet_view packet.now) (target_of (plan_view plan.now) (packet_view packet.now))) }
-        ensures fault { IfErr result (λ fault. (studio : Studio) (events : List TraceEvent) (written : Option (List ℕ)) (begun : L) → HasReplayed studio events written self.old (W.contents writer.old) (L.heard begun listener.old)
-            → Stops studio (events_with studio.open_at (opening_of (plan_view plan.now)) self.old.clock events (packet_view packet.now) (target_of (plan_view plan.now) (packet_view packet.now))) written self.new (W.contents writer.new) (L.heard begun listener.new) fault) }
+        ensures clock { OnOk result (self.new.clock
+            ≡ clock_past self.old.clock (packet_view packet.now)
+            (target_of (plan_view plan.now) (packet_view packet.now))) }
+        ensures fault { IfErr result
+            (λ fault. (studio : Studio) (events : List TraceEvent) (written : Option (List ℕ)) (begun : L)
+            → HasReplayed studio events written self.old (W.contents writer.old) (L.heard begun listener.old)
+            → Stops studio
+            (events_with studio.open_at (opening_of (plan_view plan.now)) self.old.clock events (packet_view packet.now)
+            (target_of (plan_view plan.now) (packet_view packet.now))) written self.new (W.contents writer.new)
+            (L.heard begun listener.new) fault) }
     {
         let Some(target) = plan.target(packet) else {
             return Ok(());
@@ -129,7 +196,8 @@ impl ReplayState {
         self.arrive(target, datagram_octets(packet), listener)
     }
 
-    /// Reads the clock, counted from an opening, at a time. A reading that isn't later is no event.
+    /// Moves the clock to a time in nanoseconds, and takes its reading in sampling instants from an opening on. A
+    /// reading that isn't later is no event.
     pub(crate) fn read<W: Write, L: ReplayObserver>(
         &mut self,
         from: u64,
@@ -137,12 +205,21 @@ impl ReplayState {
         writer: &mut W,
         listener: &mut L,
     ) -> Result<(), ReplayFault>
-        ensures ok { OnOk result ((studio : Studio) (events : List TraceEvent) (written : Option (List ℕ)) (begun : L) → HasReplayed studio events written self.old (W.contents writer.old) (L.heard begun listener.old)
-            → HasReplayed studio (read_at studio.open_at from events self.old.clock.reading (clock_with self.old.clock time).reading) written self.new (W.contents writer.new) (L.heard begun listener.new)) }
+        ensures ok { OnOk result ((studio : Studio) (events : List TraceEvent) (written : Option (List ℕ)) (begun : L)
+            → HasReplayed studio events written self.old (W.contents writer.old) (L.heard begun listener.old)
+            → HasReplayed studio
+            (read_at studio.open_at from events self.old.clock.reading
+            (clock_with self.old.clock time).reading) written self.new (W.contents writer.new)
+            (L.heard begun listener.new)) }
         ensures kind { IfErr result (λ fault. IsOwn fault) }
         ensures clock { self.new.clock ≡ clock_with self.old.clock time }
-        ensures fault { IfErr result (λ fault. (studio : Studio) (events : List TraceEvent) (written : Option (List ℕ)) (begun : L) → HasReplayed studio events written self.old (W.contents writer.old) (L.heard begun listener.old)
-            → Stops studio (read_at studio.open_at from events self.old.clock.reading (clock_with self.old.clock time).reading) written self.new (W.contents writer.new) (L.heard begun listener.new) fault) }
+        ensures fault { IfErr result
+            (λ fault. (studio : Studio) (events : List TraceEvent) (written : Option (List ℕ)) (begun : L)
+            → HasReplayed studio events written self.old (W.contents writer.old) (L.heard begun listener.old)
+            → Stops studio
+            (read_at studio.open_at from events self.old.clock.reading
+            (clock_with self.old.clock time).reading) written self.new (W.contents writer.new)
+            (L.heard begun listener.new) fault) }
     {
         let earlier = self.clock.reading();
         self.clock.read(time);
@@ -153,7 +230,8 @@ impl ReplayState {
         self.turn(from, reading, writer, listener)
     }
 
-    /// Moves the engine on to a reading. One that repeats its time is no event.
+    /// Moves the engine on to a reading, and writes the datagrams that it returns. A reading that repeats the engine's
+    /// time is no event.
     fn turn<W: Write, L: ReplayObserver>(
         &mut self,
         from: u64,
@@ -161,12 +239,17 @@ impl ReplayState {
         writer: &mut W,
         listener: &mut L,
     ) -> Result<(), ReplayFault>
-        ensures ok { OnOk result ((studio : Studio) (events : List TraceEvent) (written : Option (List ℕ)) (begun : L) → HasReplayed studio events written self.old (W.contents writer.old) (L.heard begun listener.old)
-            → HasReplayed studio (turned (time_at studio.open_at events) (pos (from + reading)) events) written self.new (W.contents writer.new) (L.heard begun listener.new)) }
+        ensures ok { OnOk result ((studio : Studio) (events : List TraceEvent) (written : Option (List ℕ)) (begun : L)
+            → HasReplayed studio events written self.old (W.contents writer.old) (L.heard begun listener.old)
+            → HasReplayed studio (turned (time_at studio.open_at events) (pos (from + reading)) events) written self.new
+            (W.contents writer.new) (L.heard begun listener.new)) }
         ensures kind { IfErr result (λ fault. IsOwn fault) }
         ensures clock { self.new.clock ≡ self.old.clock }
-        ensures fault { IfErr result (λ fault. (studio : Studio) (events : List TraceEvent) (written : Option (List ℕ)) (begun : L) → HasReplayed studio events written self.old (W.contents writer.old) (L.heard begun listener.old)
-            → Stops studio (turned (time_at studio.open_at events) (pos (from + reading)) events) written self.new (W.contents writer.new) (L.heard begun listener.new) fault) }
+        ensures fault { IfErr result
+            (λ fault. (studio : Studio) (events : List TraceEvent) (written : Option (List ℕ)) (begun : L)
+            → HasReplayed studio events written self.old (W.contents writer.old) (L.heard begun listener.old)
+            → Stops studio (turned (time_at studio.open_at events) (pos (from + reading)) events) written self.new
+            (W.contents writer.new) (L.heard begun listener.new) fault) }
     {
         let time = self.engine.time();
         let Some(now) = instants_at(from, reading) else {
@@ -181,20 +264,28 @@ impl ReplayState {
         Ok(())
     }
 
-    /// Takes a datagram that goes to a path, and tells of it.
+    /// Takes a datagram that arrived on a path, and reports it to the observer.
     fn arrive<L: ReplayObserver>(
         &mut self,
         target: StreamPath,
         octets: &[u8],
         listener: &mut L,
     ) -> Result<(), ReplayFault>
-        ensures ok { OnOk result ((studio : Studio) (events : List TraceEvent) (written written_then : Option (List ℕ)) (begun : L) → HasReplayed studio events written self.old written_then (L.heard begun listener.old)
-            → HasReplayed studio (events ++ Arrival target.stream target.path octets.now ∷ []) written self.new written_then (L.heard begun listener.new)) }
-        ensures fault { IfErr result (λ fault. (studio : Studio) (events : List TraceEvent) (written written_then : Option (List ℕ)) (begun : L) → HasReplayed studio events written self.old written_then (L.heard begun listener.old)
-            → Stops studio (events ++ Arrival target.stream target.path octets.now ∷ []) written self.new written_then (L.heard begun listener.new) fault) }
+        ensures ok { OnOk result
+            ((studio : Studio) (events : List TraceEvent) (written written_then : Option (List ℕ)) (begun : L)
+            → HasReplayed studio events written self.old written_then (L.heard begun listener.old)
+            → HasReplayed studio
+            (events ++ Arrival target.stream target.path octets.now ∷ []) written self.new written_then
+            (L.heard begun listener.new)) }
+        ensures fault { IfErr result
+            (λ fault. (studio : Studio) (events : List TraceEvent) (written written_then : Option (List ℕ)) (begun : L)
+            → HasReplayed studio events written self.old written_then (L.heard begun listener.old)
+            → Stops studio (events ++ Arrival target.stream target.path octets.now ∷ []) written self.new written_then
+            (L.heard begun listener.new) fault) }
         ensures kind { IfErr result (λ fault. IsRun fault) }
         ensures clock { self.new.clock ≡ self.old.clock }
     {
+        // A route's letter may be that of no path.
         let Some(path) = Path::new(target.path) else {
             return Err(self.path_fault_of(target.stream));
         };
@@ -208,7 +299,7 @@ impl ReplayState {
         }
     }
 
-    /// The fault of a datagram on a path that no stream has.
+    /// Returns the fault of a datagram on a path that no stream has.
     fn path_fault_of(&self, stream: usize) -> ReplayFault
         ensures { IsRun result }
     {
@@ -220,7 +311,7 @@ impl ReplayState {
     }
 }
 
-/// A reading that counts from an opening, as the engine's clock counts it, if 64 bits hold it with a sign.
+/// Returns a clock reading from an opening on as a time of the engine, if it fits.
 fn instants_at(from: u64, reading: u64) -> Option<i64>
     ensures value { IfSome result (λ now. now ≡ pos (from + reading)) }
     ensures small { IfSome result (λ now. from + reading < 2 ^ 63) }
@@ -229,23 +320,25 @@ fn instants_at(from: u64, reading: u64) -> Option<i64>
     i64::try_from(instants).ok()
 }
 
-/// Tells of a reading that is not the one before.
+/// Reports a reading to the observer, if it isn't the one before.
 fn tell_reading<L: ReplayObserver>(listener: &mut L, before: i64, now: i64)
-    ensures { (begun : L) (events : List TraceEvent) (datagrams : List (List ℕ)) → L.heard begun listener.old events datagrams → L.heard begun listener.new (turned before now events) datagrams }
+    ensures { (begun : L) (events : List TraceEvent) (datagrams : List (List ℕ))
+        → L.heard begun listener.old events datagrams
+        → L.heard begun listener.new (turned before now events) datagrams }
 {
     if before != now {
         listener.read(now);
     }
 }
 
-/// Whether the clock of an engine that is open refuses a reading.
+/// Returns true if an engine that is open refuses a clock reading.
 fn refuses(engine: &Engine, now: i64) -> bool
     ensures { result ≡ is_some (clock_fault_of engine.now.time false now) }
 {
     clock_fault(engine.time(), false, now).is_some()
 }
 
-/// Why the datagram at a place among the events isn't taken.
+/// Returns the fault of a datagram that the engine refused, at a place among the events.
 fn fault_at(place: usize, fault: ArriveFault) -> ReplayFault
     ensures { IsRun result }
 {

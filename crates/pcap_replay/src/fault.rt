@@ -1,4 +1,4 @@
-//! Why a capture was not played to its end.
+//! The errors of replays.
 ghost use Rattle.std.specs.Prelude.{◌≡◌};
 ghost use Rattle.pcap_replay.specs.declared.fault.ReplayFault.TheVariants as fault;
 
@@ -8,19 +8,20 @@ use studio_run::WriteFault;
 use studio_session::StudioFault;
 use thiserror::Error;
 
-/// Why a capture was not played to its end. What was written is a front of its report, and nothing where memory was refused.
+/// The error because of which a capture was not played to its end. A prefix of its report was written, and nothing if
+/// an allocation failed.
 #[derive(Debug, Drop, Error)]
 pub enum ReplayFault {
-    /// Memory was refused.
+    /// An allocation failed.
     #[error("out of memory")]
     Memory,
-    /// The capture has a fault, or wasn't read.
+    /// The capture has a fault, or could not be read.
     #[error("{0}")]
     Capture(ReaderFault),
-    /// An event that the capture says is at fault.
+    /// An event of the capture has a fault.
     #[error("{0}")]
     Run(StudioFault),
-    /// The capture says more than 2^62 events.
+    /// The capture has more than 2^62 events.
     #[error("capture: too many events")]
     TooManyEvents,
     /// A write failed, or took no octet.

@@ -1,4 +1,4 @@
-//! The flows of a capture that is read from a file.
+//! The scan of a capture of any length for its flows.
 ghost use Rattle.std.specs.Prelude.{◌≡◌, ◌≤◌, ◌++◌, ℕ, List, map, length, drop, Option, None, Ok, IfOk, IfSome, OnOk};
 ghost use Rattle.pcap_file.specs.Entries.{Entry};
 ghost use Rattle.pcap_file.specs.ReadBuffer.{octets_of};
@@ -14,9 +14,11 @@ use pcap_flows::FlowTable;
 use std::alloc::{AllocError, Global};
 use std::io::Read;
 
-/// The flows of a capture, up to its end or its fault, as `FlowTable::of` answers them of one in memory.
+/// Returns the flows of a capture, up to its end or its fault, as `FlowTable::of` does for one in memory. Returns an
+/// error if an allocation or a read fails, or a record or block is too long.
 pub fn scan_flows<R: Read>(alloc: Global, reader: &mut R) -> Result<FlowTable, ReaderFault>
-    ensures { IfOk result (λ table. IfSome (R.remaining reader.old) (λ file. table_view table ≡ table_after no_table (packets_of file))) }
+    ensures { IfOk result (λ table. IfSome (R.remaining reader.old) (λ file. table_view table
+        ≡ table_after no_table (packets_of file))) }
 {
     let mut table = FlowTable::new(alloc);
     match open_reader(alloc, reader) {
@@ -24,6 +26,7 @@ pub fn scan_flows<R: Read>(alloc: Global, reader: &mut R) -> Result<FlowTable, R
             add_all(alloc, &mut table, &mut parts, &mut window, reader)?;
             Ok(table)
         }
+        // A fault of the capture ends the table, as one behind its packets does.
         Err(ReaderFault::Capture(fault)) => {
             table.take(alloc, Err(fault))?;
             Ok(table)
@@ -32,7 +35,7 @@ pub fn scan_flows<R: Read>(alloc: Global, reader: &mut R) -> Result<FlowTable, R
     }
 }
 
-/// Takes in the packets of what is left of a capture, and its fault.
+/// Adds the packets of all that is left of a capture, and its fault.
 fn add_all<R: Read>(
     alloc: Global,
     table: &mut FlowTable,
@@ -40,8 +43,10 @@ fn add_all<R: Read>(
     window: &mut ReadBuffer,
     reader: &mut R,
 ) -> Result<(), ReaderFault>
-    ensures { OnOk result ((file : List ℕ) (entries : List Entry) → HasTold file entries (R.remaining reader.old) parts.old (octets_of window.old) window.old.ended
-        → table_view table.old ≡ table_after no_table (map Ok (packets_among entries)) → table_view table.new ≡ table_after no_table (packets_of file)) }
+    ensures { OnOk result ((file : List ℕ) (entries : List Entry)
+        → HasTold file entries (R.remaining reader.old) parts.old (octets_of window.old) window.old.ended
+        → table_view table.old ≡ table_after no_table (map Ok (packets_among entries))
+        → table_view table.new ≡ table_after no_table (packets_of file)) }
 {
     'parts: for _ in 0..u64::MAX {
         if !has_block(parts, window, reader)? {
@@ -55,7 +60,7 @@ fn add_all<R: Read>(
     Err(ReaderFault::ReadFailed)
 }
 
-/// Takes in what comes next, and answers its length; none where the capture is at fault.
+/// Adds the packet of the next record or block, and returns its length; none if it is the capture's fault.
 fn add_next(
     alloc: Global,
     table: &mut FlowTable,
@@ -64,11 +69,15 @@ fn add_next(
 ) -> Result<Option<usize>, AllocError>
     requires { IsNext parts.old (octets_of window.now) window.now.ended }
     ensures len { IfOk result (λ given. IfSome given (λ len. len ≤ length (octets_of window.now))) }
-    ensures told { IfOk result (λ given. IfSome given (λ len. (file : List ℕ) (entries : List Entry) (left : Option (List ℕ)) → HasTold file entries left parts.old (octets_of window.now) window.now.ended
+    ensures told { IfOk result
+        (λ given. IfSome given (λ len. (file : List ℕ) (entries : List Entry) (left : Option (List ℕ))
+        → HasTold file entries left parts.old (octets_of window.now) window.now.ended
         → table_view table.old ≡ table_after no_table (map Ok (packets_among entries))
         → HasTable file left (table_view table.new) parts.new (drop len (octets_of window.now)) window.now.ended)) }
-    ensures fault { IfOk result (λ given. given ≡ None → (file : List ℕ) (entries : List Entry) (left : Option (List ℕ)) → HasTold file entries left parts.old (octets_of window.now) window.now.ended
-        → table_view table.old ≡ table_after no_table (map Ok (packets_among entries)) → table_view table.new ≡ table_after no_table (packets_of file)) }
+    ensures fault { IfOk result (λ given. given ≡ None → (file : List ℕ) (entries : List Entry) (left : Option (List ℕ))
+        → HasTold file entries left parts.old (octets_of window.now) window.now.ended
+        → table_view table.old ≡ table_after no_table (map Ok (packets_among entries))
+        → table_view table.new ≡ table_after no_table (packets_of file)) }
 {
     match next_block(parts, window) {
         Ok(part) => {
@@ -82,9 +91,10 @@ fn add_next(
     }
 }
 
-/// Takes in the packet of a record or a block, if it has one.
+/// Adds the packet of a record or a block, if it has one.
 fn add_part(alloc: Global, table: &mut FlowTable, part: &CaptureBlock<'_>) -> Result<(), AllocError>
-    ensures { OnOk result ((entries : List Entry) → table_view table.old ≡ table_after no_table (map Ok (packets_among entries))
+    ensures { OnOk result ((entries : List Entry)
+        → table_view table.old ≡ table_after no_table (map Ok (packets_among entries))
         → table_view table.new ≡ table_after no_table (map Ok (packets_among (entries ++ part_entries part.now)))) }
 {
     match part.packet {

@@ -1,35 +1,42 @@
-//! Who is told what a replay takes and gives.
+//! The observer of a replay, which receives its events and its datagrams.
 ghost use Rattle.std.specs.Prelude.{◌≡◌, ◌≤◌, ◌∷◌, ◌++◌, [], ⊤, ℕ, List, length};
 ghost use Rattle.studio_session.specs.Event.{TraceEvent, Arrival, Closing, Reading};
 ghost use Rattle.pcap_replay.specs.Observed.{HasHeardIf};
 
 use path_merge::Path;
 
-/// Is told each event that a replay takes, and each datagram that it gives. What it does with them delays the replay.
+/// An observer of each event that a replay takes, and of each datagram of the output, in order. The replay waits for
+/// each call to return.
 pub trait ReplayObserver {
-    /// Since it was the first of these, the second was told of these events and these datagrams, in order.
+    /// The events and the datagrams that the observer received, in order, while it changed from the first value to the
+    /// second.
     ghost heard: { Self → Self → List TraceEvent → List (List ℕ) → Type 0 };
 
-    /// A datagram arrived on a path.
+    /// Receives a datagram that arrived on a path.
     fn arrived(&mut self, stream: usize, path: Path, octets: &[u8])
-        ensures heard { (begun : Self) (events : List TraceEvent) (datagrams : List (List ℕ)) → heard begun self.old events datagrams → heard begun self.new (events ++ Arrival stream path octets.now ∷ []) datagrams };
+        ensures heard { (begun : Self) (events : List TraceEvent) (datagrams : List (List ℕ))
+            → heard begun self.old events datagrams
+            → heard begun self.new (events ++ Arrival stream path octets.now ∷ []) datagrams };
 
-    /// The clock was read, in sampling instants.
+    /// Receives a clock reading, in sampling instants at 48 kHz.
     fn read(&mut self, time: i64)
-        ensures heard { (begun : Self) (events : List TraceEvent) (datagrams : List (List ℕ)) → heard begun self.old events datagrams → heard begun self.new (events ++ Reading time ∷ []) datagrams };
+        ensures heard { (begun : Self) (events : List TraceEvent) (datagrams : List (List ℕ))
+            → heard begun self.old events datagrams → heard begun self.new (events ++ Reading time ∷ []) datagrams };
 
-    /// The studio was closed.
+    /// Receives the close of the studio, the last event.
     fn closed(&mut self)
-        ensures heard { (begun : Self) (events : List TraceEvent) (datagrams : List (List ℕ)) → heard begun self.old events datagrams → heard begun self.new (events ++ Closing ∷ []) datagrams };
+        ensures heard { (begun : Self) (events : List TraceEvent) (datagrams : List (List ℕ))
+            → heard begun self.old events datagrams → heard begun self.new (events ++ Closing ∷ []) datagrams };
 
-    /// A datagram of the output was given.
+    /// Receives a datagram of the output, an RTP packet with a header of 12 octets.
     fn output(&mut self, datagram: &[u8])
         requires header { 12 ≤ length datagram.now }
         requires short { length datagram.now ≤ 1452 }
-        ensures heard { (begun : Self) (events : List TraceEvent) (datagrams : List (List ℕ)) → heard begun self.old events datagrams → heard begun self.new events (datagrams ++ datagram.now ∷ []) };
+        ensures heard { (begun : Self) (events : List TraceEvent) (datagrams : List (List ℕ))
+            → heard begun self.old events datagrams → heard begun self.new events (datagrams ++ datagram.now ∷ []) };
 }
 
-/// A listener that does nothing with what it is told.
+/// An observer that ignores all events and datagrams.
 #[derive(Clone, Copy, Debug)]
 pub struct NoObserver;
 
@@ -45,7 +52,7 @@ impl ReplayObserver for NoObserver {
     fn output(&mut self, _datagram: &[u8]) {}
 }
 
-/// A listener that there may not be.
+/// An observer that may be absent.
 impl<L: ReplayObserver> ReplayObserver for Option<L> {
     ghost heard = { λ begun now events datagrams. HasHeardIf L.heard begun now events datagrams };
 

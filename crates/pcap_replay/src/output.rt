@@ -1,4 +1,4 @@
-//! The datagrams that an engine gives, as lines, and told to a listener.
+//! The datagrams of an engine, written as lines and reported to an observer.
 ghost use Rattle.std.specs.Prelude.{◌≡◌, ◌⊎◌, ◌≤◌, ℕ, List, OnOk, OnErr, None, true, false};
 ghost use Rattle.mix_packets.specs.OutSpec.{datagram_length};
 ghost use Rattle.path_merge.specs.Clock.{clock_fault_of};
@@ -13,7 +13,7 @@ use studio_engine::Engine;
 use studio_run::{TextBuffer, WriteFault, write_datagram};
 use studio_session::MOST_OUTPUT_OCTETS;
 
-/// Moves an engine on to a reading, tells of the datagrams that it gives, and writes their lines.
+/// Moves an engine on to a reading, reports the datagrams that it returns to the observer, and writes their lines.
 pub(crate) fn write_turn<W: Write, L: ReplayObserver>(
     engine: &mut Engine,
     now: i64,
@@ -22,12 +22,18 @@ pub(crate) fn write_turn<W: Write, L: ReplayObserver>(
     listener: &mut L,
 ) -> Result<(), WriteFault>
     requires short { datagram_length engine.old.mixer.packer.spec ≤ 1452 }
-    ensures ok { OnOk result ((studio : Studio) (events : List TraceEvent) (datagrams : List (List ℕ)) (begun : L) → HasSession studio engine.old events datagrams → clock_fault_of engine.old.time engine.old.closed now ≡ None
-        → GivesLines studio engine.new (turned engine.old.time now events) datagrams (W.contents writer.old) text.old (W.contents writer.new) text.new (L.heard begun listener.old) (L.heard begun listener.new)) }
-    ensures rested { OnOk result ((studio : Studio) (events : List TraceEvent) (datagrams : List (List ℕ)) → HasSession studio engine.old events datagrams → clock_fault_of engine.old.time engine.old.closed now ≡ None
+    ensures ok { OnOk result ((studio : Studio) (events : List TraceEvent) (datagrams : List (List ℕ)) (begun : L)
+        → HasSession studio engine.old events datagrams → clock_fault_of engine.old.time engine.old.closed now ≡ None
+        → GivesLines studio engine.new (turned engine.old.time now events) datagrams (W.contents writer.old) text.old
+        (W.contents writer.new) text.new (L.heard begun listener.old) (L.heard begun listener.new)) }
+    ensures rested { OnOk result ((studio : Studio) (events : List TraceEvent) (datagrams : List (List ℕ))
+        → HasSession studio engine.old events datagrams → clock_fault_of engine.old.time engine.old.closed now ≡ None
         → engine.new.turning ≡ false) }
-    ensures fault { OnErr result ((studio : Studio) (events : List TraceEvent) (datagrams : List (List ℕ)) (begun : L) → HasSession studio engine.old events datagrams → clock_fault_of engine.old.time engine.old.closed now ≡ None
-        → BreaksLines studio engine.new (turned engine.old.time engine.new.time events) datagrams (W.contents writer.old) text.old (W.contents writer.new) (L.heard begun listener.old) (L.heard begun listener.new)) }
+    ensures fault { OnErr result ((studio : Studio) (events : List TraceEvent) (datagrams : List (List ℕ)) (begun : L)
+        → HasSession studio engine.old events datagrams → clock_fault_of engine.old.time engine.old.closed now ≡ None
+        → BreaksLines studio engine.new (turned engine.old.time engine.new.time events) datagrams
+        (W.contents writer.old) text.old (W.contents writer.new) (L.heard begun listener.old)
+        (L.heard begun listener.new)) }
     ensures time { (engine.new.time ≡ engine.old.time) ⊎ (engine.new.time ≡ now) }
     ensures output { engine.new.mixer.packer.spec ≡ engine.old.mixer.packer.spec }
     ensures closed { engine.new.closed ≡ engine.old.closed }
@@ -35,7 +41,7 @@ pub(crate) fn write_turn<W: Write, L: ReplayObserver>(
     let mut out = [0; MOST_OUTPUT_OCTETS];
     'rounds: loop {
         let Ok(given) = engine.turn(now, &mut out) else {
-            // No engine that has a session comes here, at a reading that its clock takes.
+            // Not reached: the caller has tested the reading, and an engine with a session refuses no other.
             return Err(WriteFault);
         };
         match given {
@@ -48,7 +54,7 @@ pub(crate) fn write_turn<W: Write, L: ReplayObserver>(
     }
 }
 
-/// Tells of the datagrams that are left after a close, and writes their lines.
+/// Reports the datagrams that are left after a close to the observer, and writes their lines.
 pub(crate) fn write_drained<W: Write, L: ReplayObserver>(
     engine: &mut Engine,
     text: &mut TextBuffer,
@@ -56,11 +62,15 @@ pub(crate) fn write_drained<W: Write, L: ReplayObserver>(
     listener: &mut L,
 ) -> Result<(), WriteFault>
     requires short { datagram_length engine.old.mixer.packer.spec ≤ 1452 }
-    ensures ok { OnOk result ((studio : Studio) (events : List TraceEvent) (datagrams : List (List ℕ)) (begun : L) → HasSession studio engine.old events datagrams
-        → GivesLines studio engine.new events datagrams (W.contents writer.old) text.old (W.contents writer.new) text.new (L.heard begun listener.old) (L.heard begun listener.new)) }
+    ensures ok { OnOk result ((studio : Studio) (events : List TraceEvent) (datagrams : List (List ℕ)) (begun : L)
+        → HasSession studio engine.old events datagrams
+        → GivesLines studio engine.new events datagrams (W.contents writer.old) text.old
+        (W.contents writer.new) text.new (L.heard begun listener.old) (L.heard begun listener.new)) }
     ensures settled { OnOk result (engine.new.settled ≡ engine.old.closed) }
-    ensures fault { OnErr result ((studio : Studio) (events : List TraceEvent) (datagrams : List (List ℕ)) (begun : L) → HasSession studio engine.old events datagrams
-        → BreaksLines studio engine.new events datagrams (W.contents writer.old) text.old (W.contents writer.new) (L.heard begun listener.old) (L.heard begun listener.new)) }
+    ensures fault { OnErr result ((studio : Studio) (events : List TraceEvent) (datagrams : List (List ℕ)) (begun : L)
+        → HasSession studio engine.old events datagrams
+        → BreaksLines studio engine.new events datagrams (W.contents writer.old) text.old (W.contents writer.new)
+        (L.heard begun listener.old) (L.heard begun listener.new)) }
 {
     let mut out = [0; MOST_OUTPUT_OCTETS];
     'rounds: loop {

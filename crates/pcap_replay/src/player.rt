@@ -1,4 +1,4 @@
-//! A whole replay: from the octets of a capture to those of its report.
+//! A whole replay, from the octets of a capture to those of its report.
 ghost use Rattle.std.specs.Prelude.{◌≡◌, ◌++◌, ◌∷◌, ℕ, List, Option, [], None, IfOk, IfErr, OnOk, OnErr};
 ghost use Rattle.studio_session.specs.Event.{TraceEvent, Closing};
 ghost use Rattle.studio_run.specs.Play.{WritesEvents};
@@ -6,7 +6,19 @@ ghost use Rattle.studio_run.specs.StudioReport.{IsReport};
 ghost use Rattle.lane_align.specs.Lane.{natural};
 ghost use Rattle.pcap_file.specs.ReadBuffer.{octets_of};
 ghost use Rattle.pcap_replay.specs.Routing.{Flows, clock_before, places_of, plan_view};
-ghost use Rattle.pcap_replay.specs.Replay.{BreaksOffReplay, BreaksReport, CanClose, EndsBehind, HasBegun, HasComeToClose, HasHeardAll, HasReplayed, IsReplaying, StopsFile, WritesReplay};
+ghost use Rattle.pcap_replay.specs.Replay.{
+  BreaksOffReplay,
+  BreaksReport,
+  CanClose,
+  EndsBehind,
+  HasBegun,
+  HasComeToClose,
+  HasHeardAll,
+  HasReplayed,
+  IsReplaying,
+  StopsFile,
+  WritesReplay,
+};
 ghost use Rattle.studio_config.specs.Studio.{Studio};
 
 use crate::count_lines::write_all_counts;
@@ -23,9 +35,9 @@ use studio_config::StudioSpec;
 use studio_engine::Engine;
 use studio_run::{TextBuffer, WriteFault};
 
-/// Goes over the capture that a reader gives, and writes the report of what it says by these routes: the datagrams of all
-/// blocks that are ready, and the counts of each stream. A listener is told of these datagrams, and of all events. A fault
-/// ends both there: after some datagrams, and without counts.
+/// Reads a capture once, and writes the report of its events by these routes: the datagrams of all blocks that are
+/// ready, and the counts of each stream. The observer receives these datagrams and all events. After an error a prefix
+/// of the report was written, and the observer received a prefix of the events and datagrams.
 pub fn replay<R: Read, W: Write, L: ReplayObserver>(
     alloc: Global,
     spec: &StudioSpec,
@@ -35,8 +47,12 @@ pub fn replay<R: Read, W: Write, L: ReplayObserver>(
     listener: &mut L,
 ) -> Result<(), ReplayFault>
     requires fresh { L.heard listener.old listener.old [] [] }
-    ensures ok { OnOk result (WritesReplay spec.now (Flows routes.now) (R.remaining reader.old) (W.contents writer.old) (W.contents writer.new) (L.heard listener.old listener.new)) }
-    ensures fault { IfErr result (λ fault. BreaksOffReplay spec.now (Flows routes.now) (R.remaining reader.old) (W.contents writer.old) (W.contents writer.new) (L.heard listener.old listener.new) fault) }
+    ensures ok { OnOk result
+        (WritesReplay spec.now (Flows routes.now) (R.remaining reader.old) (W.contents writer.old)
+        (W.contents writer.new) (L.heard listener.old listener.new)) }
+    ensures fault { IfErr result
+        (λ fault. BreaksOffReplay spec.now (Flows routes.now) (R.remaining reader.old) (W.contents writer.old)
+        (W.contents writer.new) (L.heard listener.old listener.new) fault) }
 {
     replay_routed(
         alloc,
@@ -48,9 +64,9 @@ pub fn replay<R: Read, W: Write, L: ReplayObserver>(
     )
 }
 
-/// The same of a record of the studio's own run, by the places of its paths: interfaces count through the paths of all
-/// streams, readings are nanoseconds from the studio's opening on, and so is the time of the close, which the first mark of
-/// one tells. Wherever that stands, the studio is closed behind all packets; where none does, at the last one's reading.
+/// Reads the record of a run of this studio once, and writes its report as `replay` does. Interfaces are numbered
+/// through the paths of all streams, and times are nanoseconds from the studio's opening on. The studio is closed
+/// behind all packets, at the time of the first mark of a close; if there is none, at the last packet's reading.
 pub fn replay_record<R: Read, W: Write, L: ReplayObserver>(
     alloc: Global,
     spec: &StudioSpec,
@@ -59,8 +75,12 @@ pub fn replay_record<R: Read, W: Write, L: ReplayObserver>(
     listener: &mut L,
 ) -> Result<(), ReplayFault>
     requires fresh { L.heard listener.old listener.old [] [] }
-    ensures ok { OnOk result (WritesReplay spec.now (places_of spec.now) (R.remaining reader.old) (W.contents writer.old) (W.contents writer.new) (L.heard listener.old listener.new)) }
-    ensures fault { IfErr result (λ fault. BreaksOffReplay spec.now (places_of spec.now) (R.remaining reader.old) (W.contents writer.old) (W.contents writer.new) (L.heard listener.old listener.new) fault) }
+    ensures ok { OnOk result
+        (WritesReplay spec.now (places_of spec.now) (R.remaining reader.old) (W.contents writer.old)
+        (W.contents writer.new) (L.heard listener.old listener.new)) }
+    ensures fault { IfErr result
+        (λ fault. BreaksOffReplay spec.now (places_of spec.now) (R.remaining reader.old) (W.contents writer.old)
+        (W.contents writer.new) (L.heard listener.old listener.new) fault) }
 {
     let plan = Routing::Interfaces {
         streams: spec.streams(),
@@ -69,14 +89,14 @@ pub fn replay_record<R: Read, W: Write, L: ReplayObserver>(
     replay_routed(alloc, spec, &plan, reader, writer, listener)
 }
 
-/// A time that is none before 0.
+/// Returns a time, or 0 if it is negative.
 fn instants_of(time: i64) -> u64
     ensures { result ≡ natural time }
 {
     time.max(0) as u64
 }
 
-/// Writes the report of a capture by a plan.
+/// Writes the report of a capture by a routing.
 fn replay_routed<R: Read, W: Write, L: ReplayObserver>(
     alloc: Global,
     spec: &StudioSpec,
@@ -86,9 +106,14 @@ fn replay_routed<R: Read, W: Write, L: ReplayObserver>(
     listener: &mut L,
 ) -> Result<(), ReplayFault>
     requires fresh { L.heard listener.old listener.old [] [] }
-    ensures ok { OnOk result (WritesReplay spec.now (plan_view plan.now) (R.remaining reader.old) (W.contents writer.old) (W.contents writer.new) (L.heard listener.old listener.new)) }
-    ensures fault { IfErr result (λ fault. BreaksOffReplay spec.now (plan_view plan.now) (R.remaining reader.old) (W.contents writer.old) (W.contents writer.new) (L.heard listener.old listener.new) fault) }
+    ensures ok { OnOk result
+        (WritesReplay spec.now (plan_view plan.now) (R.remaining reader.old) (W.contents writer.old)
+        (W.contents writer.new) (L.heard listener.old listener.new)) }
+    ensures fault { IfErr result
+        (λ fault. BreaksOffReplay spec.now (plan_view plan.now) (R.remaining reader.old) (W.contents writer.old)
+        (W.contents writer.new) (L.heard listener.old listener.new) fault) }
 {
+    // All memory is taken before the first write, so an allocation failure leaves nothing written.
     let mut run = ReplayState::new(alloc, spec, plan)?;
     let (mut window, mut parts) = open_reader(alloc, reader)?;
     match run.go_to_close(plan, &mut parts, &mut window, reader, writer, listener) {
@@ -101,7 +126,7 @@ fn replay_routed<R: Read, W: Write, L: ReplayObserver>(
 }
 
 impl ReplayState {
-    /// Before the first event.
+    /// A replay that took no event yet. Returns `AllocError` if an allocation fails.
     fn new(alloc: Global, spec: &StudioSpec, plan: &Routing<'_>) -> Result<ReplayState, AllocError>
         ensures begun { IfOk result (λ run. HasBegun spec.now run) }
         ensures clock { IfOk result (λ run. run.clock ≡ clock_before (plan_view plan.now)) }
@@ -116,7 +141,7 @@ impl ReplayState {
         })
     }
 
-    /// Takes the events of what is left of a capture, and a reading at the time of the close.
+    /// Takes the events of all that is left of a capture, and a reading at the time of the close.
     fn go_to_close<R: Read, W: Write, L: ReplayObserver>(
         &mut self,
         plan: &Routing<'_>,
@@ -127,17 +152,24 @@ impl ReplayState {
         listener: &mut L,
     ) -> Result<(), ReplayFault>
         ensures ok { OnOk result ((studio : Studio) (first : Option (List ℕ)) (written : Option (List ℕ)) (begun : L)
-            → IsReplaying studio (plan_view plan.now) first written self.old parts.old (octets_of window.old) window.old.ended (R.remaining reader.old) (W.contents writer.old) (L.heard begun listener.old) None
-            → HasComeToClose studio (plan_view plan.now) first written self.new (W.contents writer.new) (L.heard begun listener.new)) }
-        ensures fault { IfErr result (λ fault. (studio : Studio) (first : Option (List ℕ)) (written : Option (List ℕ)) (begun : L)
-            → IsReplaying studio (plan_view plan.now) first written self.old parts.old (octets_of window.old) window.old.ended (R.remaining reader.old) (W.contents writer.old) (L.heard begun listener.old) None
-            → StopsFile studio (plan_view plan.now) first written self.new (W.contents writer.new) (L.heard begun listener.new) fault) }
+            → IsReplaying studio (plan_view plan.now) first written self.old parts.old
+            (octets_of window.old) window.old.ended (R.remaining reader.old) (W.contents writer.old)
+            (L.heard begun listener.old) None
+            → HasComeToClose studio (plan_view plan.now) first written self.new (W.contents writer.new)
+            (L.heard begun listener.new)) }
+        ensures fault { IfErr result
+            (λ fault. (studio : Studio) (first : Option (List ℕ)) (written : Option (List ℕ)) (begun : L)
+            → IsReplaying studio (plan_view plan.now) first written self.old parts.old
+            (octets_of window.old) window.old.ended (R.remaining reader.old) (W.contents writer.old)
+            (L.heard begun listener.old) None
+            → StopsFile studio (plan_view plan.now) first written self.new (W.contents writer.new)
+            (L.heard begun listener.new) fault) }
     {
         let told = self.run_events(plan, parts, window, reader, writer, listener)?;
         self.read(plan.opening(), plan.closing(told), writer, listener)
     }
 
-    /// Ends the report.
+    /// Closes the studio, and writes the rest of the report: the datagrams that are left, and the counts.
     fn close<W: Write, L: ReplayObserver>(
         self,
         spec: &StudioSpec,
@@ -145,12 +177,16 @@ impl ReplayState {
         listener: &mut L,
     ) -> Result<(), WriteFault>
         requires { CanClose spec.now self (W.contents writer.old) }
-        ensures ok { OnOk result ((events : List TraceEvent) (written : Option (List ℕ)) (begun : L) → HasReplayed spec.now events written self (W.contents writer.old) (L.heard begun listener.old)
+        ensures ok { OnOk result ((events : List TraceEvent) (written : Option (List ℕ)) (begun : L)
+            → HasReplayed spec.now events written self (W.contents writer.old) (L.heard begun listener.old)
             → WritesEvents spec.now IsReport (events ++ Closing ∷ []) written (W.contents writer.new)) }
-        ensures hears { OnOk result ((events : List TraceEvent) (written : Option (List ℕ)) (begun : L) → HasReplayed spec.now events written self (W.contents writer.old) (L.heard begun listener.old)
+        ensures hears { OnOk result ((events : List TraceEvent) (written : Option (List ℕ)) (begun : L)
+            → HasReplayed spec.now events written self (W.contents writer.old) (L.heard begun listener.old)
             → HasHeardAll spec.now (events ++ Closing ∷ []) (L.heard begun listener.new)) }
-        ensures fault { OnErr result ((events : List TraceEvent) (written : Option (List ℕ)) (begun : L) → HasReplayed spec.now events written self (W.contents writer.old) (L.heard begun listener.old)
-            → BreaksReport spec.now (events ++ Closing ∷ []) written (W.contents writer.new) (L.heard begun listener.new)) }
+        ensures fault { OnErr result ((events : List TraceEvent) (written : Option (List ℕ)) (begun : L)
+            → HasReplayed spec.now events written self (W.contents writer.old) (L.heard begun listener.old)
+            → BreaksReport spec.now (events ++ Closing ∷ []) written (W.contents writer.new)
+            (L.heard begun listener.new)) }
     {
         let mut engine = self.engine;
         let mut text = self.text;
@@ -159,18 +195,20 @@ impl ReplayState {
         };
         listener.closed();
         write_drained(&mut engine, &mut text, writer, listener)?;
+        // Only for its clause: a settled engine has all marks, which `write_all_counts` requires.
         let _all = engine.settled();
         write_all_counts(&mut text, writer, &engine, spec.streams())?;
         text.finish(writer)?;
         Ok(())
     }
 
-    /// Ends what is written behind a fault. Answers the fault, or that of a write.
+    /// Writes the text that is left in the buffer after a fault. Returns the fault, or `Write` if a write fails.
     fn break_off<W: Write>(self, fault: ReplayFault, writer: &mut W) -> ReplayFault
         ensures { EndsBehind self.text (W.contents writer.old) (W.contents writer.new) fault result }
     {
         let mut text = self.text;
         match fault {
+            // Octets behind a write that failed would leave a gap.
             ReplayFault::Write => ReplayFault::Write,
             other => match text.finish(writer) {
                 Ok(()) => other,

@@ -1,4 +1,4 @@
-//! Where the datagrams of a capture go, and from when its readings count.
+//! The routing of a capture's datagrams to paths, with the origin of its clock readings.
 ghost use Rattle.std.specs.Prelude.{◌≡◌, Some};
 ghost use Rattle.pcap_replay.specs.Routing as spec;
 ghost use Rattle.pcap_file.specs.Packet.{packet_view};
@@ -8,19 +8,20 @@ use path_merge::StreamSpec;
 use pcap_file::Packet;
 use pcap_flows::{CaptureClock, Route, route_in};
 
-/// What is known of a capture before its first packet.
+/// The way in which packets get paths and times.
 #[derive(Clone, Copy)]
 pub(crate) enum Routing<'a> {
-    /// Flows have routes, and readings count from the first packet's time.
+    /// A packet's flow has a route, and readings count from the first packet's time.
     Flows(&'a [Route]),
-    /// Interfaces are the places of the paths of these streams, and readings count from an opening time.
+    /// A packet's interface is the place of its path among those of all streams, and readings count from the opening.
     Interfaces {
         streams: &'a [StreamSpec],
+        /// The time of the opening, in sampling instants at 48 kHz.
         open_at: u64,
     },
 }
 
-/// A path of a stream, by their numbers.
+/// A path of a stream, by the numbers of both, from 0.
 #[derive(Clone, Copy)]
 pub(crate) struct StreamPath {
     pub(crate) stream: usize,
@@ -28,7 +29,7 @@ pub(crate) struct StreamPath {
 }
 
 impl Routing<'_> {
-    /// Where a packet goes, if it goes anywhere.
+    /// Returns the path of a packet, if it has one.
     pub(crate) fn target(&self, packet: &Packet<'_>) -> Option<StreamPath>
         ensures { result ≡ target_of (plan_view self.now) (packet_view packet.now) }
     {
@@ -38,7 +39,7 @@ impl Routing<'_> {
         }
     }
 
-    /// The time from which its readings count, in sampling instants.
+    /// Returns the time from which readings count, in sampling instants at 48 kHz.
     pub(crate) fn opening(&self) -> u64
         ensures { result ≡ opening_of (plan_view self.now) }
     {
@@ -48,7 +49,8 @@ impl Routing<'_> {
         }
     }
 
-    /// When the studio was closed, where marks told this: only a record's tell it.
+    /// Returns the time of the close by its mark, in nanoseconds. Only a record has one: statistics of another capture
+    /// mean nothing for it.
     pub(crate) fn closing(&self, told: Option<u64>) -> Option<u64>
         ensures { result ≡ closing_of (plan_view self.now) told }
     {
@@ -58,20 +60,21 @@ impl Routing<'_> {
         }
     }
 
-    /// The clock before its first packet.
+    /// Returns the clock before the first packet.
     pub(crate) fn clock(&self) -> CaptureClock
         ensures { result ≡ clock_before (plan_view self.now) }
     {
         let mut clock = CaptureClock::new();
         match self {
             Routing::Flows(_) => {}
+            // A record's times count from the opening, so its clock begins at 0 and not at the first packet's time.
             Routing::Interfaces { .. } => clock.read(Some(0)),
         }
         clock
     }
 }
 
-/// The path that a route names.
+/// Returns the path of a route.
 fn path_of_route(route: &Route) -> StreamPath
     ensures { Some result ≡ spec.path_of_route (Some route.now) }
 {
@@ -81,7 +84,7 @@ fn path_of_route(route: &Route) -> StreamPath
     }
 }
 
-/// The path at a place among those of all streams.
+/// Returns the path at a place among those of all streams.
 fn path_at(streams: &[StreamSpec], place: u32) -> StreamPath
     ensures { result ≡ spec.path_at 0 streams.now place }
 {
@@ -96,6 +99,7 @@ fn path_at(streams: &[StreamSpec], place: u32) -> StreamPath
         }
         left -= paths;
     }
+    // No stream has this number, so the arrival is a fault.
     StreamPath {
         stream: streams.len(),
         path: 0,

@@ -1,4 +1,4 @@
-//! The WAV file of what a replay gives.
+//! An observer that writes the output of a replay to a WAV file.
 ghost use Rattle.std.specs.Prelude.{◌≡◌, ◌≤◌, ◌∷◌, ◌++◌, [], ℕ, List, Some, IfOk, length};
 ghost use Rattle.mix_packets.specs.declared.out_spec.Output.{Output};
 ghost use Rattle.wav_file.specs.File.{wav_octets};
@@ -12,14 +12,14 @@ use std::io::Write;
 use std::marker::Model;
 use wav_file::{FileFault, Overwrite, WavFormat, WavWriter};
 
-/// Writes the samples of the datagrams that it is told of to a WAV file. After a write that failed it writes no more.
+/// An observer that writes the samples of the output's datagrams to a WAV file. After a failed write it writes no more.
 ///
-/// Input: as a `ReplayObserver`. Output: `finish`, once the replay came to its end, or `break_off` after a fault.
+/// Call `finish` once the replay has returned `Ok`, and `break_off` after an error.
 #[derive(Drop)]
 pub struct WavObserver<F: Overwrite> {
     file: F,
     wav: WavWriter,
-    /// Whether a write failed.
+    /// True if a write failed. A `ReplayObserver` can't return an error, so `finish` does.
     failed: bool,
 }
 
@@ -32,7 +32,7 @@ impl<F: Overwrite> Model for WavObserver<F> {
 }
 
 impl<F: Overwrite + Drop> WavObserver<F> {
-    /// Begins the file of an output's samples, in a file that holds nothing.
+    /// Begins a WAV file of an output's samples in an empty file. Returns `Write` if a write fails.
     pub fn begin(file: F, output: &OutSpec) -> Result<WavObserver<F>, FileFault>
         ensures head { IfOk result (λ sound. F.Write.contents file ≡ Some [] → HasHead sound) }
         ensures format { IfOk result (λ sound. sound.wav.format ≡ output_format output.now) }
@@ -53,27 +53,31 @@ impl<F: Overwrite + Drop> WavObserver<F> {
         }
     }
 
-    /// Adds the samples of a datagram.
+    /// Writes the samples of a datagram.
     fn add(&mut self, datagram: &[u8])
         requires header { 12 ≤ length datagram.now }
         requires short { length datagram.now ≤ 1452 }
-        ensures { (begun : SoundState) (datagrams : List (List ℕ)) → HasSounded begun self.old datagrams → HasSounded begun self.new (datagrams ++ datagram.now ∷ []) }
+        ensures { (begun : SoundState) (datagrams : List (List ℕ)) → HasSounded begun self.old datagrams
+            → HasSounded begun self.new (datagrams ++ datagram.now ∷ []) }
     {
         if self.failed {
             return;
         }
+        // An RTP header has 12 octets (RFC 3550, 5.1): the output has no CSRC list and no extension.
         match self.wav.push(&mut self.file, &datagram[12..]) {
             Ok(()) => {}
             Err(_) => self.failed = true,
         }
     }
 
-    /// Ends the file, with the sizes of all that it was told of. It fails where a write failed before.
+    /// Writes the file's sizes, and returns it. Returns `Write` if this or an earlier write fails.
     pub fn finish(self) -> Result<F, FileFault>
-        ensures { IfOk result (λ file. (begun : SoundState) (datagrams : List (List ℕ)) → HasHead begun → HasSounded begun self datagrams
+        ensures { IfOk result (λ file. (begun : SoundState) (datagrams : List (List ℕ)) → HasHead begun
+            → HasSounded begun self datagrams
             → F.Write.contents file ≡ Some (wav_octets begun.wav.format (samples_in begun.wav.format.enc datagrams))) }
     {
         if self.failed {
+            // The file still gets the sizes of what was written. Their own failure changes nothing.
             let _ = self.break_off();
             return Err(FileFault::Write);
         }
@@ -84,9 +88,11 @@ impl<F: Overwrite + Drop> WavObserver<F> {
         }
     }
 
-    /// Ends the file after a fault, with the sizes of its whole payloads.
+    /// Writes the sizes of the whole payloads after an error of the replay, and returns the file. Returns `Write` if
+    /// that write fails.
     pub fn break_off(self) -> Result<F, FileFault>
-        ensures { IfOk result (λ file. (begun : SoundState) (datagrams : List (List ℕ)) → HasHead begun → HasSounded begun self datagrams
+        ensures { IfOk result (λ file. (begun : SoundState) (datagrams : List (List ℕ)) → HasHead begun
+            → HasSounded begun self datagrams
             → HasFront begun.wav.format (F.Write.contents file) datagrams) }
     {
         let mut file = self.file;
