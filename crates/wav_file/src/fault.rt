@@ -1,4 +1,4 @@
-//! Why a run was not recorded.
+//! The errors of WAV files and of runs that write one.
 ghost use Rattle.std.specs.Prelude.{◌≡◌};
 ghost use Rattle.studio_run.specs.declared.player.PlayFault.TheVariants as play;
 ghost use Rattle.wav_file.specs.declared.fault.WavRunFault.TheVariants as fault;
@@ -9,18 +9,18 @@ use std::alloc::AllocError;
 use studio_run::{PlayFault, WriteFault};
 use thiserror::Error;
 
-/// What failed of a WAV file.
+/// The error of a WAV file.
 #[derive(Clone, Copy, Debug, PartialEq, Eq, Error)]
 pub enum FileFault {
-    /// It could not be made.
+    /// The file could not be created.
     #[error("not made")]
     NotCreated,
-    /// A write failed, or took no octet, or it has too many.
+    /// A write failed or took no octet, or the file has more than 2^62 octets of data.
     #[error("write")]
     Write,
 }
 
-/// Why no file is written of a stream.
+/// The error because of which a stream can have no WAV file.
 #[derive(Clone, Copy, Debug, PartialEq, Eq, Error)]
 pub enum StreamWavFault {
     /// The studio has no stream of this number.
@@ -31,16 +31,16 @@ pub enum StreamWavFault {
     Channels,
 }
 
-/// Why a report or a listing, and a WAV file, were not written whole.
+/// The error because of which a report or a listing, or its WAV file, was not written whole.
 #[derive(Debug, Drop, Error)]
 pub enum WavRunFault {
-    /// The report's or the listing's fault.
+    /// The error of the report or the listing.
     #[error("{0}")]
     Play(PlayFault),
-    /// That of the stream that a file was to be written of.
+    /// The error of the stream whose samples were to be written.
     #[error("{0}")]
     Stream(StreamWavFault),
-    /// The file's.
+    /// The error of the file.
     #[error("{0}")]
     File(FileFault),
 }

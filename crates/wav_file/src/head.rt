@@ -1,15 +1,24 @@
-//! The head of a file.
+//! The head of a WAV file: RIFF WAVE, and RF64 if its size doesn't fit 32 bits (EBU Tech 3306).
 ghost use Rattle.std.specs.Prelude.{◌≡◌, ◌+◌, ◌++◌, ◌^◌, ◌<◌, ◌≤◌, ◌/◌, length};
 ghost use Rattle.arrayvec.specs.ArrayVec.{array_vec_len};
-ghost use Rattle.wav_file.specs.Head.{format_octets, frame_length, head_octets, is_long, riff_size, room_chunk, room_octets, size_octets};
+ghost use Rattle.wav_file.specs.Head.{
+  format_octets,
+  frame_length,
+  head_octets,
+  is_long,
+  riff_size,
+  room_chunk,
+  room_octets,
+  size_octets,
+};
 
 use crate::header::WavFormat;
 use arrayvec::ArrayVec;
 
-/// The octets of a head.
+/// The octets of a head, up to the data.
 type Header = ArrayVec<u8, 80>;
 
-/// The head of a file whose data has so many octets.
+/// Returns the head of a file with `count` octets of data.
 pub(crate) fn header_octets(format: WavFormat, count: u64) -> Header
     requires { count < 2 ^ 63 }
     ensures head { result.items ≡ head_octets format count }
@@ -26,7 +35,7 @@ pub(crate) fn header_octets(format: WavFormat, count: u64) -> Header
     head
 }
 
-/// The octets behind the file's size.
+/// Returns the file's size: the number of octets behind this field, with one more after data of an odd length.
 fn riff_size(count: u64) -> u64
     requires { count < 2 ^ 63 }
     ensures { result ≡ riff_size count }
@@ -34,7 +43,7 @@ fn riff_size(count: u64) -> u64
     72 + count + count % 2
 }
 
-/// Whether 32 bits don't hold that.
+/// Returns true if the file's size doesn't fit 32 bits.
 fn is_long(count: u64) -> bool
     requires { count < 2 ^ 63 }
     ensures { result ≡ is_long count }
@@ -42,16 +51,17 @@ fn is_long(count: u64) -> bool
     riff_size(count) >= 4_294_967_296
 }
 
-/// The sampling instants of so many octets.
+/// Returns the number of sampling instants in so many octets.
 fn frames_in(format: WavFormat, count: u64) -> u64
     ensures { result ≡ count / frame_length format }
 {
+    // Without channels there are none.
     count
         .checked_div(u64::from(format.frame_len()))
         .unwrap_or(0)
 }
 
-/// Adds octets.
+/// Appends octets.
 fn push(head: &mut Header, octets: &[u8])
     requires { array_vec_len head.old + length octets.now ≤ 80 }
     ensures items { head.new.items ≡ head.old.items ++ octets.now }
@@ -62,7 +72,7 @@ fn push(head: &mut Header, octets: &[u8])
     };
 }
 
-/// Adds a size of 32 bits.
+/// Appends a size of 32 bits: all ones in a long file, whose `ds64` chunk has it.
 fn push_size(head: &mut Header, count: u64, size: u64)
     requires room { array_vec_len head.old + 4 ≤ 80 }
     requires count { count < 2 ^ 63 }
@@ -78,7 +88,8 @@ fn push_size(head: &mut Header, count: u64, size: u64)
     push(head, &size.to_le_bytes());
 }
 
-/// Adds the chunk that keeps room for the sizes of a long file, and has them there.
+/// Appends the chunk with the sizes of a long file, or one of the same length that is ignored.
+// The file's length isn't known when its head is first written. `JUNK` keeps the room for `ds64`.
 fn push_ds64_or_junk(head: &mut Header, format: WavFormat, count: u64)
     requires room { array_vec_len head.old + 36 ≤ 80 }
     requires count { count < 2 ^ 63 }
@@ -98,7 +109,7 @@ fn push_ds64_or_junk(head: &mut Header, format: WavFormat, count: u64)
     }
 }
 
-/// Adds a chunk of this name, with the sizes of a long file and its sampling instants.
+/// Appends a chunk of this name, with the sizes of a long file and its number of sampling instants.
 fn push_sizes(head: &mut Header, name: &[u8; 4], all: u64, count: u64, frames: u64)
     requires room { array_vec_len head.old + 36 ≤ 80 }
     ensures items { head.new.items ≡ head.old.items ++ room_chunk name.now all count frames }
@@ -109,10 +120,11 @@ fn push_sizes(head: &mut Header, name: &[u8; 4], all: u64, count: u64, frames: u
     push(head, &all.to_le_bytes());
     push(head, &count.to_le_bytes());
     push(head, &frames.to_le_bytes());
+    // A table of no further chunk sizes.
     push(head, &0_u32.to_le_bytes());
 }
 
-/// Adds the chunk of the format.
+/// Appends the chunk of the format.
 fn push_format(head: &mut Header, format: WavFormat)
     requires { array_vec_len head.old + 24 ≤ 80 }
     ensures items { head.new.items ≡ head.old.items ++ format_octets format }
@@ -121,6 +133,7 @@ fn push_format(head: &mut Header, format: WavFormat)
     let frame = format.frame_len();
     push(head, b"fmt ");
     push(head, &16_u32.to_le_bytes());
+    // The format 1 is linear PCM.
     push(head, &1_u16.to_le_bytes());
     push(head, &u16::from(format.channels).to_le_bytes());
     push(head, &48_000_u32.to_le_bytes());

@@ -1,4 +1,4 @@
-//! From a trace to its report, with a WAV file beside it.
+//! The report of a trace, with a WAV file of the mix.
 ghost use Rattle.std.specs.Prelude.{◌≡◌, IfErr, IfOk};
 ghost use Rattle.wav_file.specs.MixRun.{FailsRecording, RecordsTextOf};
 ghost use Rattle.wav_file.specs.MixSamples.{output_format};
@@ -13,8 +13,8 @@ use studio_config::StudioSpec;
 use studio_run::{TextBuffer, read_all, runnable_events};
 use studio_session::Session;
 
-/// Reads a trace to its end, writes its report as `play` does, and the samples of its datagrams to a file, which is made
-/// once nothing but a write can fail.
+/// Reads a trace to its end, and writes its report as `play` does and the samples of its datagrams to a file, which it
+/// returns. The file is created once only a write can fail. Returns the error of the trace, the report or the file.
 pub fn play_to_wav<R: Read, W: Write, M: CreateFile>(
     alloc: Global,
     spec: &StudioSpec,
@@ -22,8 +22,12 @@ pub fn play_to_wav<R: Read, W: Write, M: CreateFile>(
     writer: &mut W,
     files: &M,
 ) -> Result<M::File, WavRunFault>
-    ensures ok { IfOk result (λ file. RecordsTextOf spec.now (R.remaining reader.old) (R.remaining reader.new) (W.contents writer.old) (W.contents writer.new) (M.File.Write.contents file)) }
-    ensures fault { IfErr result (FailsRecording spec.now (R.remaining reader.old) (R.remaining reader.new) (W.contents writer.old) (W.contents writer.new)) }
+    ensures ok { IfOk result
+        (λ file. RecordsTextOf spec.now (R.remaining reader.old) (R.remaining reader.new) (W.contents writer.old)
+        (W.contents writer.new) (M.File.Write.contents file)) }
+    ensures fault { IfErr result
+        (FailsRecording spec.now (R.remaining reader.old) (R.remaining reader.new) (W.contents writer.old)
+        (W.contents writer.new)) }
 {
     let trace = read_all(alloc, reader)?;
     let events = runnable_events(alloc, spec, trace.as_slice())?;
@@ -35,7 +39,7 @@ pub fn play_to_wav<R: Read, W: Write, M: CreateFile>(
     Ok(file)
 }
 
-/// What a file of a studio's output is.
+/// Returns the format of a studio's output.
 fn format_of(spec: &StudioSpec) -> WavFormat
     ensures { result ≡ output_format spec.now.output }
 {

@@ -5,21 +5,21 @@ ghost use Rattle.wav_file.specs.File.{Overwrites};
 use std::io;
 use std::io::{Seek, SeekFrom, Write};
 
-/// A writer whose first octets can be written over, as a file's.
+/// A writer whose first octets can be written over, as those of a file can.
 pub trait Overwrite: Write {
-    /// Writes these octets over the first. What is written later goes to the end again.
+    /// Writes these octets over the first ones. Later writes go to the end again.
     fn overwrite(&mut self, octets: &[u8]) -> io::Result<()>
         ensures bytes { OnOk result (Overwrites (Self.contents self.old) (Self.contents self.new) octets.now) };
 }
 
-/// A file, or another writer that seeks, from its beginning. It doesn't tell its octets.
+/// A file, or another writer that can seek. Contracts don't know its octets.
 #[derive(Drop)]
 pub struct SeekFile<F> {
     file: F,
 }
 
 impl<F: Write + Seek> SeekFile<F> {
-    /// What is written to a file that is empty.
+    /// An `Overwrite` over an empty file.
     pub fn new(file: F) -> Self {
         SeekFile { file }
     }

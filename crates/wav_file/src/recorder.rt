@@ -1,4 +1,4 @@
-//! A report and its samples, written side by side.
+//! The writing of a report together with its samples.
 ghost use Rattle.std.specs.Prelude.{◌≡◌, ◌<◌, ◌≤◌, ℕ, List, [], All, OnOk, OnErr, IfErr};
 ghost use Rattle.mix_packets.specs.OutSpec.{datagram_length};
 ghost use Rattle.studio_config.specs.Studio.{Studio};
@@ -18,7 +18,8 @@ use std::io::Write;
 use studio_run::{TextBuffer, write_counts, write_datagram};
 use studio_session::{EventSource, MOST_OUTPUT_OCTETS, Session};
 
-/// Writes the report of a session before its first event, and its samples to a file that holds nothing.
+/// Writes the report of a session that took no event yet, and its samples to an empty file. Returns the error of a
+/// write to either. The file then has the sizes of its whole payloads, if they can be written.
 pub fn write_mix_wav<E: EventSource, W: Write, F: Overwrite>(
     text: &mut TextBuffer,
     writer: &mut W,
@@ -31,11 +32,15 @@ pub fn write_mix_wav<E: EventSource, W: Write, F: Overwrite>(
     requires short { datagram_length session.mixer.packer.spec ≤ 1452 }
     requires some { 0 < session.mixer.packer.spec.frames }
     requires ready { All (IsReadyFor (E.events source.now)) session.cursors }
-    ensures ok { OnOk result ((studio : Studio) → IsRunnableBy studio (E.events source.now) → HasPlayed studio (E.events source.now) session 0
-        → Records studio (E.events source.now) format (W.contents writer.old) (W.contents writer.new) (F.Write.contents file.old) (F.Write.contents file.new)) }
+    ensures ok { OnOk result ((studio : Studio) → IsRunnableBy studio (E.events source.now)
+        → HasPlayed studio (E.events source.now) session 0
+        → Records studio (E.events source.now) format (W.contents writer.old) (W.contents writer.new)
+        (F.Write.contents file.old) (F.Write.contents file.new)) }
     ensures fault { IfErr result IsOfWriters }
-    ensures begun { OnErr result ((studio : Studio) (report : List ℕ) → IsRunnableBy studio (E.events source.now) → HasPlayed studio (E.events source.now) session 0
-        → IsReport studio (E.events source.now) report → WritesFront (W.contents writer.old) [] (W.contents writer.new) report) }
+    ensures begun { OnErr result ((studio : Studio) (report : List ℕ) → IsRunnableBy studio (E.events source.now)
+        → HasPlayed studio (E.events source.now) session 0
+        → IsReport studio (E.events source.now) report
+        → WritesFront (W.contents writer.old) [] (W.contents writer.new) report) }
 {
     let mut wav = WavWriter::begin(format, file)?;
     match write_both(text, writer, &mut wav, file, source, session) {
@@ -44,6 +49,7 @@ pub fn write_mix_wav<E: EventSource, W: Write, F: Overwrite>(
             Ok(())
         }
         Err(fault) => {
+            // The first error is returned, whether the sizes can be written or not.
             let _ = wav.finish_partial(file);
             Err(fault)
         }
@@ -63,11 +69,15 @@ fn write_both<E: EventSource, W: Write, F: Write>(
     requires short { datagram_length session.mixer.packer.spec ≤ 1452 }
     requires some { 0 < session.mixer.packer.spec.frames }
     requires ready { All (IsReadyFor (E.events source.now)) session.cursors }
-    ensures ok { OnOk result ((studio : Studio) → IsRunnableBy studio (E.events source.now) → HasPlayed studio (E.events source.now) session 0
-        → HasBoth studio (E.events source.now) (W.contents writer.old) (W.contents writer.new) (F.contents file.old) (F.contents file.new) wav.old wav.new) }
+    ensures ok { OnOk result ((studio : Studio) → IsRunnableBy studio (E.events source.now)
+        → HasPlayed studio (E.events source.now) session 0
+        → HasBoth studio (E.events source.now) (W.contents writer.old) (W.contents writer.new) (F.contents file.old)
+        (F.contents file.new) wav.old wav.new) }
     ensures fault { IfErr result IsOfWriters }
-    ensures begun { OnErr result ((studio : Studio) (report : List ℕ) → IsRunnableBy studio (E.events source.now) → HasPlayed studio (E.events source.now) session 0
-        → IsReport studio (E.events source.now) report → WritesFront (W.contents writer.old) [] (W.contents writer.new) report) }
+    ensures begun { OnErr result ((studio : Studio) (report : List ℕ) → IsRunnableBy studio (E.events source.now)
+        → HasPlayed studio (E.events source.now) session 0
+        → IsReport studio (E.events source.now) report
+        → WritesFront (W.contents writer.old) [] (W.contents writer.new) report) }
 {
     let mut session = session;
     record_datagrams(text, writer, wav, file, source, &mut session)?;
@@ -90,11 +100,15 @@ fn record_datagrams<E: EventSource, W: Write, F: Write>(
     requires some { 0 < session.old.mixer.packer.spec.frames }
     requires ready { All (IsReadyFor (E.events source.now)) session.old.cursors }
     ensures ready { All (IsReadyFor (E.events source.now)) session.new.cursors }
-    ensures ok { OnOk result ((studio : Studio) → IsRunnableBy studio (E.events source.now) → HasPlayed studio (E.events source.now) session.old 0
-        → HasRecorded studio (E.events source.now) (W.contents writer.old) text.old (F.contents file.old) wav.old session.new (W.contents writer.new) text.new (F.contents file.new) wav.new) }
+    ensures ok { OnOk result ((studio : Studio) → IsRunnableBy studio (E.events source.now)
+        → HasPlayed studio (E.events source.now) session.old 0
+        → HasRecorded studio (E.events source.now) (W.contents writer.old) text.old
+        (F.contents file.old) wav.old session.new (W.contents writer.new) text.new (F.contents file.new) wav.new) }
     ensures fault { IfErr result IsOfWriters }
-    ensures begun { OnErr result ((studio : Studio) (datagrams : List (List ℕ)) → IsRunnableBy studio (E.events source.now) → HasPlayed studio (E.events source.now) session.old 0
-        → AreDatagrams studio (E.events source.now) datagrams → WritesFront (W.contents writer.old) text.old (W.contents writer.new) (datagrams_text datagrams)) }
+    ensures begun { OnErr result ((studio : Studio) (datagrams : List (List ℕ))
+        → IsRunnableBy studio (E.events source.now) → HasPlayed studio (E.events source.now) session.old 0
+        → AreDatagrams studio (E.events source.now) datagrams
+        → WritesFront (W.contents writer.old) text.old (W.contents writer.new) (datagrams_text datagrams)) }
 {
     let mut out = [0; MOST_OUTPUT_OCTETS];
     'rounds: loop {
@@ -102,6 +116,7 @@ fn record_datagrams<E: EventSource, W: Write, F: Write>(
             Some(len) => {
                 let datagram = &out[..len];
                 write_datagram(text, writer, datagram)?;
+                // An RTP header has 12 octets (RFC 3550, 5.1): the output has no CSRC list and no extension.
                 wav.push(file, &datagram[12..])?;
             }
             None => return Ok(()),

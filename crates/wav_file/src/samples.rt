@@ -1,10 +1,10 @@
-//! Samples with their octets the other way round.
+//! The byte order of samples: RTP has the most significant octet first (RFC 3551, 4.5.11; RFC 3190, 4), WAV the least.
 ghost use Rattle.std.specs.Prelude.{◌≡◌, ◌≤◌, length};
 ghost use Rattle.wav_file.specs.Samples.{little_16, little_24, little_samples};
 
 use rtp_wire::{Enc, Payload};
 
-/// The whole samples of a payload, least significant octet first.
+/// Returns the whole samples of a payload, least significant octet first.
 pub(crate) fn to_little_endian(enc: Enc, octets: &[u8]) -> Payload
     requires { length octets.now ≤ 1440 }
     ensures { result.items ≡ little_samples enc octets.now }
@@ -15,7 +15,7 @@ pub(crate) fn to_little_endian(enc: Enc, octets: &[u8]) -> Payload
     }
 }
 
-/// Those of 16 bits.
+/// Returns the whole samples of 16 bits, least significant octet first.
 fn to_little_endian_16(octets: &[u8]) -> Payload
     requires { length octets.now ≤ 1440 }
     ensures { result.items ≡ little_16 octets.now }
@@ -28,7 +28,7 @@ fn to_little_endian_16(octets: &[u8]) -> Payload
     out
 }
 
-/// Those of 24 bits.
+/// Returns the whole samples of 24 bits, least significant octet first.
 fn to_little_endian_24(octets: &[u8]) -> Payload
     requires { length octets.now ≤ 1440 }
     ensures { result.items ≡ little_24 octets.now }

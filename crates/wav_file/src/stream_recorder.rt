@@ -1,4 +1,4 @@
-//! The file of one stream's samples.
+//! The WAV file of a stream's samples.
 ghost use Rattle.std.specs.Prelude.{◌≡◌, ℕ, ℤ, List, [], Option, None, OnOk};
 ghost use Rattle.rtp_stream.specs.declared.stream_spec.Stream.{Stream};
 ghost use Rattle.studio_session.specs.Event.{TraceEvent};
@@ -16,8 +16,8 @@ use crate::writer::{WavFault, WavWriter};
 use std::io::Write;
 use studio_session::{Cursor, EventSource, MOST_ARRIVAL_OCTETS};
 
-/// Writes the file of the samples of all marks of a stream, before whose first event the cursor is, to a file that holds
-/// nothing: packets that are lost, and times between epochs, as silence.
+/// Writes the samples of all marks of a stream to an empty file. Lost packets, and the gaps between epochs, are
+/// silence. The cursor has to be before the first event. Returns an error if a write fails.
 pub fn write_stream_wav<E: EventSource, F: Overwrite>(
     file: &mut F,
     source: &E,
@@ -26,9 +26,11 @@ pub fn write_stream_wav<E: EventSource, F: Overwrite>(
     requires settled { cursor.old.reading ≡ None }
     requires ready { IsReadyFor (E.events source.now) cursor.old }
     ensures { OnOk result ((stream : Stream) (number : ℕ) (open_at : ℤ)
-        → IsRunnable stream number open_at (E.events source.now) → HasPulled stream number open_at (E.events source.now) cursor.old 0
+        → IsRunnable stream number open_at (E.events source.now)
+        → HasPulled stream number open_at (E.events source.now) cursor.old 0
         → Holds (F.Write.contents file.old) [] → Becomes (F.Write.contents file.old) (F.Write.contents file.new)
-        (wav_octets (stream_format stream) (stream_samples stream (stream_marks stream number open_at (E.events source.now))))) }
+        (wav_octets (stream_format stream)
+        (stream_samples stream (stream_marks stream number open_at (E.events source.now))))) }
 {
     let spec = cursor.spec();
     let format = WavFormat {
@@ -45,13 +47,14 @@ pub fn write_stream_wav<E: EventSource, F: Overwrite>(
     match add_marks(&mut track, file, source, cursor) {
         Ok(()) => track.wav.finish(file),
         Err(fault) => {
+            // The first error is returned, whether the sizes can be written or not.
             let _ = track.wav.finish_partial(file);
             Err(fault)
         }
     }
 }
 
-/// Adds the samples of all marks of a stream.
+/// Writes the samples of all marks of a stream.
 fn add_marks<E: EventSource, F: Write>(
     track: &mut StreamTrack,
     file: &mut F,
@@ -60,8 +63,10 @@ fn add_marks<E: EventSource, F: Write>(
 ) -> Result<(), WavFault>
     requires ready { IsReadyFor (E.events source.now) cursor.old }
     ensures { OnOk result ((stream : Stream) (number : ℕ) (open_at : ℤ)
-        → IsRunnable stream number open_at (E.events source.now) → HasPulled stream number open_at (E.events source.now) cursor.old 0
-        → HasTracked (F.contents file.old) (F.contents file.new) track.old track.new (stream_marks stream number open_at (E.events source.now))) }
+        → IsRunnable stream number open_at (E.events source.now)
+        → HasPulled stream number open_at (E.events source.now) cursor.old 0
+        → HasTracked (F.contents file.old) (F.contents file.new) track.old track.new
+        (stream_marks stream number open_at (E.events source.now))) }
 {
     let mut room = [0; MOST_ARRIVAL_OCTETS];
     'events: loop {
@@ -72,14 +77,17 @@ fn add_marks<E: EventSource, F: Write>(
     }
 }
 
-/// Adds the samples of the marks of the events that were taken.
+/// Writes the samples of all marks that are due after the events so far.
 fn add_taken<F: Write>(
     track: &mut StreamTrack,
     file: &mut F,
     cursor: &mut Cursor,
 ) -> Result<(), WavFault>
-    ensures ok { OnOk result ((stream : Stream) (number : ℕ) (open_at : ℤ) (events : List TraceEvent) (made : Option (List ℕ)) (first : StreamTrack)
-        → IsRunnable stream number open_at events → HasTaken stream number open_at events made first cursor.old (F.contents file.old) track.old
+    ensures ok { OnOk result
+        ((stream : Stream) (number : ℕ) (open_at : ℤ) (events : List TraceEvent) (made : Option (List ℕ))
+        (first : StreamTrack)
+        → IsRunnable stream number open_at events
+        → HasTaken stream number open_at events made first cursor.old (F.contents file.old) track.old
         → HasTakenAll stream number open_at events made first cursor.new (F.contents file.new) track.new) }
     ensures settled { OnOk result (cursor.new.reading ≡ None) }
     ensures kept { IsSameCursor cursor.old cursor.new }

@@ -1,4 +1,4 @@
-//! One stream's samples, mark by mark.
+//! The samples of a stream, written mark by mark.
 ghost use Rattle.std.specs.Prelude.{◌≡◌, ◌+◌, ◌≤◌, length, option_copied, Some, OnOk};
 ghost use Rattle.std.specs.Option.{option_to_list};
 ghost use Rattle.rtp_stream.specs.MarkFacts.{IsTime};
@@ -12,24 +12,25 @@ use crate::writer::{WavFault, WavWriter};
 use path_merge::{MarkKindRef, MarkRef};
 use std::io::Write;
 
-/// A stream's file while its samples are written.
+/// The WAV file of a stream while its samples are written.
 #[derive(Drop)]
 pub(crate) struct StreamTrack {
     pub(crate) wav: WavWriter,
-    /// Sampling instants per packet.
+    /// The number of sampling instants of a packet.
     pub(crate) frames: u16,
-    /// Where the last slot ends.
+    /// The media time at which the last slot ends, if there is one.
     pub(crate) end: Option<i64>,
 }
 
 impl StreamTrack {
-    /// Adds the samples of the next mark, if there is one.
+    /// Writes the samples of the next mark, if there is one.
     pub(crate) fn add_next<F: Write>(
         &mut self,
         file: &mut F,
         mark: Option<MarkRef<'_>>,
     ) -> Result<(), WavFault>
-        ensures { OnOk result (HasTracked (F.contents file.old) (F.contents file.new) self.old self.new (option_to_list mark.entry)) }
+        ensures { OnOk result
+            (HasTracked (F.contents file.old) (F.contents file.new) self.old self.new (option_to_list mark.entry)) }
     {
         let Some(mark) = mark else {
             return Ok(());
@@ -45,18 +46,21 @@ impl StreamTrack {
         }
     }
 
-    /// Adds silence up to a media time.
+    /// Writes silence up to a media time.
     fn add_gap<F: Write>(&mut self, file: &mut F, media: i64) -> Result<(), WavFault>
-        ensures added { OnOk result (HasAdded (F.contents file.old) (F.contents file.new) self.old.wav self.new.wav (gap_samples self.old.wav.format self.old.end media)) }
+        ensures added { OnOk result
+            (HasAdded (F.contents file.old) (F.contents file.new) self.old.wav self.new.wav
+            (gap_samples self.old.wav.format self.old.end media)) }
         ensures frames { self.new.frames ≡ self.old.frames }
     {
         match self.end {
             Some(end) => self.wav.push_silence(file, instants_between(end, media)),
+            // The file begins with the first slot.
             None => Ok(()),
         }
     }
 
-    /// Adds the samples of a packet's payload, or as much silence.
+    /// Writes the samples of a packet's payload, or as much silence if the packet is lost.
     fn add_body<F: Write>(&mut self, file: &mut F, payload: Option<&[u8]>) -> Result<(), WavFault>
         requires short { IsShort (body_from (option_copied payload)) }
         ensures added { OnOk result (HasAdded (F.contents file.old) (F.contents file.new) self.old.wav self.new.wav
@@ -70,7 +74,7 @@ impl StreamTrack {
     }
 }
 
-/// The sampling instants from one time to another; none where that comes earlier.
+/// Returns the number of sampling instants from one time to another, or 0 if that is earlier.
 fn instants_between(from: i64, to: i64) -> u64
     ensures { result ≡ frames_between from to }
 {

@@ -1,4 +1,4 @@
-//! From a trace to its listing, with a WAV file of one stream beside it.
+//! The listing of a trace, with a WAV file of one stream.
 ghost use Rattle.std.specs.Prelude.{◌≡◌, ◌<◌, ◌≤◌, Some, None, slice_get, IfErr, IfOk};
 ghost use Rattle.rtp_stream.specs.declared.stream_spec.Stream.{Stream};
 ghost use Rattle.studio_session.specs.Play.{HasPathsBy, IsRunnableBy};
@@ -14,11 +14,12 @@ use studio_config::StudioSpec;
 use studio_run::{TextBuffer, TracedEvents, read_all, runnable_events, write_whole_listing};
 use studio_session::{Cursor, studio_cursors};
 
-/// The most channels of a stream that a file is written of.
+/// The greatest number of channels of a stream in a WAV file.
 const MOST_CHANNELS: u8 = 8;
 
-/// Reads a trace to its end, writes the samples of one stream to a file, and then the listing of all marks as
-/// `list_marks` does. The file is made once nothing but a write can fail.
+/// Reads a trace to its end, writes the samples of the stream `number` to a file, which it returns, and then the
+/// listing of all marks as `list_marks` does. The file is created once only a write can fail. Returns the error of the
+/// stream, the trace, the listing or the file.
 pub fn list_to_wav<R: Read, W: Write, M: CreateFile>(
     alloc: Global,
     spec: &StudioSpec,
@@ -27,9 +28,14 @@ pub fn list_to_wav<R: Read, W: Write, M: CreateFile>(
     writer: &mut W,
     files: &M,
 ) -> Result<M::File, WavRunFault>
-    ensures ok { IfOk result (λ file. ListsAndRecordsTextOf spec.now number (R.remaining reader.old) (R.remaining reader.new) (W.contents writer.old) (W.contents writer.new) (M.File.Write.contents file)) }
-    ensures fault { IfErr result (FailsListing spec.now number (R.remaining reader.old) (R.remaining reader.new) (W.contents writer.old) (W.contents writer.new)) }
+    ensures ok { IfOk result
+        (λ file. ListsAndRecordsTextOf spec.now number (R.remaining reader.old) (R.remaining reader.new)
+        (W.contents writer.old) (W.contents writer.new) (M.File.Write.contents file)) }
+    ensures fault { IfErr result
+        (FailsListing spec.now number (R.remaining reader.old) (R.remaining reader.new) (W.contents writer.old)
+        (W.contents writer.new)) }
 {
+    // The stream comes first: an unfit one is a fault before the trace is read.
     let stream = stream_at(spec, number)?;
     let trace = read_all(alloc, reader)?;
     let events = runnable_events(alloc, spec, trace.as_slice())?;
@@ -37,7 +43,7 @@ pub fn list_to_wav<R: Read, W: Write, M: CreateFile>(
     Ok(file)
 }
 
-/// The stream of a number, if a file can be written of it.
+/// Returns the stream with a number, or an error if there is none or it has more than 8 channels.
 fn stream_at(spec: &StudioSpec, number: u8) -> Result<StreamSpec, StreamWavFault>
     ensures ok { IfOk result (λ stream. slice_get spec.now.streams number ≡ Some stream) }
     ensures fault { IfErr result (IsUnfit spec.now number) }
@@ -49,7 +55,7 @@ fn stream_at(spec: &StudioSpec, number: u8) -> Result<StreamSpec, StreamWavFault
     }
 }
 
-/// Writes the samples of a stream, and the listing of events of which none is at fault. All memory is taken before.
+/// Writes the samples of a stream, and the listing of events without a fault.
 fn write_both<W: Write, M: CreateFile>(
     alloc: Global,
     spec: &StudioSpec,
@@ -62,9 +68,12 @@ fn write_both<W: Write, M: CreateFile>(
     requires is { slice_get spec.now.streams number ≡ Some stream }
     requires runnable { IsRunnableBy spec.now events.now }
     requires paths { HasPathsBy spec.now events.now }
-    ensures ok { IfOk result (λ file. ListsAndRecords spec.now events.now stream number (W.contents writer.old) (W.contents writer.new) (M.File.Write.contents file)) }
+    ensures ok { IfOk result
+        (λ file. ListsAndRecords spec.now events.now stream number (W.contents writer.old) (W.contents writer.new)
+        (M.File.Write.contents file)) }
     ensures fault { IfErr result (FailsBoth spec.now events.now (W.contents writer.old) (W.contents writer.new)) }
 {
+    // All memory is taken before the file is created.
     let mut cursors = studio_cursors(alloc, spec)?;
     let mut cursor = Cursor::new(alloc, stream, number, spec.open_at())?;
     let mut text = TextBuffer::new(alloc)?;

@@ -1,4 +1,4 @@
-//! A WAV file while it is written.
+//! The writer of a WAV file.
 ghost use Rattle.std.specs.Prelude.{◌≡◌, ◌+◌, ◌≤◌, ◌++◌, ℕ, List, [], length, take, OnOk, OnErr, IfOk};
 ghost use Rattle.std.specs.Io.KnownBytes.{Appends};
 ghost use Rattle.wav_file.specs.Samples.{little_samples};
@@ -13,24 +13,26 @@ use std::io::Write;
 use std::marker::Model;
 use thiserror::Error;
 
-/// The most octets of data to which more are added.
+/// The greatest number of octets of data to which more are added.
+// With a payload more it stays below 2^63, as a head requires.
 const MOST_OCTETS: u64 = 1 << 62;
 
-/// The most octets of silence that are written at once.
+/// The greatest number of octets of silence that are written at once: those of the longest payload.
 const MOST_ZEROS: usize = 1440;
 
-/// A write failed, or took no octet, or the file has more than 2^62 octets of data.
+/// The error of writing a WAV file: a write failed or took no octet, or the file has more than 2^62 octets of data.
 #[derive(Clone, Copy, Debug, PartialEq, Eq, Error)]
 #[error("write")]
 pub struct WavFault;
 
-/// A file whose head was written, and says no data yet.
+/// The writer of a WAV file, which is passed the file at each call.
 ///
-/// Input: `push`. Output: `finish`, after the last of them, or `finish_partial` after one that failed.
+/// `push` and `push_silence` write samples. Call `finish` after the last of them, or `finish_partial` after one that
+/// failed. Until then the head has the sizes of an empty file.
 #[derive(Debug, Drop)]
 pub struct WavWriter {
     format: WavFormat,
-    /// The octets of data.
+    /// The number of octets of data.
     count: u64,
 }
 
@@ -46,21 +48,26 @@ impl Model for WavWriter {
 }
 
 impl WavWriter {
-    /// Writes the head to a writer that holds nothing.
+    /// Writes the head to an empty file. Returns an error if a write fails.
     pub fn begin<W: Write>(format: WavFormat, writer: &mut W) -> Result<WavWriter, WavFault>
         ensures ok { OnOk result (Appends (W.contents writer.old) (W.contents writer.new) (head_octets format 0)) }
-        ensures fault { OnErr result ((n : ℕ) × Appends (W.contents writer.old) (W.contents writer.new) (take n (head_octets format 0))) }
+        ensures fault { OnErr result ((n : ℕ)
+            × Appends (W.contents writer.old) (W.contents writer.new) (take n (head_octets format 0))) }
         ensures empty { IfOk result (λ wav. wav ≡ record { format = format; count = 0 }) }
     {
         write_octets(writer, header_octets(format, 0).as_slice())?;
         Ok(WavWriter { format, count: 0 })
     }
 
-    /// Writes the samples of a packet's payload.
+    /// Writes the samples of a packet's payload, of at most 1,440 octets. Returns an error if a write fails or the file
+    /// has more than 2^62 octets of data.
     pub fn push<W: Write>(&mut self, writer: &mut W, payload: &[u8]) -> Result<(), WavFault>
         requires short { length payload.now ≤ 1440 }
-        ensures ok { OnOk result (Appends (W.contents writer.old) (W.contents writer.new) (little_samples self.old.format.enc payload.now)) }
-        ensures fault { OnErr result ((n : ℕ) × Appends (W.contents writer.old) (W.contents writer.new) (take n (little_samples self.old.format.enc payload.now))) }
+        ensures ok { OnOk result
+            (Appends (W.contents writer.old) (W.contents writer.new) (little_samples self.old.format.enc payload.now)) }
+        ensures fault { OnErr result ((n : ℕ)
+            × Appends (W.contents writer.old) (W.contents writer.new)
+            (take n (little_samples self.old.format.enc payload.now))) }
         ensures counted { OnOk result (self.new ≡ record { format = self.old.format; count = self.old.count + length (little_samples self.old.format.enc payload.now) }) }
         ensures same { OnErr result (self.new ≡ self.old) }
     {
@@ -73,13 +80,15 @@ impl WavWriter {
         Ok(())
     }
 
-    /// Writes so many sampling instants of silence.
+    /// Writes so many sampling instants of silence. Returns an error as `push` does.
     pub fn push_silence<W: Write>(&mut self, writer: &mut W, instants: u64) -> Result<(), WavFault>
-        ensures ok { OnOk result (Appends (W.contents writer.old) (W.contents writer.new) (silent_octets self.old.format instants)) }
+        ensures ok { OnOk result
+            (Appends (W.contents writer.old) (W.contents writer.new) (silent_octets self.old.format instants)) }
         ensures counted { OnOk result (self.new ≡ record { format = self.old.format; count = self.old.count + length (silent_octets self.old.format instants) }) }
         ensures fault { OnErr result (HasBroken (W.contents writer.old) (W.contents writer.new) self.old self.new) }
     {
         let frame = usize::from(self.format.frame_len());
+        // Without channels there are no samples, and no chunk would end the loop.
         if frame == 0 {
             return Ok(());
         }
@@ -94,7 +103,7 @@ impl WavWriter {
         Ok(())
     }
 
-    /// Sets the sizes at the end of the data.
+    /// Writes the sizes of the data to the head. Returns an error if a write fails.
     pub fn finish<W: Overwrite>(self, writer: &mut W) -> Result<(), WavFault>
         ensures { OnOk result ((octets : List ℕ) → IsBegun (W.Write.contents writer.old) self octets []
             → Becomes (W.Write.contents writer.old) (W.Write.contents writer.new) (wav_octets self.format octets)) }
@@ -103,10 +112,12 @@ impl WavWriter {
         self.finish_partial(writer)
     }
 
-    /// Sets the sizes to those of the data, whatever stands behind it: a part of a payload, after a fault.
+    /// Writes the sizes of the whole payloads to the head, after a failed call. A part of a payload may be behind them.
+    /// Returns an error if the write fails.
     pub fn finish_partial<W: Overwrite>(self, writer: &mut W) -> Result<(), WavFault>
         ensures { OnOk result ((octets rest : List ℕ) → IsBegun (W.Write.contents writer.old) self octets rest
-            → Becomes (W.Write.contents writer.old) (W.Write.contents writer.new) (head_octets self.format (length octets) ++ octets ++ rest)) }
+            → Becomes (W.Write.contents writer.old) (W.Write.contents writer.new)
+            (head_octets self.format (length octets) ++ octets ++ rest)) }
     {
         let head = header_octets(self.format, self.count);
         match writer.overwrite(head.as_slice()) {
@@ -115,7 +126,7 @@ impl WavWriter {
         }
     }
 
-    /// Writes an octet more after data of an odd length.
+    /// Writes an octet more after data of an odd length, since a chunk of RIFF has an even one.
     fn pad<W: Write>(&self, writer: &mut W) -> Result<(), WavFault>
         ensures { OnOk result (Appends (W.contents writer.old) (W.contents writer.new) (pad_octets self.now.count)) }
     {
@@ -127,10 +138,11 @@ impl WavWriter {
     }
 }
 
-/// Writes octets to their end. On a fault a part from their front was written.
+/// Writes all octets. After an error a prefix of them was written.
 fn write_octets<W: Write>(writer: &mut W, octets: &[u8]) -> Result<(), WavFault>
     ensures ok { OnOk result (Appends (W.contents writer.old) (W.contents writer.new) octets.now) }
-    ensures fault { OnErr result ((n : ℕ) × Appends (W.contents writer.old) (W.contents writer.new) (take n octets.now)) }
+    ensures fault { OnErr result ((n : ℕ)
+        × Appends (W.contents writer.old) (W.contents writer.new) (take n octets.now)) }
 {
     let mut done = 0;
     while done < octets.len() {
