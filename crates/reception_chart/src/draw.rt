@@ -1,4 +1,5 @@
-//! The text of SVG.
+//! The text of a chart, as SVG. The submodules draw its legend and its panels: the strip of each stream, the ticks
+//! below it, the arrival margins, and the counts.
 use std::alloc::AllocError;
 use std::io;
 use std::io::Write;
@@ -11,16 +12,16 @@ pub(crate) mod panel;
 mod strip;
 mod ticks;
 
-/// The width of a picture.
+/// The width of a chart, in the units of SVG, which browsers show as pixels.
 pub(crate) const WIDTH: u32 = 1200;
 
-/// The height above its panels: title and legend.
+/// The height above the panels, which the title and the legend take.
 pub(crate) const HEAD_HEIGHT: u32 = 96;
 
-/// The height below them.
+/// The height below the panels.
 pub(crate) const FOOT_HEIGHT: u32 = 12;
 
-/// Colours for light viewers, and behind them for dark ones.
+/// The style: colours for light viewers, and then those for dark ones.
 const STYLE: &str = "<style>\n\
     text{fill:#1a1a1a;font:12px sans-serif}.title{font-size:18px;font-weight:bold}.name{font-size:14px;font-weight:bold}\n\
     .soft{fill:#5c5c5c;font-size:11px}.counts{fill:#5c5c5c;font:10px monospace}.end{text-anchor:end}.middle{text-anchor:middle}\n\
@@ -33,12 +34,12 @@ const STYLE: &str = "<style>\n\
     .late{fill:#f0e442}.lost{fill:#ff5c5c}.refused{fill:#b79cf0}.restart{fill:#e8e8e8}}\n\
     </style>\n";
 
-/// A text that found no room is want of memory.
+/// Converts the error of a write to a `Vec`, which is an allocation failure.
 pub(crate) fn fmt_result(written: io::Result<()>) -> Result<(), AllocError> {
     written.map_err(|_| AllocError)
 }
 
-/// Begins a picture of this height.
+/// Appends the beginning of a chart of this height, up to its title.
 pub(crate) fn push_head(svg: &mut Vec<u8>, height: u32, streams: usize) -> Result<(), AllocError> {
     fmt_result(write!(
         svg,
@@ -53,12 +54,12 @@ pub(crate) fn push_head(svg: &mut Vec<u8>, height: u32, streams: usize) -> Resul
     ))
 }
 
-/// Ends it.
+/// Appends the end of a chart.
 pub(crate) fn push_foot(svg: &mut Vec<u8>) -> Result<(), AllocError> {
     svg.extend_from_slice(b"</svg>\n")
 }
 
-/// A text at a place, of a class.
+/// Appends a text of a class at a place.
 pub(crate) fn push_text(
     svg: &mut Vec<u8>,
     class: &str,

@@ -1,8 +1,8 @@
-//! Who is told what is seen of a stream.
+//! The observer of a stream's reception.
 use crate::reception::ReceptionEvent;
 
-/// Who is told what is seen.
+/// An observer of the events of a stream's reception.
 pub trait ReceptionObserver {
-    /// One thing more was seen.
+    /// Receives the next event.
     fn observe(&mut self, event: &ReceptionEvent);
 }

@@ -1,4 +1,5 @@
-//! What is seen of a stream.
+//! The events of a stream's reception. The submodules track these, count them by time (`bins`, on an `axis`) and by
+//! arrival margin (`margins`), and find their extent in time.
 ghost use Rattle.std.specs.Prelude.{◌≡◌, ◌<◌};
 ghost use Rattle.reception_chart.specs.Bins.{row_of};
 
@@ -12,36 +13,41 @@ pub(crate) mod panel_data;
 pub(crate) mod stream_tracker;
 pub(crate) mod studio_tracker;
 
-/// The rows behind those of the paths.
+/// The row of duplicates. The rows 0 to 3 are those of packets taken from the paths.
 pub const DOUBLE_ROW: usize = 4;
 
+/// The row of late packets.
 pub const LATE_ROW: usize = 5;
 
+/// The row of lost slots.
 pub const LOST_ROW: usize = 6;
 
+/// The row of packets that were refused for another reason.
 pub const REFUSED_ROW: usize = 7;
 
+/// The row of restarts.
 pub const RESTART_ROW: usize = 8;
 
-/// What a strip counts.
+/// The kind of an event, which has a row in a strip.
 #[derive(Clone, Copy, Debug, PartialEq, Eq)]
 pub enum ReceptionKind {
     /// A packet was taken from a path.
     Taken(Path),
-    /// A further copy of a packet came, as the first.
+    /// A duplicate of a packet arrived, with the same payload.
     Double,
-    /// A packet came after its deadline.
+    /// A packet arrived after its deadline.
     Late,
-    /// A packet was refused for another reason: unlike the first copy, off the grid, ahead, or of another source.
+    /// A packet was refused for another reason: it is a duplicate with a different payload, off the grid, too early for
+    /// the window, or of an unexpected source.
     Refused,
-    /// A slot was handed on as lost.
+    /// A slot is lost.
     Lost,
-    /// A packet opened a new epoch. It is seen as taken too.
+    /// A packet restarted the stream and so opened an epoch. It is an event as a taken packet too.
     Restart,
 }
 
 impl ReceptionKind {
-    /// Its row in a strip: of a packet that was taken its path's.
+    /// Returns the row of the kind in a strip: for a taken packet that of its path.
     pub fn row(self) -> usize
         ensures value { result ≡ row_of self }
         ensures within { result < 9 }
@@ -57,19 +63,24 @@ impl ReceptionKind {
     }
 }
 
-/// A copy that came in time or late.
+/// The path and the arrival margin of a copy.
 #[derive(Clone, Copy, Debug, PartialEq, Eq)]
 pub struct CopyTiming {
+    /// The path on which it arrived.
     pub path: Path,
-    /// From its arrival to its deadline, in sampling instants; of one that came late it says nothing.
+    /// The arrival margin: the time from its arrival to its deadline, in sampling instants at 48 kHz. It means nothing
+    /// for a late copy.
     pub spare: i64,
 }
 
-/// One thing that was seen of a stream.
+/// An event of a stream's reception.
 #[derive(Clone, Copy, Debug, PartialEq, Eq)]
 pub struct ReceptionEvent {
-    /// The media time of the packet or slot; the reading of the clock for a packet off the grid, or before the first.
+    /// The media time of the packet or slot. For a packet off the grid, too early for the window or of an unexpected
+    /// source, and before the first packet, it is the clock reading.
     pub time: i64,
+    /// The kind of the event.
     pub kind: ReceptionKind,
+    /// The path and the margin of a copy whose media time is known; none for other events.
     pub copied: Option<CopyTiming>,
 }

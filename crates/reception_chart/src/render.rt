@@ -1,4 +1,4 @@
-//! From a trace to its picture.
+//! The chart of a trace.
 ghost use Rattle.std.specs.Prelude.{IfErr, OnOk};
 ghost use Rattle.reception_chart.specs.Chart.{Draws, FailsDrawing};
 
@@ -12,15 +12,20 @@ use std::io::{Read, Write};
 use studio_config::StudioSpec;
 use studio_run::{PlayFault, TracedEvents, read_all, runnable_events, write_text};
 
-/// Reads a trace to its end, and writes the picture of it, as an SVG. All memory is taken before the first write.
+/// Reads a trace to its end, and writes its chart as an SVG. All memory is taken before the first write. Returns an
+/// error if a read, a write or an allocation fails, or the trace or an event has a fault.
 pub fn chart<R: Read, W: Write>(
     alloc: Global,
     spec: &StudioSpec,
     reader: &mut R,
     writer: &mut W,
 ) -> Result<(), PlayFault>
-    ensures ok { OnOk result (Draws spec.now (R.remaining reader.old) (R.remaining reader.new) (W.contents writer.old) (W.contents writer.new)) }
-    ensures fault { IfErr result (FailsDrawing spec.now (R.remaining reader.old) (R.remaining reader.new) (W.contents writer.old) (W.contents writer.new)) }
+    ensures ok { OnOk result
+        (Draws spec.now (R.remaining reader.old) (R.remaining reader.new) (W.contents writer.old)
+        (W.contents writer.new)) }
+    ensures fault { IfErr result
+        (FailsDrawing spec.now (R.remaining reader.old) (R.remaining reader.new) (W.contents writer.old)
+        (W.contents writer.new)) }
 {
     let trace = read_all(alloc, reader)?;
     let events = runnable_events(alloc, spec, trace.as_slice())?;
@@ -29,12 +34,13 @@ pub fn chart<R: Read, W: Write>(
     Ok(())
 }
 
-/// The text of the picture of events of which none is at fault.
+/// Returns the chart of events without a fault, as an SVG.
 fn chart_svg(
     alloc: Global,
     spec: &StudioSpec,
     events: &TracedEvents<'_>,
 ) -> Result<Vec<u8>, AllocError> {
+    // The events are taken twice, since the axis has to be known before events are counted on it.
     let mut reach = StudioTracker::measure(alloc, spec)?;
     reach.take_all(events);
     let mut seen = reach.for_drawing(alloc, spec)?;
@@ -43,7 +49,7 @@ fn chart_svg(
 }
 
 impl StudioTracker<PanelData> {
-    /// The text of the picture of what was seen, as an SVG.
+    /// Returns the chart of the events so far, as an SVG. Returns `AllocError` if an allocation fails.
     pub fn svg(&self, alloc: Global) -> Result<Vec<u8>, AllocError> {
         let mut svg = Vec::new(alloc);
         push_head(&mut svg, self.height(), self.streams.len())?;
@@ -57,7 +63,7 @@ impl StudioTracker<PanelData> {
         Ok(svg)
     }
 
-    /// The height of the picture.
+    /// Returns the height of the chart.
     fn height(&self) -> u32 {
         let mut height: u32 = HEAD_HEIGHT + FOOT_HEIGHT;
         for one in self.streams.iter() {

@@ -3,16 +3,16 @@ use crate::draw::fmt_result;
 use std::alloc::AllocError;
 use std::io::Write;
 
-/// Where bars begin.
+/// The place at which bars begin.
 pub(crate) const LEFT: u32 = 110;
 
-/// How wide all of them are.
+/// The width of all bars together.
 pub(crate) const PLOT_WIDTH: u32 = 880;
 
-/// The units of a bar's height.
+/// The greatest height of a bar, in units.
 pub(crate) const UNITS: u64 = 12;
 
-/// How high a bar is that stands for so much of all, one unit at least where it stands for some.
+/// Returns the height of a bar for `count` of `all`, in units: 0 if there are none, else at least `least`.
 pub(crate) fn height_of(count: u64, all: u64, least: u64) -> u8 {
     if count == 0 {
         return 0;
@@ -21,7 +21,7 @@ pub(crate) fn height_of(count: u64, all: u64, least: u64) -> u8 {
     part.max(least).min(UNITS) as u8
 }
 
-/// Draws bars of these heights over the whole width, on their ground. Those of one height side by side are one.
+/// Appends bars of these heights over the whole width, on their background. Neighbours of the same height are one bar.
 pub(crate) fn push_bars(
     svg: &mut Vec<u8>,
     class: &str,
@@ -29,6 +29,7 @@ pub(crate) fn push_bars(
     height: u32,
     heights: &[u8],
 ) -> Result<(), AllocError> {
+    // A nested `svg` stretches a bar's width of 1 and its units to the plot, so that coordinates are whole numbers.
     let count = heights.len();
     fmt_result(write!(
         svg,
@@ -40,7 +41,7 @@ pub(crate) fn push_bars(
     svg.extend_from_slice(b"\"/></svg>\n")
 }
 
-/// The outline of each run of bars of one height.
+/// Appends the outline of each run of bars of the same height.
 fn push_runs(svg: &mut Vec<u8>, heights: &[u8]) -> Result<(), AllocError> {
     let mut from = 0;
     for place in 0..heights.len() {
@@ -57,7 +58,7 @@ fn push_runs(svg: &mut Vec<u8>, heights: &[u8]) -> Result<(), AllocError> {
     Ok(())
 }
 
-/// The outline of bars from one place to another.
+/// Appends the outline of the bars from one place to another.
 fn push_run(svg: &mut Vec<u8>, from: usize, to: usize, height: u8) -> Result<(), AllocError> {
     if height == 0 {
         return Ok(());

@@ -1,4 +1,4 @@
-//! The counts of a stream, as its report has them.
+//! The counts of a stream, in the lines of its report.
 use crate::draw::fmt_result;
 use path_merge::Path;
 use std::alloc::{AllocError, Global};
@@ -6,10 +6,10 @@ use std::io::Write;
 use studio_run::{TextBuffer, write_merge_counts, write_path_counts};
 use studio_session::Cursor;
 
-/// From one line to the next.
+/// The distance of lines.
 const LINE_STEP: u32 = 13;
 
-/// How high the counts of so many paths are.
+/// Returns the height of the counts of a stream with so many paths.
 pub(crate) fn counts_height(paths: u8) -> u32 {
     u32::from(paths)
         .saturating_add(1)
@@ -17,7 +17,7 @@ pub(crate) fn counts_height(paths: u8) -> u32 {
         .saturating_add(4)
 }
 
-/// Writes the line of each path and that of the merge, from a height on. Each stands in a line of its own.
+/// Appends the line of each path and that of the merge, from a height on.
 pub(crate) fn push_counts(
     svg: &mut Vec<u8>,
     alloc: Global,
@@ -33,6 +33,7 @@ pub(crate) fn push_counts(
         };
         begin(svg, y)?;
         let counts = cursor.path_counts(path);
+        // A write to a `Vec` fails only if an allocation fails.
         write_path_counts(&mut text, svg, cursor.number(), path, &counts).map_err(|_| AllocError)?;
         end(svg, &mut text)?;
         y = y.saturating_add(LINE_STEP);
@@ -44,12 +45,12 @@ pub(crate) fn push_counts(
     end(svg, &mut text)
 }
 
-/// Begins a line of counts.
+/// Appends the beginning of a line of counts.
 fn begin(svg: &mut Vec<u8>, y: u32) -> Result<(), AllocError> {
     fmt_result(write!(svg, "<text class=\"counts\" x=\"24\" y=\"{y}\">\n"))
 }
 
-/// Ends it, with what was held.
+/// Appends the rest of a line's text and its end.
 fn end(svg: &mut Vec<u8>, text: &mut TextBuffer) -> Result<(), AllocError> {
     text.finish(svg).map_err(|_| AllocError)?;
     svg.extend_from_slice(b"</text>\n")

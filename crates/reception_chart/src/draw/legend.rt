@@ -1,9 +1,9 @@
-//! What the rows mean.
+//! The legend of a chart: the meaning of its rows.
 use crate::draw::{fmt_result, push_text};
 use std::alloc::AllocError;
 use std::io::Write;
 
-/// The class and meaning of each row, and where it stands.
+/// The class, the meaning and the place of each row.
 const ENTRIES: [(&str, &str, u32); 9] = [
     ("from_a", "a", 24),
     ("from_b", "b", 56),
@@ -16,7 +16,7 @@ const ENTRIES: [(&str, &str, u32); 9] = [
     ("restart", "restart", 1096),
 ];
 
-/// Writes the legend below the title.
+/// Appends the legend, below the title.
 pub(crate) fn push_legend(svg: &mut Vec<u8>) -> Result<(), AllocError> {
     for (class, meaning, x) in ENTRIES.iter() {
         let (class, x) = (*class, *x);

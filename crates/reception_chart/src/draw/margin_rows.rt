@@ -1,4 +1,4 @@
-//! How long before their deadlines the copies of each path came.
+//! The rows of arrival margins: the time from the arrival of each path's copies to their deadlines.
 use crate::draw::bars::{LEFT, PLOT_WIDTH, height_of, push_bars};
 use crate::draw::{fmt_result, push_text};
 use crate::reception::margins::{MARGIN_BINS, Margins, PathMargins};
@@ -6,10 +6,10 @@ use path_merge::Path;
 use std::alloc::AllocError;
 use std::io::Write;
 
-/// From one path's row to the next.
+/// The distance of the paths' rows.
 const SPARE_STEP: u32 = 24;
 
-/// The class and name of each path's row.
+/// The class and the name of each path's row.
 const PATHS: [(&str, &str); 4] = [
     ("from_a", "a, spare"),
     ("from_b", "b, spare"),
@@ -17,14 +17,14 @@ const PATHS: [(&str, &str); 4] = [
     ("from_d", "d, spare"),
 ];
 
-/// How high the rows of so many paths are, with their scale.
+/// Returns the height of the rows of a stream with so many paths, with their scale.
 pub(crate) fn spare_height(paths: u8) -> u32 {
     u32::from(paths)
         .saturating_mul(SPARE_STEP)
         .saturating_add(18)
 }
 
-/// Draws them from a height on.
+/// Appends the row of each path and the scale, from a height on.
 pub(crate) fn push_margins(
     svg: &mut Vec<u8>,
     top: u32,
@@ -42,7 +42,7 @@ pub(crate) fn push_margins(
     push_scale(svg, y, margins)
 }
 
-/// Draws a path's row: its bars by the greatest of them, and what its copies came to.
+/// Appends a path's row: its bars in proportion to the greatest of them, its counts and its least margin.
 fn push_path(svg: &mut Vec<u8>, y: u32, class: &str, path: &PathMargins) -> Result<(), AllocError> {
     let mut most = 0;
     for count in path.bins.iter() {
@@ -70,7 +70,7 @@ fn push_path(svg: &mut Vec<u8>, y: u32, class: &str, path: &PathMargins) -> Resu
     Ok(())
 }
 
-/// Names both ends of the scale.
+/// Appends the times at both ends of the scale.
 fn push_scale(svg: &mut Vec<u8>, y: u32, margins: &Margins) -> Result<(), AllocError> {
     let (ms, us) = millis(margins.span().saturating_mul(MARGIN_BINS as u64));
     push_text(
@@ -88,8 +88,9 @@ fn push_scale(svg: &mut Vec<u8>, y: u32, margins: &Margins) -> Result<(), AllocE
     ))
 }
 
-/// Sampling instants at 48 kHz as milliseconds, and thousandths of one.
+/// Returns sampling instants at 48 kHz in milliseconds, and the thousandths of a millisecond behind these.
 pub(crate) fn millis(instants: u64) -> (u64, u64) {
+    // A sampling instant is 125/6 microseconds.
     let micros = instants.saturating_mul(125) / 6;
     (micros / 1000, micros % 1000)
 }

@@ -1,4 +1,4 @@
-//! All that is drawn of a stream.
+//! The panel of a stream: its name, strip, ticks, arrival margins and counts.
 use crate::draw::count_lines::{counts_height, push_counts};
 use crate::draw::fmt_result;
 use crate::draw::margin_rows::{millis, push_margins, spare_height};
@@ -14,10 +14,10 @@ use studio_session::Cursor;
 /// The height of a panel's name.
 const NAME_HEIGHT: u32 = 24;
 
-/// From a panel to the next.
+/// The gap between panels.
 const GAP: u32 = 24;
 
-/// How high the panel of a stream of so many paths is.
+/// Returns the height of the panel of a stream with so many paths.
 pub(crate) fn panel_height(paths: u8) -> u32 {
     (NAME_HEIGHT + TICKS_HEIGHT + GAP)
         .saturating_add(strip_height(paths))
@@ -25,7 +25,7 @@ pub(crate) fn panel_height(paths: u8) -> u32 {
         .saturating_add(counts_height(paths))
 }
 
-/// Draws the panel of a stream, all of whose events were taken.
+/// Appends the panel of a stream whose events were all taken.
 pub(crate) fn push_panel(
     svg: &mut Vec<u8>,
     alloc: Global,
@@ -49,7 +49,7 @@ pub(crate) fn push_panel(
     svg.extend_from_slice(b"</g>\n")
 }
 
-/// Writes what a stream is.
+/// Appends the name of a stream, with its paths, format and latency.
 fn push_name(svg: &mut Vec<u8>, top: u32, number: u8, spec: &StreamSpec) -> Result<(), AllocError> {
     let y = top.saturating_add(15);
     let enc = match spec.enc() {

@@ -8,10 +8,10 @@ use crate::reception::{DOUBLE_ROW, LATE_ROW, LOST_ROW, REFUSED_ROW, RESTART_ROW}
 use std::alloc::{AllocError, Global};
 use std::io::Write;
 
-/// From one row to the next.
+/// The distance of rows.
 pub(crate) const ROW_STEP: u32 = 16;
 
-/// The rows of paths: class and name.
+/// The class and the name of each path's row.
 const PATHS: [(&str, &str); 4] = [
     ("from_a", "from a"),
     ("from_b", "from b"),
@@ -19,12 +19,12 @@ const PATHS: [(&str, &str); 4] = [
     ("from_d", "from d"),
 ];
 
-/// How high a strip of so many paths is.
+/// Returns the height of the strip of a stream with so many paths: a row for each, and five more.
 pub(crate) fn strip_height(paths: u8) -> u32 {
     u32::from(paths).saturating_add(5).saturating_mul(ROW_STEP)
 }
 
-/// Draws a strip from a height on.
+/// Appends a strip, from a height on.
 pub(crate) fn push_strip(
     svg: &mut Vec<u8>,
     alloc: Global,
@@ -41,7 +41,7 @@ pub(crate) fn push_strip(
     push_common(svg, alloc, y, paths, bins)
 }
 
-/// Draws the rows that every strip has.
+/// Appends the rows behind those of the paths.
 fn push_common(
     svg: &mut Vec<u8>,
     alloc: Global,
@@ -58,7 +58,7 @@ fn push_common(
     Ok(())
 }
 
-/// The name of a row behind those of the paths, which is its class too.
+/// Returns the name of a row behind those of the paths, which is also its class.
 fn name_of(row: usize) -> &'static str {
     match row {
         DOUBLE_ROW => "double",
@@ -69,7 +69,7 @@ fn name_of(row: usize) -> &'static str {
     }
 }
 
-/// Draws a row: its name, its bars, and how much of it was seen in all.
+/// Appends a row: its name, its bars and its total.
 fn push_row(
     svg: &mut Vec<u8>,
     alloc: Global,
@@ -93,7 +93,8 @@ fn push_row(
     ))
 }
 
-/// How high each bar of a row is: by its part of the packets of its span, and half at least where it tells of a fault.
+/// Returns the height of each bar of a row: its part of the packets of its interval, and at least half if it shows a
+/// fault.
 fn heights_of(alloc: Global, paths: u8, bins: &Bins, row: usize) -> Result<Vec<u8>, AllocError>
     requires { row < 9 }
 {
@@ -106,18 +107,20 @@ fn heights_of(alloc: Global, paths: u8, bins: &Bins, row: usize) -> Result<Vec<u
     Ok(heights)
 }
 
-/// How high the bar of so much of a row is in a span of so many packets.
+/// Returns the height of the bar for a row's count in an interval with so many packets.
 fn height_in(count: u64, packets: u64, paths: u8, row: usize) -> u8 {
+    // Each packet can have a duplicate from every path but one.
     let copies = u64::from(paths).saturating_sub(1).max(1);
     match row {
         DOUBLE_ROW => height_of(count, packets.saturating_mul(copies), 1),
         LATE_ROW | LOST_ROW | REFUSED_ROW => height_of(count, packets, UNITS / 2),
+        // A restart is a single packet: its part of an interval would be too low to notice.
         RESTART_ROW => height_of(count, 1, UNITS),
         _ => height_of(count, packets, 1),
     }
 }
 
-/// How many packets a span has: what was taken or lost.
+/// Returns the number of packets of an interval, which were taken or lost.
 fn packets_in(bins: &Bins, bin: usize) -> u64
     requires { bin < bins.now.axis.bins }
 {

@@ -1,18 +1,19 @@
-//! Seconds below a strip.
+//! The ticks below a strip, with their times in seconds.
 use crate::draw::bars::{LEFT, PLOT_WIDTH};
 use crate::draw::fmt_result;
 use crate::reception::axis::Axis;
 use std::alloc::AllocError;
 use std::io::Write;
 
-/// The most ticks behind the first.
+/// The greatest number of ticks behind the first.
 const MOST_TICKS: u64 = 8;
 
-/// The height of ticks and their times.
+/// The height of the ticks with their times.
 pub(crate) const TICKS_HEIGHT: u32 = 22;
 
-/// Draws a tick at round times from the axis' beginning, and writes these in seconds.
+/// Appends a tick at each round time from the beginning of the axis on, with this time in seconds.
 pub(crate) fn push_ticks(svg: &mut Vec<u8>, top: u32, axis: &Axis) -> Result<(), AllocError> {
+    // A sampling instant at 48 kHz is 125/6 microseconds.
     let micros = axis.length().saturating_mul(125) / 6;
     let step = step_of(micros);
     for number in 0..MOST_TICKS + 1 {
@@ -25,7 +26,7 @@ pub(crate) fn push_ticks(svg: &mut Vec<u8>, top: u32, axis: &Axis) -> Result<(),
     Ok(())
 }
 
-/// The least of 1, 2, 5, 10 and so on, in microseconds, of which no more than the most ticks fit.
+/// Returns the least step of 1, 2, 5, 10 and so on, in microseconds, that gives at most 8 ticks behind the first.
 fn step_of(micros: u64) -> u64 {
     let mut ten: u64 = 1;
     for _ in 0..18 {
@@ -40,7 +41,7 @@ fn step_of(micros: u64) -> u64 {
     ten
 }
 
-/// Draws one tick.
+/// Appends a tick and its time.
 fn push_tick(svg: &mut Vec<u8>, top: u32, time: u64, micros: u64) -> Result<(), AllocError> {
     let along = time.saturating_mul(u64::from(PLOT_WIDTH)) / micros.max(1);
     let x = LEFT.saturating_add(u32::try_from(along).unwrap_or(0));
@@ -53,7 +54,7 @@ fn push_tick(svg: &mut Vec<u8>, top: u32, time: u64, micros: u64) -> Result<(), 
     svg.extend_from_slice(b" s</text>\n")
 }
 
-/// A time in seconds, with as many places as it needs.
+/// Appends a time in seconds, with as many places as it needs.
 fn push_seconds(svg: &mut Vec<u8>, micros: u64) -> Result<(), AllocError> {
     let (whole, rest) = (micros / 1_000_000, micros % 1_000_000);
     if rest == 0 {

@@ -1,18 +1,18 @@
-//! Media time in spans of one length.
+//! The axis of a chart: media time in intervals of the same length.
 ghost use Rattle.std.specs.Prelude.{◌≡◌, ◌<◌, ◌≤◌};
 ghost use Rattle.reception_chart.specs.Axis.{length_between, span_of};
 
-/// The most spans of an axis.
+/// The greatest number of intervals of an axis.
 pub const MOST_BINS: usize = 480;
 
-/// A stretch of media time in spans side by side, in sampling instants.
+/// A stretch of media time in adjacent intervals, in sampling instants at 48 kHz.
 #[derive(Clone, Copy, Debug, PartialEq, Eq)]
 pub struct Axis {
-    /// Where the first span begins.
+    /// The media time at which the first interval begins.
     pub first: i64,
-    /// How long each is.
+    /// The length of each interval.
     pub span: u64,
-    /// How many there are.
+    /// The number of intervals.
     pub bins: usize,
     pub ghost long: { 0 < span },
     pub ghost some: { 0 < bins },
@@ -20,10 +20,12 @@ pub struct Axis {
 }
 
 impl Axis {
-    /// The axis of a stretch, whose spans are whole numbers of packets of so many sampling instants.
+    /// The axis from one media time to another, with at most 480 intervals, each of which has whole packets of `frames`
+    /// sampling instants.
     pub fn of(first: i64, last: i64, frames: u16) -> Axis
         ensures { result.first ≡ first }
     {
+        // Whole packets: otherwise intervals would have one packet more or less by turns.
         let frames = u64::from(frames).max(1);
         let length = length_between(first, last).max(1);
         let packets = length.div_ceil(frames);
@@ -35,12 +37,12 @@ impl Axis {
         Axis { first, span, bins }
     }
 
-    /// How many instants all take.
+    /// Returns the length of all intervals, in sampling instants.
     pub fn length(&self) -> u64 {
         self.span.saturating_mul(self.bins as u64)
     }
 
-    /// The span of a time; what lies before the first or behind the last is of that.
+    /// Returns the interval of a media time; a time before the first or behind the last one belongs to that.
     pub fn bin_of(&self, time: i64) -> usize
         ensures value { result ≡ span_of self.now.first self.now.span self.now.bins time }
         ensures within { result < self.now.bins }
@@ -50,7 +52,7 @@ impl Axis {
     }
 }
 
-/// From one time to another: nothing where that is earlier.
+/// Returns the time from one media time to another, or 0 if that is earlier.
 fn length_between(first: i64, last: i64) -> u64
     ensures { result ≡ length_between first last }
 {

@@ -1,4 +1,4 @@
-//! What was seen of a stream, by span and kind.
+//! The counts of a stream's events by time interval and kind.
 ghost use Rattle.std.specs.Prelude.{◌≡◌, ◌+◌, ◌<◌, ◌^◌, ◌++◌, ◌∷◌, [], List, length, IfOk};
 ghost use Rattle.reception_chart.specs.Bins.{HasCounted, Seen, count_in};
 
@@ -7,10 +7,10 @@ use crate::reception::axis::Axis;
 use std::alloc::{AllocError, Global};
 use std::marker::Model;
 
-/// The rows of a span: one for each path's packets, and one for each other kind.
+/// The number of rows of an interval: one for the packets taken from each path, and one for each other kind.
 pub const ROWS: usize = 9;
 
-/// How much of each kind was seen in each span of an axis.
+/// The number of events of each kind in each interval of an axis.
 #[derive(Drop)]
 pub struct Bins {
     axis: Axis,
@@ -29,7 +29,7 @@ impl Model for Bins {
 }
 
 impl Bins {
-    /// Nothing was seen.
+    /// The counts before the first event. Returns `AllocError` if an allocation fails.
     pub fn new(alloc: Global, axis: Axis) -> Result<Bins, AllocError>
         ensures counted { IfOk result (λ bins. HasCounted bins []) }
         ensures axis { IfOk result (λ bins. bins.axis ≡ axis) }
@@ -39,23 +39,24 @@ impl Bins {
         Ok(Bins { axis, counts })
     }
 
-    /// Its axis.
+    /// Returns the axis.
     pub fn axis(&self) -> Axis
         ensures { result ≡ self.now.axis }
     {
         self.axis
     }
 
-    /// Counts what was seen at a time, in its span.
+    /// Counts an event of a kind at a media time.
     pub fn add(&mut self, time: i64, kind: ReceptionKind)
-        ensures counted { (seen : List Seen) → length seen + 1 < 2 ^ 64 → HasCounted self.old seen → HasCounted self.new (seen ++ record { time = time; kind = kind } ∷ []) }
+        ensures counted { (seen : List Seen) → length seen + 1 < 2 ^ 64 → HasCounted self.old seen
+            → HasCounted self.new (seen ++ record { time = time; kind = kind } ∷ []) }
         ensures axis { self.new.axis ≡ self.old.axis }
     {
         let place = ROWS * self.axis.bin_of(time) + kind.row();
         self.counts[place] = self.counts[place].saturating_add(1);
     }
 
-    /// How much of a row was seen in a span.
+    /// Returns the number of events of a row in an interval.
     pub fn count(&self, bin: usize, row: usize) -> u64
         requires bin { bin < self.now.axis.bins }
         requires row { row < 9 }
@@ -64,7 +65,7 @@ impl Bins {
         self.counts[ROWS * bin + row]
     }
 
-    /// How much of a row was seen in all.
+    /// Returns the number of events of a row in all intervals.
     pub fn total(&self, row: usize) -> u64
         requires { row < 9 }
     {

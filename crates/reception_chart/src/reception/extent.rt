@@ -1,19 +1,21 @@
-//! How far what is seen of a stream reaches.
+//! The extent of a stream's events in media time.
 use crate::observer::ReceptionObserver;
 use crate::reception::{ReceptionEvent, ReceptionKind};
 
-/// The media time of what was taken or lost, in sampling instants, and the most that a copy had to spare.
+/// The media time from the first to the last packet that was taken or lost, in sampling instants at 48 kHz, and the
+/// greatest arrival margin.
 #[derive(Clone, Copy, Debug, PartialEq, Eq)]
 pub struct Extent {
     /// The sampling instants of a packet.
     frames: u16,
     first: Option<i64>,
     last: i64,
+    /// The greatest arrival margin.
     most: i64,
 }
 
 impl Extent {
-    /// Nothing was seen of a stream with packets of so many sampling instants.
+    /// The extent before the first event of a stream with packets of so many sampling instants.
     pub fn new(frames: u16) -> Extent {
         Extent {
             frames,
@@ -23,17 +25,17 @@ impl Extent {
         }
     }
 
-    /// Where the first packet begins, if there is one.
+    /// Returns the media time at which the first packet begins, if there is one.
     pub fn first(&self) -> Option<i64> {
         self.first
     }
 
-    /// Where the last one ends.
+    /// Returns the media time at which the last packet ends, or 0 if there is none.
     pub fn last(&self) -> i64 {
         self.last
     }
 
-    /// The most that a copy had to spare.
+    /// Returns the greatest arrival margin of a copy in time, or 0 if there is none.
     pub fn most(&self) -> i64 {
         self.most
     }

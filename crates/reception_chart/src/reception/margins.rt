@@ -1,25 +1,26 @@
-//! How long before their deadlines a stream's copies came, path by path.
+//! The arrival margins of a stream's copies by path: the times from their arrival to their deadlines.
 use crate::reception::{CopyTiming, ReceptionEvent, ReceptionKind};
 use path_merge::Path;
 
-/// The spans of the time before a deadline.
+/// The number of intervals of the time before a deadline.
 pub const MARGIN_BINS: usize = 96;
 
-/// What one path's copies had to spare.
+/// The arrival margins of a path's copies.
 #[derive(Clone, Copy, Debug, PartialEq, Eq)]
 pub struct PathMargins {
-    /// Copies that came in time, by how long before their deadlines.
+    /// The number of copies in time in each interval before their deadlines; the first interval is next to the
+    /// deadline.
     pub bins: [u64; MARGIN_BINS],
-    /// All of them.
+    /// The number of all copies in time.
     pub in_time: u64,
-    /// Copies that came late.
+    /// The number of late copies.
     pub late: u64,
-    /// The least that a copy in time had to spare, in sampling instants.
+    /// The least arrival margin of a copy in time, in sampling instants at 48 kHz, if there is one.
     pub least: Option<i64>,
 }
 
 impl PathMargins {
-    /// No copy came.
+    /// The margins of a path before its first copy.
     fn new() -> PathMargins {
         PathMargins {
             bins: [0; MARGIN_BINS],
@@ -29,7 +30,7 @@ impl PathMargins {
         }
     }
 
-    /// A copy came in time, with so much to spare of what is the most.
+    /// Counts a copy in time by its arrival margin, in intervals of `span` sampling instants.
     fn add(&mut self, spare: i64, span: u64) {
         let spans = u64::try_from(spare)
             .unwrap_or(0)
@@ -45,16 +46,17 @@ impl PathMargins {
     }
 }
 
-/// What the copies of a stream's paths had to spare.
+/// The arrival margins of the copies of each path of a stream.
 #[derive(Drop)]
 pub struct Margins {
-    /// The sampling instants of a span.
+    /// The length of an interval, in sampling instants.
     span: u64,
     paths: [PathMargins; 4],
 }
 
 impl Margins {
-    /// No copy came; none will have more to spare than this.
+    /// The margins before the first copy, in intervals up to a greatest margin. A greater one belongs to the last
+    /// interval.
     pub fn new(most: i64) -> Margins {
         let span = (u64::try_from(most).unwrap_or(0) / MARGIN_BINS as u64).saturating_add(1);
         Margins {
@@ -63,12 +65,12 @@ impl Margins {
         }
     }
 
-    /// The sampling instants of a span.
+    /// Returns the length of an interval, in sampling instants at 48 kHz.
     pub fn span(&self) -> u64 {
         self.span
     }
 
-    /// Counts a copy, if one was seen.
+    /// Counts the copy of an event, if it has one.
     pub fn add(&mut self, event: &ReceptionEvent) {
         let Some(copied) = event.copied else {
             return;
@@ -83,7 +85,7 @@ impl Margins {
         self.paths[place] = path;
     }
 
-    /// What a path's copies had to spare.
+    /// Returns the arrival margins of a path's copies.
     pub fn path(&self, path: Path) -> &PathMargins {
         &self.paths[usize::from(path.number())]
     }

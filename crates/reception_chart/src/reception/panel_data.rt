@@ -1,4 +1,4 @@
-//! All that a panel draws of a stream.
+//! The data of a stream's panel.
 use crate::observer::ReceptionObserver;
 use crate::reception::ReceptionEvent;
 use crate::reception::axis::Axis;
@@ -6,7 +6,7 @@ use crate::reception::bins::Bins;
 use crate::reception::margins::Margins;
 use std::alloc::{AllocError, Global};
 
-/// What was seen of a stream, by span, and what its copies had to spare.
+/// The data of a stream's panel: its events by time and kind, and the arrival margins of its copies.
 #[derive(Drop)]
 pub struct PanelData {
     pub(crate) bins: Bins,
@@ -14,7 +14,7 @@ pub struct PanelData {
 }
 
 impl PanelData {
-    /// Nothing was seen.
+    /// The data before the first event. Returns `AllocError` if an allocation fails.
     pub(crate) fn new(alloc: Global, axis: Axis, most: i64) -> Result<PanelData, AllocError> {
         let bins = Bins::new(alloc, axis)?;
         Ok(PanelData {

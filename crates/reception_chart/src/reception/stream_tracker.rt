@@ -1,4 +1,4 @@
-//! What is seen of a stream while its events are taken.
+//! The tracker of a stream, which takes its events and reports its reception to an observer.
 ghost use Rattle.std.specs.Prelude.{◌≡◌, ◌+◌, ◌<◌, None, true, length, IfOk};
 ghost use Rattle.studio_session.specs.Cursor.{IsSameCursor};
 
@@ -12,7 +12,7 @@ use studio_session::{
     ArriveOutcome, Cursor, EventHeader, EventSource, MOST_ARRIVAL_OCTETS, ReceptionRef, receive_ref,
 };
 
-/// The media time of one packet of an epoch, by which those of its others are known.
+/// The timestamp and the media time of a packet, which give the media times of all others of its epoch.
 #[derive(Clone, Copy)]
 struct GridReference {
     ts: u32,
@@ -20,8 +20,9 @@ struct GridReference {
 }
 
 impl GridReference {
-    /// The media time of a packet of the same grid.
+    /// Returns the media time of a packet of the same grid by its timestamp.
     fn media_of(&self, ts: u32) -> i64 {
+        // Timestamps wrap after 2^32, so a difference of 2^31 or more is a packet before the reference.
         let past = i64::from(ts.wrapping_sub(self.ts));
         if past < 2_147_483_648 {
             self.media.saturating_add(past)
@@ -31,18 +32,20 @@ impl GridReference {
     }
 }
 
-/// Where a stream's clock and grid stand.
+/// The clock reading and the grid of a stream.
 #[derive(Clone, Copy)]
 struct GridState {
+    /// The last clock reading, or the opening time.
     time: i64,
+    /// The packet that was taken last, if there is one.
     ruler: Option<GridReference>,
 }
 
-/// A stream that is watched, event by event.
+/// A stream with its merge, which takes events one by one and reports what becomes of them.
 #[derive(Drop)]
 pub struct StreamTracker {
     pub(crate) cursor: Cursor,
-    /// How many events were taken.
+    /// The number of events that were taken, those of other streams too.
     place: usize,
     view: GridState,
     pub(crate) ghost counted: { cursor.place ≡ place },
@@ -50,7 +53,7 @@ pub struct StreamTracker {
 }
 
 impl StreamTracker {
-    /// A stream of a studio, before the first event.
+    /// A stream of a studio before the first event. Returns `AllocError` if an allocation fails.
     pub fn new(
         alloc: Global,
         spec: &StudioSpec,
@@ -70,12 +73,13 @@ impl StreamTracker {
         })
     }
 
-    /// The stream.
+    /// Returns the stream.
     pub(crate) fn spec(&self) -> StreamSpec {
         self.cursor.spec()
     }
 
-    /// Takes a datagram that came on a path of a stream, and tells what became of its packet if the stream is this one.
+    /// Takes a datagram that arrived on a path of a stream, and reports the fate of its packet if the stream is this
+    /// one.
     pub fn arrived<O: ReceptionObserver>(
         &mut self,
         stream: usize,
@@ -90,7 +94,7 @@ impl StreamTracker {
         }
     }
 
-    /// Takes a reading of the clock, and tells of the slots that are lost by then.
+    /// Takes a clock reading, in sampling instants at 48 kHz, and reports the slots that are lost by then.
     pub fn read<O: ReceptionObserver>(&mut self, now: i64, observer: &mut O)
         ensures place { self.old.cursor.place < usize.MAX → self.new.cursor.place ≡ self.old.cursor.place + 1 }
     {
@@ -103,7 +107,7 @@ impl StreamTracker {
         self.view.time = now;
     }
 
-    /// Takes the close, and tells of the slots that are lost by then.
+    /// Takes the close, and reports the slots that are lost by then.
     pub fn closed<O: ReceptionObserver>(&mut self, observer: &mut O)
         ensures place { self.old.cursor.place < usize.MAX → self.new.cursor.place ≡ self.old.cursor.place + 1 }
     {
@@ -115,7 +119,7 @@ impl StreamTracker {
         see_lost(&mut self.cursor, observer);
     }
 
-    /// Whether a path is one of the stream's.
+    /// Returns true if the path of a stream is a path of this one.
     fn has(&self, stream: usize, path: Path) -> bool
         ensures { result ≡ true → path < self.now.cursor.spec.paths }
     {
@@ -134,7 +138,7 @@ impl StreamTracker {
         self.place += 1;
     }
 
-    /// Passes over another stream's datagram.
+    /// Counts the event of another stream's datagram.
     fn pass_over(&mut self)
         ensures place { self.old.cursor.place < usize.MAX → self.new.cursor.place ≡ self.old.cursor.place + 1 }
     {
@@ -146,8 +150,7 @@ impl StreamTracker {
     }
 }
 
-/// Takes all events of a stream from the first on, and tells what is seen of each of its arrivals and of each slot that is
-/// handed on as lost.
+/// Takes all events of a source from the first on, and reports the stream's packets and lost slots to an observer.
 pub fn track_stream<E: EventSource, O: ReceptionObserver>(
     tracker: &mut StreamTracker,
     source: &E,
@@ -172,7 +175,7 @@ pub fn track_stream<E: EventSource, O: ReceptionObserver>(
     }
 }
 
-/// Tells of the slots that are handed on as lost.
+/// Reports the lost slots among the marks that are due, and passes over all of these.
 fn see_lost<O: ReceptionObserver>(cursor: &mut Cursor, observer: &mut O)
     ensures kept { IsSameCursor cursor.old cursor.new }
     ensures settled { cursor.new.reading ≡ None }
@@ -198,7 +201,7 @@ fn see_lost<O: ReceptionObserver>(cursor: &mut Cursor, observer: &mut O)
     }
 }
 
-/// Takes a datagram, and tells what became of its packet.
+/// Takes a datagram, and reports the fate of its packet.
 fn take_arrival<O: ReceptionObserver>(
     cursor: &mut Cursor,
     path: Path,
@@ -213,6 +216,7 @@ fn take_arrival<O: ReceptionObserver>(
     ensures settled { cursor.new.reading ≡ None }
 {
     let spec = cursor.spec();
+    // A stream has a deadline once it has a packet, so this is asked before the datagram is taken.
     let anchored = cursor.next_deadline().is_some();
     let receipt = cursor.push_datagram(path, octets);
     if let (ArriveOutcome::Offered(fate), ReceptionRef::Sent(packet)) = (
@@ -228,7 +232,8 @@ fn take_arrival<O: ReceptionObserver>(
     }
 }
 
-/// The ruler of a packet that was taken: where it opens an epoch, its slot is the next that is due.
+/// Returns the reference for a packet that was taken. If it opens an epoch, its slot is the next that is due, so its
+/// media time is that deadline less the latency.
 fn ruler_after(
     spec: &StreamSpec,
     view: &GridState,
@@ -247,7 +252,7 @@ fn ruler_after(
     GridReference { ts, media }
 }
 
-/// Tells of a packet that was offered.
+/// Reports a packet by its fate.
 fn see_packet<O: ReceptionObserver>(
     spec: &StreamSpec,
     view: &GridState,
@@ -263,6 +268,7 @@ fn see_packet<O: ReceptionObserver>(
         Fate::Late => ReceptionKind::Late,
         Fate::Unlike | Fate::WrongSource | Fate::OffGrid | Fate::Ahead => ReceptionKind::Refused,
     };
+    // The grid says nothing of the media time of a packet of another source or off the grid.
     let placed = !matches!(fate, Fate::WrongSource | Fate::OffGrid | Fate::Ahead);
     let media = match view.ruler {
         Some(ruler) => ruler.media_of(packet.ts),

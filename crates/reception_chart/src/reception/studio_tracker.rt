@@ -1,4 +1,4 @@
-//! All streams of a studio, watched side by side.
+//! The tracker of all streams of a studio.
 use crate::observer::ReceptionObserver;
 use crate::reception::axis::Axis;
 use crate::reception::extent::Extent;
@@ -9,41 +9,41 @@ use std::alloc::{AllocError, Global};
 use studio_config::StudioSpec;
 use studio_session::EventSource;
 
-/// The most streams of a studio.
+/// The greatest number of streams of a studio.
 const MOST_STREAMS: u8 = 16;
 
-/// A stream that is watched, and what was seen of it.
+/// The tracker of a stream, with the observer of its reception.
 #[derive(Drop)]
 pub(crate) struct TrackedStream<O> {
     pub(crate) tracker: StreamTracker,
     pub(crate) seen: O,
 }
 
-/// All streams of a studio, and what was seen of each: how far they reach, or what is drawn of them.
+/// The trackers of all streams of a studio, each with an observer.
 ///
-/// Input: each event, from the first to the close. Output: of `measure` the same streams `for_drawing`, before the first event, for
-/// what is drawn; of these their `svg`.
+/// A chart takes all events twice. The first tracker, from `measure`, finds the extent of the streams. The second, from
+/// the first one's `for_drawing`, counts the events on one axis of this extent, and its `svg` returns the chart.
 #[derive(Drop)]
 pub struct StudioTracker<O> {
     pub(crate) streams: Vec<TrackedStream<O>>,
 }
 
 impl<O: ReceptionObserver + Drop> StudioTracker<O> {
-    /// A datagram arrived on a path of a stream.
+    /// Takes a datagram that arrived on a path of a stream.
     pub fn arrived(&mut self, stream: usize, path: Path, octets: &[u8]) {
         for one in self.streams.iter_mut() {
             one.tracker.arrived(stream, path, octets, &mut one.seen);
         }
     }
 
-    /// The clock was read, in sampling instants.
+    /// Takes a clock reading, in sampling instants at 48 kHz.
     pub fn read(&mut self, time: i64) {
         for one in self.streams.iter_mut() {
             one.tracker.read(time, &mut one.seen);
         }
     }
 
-    /// The studio was closed.
+    /// Takes the close of the studio.
     pub fn closed(&mut self) {
         for one in self.streams.iter_mut() {
             one.tracker.closed(&mut one.seen);
@@ -59,9 +59,11 @@ impl<O: ReceptionObserver + Drop> StudioTracker<O> {
 }
 
 impl StudioTracker<Extent> {
-    /// The streams of a studio before the first event, for how far they reach.
+    /// The streams of a studio before the first event, with observers of their extent. Returns `AllocError` if an
+    /// allocation fails.
     pub fn measure(alloc: Global, spec: &StudioSpec) -> Result<StudioTracker<Extent>, AllocError> {
         let mut streams = Vec::new(alloc);
+        // Not `enumerate`: the number of a stream is a `u8`.
         for (number, stream) in (0..MOST_STREAMS).zip(spec.streams().iter()) {
             streams.push(TrackedStream {
                 tracker: StreamTracker::new(alloc, spec, *stream, number)?,
@@ -71,7 +73,8 @@ impl StudioTracker<Extent> {
         Ok(StudioTracker { streams })
     }
 
-    /// The same streams before the first event, for what is drawn of so far a reach.
+    /// The same streams before the first event, with observers that count their events on an axis of the measured
+    /// extent. Returns `AllocError` if an allocation fails.
     pub fn for_drawing(
         &self,
         alloc: Global,
@@ -89,7 +92,8 @@ impl StudioTracker<Extent> {
         Ok(StudioTracker { streams })
     }
 
-    /// One axis for all streams, in spans of whole packets of each whose packets divide the longest.
+    /// Returns one axis for all streams. Its intervals have whole packets of each stream whose packets divide the
+    /// longest.
     fn axis(&self) -> Axis {
         let mut frames = 1;
         let mut stretch: Option<(i64, i64)> = None;
@@ -97,12 +101,13 @@ impl StudioTracker<Extent> {
             frames = one.tracker.spec().frames().max(frames);
             stretch = with_extent(stretch, &one.seen);
         }
+        // Without a packet the axis has a second.
         let (first, last) = stretch.unwrap_or((0, 48_000));
         Axis::of(first, last, frames)
     }
 }
 
-/// A stretch of media time, and that of a stream.
+/// Returns the least stretch of media time with a stretch and the extent of a stream.
 fn with_extent(stretch: Option<(i64, i64)>, extent: &Extent) -> Option<(i64, i64)> {
     let Some(first) = extent.first() else {
         return stretch;
