@@ -78,6 +78,7 @@ fn write_block(kind: u32, head: &[u8], octets: &[u8], out: &mut [u8]) -> usize
     ensures len { result ≡ length (block_octets kind (head.now ++ padded octets.now)) }
     ensures short { result ≤ 2108 }
 {
+    // 3 n and -n are the same modulo 4: the octets that whole words of 4 lack.
     let zeros = 3 * octets.len() % 4;
     let len = (12 + head.len() + octets.len() + zeros) as u32;
     let place = write_at(out, 0, &kind.to_le_bytes());

@@ -23,7 +23,7 @@ pub enum CaptureFaultKind {
     /// A section describes more than 64 interfaces.
     #[error("there are too many interfaces")]
     TooMany,
-    /// An interface's options are cut, or one of its times has another length than the format gives it.
+    /// An interface's options are cut, or `if_tsresol` or `if_tsoffset` has a wrong length.
     #[error("the options are wrong")]
     Options,
     /// A packet's interface has no description before it in its section.

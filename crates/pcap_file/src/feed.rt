@@ -108,6 +108,7 @@ impl ReadBuffer {
         if self.held.capacity() - self.held.len() < octets.len() {
             self.make_room();
         }
+        // There is room for these octets, so nothing is allocated here.
         let Ok(()) = self.held.extend_from_slice(octets) else {
             unreachable!()
         };

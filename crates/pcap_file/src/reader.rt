@@ -83,6 +83,7 @@ fn fill_header<R: Read>(window: &mut ReadBuffer, reader: &mut R) -> Result<(), R
         (octets_of window.new) window.new.ended) }
     ensures unread { IfErr result (λ fault. fault ≡ ReadFailed) }
 {
+    // The label names the loop in its proof.
     'reads: for _turn in 0..FILE_HEADER {
         if window.front().len() >= FILE_HEADER {
             return Ok(());
@@ -133,6 +134,7 @@ fn fill<R: Read>(
     ensures filled { OnOk result (IsFilled parts.now (octets_of window.new) window.new.ended) }
     ensures fault { IfErr result (λ fault. IsLong fault) }
 {
+    // The label names the loop in its proof.
     'reads: for _turn in 0..MOST_READS {
         if !parts.is_cut(window.front()) {
             return Ok(());

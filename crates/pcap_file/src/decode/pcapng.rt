@@ -141,6 +141,7 @@ impl Section {
         let number = self.order.read_u32(block, 8);
         let interface = self.interface(number)?;
         let captured = self.order.read_u32(block, 20) as usize;
+        // 28 octets are before the packet, and 4 behind it.
         if block.len() - 32 < captured {
             return Err(CaptureFaultKind::Length);
         }
@@ -164,6 +165,7 @@ impl Section {
         }
         let interface = self.interface(0)?;
         let captured = captured_of(&interface, self.order.read_u32(block, 8)) as usize;
+        // 12 octets are before the packet, and 4 behind it.
         if block.len() - 16 < captured {
             return Err(CaptureFaultKind::Length);
         }
@@ -200,6 +202,7 @@ fn block_kind(number: u32) -> BlockKind
 fn captured_of(interface: &Interface, original: u32) -> u32
     ensures { result ≡ spec.captured_of interface.now original }
 {
+    // The block has only the packet's length on the network; the interface's limit says where it was cut.
     if interface.limit != 0 && interface.limit < original {
         interface.limit
     } else {

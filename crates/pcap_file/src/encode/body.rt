@@ -15,6 +15,7 @@ pub(crate) fn push(head: &mut BlockBody, octets: &[u8])
     ensures items { head.new.items ≡ head.old.items ++ octets.now }
     ensures length { array_vec_len head.new ≡ array_vec_len head.old + length octets.now }
 {
+    // The clause above requires the room.
     let Ok(()) = head.try_extend_from_slice(octets) else {
         unreachable!()
     };
@@ -32,5 +33,6 @@ pub(crate) fn push_option(head: &mut BlockBody, code: u16, value: &[u8])
     push(head, &code.to_le_bytes());
     push(head, &(value.len() as u16).to_le_bytes());
     push(head, value);
+    // 3 n and -n are the same modulo 4: the octets that whole words of 4 lack.
     push(head, &[0; 3][..3 * value.len() % 4]);
 }
