@@ -32,7 +32,7 @@ pub(crate) fn first_packets_in(
             && let Some(route) = route_in(routes.list(), &packet)
             && let Some(next) = flow_packet(&packet)
         {
-            // Every packet moves the clock, as in the trace.
+            // Every packet with a route moves the clock, as in the trace.
             clock.read(packet.time);
             if let Some(start) = starts.get_mut(usize::from(route.stream))
                 && start.is_none()

@@ -135,7 +135,7 @@ fn latency_for(skew: u64) -> u32 {
 
 /// Returns the least window that spans twice the latency and two packets. If there is none it returns the greatest that
 /// spans the latency, if there is one.
-// The latency is twice the skew, so packets of the earlier path are not too early for the window.
+// With so wide a window, packets of the earlier path are not too early for it.
 fn window_for(form: &PacketFormat, latency: u32, paths: u8) -> Option<u16> {
     let wanted = u64::from(latency)
         .saturating_add(u64::from(form.frames))

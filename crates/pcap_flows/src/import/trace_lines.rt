@@ -60,6 +60,7 @@ fn push_octets(text: &mut Vec<u8>, octets: &[u8]) -> Result<(), AllocError>
 {
     let start = text.len();
     text.resize(start + 2 * octets.len(), 0)?;
+    // It fails only if the slice has another length than twice the octets'.
     let Ok(()) = hex::encode_to_slice(octets, &mut text[start..]) else {
         unreachable!()
     };
