@@ -33,6 +33,7 @@ fn write_paths<W: Write>(
         (paths_text stream.now number events stream.now.paths)) }
 {
     for place in 0..stream.paths() {
+        // A stream has at most 4 paths, and the clauses above require that the stream is there.
         let Some(path) = Path::new(place) else {
             unreachable!()
         };

@@ -88,6 +88,7 @@ impl ReplayState {
             (L.heard begun listener.new) fault) }
     {
         let mut closing = None;
+        // The label names the loop in its proof.
         'parts: for _ in 0..u64::MAX {
             if !has_block(parts, window, reader)? {
                 return Ok(closing);

@@ -48,6 +48,7 @@ fn add_all<R: Read>(
         → table_view table.old ≡ table_after no_table (map Ok (packets_among entries))
         → table_view table.new ≡ table_after no_table (packets_of file)) }
 {
+    // The label names the loop in its proof.
     'parts: for _ in 0..u64::MAX {
         if !has_block(parts, window, reader)? {
             return Ok(());

@@ -39,6 +39,7 @@ pub(crate) fn write_turn<W: Write, L: ReplayObserver>(
     ensures closed { engine.new.closed ≡ engine.old.closed }
 {
     let mut out = [0; MOST_OUTPUT_OCTETS];
+    // The label names the loop in its proof.
     'rounds: loop {
         let Ok(given) = engine.turn(now, &mut out) else {
             // Not reached: the caller has tested the reading, and an engine with a session refuses no other.
@@ -73,6 +74,7 @@ pub(crate) fn write_drained<W: Write, L: ReplayObserver>(
         (L.heard begun listener.old) (L.heard begun listener.new)) }
 {
     let mut out = [0; MOST_OUTPUT_OCTETS];
+    // The label names the loop in its proof.
     'rounds: loop {
         match engine.drain(&mut out) {
             Some(len) => {

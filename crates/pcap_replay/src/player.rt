@@ -190,6 +190,7 @@ impl ReplayState {
     {
         let mut engine = self.engine;
         let mut text = self.text;
+        // Only an unfinished turn refuses a close, and each of a replay's turns is finished.
         let Ok(()) = engine.close() else {
             unreachable!()
         };

@@ -34,6 +34,7 @@ fn find_opening<R: Read>(
         → HasTold file [] (R.remaining reader.old) parts.old (octets_of window.old) window.old.ended
         → spec.opening_in (entries_of file) ≡ given) }
 {
+    // The label names the loop in its proof.
     'parts: for _ in 0..u64::MAX {
         if !has_block(parts, window, reader)? {
             return Ok(None);
