@@ -67,6 +67,7 @@ fn push(head: &mut Header, octets: &[u8])
     ensures items { head.new.items ≡ head.old.items ++ octets.now }
     ensures length { array_vec_len head.new ≡ array_vec_len head.old + length octets.now }
 {
+    // The clause above requires the room.
     let Ok(()) = head.try_extend_from_slice(octets) else {
         unreachable!()
     };

@@ -111,6 +111,7 @@ fn record_datagrams<E: EventSource, W: Write, F: Write>(
         → WritesFront (W.contents writer.old) text.old (W.contents writer.new) (datagrams_text datagrams)) }
 {
     let mut out = [0; MOST_OUTPUT_OCTETS];
+    // The label names the loop in its proof.
     'rounds: loop {
         match session.next_datagram(source, &mut out) {
             Some(len) => {

@@ -69,6 +69,7 @@ fn add_marks<E: EventSource, F: Write>(
         (stream_marks stream number open_at (E.events source.now))) }
 {
     let mut room = [0; MOST_ARRIVAL_OCTETS];
+    // The label names the loop in its proof.
     'events: loop {
         add_taken(track, file, cursor)?;
         if !cursor.take_event(source, &mut room) {
@@ -92,6 +93,7 @@ fn add_taken<F: Write>(
     ensures settled { OnOk result (cursor.new.reading ≡ None) }
     ensures kept { IsSameCursor cursor.old cursor.new }
 {
+    // The label names the loop in its proof.
     'marks: loop {
         track.add_next(file, cursor.mark())?;
         if !cursor.pass() {

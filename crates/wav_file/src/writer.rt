@@ -95,6 +95,7 @@ impl WavWriter {
         let zeros = [0; MOST_ZEROS];
         let most = (MOST_ZEROS / frame) as u64;
         let mut done = 0;
+        // The label names the loop in its proof.
         'chunks: while done < instants {
             let count = (instants - done).min(most);
             self.push(writer, &zeros[..count as usize * frame])?;
