@@ -180,6 +180,7 @@ fn see_lost<O: ReceptionObserver>(cursor: &mut Cursor, observer: &mut O)
     ensures kept { IsSameCursor cursor.old cursor.new }
     ensures settled { cursor.new.reading ≡ None }
 {
+    // The label names the loop in its proof.
     'marks: loop {
         if let Some(mark) = cursor.mark() {
             if let MarkKindRef::Slot {
