@@ -13,7 +13,7 @@ const COMMENT: u16 = 1;
 /// The code of the option that holds the name of a section's writer.
 const USER_APPLICATION: u16 = 4;
 
-/// A block of a record that is no datagram.
+/// The mark of a record's opening or close, with its time.
 #[derive(Clone, Copy, Debug, PartialEq, Eq)]
 pub enum RecordMark {
     /// A section header of `darbexum`: the time at which the studio was opened, in sampling instants at 48 kHz, below
