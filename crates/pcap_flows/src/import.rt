@@ -94,7 +94,7 @@ impl Trace {
         Ok(())
     }
 
-    /// Appends the lines of a packet of a capture; its fault has none.
+    /// Appends the lines of a capture's packet, if it has a route. A capture's fault has no lines.
     #[tactic(auto, unfolding(crate::specs::Trace::item_text, crate::specs::Trace::item_clock, crate::specs::Trace::item_events))]
     fn take(
         &mut self,

@@ -22,8 +22,8 @@ impl CaptureClock {
         }
     }
 
-    /// Moves the clock to a datagram's time, in nanoseconds since 1970, if it has one and isn't earlier than the
-    /// others.
+    /// Moves the clock to a datagram's time, in nanoseconds since 1970. If there is none, or it is earlier than another
+    /// one before, the clock stays.
     #[tactic(auto, unfolding(crate::specs::Clock::clock_with))]
     pub fn read(&mut self, time: Option<u64>)
         ensures { self.new ≡ clock_with self.old time }
