@@ -104,7 +104,8 @@ impl WavWriter {
         Ok(())
     }
 
-    /// Writes the sizes of the data to the head. Returns an error if a write fails.
+    /// Writes the sizes of the data to the head, and an octet more behind data of an odd length. Returns an error if a
+    /// write fails.
     pub fn finish<W: Overwrite>(self, writer: &mut W) -> Result<(), WavFault>
         ensures { OnOk result ((octets : List ℕ) → IsBegun (W.Write.contents writer.old) self octets []
             → Becomes (W.Write.contents writer.old) (W.Write.contents writer.new) (wav_octets self.format octets)) }
