@@ -73,8 +73,8 @@ impl StudioTracker<Extent> {
         Ok(StudioTracker { streams })
     }
 
-    /// The same streams before the first event, with observers that count their events on an axis of the measured
-    /// extent. Returns `AllocError` if an allocation fails.
+    /// The streams of this tracker before the first event, with observers that count their events on an axis of the
+    /// measured extent. Returns `AllocError` if an allocation fails.
     pub fn for_drawing(
         &self,
         alloc: Global,
