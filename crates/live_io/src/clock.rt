@@ -1,4 +1,4 @@
-//! The system's clock, in sampling instants.
+//! The clock of a live run: the system's monotonic clock, in sampling instants.
 ghost use Rattle.std.specs.Prelude.{◌≡◌, ◌≤◌, ◌<◌, ◌^◌, ◌-◌, pos, ◌≤ℤ◌, ◌<ℤ◌, ◌+ℤ◌, ℤ, []};
 ghost use Rattle.std.specs.Duration.{as_nanos};
 ghost use Rattle.studio_io.specs.Clocks.{TellsTime};
@@ -8,13 +8,16 @@ use std::time;
 use std::time::Duration;
 use studio_io::Clock;
 
-/// The reading of a clock so long after it began at a time, in sampling instants at 48 kHz. It stays at
-/// the greatest of its type.
+/// Returns the clock reading of a clock that started at `open_at`, after this time, in sampling instants at 48 kHz,
+/// rounded down. Readings past the greatest `i64` are the greatest `i64`.
 pub fn reading_after(open_at: i64, elapsed: Duration) -> i64
     requires open { pos 0 ≤ℤ open_at }
-    ensures exact { (open_at +ℤ pos (instants_in (as_nanos elapsed))) <ℤ pos (2 ^ 63) → result ≡ (open_at +ℤ pos (instants_in (as_nanos elapsed))) }
+    ensures exact { (open_at +ℤ pos (instants_in (as_nanos elapsed))) <ℤ pos (2 ^ 63)
+        → result ≡ (open_at +ℤ pos (instants_in (as_nanos elapsed))) }
     ensures most { pos (2 ^ 63) ≤ℤ (open_at +ℤ pos (instants_in (as_nanos elapsed))) → result ≡ pos (2 ^ 63 - 1) }
 {
+    // Whole seconds and the rest apart: all nanoseconds times 3 would not fit 64 bits after 195 years. A second is a
+    // whole number of sampling instants, so nothing is lost.
     let whole = elapsed.as_secs().saturating_mul(48_000);
     let part = u64::from(elapsed.subsec_nanos()) * 3 / 62_500;
     match i64::try_from(whole.saturating_add(part)) {
@@ -23,20 +26,23 @@ pub fn reading_after(open_at: i64, elapsed: Duration) -> i64
     }
 }
 
-/// A clock that began at a time, in sampling instants, and goes by the system's monotonic clock. Where
-/// that can't be read, it repeats its last answer.
+/// A clock that started at a given time, in sampling instants at 48 kHz, and follows the system's monotonic clock. If
+/// that cannot be read, the last clock reading is repeated.
 #[derive(Drop)]
 pub struct SystemClock<'a, R: time::Clock> {
     rt: &'a R,
-    /// When it began, by the system's clock.
+    /// The reading of the system's clock at the start; `None` if it could not be read.
     began: Option<Duration>,
+    /// The clock reading at the start, in sampling instants.
     open_at: i64,
+    /// The last clock reading that was returned, in sampling instants.
     last: i64,
     ghost from_zero: { pos 0 ≤ℤ open_at },
 }
 
 impl<'a, R: time::Clock> SystemClock<'a, R> {
-    /// A clock that reads `open_at` where the system's clock reads `began`.
+    /// Returns a clock that reads `open_at` when the system's clock reads `began`. If `began` is `None`, it reads
+    /// `open_at` at all times.
     pub fn since(rt: &'a R, began: Option<Duration>, open_at: i64) -> SystemClock<'a, R>
         requires { pos 0 ≤ℤ open_at }
         ensures { result.last ≡ open_at }
@@ -49,7 +55,7 @@ impl<'a, R: time::Clock> SystemClock<'a, R> {
         }
     }
 
-    /// What the clock reads, if the system's can be read.
+    /// Returns the clock reading, or `None` if the system's clock cannot be read.
     fn read(&self) -> Option<i64> {
         let began = self.began?;
         let now = self.rt.monotonic().ok()?;
@@ -61,7 +67,7 @@ impl<'a, R: time::Clock> SystemClock<'a, R> {
 impl<R: time::Clock> Clock for SystemClock<'_, R> {
     ghost told = { λ clock. [] };
 
-    /// The answers never fall.
+    /// Returns the clock reading. It is never less than the one before.
     fn now(&mut self) -> i64
         ensures tells { TellsTime [] result [] }
         ensures answer { result ≡ self.new.last }

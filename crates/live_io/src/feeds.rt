@@ -7,7 +7,8 @@ use crate::start::RunPeriod;
 use std::alloc::{AllocError, Global};
 use std::time::Clock;
 
-/// A feed for each socket, by the run's clock.
+/// Returns a feed for each socket, in the order of the sockets. The feeds end by the run's clock or by their flags.
+/// Returns `AllocError` if an allocation fails.
 pub fn udp_feeds<'a, R: Clock>(
     rt: &'a R,
     alloc: Global,

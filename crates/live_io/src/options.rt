@@ -1,16 +1,16 @@
-//! What a live run is told beside its studio.
+//! The options of a live run, in addition to its studio.
 
-/// How a live run ends, what it tells while it goes on, and in which form it runs.
+/// The options of a live run: its end, its output while it runs, and its threads.
 #[derive(Clone, Copy, Debug, PartialEq, Eq)]
 pub struct LiveOptions {
-    /// After how many sampling instants the feeds end; if none, not by the clock.
+    /// The sampling instants at 48 kHz after which the feeds end. If `None`, the clock does not end them.
     pub instants: Option<i64>,
-    /// Every how many seconds each stream's counts are told; if none, only at the end.
+    /// The period in seconds of the lines with each stream's counts. If `None`, the counts are written only at the end.
     pub stats: Option<u32>,
-    /// The port of 127.0.0.1 at which a page shows the run, if one is asked for; at 0 the system picks one.
+    /// The port of 127.0.0.1 for the page of the run. At 0 the system picks one. If `None`, there is no page.
     pub page: Option<u16>,
-    /// Whether the feeds end where standard input does.
+    /// True if the feeds end at the end of standard input.
     pub until_eof: bool,
-    /// Whether an engine in one thread does all that the workers would do.
+    /// True if the run uses an engine in one thread instead of workers.
     pub one_thread: bool,
 }

@@ -1,4 +1,4 @@
-//! Where a run receives, and where it sends.
+//! The text that lists the addresses of a run.
 
 use crate::sockets::Sockets;
 use std::io;
@@ -6,7 +6,8 @@ use std::io::Write;
 use std::ops::Range;
 use studio_config::StudioSpec;
 
-/// Writes where each path is received and where the mix's two copies go, as ` 0a=ADDRESS:PORT .. to_a=.. to_b=..`.
+/// Writes the address of each path and those of the mix's two copies, as ` 0a=ADDRESS:PORT .. to_a=.. to_b=..`. Returns
+/// the error of the first write that fails.
 pub fn write_addresses<W: Write>(
     studio: &StudioSpec,
     sockets: &Sockets<'_>,
@@ -22,7 +23,7 @@ pub fn write_addresses<W: Write>(
     write!(writer, " to_a={to_a} to_b={to_b}")
 }
 
-/// Writes where a stream's paths are received, which are at these places.
+/// Writes the addresses of a stream's paths, which are at these places among the sockets.
 fn write_paths<W: Write>(
     number: usize,
     sockets: &Sockets<'_>,

@@ -1,8 +1,9 @@
-//! What came of a run's record.
+//! The result of a run's record.
 
 use std::sync::atomic::{AtomicBool, AtomicU64, Ordering};
 
-/// How many datagrams a run took, and how many of them its record has. All is told once the run is over.
+/// The numbers of datagrams that a run took and that its record has. All are known once the run is over.
+// Atomics, since the run's thread sets one part and the writer's thread the other.
 #[derive(Drop)]
 pub struct RecordResult {
     received: AtomicU64,
@@ -11,7 +12,7 @@ pub struct RecordResult {
 }
 
 impl RecordResult {
-    /// Nothing is told yet.
+    /// Returns a result in which nothing is set yet.
     pub fn new() -> RecordResult {
         RecordResult {
             received: AtomicU64::new(0),
@@ -20,28 +21,28 @@ impl RecordResult {
         }
     }
 
-    /// Tells that so many datagrams were taken.
+    /// Sets the number of datagrams that were taken.
     pub fn set_received(&self, count: u64) {
         self.received.store(count, Ordering::SeqCst);
     }
 
-    /// Tells that so many datagrams were written, and whether a write failed then.
+    /// Sets the number of datagrams that were written, and `failed` to true if a write failed after them.
     pub fn set_written(&self, count: u64, failed: bool) {
         self.written.store(count, Ordering::SeqCst);
         self.failed.store(failed, Ordering::SeqCst);
     }
 
-    /// How many datagrams were taken.
+    /// Returns the number of datagrams that were taken.
     pub fn received(&self) -> u64 {
         self.received.load(Ordering::SeqCst)
     }
 
-    /// How many of them were written.
+    /// Returns the number of datagrams that were written.
     pub fn written(&self) -> u64 {
         self.written.load(Ordering::SeqCst)
     }
 
-    /// Whether a write failed.
+    /// Returns true if a write failed.
     pub fn has_failed(&self) -> bool {
         self.failed.load(Ordering::SeqCst)
     }

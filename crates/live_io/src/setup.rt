@@ -1,4 +1,4 @@
-//! What a live run is set up with.
+//! The inputs of a live run.
 
 use crate::recorded::RecordResult;
 use crate::sockets::inherited::InheritedSockets;
@@ -7,20 +7,22 @@ use crate::sockets::unexpected::UnexpectedSources;
 use arrayvec::ArrayString;
 use std::time::Duration;
 
-/// How people call a stream.
+/// The name of a stream for people, of at most 64 octets.
 pub type StreamName = ArrayString<64>;
 
-/// What a live run is set up with, beside its studio and its options.
+/// The inputs of a live run, in addition to its studio and its options.
 #[derive(Clone, Copy)]
 pub struct LiveInputs<'a> {
+    /// The ports of all paths and of the output.
     pub ports: &'a LivePorts,
+    /// The inherited sockets.
     pub handed: &'a InheritedSockets,
     /// The name of each stream, if it has one.
     pub names: &'a [Option<StreamName>],
-    /// Where datagrams from elsewhere than a path's source are counted.
+    /// The counts of datagrams from unexpected sources.
     pub strangers: &'a UnexpectedSources,
-    /// Where it is told what came of the record, if one is asked for.
+    /// The result of the record, which the run sets if there is one.
     pub recorded: &'a RecordResult,
-    /// What the system's monotonic clock read at the studio's opening time, if it could be read.
+    /// The reading of the system's monotonic clock at the studio's opening time, if it could be read.
     pub began: Option<Duration>,
 }

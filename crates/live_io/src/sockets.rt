@@ -1,4 +1,6 @@
-//! All sockets of a run.
+//! The sockets of a run. `ports` and `addresses` find where they are bound, `inherited` has those that were passed in,
+//! and `receiver` and `sink` those that receive and send. `feed` makes a feed of a receiver; `unexpected` tests and
+//! counts the sources of datagrams.
 
 use crate::setup::LiveInputs;
 use crate::sockets::addresses::{PathAddress, addresses_of};
@@ -21,13 +23,14 @@ pub(crate) mod unexpected;
 /// The sockets of a run.
 #[derive(Drop)]
 pub struct Sockets<'a> {
-    /// Those that receive, stream by stream and path by path.
+    /// The sockets that receive, ordered by stream and then by path.
     pub receiving: Vec<Receiver<'a>>,
-    /// Those that send.
+    /// The sockets that send.
     pub sink: UdpSink,
 }
 
-/// All sockets of a run: those that were handed over, and others at the studio's addresses.
+/// Returns all sockets of a run: the inherited ones, and new ones at the studio's addresses for the others. Returns the
+/// error of the first socket that cannot be opened.
 pub fn open_sockets<'a, R: Net>(
     rt: &R,
     alloc: Global,
@@ -41,7 +44,8 @@ pub fn open_sockets<'a, R: Net>(
     Ok(Sockets { receiving, sink })
 }
 
-/// Where the paths of a run are received: an address and a port for each, and the descriptor of a socket that was handed over.
+/// The addresses of the paths of a run, and the descriptors of their inherited sockets, both ordered by stream and then
+/// by path.
 #[derive(Drop)]
 struct ReceiverPlan<'a> {
     addresses: Vec<PathAddress>,
@@ -49,7 +53,7 @@ struct ReceiverPlan<'a> {
     setup: LiveInputs<'a>,
 }
 
-/// A socket for each path.
+/// Returns a socket for each path, ordered by stream and then by path.
 fn open_receivers<'a, R: Net>(
     rt: &R,
     alloc: Global,
@@ -70,7 +74,7 @@ fn open_receivers<'a, R: Net>(
 }
 
 impl<'a> ReceiverPlan<'a> {
-    /// The socket of the path at a place.
+    /// Returns the socket of the path at a place.
     fn receiver<R: Net>(&self, rt: &R, place: usize) -> io::Result<Receiver<'a>> {
         let (Some(address), Some(port)) = (
             self.addresses.get(place),
@@ -83,7 +87,7 @@ impl<'a> ReceiverPlan<'a> {
         Ok(Receiver::new(socket, source, SocketAddrV4::new(address.at, *port)))
     }
 
-    /// The socket of the path at a place that was handed over, or else one at this address and port.
+    /// Returns the inherited socket of the path at a place, or a new one at this address and port if there is none.
     fn socket<R: Net>(
         &self,
         rt: &R,
@@ -97,8 +101,9 @@ impl<'a> ReceiverPlan<'a> {
         }
     }
 
-    /// Whether another path is received at the same group and port, from another source.
+    /// Returns true if another path is received at the same group and port from another source.
     fn is_shared(&self, own: &PathAddress, port: u16) -> bool {
+        // Only such sockets get SO_REUSEADDR: the sources tell their datagrams apart.
         let Some(from) = own.from else {
             return false;
         };
@@ -114,7 +119,7 @@ impl<'a> ReceiverPlan<'a> {
     }
 }
 
-/// Whether a source is said, and another one than this.
+/// Returns true if a source is given and differs from this one.
 fn is_other(source: Option<Ipv4Addr>, own: Ipv4Addr) -> bool {
     match source {
         Some(source) => source != own,

@@ -1,30 +1,31 @@
-//! International Atomic Time, by which the media clock of ST 2110 counts from 1970 on.
+//! International Atomic Time (TAI), by which the media clock of SMPTE ST 2110 counts from 1970 on.
 
 use crate::clock::reading_after;
 use std::time::{Clock, Duration};
 
-/// The number of the system's own clock of International Atomic Time.
+/// The number of the system's clock of TAI, which `libc` does not name.
 const CLOCK_TAI: i32 = 11;
 
-/// How far International Atomic Time is ahead of the system's time of day.
+/// The offset of TAI from the system's time of day.
 #[derive(Clone, Copy, Debug, PartialEq, Eq)]
 pub enum TaiOffset {
-    /// So many seconds.
+    /// TAI is so many seconds ahead.
     Seconds(u32),
-    /// As far as the system was told.
+    /// The system's clock of TAI has the offset.
     System,
 }
 
-/// A time, and what the system's monotonic clock read then.
+/// A time, and the reading of the system's monotonic clock at that time.
 #[derive(Clone, Copy, Debug, PartialEq, Eq)]
 pub struct TaiTime {
-    /// In sampling instants.
+    /// The time, in sampling instants at 48 kHz since 1970.
     pub at: i64,
+    /// The reading of the system's monotonic clock.
     pub began: Duration,
 }
 
-/// Now by International Atomic Time, in sampling instants since 1970. None, if a clock can't be read, or if the system
-/// is to say how far ahead that time is and wasn't told.
+/// Returns the present time by TAI, in sampling instants at 48 kHz since 1970. Returns `None` if a clock cannot be
+/// read, or if the offset is to come from the system and the system does not have it.
 pub fn tai_now<R: Clock>(rt: &R, offset: TaiOffset) -> Option<TaiTime> {
     let began = rt.monotonic().ok()?;
     let now = match offset {
@@ -38,16 +39,18 @@ pub fn tai_now<R: Clock>(rt: &R, offset: TaiOffset) -> Option<TaiTime> {
     Some(TaiTime { at, began })
 }
 
-/// What the system's clock of International Atomic Time reads. It goes with the time of day where the system wasn't
-/// told how far it is ahead.
+/// Returns the reading of the system's clock of TAI, or `None` if it cannot be read or the system does not have the
+/// offset.
 fn system_tai() -> Option<Duration> {
+    // Without an offset the clock of TAI reads the same as the time of day. Both are read at different moments, so they
+    // are compared by a second. The time of day is read first, so the difference is never too small.
     let day = system_reading(libc::CLOCK_REALTIME)?;
     let tai = system_reading(CLOCK_TAI)?;
     let ahead = tai.checked_sub(day)?;
     (ahead >= Duration::from_secs(1)).then_some(tai)
 }
 
-/// What one of the system's clocks reads, if it can be read.
+/// Returns the reading of one of the system's clocks, or `None` if it cannot be read.
 fn system_reading(clock: i32) -> Option<Duration> {
     let mut time = libc::types::timespec {
         tv_sec: 0,

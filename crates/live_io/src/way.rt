@@ -1,14 +1,14 @@
-//! How a datagram came.
+//! The origin of a datagram.
 
 use std::net::SocketAddrV4;
 
-/// How a datagram came: on which path, and from one address to another.
+/// The path on which a datagram arrived, and its two addresses.
 #[derive(Clone, Copy, Debug, PartialEq, Eq)]
 pub struct DatagramOrigin {
-    /// Its path's place, stream by stream and path by path.
+    /// The path's place among the paths of all streams, ordered by stream and then by path.
     pub path_index: u32,
-    /// Where it came from.
+    /// The address from which it was sent.
     pub source: SocketAddrV4,
-    /// Where it was sent to.
+    /// The address to which it was sent.
     pub destination: SocketAddrV4,
 }

@@ -1,4 +1,4 @@
-//! The end of a ring into which the blocks of a record are put, whole ones alone.
+//! The end of a ring into which the blocks of a record are put, each as a whole or not at all.
 ghost use Rattle.std.specs.Prelude.{◌≡◌, ◌≤◌, length, take, true, false};
 ghost use Rattle.pcap_file.specs.RecordedDatagram.{arrival_view};
 ghost use Rattle.pcap_file.specs.Blocks.{closing_block, datagram_block, interface_block, section_block};
@@ -14,14 +14,15 @@ use rtrb::Producer;
 #[derive(Drop)]
 pub(crate) struct BlockProducer {
     pub(crate) ring: Producer<u8>,
-    /// Nothing is put any more.
+    /// True once a block was not put. Nothing is put any more.
     pub(crate) ended: bool,
-    /// Where a block is made.
+    /// The buffer in which a block is made.
+    // A field and not a local array, which would be cleared for each block.
     pub(crate) block: [u8; MAX_BLOCK_LEN],
 }
 
 impl BlockProducer {
-    /// The end of a ring, into which nothing was put yet.
+    /// Returns the end of a ring, into which it has put nothing yet.
     pub(crate) fn new(ring: Producer<u8>) -> BlockProducer
         ensures ring { result.ring ≡ ring }
         ensures open { result.ended ≡ false }
@@ -33,7 +34,7 @@ impl BlockProducer {
         }
     }
 
-    /// Puts the section header of a record, whose studio was opened at this time in sampling instants.
+    /// Puts the section header of a record, whose studio opens at this time in sampling instants.
     pub(crate) fn put_opening(&mut self, open_at: u64)
         ensures puts { Puts self.old (section_block open_at) self.new }
         ensures ended { self.old.ended ≡ true → self.new.ended ≡ true }
@@ -51,7 +52,7 @@ impl BlockProducer {
         self.put(len)
     }
 
-    /// Puts the packet of a datagram that came.
+    /// Puts the packet block of a datagram.
     pub(crate) fn put_datagram(&mut self, arrival: &RecordedDatagram<'_>)
         requires few { length arrival.now.octets.now ≤ 2048 }
         ensures puts { Puts self.old (datagram_block (arrival_view arrival.now)) self.new }
@@ -61,7 +62,7 @@ impl BlockProducer {
         self.put(len)
     }
 
-    /// Puts that the studio was closed so many nanoseconds after it was opened.
+    /// Puts the block that says that the studio was closed so many nanoseconds after its opening.
     pub(crate) fn put_closing(&mut self, nanoseconds: u64)
         ensures puts { Puts self.old (closing_block nanoseconds) self.new }
         ensures ended { self.old.ended ≡ true → self.new.ended ≡ true }
@@ -70,13 +71,14 @@ impl BlockProducer {
         self.put(len)
     }
 
-    /// Puts the first so many octets of the block, if there is room for all of them. The first for which there is none
-    /// ends that.
+    /// Puts the first so many octets of the buffer as one block, if the ring has room for all of them. The first block
+    /// without room ends the record.
     fn put(&mut self, len: usize)
         requires within { len ≤ 2108 }
         ensures puts { Puts self.old (take len self.old.block) self.new }
         ensures ended { self.old.ended ≡ true → self.new.ended ≡ true }
     {
+        // Nothing is put after a block that is missing: a gap would replay as losses that never happened.
         if self.ended {
             return;
         }

@@ -1,8 +1,17 @@
-//! What makes a record of what a run takes.
+//! The observer of a run, which makes a record of the datagrams that the run takes.
 ghost use Rattle.std.specs.Prelude.{◌≡◌, ◌≤◌, ◌<◌, ℕ, [], length, IfSome, pos, true};
 ghost use Rattle.rtrb.specs.Ring.{sent};
 ghost use Rattle.pcap_file.specs.RecordedDatagram.{arrival_view};
-ghost use Rattle.live_io.specs.RecordBlocks.{IsPacket, IsSince, Opens, PutsClose, PutsPacket, Sends, path_blocks, row_blocks};
+ghost use Rattle.live_io.specs.RecordBlocks.{
+  IsPacket,
+  IsSince,
+  Opens,
+  PutsClose,
+  PutsPacket,
+  Sends,
+  path_blocks,
+  row_blocks,
+};
 
 use crate::record::block_producer::BlockProducer;
 use crate::way::DatagramOrigin;
@@ -14,24 +23,25 @@ use studio_config::StudioSpec;
 /// The letter of a stream's first path.
 const FIRST: u8 = b'a';
 
-/// Makes the blocks of a record, and counts what came. A record ends before the first block that isn't whole, for want
-/// of room or since its time can't be written.
+/// The observer that makes the blocks of a record, and counts the datagrams. The record ends before the first block
+/// that cannot be written: if the ring is full, the datagram is too long, or its time does not fit 64 bits.
 #[derive(Drop)]
 pub struct RecordObserver {
     end: BlockProducer,
-    /// The studio's opening time.
+    /// The studio's opening time, in sampling instants.
     open_at: i64,
-    /// How many datagrams came.
+    /// The number of datagrams that arrived, also those after the record's end.
     received: u64,
 }
 
 impl RecordObserver {
-    /// How many datagrams came.
+    /// Returns the number of datagrams that arrived, also those after the record's end.
     pub fn received(&self) -> u64 {
         self.received
     }
 
-    /// The record of a run of this studio, from its front: its opening time, and its paths.
+    /// Returns the observer of a run of this studio, and puts the start of the record into the ring: the studio's
+    /// opening time and its paths.
     pub fn new(ring: Producer<u8>, studio: &StudioSpec) -> RecordObserver
         requires fresh { sent ring ≡ [] }
         ensures opens { Opens studio.now result.end }
@@ -48,7 +58,8 @@ impl RecordObserver {
         }
     }
 
-    /// Puts the packet of a datagram that came at a time, in sampling instants, and this way.
+    /// Puts the packet block of a datagram that arrived at `time`, in sampling instants, and counts the datagram. It
+    /// does not wait: if the block cannot be put, the record ends.
     pub fn arrived(&mut self, time: i64, octets: &[u8], way: &DatagramOrigin)
         ensures puts { PutsPacket self.old.open_at time way.now octets.now self.old.end self.new.end }
         ensures ended { self.old.end.ended ≡ true → self.new.end.ended ≡ true }
@@ -63,7 +74,7 @@ impl RecordObserver {
         }
     }
 
-    /// Puts the close, which was at a time.
+    /// Puts the block of the close, which was at `time`, in sampling instants.
     pub fn closed(&mut self, time: i64)
         ensures puts { PutsClose self.old.open_at time self.old.end self.new.end }
         ensures ended { self.old.end.ended ≡ true → self.new.end.ended ≡ true }
@@ -74,7 +85,7 @@ impl RecordObserver {
         }
     }
 
-    /// A datagram that came at a time, if it can be written.
+    /// Returns a datagram that arrived at `time` as it is recorded, or `None` if it cannot be written.
     fn arrival<'a>(
         &self,
         time: i64,
@@ -82,7 +93,8 @@ impl RecordObserver {
         way: &DatagramOrigin,
     ) -> Option<RecordedDatagram<'a>>
         ensures few { IfSome result (λ arrival. length arrival.octets.now ≤ 2048) }
-        ensures packet { IfSome result (λ arrival. IsPacket self.now.open_at time way.now octets.now (arrival_view arrival)) }
+        ensures packet { IfSome result
+            (λ arrival. IsPacket self.now.open_at time way.now octets.now (arrival_view arrival)) }
     {
         if octets.len() > MOST_OCTETS {
             return None;
@@ -100,7 +112,8 @@ impl RecordObserver {
         })
     }
 
-    /// How many nanoseconds after the opening a time is, if 64 bits hold them.
+    /// Returns the nanoseconds from the opening to `time`, or `None` if `time` is before the opening or 64 bits do not
+    /// hold them.
     fn nanoseconds(&self, time: i64) -> Option<u64>
         ensures since { IfSome result (λ nanoseconds. IsSince self.now.open_at time nanoseconds) }
     {
@@ -109,19 +122,21 @@ impl RecordObserver {
     }
 }
 
-/// An opening time, which is not before 0.
+/// Returns an opening time, which is not below 0, as an unsigned number.
 fn opening_of(open_at: i64) -> u64
     ensures { (at : ℕ) → open_at ≡ pos at → result ≡ at }
 {
+    // A studio's opening time is not below 0, so the 0 is never used.
     u64::try_from(open_at).unwrap_or(0)
 }
 
-/// Puts the descriptions of the paths of streams.
+/// Puts the descriptions of all paths of the streams.
 fn put_streams(end: &mut BlockProducer, streams: &[StreamSpec])
     requires few { length streams.now ≤ 16 }
     ensures sends { Sends end.old (path_blocks 0 streams.now) end.new }
     ensures ended { end.old.ended ≡ true → end.new.ended ≡ true }
 {
+    // Loops over numbers here and in `put_paths`: their invariants speak of the paths below the number.
     for number in 0..streams.len() {
         put_paths(end, number as u16, streams[number].paths());
     }

@@ -1,4 +1,4 @@
-//! What writes a record to its file.
+//! The writer of a record, which moves blocks from the ring to the record's file.
 ghost use Rattle.std.specs.Prelude.{◌≡◌, ◌≤◌, length, IfOk, IfSome, OnOk};
 ghost use Rattle.live_io.specs.RecordWriter.{Passes, SeesNone};
 
@@ -10,30 +10,32 @@ use std::sync::Wait;
 use std::thread::Parker;
 use std::time::Duration;
 
-/// How many octets are taken of the ring at once: more than a block has.
+/// The number of octets that are taken from the ring at once, at most.
+// More than the longest block has, so a block always becomes whole.
 const TAKEN: usize = 65_536;
 
-/// How long it rests where there is nothing to be written, in milliseconds.
+/// The rest of the writer if the ring is empty, in milliseconds.
+// The ring holds far more than arrives in that time, so the run's thread never has to wake the writer.
 const REST: u64 = 10;
 
-/// The type of a block that has a datagram.
+/// The type of a block that holds a datagram.
 const ENHANCED_PACKET_BLOCK: u32 = 6;
 
-/// What became of a record's file.
+/// The result of writing a record's file.
 #[derive(Clone, Copy, Debug, PartialEq, Eq)]
 pub struct FileResult {
-    /// How many datagrams were written.
+    /// The number of datagrams that were written.
     pub datagrams: u64,
-    /// Whether a write failed then.
+    /// True if a write failed. Nothing was written after it.
     pub failed: bool,
 }
 
-/// The whole blocks at the front of some octets.
+/// The extent of the whole blocks in a prefix of some octets.
 #[derive(Clone, Copy)]
 struct Blocks {
-    /// How many octets they have.
+    /// The number of octets in these blocks.
     len: usize,
-    /// How many of them have a datagram.
+    /// The number of these blocks that hold a datagram.
     datagrams: u64,
 }
 
@@ -42,15 +44,16 @@ struct Blocks {
 pub struct RecordWriter<D> {
     ring: Consumer<u8>,
     file: D,
-    /// What was taken.
+    /// The buffer for the octets that were taken from the ring.
     octets: Vec<u8>,
-    /// How many octets at the front of that are the first of a block.
+    /// The number of octets in the buffer that are left over: a prefix of a block that is not whole yet.
     held: usize,
+    /// The number of datagrams that were written.
     datagrams: u64,
 }
 
 impl<D: Write + Drop> RecordWriter<D> {
-    /// What writes the blocks of a ring to a file.
+    /// Returns the writer from a ring to a file. Returns `AllocError` if an allocation fails.
     pub(crate) fn new(
         alloc: Global,
         ring: Consumer<u8>,
@@ -67,11 +70,13 @@ impl<D: Write + Drop> RecordWriter<D> {
         })
     }
 
-    /// Writes the blocks that are whole by now, and answers how many octets were taken of the ring.
+    /// Writes the blocks that are whole by now, and returns the number of octets that were taken from the ring. Returns
+    /// the error of a write that failed.
     fn write_some(&mut self) -> io::Result<usize>
         ensures passes { OnOk result (Passes D.contents self.old self.new) }
         ensures empty { IfOk result (λ taken. taken ≡ 0 → SeesNone self.old self.new) }
     {
+        // Only whole blocks are written, so the file ends with a whole one unless a write fails.
         let octets = self.octets.as_mut_slice();
         let held = self.held.min(octets.len());
         let taken = self.ring.pop_partial_slice(&mut octets[held..]);
@@ -84,7 +89,7 @@ impl<D: Write + Drop> RecordWriter<D> {
         Ok(taken)
     }
 
-    /// What became of the file.
+    /// Returns the result of writing the file.
     fn written(&self, failed: bool) -> FileResult {
         FileResult {
             datagrams: self.datagrams,
@@ -93,7 +98,7 @@ impl<D: Write + Drop> RecordWriter<D> {
     }
 }
 
-/// The whole blocks at the front of some octets.
+/// Returns the extent of the whole blocks in a prefix of some octets.
 fn blocks_in(octets: &[u8]) -> Blocks
     ensures within { result.len ≤ length octets.now }
 {
@@ -110,19 +115,20 @@ fn blocks_in(octets: &[u8]) -> Blocks
     blocks
 }
 
-/// The type and the length of the block at the front of some octets, if it is whole.
+/// Returns the type and the length in octets of the block at the start of some octets, or `None` if it is not whole.
 fn block_at(octets: &[u8]) -> Option<(u32, usize)>
     ensures within { IfSome result (λ block. (12 ≤ block.1) × (block.1 ≤ length octets.now)) }
 {
     let kind = word_at(octets, 0)?;
     let len = word_at(octets, 4)? as usize;
+    // 12 octets are the shortest block: the type and the two lengths. A block of 0 octets would never end the loop.
     if len < 12 || len > octets.len() {
         return None;
     }
     Some((kind, len))
 }
 
-/// The word at a place, if it is there.
+/// Returns the 32-bit word at a place, least significant octet first, or `None` if the octets end before.
 fn word_at(octets: &[u8], place: usize) -> Option<u32> {
     let word = octets.get(place..place.saturating_add(4))?;
     let [a, b, c, d] = *word else {
@@ -131,11 +137,13 @@ fn word_at(octets: &[u8], place: usize) -> Option<u32> {
     Some(u32::from_le_bytes([a, b, c, d]))
 }
 
-/// Writes what comes through the ring until its other end is gone and it is empty, or a write fails.
+/// Writes the blocks that come through the ring, until its other end was dropped and it is empty, or a write fails. It
+/// blocks the calling thread until then.
 pub fn write_record<R: Wait, D: Write + Drop>(rt: &R, recorder: RecordWriter<D>) -> FileResult {
     let mut recorder = recorder;
     let parker = Parker::new();
     for _ in rt.forever() {
+        // Asked before the ring is read: once it is true nothing more is put, so a ring that is empty then is the end.
         let is_last = recorder.ring.is_abandoned();
         match recorder.write_some() {
             Ok(0) if is_last => return recorder.written(false),

@@ -1,4 +1,4 @@
-//! The addresses at which a live run receives, and from which.
+//! The local address and the source address of each path of a live run.
 ghost use Rattle.std.specs.Prelude.{◌≡◌, ◌++◌, ◌<◌, OnOk, IfOk};
 ghost use Rattle.live_io.specs.Addresses.{addresses_of, row_addresses};
 
@@ -7,30 +7,31 @@ use std::alloc::{AllocError, Global};
 use std::net::Ipv4Addr;
 use studio_config::{Networks, StudioSpec};
 
-/// Where a path's datagrams come in, and where from.
+/// The local address and the source address of a path.
 #[derive(Clone, Copy, Debug, PartialEq, Eq)]
 pub struct PathAddress {
     /// The address to bind.
     pub at: Ipv4Addr,
-    /// The address of its source; if none, datagrams are taken from anywhere.
+    /// The address of the path's source. If `None`, datagrams of any source are taken.
     pub from: Option<Ipv4Addr>,
 }
 
-/// The addresses of each path of each stream, stream by stream and path by path: it is received at 127.0.0.1
-/// where the studio says no address.
+/// Returns the addresses of all paths, ordered by stream and then by path. A path without an address in the studio is
+/// received at 127.0.0.1. Returns `AllocError` if an allocation fails.
 pub fn addresses_of(alloc: Global, studio: &StudioSpec) -> Result<Vec<PathAddress>, AllocError>
     ensures { IfOk result (λ found. found.items ≡ addresses_of studio.now) }
 {
     let networks = studio.networks();
     let streams = studio.streams();
     let mut found = Vec::new(alloc);
+    // Loops over numbers here and in `push_row`: their invariants speak of the paths below the number.
     for number in 0..streams.len() {
         push_row(&mut found, networks, number, streams[number].paths())?;
     }
     Ok(found)
 }
 
-/// Puts the addresses of a stream's first so many paths behind those that there are.
+/// Appends the addresses of a stream's first `count` paths. Returns `AllocError` if an allocation fails.
 fn push_row(
     found: &mut Vec<PathAddress>,
     networks: &Networks,

@@ -1,4 +1,4 @@
-//! The datagrams of a path, from a socket.
+//! The feed of a path from a socket.
 ghost use Rattle.std.specs.Prelude.{◌≡◌, [], ℕ};
 ghost use Rattle.studio_io.specs.Answers.{IsWithin};
 
@@ -11,35 +11,36 @@ use std::sync::atomic::{AtomicBool, Ordering};
 use std::time::Clock;
 use studio_io::{Clock as ReadClock, Feed, FeedAnswer};
 
-/// After so many datagrams from elsewhere than its source a feed has nothing for now.
+/// The number of datagrams from unexpected sources after which a call of `next` returns `Nothing`.
+// A bound, so that the path's worker or engine goes on with its other work during a flood from an unexpected source.
 const MAX_UNEXPECTED: u32 = 64;
 
-/// What all feeds of a run share with what goes on beside them.
+/// The flags that all feeds of a run share with other threads and with the wait for sockets.
 #[derive(Clone, Copy)]
 pub struct FeedFlags<'a> {
-    /// Each feed is to end.
+    /// True once each feed is to end.
     pub stop: &'a AtomicBool,
-    /// For each path, whether its socket is to be asked once; empty where receives wait.
+    /// For each path a flag that is true if its socket is to be read once. Empty if receives wait.
     pub ready: &'a [AtomicBool],
 }
 
-/// A socket, whose receives wait or have a flag that says whether they are tried. It ends once it is told to stop, or
-/// once its clock has reached a time.
+/// A feed from a socket. Its receives wait, or they have a flag that says if one is tried. It ends once the flag `stop`
+/// is set, or once its clock has reached a time.
 #[derive(Drop)]
 pub struct UdpFeed<'a, R: Clock> {
     receiver: Receiver<'a>,
     clock: SystemClock<'a, R>,
-    /// In sampling instants.
+    /// The time at which the feed ends, in sampling instants, if the clock ends it.
     until: Option<i64>,
     stop: &'a AtomicBool,
-    /// Whether it is to be asked once; none where receives wait.
+    /// A flag that is true if the socket is to be read once. `None` if receives wait.
     ready: Option<&'a AtomicBool>,
-    /// Its path's place among those of all streams.
+    /// The path's place among the paths of all streams.
     place: u32,
 }
 
 impl<'a, R: Clock> UdpFeed<'a, R> {
-    /// A feed of what comes in at the socket of the path at a place.
+    /// Returns the feed of the path at a place, from its socket.
     pub(crate) fn new(
         rt: &'a R,
         receiver: Receiver<'a>,
@@ -57,28 +58,28 @@ impl<'a, R: Clock> UdpFeed<'a, R> {
         }
     }
 
-    /// Its path's place, stream by stream and path by path.
+    /// Returns the path's place among the paths of all streams, ordered by stream and then by path.
     pub fn place(&self) -> u32
         ensures { result ≡ self.now.place }
     {
         self.place
     }
 
-    /// Where its last datagram came from, where its receiver tells that; else 0.0.0.0:0.
+    /// Returns the source address of the last datagram, or 0.0.0.0:0 if the receiver keeps no sources.
     pub fn source(&self) -> SocketAddrV4
         ensures { result ≡ self.now.receiver.last_source }
     {
         self.receiver.last_source
     }
 
-    /// Where its datagrams are sent to.
+    /// Returns the address to which the path's datagrams are sent.
     pub fn destination(&self) -> SocketAddrV4
         ensures { result ≡ self.now.receiver.address }
     {
         self.receiver.address
     }
 
-    /// Whether it is to be asked, from which on it isn't until it is told so again.
+    /// Returns true if the socket is to be read, and clears the flag that says so.
     fn take_ready(&self) -> bool {
         match self.ready {
             Some(ready) => ready.swap(false, Ordering::SeqCst),
@@ -86,7 +87,7 @@ impl<'a, R: Clock> UdpFeed<'a, R> {
         }
     }
 
-    /// Whether nothing more is to be received.
+    /// Returns true if nothing more is to be received.
     fn has_ended(&mut self) -> bool {
         if self.stop.load(Ordering::SeqCst) {
             return true;
@@ -98,11 +99,12 @@ impl<'a, R: Clock> UdpFeed<'a, R> {
     }
 }
 
-/// What a receive that failed comes to.
+/// Returns the feed's result for a receive that failed with this error.
 fn answer_of(kind: ErrorKind) -> FeedAnswer
     ensures { (len : ℕ) → IsWithin result len }
 {
     match kind {
+        // `WouldBlock` is also the error of a receive whose time ran out.
         ErrorKind::WouldBlock | ErrorKind::Interrupted => FeedAnswer::Nothing,
         _ => FeedAnswer::Fault,
     }
@@ -113,6 +115,7 @@ impl<R: Clock> Feed for UdpFeed<'_, R> {
 
     fn next(&mut self, buf: &mut [u8]) -> FeedAnswer {
         for _ in 0..MAX_UNEXPECTED {
+            // Tested again after each receive, so that a flood from an unexpected source does not delay the end.
             if self.has_ended() {
                 return FeedAnswer::Ended;
             }
@@ -128,7 +131,7 @@ impl<R: Clock> Feed for UdpFeed<'_, R> {
         FeedAnswer::Nothing
     }
 
-    /// A receive waits for a datagram, where no flag says that there may be one.
+    /// Returns true if receives wait for a datagram, because no flag says if there may be one.
     fn waits(&self) -> bool {
         self.ready.is_none()
     }

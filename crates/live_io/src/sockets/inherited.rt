@@ -1,4 +1,4 @@
-//! Sockets that whoever started the program opened for it, by the convention of sd_listen_fds(3).
+//! Sockets that are inherited from the program that started this one, by the convention of sd_listen_fds(3).
 
 use os::FromRawFd;
 use rtp_stream::StreamSpec;
@@ -10,20 +10,21 @@ use std::os::fd::IntoRawFd;
 use std::rt::Env;
 use thiserror::Error;
 
-/// The first descriptor of those that are handed over.
+/// The first inherited descriptor.
+// SD_LISTEN_FDS_START of sd_listen_fds(3).
 const FIRST: i32 = 3;
 
-/// The most that are handed over: of 16 streams with four paths each, and of two copies.
+/// The greatest number of inherited sockets: 16 streams with four paths each, and two copies of the mix.
 const MOST: u32 = 66;
 
-/// Why sockets that were handed over are not taken.
+/// The error of inherited sockets that are not taken.
 #[derive(Debug, Drop, Error)]
 pub enum InheritedSocketFault {
-    /// Memory was refused.
+    /// An allocation failed.
     #[error("out of memory")]
     Memory,
-    /// The name is that of no path or copy, or of one that has a socket already; or the descriptor is no socket at an
-    /// IPv4 address; or a variable of the convention can't be read.
+    /// The name belongs to no path or copy, or to one that has a socket already; or the descriptor is no socket at an
+    /// IPv4 address; or a variable of the convention cannot be read, and then the name is the variable's.
     #[error("device: socket {0}")]
     Socket(String),
 }
@@ -40,27 +41,30 @@ impl<T: Drop> From<AllocFailed<T>> for InheritedSocketFault {
     }
 }
 
-/// Descriptors of sockets that were handed over, of each path of each stream and of the output's two copies.
+/// The descriptors of the inherited sockets.
 #[derive(Clone, Copy)]
 pub struct InheritedSockets {
+    /// The descriptor of each path of each stream.
     paths: [[Option<i32>; 4]; 16],
+    /// The descriptor for the mix's first copy.
     pub to_a: Option<i32>,
+    /// The descriptor for the mix's second copy.
     pub to_b: Option<i32>,
 }
 
-/// Which datagrams go through a socket.
+/// The use of a socket.
 #[derive(Clone, Copy)]
 enum SocketRole {
-    /// Those of a path of a stream.
+    /// It receives a path: the stream's number and the path's.
     Path(usize, usize),
-    /// Those of the output's first copy.
+    /// It sends the mix's first copy.
     ToA,
-    /// Those of its second copy.
+    /// It sends the mix's second copy.
     ToB,
 }
 
 impl InheritedSockets {
-    /// Nothing was handed over.
+    /// Returns the value for a run without inherited sockets.
     pub fn none() -> InheritedSockets {
         InheritedSockets {
             paths: [[None; 4]; 16],
@@ -69,8 +73,9 @@ impl InheritedSockets {
         }
     }
 
-    /// What the environment says was handed over to this process: nothing, where it means another one. Names are
-    /// `0a`, `0b`, .. for the paths of streams, and `to_a` and `to_b`. Each descriptor is tested, and stays open.
+    /// Returns the sockets that the environment lists for this process, or none if it names another process. Names are
+    /// `0a`, `0b`, .. for the paths of streams, and `to_a` and `to_b`. Each descriptor is tested, and stays open. The
+    /// first name, descriptor or variable that is not valid is an error.
     pub fn from_env<R: Env + AllocGlobal>(
         rt: &R,
         alloc: Global,
@@ -85,6 +90,7 @@ impl InheritedSockets {
         let mut names = names.as_str().split(':');
         let mut descriptor = FIRST;
         for _ in 0..count {
+            // The name that sd_listen_fds_with_names(3) gives to a descriptor without one; here it is refused.
             let name = names.next().unwrap_or("unknown");
             if !handed.assign(name, streams, descriptor) {
                 return Err(fault_of(alloc, name));
@@ -94,8 +100,8 @@ impl InheritedSockets {
         Ok(handed)
     }
 
-    /// Notes the descriptor of a name, if there is such a name, which has none yet, and the descriptor is that of a
-    /// socket at an IPv4 address.
+    /// Sets the descriptor of a name, and returns true if it did. Returns false if there is no such name, it has a
+    /// descriptor already, or the descriptor is no socket at an IPv4 address.
     fn assign(&mut self, name: &str, streams: &[StreamSpec], descriptor: i32) -> bool {
         let Some(named) = role_of(name, streams) else {
             return false;
@@ -113,7 +119,8 @@ impl InheritedSockets {
         }
     }
 
-    /// The descriptor of each path, stream by stream and path by path, where there is one.
+    /// Returns the descriptor of each path, ordered by stream and then by path, or `None` for a path without one.
+    /// Returns `AllocError` if an allocation fails.
     pub fn descriptors(
         &self,
         alloc: Global,
@@ -129,7 +136,8 @@ impl InheritedSockets {
     }
 }
 
-/// Notes a descriptor in a place that is free, if it is that of a socket at an IPv4 address.
+/// Sets a place to a descriptor, and returns true if it did. Returns false if the place is taken or the descriptor is
+/// no socket at an IPv4 address.
 fn set_once(place: &mut Option<i32>, descriptor: i32) -> bool {
     if place.is_some() || !is_ipv4_socket(descriptor) {
         return false;
@@ -138,7 +146,7 @@ fn set_once(place: &mut Option<i32>, descriptor: i32) -> bool {
     true
 }
 
-/// A name that is refused.
+/// Returns the error for a name that is refused.
 fn fault_of(alloc: Global, name: &str) -> InheritedSocketFault {
     match String::from_str(alloc, name) {
         Ok(name) => InheritedSocketFault::Socket(name),
@@ -146,7 +154,7 @@ fn fault_of(alloc: Global, name: &str) -> InheritedSocketFault {
     }
 }
 
-/// The text of a variable, empty where there is none.
+/// Returns the text of a variable, which is empty if the variable is not set.
 fn variable<R: Env + AllocGlobal>(
     rt: &R,
     alloc: Global,
@@ -160,7 +168,7 @@ fn variable<R: Env + AllocGlobal>(
     }
 }
 
-/// Whether sockets were handed over to this process, and not to one that started it.
+/// Returns true if the sockets were passed to this process, and not to one that started it.
 fn is_for_this_process<R: Env + AllocGlobal>(
     rt: &R,
     alloc: Global,
@@ -172,7 +180,7 @@ fn is_for_this_process<R: Env + AllocGlobal>(
     }
 }
 
-/// How many sockets were handed over.
+/// Returns the number of inherited sockets.
 fn fd_count<R: Env + AllocGlobal>(rt: &R, alloc: Global) -> Result<u32, InheritedSocketFault> {
     let name = "LISTEN_FDS";
     let count = variable(rt, alloc, name)?;
@@ -182,7 +190,7 @@ fn fd_count<R: Env + AllocGlobal>(rt: &R, alloc: Global) -> Result<u32, Inherite
     }
 }
 
-/// What a name says that a socket is for, if it is that of a copy or of a path that the streams have.
+/// Returns the use of a socket by its name, or `None` if the name belongs to no copy and no path of the streams.
 fn role_of(name: &str, streams: &[StreamSpec]) -> Option<SocketRole> {
     match name {
         "to_a" => return Some(SocketRole::ToA),
@@ -199,13 +207,14 @@ fn role_of(name: &str, streams: &[StreamSpec]) -> Option<SocketRole> {
     None
 }
 
-/// Whether a descriptor is that of a socket at an IPv4 address. It stays open.
+/// Returns true if a descriptor is a socket at an IPv4 address. It stays open.
 fn is_ipv4_socket(descriptor: i32) -> bool {
     if descriptor < FIRST {
         return false;
     }
     let socket = unsafe { UdpSocket::from_raw_fd(descriptor) };
     let is_ipv4 = matches!(&socket.local_addr(), Ok(SocketAddr::V4(_)));
+    // Without this the socket would be closed here.
     let _ = socket.into_raw_fd();
     is_ipv4
 }

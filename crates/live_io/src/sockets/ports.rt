@@ -2,24 +2,35 @@
 ghost use Rattle.std.specs.Prelude.{◌≡◌, ◌++◌, ◌<◌, ℕ, List, Some, None, OnOk, IfOk, IfErr, ◌⊎◌};
 ghost use Rattle.studio_config.specs.Config.{no_memory};
 ghost use Rattle.studio_config.specs.declared.config.fault.ConfigTable.TheVariants as place;
-ghost use Rattle.live_io.specs.Ports.{AreSaid, HasPorts, first_missing, missing_at, needs_of, path_needs, port_key, row_needs};
+ghost use Rattle.live_io.specs.Ports.{
+  AreSaid,
+  HasPorts,
+  first_missing,
+  missing_at,
+  needs_of,
+  path_needs,
+  port_key,
+  row_needs,
+};
 
 use rtp_stream::{Path, StreamSpec};
 use std::alloc::Global;
 use studio_config::{ConfigTable, Key, Ports, SpecError, SpecErrorKind, StudioSpec};
 
-/// Where each path of each stream comes in, stream by stream and path by path, and where the output's
-/// two copies go.
+/// The ports of a live run.
 #[derive(Debug, Drop)]
 pub struct LivePorts {
+    /// The port at which each path is received, ordered by stream and then by path.
     pub paths: Vec<u16>,
+    /// The port to which the mix's first copy is sent.
     pub to_a: u16,
+    /// The port to which the mix's second copy is sent.
     pub to_b: u16,
 }
 
 impl LivePorts {
-    /// The ports of a studio's own paths and of its output, or the first of them that is absent. Ports
-    /// of paths that a stream lacks are not looked at.
+    /// Returns the ports of a studio's paths and of its output, or an error for the first of them that is absent. Ports
+    /// of paths that a stream does not have are ignored.
     pub fn of(alloc: Global, studio: &StudioSpec) -> Result<LivePorts, SpecError>
         ensures ok { IfOk result (HasPorts studio.now) }
         ensures fault { IfErr result (λ e. (e ≡ no_memory) ⊎ (first_missing (needs_of studio.now) ≡ Some e)) }
@@ -32,23 +43,28 @@ impl LivePorts {
     }
 }
 
-/// The ports of all streams' own paths.
+/// Returns the ports of the paths of all streams, or an error for the first of them that is absent.
 fn path_ports(alloc: Global, ports: &Ports, streams: &[StreamSpec]) -> Result<Vec<u16>, SpecError>
     ensures ok { IfOk result (λ found. AreSaid (path_needs ports.now.paths 0 streams.now) found.items) }
-    ensures fault { IfErr result (λ e. (e ≡ no_memory) ⊎ (first_missing (path_needs ports.now.paths 0 streams.now) ≡ Some e)) }
+    ensures fault { IfErr result
+        (λ e. (e ≡ no_memory) ⊎ (first_missing (path_needs ports.now.paths 0 streams.now) ≡ Some e)) }
 {
     let mut found = Vec::new(alloc);
+    // Loops over numbers here and in `push_row`: their invariants speak of the paths below the number.
     for number in 0..streams.len() {
         push_row(&mut found, ports, number, streams[number].paths())?;
     }
     Ok(found)
 }
 
-/// Puts the ports of a stream's first so many paths behind those that there are.
+/// Appends the ports of a stream's first `count` paths. Returns an error for the first of them that is absent.
 fn push_row(found: &mut Vec<u16>, ports: &Ports, number: usize, count: u8) -> Result<(), SpecError>
     requires few { count < 5 }
-    ensures ok { OnOk result ((own : List ℕ) × (found.new.items ≡ found.old.items ++ own) × AreSaid (row_needs ports.now.paths number count) own) }
-    ensures fault { IfErr result (λ e. (e ≡ no_memory) ⊎ (first_missing (row_needs ports.now.paths number count) ≡ Some e)) }
+    ensures ok { OnOk result
+        ((own : List ℕ) × (found.new.items ≡ found.old.items ++ own)
+        × AreSaid (row_needs ports.now.paths number count) own) }
+    ensures fault { IfErr result
+        (λ e. (e ≡ no_memory) ⊎ (first_missing (row_needs ports.now.paths number count) ≡ Some e)) }
 {
     for place in 0..count {
         let Some(path) = Path::new(place) else {
@@ -62,7 +78,7 @@ fn push_row(found: &mut Vec<u16>, ports: &Ports, number: usize, count: u8) -> Re
     Ok(())
 }
 
-/// The port of one of the output's addresses.
+/// Returns the port of one of the output's addresses, or an error if it is absent.
 fn output_port(port: Option<u16>, key: Key) -> Result<u16, SpecError>
     ensures ok { IfOk result (λ said. port ≡ Some said) }
     ensures there { OnOk result (missing_at place.Output key port ≡ None) }
@@ -74,7 +90,7 @@ fn output_port(port: Option<u16>, key: Key) -> Result<u16, SpecError>
     }
 }
 
-/// The key of a path's port, by the path's number.
+/// Returns the key of a path's port, by the path's number.
 fn port_key(path: u8) -> Key
     ensures { result ≡ port_key path }
 {
@@ -86,7 +102,7 @@ fn port_key(path: u8) -> Key
     }
 }
 
-/// A key that a live run needs is not there.
+/// Returns the error for a key that a live run needs and that is absent.
 fn missing(place: ConfigTable, key: Key) -> SpecError
     ensures { missing_at place key None ≡ Some result }
 {

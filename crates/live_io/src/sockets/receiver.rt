@@ -1,4 +1,4 @@
-//! The socket of a path.
+//! The socket that receives a path.
 ghost use Rattle.std.specs.Prelude.{◌≤◌, length, IfOk, IfSome};
 
 use crate::sockets::unexpected::ExpectedSource;
@@ -9,32 +9,38 @@ use std::net::{Ipv4Addr, Net, SocketAddr, SocketAddrV4, UdpSocket};
 use std::os::fd::AsRawFd;
 use std::time::Duration;
 
-/// How long a receive waits, in milliseconds. The system rounds it up to its ticks.
+/// The longest wait of a receive, in milliseconds. The system rounds it up to its ticks.
+// A feed tests its end between two receives, so the wait bounds how late the feed ends. A receive that waits takes one
+// call for each datagram; waiting by `Poll` takes three.
 const RECEIVE_WAIT: u64 = 100;
 
-/// How many octets a socket is asked to hold. The system gives less where its own bound is lower.
+/// The receive buffer of a socket, in octets. The system gives less if its own limit is lower.
+// 8 MiB, so that a burst after a delayed sender is not dropped.
 const RECEIVE_BUFFER: u32 = 8 << 20;
 
-/// A socket at which a path is received.
+/// The socket that receives a path.
 #[derive(Drop)]
 pub struct Receiver<'a> {
     socket: UdpSocket,
+    /// The path's source, if only its datagrams are taken.
     source: Option<ExpectedSource<'a>>,
-    /// Where datagrams are sent to for it to receive them.
+    /// The address to which the path's datagrams are sent.
     pub(crate) address: SocketAddrV4,
-    /// Where the last of them came from, if that is told.
+    /// The source address of the last datagram, if sources are kept.
     pub(crate) last_source: SocketAddrV4,
-    /// Whether it tells where they come from.
+    /// True if the source address of each datagram is kept.
     tells_sources: bool,
 }
 
 impl<'a> Receiver<'a> {
-    /// A socket of a path at an address, of which none came yet. One that was handed over may be at another.
+    /// Returns the receiver of a path from its socket. Its address is the one that the socket is bound to, or `address`
+    /// if that is 0.0.0.0 or not known.
     pub(crate) fn new(
         socket: UdpSocket,
         source: Option<ExpectedSource<'a>>,
         address: SocketAddrV4,
     ) -> Receiver<'a> {
+        // An inherited socket may be bound elsewhere than the studio says.
         let address = match &socket.local_addr() {
             Ok(SocketAddr::V4(own)) if !own.ip().is_unspecified() => *own,
             _ => address,
@@ -48,22 +54,24 @@ impl<'a> Receiver<'a> {
         }
     }
 
-    /// Has it tell where datagrams come from, which costs a part of each receive.
+    /// Makes the receiver keep the source address of each datagram, which makes each receive slower.
     pub fn keep_sources(&mut self) {
         self.tells_sources = true;
     }
 
-    /// Lets receives answer at once from now on, and answers the socket's descriptor, by which its readiness is watched.
+    /// Makes receives return at once from now on, and returns the socket's descriptor, by which its readiness is
+    /// polled. Returns the system's error if it refuses.
     pub fn nonblocking_fd(&self) -> io::Result<i32> {
         self.socket.set_nonblocking(true)?;
         Ok(self.socket.as_raw_fd())
     }
 
-    /// Receives a datagram into `buf`, and answers how many octets it has; none, if it isn't the source's.
+    /// Receives a datagram into `buf`, and returns its length in octets, or `None` if it is from an unexpected source.
     pub(crate) fn receive(&mut self, buf: &mut [u8]) -> io::Result<Option<usize>>
         ensures within { IfOk result (λ own. IfSome own (λ count. count ≤ length buf.old)) }
     {
         let source = self.source;
+        // `recv` is cheaper than `recv_from`.
         if source.is_none() && !self.tells_sources {
             return Ok(Some(self.socket.recv(buf)?));
         }
@@ -78,8 +86,8 @@ impl<'a> Receiver<'a> {
     }
 }
 
-/// A socket that is bound to an address and a port, whose receives wait for a datagram, but not for long. One that is
-/// shared may be bound beside others at the same group and port.
+/// Returns a socket that is bound to an address and a port, whose receives wait 100 ms at most. A shared one may be
+/// bound next to others at the same group and port. Returns the system's error if it refuses.
 pub(crate) fn receiving_socket<R: Net>(
     rt: &R,
     address: Ipv4Addr,
@@ -96,15 +104,18 @@ pub(crate) fn receiving_socket<R: Net>(
     Ok(socket)
 }
 
-/// A socket beside others at the same group and port.
+/// Returns a socket that may be bound next to others at the same group and port.
 fn shared_socket(address: Ipv4Addr, port: u16) -> io::Result<UdpSocket> {
+    // By libc, since SO_REUSEADDR has to be set between `socket` and `bind`, which `UdpSocket::bind` does in one.
     let kind = libc::net::SOCK_DGRAM | libc::net::SOCK_CLOEXEC;
     let descriptor = unsafe { libc::net::socket(libc::net::AF_INET, kind, 0) };
     if descriptor < 0 {
         return Err(io::Error::from_raw_os_error(os::errno()));
     }
+    // Owned from here on, so that the descriptor is closed at each error.
     let socket = unsafe { UdpSocket::from_raw_fd(descriptor) };
     share(&socket)?;
+    // 16 octets are a `sockaddr_in`.
     let bound = unsafe { libc::net::bind(descriptor, &raw_address(address, port), 16) };
     if bound != 0 {
         return Err(io::Error::from_raw_os_error(os::errno()));
@@ -112,7 +123,8 @@ fn shared_socket(address: Ipv4Addr, port: u16) -> io::Result<UdpSocket> {
     Ok(socket)
 }
 
-/// An address and port as the system has them: the family in the machine's order, the others in the network's.
+/// Returns an address and port as the system's `sockaddr_in`: the family in the machine's octet order, the port and the
+/// address in the network's.
 fn raw_address(address: Ipv4Addr, port: u16) -> [u8; 128] {
     let mut raw = [0; 128];
     let family = libc::net::AF_INET as u16;
@@ -122,8 +134,8 @@ fn raw_address(address: Ipv4Addr, port: u16) -> [u8; 128] {
     raw
 }
 
-/// The socket of a descriptor that was handed over, whose receives wait as those of the program's own. How much it
-/// holds is for whoever opened it to say.
+/// Returns the socket of an inherited descriptor, whose receives wait 100 ms at most. Its receive buffer stays as its
+/// opener set it. Returns an error if the descriptor is below 0, or the system's if it refuses.
 pub(crate) fn inherited_socket(descriptor: i32) -> io::Result<UdpSocket> {
     if descriptor < 0 {
         return Err(io::Error::from(ErrorKind::InvalidInput));
@@ -134,7 +146,7 @@ pub(crate) fn inherited_socket(descriptor: i32) -> io::Result<UdpSocket> {
     Ok(socket)
 }
 
-/// Asks the system to hold more datagrams while none is received. It may give less, and nothing rests on it.
+/// Sets the receive buffer of a socket. The system may give less, and an error is ignored: nothing depends on the size.
 fn ask_for_room(socket: &UdpSocket) {
     let value = option_of(RECEIVE_BUFFER);
     let _ = unsafe {
@@ -148,7 +160,8 @@ fn ask_for_room(socket: &UdpSocket) {
     };
 }
 
-/// Lets others be bound to the address and port of a socket that will be.
+/// Allows other sockets at the address and port to which a socket will be bound. Returns the system's error if it
+/// refuses.
 fn share(socket: &UdpSocket) -> io::Result<()> {
     let value = option_of(1);
     let set = unsafe {
@@ -167,7 +180,7 @@ fn share(socket: &UdpSocket) -> io::Result<()> {
     }
 }
 
-/// The value of a socket's option as the system has it.
+/// Returns the value of a socket's option in the machine's octet order. Its first four octets are the value.
 fn option_of(value: u32) -> [u8; 16] {
     let [a, b, c, d] = value.to_ne_bytes();
     [a, b, c, d, 0, 0, 0, 0, 0, 0, 0, 0, 0, 0, 0, 0]

@@ -1,4 +1,4 @@
-//! Where the output's datagrams go: to two addresses, each from a socket of its own.
+//! The sink of the mix's datagrams: two addresses, each with a socket of its own (SMPTE ST 2022-7).
 ghost use Rattle.std.specs.Prelude.{None};
 
 use crate::sockets::inherited::InheritedSockets;
@@ -11,6 +11,8 @@ use studio_config::OutputAddresses;
 use studio_io::{SendAnswer, Sink};
 
 /// A socket that sends to one address and port.
+// Not connected: a connected socket reports an ICMP error of an earlier datagram, so every second send would fail while
+// nobody listens.
 #[derive(Drop)]
 struct Sender {
     socket: UdpSocket,
@@ -18,8 +20,8 @@ struct Sender {
 }
 
 impl Sender {
-    /// A sender to an address and port, from the socket that was handed over, or else from an address, by a port of
-    /// the system's choice: 127.0.0.1 for either address that isn't given.
+    /// Returns a sender to an address and port, by the inherited socket, or else by a new one at an address and a port
+    /// of the system's choice. Each of the two addresses is 127.0.0.1 if it is not given.
     fn bind<R: Net>(
         rt: &R,
         handed: Option<i32>,
@@ -43,13 +45,14 @@ impl Sender {
         })
     }
 
-    /// Whether the system took a datagram.
+    /// Sends a datagram, and returns true if the system took it.
     fn sends(&self, datagram: &[u8]) -> bool {
         self.socket.send_to(datagram, self.to).is_ok()
     }
 }
 
-/// The socket of a descriptor that was handed over, whose sends don't wait.
+/// Returns the socket of an inherited descriptor, whose sends do not wait. Returns an error if the descriptor is below
+/// 0, or the system's if it refuses.
 fn inherited_sender(descriptor: i32) -> io::Result<UdpSocket> {
     if descriptor < 0 {
         return Err(io::Error::from(ErrorKind::InvalidInput));
@@ -59,8 +62,9 @@ fn inherited_sender(descriptor: i32) -> io::Result<UdpSocket> {
     Ok(UdpSocket::from_std(socket))
 }
 
-/// Sets the time to live of what a socket sends to an address, which may be a group's.
+/// Sets the time to live of the datagrams that a socket sends to an address. Returns the system's error if it refuses.
 fn set_time_to_live(socket: &UdpSocket, to: Ipv4Addr, ttl: u32) -> io::Result<()> {
+    // Datagrams to a group have an option of their own.
     if to.is_multicast() {
         socket.set_multicast_ttl_v4(ttl)
     } else {
@@ -68,8 +72,8 @@ fn set_time_to_live(socket: &UdpSocket, to: Ipv4Addr, ttl: u32) -> io::Result<()
     }
 }
 
-/// Two sockets, each of which sends its copy of each datagram. A send that fails, or that would wait, is
-/// a fault of its copy alone.
+/// A sink of two sockets, each of which sends a copy of each datagram. A send that fails or would block is a fault of
+/// that copy alone.
 #[derive(Drop)]
 pub struct UdpSink {
     a: Sender,
@@ -77,7 +81,8 @@ pub struct UdpSink {
 }
 
 impl UdpSink {
-    /// A sink to two ports at the addresses of these senders, from the sockets that were handed over.
+    /// Returns a sink to two ports at the output's addresses, by the inherited sockets if there are any. Returns the
+    /// system's error if it refuses.
     pub(crate) fn bind<R: Net>(
         rt: &R,
         to_a: u16,
@@ -92,7 +97,7 @@ impl UdpSink {
         })
     }
 
-    /// Where the two copies go.
+    /// Returns the addresses and ports to which the two copies are sent.
     pub(crate) fn addresses(&self) -> [SocketAddr; 2] {
         [self.a.to, self.b.to]
     }

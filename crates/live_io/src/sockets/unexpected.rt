@@ -1,18 +1,19 @@
-//! Datagrams from elsewhere than a path's source.
+//! The counts of datagrams from unexpected sources: from another address than the path's source.
 
 use std::alloc::{AllocError, Global};
 use std::net::{IpAddr, Ipv4Addr, SocketAddr};
 use std::sync::atomic::{AtomicU64, Ordering};
 use studio_config::StudioSpec;
 
-/// How many datagrams each path got from elsewhere than its source, stream by stream and path by path.
+/// The number of datagrams from unexpected sources of each path, ordered by stream and then by path.
+// Atomics, since feeds in several threads count while a page or the report reads.
 #[derive(Drop)]
 pub struct UnexpectedSources {
     counts: Vec<AtomicU64>,
 }
 
 impl UnexpectedSources {
-    /// None yet, at any path of a studio.
+    /// Returns counts of 0 for each path of a studio. Returns `AllocError` if an allocation fails.
     pub fn new(alloc: Global, studio: &StudioSpec) -> Result<UnexpectedSources, AllocError> {
         let mut counts = Vec::new(alloc);
         for stream in studio.streams() {
@@ -23,7 +24,7 @@ impl UnexpectedSources {
         Ok(UnexpectedSources { counts })
     }
 
-    /// Those of the path at this place so far.
+    /// Returns the count so far of the path at this place, or 0 if there is no such path.
     pub fn count(&self, place: usize) -> u64 {
         match self.counts.get(place) {
             Some(count) => count.load(Ordering::SeqCst),
@@ -31,7 +32,7 @@ impl UnexpectedSources {
         }
     }
 
-    /// The source of the path at this place, if one is said.
+    /// Returns the source of the path at this place, or `None` if it has no address or there is no such path.
     pub fn source(&self, place: usize, address: Option<Ipv4Addr>) -> Option<ExpectedSource<'_>> {
         Some(ExpectedSource {
             address: address?,
@@ -40,7 +41,7 @@ impl UnexpectedSources {
     }
 }
 
-/// The address from which alone a path takes datagrams, and how many came from elsewhere.
+/// The only address from which a path takes datagrams, and the count of those from other addresses.
 #[derive(Clone, Copy)]
 pub struct ExpectedSource<'a> {
     address: Ipv4Addr,
@@ -48,7 +49,7 @@ pub struct ExpectedSource<'a> {
 }
 
 impl ExpectedSource<'_> {
-    /// Whether a datagram is the source's. Another one is counted.
+    /// Returns true if a datagram is from this source. Counts it otherwise. Ports are not compared.
     pub fn accepts(&self, from: SocketAddr) -> bool {
         let is_own = from.ip() == IpAddr::V4(self.address);
         if !is_own {
