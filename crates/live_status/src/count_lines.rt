@@ -1,4 +1,4 @@
-//! Each stream's counts, told while a run goes on.
+//! The lines with each stream's counts on standard error while a run goes on.
 ghost use Rattle.std.specs.Prelude.{◌≡◌, ◌⊎◌, ◌^◌, ◌-◌, ◌*◌, ◌+ℤ◌, IfOk, int_le, pos};
 ghost use Rattle.std.specs.Int.{saturate_to_bits};
 
@@ -11,17 +11,20 @@ use studio_run::{TextBuffer, WriteFault, write_running_counts};
 /// A second, in sampling instants.
 const SECOND: i64 = 48_000;
 
-/// When lines of the streams' counts are due, and what they are written with.
+/// The schedule of the lines with the streams' counts, and the buffer for their text.
 #[derive(Drop)]
 pub struct CountLines {
-    /// From one telling to the next, in sampling instants.
+    /// The period of the lines, in sampling instants at 48 kHz.
     every: i64,
+    /// The time at which lines are due next, in sampling instants. After a failed write it is the greatest `i64`.
     next: i64,
+    /// The buffer for a line, which is allocated once.
     text: TextBuffer,
 }
 
 impl CountLines {
-    /// Every so many seconds from a time on, in sampling instants.
+    /// Returns a schedule with the first lines `seconds` seconds after `from`, which is in sampling instants at 48 kHz,
+    /// and then with this period. Returns `AllocError` if an allocation fails.
     pub fn new(alloc: Global, from: i64, seconds: u32) -> Result<CountLines, AllocError>
         ensures every { IfOk result (λ stats. stats.every ≡ pos (seconds * 48_000)) }
         ensures next { IfOk result (λ stats. stats.next ≡ saturate_to_bits 63 (from +ℤ stats.every)) }
@@ -34,25 +37,27 @@ impl CountLines {
         })
     }
 
-    /// Whether it is time for lines.
+    /// Returns true if lines are due at the time `now`.
     pub(crate) fn is_due(&self, now: i64) -> bool
         ensures { result ≡ int_le self.now.next now }
     {
         now >= self.next
     }
 
-    /// Writes a line for each stream of a snapshot, at this time. After a write that failed nothing more is written.
+    /// Writes a line for each stream of a snapshot at the time `now`. After a failed write nothing more is written.
     pub(crate) fn write_due<W: Write>(&mut self, now: i64, snapshot: &Snapshot, writer: &mut W)
-        ensures next { (self.new.next ≡ saturate_to_bits 63 (now +ℤ self.old.every)) ⊎ (self.new.next ≡ pos (2 ^ 63 - 1)) }
+        ensures next { (self.new.next ≡ saturate_to_bits 63 (now +ℤ self.old.every))
+            ⊎ (self.new.next ≡ pos (2 ^ 63 - 1)) }
         ensures every { self.new.every ≡ self.old.every }
     {
+        // The next lines count from now and not from the time that was due, so a late call makes no burst of lines.
         self.next = match self.write_lines(now, snapshot, writer) {
             Ok(()) => now.saturating_add(self.every),
             Err(WriteFault) => i64::MAX,
         };
     }
 
-    /// Writes a line for each stream, as long as standard error takes it at once. The other lines are dropped.
+    /// Writes a line for each stream. Once standard error would block, the other lines are dropped.
     fn write_lines<W: Write>(
         &mut self,
         now: i64,
@@ -62,6 +67,8 @@ impl CountLines {
         ensures { self.new.every ≡ self.old.every }
     {
         for (number, stream) in (0u8..).zip(snapshot.streams.iter()) {
+            // Tested before each line: a run in one thread, or a watcher that looks for signals, must not wait for
+            // whoever reads standard error.
             if !is_ready(STDERR, libc::net::POLLOUT) {
                 return Ok(());
             }

@@ -1,4 +1,4 @@
-//! What is noted of the packets that an engine took.
+//! The packets that were offered to an engine's merges, noted for the statistics of their paths.
 ghost use Rattle.std.specs.Prelude.{◌≡◌, ◌<◌, ◌≤◌, length, IfOk, IfSome, IsNone};
 ghost use Rattle.rtp_wire.specs.Datagram.{head_at};
 ghost use Rattle.live_status.specs.Each.{AreEach};
@@ -10,18 +10,20 @@ use rtp_stats::CopyTracker;
 use rtp_stream::StreamSpec;
 use std::alloc::{AllocError, Global};
 
-/// How many octets a packet's header has.
+/// The number of octets of the fixed part of a packet's header (RFC 3550, 5.1).
 const HEAD: usize = 12;
 
-/// What a packet's header says of its place among the others.
+/// The sequence number and the timestamp of a packet.
 #[derive(Clone, Copy)]
 pub(crate) struct PacketNumbers {
+    /// The sequence number.
     pub(crate) seq: u16,
-    /// In sampling instants.
+    /// The timestamp, in sampling instants at 48 kHz.
     pub(crate) ts: u32,
 }
 
-/// The numbers in the header of a packet, if there is a header.
+/// Returns the sequence number and the timestamp of a packet, or `None` if it is shorter than a header.
+// Reads only these two fields: the engine has tested the rest of the header when it took the packet.
 pub(crate) fn numbers_of(octets: &[u8]) -> Option<PacketNumbers>
     ensures long { IfSome result (λ numbers. 12 ≤ length octets.now) }
     ensures seq { IfSome result (λ numbers. numbers.seq ≡ (head_at octets.now).seq) }
@@ -37,7 +39,8 @@ pub(crate) fn numbers_of(octets: &[u8]) -> Option<PacketNumbers>
     })
 }
 
-/// A watch for each of these streams, before anything came.
+/// Returns a copy tracker for each of these streams, of which no packet was offered yet. Returns `AllocError` if an
+/// allocation fails.
 pub(crate) fn copy_trackers(
     alloc: Global,
     streams: &[StreamSpec],
@@ -51,7 +54,8 @@ pub(crate) fn copy_trackers(
     Ok(watched)
 }
 
-/// Notes a packet of the stream of a number, if that is watched, whose next slot is due at `due`.
+/// Notes a packet of the stream of this number, if there is a copy tracker for it. `due` is the stream's next deadline
+/// and `now` the time of the offer, both in sampling instants.
 pub(crate) fn note_offer(
     watched: &mut [CopyTracker],
     number: usize,

@@ -1,5 +1,19 @@
-//! What is seen of an engine while its run goes on.
-ghost use Rattle.std.specs.Prelude.{◌≡◌, ◌<◌, ◌≤◌, [], length, true, false, is_some, IfOk, IfSome, IsNone, MatchBool, MatchOption};
+//! The status of an engine while its run goes on: snapshots of its counts, with the statistics of each path's copies.
+ghost use Rattle.std.specs.Prelude.{
+  ◌≡◌,
+  ◌<◌,
+  ◌≤◌,
+  [],
+  length,
+  true,
+  false,
+  is_some,
+  IfOk,
+  IfSome,
+  IsNone,
+  MatchBool,
+  MatchOption,
+};
 ghost use Rattle.live_status.specs.Each.{AreEach};
 ghost use Rattle.live_status.specs.Engine.{HasEngineBefore, IsEnginePath};
 ghost use Rattle.live_status.specs.EngineOffers.{IsUnheard, Notes};
@@ -20,18 +34,19 @@ use std::io::Write;
 use studio_engine::Engine;
 use studio_session::ArriveOutcome;
 
-/// A board, and what came of each stream's packets where it has a page.
+/// The publisher of an engine's status, with a copy tracker for each stream if there is a page.
 #[derive(Drop)]
 pub struct EngineStatus<'a, E> {
     board: StatusPublisher<E>,
-    /// One for each stream, or none at all.
+    /// The copy tracker of each stream. Empty without a page, since the lines do not need them.
     watched: Vec<CopyTracker>,
-    /// What measures the mix, if anything does.
+    /// The meter of the mix, if there is one.
     meter: Option<&'a Meter>,
 }
 
 impl<'a, E: Write + Drop> EngineStatus<'a, E> {
-    /// A view of an engine of these streams, before anything came. It takes all memory.
+    /// Returns the status of an engine of these streams, which was passed no datagram yet. Allocates all its memory,
+    /// and returns `AllocError` if that fails.
     pub fn new(
         alloc: Global,
         streams: &[StreamSpec],
@@ -39,7 +54,8 @@ impl<'a, E: Write + Drop> EngineStatus<'a, E> {
         meter: Option<&'a Meter>,
     ) -> Result<EngineStatus<'a, E>, AllocError>
         ensures board { IfOk result (λ view. view.board ≡ board) }
-        ensures watched { IfOk result (λ view. MatchBool (is_some board.page) (AreEach IsUnheard streams.now view.watched.items) (view.watched.items ≡ [])) }
+        ensures watched { IfOk result (λ view. MatchBool (is_some board.page)
+            (AreEach IsUnheard streams.now view.watched.items) (view.watched.items ≡ [])) }
     {
         let watched = if board.has_page() {
             copy_trackers(alloc, streams)?
@@ -53,7 +69,8 @@ impl<'a, E: Write + Drop> EngineStatus<'a, E> {
         })
     }
 
-    /// Notes a datagram that the engine took just now, and what it answered.
+    /// Notes a datagram that was just passed to the engine, and the engine's result for it. Call it before the engine
+    /// is passed anything else.
     pub fn note(
         &mut self,
         engine: &Engine,
@@ -62,9 +79,11 @@ impl<'a, E: Write + Drop> EngineStatus<'a, E> {
         octets: &[u8],
         receipt: ArriveOutcome,
     )
-        ensures noted { Notes receipt stream path octets.now engine.now.time self.old.watched.items self.new.watched.items }
+        ensures noted { Notes receipt stream path octets.now engine.now.time
+            self.old.watched.items self.new.watched.items }
         ensures board { self.new.board ≡ self.old.board }
     {
+        // A datagram that was not offered to a merge has no fate: `fill_before_merge` shows its count.
         let ArriveOutcome::Offered(fate) = receipt else {
             return;
         };
@@ -75,9 +94,10 @@ impl<'a, E: Write + Drop> EngineStatus<'a, E> {
         }
     }
 
-    /// Shows what is to be seen of the engine, if it is time.
+    /// Publishes the engine's status, if a snapshot or lines are due by the engine's time.
     pub fn publish_if_due(&mut self, engine: &Engine)
-        ensures shown { MatchBool (is_due_at self.old.board engine.now.time) (ShowsEngine engine.now false self.old.board self.new.board) (self.new.board ≡ self.old.board) }
+        ensures shown { MatchBool (is_due_at self.old.board engine.now.time)
+            (ShowsEngine engine.now false self.old.board self.new.board) (self.new.board ≡ self.old.board) }
         ensures watched { self.new.watched ≡ self.old.watched }
     {
         if self.board.is_due(engine.time()) {
@@ -85,7 +105,7 @@ impl<'a, E: Write + Drop> EngineStatus<'a, E> {
         }
     }
 
-    /// Shows what is to be seen of the engine once it is closed.
+    /// Publishes the status of an engine that was closed, as the last one.
     pub fn publish_last(&mut self, engine: &Engine)
         ensures shown { ShowsEngine engine.now true self.old.board self.new.board }
         ensures watched { self.new.watched ≡ self.old.watched }
@@ -93,7 +113,7 @@ impl<'a, E: Write + Drop> EngineStatus<'a, E> {
         self.publish(engine, true);
     }
 
-    /// Shows what is to be seen of the engine.
+    /// Publishes the engine's status.
     fn publish(&mut self, engine: &Engine, has_ended: bool)
         ensures shown { ShowsEngine engine.now has_ended self.old.board self.new.board }
         ensures watched { self.new.watched ≡ self.old.watched }
@@ -106,7 +126,7 @@ impl<'a, E: Write + Drop> EngineStatus<'a, E> {
     }
 }
 
-/// Sees the streams of an engine.
+/// Fills in the streams of an engine.
 fn fill_streams(engine: &Engine, watched: &[CopyTracker], streams: &mut [StreamState])
     ensures { AreEach (SeesStream engine.now) streams.old streams.new }
 {
@@ -115,7 +135,7 @@ fn fill_streams(engine: &Engine, watched: &[CopyTracker], streams: &mut [StreamS
     }
 }
 
-/// Sees the output channels of an engine, and what measures them.
+/// Fills in the output channels of an engine: their saturated samples and, if there is a meter, their peaks.
 fn fill_engine_outputs(engine: &Engine, meter: Option<&Meter>, outputs: &mut [OutputState])
     ensures { AreEach (IsEngineOutput engine.now) outputs.old outputs.new }
 {
@@ -125,7 +145,7 @@ fn fill_engine_outputs(engine: &Engine, meter: Option<&Meter>, outputs: &mut [Ou
     }
 }
 
-/// Sees a stream of an engine.
+/// Fills in a stream of an engine: its counts and its paths.
 fn fill_engine_stream(
     engine: &Engine,
     number: usize,
@@ -146,7 +166,7 @@ fn fill_engine_stream(
     }
 }
 
-/// Sees the paths of a stream with these counts.
+/// Fills in the paths of a stream with these counts.
 fn fill_paths(
     engine: &Engine,
     number: usize,
@@ -154,14 +174,15 @@ fn fill_paths(
     counts: &Counts,
     paths: &mut [PathState],
 )
-    ensures { number < length engine.now.cursors → AreEach (IsEnginePath engine.now number counts.now) paths.old paths.new }
+    ensures { number < length engine.now.cursors
+        → AreEach (IsEnginePath engine.now number counts.now) paths.old paths.new }
 {
     for (place, path) in paths.iter_mut().enumerate() {
         fill_path(engine, number, watched, counts, place, path);
     }
 }
 
-/// Sees the path at a place of a stream with these counts, if there may be one.
+/// Fills in the path at a place of a stream with these counts. Does nothing at places past the fourth.
 fn fill_path(
     engine: &Engine,
     number: usize,
@@ -180,9 +201,10 @@ fn fill_path(
     fill_path_copies(watched, path, engine.time(), counts.lost, state);
 }
 
-/// Sees what became of a path's datagrams before the merge.
+/// Fills in the counts of a path's datagrams before the merge.
 fn fill_before_merge(engine: &Engine, number: usize, path: Path, state: &mut PathState)
-    ensures before { number < length engine.now.cursors → HasEngineBefore engine.now number path state.new.counts state.new.datagrams }
+    ensures before { number < length engine.now.cursors
+        → HasEngineBefore engine.now number path state.new.counts state.new.datagrams }
     ensures first { state.new.first ≡ state.old.first }
 {
     if let Some(counts) = engine.path_counts(number, path) {
@@ -190,7 +212,8 @@ fn fill_before_merge(engine: &Engine, number: usize, path: Path, state: &mut Pat
     }
 }
 
-/// Sees what became of a path's packets by this time, where that is tallied, of a stream that lost so many.
+/// Fills in the copies and arrival margins of a path at the time `now`, if the stream has a copy tracker. `lost` is the
+/// number of packets that the stream lost.
 fn fill_path_copies(
     watched: Option<&CopyTracker>,
     path: Path,
@@ -198,8 +221,10 @@ fn fill_path_copies(
     lost: u64,
     state: &mut PathState,
 )
-    ensures copies { MatchOption watched.entry (state.new ≡ state.old) (λ watch. IsWatched path now lost state.old state.new watch.now) }
-    ensures rest { (state.new.first ≡ state.old.first) × (state.new.counts ≡ state.old.counts) × (state.new.datagrams ≡ state.old.datagrams) }
+    ensures copies { MatchOption watched.entry (state.new ≡ state.old)
+        (λ watch. IsWatched path now lost state.old state.new watch.now) }
+    ensures rest { (state.new.first ≡ state.old.first) × (state.new.counts ≡ state.old.counts)
+        × (state.new.datagrams ≡ state.old.datagrams) }
 {
     if let Some(watch) = watched {
         let numbers = watch.stats(path, now);
@@ -207,7 +232,7 @@ fn fill_path_copies(
     }
 }
 
-/// The path at a place, if there may be one.
+/// Returns the path at a place, or `None` past the fourth.
 fn path_at(place: usize) -> Option<Path>
     ensures path { IfSome result (λ path. path ≡ place) }
     ensures none { IsNone result → 4 ≤ place }

@@ -1,15 +1,15 @@
-//! Why there is no page.
+//! The error of a page that cannot be opened.
 
 use std::alloc::{AllocError, AllocFailed};
 use thiserror::Error;
 
-/// Why there is no page.
+/// The error of a status that cannot be opened.
 #[derive(Clone, Copy, Debug, PartialEq, Eq, Error)]
 pub enum PageFault {
-    /// Memory was refused.
+    /// An allocation failed.
     #[error("out of memory")]
     Memory,
-    /// The port of the page couldn't be bound.
+    /// The port of the page could not be bound.
     #[error("device: socket page")]
     Page,
 }

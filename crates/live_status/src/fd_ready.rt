@@ -1,14 +1,15 @@
-//! Whether a descriptor of the process answers at once.
+//! The test if a read or a write of a descriptor would return at once.
 
-/// Standard input, by its descriptor.
+/// The descriptor of standard input.
 pub const STDIN: i32 = 0;
 
-/// Standard error, by its descriptor.
+/// The descriptor of standard error.
 pub const STDERR: i32 = 2;
 
-/// Whether a read (`POLLIN`), or a write of at most 4,096 octets (`POLLOUT`), would answer at once, be it by a
-/// fault. It doesn't wait.
+/// Returns true if a read (`POLLIN`), or a write of at most 4,096 octets (`POLLOUT`), would return at once, also if it
+/// would fail. It does not wait.
 pub fn is_ready(descriptor: i32, event: i16) -> bool {
+    // 4,096 octets are PIPE_BUF: a pipe counts as ready to be written once so many fit.
     let mut asked = [libc::types::pollfd {
         fd: descriptor,
         events: event,

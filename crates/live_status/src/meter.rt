@@ -1,4 +1,4 @@
-//! How loud the mix is.
+//! The meter of the mix's peaks.
 ghost use Rattle.std.specs.Prelude.{◌≡◌, ◌≤◌, min};
 ghost use Rattle.live_status.specs.Each.{AreEach};
 ghost use Rattle.live_status.specs.Outputs.{KeepsCount};
@@ -8,27 +8,29 @@ use rtp_wire::Enc;
 use status_page::OutputState;
 use std::sync::atomic::{AtomicU32, Ordering};
 
-/// The most output channels.
+/// The greatest number of output channels.
 const MAX_CHANNELS: usize = 8;
 
-/// How many octets of a datagram of the mix stand before its samples.
+/// The number of octets before the samples of a datagram of the mix: an RTP header without CSRC list and extension.
 const HEAD: usize = 12;
 
-/// Measures the datagrams of the mix where they are sent, and may be read in another thread.
+/// A meter that measures the datagrams of the mix as they are sent, and that may be read in another thread.
+// Peaks are atomics and not behind a lock, so the thread that sends never waits for the one that reads.
 #[derive(Drop)]
 pub struct Meter {
     enc: Enc,
     channels: usize,
-    /// The peak of each channel since it was told.
+    /// The peak of each channel since it was last read.
     peaks: [AtomicU32; MAX_CHANNELS],
     ghost few: { channels ≤ 8 },
 }
 
 impl Meter {
-    /// The meter of a mix of so many channels, up to eight.
+    /// Returns the meter of a mix in this encoding with so many channels. Channels past the eighth are ignored.
     pub fn new(enc: Enc, channels: u8) -> Meter
         ensures { result.channels ≡ min channels 8 }
     {
+        // Each peak is written out: an atomic is not `Copy`, as `[AtomicU32::new(0); 8]` would need.
         Meter {
             enc,
             channels: usize::from(channels).min(MAX_CHANNELS),
@@ -45,11 +47,12 @@ impl Meter {
         }
     }
 
-    /// Measures a datagram of the mix.
+    /// Raises the peaks by the samples of a datagram of the mix. Ignores one that is shorter than a header.
     pub fn measure(&self, datagram: &[u8]) {
         if datagram.len() < HEAD || self.channels == 0 {
             return;
         }
+        // Collected here first, so that there is one atomic operation for each channel and not for each sample.
         let mut peaks = [0u32; MAX_CHANNELS];
         raise_peaks(&mut peaks[..self.channels], self.enc, &datagram[HEAD..]);
         for (channel, peak) in self.peaks.iter().zip(peaks) {
@@ -57,7 +60,7 @@ impl Meter {
         }
     }
 
-    /// Tells each channel's peak since the last telling.
+    /// Fills in each channel's peak since it was last read, and sets the peaks to 0.
     pub(crate) fn fill_peaks(&self, outputs: &mut [OutputState])
         ensures { AreEach KeepsCount outputs.old outputs.new }
     {
@@ -66,7 +69,7 @@ impl Meter {
         }
     }
 
-    /// A channel's peak since the last telling.
+    /// Returns a channel's peak since it was last read, and sets it to 0.
     fn peak(&self, channel: usize) -> u32 {
         match self.peaks.get(channel) {
             Some(peak) => peak.swap(0, Ordering::SeqCst),

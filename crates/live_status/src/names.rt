@@ -1,4 +1,4 @@
-//! What is seen of streams by their names.
+//! The status of streams with their names.
 ghost use Rattle.std.specs.Prelude.{◌≡◌, None, IfOk, slice_index_or};
 ghost use Rattle.live_status.specs.Each.{AreEach};
 ghost use Rattle.live_status.specs.StreamStatus.{IsFirstSeenOf};
@@ -8,7 +8,8 @@ use rtp_stream::StreamSpec;
 use status_page::StreamName;
 use std::alloc::{AllocError, Global};
 
-/// What is seen of streams with these names, before anything came.
+/// Returns the status of these streams with their names, of which no packet was taken yet. `now` is in sampling
+/// instants. Returns `AllocError` if an allocation fails.
 pub(crate) fn all_seen(
     alloc: Global,
     streams: &[StreamSpec],
@@ -24,7 +25,7 @@ pub(crate) fn all_seen(
     Ok(seen)
 }
 
-/// The name at a place, if there is one.
+/// Returns the name at a place, or `None` if there is none.
 fn name_at(names: &[Option<StreamName>], number: usize) -> Option<StreamName>
     ensures { result ≡ slice_index_or names.now number None }
 {

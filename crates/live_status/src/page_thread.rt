@@ -1,4 +1,4 @@
-//! What answers the clients of a run's page.
+//! The server of a run's page, which runs in a thread of its own.
 
 use crate::fault::PageFault;
 use rtrb::{Producer, RingBuffer};
@@ -12,10 +12,11 @@ use std::random::RandomSource;
 use std::sync::Wait;
 use std::time::Clock;
 
-/// How many snapshots may wait for the page. It takes the newest.
+/// The number of snapshots that may wait for the page.
+// Few are enough: the page uses only the newest, and the run drops one that finds no room.
 const PLACES: usize = 4;
 
-/// What answers the page's clients.
+/// The server of a run's page, with the page and the ring from which its snapshots come.
 #[derive(Drop)]
 pub struct PageThread {
     server: PageServer,
@@ -24,7 +25,8 @@ pub struct PageThread {
 }
 
 impl PageThread {
-    /// Listens at a port of this machine, and answers where the page's snapshots go.
+    /// Binds a port of 127.0.0.1, and returns the page's server and the end of the ring for its snapshots. At port 0
+    /// the system picks one. Returns `PageFault::Page` if the port cannot be bound.
     pub(crate) fn bind<R: Net + RandomSource>(
         rt: &R,
         alloc: Global,
@@ -44,12 +46,12 @@ impl PageThread {
         }
     }
 
-    /// Where it listens.
+    /// Returns the address at which the server listens, or the system's error if it cannot be read.
     pub fn address(&self) -> io::Result<SocketAddr> {
         self.server.address()
     }
 
-    /// Answers the page's clients until the run has ended.
+    /// Serves the page's clients until the run has ended. It blocks the calling thread.
     pub fn serve<R: Wait + Clock>(self, rt: &R) {
         let PageThread {
             server,
@@ -60,12 +62,12 @@ impl PageThread {
     }
 }
 
-/// The server of a page, which listens at a port of this machine.
+/// Returns the server of a page, which listens at a port of 127.0.0.1.
 fn bound<R: Net + RandomSource>(rt: &R, alloc: Global, port: u16) -> io::Result<PageServer> {
     PageServer::bind(rt, alloc, RandomState::new(rt)?, port)
 }
 
-/// Why there is no page.
+/// Returns the error of a page whose server could not be bound.
 fn fault_of(kind: ErrorKind) -> PageFault {
     match kind {
         ErrorKind::OutOfMemory => PageFault::Memory,

@@ -1,4 +1,4 @@
-//! The line that says where a run receives, sends and is shown.
+//! The line with the addresses of a run: those of its paths, of the mix and of the page.
 
 use crate::fd_ready::{STDERR, is_ready};
 use crate::page_thread::PageThread;
@@ -7,8 +7,8 @@ use std::io;
 use std::io::Write;
 use studio_config::StudioSpec;
 
-/// Writes where each path is received, where the mix goes, and where the page is, in one line. It is left out where standard
-/// error doesn't take it at once.
+/// Writes one line with the addresses of the paths, of the mix and of the page. It is left out if standard error would
+/// block. Errors of the write are ignored.
 pub(crate) fn write_address_line<W: Write>(
     studio: &StudioSpec,
     sockets: &Sockets<'_>,
@@ -20,7 +20,7 @@ pub(crate) fn write_address_line<W: Write>(
     }
 }
 
-/// Writes the line.
+/// Writes the line. Returns the error of the first write that fails.
 fn write_line<W: Write>(
     studio: &StudioSpec,
     sockets: &Sockets<'_>,
@@ -35,7 +35,7 @@ fn write_line<W: Write>(
     writeln!(writer)
 }
 
-/// Writes where the page is.
+/// Writes the address of the page.
 fn write_page<W: Write>(serving: &PageThread, writer: &mut W) -> io::Result<()> {
     let address = serving.address()?;
     write!(writer, " page=http://{address}/")

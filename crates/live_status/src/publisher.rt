@@ -1,5 +1,20 @@
-//! What is told of a run while it goes on.
-ghost use Rattle.std.specs.Prelude.{◌≡◌, ◌≤◌, [], min, replicate, length, IfOk, IsNone, IsSome, IsSomeAnd, MatchOption, is_some, ◌≤ℤ◌, ◌+ℤ◌};
+//! The publisher of a run's status while it goes on: snapshots for its page, and lines on standard error.
+ghost use Rattle.std.specs.Prelude.{
+  ◌≡◌,
+  ◌≤◌,
+  [],
+  min,
+  replicate,
+  length,
+  IfOk,
+  IsNone,
+  IsSome,
+  IsSomeAnd,
+  MatchOption,
+  is_some,
+  ◌≤ℤ◌,
+  ◌+ℤ◌,
+};
 ghost use Rattle.live_status.specs.Each.{AreEach};
 ghost use Rattle.live_status.specs.Outputs.{blank_output};
 ghost use Rattle.live_status.specs.Conditions.{Looks, LooksAt, Stands};
@@ -14,23 +29,25 @@ use status_page::{OutputState, Snapshot, StreamName, StreamState};
 use std::alloc::{AllocError, Global};
 use std::io::Write;
 
-/// The most output channels.
+/// The greatest number of output channels.
 const MAX_CHANNELS: usize = 8;
 
-/// From one snapshot to the next, in sampling instants: a tenth of a second.
+/// The period of snapshots, in sampling instants at 48 kHz: a tenth of a second.
 const SNAPSHOT_INTERVAL: i64 = 4_800;
 
-/// What a run tells of itself, to its page and by lines, and when.
+/// The publisher of a run's status, to its page and as lines on standard error.
 #[derive(Drop)]
 pub struct StatusPublisher<E> {
     streams: Vec<StreamStatus>,
+    /// The schedule of the lines, if lines are wanted.
     stats: Option<CountLines>,
-    /// Where snapshots go, if a page is asked for. One that finds no room is dropped.
+    /// The ring to the page, if there is one. A snapshot that finds it full is dropped.
     page: Option<Producer<Snapshot>>,
-    /// When the next snapshot is due, in sampling instants.
+    /// The time at which the next snapshot is due, in sampling instants.
     next: i64,
-    /// How many output channels there are.
+    /// The number of output channels.
     channels: usize,
+    /// The writer of the lines.
     writer: E,
     ghost few: { channels ≤ 8 },
 }
@@ -39,8 +56,8 @@ impl<E: Write + Drop> StatusPublisher<E> {
     ghost use Rattle.rtp_stats.specs.Channel.{Gives};
     ghost use Rattle.live_status.specs.Publisher.{IsBlankSnapshot, Shows, is_due_at};
 
-    /// A board of these streams and so many output channels, up to eight, before anything came; `now` is in sampling instants.
-    /// It takes all memory.
+    /// Returns the publisher of the status of these streams and so many output channels; channels past the eighth are
+    /// ignored. `now` is in sampling instants. Allocates all its memory, and returns `AllocError` if that fails.
     pub fn new(
         alloc: Global,
         streams: &[StreamSpec],
@@ -67,14 +84,14 @@ impl<E: Write + Drop> StatusPublisher<E> {
         })
     }
 
-    /// Whether snapshots go to a page.
+    /// Returns true if snapshots go to a page.
     pub fn has_page(&self) -> bool
         ensures { result ≡ is_some self.now.page }
     {
         self.page.is_some()
     }
 
-    /// Whether it is time for a snapshot.
+    /// Returns true if a snapshot or lines are due at the time `now`, in sampling instants.
     pub fn is_due(&self, now: i64) -> bool
         ensures { result ≡ is_due_at self.now now }
     {
@@ -87,7 +104,8 @@ impl<E: Write + Drop> StatusPublisher<E> {
         }
     }
 
-    /// A snapshot in which nothing is counted.
+    /// Returns a snapshot of all streams and output channels in which all counts are 0. The caller fills in the counts
+    /// that it knows, and passes it to `publish`.
     pub fn blank_snapshot(&self) -> Snapshot
         ensures { IsBlankSnapshot self.now.streams.items self.now.channels result }
     {
@@ -97,7 +115,8 @@ impl<E: Write + Drop> StatusPublisher<E> {
         snapshot
     }
 
-    /// Shows the counts of a snapshot at a time: writes the lines that are due, and hands the snapshot to the page.
+    /// Publishes a snapshot at the time `now`, in sampling instants: sets the condition of each stream, writes the
+    /// lines that are due, and sends the snapshot to the page. `have_ended` is true if the streams have ended.
     pub fn publish(&mut self, now: i64, mut snapshot: Snapshot, have_ended: bool)
         ensures shown { Shows self.old.streams.items now have_ended snapshot self.old.page self.new.page }
         ensures streams { AreEach (Looks snapshot.streams.items now) self.old.streams.items self.new.streams.items }
@@ -109,7 +128,7 @@ impl<E: Write + Drop> StatusPublisher<E> {
         self.show_page(now, snapshot);
     }
 
-    /// Writes the lines that are due at a time.
+    /// Writes the lines that are due at the time `now`.
     fn write_lines(&mut self, now: i64, snapshot: &Snapshot)
         ensures streams { self.new.streams ≡ self.old.streams }
         ensures page { (self.new.page ≡ self.old.page) × (self.new.next ≡ self.old.next) }
@@ -121,14 +140,16 @@ impl<E: Write + Drop> StatusPublisher<E> {
         }
     }
 
-    /// Hands a snapshot to the page, if there is one.
+    /// Sends a snapshot to the page, if there is one.
     fn show_page(&mut self, now: i64, snapshot: Snapshot)
-        ensures shown { MatchOption self.old.page (IsNone self.new.page) (λ ring. IsSomeAnd self.new.page (Gives snapshot ring)) }
+        ensures shown { MatchOption self.old.page (IsNone self.new.page)
+            (λ ring. IsSomeAnd self.new.page (Gives snapshot ring)) }
         ensures streams { self.new.streams ≡ self.old.streams }
         ensures next { IsSome self.old.page → self.new.next ≤ℤ (now +ℤ SNAPSHOT_INTERVAL) }
     {
         if let Some(page) = &mut self.page {
             self.next = now.saturating_add(SNAPSHOT_INTERVAL);
+            // A full ring means that the page's thread is slow. The run does not wait for its page.
             let _ = page.push(snapshot);
         }
     }
@@ -141,6 +162,7 @@ fn add_streams(snapshot: &mut Snapshot, seen: &[StreamStatus])
     ensures outputs { snapshot.new.outputs ≡ snapshot.old.outputs }
 {
     for one in seen {
+        // A snapshot has room for 16 streams, as many as a studio has at most.
         let _ = snapshot.streams.try_push(one.blank());
     }
 }
@@ -153,11 +175,12 @@ fn add_outputs(snapshot: &mut Snapshot, channels: usize)
     ensures streams { snapshot.new.streams ≡ snapshot.old.streams }
 {
     for _ in 0..channels {
+        // A snapshot has room for eight channels.
         let _ = snapshot.outputs.try_push(OutputState::default());
     }
 }
 
-/// Says where each of these streams stands at a time.
+/// Sets the condition of each of these streams at the time `now`.
 fn set_conditions(
     seen: &mut [StreamStatus],
     now: i64,
@@ -172,7 +195,7 @@ fn set_conditions(
     }
 }
 
-/// Says where the stream at a place among the seen ones stands at a time.
+/// Sets the condition of the stream of this number at the time `now`.
 fn set_condition_at(
     seen: &mut [StreamStatus],
     number: usize,

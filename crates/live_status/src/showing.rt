@@ -1,13 +1,13 @@
-//! What a run shows of itself.
+//! The outputs of a run's status.
 
 use crate::meter::Meter;
 use crate::publisher::StatusPublisher;
 
-/// What a run shows of itself, where it counts and measures for that.
+/// The outputs of a run's status, as far as they are wanted.
 #[derive(Drop)]
 pub struct StatusOutputs<'a, E> {
-    /// None, where neither lines nor a page are asked for.
+    /// The publisher. `None` if neither lines nor a page are wanted.
     pub board: Option<StatusPublisher<E>>,
-    /// What measures the mix of a run in one thread; none, where no page is asked for.
+    /// The meter of the mix of a run in one thread. `None` if no page is wanted.
     pub meter: Option<&'a Meter>,
 }

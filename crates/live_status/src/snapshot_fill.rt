@@ -1,4 +1,4 @@
-//! What is seen of a stream, and of the mix, by what workers tell.
+//! Filling a snapshot with the statistics of a stream, of its paths and of the mix that workers send.
 ghost use Rattle.std.specs.Prelude.{◌≡◌, Some, slice_index};
 ghost use Rattle.live_status.specs.Copies.{IsTold};
 ghost use Rattle.live_status.specs.Each.{AreEach};
@@ -9,17 +9,19 @@ use rtp_stats::{MixStats, StreamStats};
 use rtp_stream::{Counts, PathCounts};
 use status_page::{OutputState, PathState, StreamState};
 
-/// Sees what was told of a stream.
+/// Fills in the counts of a stream, and the copies and arrival margins of its paths.
 pub fn fill_stream(numbers: &StreamStats, stream: &mut StreamState)
     ensures counts { stream.new.counts ≡ numbers.now.counts }
-    ensures paths { AreEach (IsTold numbers.now.counts numbers.now.paths) stream.old.paths.items stream.new.paths.items }
-    ensures rest { (stream.new.name ≡ stream.old.name) × (stream.new.condition ≡ stream.old.condition) × (stream.new.latency ≡ stream.old.latency) }
+    ensures paths { AreEach (IsTold numbers.now.counts numbers.now.paths)
+        stream.old.paths.items stream.new.paths.items }
+    ensures rest { (stream.new.name ≡ stream.old.name) × (stream.new.condition ≡ stream.old.condition)
+        × (stream.new.latency ≡ stream.old.latency) }
 {
     stream.counts = numbers.counts;
     fill_paths(numbers, stream.paths.as_mut_slice());
 }
 
-/// Sees what was told of each path.
+/// Fills in each path.
 fn fill_paths(numbers: &StreamStats, paths: &mut [PathState])
     ensures { AreEach (IsTold numbers.now.counts numbers.now.paths) paths.old paths.new }
 {
@@ -28,7 +30,7 @@ fn fill_paths(numbers: &StreamStats, paths: &mut [PathState])
     }
 }
 
-/// Sees what was told of the path at a place.
+/// Fills in the path at a place, if there are statistics for it.
 fn fill_path(numbers: &StreamStats, place: usize, path: &mut PathState)
     ensures { IsTold numbers.now.counts numbers.now.paths place path.old path.new }
 {
@@ -38,7 +40,7 @@ fn fill_path(numbers: &StreamStats, place: usize, path: &mut PathState)
     }
 }
 
-/// How many first copies the path at a place brought.
+/// Returns the number of first copies that the path at a place brought.
 pub(crate) fn first_at(counts: &Counts, place: usize) -> u64
     ensures { result ≡ slice_index counts.now.taken_by place }
 {
@@ -48,17 +50,18 @@ pub(crate) fn first_at(counts: &Counts, place: usize) -> u64
     }
 }
 
-/// Sees what became of a path's datagrams before the merge.
+/// Fills in the counts of a path's datagrams before the merge.
 pub fn fill_datagrams(counts: PathCounts, state: &mut PathState)
     ensures counts { state.new.counts ≡ Some counts }
     ensures datagrams { state.new.datagrams ≡ counts.offered }
-    ensures copies { (state.new.copies ≡ state.old.copies) × (state.new.spare ≡ state.old.spare) × (state.new.first ≡ state.old.first) }
+    ensures copies { (state.new.copies ≡ state.old.copies) × (state.new.spare ≡ state.old.spare)
+        × (state.new.first ≡ state.old.first) }
 {
     state.datagrams = counts.offered;
     state.counts = Some(counts);
 }
 
-/// Sees what was told of the mix: each channel's peak, and how many of its samples were saturated.
+/// Fills in the mix: each channel's peak and its number of saturated samples.
 pub fn fill_outputs(numbers: &MixStats, outputs: &mut [OutputState])
     ensures { AreEach (HasNumbers numbers.now) outputs.old outputs.new }
 {
@@ -67,7 +70,7 @@ pub fn fill_outputs(numbers: &MixStats, outputs: &mut [OutputState])
     }
 }
 
-/// Sees what was told of the channel at a place.
+/// Fills in the output channel at a place, if there are statistics for it.
 fn fill_channel(numbers: &MixStats, channel: usize, output: &mut OutputState)
     ensures { HasNumbers numbers.now channel output.old output.new }
 {
@@ -79,7 +82,7 @@ fn fill_channel(numbers: &MixStats, channel: usize, output: &mut OutputState)
     }
 }
 
-/// Sees how many samples of each output channel were saturated, as far as that is told.
+/// Fills in the number of saturated samples of each output channel, as far as it is known.
 pub(crate) fn fill_saturated(saturated: &[u64], outputs: &mut [OutputState])
     ensures { AreEach (HasCount saturated.now) outputs.old outputs.new }
 {

@@ -1,4 +1,4 @@
-//! What a run is shown through.
+//! Opening the outputs of a run's status: the page's port, and lines on standard error.
 
 use crate::count_lines::CountLines;
 use crate::fault::PageFault;
@@ -16,24 +16,27 @@ use std::net::Net;
 use std::random::RandomSource;
 use studio_config::StudioSpec;
 
-/// What is seen of a run.
+/// The inputs of a run's status.
 #[derive(Clone, Copy)]
 pub struct StatusInputs<'a> {
     /// The name of each stream, if it has one.
     pub names: &'a [Option<StreamName>],
+    /// The meter of the mix.
     pub meter: &'a Meter,
 }
 
-/// What a run is shown through.
+/// The open status of a run.
 #[derive(Drop)]
 pub struct OpenStatus<'a, E> {
-    /// What answers the page's clients, if a page is asked for.
+    /// The page's server, if a page is wanted. The caller runs it in a thread of its own.
     pub serving: Option<PageThread>,
+    /// The outputs that the run fills.
     pub showing: StatusOutputs<'a, E>,
 }
 
-/// Binds the page's port, if a page is asked for, and tells where the run receives, sends and is shown, if it is to show
-/// anything. Lines go to `faults`. It takes all memory.
+/// Opens the status of a run: binds the page's port, if a page is wanted, and writes the line with the run's addresses,
+/// if a page or lines are wanted. Lines go to `faults`. Allocates all memory of the status. Returns `PageFault::Memory`
+/// if an allocation fails, and `PageFault::Page` if the port cannot be bound.
 pub fn open_status<'a, R: Net + RandomSource, E: Write + Drop>(
     rt: &R,
     alloc: Global,
@@ -44,6 +47,7 @@ pub fn open_status<'a, R: Net + RandomSource, E: Write + Drop>(
     faults: E,
 ) -> Result<OpenStatus<'a, E>, PageFault> {
     let mut faults = faults;
+    // The page comes before the line, which has its port.
     let PageEnds { serving, ring } = page_of(rt, alloc, options.page)?;
     if options.stats.is_some() || serving.is_some() {
         write_address_line(studio, sockets, &serving, &mut faults);
@@ -52,14 +56,14 @@ pub fn open_status<'a, R: Net + RandomSource, E: Write + Drop>(
     Ok(OpenStatus { serving, showing })
 }
 
-/// What answers a page's clients, and where its snapshots go.
+/// The server of a page and the end of the ring for its snapshots; both are `None` without a page.
 #[derive(Drop)]
 struct PageEnds {
     serving: Option<PageThread>,
     ring: Option<Producer<Snapshot>>,
 }
 
-/// The page at a port, if one is asked for.
+/// Returns the page at a port, if one is wanted.
 fn page_of<R: Net + RandomSource>(
     rt: &R,
     alloc: Global,
@@ -78,7 +82,7 @@ fn page_of<R: Net + RandomSource>(
     })
 }
 
-/// What a run shows of itself: it counts and measures for a page alone.
+/// Returns the outputs of a run's status. The mix is measured only for a page.
 fn showing_of<'a, E: Write + Drop>(
     alloc: Global,
     studio: &StudioSpec,
@@ -95,7 +99,7 @@ fn showing_of<'a, E: Write + Drop>(
     })
 }
 
-/// The board of a run, if it is to show anything.
+/// Returns the publisher of a run's status, or `None` if neither lines nor a page are wanted.
 fn board_of<E: Write + Drop>(
     alloc: Global,
     studio: &StudioSpec,

@@ -1,15 +1,18 @@
-//! What a snapshot says of a stream beside its counts.
+//! The status of a stream in addition to its counts: its name, its latency and its condition.
 ghost use Rattle.std.specs.Prelude.{◌≡◌, ◌≤◌};
 
 use rtp_stream::StreamSpec;
 use status_page::{PathState, SignalPresence, StreamName, StreamState};
 
-/// A stream's name, what is fixed of it, and when its packets came.
+/// The name of a stream, its fixed properties, and the presence of its signal.
 #[derive(Drop)]
 pub(crate) struct StreamStatus {
     name: Option<StreamName>,
+    /// The latency, in sampling instants at 48 kHz.
     latency: u32,
+    /// The number of paths.
     paths: u8,
+    /// The presence of its signal, by the times at which its packets were taken.
     pulse: SignalPresence,
     ghost few: { paths ≤ 4 },
 }
@@ -19,7 +22,7 @@ impl StreamStatus {
     ghost use Rattle.live_status.specs.Conditions.{looked, with_condition};
     ghost use Rattle.live_status.specs.StreamStatus.{IsFirstSeen};
 
-    /// What is seen of a stream with a name, before anything came.
+    /// Returns the status of a stream with a name, of which no packet was taken yet. `now` is in sampling instants.
     pub(crate) fn new(name: Option<StreamName>, stream: &StreamSpec, now: i64) -> StreamStatus
         ensures { IsFirstSeen name now stream.now result }
     {
@@ -31,7 +34,7 @@ impl StreamStatus {
         }
     }
 
-    /// The stream, in which nothing is counted.
+    /// Returns the state of the stream for a snapshot, in which all counts are 0.
     pub(crate) fn blank(&self) -> StreamState
         ensures { IsBlank self.now.name self.now.latency self.now.paths result }
     {
@@ -39,12 +42,13 @@ impl StreamStatus {
         stream.name = self.name;
         stream.latency = u64::from(self.latency);
         for _ in 0..self.paths {
+            // There is room for four paths, as many as a stream has at most.
             let _ = stream.paths.try_push(PathState::default());
         }
         stream
     }
 
-    /// Says where the stream stands at a time, by how many of its packets were taken.
+    /// Sets the condition of the stream at the time `now`, by the number of its packets that were taken.
     pub(crate) fn set_condition(&mut self, now: i64, stream: &mut StreamState, has_ended: bool)
         ensures stream { stream.new ≡ with_condition self.old.pulse now has_ended stream.old }
         ensures seen { self.new ≡ looked stream.old.counts.taken now self.old }
