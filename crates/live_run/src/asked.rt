@@ -1,11 +1,11 @@
-//! What watches tell, place by place.
+//! Refreshing the latest statistics from the receivers of paths, of streams and of the mix.
 ghost use Rattle.std.specs.Prelude.{◌≡◌, None, IsNone, IsSomeAnd, MatchOption};
 ghost use Rattle.live_run.specs.LatestStats.{AreAsked, TellsMix, TellsPath, TellsStream, mix_last_of};
 
 use rtp_stats::{MixStats, MixStatsReceiver, PathCountsReceiver, StreamStats, StreamStatsReceiver};
 use rtp_stream::PathCounts;
 
-/// Asks the watches of all paths.
+/// Refreshes the counts of all paths from their receivers.
 pub(crate) fn refresh_paths(watches: &mut [PathCountsReceiver], told: &mut [Option<PathCounts>])
     ensures { AreAsked TellsPath watches.old watches.new told.old told.new }
 {
@@ -14,7 +14,7 @@ pub(crate) fn refresh_paths(watches: &mut [PathCountsReceiver], told: &mut [Opti
     }
 }
 
-/// Asks the watch of a path.
+/// Refreshes the counts of a path from its receiver. They stay if it received none.
 fn refresh_path(watch: &mut PathCountsReceiver, told: &mut Option<PathCounts>)
     ensures { TellsPath watch.old watch.new told.old told.new }
 {
@@ -23,7 +23,7 @@ fn refresh_path(watch: &mut PathCountsReceiver, told: &mut Option<PathCounts>)
     }
 }
 
-/// Asks the watches of all streams.
+/// Refreshes the statistics of all streams from their receivers.
 pub(crate) fn refresh_streams(watches: &mut [StreamStatsReceiver], told: &mut [Option<StreamStats>])
     ensures { AreAsked TellsStream watches.old watches.new told.old told.new }
 {
@@ -32,7 +32,7 @@ pub(crate) fn refresh_streams(watches: &mut [StreamStatsReceiver], told: &mut [O
     }
 }
 
-/// Asks the watch of a stream.
+/// Refreshes the statistics of a stream from its receiver. They stay if it received none.
 fn refresh_stream(watch: &mut StreamStatsReceiver, told: &mut Option<StreamStats>)
     ensures { TellsStream watch.old watch.new told.old told.new }
 {
@@ -41,16 +41,18 @@ fn refresh_stream(watch: &mut StreamStatsReceiver, told: &mut Option<StreamStats
     }
 }
 
-/// Asks the watch of the mix, if there is one.
+/// Refreshes the statistics of the mix from its receiver, if there is one.
 pub(crate) fn refresh_mix(watch: &mut Option<MixStatsReceiver>, told: &mut Option<MixStats>)
-    ensures { MatchOption watch.old (IsNone watch.new × (told.new ≡ told.old)) (λ old. IsSomeAnd watch.new (λ new. TellsMix old new told.old told.new)) }
+    ensures { MatchOption watch.old (IsNone watch.new × (told.new ≡ told.old))
+        (λ old. IsSomeAnd watch.new (λ new. TellsMix old new told.old told.new)) }
 {
     if let Some(watch) = watch {
         refresh_mixer(watch, told);
     }
 }
 
-/// Asks the watch of the mix. Where it tells nothing new, no datagram was sent since: there are no peaks.
+/// Refreshes the statistics of the mix from its receiver. If it received none, the peaks are set to 0.
+// Without new statistics no datagram was sent since the last ones, so there is nothing that a peak could be of.
 fn refresh_mixer(watch: &mut MixStatsReceiver, told: &mut Option<MixStats>)
     ensures { TellsMix watch.old watch.new told.old told.new }
 {
@@ -60,7 +62,7 @@ fn refresh_mixer(watch: &mut MixStatsReceiver, told: &mut Option<MixStats>)
     }
 }
 
-/// Forgets the peaks that were told.
+/// Sets the peaks to 0.
 fn clear_peaks(told: &mut Option<MixStats>)
     ensures { told.new ≡ mix_last_of None told.old }
 {

@@ -1,15 +1,18 @@
-//! What either form of a run is set in.
+//! The context of a run, by workers or in one thread.
 
 use crate::supervisor::stop_flags::StopFlags;
 use live_io::RunPeriod;
 use live_status::StatusOutputs;
 
-/// What a run is set in, beside its studio and its sockets.
+/// The context of a run, in addition to its studio and its sockets.
 #[derive(Drop)]
 pub struct RunContext<'a, E> {
+    /// The start of the run, and its end by the clock.
     pub start: RunPeriod,
-    /// Whether it ends where standard input does.
+    /// True if the run ends at the end of standard input.
     pub until_eof: bool,
+    /// The outputs of the run's status.
     pub showing: StatusOutputs<'a, E>,
+    /// The flags between the run and its supervisor.
     pub signs: &'a StopFlags,
 }

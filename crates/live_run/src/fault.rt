@@ -1,4 +1,4 @@
-//! Why a live run came to no report of a settled run.
+//! The error of a live run that has no report, or whose report is not settled.
 ghost use Rattle.std.specs.Prelude.{◌≡◌};
 ghost use Rattle.live_run.specs.RunResult.{IsEarly};
 ghost use Rattle.live_run.specs.declared.fault.LiveFault.TheVariants.{Write};
@@ -12,25 +12,25 @@ use studio_io::WorkFault;
 use studio_run::WriteFault;
 use thiserror::Error;
 
-/// Why a live run came to no report of a settled run.
+/// The error of a live run that has no report, or whose report is not settled.
 #[derive(Clone, Copy, Debug, PartialEq, Eq, Error)]
 pub enum LiveFault {
-    /// Memory was refused.
+    /// An allocation failed.
     #[error("out of memory")]
     Memory,
-    /// A socket couldn't be made, bound or set, or there isn't one for each path.
+    /// A socket could not be opened, bound or configured, or there is not one for each path.
     #[error("device: socket")]
     Socket,
-    /// The port of the page couldn't be bound.
+    /// The port of the page could not be bound.
     #[error("device: socket page")]
     Page,
-    /// A worker or the watcher couldn't be started.
+    /// A thread could not be started: a worker, the supervisor, the page's or the record's.
     #[error("device: thread")]
     Thread,
-    /// Its report was written, but a worker gave up its end before all was handed on.
+    /// The report was written, but it is not settled: something was left over.
     #[error("live: not settled")]
     Unsettled,
-    /// The report was not written whole.
+    /// The report was not written completely.
     #[error("device: write")]
     Write,
 }

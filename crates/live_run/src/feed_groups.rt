@@ -1,4 +1,4 @@
-//! The feeds of all paths, stream by stream.
+//! The feeds of all paths, grouped by stream.
 ghost use Rattle.std.specs.Prelude.{◌≡◌, IfOk, IfErr, length, map};
 ghost use Rattle.live_run.specs.RunResult.{IsEarly};
 
@@ -7,13 +7,15 @@ use rtp_stream::StreamSpec;
 use std::alloc::Global;
 use std::vec::IntoIter;
 
-/// The feeds of all paths, stream by stream, of which each has as many as it has paths.
+/// Returns the feeds of all paths grouped by stream, as many for each as it has paths. Returns `LiveFault::Socket` if
+/// there are too few, and `LiveFault::Memory` if an allocation fails.
 pub(crate) fn group_by_stream<F: Drop>(
     alloc: Global,
     feeds: Vec<F>,
     streams: &[StreamSpec],
 ) -> Result<Vec<Vec<F>>, LiveFault>
-    ensures each { IfOk result (λ all. map (λ own. length own.items) all.items ≡ map (λ stream. stream.paths) streams.now) }
+    ensures each { IfOk result
+        (λ all. map (λ own. length own.items) all.items ≡ map (λ stream. stream.paths) streams.now) }
     ensures early { IfErr result IsEarly }
 {
     let mut all = Vec::with_capacity(alloc, streams.len())?;
@@ -24,7 +26,7 @@ pub(crate) fn group_by_stream<F: Drop>(
     Ok(all)
 }
 
-/// So many feeds more.
+/// Returns the next `count` feeds, or `LiveFault::Socket` if there are too few.
 fn next_feeds<F: Drop>(
     alloc: Global,
     feeds: &mut IntoIter<F>,

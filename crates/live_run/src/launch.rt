@@ -1,4 +1,4 @@
-//! A live run in either form, with its page beside it.
+//! The launch of a live run, by workers or in one thread, with its page in another thread.
 ghost use Rattle.std.specs.Prelude.{IfOk, IfErr};
 ghost use Rattle.std.specs.Thread.{IsSync};
 ghost use Rattle.live_run.specs.RunResult.{IsEarly, IsRunOf};
@@ -24,7 +24,7 @@ use std::time::Clock;
 use studio_config::StudioSpec;
 use studio_io::WorkReport;
 
-/// What a run is started from, beside its studio.
+/// The parts of a run that is ready to start, in addition to its studio.
 #[derive(Drop)]
 struct PreparedRun<'a, E, D> {
     one_thread: bool,
@@ -33,7 +33,7 @@ struct PreparedRun<'a, E, D> {
     recording: RecordOutput<'a, D>,
 }
 
-/// Takes all that a run needs before its first thread, and runs it.
+/// Opens all that a run needs before its first thread starts, and runs it.
 pub(crate) fn launch_run<
     R: Threads + Wait + Sync + Net + Clock + RandomSource,
     E: Write + Send + Drop,
@@ -50,6 +50,7 @@ pub(crate) fn launch_run<
     ensures run { IfOk result (IsRunOf options.now.one_thread studio.now) }
     ensures early { IfErr result IsEarly }
 {
+    // Made here and not in `bind_and_run`, whose parts and threads borrow them.
     let signs = StopFlags::new();
     let meter = Meter::new(studio.output().enc(), studio.output().channels());
     let seen = StatusInputs {
@@ -62,7 +63,7 @@ pub(crate) fn launch_run<
     )
 }
 
-/// The record of a run that goes to a file, if there is one, and where it is told what came of it.
+/// Returns the record of a run, if there is a file for it, with the place for its result.
 fn recording_of<'a, D: Write + Drop>(
     alloc: Global,
     studio: &StudioSpec,
@@ -76,7 +77,7 @@ fn recording_of<'a, D: Write + Drop>(
     Ok(RecordOutput { record, told })
 }
 
-/// Binds the sockets of a run and what it is shown through, and runs it.
+/// Opens the sockets of a run and the outputs of its status, and runs it.
 fn bind_and_run<
     'a,
     R: Threads + Wait + Sync + Net + Clock + RandomSource,
@@ -96,6 +97,7 @@ fn bind_and_run<
     ensures run { IfOk result (IsRunOf options.now.one_thread studio.now) }
     ensures early { IfErr result IsEarly }
 {
+    // Before the first socket, which would else get the descriptor of a standard stream that is closed.
     open_missing_fds();
     let sockets = open_sockets(rt, alloc, studio, setup)?;
     let shown = open_status(rt, alloc, studio, &sockets, options, seen, faults)?;
@@ -117,7 +119,7 @@ fn bind_and_run<
     }
 }
 
-/// Runs a studio, and the page's thread beside it, which ends with the run.
+/// Runs a studio, with the page's server in another thread, which ends with the run.
 fn run_with_page<
     'a,
     R: Threads + Wait + Sync + Net + Clock,
@@ -133,6 +135,7 @@ fn run_with_page<
     ensures run { IfOk result (IsRunOf parts.entry.one_thread studio.now) }
     ensures early { IfErr result IsEarly }
 {
+    // The server ends once the run's end of the snapshots' ring was dropped, as it is at the end of `run_prepared`.
     let (_, ran) = with_scoped_thread(
         rt,
         move || serving.serve(rt),
@@ -145,7 +148,7 @@ fn run_with_page<
     ran
 }
 
-/// Runs a studio in the form that its parts say.
+/// Runs a studio in one thread or by workers, as its parts say. Only a run in one thread has a record.
 fn run_prepared<
     'a,
     R: Threads + Wait + Sync + Net + Clock,

@@ -1,7 +1,16 @@
 //! The report of a live run.
 ghost use Rattle.std.specs.Prelude.{◌≡◌, ◌≤◌, ◌<◌, length, OnOk, OnErr};
 ghost use Rattle.studio_run.specs.Buffer.{BreaksOff, PassesOn};
-ghost use Rattle.live_run.specs.Report.{feeds_text, own_feeds_text, paths_in, paths_text, report_text, stream_text, streams_in, streams_text};
+ghost use Rattle.live_run.specs.Report.{
+  feeds_text,
+  own_feeds_text,
+  paths_in,
+  paths_text,
+  report_text,
+  stream_text,
+  streams_in,
+  streams_text,
+};
 
 use rtp_stream::{Path, PathCounts, StreamCounts};
 use std::io::Write;
@@ -11,15 +20,17 @@ use studio_run::{
     write_sink_counts,
 };
 
-/// Writes what a run came to: the counts of each stream by the lines of a played trace's report, the
-/// faults of each feed, and the datagrams by what each address took.
+/// Writes the report of a run: the counts of each stream in the lines of a played trace's report, the faults of each
+/// feed, and the datagrams by the result at each address. Returns `WriteFault` if a write fails.
 pub fn write_report<W: Write>(
     text: &mut TextBuffer,
     writer: &mut W,
     report: &WorkReport,
 ) -> Result<(), WriteFault>
-    ensures ok { OnOk result (PassesOn (W.contents writer.old) text.old (W.contents writer.new) text.new (report_text report.now)) }
-    ensures fault { OnErr result (BreaksOff (W.contents writer.old) text.old (W.contents writer.new) (report_text report.now)) }
+    ensures ok { OnOk result (PassesOn (W.contents writer.old) text.old
+        (W.contents writer.new) text.new (report_text report.now)) }
+    ensures fault { OnErr result (BreaksOff (W.contents writer.old) text.old
+        (W.contents writer.new) (report_text report.now)) }
 {
     let streams = streams_in(report);
     write_streams(text, writer, streams)?;
@@ -35,7 +46,8 @@ pub fn write_report<W: Write>(
     Ok(())
 }
 
-/// The streams of a report, sixteen at most.
+/// Returns the streams of a report, sixteen at most.
+// A studio has no more. The bound says so to the proofs of what follows, where numbers have to fit eight bits.
 fn streams_in(report: &WorkReport) -> &[StreamCounts]
     ensures value { result.now ≡ streams_in report.now }
     ensures few { length result.now ≤ 16 }
@@ -43,7 +55,8 @@ fn streams_in(report: &WorkReport) -> &[StreamCounts]
     &report.streams[..report.streams.len().min(16)]
 }
 
-/// The counts of a stream's paths, four at most.
+/// Returns the counts of a stream's paths, four at most.
+// A stream has no more. The bound says so to the proofs of what follows, where `Path::new` has to be `Some`.
 fn paths_in(counts: &StreamCounts) -> &[PathCounts]
     ensures value { result.now ≡ paths_in counts.now }
     ensures few { length result.now ≤ 4 }
@@ -51,15 +64,17 @@ fn paths_in(counts: &StreamCounts) -> &[PathCounts]
     &counts.paths[..counts.paths.len().min(4)]
 }
 
-/// Writes the lines of all streams' counts.
+/// Writes the lines of the counts of all streams.
 fn write_streams<W: Write>(
     text: &mut TextBuffer,
     writer: &mut W,
     streams: &[StreamCounts],
 ) -> Result<(), WriteFault>
     requires few { length streams.now ≤ 16 }
-    ensures ok { OnOk result (PassesOn (W.contents writer.old) text.old (W.contents writer.new) text.new (streams_text 0 streams.now)) }
-    ensures fault { OnErr result (BreaksOff (W.contents writer.old) text.old (W.contents writer.new) (streams_text 0 streams.now)) }
+    ensures ok { OnOk result (PassesOn (W.contents writer.old) text.old
+        (W.contents writer.new) text.new (streams_text 0 streams.now)) }
+    ensures fault { OnErr result (BreaksOff (W.contents writer.old) text.old
+        (W.contents writer.new) (streams_text 0 streams.now)) }
 {
     for number in 0..streams.len() {
         write_stream(text, writer, number as u8, &streams[number])?;
@@ -74,8 +89,10 @@ fn write_stream<W: Write>(
     number: u8,
     counts: &StreamCounts,
 ) -> Result<(), WriteFault>
-    ensures ok { OnOk result (PassesOn (W.contents writer.old) text.old (W.contents writer.new) text.new (stream_text number counts.now)) }
-    ensures fault { OnErr result (BreaksOff (W.contents writer.old) text.old (W.contents writer.new) (stream_text number counts.now)) }
+    ensures ok { OnOk result (PassesOn (W.contents writer.old) text.old
+        (W.contents writer.new) text.new (stream_text number counts.now)) }
+    ensures fault { OnErr result (BreaksOff (W.contents writer.old) text.old
+        (W.contents writer.new) (stream_text number counts.now)) }
 {
     let paths = paths_in(counts);
     write_paths(text, writer, number, paths)?;
@@ -91,8 +108,10 @@ fn write_paths<W: Write>(
     paths: &[PathCounts],
 ) -> Result<(), WriteFault>
     requires few { length paths.now ≤ 4 }
-    ensures ok { OnOk result (PassesOn (W.contents writer.old) text.old (W.contents writer.new) text.new (paths_text number 0 paths.now)) }
-    ensures fault { OnErr result (BreaksOff (W.contents writer.old) text.old (W.contents writer.new) (paths_text number 0 paths.now)) }
+    ensures ok { OnOk result (PassesOn (W.contents writer.old) text.old
+        (W.contents writer.new) text.new (paths_text number 0 paths.now)) }
+    ensures fault { OnErr result (BreaksOff (W.contents writer.old) text.old
+        (W.contents writer.new) (paths_text number 0 paths.now)) }
 {
     for place in 0..paths.len() {
         let Some(path) = Path::new(place as u8) else {
@@ -103,7 +122,7 @@ fn write_paths<W: Write>(
     Ok(())
 }
 
-/// Writes the lines of all streams' feeds.
+/// Writes the lines of the feeds of all streams.
 fn write_feeds<W: Write>(
     text: &mut TextBuffer,
     writer: &mut W,
@@ -111,9 +130,12 @@ fn write_feeds<W: Write>(
     faults: &[u64],
 ) -> Result<(), WriteFault>
     requires few { length streams.now ≤ 16 }
-    ensures ok { OnOk result (PassesOn (W.contents writer.old) text.old (W.contents writer.new) text.new (feeds_text 0 streams.now faults.now)) }
-    ensures fault { OnErr result (BreaksOff (W.contents writer.old) text.old (W.contents writer.new) (feeds_text 0 streams.now faults.now)) }
+    ensures ok { OnOk result (PassesOn (W.contents writer.old) text.old
+        (W.contents writer.new) text.new (feeds_text 0 streams.now faults.now)) }
+    ensures fault { OnErr result (BreaksOff (W.contents writer.old) text.old
+        (W.contents writer.new) (feeds_text 0 streams.now faults.now)) }
 {
+    // The faults of all paths are in one list, from which each stream takes as many as it has paths.
     let mut rest = faults;
     for number in 0..streams.len() {
         let count = paths_in(&streams[number]).len().min(rest.len());
@@ -132,8 +154,10 @@ fn write_own_feeds<W: Write>(
     faults: &[u64],
 ) -> Result<(), WriteFault>
     requires few { length faults.now ≤ 4 }
-    ensures ok { OnOk result (PassesOn (W.contents writer.old) text.old (W.contents writer.new) text.new (own_feeds_text number 0 faults.now)) }
-    ensures fault { OnErr result (BreaksOff (W.contents writer.old) text.old (W.contents writer.new) (own_feeds_text number 0 faults.now)) }
+    ensures ok { OnOk result (PassesOn (W.contents writer.old) text.old
+        (W.contents writer.new) text.new (own_feeds_text number 0 faults.now)) }
+    ensures fault { OnErr result (BreaksOff (W.contents writer.old) text.old
+        (W.contents writer.new) (own_feeds_text number 0 faults.now)) }
 {
     for place in 0..faults.len() {
         let Some(path) = Path::new(place as u8) else {

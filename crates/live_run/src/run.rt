@@ -16,17 +16,22 @@ use std::time::Clock;
 use studio_config::StudioSpec;
 use studio_run::TextBuffer;
 
-/// Runs a studio on the sockets that were handed over, and others at its addresses, until its feeds have ended, and
-/// then writes the report. Beside the workers, or the one thread, a watcher ends the feeds as the options say, or
-/// where a signal that asks for it was held back. Each stream's counts go to `faults`, if they are asked for. Since
-/// that mustn't wait, `faults` is standard error, and lines that this wouldn't take at once are dropped. A page, if one is
-/// asked for, is served in a thread of its own, from snapshots that it is handed; nothing waits for it.
+/// Runs a studio on real sockets until its feeds have ended, and then writes the report to `output`.
 ///
-/// All sockets are bound, and all memory but the workers' is taken, before the first thread starts. Where the
-/// run was not settled, its report is written all the same, and that is the fault.
+/// Inherited sockets are used if there are any, and others are bound at the studio's addresses. All sockets are bound,
+/// and all memory but the workers' is allocated, before the first thread starts. The studio runs by workers or in this
+/// thread, as the options say.
 ///
-/// A run in one thread writes a record of what it took to the file `record`, if there is one, and tells how far that
-/// came once it is over. What the file doesn't take in time is not waited for: then the record ends.
+/// A supervisor in another thread ends the feeds as the options say, or once a blocked SIGINT, SIGTERM or SIGHUP is
+/// pending. If a page is wanted, it is served in a thread of its own, and the run does not wait for it. If the counts
+/// of the streams are wanted, they are written to `faults`, which has to be standard error: a line that would block
+/// there is dropped.
+///
+/// A run in one thread writes a record of the datagrams that it took to the file `record`, if there is one, and sets
+/// the record's result. If the file is too slow, the record ends.
+///
+/// Returns `LiveFault::Unsettled` if the run was not settled; its report is written all the same. Every other error but
+/// `LiveFault::Write` comes before anything is written to `output`.
 pub fn run_studio_live<
     R: Threads + Wait + Sync + Net + Clock + RandomSource,
     W: Write,
@@ -42,9 +47,12 @@ pub fn run_studio_live<
     faults: E,
     record: Option<D>,
 ) -> Result<(), LiveFault>
-    ensures ok { OnOk result (WritesRun options.now.one_thread studio.now true (W.contents output.old) (W.contents output.new)) }
-    ensures fault { IfErr result (FailsRun options.now.one_thread studio.now (W.contents output.old) (W.contents output.new)) }
+    ensures ok { OnOk result
+        (WritesRun options.now.one_thread studio.now true (W.contents output.old) (W.contents output.new)) }
+    ensures fault { IfErr result
+        (FailsRun options.now.one_thread studio.now (W.contents output.old) (W.contents output.new)) }
 {
+    // Allocated before the run, so that no run is left without memory for its report.
     let mut text = TextBuffer::new(alloc)?;
     let report = launch_run(rt, alloc, studio, setup, options, faults, record)?;
     write_report(&mut text, output, &report)?;

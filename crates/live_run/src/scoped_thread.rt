@@ -1,4 +1,4 @@
-//! Two things at the same time.
+//! Running a function in another thread for as long as a call lasts.
 ghost use Rattle.std.specs.Prelude.{IfOk, IfErr};
 ghost use Rattle.live_run.specs.RunResult.{IsEarly};
 
@@ -7,8 +7,8 @@ use std::sync::Wait;
 use std::thread;
 use std::thread::Threads;
 
-/// Calls `run` here and `other` in a thread beside it, and answers what both came to once both have ended. Where no thread
-/// can be started, neither is called.
+/// Calls `run` in this thread and `other` in a new one, and returns both results, `other`'s first, once both have
+/// ended. Returns `LiveFault::Thread` if no thread can be started; then neither is called.
 pub fn with_scoped_thread<
     'a,
     R: Threads + Wait,

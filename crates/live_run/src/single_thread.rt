@@ -1,4 +1,5 @@
-//! A live run in one thread, with a watcher beside it.
+//! A live run in one thread, with a supervisor in another. `engine_io` has the engine's feeds, clock and sink,
+//! `socket_wait` its wait for the sockets, and `observer` its record and status.
 ghost use Rattle.std.specs.Prelude.{◌≡◌, true, IfOk, IfErr, length, map};
 ghost use Rattle.std.specs.Thread.{IsSync};
 ghost use Rattle.live_run.specs.RunResult.{IsEarly, IsRunOf};
@@ -28,15 +29,17 @@ mod engine_io;
 mod observer;
 mod socket_wait;
 
-/// The record of a run, if there is one, and where it is told what came of it.
+/// The record of a run, if there is one, and the place for its result.
 #[derive(Drop)]
 pub struct RecordOutput<'a, D> {
+    /// The two ends of the record, if there is one.
     pub record: Option<RecordChannel<D>>,
+    /// The result, which the run sets.
     pub told: &'a RecordResult,
 }
 
-/// Runs a studio in this thread, beside it the watcher, and beside both what writes a record if there is one. It returns once
-/// all have ended.
+/// Runs a studio in this thread, the supervisor in another, and the writer of the record in a third, if there is a
+/// record. Returns once all have ended. After an error there is no report.
 pub fn run_in_one_thread<
     'a,
     R: Threads + Wait + Sync + Clock,
@@ -54,6 +57,7 @@ pub fn run_in_one_thread<
     ensures early { IfErr result IsEarly }
 {
     let mut sockets = sockets;
+    // Only a record needs the sources, and keeping them makes each receive slower.
     if recording.record.is_some() {
         keep_sources(sockets.receiving.as_mut_slice());
     }
@@ -69,7 +73,7 @@ pub fn run_in_one_thread<
     )
 }
 
-/// The same with a flag for each socket that receives.
+/// Runs a studio like `run_in_one_thread`, with a flag for each socket that receives.
 fn run_on_sockets<
     'a,
     R: Threads + Wait + Sync + Clock,
@@ -115,14 +119,14 @@ fn run_on_sockets<
     }
 }
 
-/// Has all sockets tell where datagrams come from, as a record says it.
+/// Makes all receivers keep the source address of each datagram, which a record has.
 fn keep_sources(receivers: &mut [Receiver<'_>]) {
     for receiver in receivers.iter_mut() {
         receiver.keep_sources();
     }
 }
 
-/// The two ends of a record, if there is one.
+/// Returns the two ends of a record, if there is one.
 fn ends_of<D: Drop>(
     record: Option<RecordChannel<D>>,
 ) -> (Option<RecordObserver>, Option<RecordWriter<D>>) {
@@ -132,7 +136,7 @@ fn ends_of<D: Drop>(
     }
 }
 
-/// A run that is watched.
+/// A run in one thread that is ready to start, with its observer and the inputs of its supervisor.
 #[derive(Drop)]
 struct SupervisedRun<'a, R: Wait + Clock, E> {
     lone: SingleThreadRun<'a, R>,
@@ -143,9 +147,10 @@ struct SupervisedRun<'a, R: Wait + Clock, E> {
 }
 
 impl<R: Threads + Wait + Sync + Clock, E: Write + Send + Drop> SupervisedRun<'_, R, E> {
-    /// Runs an engine, and the watcher beside it.
+    /// Runs an engine in this thread, and the supervisor in another.
     fn run(self, rt: &R, alloc: Global, studio: &StudioSpec) -> Result<WorkReport, LiveFault>
-        requires feeds { map (λ own. length own.items) self.lone.feeds.items ≡ map (λ stream. stream.paths) studio.now.streams }
+        requires feeds { map (λ own. length own.items) self.lone.feeds.items
+            ≡ map (λ stream. stream.paths) studio.now.streams }
         ensures run { IfOk result (IsRunOf true studio.now) }
         ensures early { IfErr result IsEarly }
     {
@@ -156,6 +161,7 @@ impl<R: Threads + Wait + Sync + Clock, E: Write + Send + Drop> SupervisedRun<'_,
             signs,
             told,
         } = self;
+        // The run's own thread publishes the status, since only it may look at the engine.
         let watcher = Supervisor {
             until_eof,
             view: NoStatusTask,
@@ -165,7 +171,8 @@ impl<R: Threads + Wait + Sync + Clock, E: Write + Send + Drop> SupervisedRun<'_,
             watcher,
             signs,
             move || -> Result<WorkReport, LiveFault>
-                requires feeds { map (λ own. length own.items) lone.feeds.items ≡ map (λ stream. stream.paths) studio.now.streams }
+                requires feeds { map (λ own. length own.items) lone.feeds.items
+                    ≡ map (λ stream. stream.paths) studio.now.streams }
                 ensures run { IfOk result (IsRunOf true studio.entry.now) }
                 ensures early { IfErr result IsEarly }
             { lone.run(rt, alloc, studio, tap, told) },
@@ -173,7 +180,7 @@ impl<R: Threads + Wait + Sync + Clock, E: Write + Send + Drop> SupervisedRun<'_,
     }
 }
 
-/// Runs an engine with a watcher, and beside both what writes the record.
+/// Runs an engine with its supervisor, and the writer of the record in another thread.
 fn run_recorded<
     'a,
     R: Threads + Wait + Sync + Clock,
@@ -186,17 +193,20 @@ fn run_recorded<
     watched: SupervisedRun<'a, R, E>,
     recorder: RecordWriter<D>,
 ) -> Result<WorkReport, LiveFault>
-    requires feeds { map (λ own. length own.items) watched.lone.feeds.items ≡ map (λ stream. stream.paths) studio.now.streams }
+    requires feeds { map (λ own. length own.items) watched.lone.feeds.items
+        ≡ map (λ stream. stream.paths) studio.now.streams }
     ensures run { IfOk result (IsRunOf true studio.now) }
     ensures early { IfErr result IsEarly }
 {
     let told = watched.told;
+    // The writer ends once the observer's end of the ring was dropped, as it is at the end of the run.
     let (written, ran) = with_scoped_thread(
         rt,
         move || write_record(rt, recorder),
         move || -> Result<WorkReport, LiveFault>
             requires sync { IsSync R.row }
-            requires feeds { map (λ own. length own.items) watched.lone.feeds.items ≡ map (λ stream. stream.paths) studio.now.streams }
+            requires feeds { map (λ own. length own.items) watched.lone.feeds.items
+                ≡ map (λ stream. stream.paths) studio.now.streams }
             ensures run { IfOk result (IsRunOf true studio.entry.now) }
             ensures early { IfErr result IsEarly }
         { watched.run(rt, alloc, studio) },

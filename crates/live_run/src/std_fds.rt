@@ -1,11 +1,13 @@
 //! The descriptors of standard input, output and error.
 
-/// What stands in for a descriptor that is not open: reads of it end, and writes to it fail.
+/// The file that replaces a descriptor that is not open: reads return its end, and writes fail, since it is opened for
+/// reading.
 const NULL_DEVICE: &[u8] = b"/dev/null";
 
-/// Opens those of the three that are not open, so that no socket takes the place of one: what is read
-/// from standard input, or written to the others, would be a network's.
+/// Opens the descriptors of standard input, output and error that are not open.
+// Without that a socket could get one of them: input would be read from a network, or output be sent to one.
 pub(crate) fn open_missing_fds() {
+    // The system gives the least free descriptor, so one past 2 says that all three are open.
     for _ in 0..3u32 {
         let file = os::open_read(NULL_DEVICE);
         if file > 2 {

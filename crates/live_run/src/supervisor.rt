@@ -1,4 +1,5 @@
-//! What watches a run: it sees when that is to end, and shows it on the way.
+//! The supervisor of a run, which ends it on a signal or at the end of standard input, and publishes the status of a
+//! run by workers. `stop_conditions` finds signals, and `stop_flags` has the flags between the run and its supervisor.
 ghost use Rattle.std.specs.Prelude.{IfOk, IfErr};
 ghost use Rattle.live_run.specs.RunResult.{IsEarly};
 
@@ -15,12 +16,14 @@ use std::time::Duration;
 pub(crate) mod stop_conditions;
 pub(crate) mod stop_flags;
 
-/// The time between two looks, in milliseconds.
+/// The time between two polls, in milliseconds.
+// A signal or the end of input is found at most so much later, and lines are written at most so much later. Polling is
+// needed since the toolchain cannot handle or await a signal.
 const POLL_INTERVAL_MS: u64 = 50;
 
-/// What is seen of a run from beside it.
+/// The task that publishes the status of a run from the supervisor's thread.
 pub trait StatusTask: Drop {
-    /// Looks at the run, and shows it if it is time.
+    /// Publishes the run's status, if it is due. It must not wait.
     fn poll(&mut self);
 }
 
@@ -32,7 +35,7 @@ impl<V: StatusTask> StatusTask for Option<V> {
     }
 }
 
-/// A view of a run that isn't seen from beside it.
+/// The task of a run whose status the supervisor does not publish.
 #[derive(Clone, Copy)]
 pub struct NoStatusTask;
 
@@ -40,16 +43,17 @@ impl StatusTask for NoStatusTask {
     fn poll(&mut self) {}
 }
 
-/// What the watcher looks at.
+/// The supervisor of a run.
 #[derive(Drop)]
 pub struct Supervisor<V> {
-    /// Whether the run ends where standard input does.
+    /// True if the run ends at the end of standard input.
     pub until_eof: bool,
+    /// The task that publishes the run's status.
     pub view: V,
 }
 
 impl<V: StatusTask> Supervisor<V> {
-    /// Looks whether the feeds are to end, and at the run.
+    /// Sets the flag `stop` if the feeds are to end, and publishes the status if it is due.
     fn poll(&mut self, signs: &StopFlags) {
         if is_stop_signal_pending() || self.until_eof && has_input_ended() {
             signs.stop.store(true, Ordering::SeqCst);
@@ -58,7 +62,7 @@ impl<V: StatusTask> Supervisor<V> {
     }
 }
 
-/// Looks again and again until the run has ended.
+/// Polls again and again until the run has ended.
 fn watch<R: Wait, V: StatusTask>(rt: &R, watcher: Supervisor<V>, signs: &StopFlags) {
     let mut watcher = watcher;
     for _ in rt.forever() {
@@ -72,7 +76,8 @@ fn watch<R: Wait, V: StatusTask>(rt: &R, watcher: Supervisor<V>, signs: &StopFla
     }
 }
 
-/// Calls `run` here, with a watcher beside it, and answers what that came to once both have ended.
+/// Calls `run` in this thread, with the supervisor in another, and returns the result of `run` once both have ended.
+/// Returns `LiveFault::Thread` if no thread can be started; then `run` is not called.
 pub fn run_supervised<
     R: Threads + Wait + Sync,
     V: StatusTask + Send,

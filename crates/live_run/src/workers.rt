@@ -1,4 +1,6 @@
-//! A live run by workers, with a watcher beside them.
+//! A live run by workers, with a supervisor in another thread. `rings` opens the rings between the workers, and
+//! `worker_run` has their feeds, clocks and sink. `status_task` publishes the run's status from the statistics in
+//! `latest_stats`, which `stream_status` fills into a snapshot.
 ghost use Rattle.std.specs.Prelude.{◌≡◌, false, length, IfOk, IfErr};
 ghost use Rattle.std.specs.Thread.{IsSync};
 ghost use Rattle.studio_rings.specs.StreamResults.{AreOpenedTogether};
@@ -28,8 +30,8 @@ mod status_task;
 mod stream_status;
 mod worker_run;
 
-/// Runs a studio's workers, and the watcher beside them. It returns once all have ended; all memory but the workers' is taken
-/// before the first thread starts.
+/// Runs a studio's workers, and the supervisor in another thread. Returns once all have ended. All memory but the
+/// workers' is allocated before the first thread starts. After an error there is no report.
 pub fn run_in_workers<'a, R: Threads + Wait + Sync + Clock, E: Write + Send + Drop>(
     rt: &'a R,
     alloc: Global,
@@ -40,12 +42,13 @@ pub fn run_in_workers<'a, R: Threads + Wait + Sync + Clock, E: Write + Send + Dr
     ensures run { IfOk result (IsRunOf false studio.now) }
     ensures early { IfErr result IsEarly }
 {
+    // Without a status there are no rings for statistics, and the workers send none.
     let is_shown = setting.showing.board.is_some();
     let rings = open_rings(alloc, studio, sockets.receiving.len(), is_shown)?;
     run_on_rings(rt, alloc, studio, rings, sockets, setting)
 }
 
-/// Runs the workers on these rings and sockets, and the watcher beside them.
+/// Runs the workers on these rings and sockets, and the supervisor in another thread.
 fn run_on_rings<'a, R: Threads + Wait + Sync + Clock, E: Write + Send + Drop>(
     rt: &'a R,
     alloc: Global,
@@ -67,6 +70,7 @@ fn run_on_rings<'a, R: Threads + Wait + Sync + Clock, E: Write + Send + Drop>(
     } = setting;
     let Rings { ends, watches } = rings;
     let view = view_of(rt, alloc, watches, start, showing.board)?;
+    // No flags: each path has a thread of its own, whose receives may wait.
     let flags = FeedFlags {
         stop: &signs.stop,
         ready: &[],
@@ -88,7 +92,7 @@ fn run_on_rings<'a, R: Threads + Wait + Sync + Clock, E: Write + Send + Drop>(
     )?
 }
 
-/// What is seen of the run by its watches, if it is to be shown.
+/// Returns the task that publishes the run's status from its statistics, if there is a status.
 fn view_of<'a, R: Clock, E: Write + Drop>(
     rt: &'a R,
     alloc: Global,

@@ -1,4 +1,4 @@
-//! What a run in one thread is started from.
+//! The feeds, the clock, the sink and the wait of a run in one thread.
 ghost use Rattle.std.specs.Prelude.{◌≡◌, true, IfOk, IfErr, length, map};
 ghost use Rattle.live_run.specs.RunResult.{IsEarly, IsRunOf};
 
@@ -19,7 +19,7 @@ use std::time::Clock;
 use studio_config::StudioSpec;
 use studio_io::WorkReport;
 
-/// What a run in one thread is started from, beside its tap.
+/// The feeds, the clock, the sink and the wait of a run in one thread.
 #[derive(Drop)]
 pub(crate) struct SingleThreadRun<'a, R: Wait + Clock> {
     pub(crate) feeds: Vec<Vec<UdpFeed<'a, R>>>,
@@ -28,7 +28,7 @@ pub(crate) struct SingleThreadRun<'a, R: Wait + Clock> {
     rest: SocketWait<'a, R>,
 }
 
-/// Feeds of these sockets, and the wait for them.
+/// Returns the feeds of these sockets, grouped by stream, and the clock, the sink and the wait of a run.
 pub(crate) fn prepare_engine_io<'a, R: Wait + Clock>(
     rt: &'a R,
     alloc: Global,
@@ -38,11 +38,13 @@ pub(crate) fn prepare_engine_io<'a, R: Wait + Clock>(
     flags: FeedFlags<'a>,
     meter: Option<&'a Meter>,
 ) -> Result<SingleThreadRun<'a, R>, LiveFault>
-    ensures feeds { IfOk result (λ lone. map (λ own. length own.items) lone.feeds.items ≡ map (λ stream. stream.paths) studio.now.streams) }
+    ensures feeds { IfOk result (λ lone. map (λ own. length own.items) lone.feeds.items
+        ≡ map (λ stream. stream.paths) studio.now.streams) }
     ensures early { IfErr result IsEarly }
 {
     let Sockets { receiving, sink } = sockets;
     let clock = start.clock(rt);
+    // The wait takes the descriptors before the feeds take the sockets.
     let rest = SocketWait::new(rt, alloc, receiving.as_slice(), flags.ready, clock)?;
     let feeds = stream_feeds(rt, alloc, studio, receiving, start, flags)?;
     Ok(SingleThreadRun {
@@ -53,7 +55,7 @@ pub(crate) fn prepare_engine_io<'a, R: Wait + Clock>(
     })
 }
 
-/// The feeds of all sockets, stream by stream.
+/// Returns the feeds of all sockets, grouped by stream.
 fn stream_feeds<'a, R: Clock>(
     rt: &'a R,
     alloc: Global,
@@ -62,7 +64,8 @@ fn stream_feeds<'a, R: Clock>(
     start: RunPeriod,
     flags: FeedFlags<'a>,
 ) -> Result<Vec<Vec<UdpFeed<'a, R>>>, LiveFault>
-    ensures each { IfOk result (λ all. map (λ own. length own.items) all.items ≡ map (λ stream. stream.paths) studio.now.streams) }
+    ensures each { IfOk result
+        (λ all. map (λ own. length own.items) all.items ≡ map (λ stream. stream.paths) studio.now.streams) }
     ensures early { IfErr result IsEarly }
 {
     let feeds = udp_feeds(rt, alloc, receiving, start, flags)?;
@@ -70,7 +73,7 @@ fn stream_feeds<'a, R: Clock>(
 }
 
 impl<R: Wait + Clock> SingleThreadRun<'_, R> {
-    /// Runs an engine in this thread, and tells how many datagrams its record was told of.
+    /// Runs an engine in this thread, and sets the number of datagrams that its record was passed.
     pub(crate) fn run<E: Write + Drop>(
         self,
         rt: &R,
@@ -79,7 +82,8 @@ impl<R: Wait + Clock> SingleThreadRun<'_, R> {
         tap: LiveObserver<'_, E>,
         told: &RecordResult,
     ) -> Result<WorkReport, LiveFault>
-        requires feeds { map (λ own. length own.items) self.feeds.items ≡ map (λ stream. stream.paths) studio.now.streams }
+        requires feeds { map (λ own. length own.items) self.feeds.items
+            ≡ map (λ stream. stream.paths) studio.now.streams }
         ensures run { IfOk result (IsRunOf true studio.now) }
         ensures early { IfErr result IsEarly }
     {

@@ -1,4 +1,4 @@
-//! The tap of a run in one thread: its record and what is seen of it, where these are asked for.
+//! The observer of a run in one thread: its record and its status, if these are wanted.
 ghost use Rattle.std.specs.Prelude.{[], ◌∷◌, None};
 ghost use Rattle.engine_run.specs.Observers.{Came, Closed, Hears};
 
@@ -13,7 +13,7 @@ use studio_config::StudioSpec;
 use studio_engine::Engine;
 use studio_session::ArriveOutcome;
 
-/// What is told of what a run takes: a record and a view, each if it is asked for.
+/// The observer of a run in one thread, with its record and its status, each if it is wanted.
 #[derive(Drop)]
 pub(crate) struct LiveObserver<'v, E> {
     record: Option<RecordObserver>,
@@ -21,7 +21,8 @@ pub(crate) struct LiveObserver<'v, E> {
 }
 
 impl<'v, E: Write + Drop> LiveObserver<'v, E> {
-    /// The tap of a run of this studio, before anything came. It takes all memory.
+    /// Returns the observer of a run of this studio, which was notified of nothing yet. Allocates all its memory, and
+    /// returns `AllocError` if that fails.
     pub(crate) fn new(
         alloc: Global,
         studio: &StudioSpec,
@@ -36,7 +37,7 @@ impl<'v, E: Write + Drop> LiveObserver<'v, E> {
         Ok(LiveObserver { record, view })
     }
 
-    /// How many datagrams the record was told.
+    /// Returns the number of datagrams that the record was passed.
     pub(crate) fn received(&self) -> u64 {
         match &self.record {
             Some(record) => record.received(),

@@ -1,4 +1,4 @@
-//! How a run in one thread waits for its sockets.
+//! The wait of a run in one thread for its sockets.
 
 use engine_run::IdleWait;
 use libc::net::{POLLIN, poll};
@@ -16,57 +16,62 @@ use studio_io::Clock as ReadClock;
 /// A millisecond, in sampling instants.
 const MILLISECOND: u64 = 48;
 
-/// The longest sleep while datagrams come, in sampling instants. With what the system adds to it, the reading before is
-/// then a millisecond old at most.
+/// The longest sleep while datagrams arrive, in sampling instants.
+// Less than a millisecond: the system adds to it, and the clock reading before the sleep should still be in use after
+// it, which `OLDEST` limits to a millisecond.
 const SHORT_SLEEP: u64 = 40;
 
-/// By a reading that is older, in sampling instants, nothing is judged.
+/// The greatest age of a clock reading by which datagrams are judged, in sampling instants.
 const OLDEST: i64 = 48;
 
-/// So many nanoseconds are three sampling instants.
+/// The number of nanoseconds in three sampling instants.
+// One sampling instant is no whole number of nanoseconds.
 const THREE_INSTANTS: u64 = 62_500;
 
-/// After so many waits in which nothing came, a wait is for milliseconds together: silence goes out in bursts.
+/// The number of waits without a datagram after which a wait lasts for several milliseconds.
+// The blocks of silence that become due meanwhile are then sent in bursts, which saves wake-ups.
 const QUIET_WAITS: u32 = 100;
 
-/// How many milliseconds such a wait takes at least, if nothing comes.
+/// The least length of such a wait in milliseconds, if no datagram arrives.
 const QUIET_WAIT: i32 = 4;
 
-/// What a look at the sockets came to.
+/// The result of polling the sockets.
 #[derive(Clone, Copy, PartialEq, Eq, Debug)]
 enum PollOutcome {
-    /// Some have something.
+    /// Some sockets have a datagram.
     Ready,
-    /// None has.
+    /// No socket has a datagram.
     Nothing,
-    /// The system didn't say: any may have something.
+    /// The system returned an error: any socket may have a datagram.
     Failed,
 }
 
-/// A wait for one of several sockets to have something.
+/// A wait until one of several sockets has a datagram.
 ///
-/// While datagrams come it doesn't end at each: it waits a millisecond, and then tells which sockets have one. One that has more
-/// is told of again at once, so that a round asks each socket only as often as it has a datagram. What came by then is judged by
-/// the reading before, unless that is older. Once nothing has come for a while it sleeps longer, past deadlines of silence; the
-/// first datagram ends that.
+/// While datagrams arrive, the wait does not end at each of them: it sleeps for almost a millisecond, and then sets the
+/// flags of the sockets that have one. If a socket has more, its flag is set again at once, so a round reads each
+/// socket only as often as it has a datagram. These datagrams are judged by the clock reading before the sleep, unless
+/// it is older than a millisecond. Once no datagram has arrived for a while, a wait is longer, also past deadlines of
+/// silence. The first datagram ends it.
 #[derive(Drop)]
 pub(crate) struct SocketWait<'a, R: Wait + Clock> {
     rt: &'a R,
     sockets: Vec<pollfd>,
-    /// Which sockets are to be asked, once each.
+    /// The flag of each socket, which is true if it is to be read once.
     ready: &'a [AtomicBool],
-    /// Where it waits while datagrams come. Nobody ends that wait.
+    /// The parker in which it sleeps while datagrams arrive. Nobody unparks it.
     parker: Parker,
-    /// How old a reading is, by this.
+    /// The clock by which the age of a reading is measured.
     clock: SystemClock<'a, R>,
-    /// Whether a socket had something at the last look.
+    /// True if a socket had a datagram at the last poll.
     is_busy: bool,
-    /// At how many waits since then none did.
+    /// The number of waits since then in which no datagram arrived.
     quiet: u32,
 }
 
 impl<'a, R: Wait + Clock> SocketWait<'a, R> {
-    /// A wait for these sockets, whose receives don't wait from then on.
+    /// Returns a wait for these sockets, whose receives do not wait from then on. Returns the system's error if it
+    /// refuses that, or `ErrorKind::OutOfMemory` if an allocation fails.
     pub(crate) fn new(
         rt: &'a R,
         alloc: Global,
@@ -93,12 +98,13 @@ impl<'a, R: Wait + Clock> SocketWait<'a, R> {
         })
     }
 
-    /// Sleeps less than a millisecond while datagrams come, and answers for how many milliseconds it may then wait for
-    /// the next.
+    /// Sleeps for less than a millisecond while datagrams arrive, and returns the milliseconds for which the next poll
+    /// may wait.
     fn sleep(&mut self, instants: u64) -> i32 {
         if instants == 0 {
             return 0;
         }
+        // `poll` waits for whole milliseconds only. The parker sleeps for the parts of one.
         let whole = i32::try_from(instants / MILLISECOND).unwrap_or(i32::MAX);
         if !self.is_busy && self.quiet >= QUIET_WAITS {
             return QUIET_WAIT.max(whole);
@@ -112,9 +118,10 @@ impl<'a, R: Wait + Clock> SocketWait<'a, R> {
         0
     }
 
-    /// Waits so many sampling instants, but for whole milliseconds at most until a socket has something; not at all where
-    /// one has more than was taken of it.
+    /// Waits for so many sampling instants. The part in whole milliseconds ends once a socket has a datagram. It does
+    /// not wait if a socket has more datagrams than were read.
     fn wait(&mut self, instants: u64) {
+        // Datagrams often arrive in bursts, so busy sockets are polled once more before a sleep.
         if self.is_busy && self.look(0) == PollOutcome::Ready {
             return;
         }
@@ -127,13 +134,14 @@ impl<'a, R: Wait + Clock> SocketWait<'a, R> {
         };
     }
 
-    /// Looks which sockets have something, for so many milliseconds at most until one has.
+    /// Polls the sockets for so many milliseconds at most, and sets the flags of those that have a datagram.
     fn look(&mut self, most: i32) -> PollOutcome {
         let count = poll(self.sockets.as_mut_slice(), most);
         if count == 0 {
             return PollOutcome::Nothing;
         }
         for (socket, ready) in self.sockets.iter().zip(self.ready) {
+            // A socket with an error counts as ready, so that its feed reports the error.
             if count < 0 || socket.revents != 0 {
                 ready.store(true, Ordering::SeqCst);
             }

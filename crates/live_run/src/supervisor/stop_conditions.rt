@@ -1,13 +1,14 @@
-//! Signals that were held back when the program was started.
+//! Signals that were blocked when the program was started.
 ghost use Rattle.std.specs.Prelude.{◌≤◌};
 
-/// Where the system tells which signals wait for the process.
+/// The file in which the system lists the pending signals of the process.
+// The toolchain cannot handle, block or await a signal, so pending ones are read here.
 const STATUS: &[u8] = b"/proc/self/status";
 
-/// The signals that ask a process to end, as bits of a set: SIGHUP, SIGINT and SIGTERM.
+/// The signals that ask a process to end: SIGHUP (1), SIGINT (2) and SIGTERM (15). Signal n is bit n - 1.
 const ENDING: u64 = 0x4003;
 
-/// Whether a signal that asks the process to end was sent to it, and is held back.
+/// Returns true if a signal that asks the process to end is blocked and pending.
 pub(crate) fn is_stop_signal_pending() -> bool {
     let mut status = [0u8; 4096];
     let count = read_status(&mut status);
@@ -17,8 +18,8 @@ pub(crate) fn is_stop_signal_pending() -> bool {
     }
 }
 
-/// Reads what the system tells of the process, as far as there is room, and answers how much it is;
-/// nothing where it can't be read.
+/// Reads the status of the process, as far as there is room, and returns the number of octets read; 0 if it cannot be
+/// read.
 fn read_status(status: &mut [u8; 4096]) -> usize
     ensures { result ≤ 4096 }
 {
@@ -31,7 +32,7 @@ fn read_status(status: &mut [u8; 4096]) -> usize
     count
 }
 
-/// Reads an open file to its end, or as far as there is room.
+/// Reads an open file to its end, or as far as there is room, and returns the number of octets read.
 fn read_file(file: i32, octets: &mut [u8; 4096]) -> usize
     ensures { result ≤ 4096 }
 {
@@ -46,10 +47,10 @@ fn read_file(file: i32, octets: &mut [u8; 4096]) -> usize
     count
 }
 
-/// Whether one of the signals that wait for a process asks it to end, by the text that the system gives of it: its line
-/// `ShdPnd:`.
+/// Returns true if one of the pending signals of a process asks it to end, by the text of its `/proc/PID/status`.
 pub fn has_stop_signal(status: &str) -> bool {
     for line in status.lines() {
+        // `ShdPnd` has the signals to the process as a whole. Those to one of its threads are in `SigPnd`.
         if let Some(set) = line.strip_prefix("ShdPnd:") {
             return match u64::from_str_radix(set.trim(), 16) {
                 Ok(signals) => signals & ENDING != 0,

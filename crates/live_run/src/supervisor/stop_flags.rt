@@ -1,21 +1,21 @@
-//! What a run and its watcher tell each other.
+//! The flags between a run and its supervisor.
 
 use std::sync::atomic::{AtomicBool, Ordering};
 use std::thread::Parker;
 
-/// What a run and its watcher tell each other.
+/// The flags between a run and its supervisor.
 #[derive(Drop)]
 pub struct StopFlags {
-    /// Each feed is to end.
+    /// True once each feed is to end.
     pub stop: AtomicBool,
-    /// The run has ended, and so does the watcher.
+    /// True once the run has ended, and the supervisor is to end.
     pub(crate) finished: AtomicBool,
-    /// Where the watcher waits.
+    /// The parker in which the supervisor waits between two polls.
     pub(crate) parker: Parker,
 }
 
 impl StopFlags {
-    /// Nothing is told yet.
+    /// Returns the flags of a run that has not started, all false.
     pub fn new() -> StopFlags {
         StopFlags {
             stop: AtomicBool::new(false),
@@ -24,7 +24,7 @@ impl StopFlags {
         }
     }
 
-    /// Tells the watcher that the run has ended.
+    /// Sets the flag `finished`, and wakes the supervisor.
     pub(crate) fn set_finished(&self) {
         self.finished.store(true, Ordering::SeqCst);
         self.parker.unpark();

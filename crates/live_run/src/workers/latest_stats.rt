@@ -1,4 +1,4 @@
-//! What the workers' watches told last.
+//! The latest statistics that the workers sent.
 ghost use Rattle.std.specs.Prelude.{◌≡◌, None, replicate, IfOk, IsNone, IsSomeAnd, MatchOption};
 ghost use Rattle.live_status.specs.Each.{AreEach};
 ghost use Rattle.live_status.specs.Outputs.{HasNumbers};
@@ -14,18 +14,20 @@ use status_page::Snapshot;
 use std::alloc::{AllocError, Global};
 use studio_ends::StatsReceivers;
 
-/// What each watch told last; none, where it told nothing yet.
+/// The latest statistics that the workers sent; `None` for a worker that has sent none yet.
 #[derive(Drop)]
 pub(crate) struct LatestStats {
-    /// Stream by stream and path by path.
+    /// The counts of each path, ordered by stream and then by path.
     paths: Vec<Option<PathCounts>>,
-    /// Stream by stream.
+    /// The statistics of each stream.
     streams: Vec<Option<StreamStats>>,
+    /// The statistics of the mix.
     mix: Option<MixStats>,
 }
 
 impl LatestStats {
-    /// Nothing yet, of so many watches. It takes all memory.
+    /// Returns statistics of so many paths and streams, of which none were sent yet. Allocates all their memory, and
+    /// returns `AllocError` if that fails.
     pub(crate) fn empty(
         alloc: Global,
         paths: usize,
@@ -42,21 +44,26 @@ impl LatestStats {
         })
     }
 
-    /// Asks all watches.
+    /// Refreshes all statistics from the receivers.
     pub(crate) fn refresh(&mut self, watches: &mut StatsReceivers)
-        ensures paths { AreAsked TellsPath watches.old.paths.items watches.new.paths.items self.old.paths.items self.new.paths.items }
-        ensures streams { AreAsked TellsStream watches.old.streams.items watches.new.streams.items self.old.streams.items self.new.streams.items }
-        ensures mix { MatchOption watches.old.mix (IsNone watches.new.mix × (self.new.mix ≡ self.old.mix)) (λ old. IsSomeAnd watches.new.mix (λ new. TellsMix old new self.old.mix self.new.mix)) }
+        ensures paths { AreAsked TellsPath watches.old.paths.items watches.new.paths.items
+            self.old.paths.items self.new.paths.items }
+        ensures streams { AreAsked TellsStream watches.old.streams.items watches.new.streams.items
+            self.old.streams.items self.new.streams.items }
+        ensures mix { MatchOption watches.old.mix (IsNone watches.new.mix × (self.new.mix ≡ self.old.mix))
+            (λ old. IsSomeAnd watches.new.mix (λ new. TellsMix old new self.old.mix self.new.mix)) }
     {
         refresh_paths(watches.paths.as_mut_slice(), self.paths.as_mut_slice());
         refresh_streams(watches.streams.as_mut_slice(), self.streams.as_mut_slice());
         refresh_mix(&mut watches.mix, &mut self.mix);
     }
 
-    /// Sees what they told.
+    /// Fills the statistics into a snapshot.
     pub(crate) fn fill(&self, snapshot: &mut Snapshot)
-        ensures streams { AreEach (SeesTold self.now.streams.items self.now.paths.items snapshot.old.streams.items) snapshot.old.streams.items snapshot.new.streams.items }
-        ensures outputs { MatchOption self.now.mix (snapshot.new.outputs ≡ snapshot.old.outputs) (λ numbers. AreEach (HasNumbers numbers) snapshot.old.outputs.items snapshot.new.outputs.items) }
+        ensures streams { AreEach (SeesTold self.now.streams.items self.now.paths.items snapshot.old.streams.items)
+            snapshot.old.streams.items snapshot.new.streams.items }
+        ensures outputs { MatchOption self.now.mix (snapshot.new.outputs ≡ snapshot.old.outputs)
+            (λ numbers. AreEach (HasNumbers numbers) snapshot.old.outputs.items snapshot.new.outputs.items) }
     {
         if let Some(numbers) = &self.mix {
             fill_outputs(numbers, snapshot.outputs.as_mut_slice());

@@ -8,17 +8,19 @@ use std::alloc::Global;
 use studio_config::StudioSpec;
 use studio_ends::{Ends, OpenFault, StatsReceivers, open, open_with_stats};
 
-/// How many places each ring has.
+/// The number of places of each ring.
+// 256 packets of 6 sampling instants are 32 ms. A packet that finds no place waits in its socket.
 const PLACES: usize = 256;
 
-/// The ends of all rings, and what they tell, if that is to be shown.
+/// The ends of all rings, and the receivers of statistics, if there is a status.
 #[derive(Drop)]
 pub(crate) struct Rings {
     pub(crate) ends: Ends,
     pub(crate) watches: Option<StatsReceivers>,
 }
 
-/// The rings of a studio, which has so many paths.
+/// Returns the rings of a studio with so many paths. Returns `LiveFault::Socket` if the studio has another number of
+/// paths, and `LiveFault::Memory` if an allocation fails.
 pub(crate) fn open_rings(
     alloc: Global,
     studio: &StudioSpec,
@@ -36,7 +38,7 @@ pub(crate) fn open_rings(
     Ok(rings)
 }
 
-/// Opens the rings.
+/// Returns the rings of a studio, with receivers of statistics if there is a status.
 fn opened_rings(alloc: Global, studio: &StudioSpec, is_shown: bool) -> Result<Rings, OpenFault>
     ensures opened { IfOk result (λ rings. AreOpenedTogether studio.now 256 rings.ends) }
 {

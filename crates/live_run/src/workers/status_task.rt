@@ -1,4 +1,4 @@
-//! What the workers' watches tell, shown while they run.
+//! The task that publishes the status of a run by workers.
 
 use crate::supervisor::StatusTask;
 use crate::workers::latest_stats::LatestStats;
@@ -9,7 +9,8 @@ use std::time;
 use studio_ends::StatsReceivers;
 use studio_io::Clock;
 
-/// The watches of all paths and streams and of the mix, what they told last, and what is shown of it.
+/// The task that publishes the status of a run by workers: the receivers of their statistics, the latest statistics,
+/// the clock and the publisher.
 #[derive(Drop)]
 pub(crate) struct WorkerStatusTask<'a, R: time::Clock, E> {
     pub(crate) watches: StatsReceivers,
@@ -19,7 +20,7 @@ pub(crate) struct WorkerStatusTask<'a, R: time::Clock, E> {
 }
 
 impl<R: time::Clock, E: Write + Drop> StatusTask for WorkerStatusTask<'_, R, E> {
-    /// Shows what the watches told, if it is time.
+    /// Publishes the statistics that the workers sent, if a snapshot or lines are due.
     fn poll(&mut self) {
         let now = self.clock.now();
         if self.board.is_due(now) {

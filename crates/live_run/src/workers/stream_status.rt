@@ -1,4 +1,4 @@
-//! What is seen of streams by what their watches told.
+//! Filling a snapshot's streams with the statistics that the workers sent.
 ghost use Rattle.std.specs.Prelude.{◌≡◌, drop};
 ghost use Rattle.live_status.specs.Each.{AreEach};
 ghost use Rattle.live_run.specs.StreamStatus.{HasCounts, SeesAt, SeesStream, SeesTold};
@@ -8,7 +8,7 @@ use rtp_stats::StreamStats;
 use rtp_stream::PathCounts;
 use status_page::{PathState, StreamState};
 
-/// Sees what was told of each stream, and of each path, by counts that stand path by path.
+/// Fills in each stream and each path. `counts` has the counts of all paths, ordered by stream and then by path.
 pub(crate) fn fill_streams(
     told: &[Option<StreamStats>],
     counts: &[Option<PathCounts>],
@@ -24,7 +24,7 @@ pub(crate) fn fill_streams(
     }
 }
 
-/// Sees what was told of the stream at a place, if there is a place for it.
+/// Fills in the stream at a place, if there is a place for its statistics. `counts` starts with those of its paths.
 fn fill_stream_at(
     told: &[Option<StreamStats>],
     place: usize,
@@ -38,7 +38,7 @@ fn fill_stream_at(
     }
 }
 
-/// The counts past those of so many paths.
+/// Returns the counts after those of so many paths.
 fn counts_past(counts: &[Option<PathCounts>], paths: usize) -> &[Option<PathCounts>]
     ensures { result.now ≡ drop paths counts.now }
 {
@@ -49,7 +49,7 @@ fn counts_past(counts: &[Option<PathCounts>], paths: usize) -> &[Option<PathCoun
     }
 }
 
-/// Sees what was told of a stream, and of its paths.
+/// Fills in a stream and its paths. The stream's own part stays as it is if no statistics were sent yet.
 fn fill_stream_with_paths(
     told: &Option<StreamStats>,
     counts: &[Option<PathCounts>],
@@ -63,7 +63,7 @@ fn fill_stream_with_paths(
     fill_path_counts(counts, stream.paths.as_mut_slice());
 }
 
-/// Sees what became of each path's datagrams.
+/// Fills in the counts of each path's datagrams.
 fn fill_path_counts(counts: &[Option<PathCounts>], paths: &mut [PathState])
     ensures { AreEach (HasCounts counts.now) paths.old paths.new }
 {
@@ -72,7 +72,7 @@ fn fill_path_counts(counts: &[Option<PathCounts>], paths: &mut [PathState])
     }
 }
 
-/// Sees what became of the datagrams of the path at a place.
+/// Fills in the counts of the datagrams of the path at a place, if they were sent.
 fn fill_counts_at(counts: &[Option<PathCounts>], place: usize, path: &mut PathState)
     ensures { HasCounts counts.now place path.old path.new }
 {

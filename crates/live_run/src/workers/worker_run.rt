@@ -1,4 +1,4 @@
-//! What a run's workers are started from.
+//! The ends of the rings, the feeds, the clocks and the sink of a run's workers.
 ghost use Rattle.std.specs.Prelude.{◌≡◌, false, length, IfOk, IfErr};
 ghost use Rattle.studio_rings.specs.StreamResults.{AreOpenedTogether};
 ghost use Rattle.live_run.specs.RunResult.{IsEarly, IsRunOf};
@@ -13,7 +13,7 @@ use studio_config::StudioSpec;
 use studio_ends::Ends;
 use studio_rings::{WorkReport, run_workers};
 
-/// What the workers are started from.
+/// The ends of the rings, the feeds, the clocks and the sink of a run's workers.
 #[derive(Drop)]
 pub(crate) struct WorkerRun<'a, R: Clock> {
     pub(crate) ends: Ends,
@@ -22,7 +22,8 @@ pub(crate) struct WorkerRun<'a, R: Clock> {
     sink: UdpSink,
 }
 
-/// The workers of rings and sockets.
+/// Returns the parts of the workers on these rings and sockets: a feed for each path and a clock for each stream.
+/// Returns `AllocError` if an allocation fails.
 pub(crate) fn prepare_workers<'a, R: Clock>(
     rt: &'a R,
     alloc: Global,
@@ -46,7 +47,7 @@ pub(crate) fn prepare_workers<'a, R: Clock>(
     })
 }
 
-/// So many clocks of a run.
+/// Returns `count` clocks of a run.
 fn clocks_of<R: Clock>(
     rt: &R,
     alloc: Global,
@@ -63,7 +64,7 @@ fn clocks_of<R: Clock>(
 }
 
 impl<R: Threads + Wait + Sync + Clock> WorkerRun<'_, R> {
-    /// Runs the workers of a studio.
+    /// Runs the workers of a studio. Returns the report once all have ended.
     pub(crate) fn run(
         self,
         rt: &R,
@@ -76,6 +77,7 @@ impl<R: Threads + Wait + Sync + Clock> WorkerRun<'_, R> {
         ensures run { IfOk result (IsRunOf false studio.now) }
         ensures early { IfErr result IsEarly }
     {
+        // Called for its contract alone, which says that the studio is sound: the proof of this function needs that.
         let _open_at = studio.open_at();
         let WorkerRun {
             ends,
