@@ -1,10 +1,10 @@
-//! How a stream's condition is written.
+//! The names of a stream's conditions, and their values as metrics.
 ghost use Rattle.std.specs.Prelude.{◌≡◌};
 ghost use Rattle.status_page.specs.Metrics.{condition_text, has_condition};
 
 use crate::snapshot::Condition;
 
-/// The conditions of a stream.
+/// All conditions of a stream, in the order in which `/metrics` lists them.
 pub const CONDITIONS: [Condition; 4] = [
     Condition::NoPacket,
     Condition::Running,
@@ -13,7 +13,7 @@ pub const CONDITIONS: [Condition; 4] = [
 ];
 
 impl Condition {
-    /// How it is written.
+    /// Returns the condition's name in `/state` and `/metrics`.
     pub fn text(self) -> &'static str
         ensures { result.now ≡ condition_text self }
     {
@@ -25,10 +25,11 @@ impl Condition {
         }
     }
 
-    /// 1, if a stream of this condition is in that one, else 0.
+    /// Returns 1 if both conditions are the same, and 0 otherwise: the value of the metric of a stream's condition.
     pub(crate) fn holds(self, other: Condition) -> u64
         ensures { result ≡ has_condition self other }
     {
+        // By cases, as the contract's `has_condition` is.
         match (self, other) {
             (Condition::NoPacket, Condition::NoPacket)
             | (Condition::Running, Condition::Running)

@@ -1,4 +1,4 @@
-//! The connection of a client.
+//! New connections of clients.
 ghost use Rattle.std.specs.Prelude.{◌≡◌};
 ghost use Rattle.http_server.specs.Connection.{config_of, history};
 ghost use Rattle.http_server.specs.History.{new_history};
@@ -9,11 +9,11 @@ use http1::Limits;
 use std::alloc::Global;
 use std::hash::RandomState;
 
-/// The most octets of a request's head, of its trailers and of its body.
+/// The greatest number of octets of a request's head, of its trailers and of its body, and of one read.
 const MOST_OCTETS: usize = 8192;
 
-/// A client's connection, to which nothing came yet. A longer head or body is refused, and while an answer waits to be
-/// sent no request is read.
+/// Returns the connection of a new client, from which nothing was read yet. It refuses a head, trailers or a body of
+/// more than 8,192 octets. While a response waits to be sent it reads no request.
 pub fn new_connection(alloc: Global, keys: RandomState) -> Connection
     ensures limits { IsGuarded (config_of result) }
     ensures new { history result ≡ new_history }
@@ -25,6 +25,7 @@ pub fn new_connection(alloc: Global, keys: RandomState) -> Connection
             max_trailers_len: MOST_OCTETS,
         },
         max_body_len: MOST_OCTETS,
+        // So a client that sends requests and reads no response cannot fill the memory with responses.
         max_pending: 0,
         read_size: MOST_OCTETS,
     };

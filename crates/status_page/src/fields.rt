@@ -1,14 +1,15 @@
-//! How a number changes.
+//! The numbers of a path (`path`), of a stream (`stream`) and of an output channel (`output`), each with its name, its
+//! kind, its description and its value. `/state` and `/metrics` both use them.
 
 pub(crate) mod output;
 pub(crate) mod path;
 pub(crate) mod stream;
 
-/// How a number changes.
+/// The kind of a number, as Prometheus has it.
 #[derive(Clone, Copy, Debug, PartialEq, Eq)]
 pub enum MetricKind {
-    /// It only rises, from 0 at the start.
+    /// A number that only rises, from 0 at the start.
     Counter,
-    /// It may fall.
+    /// A number that may fall.
     Gauge,
 }

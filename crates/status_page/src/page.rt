@@ -1,4 +1,5 @@
-//! Who answers the requests.
+//! The page: the service that responds to requests from one snapshot. `html` has the page's text, `state` writes the
+//! snapshot as JSON, and `metrics` as metrics, of lines in `samples` and pieces in `text`. `resource` has the paths.
 ghost use Rattle.std.specs.Prelude.{◌≡◌, [], OnOk, IfOk};
 ghost use Rattle.http_server.specs.Connection.{config_of, history};
 ghost use Rattle.http_server.specs.History.{IsServed, Rests};
@@ -25,13 +26,13 @@ mod samples;
 pub(crate) mod state;
 mod text;
 
-/// Answers the requests of all connections from one snapshot, which the caller renews between them. Its JSON is written once
-/// for all who ask for it.
+/// The service that responds to the requests of all connections from one snapshot, which the caller updates.
 #[derive(Drop)]
 pub struct Page {
     alloc: Global,
     snapshot: Snapshot,
-    /// What is answered at `/state`, once it was asked for.
+    /// The response's body at `/state`, once there was a request for it.
+    // Kept, since each open page requests it ten times a second: its JSON is written once for all of them.
     state: Option<Bytes>,
 }
 
@@ -49,7 +50,7 @@ impl Model for Page {
 }
 
 impl Page {
-    /// The page of a snapshot.
+    /// Returns the page of a snapshot.
     pub fn new(alloc: Global, snapshot: Snapshot) -> Page
         ensures { result ≡ snapshot }
     {
@@ -60,7 +61,7 @@ impl Page {
         }
     }
 
-    /// Answers from a newer snapshot from now on.
+    /// Responds from a newer snapshot from now on.
     pub fn update(&mut self, snapshot: Snapshot)
         ensures { self.new ≡ snapshot }
     {
@@ -68,7 +69,7 @@ impl Page {
         self.state = None;
     }
 
-    /// Answers what was read of a client. To be called after each read, and after each write.
+    /// Responds to the requests that were read from a client. Call it after each read and after each write.
     pub fn answer(&mut self, connection: &mut Connection)
         ensures served { ∥ IsServed (config_of connection.new) (history connection.new) ∥₁ }
         ensures answers { AnswersMore self.old (history connection.old) (history connection.new) }
@@ -79,10 +80,11 @@ impl Page {
         connection.advance(self);
     }
 
-    /// Answers what was asked for.
+    /// Writes a resource into a response. Returns `AllocError` if an allocation fails.
     fn show(&mut self, resource: Resource, response: &mut Response) -> Result<(), AllocError>
         requires { IsBlank response.old }
-        ensures shown { OnOk result (IsResponse 200 (shown_fields resource) (content_of self.old resource) response.new) }
+        ensures shown { OnOk result
+            (IsResponse 200 (shown_fields resource) (content_of self.old resource) response.new) }
         ensures same { self.new ≡ self.old }
     {
         response.add_header(
@@ -96,7 +98,7 @@ impl Page {
         response.body.push(self.content(resource)?)
     }
 
-    /// The octets of what was asked for.
+    /// Returns the octets of a resource, or `AllocError` if an allocation fails.
     fn content(&mut self, resource: Resource) -> Result<Bytes, AllocError>
         ensures shown { IfOk result (λ octets. octets ≡ content_of self.old resource) }
         ensures same { self.new ≡ self.old }
@@ -108,7 +110,7 @@ impl Page {
         }
     }
 
-    /// The snapshot as JSON.
+    /// Returns the snapshot as JSON, or `AllocError` if an allocation fails.
     fn state(&mut self) -> Result<Bytes, AllocError>
         ensures shown { IfOk result (λ octets. octets ≡ content_of self.old State) }
         ensures same { self.new ≡ self.old }
@@ -141,14 +143,14 @@ impl Service for Page {
     }
 }
 
-/// Whether a method only reads.
+/// Returns true if a method only reads.
 fn is_read(method: &Method) -> bool
     ensures { result ≡ is_read method.now }
 {
     method.as_str() == "GET" || method.as_str() == "HEAD"
 }
 
-/// Answers that what was asked for can only be read.
+/// Writes the response to a method that does not only read: 405, with the allowed methods.
 fn refuse(response: &mut Response) -> Result<(), AllocError>
     requires { IsBlank response.old }
     ensures { OnOk result (IsResponse 405 refused_fields [] response.new) }
@@ -160,7 +162,7 @@ fn refuse(response: &mut Response) -> Result<(), AllocError>
     )
 }
 
-/// Octets that the connection holds with no copy.
+/// Returns these octets in a form that connections share without a copy.
 fn shared(octets: Vec<u8>) -> Result<Bytes, AllocError>
     ensures { IfOk result (λ shared. shared ≡ octets.items) }
 {

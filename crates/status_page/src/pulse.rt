@@ -1,21 +1,23 @@
-//! Where a stream stands, by when its packets came.
+//! The presence of a stream's signal, by the times at which its packets were taken.
 ghost use Rattle.std.specs.Prelude.{◌≡◌, if◌then◌else◌, ◌==◌};
 ghost use Rattle.status_page.specs.Condition.{condition_of, is_silent};
 
 use crate::snapshot::Condition;
 
-/// After so many sampling instants with no packet a stream is lost: a second.
+/// The time without a packet after which a stream's signal is lost, in sampling instants: a second.
 const LOST_AFTER: i64 = 48_000;
 
-/// How many packets of a stream were taken, and since when there are so many.
+/// The presence of a stream's signal.
 #[derive(Clone, Copy, Debug)]
 pub struct SignalPresence {
+    /// The number of packets that were taken at the last update.
     taken: u64,
+    /// The time of the first update with that number, in sampling instants.
     since: i64,
 }
 
 impl SignalPresence {
-    /// No packet was taken by this time, in sampling instants.
+    /// Returns the presence of a stream of which no packet was taken by the time `now`, in sampling instants.
     pub fn new(now: i64) -> SignalPresence
         ensures { (result.taken ≡ 0) × (result.since ≡ now) }
     {
@@ -25,8 +27,8 @@ impl SignalPresence {
         }
     }
 
-    /// Notes how many packets were taken by this time, in sampling instants, and answers where a stream stands whose end is
-    /// told or isn't.
+    /// Notes the number of packets that were taken by the time `now`, in sampling instants, and returns the stream's
+    /// condition. `has_ended` is true if the stream has ended.
     pub fn update(&mut self, now: i64, taken: u64, has_ended: bool) -> Condition
         ensures condition { result ≡ condition_of has_ended taken (is_silent self.new.since now) }
         ensures taken { self.new.taken ≡ taken }

@@ -1,4 +1,5 @@
-//! The sockets of the page.
+//! The server of the page: its listener and its clients. `client` has a client's turn, and `source` the snapshots and
+//! the loop of the page's thread.
 use crate::connection::new_connection;
 use crate::page::Page;
 use crate::server::client::{Client, Progress};
@@ -14,19 +15,22 @@ use std::time::Duration;
 mod client;
 pub(crate) mod source;
 
-/// How many clients are answered at once. Those past them are let go.
+/// The greatest number of clients at the same time. Further ones are disconnected.
 pub const MOST_CLIENTS: usize = 64;
 
-/// How many sockets are told of at once.
+/// The greatest number of events of one poll.
+// More than there are sockets, which are 64 clients and the listener.
 const MOST_EVENTS: usize = 128;
 
-/// How many clients are taken or let go at once.
+/// The greatest number of connections that are accepted in one turn.
+// A limit, so that clients which connect again and again do not keep the others from their turns.
 const MOST_AT_ONCE: u32 = 256;
 
-/// How the listener is told from the clients, which have the numbers of their places.
+/// The token of the listener.
+// Clients have the numbers of their places, which are less.
 const LISTENER: Token = Token(MOST_CLIENTS);
 
-/// A listener on this machine, and its clients.
+/// The server of the page: a listener at 127.0.0.1 and its clients.
 #[derive(Drop)]
 pub struct PageServer {
     alloc: Global,
@@ -38,7 +42,8 @@ pub struct PageServer {
 }
 
 impl PageServer {
-    /// Listens at a port of 127.0.0.1; at 0 the system picks one.
+    /// Returns a server that listens at a port of 127.0.0.1; at 0 the system picks one. Returns the system's error if
+    /// it refuses, or `ErrorKind::OutOfMemory` if an allocation fails.
     pub fn bind(
         net: &impl Net,
         alloc: Global,
@@ -60,23 +65,23 @@ impl PageServer {
         })
     }
 
-    /// Where it listens.
+    /// Returns the address at which the server listens, or the system's error if it cannot be read.
     pub fn address(&self) -> io::Result<SocketAddr> {
         self.listener.local_addr()
     }
 
-    /// Waits until a socket is ready, but at most so long, and not at all where a client may go on.
+    /// Waits until a socket is ready, but no longer than `most`, and not at all if a client is ready already.
     pub fn wait(&mut self, most: Duration) {
         let most = if self.has_more() {
             Duration::ZERO
         } else {
             most
         };
-        // Without events each client has its turn once it is ready.
+        // An error is ignored: clients that are ready have their turns all the same.
         let _ = self.poll.poll(&mut self.events, Some(most));
     }
 
-    /// Whether a client may go on at once.
+    /// Returns true if a client is ready to read or write at once.
     fn has_more(&self) -> bool {
         for place in 0..MOST_CLIENTS {
             if let Some(client) = self.clients.get(place) {
@@ -88,8 +93,10 @@ impl PageServer {
         false
     }
 
-    /// Takes who came, answers what came from the page's snapshot, and lets go who is done with or did nothing for 10 s.
+    /// Gives each client that is ready its turn, disconnects those that are done or idle for more than 10 s, and
+    /// accepts new ones. `now` is the reading of a monotonic clock. Call it after each `wait`.
     pub fn turn(&mut self, page: &mut Page, now: Duration) {
+        // New clients come last: they may get the places of clients that were just disconnected.
         self.note_ready();
         for place in 0..MOST_CLIENTS {
             self.turn_at(place, page, now);
@@ -97,15 +104,16 @@ impl PageServer {
         self.take_clients(now);
     }
 
-    /// Gives the client of a place its turn, and lets it go where it is done with.
+    /// Gives the client at a place its turn, and disconnects it if it is done.
     fn turn_at(&mut self, place: usize, page: &mut Page, now: Duration) {
         if is_done_at(&mut self.clients, place, page, now) {
             remove_client(&mut self.clients, place);
         }
     }
 
-    /// Notes which clients may go on.
+    /// Notes which clients are ready.
     fn note_ready(&mut self) {
+        // The listener's token is no client's place. New clients are looked for in each turn anyway.
         for event in self.events.iter() {
             if let Some(client) = self.clients.get_mut(event.token().0) {
                 client.progress = Progress::Ready;
@@ -113,7 +121,7 @@ impl PageServer {
         }
     }
 
-    /// Takes those who wait to be taken.
+    /// Accepts the clients that wait. Those for which there is no place are disconnected.
     fn take_clients(&mut self, now: Duration) {
         for _ in 0..MOST_AT_ONCE {
             let Ok((stream, _)) = self.listener.accept() else {
@@ -125,7 +133,7 @@ impl PageServer {
         }
     }
 
-    /// Takes a client, if memory and the system allow it; else it is let go.
+    /// Adds a client. It is disconnected if the system refuses to poll it or an allocation fails.
     fn take(&mut self, mut stream: TcpStream, now: Duration) {
         if self.register_client(&mut stream) {
             let client = Client::new(stream, new_connection(self.alloc, self.keys), now);
@@ -133,7 +141,7 @@ impl PageServer {
         }
     }
 
-    /// Asks to be told of a client that gets the next free place; false where the system refuses.
+    /// Registers the socket of a client that gets the next free place, and returns true if the system allows it.
     fn register_client(&self, stream: &mut TcpStream) -> bool {
         let token = Token(self.clients.vacant_key());
         let both = Interest::READABLE | Interest::WRITABLE;
@@ -141,7 +149,8 @@ impl PageServer {
     }
 }
 
-/// Gives the client of a place its turn; answers whether there is one that is to be let go then.
+/// Gives the client at a place its turn, and returns true if there is one that is done then.
+// This function and the two below only borrow the clients, so that few functions hold sockets.
 fn is_done_at(clients: &mut Slab<Client>, place: usize, page: &mut Page, now: Duration) -> bool {
     match clients.get_mut(place) {
         Some(client) => client.run_turn(page, now),
@@ -149,12 +158,12 @@ fn is_done_at(clients: &mut Slab<Client>, place: usize, page: &mut Page, now: Du
     }
 }
 
-/// Lets the client of a place go.
+/// Disconnects the client at a place.
 fn remove_client(clients: &mut Slab<Client>, place: usize) {
     let _ = clients.try_remove(place);
 }
 
-/// Keeps a client, if there is memory; else it is let go.
+/// Keeps a client. It is disconnected if an allocation fails.
 fn keep(clients: &mut Slab<Client>, client: Client) {
     let _ = clients.insert(client);
 }

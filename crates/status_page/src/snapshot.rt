@@ -1,63 +1,68 @@
-//! What is seen of a run at one moment.
+//! A snapshot of a run: its streams, their paths and the output channels at one time.
 ghost use Rattle.std.specs.Prelude.{◌≡◌, [], None};
 ghost use Rattle.status_page.specs.Blank.{IsBlank, blank_path};
 
 use arrayvec::{ArrayString, ArrayVec};
 use rtp_stream::{Counts, PathCounts};
 
-/// The name of a stream: a text of at most 64 octets.
+/// The name of a stream for people, of at most 64 octets.
 pub type StreamName = ArrayString<64>;
 
-/// Where a stream stands.
+/// The condition of a stream.
 #[derive(Clone, Copy, Debug, PartialEq, Eq)]
 pub enum Condition {
-    /// No packet of the stream came yet.
+    /// No packet of the stream was taken yet.
     NoPacket,
-    /// Its packets come.
+    /// A packet was taken in the last second.
     Running,
-    /// None comes any more.
+    /// Packets were taken, but none in the last second.
     SignalLost,
-    /// It was closed.
+    /// The stream was closed.
     Ended,
 }
 
-/// How long before their deadlines a path's packets came in the last second, in sampling instants.
+/// The arrival margins of a path's packets in the last second, in sampling instants at 48 kHz.
 #[derive(Clone, Copy, Debug, PartialEq, Eq)]
 pub struct ArrivalMargin {
+    /// The least margin.
     pub least: u64,
-    /// Rounded down to 6; past 6,138 it may be more.
+    /// The median margin, rounded down to a multiple of 6, but not below the least. From 6,138 (128 ms) on the true
+    /// median may be greater.
     pub median: u64,
 }
 
-/// What became of a path's packets beside those of the stream's other paths.
+/// The numbers of a path's packets by fate, in addition to the first copies.
 #[derive(Clone, Copy, Debug, PartialEq, Eq)]
 pub struct CopyCounts {
-    /// The numbers of the span that it never brought.
+    /// The packets that were taken from no path, and those that only other paths brought.
     pub lost: u64,
-    /// Its packets that were doubles, unlike the first copy, or late.
+    /// The duplicates, with the payload of the first copy.
     pub double: u64,
+    /// The duplicates with a different payload than the first copy.
     pub unlike: u64,
+    /// The packets that arrived after their deadlines.
     pub late: u64,
 }
 
-/// What is seen of a path. What a run doesn't know is none.
+/// The state of a path. A number that the run does not know is `None`.
 #[derive(Clone, Copy, Debug)]
 pub struct PathState {
-    /// The datagrams that came on it.
+    /// The number of datagrams that arrived on the path.
     pub datagrams: u64,
-    /// The packets of which it brought the first copy.
+    /// The number of packets of which the path brought the first copy.
     pub first: u64,
-    /// Its datagrams, by what became of them before the merge.
+    /// The datagrams by their results before the merge.
     pub counts: Option<PathCounts>,
+    /// The packets by fate, in addition to the first copies.
     pub copies: Option<CopyCounts>,
-    /// None, too, where no packet came in the last second.
+    /// The arrival margins of the last second; also `None` if no packet arrived in time then.
     pub spare: Option<ArrivalMargin>,
 }
 
 impl Default for PathState {
     ghost is_default = { λ path. path ≡ blank_path };
 
-    /// Nothing came, and nothing more is known.
+    /// Returns the state of a path on which no datagram arrived, of which nothing else is known.
     fn default() -> PathState {
         PathState {
             datagrams: 0,
@@ -69,21 +74,25 @@ impl Default for PathState {
     }
 }
 
-/// What is seen of a stream.
+/// The state of a stream.
 #[derive(Drop)]
 pub struct StreamState {
+    /// The stream's name, if it has one.
     pub name: Option<StreamName>,
+    /// The stream's condition.
     pub condition: Condition,
-    /// From a packet's media time to its deadline, in sampling instants.
+    /// The time from a packet's media time to its deadline, in sampling instants at 48 kHz.
     pub latency: u64,
+    /// The counts of the stream's merge.
     pub counts: Counts,
+    /// The state of each path, in their order.
     pub paths: ArrayVec<PathState, 4>,
 }
 
 impl Default for StreamState {
     ghost is_default = { IsBlank None 0 0 };
 
-    /// Nothing came, and there is no path.
+    /// Returns the state of a stream without paths, of which no packet was taken.
     fn default() -> StreamState {
         StreamState {
             name: None,
@@ -95,24 +104,26 @@ impl Default for StreamState {
     }
 }
 
-/// What is seen of an output channel.
+/// The state of an output channel.
 #[derive(Clone, Copy, Debug, Default, PartialEq, Eq)]
 pub struct OutputState {
-    /// The greatest magnitude of its samples since the snapshot before, of 8,388,608 at full scale.
+    /// The greatest magnitude of a sample since the snapshot before. Full scale is 8,388,608.
     pub peak: u32,
-    /// Its samples that were saturated, since the start.
+    /// The number of samples that were saturated since the start.
     pub saturated: u64,
 }
 
-/// All that is seen: the streams and the output channels of a studio, in their order.
+/// A snapshot of a studio.
 #[derive(Drop)]
 pub struct Snapshot {
+    /// The state of each stream, in their order.
     pub streams: ArrayVec<StreamState, 16>,
+    /// The state of each output channel, in their order.
     pub outputs: ArrayVec<OutputState, 8>,
 }
 
 impl Snapshot {
-    /// Nothing is seen.
+    /// Returns a snapshot without streams and output channels.
     pub fn new() -> Snapshot
         ensures streams { result.streams.items ≡ [] }
         ensures outputs { result.outputs.items ≡ [] }

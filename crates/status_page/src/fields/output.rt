@@ -5,7 +5,7 @@ ghost use Rattle.status_page.specs.Fields.{output_help, output_key, output_kind,
 use crate::fields::MetricKind;
 use crate::snapshot::OutputState;
 
-/// A number of an output channel.
+/// A number of an output channel. `help` describes each.
 #[derive(Clone, Copy, Debug, PartialEq, Eq)]
 pub enum OutputField {
     Peak,
@@ -16,7 +16,7 @@ pub enum OutputField {
 pub const OUTPUT_FIELDS: [OutputField; 2] = [OutputField::Peak, OutputField::Saturated];
 
 impl OutputField {
-    /// How it is called.
+    /// Returns the number's name in `/state` and `/metrics`.
     pub fn key(self) -> &'static str
         ensures { result.now ≡ output_key self }
     {
@@ -26,7 +26,7 @@ impl OutputField {
         }
     }
 
-    /// Whether it only rises.
+    /// Returns the number's kind.
     pub fn kind(self) -> MetricKind
         ensures { result ≡ output_kind self }
     {
@@ -36,7 +36,7 @@ impl OutputField {
         }
     }
 
-    /// What it counts: a line.
+    /// Returns the number's description in `/metrics`, one line.
     pub fn help(self) -> &'static str
         ensures { result.now ≡ output_help self }
     {
@@ -48,7 +48,7 @@ impl OutputField {
         }
     }
 
-    /// What it is.
+    /// Returns the number's value.
     pub fn value(self, output: &OutputState) -> u64
         ensures { result ≡ output_value self output.now }
     {

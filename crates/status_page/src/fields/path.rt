@@ -5,7 +5,7 @@ ghost use Rattle.status_page.specs.Fields.{path_help, path_key, path_kind, path_
 use crate::fields::MetricKind;
 use crate::snapshot::PathState;
 
-/// A number of a path.
+/// A number of a path. `help` describes each.
 #[derive(Clone, Copy, Debug, PartialEq, Eq)]
 pub enum PathField {
     Datagrams,
@@ -41,7 +41,7 @@ pub const PATH_FIELDS: [PathField; 13] = [
 ];
 
 impl PathField {
-    /// How it is called.
+    /// Returns the number's name in `/state` and `/metrics`.
     pub fn key(self) -> &'static str
         ensures { result.now ≡ path_key self }
     {
@@ -62,7 +62,7 @@ impl PathField {
         }
     }
 
-    /// Whether it only rises.
+    /// Returns the number's kind.
     pub fn kind(self) -> MetricKind
         ensures { result ≡ path_kind self }
     {
@@ -72,7 +72,7 @@ impl PathField {
         }
     }
 
-    /// What it counts: a line.
+    /// Returns the number's description in `/metrics`, one line.
     pub fn help(self) -> &'static str
         ensures { result.now ≡ path_help self }
     {
@@ -95,7 +95,7 @@ impl PathField {
         }
     }
 
-    /// What it is, if it is known.
+    /// Returns the number's value, or `None` if it is not known.
     pub fn value(self, path: &PathState) -> Option<u64>
         ensures { result ≡ path_value self path.now }
     {

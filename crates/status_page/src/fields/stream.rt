@@ -5,7 +5,7 @@ ghost use Rattle.status_page.specs.Fields.{stream_help, stream_key, stream_kind,
 use crate::fields::MetricKind;
 use crate::snapshot::StreamState;
 
-/// A number of a stream.
+/// A number of a stream. `help` describes each.
 #[derive(Clone, Copy, Debug, PartialEq, Eq)]
 pub enum StreamField {
     Got,
@@ -39,7 +39,7 @@ pub const STREAM_FIELDS: [StreamField; 12] = [
 ];
 
 impl StreamField {
-    /// How it is called.
+    /// Returns the number's name in `/state` and `/metrics`.
     pub fn key(self) -> &'static str
         ensures { result.now ≡ stream_key self }
     {
@@ -59,7 +59,7 @@ impl StreamField {
         }
     }
 
-    /// Whether it only rises.
+    /// Returns the number's kind.
     pub fn kind(self) -> MetricKind
         ensures { result ≡ stream_kind self }
     {
@@ -69,7 +69,7 @@ impl StreamField {
         }
     }
 
-    /// What it counts: a line.
+    /// Returns the number's description in `/metrics`, one line.
     pub fn help(self) -> &'static str
         ensures { result.now ≡ stream_help self }
     {
@@ -90,7 +90,7 @@ impl StreamField {
         }
     }
 
-    /// What it is.
+    /// Returns the number's value.
     pub fn value(self, stream: &StreamState) -> u64
         ensures { result ≡ stream_value self stream.now }
     {

@@ -1,4 +1,4 @@
-//! The page itself.
+//! The text of the page.
 ghost use Rattle.std.specs.Prelude.{◌≡◌};
 ghost use Rattle.status_page.specs.Responses.{page_text};
 
@@ -433,7 +433,8 @@ ask();
 </html>
 "##;
 
-/// It, as what is answered.
+/// Returns the page's text.
+// A function, so that a contract can name the text by `page_text`, which is unfolded here alone.
 #[tactic(auto, unfolding(crate::specs::Responses::page_text))]
 pub(crate) fn page_html() -> &'static str
     ensures { result.now ≡ page_text }

@@ -1,6 +1,18 @@
-//! What `/metrics` answers.
+//! The response's body at `/metrics`: the snapshot in the text form of Prometheus.
 ghost use Rattle.std.specs.Prelude.{◌≡◌, ◌++◌, OnOk, IfOk};
-ghost use Rattle.status_page.specs.Metrics.{stream_samples, path_samples, all_path_samples, condition_samples, all_condition_samples, output_samples, stream_families, path_families, output_families, metrics_text, state_header};
+ghost use Rattle.status_page.specs.Metrics.{
+  stream_samples,
+  path_samples,
+  all_path_samples,
+  condition_samples,
+  all_condition_samples,
+  output_samples,
+  stream_families,
+  path_families,
+  output_families,
+  metrics_text,
+  state_header,
+};
 
 use crate::condition::CONDITIONS;
 use crate::fields::MetricKind;
@@ -14,7 +26,7 @@ use crate::page::text::push_header;
 use crate::snapshot::{Condition, OutputState, PathState, Snapshot, StreamState};
 use std::alloc::{AllocError, Global};
 
-/// The text form of Prometheus, 0.0.4, of a snapshot.
+/// Returns a snapshot in the text form of Prometheus, version 0.0.4, or `AllocError` if an allocation fails.
 #[tactic(auto, unfolding(crate::specs::Metrics::metrics_text))]
 pub fn metrics_text(alloc: Global, snapshot: &Snapshot) -> Result<Vec<u8>, AllocError>
     ensures { IfOk result (λ text. text.items ≡ metrics_text snapshot.now) }
@@ -28,23 +40,24 @@ pub fn metrics_text(alloc: Global, snapshot: &Snapshot) -> Result<Vec<u8>, Alloc
     Ok(text)
 }
 
-/// What the metric of the streams' conditions says.
+/// The description of the metric of the streams' conditions.
 const STATE_HELP: &str =
     "Where the stream stands: 1 for the state that it is in, and 0 for the others.";
 
-/// Holds the metric of the streams' conditions.
+/// Appends the metric of the streams' conditions.
 fn push_conditions(
     text: &mut Vec<u8>,
     conditions: &[Condition],
     streams: &[StreamState],
 ) -> Result<(), AllocError>
-    ensures { OnOk result (text.new.items ≡ text.old.items ++ (state_header ++ all_condition_samples conditions.now 0 streams.now)) }
+    ensures { OnOk result (text.new.items
+        ≡ text.old.items ++ (state_header ++ all_condition_samples conditions.now 0 streams.now)) }
 {
     push_header(text, "stream_", "state", MetricKind::Gauge, STATE_HELP)?;
     push_all_condition_samples(text, conditions, streams)
 }
 
-/// Holds which condition each stream has.
+/// Appends the lines with each stream's condition.
 #[tactic(auto, unfolding(crate::specs::Metrics::all_condition_samples))]
 fn push_all_condition_samples(
     text: &mut Vec<u8>,
@@ -59,7 +72,7 @@ fn push_all_condition_samples(
     Ok(())
 }
 
-/// Holds which of these conditions a stream has.
+/// Appends the lines with a stream's condition, one for each of these conditions.
 #[tactic(auto, unfolding(crate::specs::Metrics::condition_samples))]
 fn push_condition_samples(
     text: &mut Vec<u8>,
@@ -75,7 +88,7 @@ fn push_condition_samples(
     Ok(())
 }
 
-/// Holds the metrics of the streams.
+/// Appends the metrics of the streams.
 #[tactic(auto, unfolding(crate::specs::Metrics::stream_families))]
 fn push_stream_families(
     text: &mut Vec<u8>,
@@ -91,7 +104,7 @@ fn push_stream_families(
     Ok(())
 }
 
-/// Holds one number of each stream.
+/// Appends the lines with one number of each stream.
 #[tactic(auto, unfolding(crate::specs::Metrics::stream_samples))]
 fn push_stream_samples(
     text: &mut Vec<u8>,
@@ -106,7 +119,7 @@ fn push_stream_samples(
     Ok(())
 }
 
-/// Holds the metrics of the paths.
+/// Appends the metrics of the paths.
 #[tactic(auto, unfolding(crate::specs::Metrics::path_families))]
 fn push_path_families(
     text: &mut Vec<u8>,
@@ -122,7 +135,7 @@ fn push_path_families(
     Ok(())
 }
 
-/// Holds one number of each path.
+/// Appends the lines with one number of each path.
 #[tactic(auto, unfolding(crate::specs::Metrics::all_path_samples))]
 fn push_all_path_samples(
     text: &mut Vec<u8>,
@@ -137,7 +150,7 @@ fn push_all_path_samples(
     Ok(())
 }
 
-/// Holds one number of each of a stream's paths.
+/// Appends the lines with one number of each path of a stream.
 #[tactic(auto, unfolding(crate::specs::Metrics::path_samples))]
 fn push_path_samples(
     text: &mut Vec<u8>,
@@ -154,7 +167,7 @@ fn push_path_samples(
     Ok(())
 }
 
-/// Holds the metrics of the output channels.
+/// Appends the metrics of the output channels.
 #[tactic(auto, unfolding(crate::specs::Metrics::output_families))]
 fn push_output_families(
     text: &mut Vec<u8>,
@@ -170,7 +183,7 @@ fn push_output_families(
     Ok(())
 }
 
-/// Holds one number of each output channel.
+/// Appends the lines with one number of each output channel.
 #[tactic(auto, unfolding(crate::specs::Metrics::output_samples))]
 fn push_output_samples(
     text: &mut Vec<u8>,

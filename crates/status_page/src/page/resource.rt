@@ -1,10 +1,10 @@
-//! What can be asked for.
+//! The resources of the page.
 ghost use Rattle.std.specs.Prelude.{◌≡◌};
 ghost use Rattle.status_page.specs.Responses.{resource_of, media_type};
 
 use http::HeaderValue;
 
-/// What can be asked for.
+/// A resource that a client can request.
 #[derive(Clone, Copy, Debug, PartialEq, Eq)]
 pub enum Resource {
     /// The page itself.
@@ -16,7 +16,7 @@ pub enum Resource {
 }
 
 impl Resource {
-    /// What stands at a path, if something does.
+    /// Returns the resource at a path, or `None` if there is none.
     pub fn of(path: &str) -> Option<Resource>
         ensures { result ≡ resource_of path.now }
     {
@@ -32,7 +32,7 @@ impl Resource {
         None
     }
 
-    /// Its media type.
+    /// Returns the resource's media type.
     pub(crate) fn media_type(self) -> HeaderValue
         ensures { result.bytes ≡ media_type self }
     {

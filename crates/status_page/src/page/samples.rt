@@ -1,6 +1,15 @@
 //! The lines of `/metrics`.
 ghost use Rattle.std.specs.Prelude.{◌≡◌, ◌++◌, OnOk};
-ghost use Rattle.status_page.specs.Metrics.{name_label, stream_labels, path_letter, value_text, stream_sample, path_sample, condition_sample, output_sample};
+ghost use Rattle.status_page.specs.Metrics.{
+  name_label,
+  stream_labels,
+  path_letter,
+  value_text,
+  stream_sample,
+  path_sample,
+  condition_sample,
+  output_sample,
+};
 
 use crate::fields::MetricKind;
 use crate::fields::output::OutputField;
@@ -10,7 +19,7 @@ use crate::page::text::{push, push_label, push_metric, push_number};
 use crate::snapshot::{Condition, OutputState, StreamName, StreamState};
 use std::alloc::AllocError;
 
-/// Holds a stream's name as a label, if it has one.
+/// Appends a stream's name as a label, if it has one.
 #[tactic(auto, unfolding(crate::specs::Metrics::name_label))]
 fn push_name(text: &mut Vec<u8>, name: &Option<StreamName>) -> Result<(), AllocError>
     ensures { OnOk result (text.new.items ≡ text.old.items ++ name_label name.now) }
@@ -23,7 +32,7 @@ fn push_name(text: &mut Vec<u8>, name: &Option<StreamName>) -> Result<(), AllocE
     Ok(())
 }
 
-/// Holds the labels of a stream.
+/// Appends the labels of a stream. The caller may append more, and `push_value` closes them.
 #[tactic(auto, unfolding(crate::specs::Metrics::stream_labels))]
 fn push_labels(text: &mut Vec<u8>, number: usize, stream: &StreamState) -> Result<(), AllocError>
     ensures { OnOk result (text.new.items ≡ text.old.items ++ stream_labels number stream.now) }
@@ -34,7 +43,7 @@ fn push_labels(text: &mut Vec<u8>, number: usize, stream: &StreamState) -> Resul
     push_name(text, &stream.name)
 }
 
-/// Holds the end of a line.
+/// Appends the end of a line: the end of the labels, and the value.
 #[tactic(auto, unfolding(crate::specs::Metrics::value_text))]
 fn push_value(text: &mut Vec<u8>, value: u64) -> Result<(), AllocError>
     ensures { OnOk result (text.new.items ≡ text.old.items ++ value_text value) }
@@ -44,7 +53,7 @@ fn push_value(text: &mut Vec<u8>, value: u64) -> Result<(), AllocError>
     push(text, "\n")
 }
 
-/// Holds the line of a stream's number.
+/// Appends the line with a number of a stream.
 #[tactic(auto, unfolding(crate::specs::Metrics::stream_sample))]
 pub(crate) fn push_stream_sample(
     text: &mut Vec<u8>,
@@ -59,7 +68,7 @@ pub(crate) fn push_stream_sample(
     push_value(text, field.value(stream))
 }
 
-/// The letter of a path.
+/// Returns the letter of a path, by its place from 0 to 3.
 fn path_letter(path: usize) -> &'static str
     ensures { result.now ≡ path_letter path }
 {
@@ -71,7 +80,7 @@ fn path_letter(path: usize) -> &'static str
     }
 }
 
-/// Holds the line of a path's number, if that is known.
+/// Appends the line with a number of a path. Appends nothing if the number is not known.
 #[tactic(auto, unfolding(crate::specs::Metrics::path_sample))]
 pub(crate) fn push_path_sample(
     text: &mut Vec<u8>,
@@ -94,7 +103,7 @@ pub(crate) fn push_path_sample(
     push_value(text, value)
 }
 
-/// Holds the line that says whether a stream has a condition.
+/// Appends the line for a condition of a stream, with 1 if it is the stream's condition and 0 otherwise.
 #[tactic(auto, unfolding(crate::specs::Metrics::condition_sample))]
 pub(crate) fn push_condition_sample(
     text: &mut Vec<u8>,
@@ -112,7 +121,7 @@ pub(crate) fn push_condition_sample(
     push_value(text, condition.holds(stream.condition))
 }
 
-/// Holds the line of an output channel's number.
+/// Appends the line with a number of an output channel.
 #[tactic(auto, unfolding(crate::specs::Metrics::output_sample))]
 pub(crate) fn push_output_sample(
     text: &mut Vec<u8>,

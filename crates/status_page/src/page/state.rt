@@ -1,8 +1,23 @@
-//! What `/state` answers.
+//! The response's body at `/state`: the snapshot as JSON.
 ghost use Rattle.std.specs.Prelude.{◌≡◌, [], ◌∷◌, ◌++◌, OnOk, IfOk, codes};
 ghost use Rattle.json.specs.Lex.{tokens};
 ghost use Rattle.json.specs.Print.{print};
-ghost use Rattle.status_page.specs.State.{array_tokens, known_token, name_token, path_members, stream_members, output_members, path_tokens, paths_tokens, front_tokens, stream_tokens, streams_tokens, output_tokens, outputs_tokens, state_tokens};
+ghost use Rattle.status_page.specs.State.{
+  array_tokens,
+  known_token,
+  name_token,
+  path_members,
+  stream_members,
+  output_members,
+  path_tokens,
+  paths_tokens,
+  front_tokens,
+  stream_tokens,
+  streams_tokens,
+  output_tokens,
+  outputs_tokens,
+  state_tokens,
+};
 
 use crate::fields::output::{OUTPUT_FIELDS, OutputField};
 use crate::fields::path::{PATH_FIELDS, PathField};
@@ -11,7 +26,7 @@ use crate::snapshot::{OutputState, PathState, Snapshot, StreamName, StreamState}
 use json::Writer;
 use std::alloc::{AllocError, Global};
 
-/// A snapshot as JSON (RFC 8259).
+/// Returns a snapshot as JSON (RFC 8259), or `AllocError` if an allocation fails.
 #[tactic(auto, unfolding(crate::specs::State::state_tokens))]
 pub fn state_json(alloc: Global, snapshot: &Snapshot) -> Result<Vec<u8>, AllocError>
     ensures text { IfOk result (λ text. text.items ≡ print (state_tokens snapshot.now)) }
@@ -25,9 +40,10 @@ pub fn state_json(alloc: Global, snapshot: &Snapshot) -> Result<Vec<u8>, AllocEr
     Ok(writer.into_inner())
 }
 
-/// Writes the streams.
+/// Writes the member with the streams.
 fn write_streams(writer: &mut Writer, streams: &[StreamState]) -> Result<(), AllocError>
-    ensures tokens { OnOk result (writer.new.tokens ≡ writer.old.tokens ++ array_tokens (codes "streams") (streams_tokens streams.now)) }
+    ensures tokens { OnOk result (writer.new.tokens
+        ≡ writer.old.tokens ++ array_tokens (codes "streams") (streams_tokens streams.now)) }
     ensures before { OnOk result (writer.new.before ≡ writer.old.before) }
 {
     writer.key("streams")?;
@@ -36,7 +52,7 @@ fn write_streams(writer: &mut Writer, streams: &[StreamState]) -> Result<(), All
     writer.end_array()
 }
 
-/// Writes them one after another.
+/// Writes the streams one after another.
 #[tactic(auto, unfolding(crate::specs::State::streams_tokens))]
 fn write_each_stream(writer: &mut Writer, streams: &[StreamState]) -> Result<(), AllocError>
     ensures tokens { OnOk result (writer.new.tokens ≡ writer.old.tokens ++ streams_tokens streams.now) }
@@ -59,7 +75,7 @@ fn write_stream(writer: &mut Writer, stream: &StreamState) -> Result<(), AllocEr
     writer.end_object()
 }
 
-/// Begins a stream with its name and condition.
+/// Writes the start of a stream: its name and condition.
 fn write_front(writer: &mut Writer, stream: &StreamState) -> Result<(), AllocError>
     ensures tokens { OnOk result (writer.new.tokens ≡ writer.old.tokens ++ front_tokens stream.now) }
     ensures before { OnOk result (writer.new.before ≡ writer.old.before) }
@@ -71,7 +87,7 @@ fn write_front(writer: &mut Writer, stream: &StreamState) -> Result<(), AllocErr
     writer.string(stream.condition.text())
 }
 
-/// Writes a name, or null.
+/// Writes a name, or null if there is none.
 fn write_name(writer: &mut Writer, name: &Option<StreamName>) -> Result<(), AllocError>
     ensures tokens { OnOk result (writer.new.tokens ≡ writer.old.tokens ++ name_token name.now ∷ []) }
     ensures before { OnOk result (writer.new.before ≡ writer.old.before) }
@@ -99,9 +115,10 @@ fn write_stream_members(
     Ok(())
 }
 
-/// Writes the paths of a stream.
+/// Writes the member with the paths of a stream.
 fn write_paths(writer: &mut Writer, paths: &[PathState]) -> Result<(), AllocError>
-    ensures tokens { OnOk result (writer.new.tokens ≡ writer.old.tokens ++ array_tokens (codes "paths") (paths_tokens paths.now)) }
+    ensures tokens { OnOk result (writer.new.tokens
+        ≡ writer.old.tokens ++ array_tokens (codes "paths") (paths_tokens paths.now)) }
     ensures before { OnOk result (writer.new.before ≡ writer.old.before) }
 {
     writer.key("paths")?;
@@ -110,7 +127,7 @@ fn write_paths(writer: &mut Writer, paths: &[PathState]) -> Result<(), AllocErro
     writer.end_array()
 }
 
-/// Writes them one after another.
+/// Writes the paths one after another.
 #[tactic(auto, unfolding(crate::specs::State::paths_tokens))]
 fn write_each_path(writer: &mut Writer, paths: &[PathState]) -> Result<(), AllocError>
     ensures tokens { OnOk result (writer.new.tokens ≡ writer.old.tokens ++ paths_tokens paths.now) }
@@ -149,7 +166,8 @@ fn write_path_members(
     Ok(())
 }
 
-/// Writes a number, or null where it isn't known.
+/// Writes a number, or null if it is not known.
+// Not 0, which would claim that something was counted.
 fn write_known(writer: &mut Writer, value: Option<u64>) -> Result<(), AllocError>
     ensures tokens { OnOk result (writer.new.tokens ≡ writer.old.tokens ++ known_token value ∷ []) }
     ensures before { OnOk result (writer.new.before ≡ writer.old.before) }
@@ -160,9 +178,10 @@ fn write_known(writer: &mut Writer, value: Option<u64>) -> Result<(), AllocError
     }
 }
 
-/// Writes the output channels.
+/// Writes the member with the output channels.
 fn write_outputs(writer: &mut Writer, outputs: &[OutputState]) -> Result<(), AllocError>
-    ensures tokens { OnOk result (writer.new.tokens ≡ writer.old.tokens ++ array_tokens (codes "outputs") (outputs_tokens outputs.now)) }
+    ensures tokens { OnOk result (writer.new.tokens
+        ≡ writer.old.tokens ++ array_tokens (codes "outputs") (outputs_tokens outputs.now)) }
     ensures before { OnOk result (writer.new.before ≡ writer.old.before) }
 {
     writer.key("outputs")?;
@@ -171,7 +190,7 @@ fn write_outputs(writer: &mut Writer, outputs: &[OutputState]) -> Result<(), All
     writer.end_array()
 }
 
-/// Writes them one after another.
+/// Writes the output channels one after another.
 #[tactic(auto, unfolding(crate::specs::State::outputs_tokens))]
 fn write_each_output(writer: &mut Writer, outputs: &[OutputState]) -> Result<(), AllocError>
     ensures tokens { OnOk result (writer.new.tokens ≡ writer.old.tokens ++ outputs_tokens outputs.now) }

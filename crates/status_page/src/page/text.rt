@@ -1,18 +1,18 @@
-//! Pieces of text that are held one after another.
+//! The pieces of the text form of Prometheus, each appended to a text.
 ghost use Rattle.std.specs.Prelude.{◌≡◌, ◌++◌, OnOk, decimal};
 ghost use Rattle.status_page.specs.Metrics.{label_octet, label_text, suffix, metric_text, kind_text, header_text};
 
 use crate::fields::MetricKind;
 use std::alloc::AllocError;
 
-/// Holds a text.
+/// Appends a piece of text.
 pub(crate) fn push(text: &mut Vec<u8>, piece: &str) -> Result<(), AllocError>
     ensures { OnOk result (text.new.items ≡ text.old.items ++ piece.now) }
 {
     text.extend_from_slice(piece.as_bytes())
 }
 
-/// Holds a number in decimal digits.
+/// Appends a number in decimal digits.
 pub(crate) fn push_number(text: &mut Vec<u8>, number: u64) -> Result<(), AllocError>
     ensures { OnOk result (text.new.items ≡ text.old.items ++ decimal number) }
 {
@@ -20,7 +20,7 @@ pub(crate) fn push_number(text: &mut Vec<u8>, number: u64) -> Result<(), AllocEr
     push(text, digits.format(number))
 }
 
-/// Holds what stands for an octet in a label's value.
+/// Appends an octet of a label's value. A backslash, a quotation mark and a line feed are escaped.
 fn push_label_octet(text: &mut Vec<u8>, octet: u8) -> Result<(), AllocError>
     ensures { OnOk result (text.new.items ≡ text.old.items ++ label_octet octet) }
 {
@@ -32,7 +32,7 @@ fn push_label_octet(text: &mut Vec<u8>, octet: u8) -> Result<(), AllocError>
     }
 }
 
-/// Holds the value of a label, with its escapes.
+/// Appends the value of a label, with its escapes.
 #[tactic(auto, unfolding(crate::specs::Metrics::label_text))]
 pub(crate) fn push_label(text: &mut Vec<u8>, value: &str) -> Result<(), AllocError>
     ensures { OnOk result (text.new.items ≡ text.old.items ++ label_text value.now) }
@@ -44,7 +44,7 @@ pub(crate) fn push_label(text: &mut Vec<u8>, value: &str) -> Result<(), AllocErr
     Ok(())
 }
 
-/// Holds the name of a metric: that of a number of such a group.
+/// Appends the name of a metric: the number `key` of the group `group`.
 #[tactic(auto, unfolding(crate::specs::Metrics::metric_text))]
 pub(crate) fn push_metric(
     text: &mut Vec<u8>,
@@ -60,7 +60,7 @@ pub(crate) fn push_metric(
     push(text, suffix(kind))
 }
 
-/// Holds the two lines before a metric's samples.
+/// Appends the two lines before the samples of a metric: its description and its kind.
 #[tactic(auto, unfolding(crate::specs::Metrics::header_text))]
 pub(crate) fn push_header(
     text: &mut Vec<u8>,
@@ -80,7 +80,8 @@ pub(crate) fn push_header(
     push(text, kind_text(kind))
 }
 
-/// What ends the name of a metric.
+/// Returns the end of a metric's name.
+// Prometheus wants names of counters to end in `_total`.
 fn suffix(kind: MetricKind) -> &'static str
     ensures { result.now ≡ suffix kind }
 {
@@ -90,7 +91,7 @@ fn suffix(kind: MetricKind) -> &'static str
     }
 }
 
-/// What ends the second line.
+/// Returns the end of the line with a metric's kind.
 fn kind_text(kind: MetricKind) -> &'static str
     ensures { result.now ≡ kind_text kind }
 {

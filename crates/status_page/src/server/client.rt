@@ -5,20 +5,21 @@ use mio::net::TcpStream;
 use std::io::ErrorKind;
 use std::time::Duration;
 
-/// How often a client reads or writes before the next has its turn.
+/// The greatest number of reads and writes in one turn.
+// A limit, so that a busy client does not keep the others from their turns.
 const MOST_STEPS: u32 = 16;
 
-/// How many seconds a client may stay without reading or writing anything.
+/// The time in seconds without a read or a write after which a client is disconnected.
 const IDLE_SECONDS: u64 = 10;
 
-/// Where a client stands after its turn.
+/// The state of a client between two turns.
 #[derive(Clone, Copy, Debug, PartialEq, Eq)]
 pub(crate) enum Progress {
-    /// Its socket has nothing for it, and no room.
+    /// The socket would block. The client waits for its next event.
     Blocked,
-    /// It may go on at once.
+    /// The client may read or write at once.
     Ready,
-    /// It is to be let go.
+    /// The client is to be disconnected.
     Closed,
 }
 
@@ -27,14 +28,15 @@ pub(crate) enum Progress {
 pub(crate) struct Client {
     stream: TcpStream,
     connection: Connection,
-    /// When it last read or wrote.
+    /// The clock reading of the last turn in which it read or wrote.
     moved_at: Duration,
     pub(crate) progress: Progress,
 }
 
 impl Client {
-    /// A client that connected at a time.
+    /// Returns a client that connected at the clock reading `now`.
     pub(crate) fn new(stream: TcpStream, connection: Connection, now: Duration) -> Client {
+        // Ready at first: a request may have arrived already.
         Client {
             stream,
             connection,
@@ -43,7 +45,7 @@ impl Client {
         }
     }
 
-    /// Has its turn where it may go on; answers whether it is to be let go then.
+    /// Takes the client's turn if it is ready, and returns true if the client is to be disconnected.
     pub(crate) fn run_turn(&mut self, page: &mut Page, now: Duration) -> bool {
         if self.progress == Progress::Ready {
             self.turn(page, now);
@@ -51,8 +53,9 @@ impl Client {
         self.progress == Progress::Closed || self.is_idle(now)
     }
 
-    /// Answers what came and sends what fits.
+    /// Reads requests and writes responses until the socket would block, or the turn's steps are used up.
     fn turn(&mut self, page: &mut Page, now: Duration) {
+        // A client stays ready until its socket would block: only then does the system send an event again.
         self.progress = Progress::Ready;
         for _ in 0..MOST_STEPS {
             page.answer(&mut self.connection);
@@ -64,7 +67,7 @@ impl Client {
         }
     }
 
-    /// Reads or writes once.
+    /// Writes once if there is something to write, or else reads once, and returns the client's state.
     fn step(&mut self) -> Progress {
         if self.connection.wants_write() {
             return match self.connection.write_to(&mut self.stream) {
@@ -82,13 +85,13 @@ impl Client {
         }
     }
 
-    /// Whether it did nothing for so long that it is to be let go.
+    /// Returns true if the client did not read or write for more than 10 seconds.
     fn is_idle(&self, now: Duration) -> bool {
         now.saturating_sub(self.moved_at) > Duration::from_secs(IDLE_SECONDS)
     }
 }
 
-/// Where a client stands after a fault of its socket.
+/// Returns the state of a client after an error of its socket.
 fn after(kind: ErrorKind) -> Progress {
     match kind {
         ErrorKind::WouldBlock => Progress::Blocked,

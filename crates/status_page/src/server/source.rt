@@ -1,4 +1,4 @@
-//! Where snapshots come from, and the thread that serves them.
+//! The source of a page's snapshots, and the loop of the page's thread.
 use crate::page::Page;
 use crate::server::PageServer;
 use crate::snapshot::Snapshot;
@@ -6,23 +6,24 @@ use rtrb::Consumer;
 use std::sync::Wait;
 use std::time::{Clock, Duration};
 
-/// The most milliseconds from one look for a newer snapshot to the next.
+/// The longest wait for sockets before the next test for a newer snapshot, in milliseconds.
 const LOOK: u64 = 50;
 
-/// What knows a run.
+/// The source of a page's snapshots.
 pub trait SnapshotSource {
-    /// Renews a page where there is a newer snapshot, without waiting; false, once the run has ended.
+    /// Updates a page if there is a newer snapshot. Returns false once the run has ended. It must not wait.
     fn renew(&mut self, page: &mut Page) -> bool;
 }
 
-/// Whole snapshots out of a ring, of which the newest counts. The run ends where the ring's producer does.
+/// A source of snapshots from a ring, of which it uses the newest. The run has ended once the ring's producer was
+/// dropped.
 #[derive(Drop)]
 pub struct RingSource {
     ring: Consumer<Snapshot>,
 }
 
 impl RingSource {
-    /// The snapshots of a ring.
+    /// Returns a source of the snapshots of a ring.
     pub fn new(ring: Consumer<Snapshot>) -> RingSource {
         RingSource { ring }
     }
@@ -31,6 +32,7 @@ impl RingSource {
 impl SnapshotSource for RingSource {
     fn renew(&mut self, page: &mut Page) -> bool {
         let is_over = self.ring.is_abandoned();
+        // As many as are in the ring now, so that it ends even if snapshots are pushed all the time.
         for _ in 0..self.ring.slots() {
             if let Ok(newer) = self.ring.pop() {
                 page.update(newer);
@@ -40,7 +42,7 @@ impl SnapshotSource for RingSource {
     }
 }
 
-/// Answers clients until the run has ended. It is to have a thread of its own.
+/// Serves a page's clients until the run has ended. It blocks the calling thread, which should be one of its own.
 pub fn serve_page<R: Wait + Clock, S: SnapshotSource + Drop>(
     rt: &R,
     mut server: PageServer,
@@ -50,7 +52,8 @@ pub fn serve_page<R: Wait + Clock, S: SnapshotSource + Drop>(
     serve_until_end(rt, &mut server, &mut page, &mut source);
 }
 
-/// The same on what is lent.
+/// Serves like `serve_page`, on borrowed parts.
+// A function of its own, so that few functions hold sockets.
 fn serve_until_end<R: Wait + Clock, S: SnapshotSource + Drop>(
     rt: &R,
     server: &mut PageServer,
@@ -63,6 +66,7 @@ fn serve_until_end<R: Wait + Clock, S: SnapshotSource + Drop>(
         if !source.renew(page) {
             return;
         }
+        // If the clock cannot be read, the reading before counts: then no client becomes idle.
         now = rt.monotonic().unwrap_or(now);
         server.turn(page, now);
     }
