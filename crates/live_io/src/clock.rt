@@ -8,8 +8,8 @@ use std::time;
 use std::time::Duration;
 use studio_io::Clock;
 
-/// Returns the clock reading of a clock that started at `open_at`, after this time, in sampling instants at 48 kHz,
-/// rounded down. Readings past the greatest `i64` are the greatest `i64`.
+/// Returns the reading of a clock `elapsed` after it started at `open_at`, in sampling instants at 48 kHz, rounded
+/// down. A reading past the greatest `i64` is the greatest `i64`.
 pub fn reading_after(open_at: i64, elapsed: Duration) -> i64
     requires open { pos 0 ≤ℤ open_at }
     ensures exact { (open_at +ℤ pos (instants_in (as_nanos elapsed))) <ℤ pos (2 ^ 63)

@@ -3,7 +3,7 @@
 use std::sync::atomic::{AtomicBool, AtomicU64, Ordering};
 
 /// The numbers of datagrams that a run took and that its record has. All are known once the run is over.
-// Atomics, since the run's thread sets one part and the writer's thread the other.
+// Atomics, since the run sets them through a shared reference.
 #[derive(Drop)]
 pub struct RecordResult {
     received: AtomicU64,

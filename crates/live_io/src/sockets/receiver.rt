@@ -140,6 +140,7 @@ pub(crate) fn inherited_socket(descriptor: i32) -> io::Result<UdpSocket> {
     if descriptor < 0 {
         return Err(io::Error::from(ErrorKind::InvalidInput));
     }
+    // Nobody else owns an inherited descriptor: `InheritedSockets` gives each to one use.
     let socket = unsafe { UdpSocket::from_raw_fd(descriptor) };
     socket.set_nonblocking(false)?;
     socket.set_read_timeout(Some(Duration::from_millis(RECEIVE_WAIT)))?;
@@ -181,6 +182,7 @@ fn share(socket: &UdpSocket) -> io::Result<()> {
 }
 
 /// Returns the value of a socket's option in the machine's octet order. Its first four octets are the value.
+// The others are unused: `setsockopt` of `libc` takes an array of 16 octets, as `bind` takes one of 128.
 fn option_of(value: u32) -> [u8; 16] {
     let [a, b, c, d] = value.to_ne_bytes();
     [a, b, c, d, 0, 0, 0, 0, 0, 0, 0, 0, 0, 0, 0, 0]

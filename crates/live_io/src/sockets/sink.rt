@@ -57,6 +57,7 @@ fn inherited_sender(descriptor: i32) -> io::Result<UdpSocket> {
     if descriptor < 0 {
         return Err(io::Error::from(ErrorKind::InvalidInput));
     }
+    // Nobody else owns an inherited descriptor: `InheritedSockets` gives each to one use.
     let socket = unsafe { net::UdpSocket::from_raw_fd(descriptor) };
     socket.set_nonblocking(true)?;
     Ok(UdpSocket::from_std(socket))

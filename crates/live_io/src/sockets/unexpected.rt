@@ -6,7 +6,7 @@ use std::sync::atomic::{AtomicU64, Ordering};
 use studio_config::StudioSpec;
 
 /// The number of datagrams from unexpected sources of each path, ordered by stream and then by path.
-// Atomics, since feeds in several threads count while a page or the report reads.
+// Atomics, since feeds in several threads count.
 #[derive(Drop)]
 pub struct UnexpectedSources {
     counts: Vec<AtomicU64>,
