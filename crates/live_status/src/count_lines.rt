@@ -67,8 +67,8 @@ impl CountLines {
         ensures { self.new.every ≡ self.old.every }
     {
         for (number, stream) in (0u8..).zip(snapshot.streams.iter()) {
-            // Tested before each line: a run in one thread, or a watcher that looks for signals, must not wait for
-            // whoever reads standard error.
+            // Tested before each line: neither a run in one thread nor a supervisor that polls for signals may wait for
+            // the reader of standard error.
             if !is_ready(STDERR, libc::net::POLLOUT) {
                 return Ok(());
             }
