@@ -1,4 +1,4 @@
-//! The error of a live run that has no report, or whose report is not settled.
+//! The error of a live run.
 ghost use Rattle.std.specs.Prelude.{◌≡◌};
 ghost use Rattle.live_run.specs.RunResult.{IsEarly};
 ghost use Rattle.live_run.specs.declared.fault.LiveFault.TheVariants.{Write};
@@ -12,7 +12,7 @@ use studio_io::WorkFault;
 use studio_run::WriteFault;
 use thiserror::Error;
 
-/// The error of a live run that has no report, or whose report is not settled.
+/// The error of a live run: it has no report, or the report is not settled or was not written completely.
 #[derive(Clone, Copy, Debug, PartialEq, Eq, Error)]
 pub enum LiveFault {
     /// An allocation failed.

@@ -17,8 +17,8 @@ use studio_io::Clock as ReadClock;
 const MILLISECOND: u64 = 48;
 
 /// The longest sleep while datagrams arrive, in sampling instants.
-// Less than a millisecond: the system adds to it, and the clock reading before the sleep should still be in use after
-// it, which `OLDEST` limits to a millisecond.
+// Less than a millisecond, since the system makes a sleep longer: the clock reading from before the sleep should be no
+// older than `OLDEST` after the sleep.
 const SHORT_SLEEP: u64 = 40;
 
 /// The greatest age of a clock reading by which datagrams are judged, in sampling instants.
@@ -98,8 +98,8 @@ impl<'a, R: Wait + Clock> SocketWait<'a, R> {
         })
     }
 
-    /// Sleeps for less than a millisecond while datagrams arrive, and returns the milliseconds for which the next poll
-    /// may wait.
+    /// Sleeps for less than a millisecond if datagrams arrive or no whole millisecond is left. Returns the milliseconds
+    /// for which the next poll may wait.
     fn sleep(&mut self, instants: u64) -> i32 {
         if instants == 0 {
             return 0;
@@ -118,8 +118,9 @@ impl<'a, R: Wait + Clock> SocketWait<'a, R> {
         0
     }
 
-    /// Waits for so many sampling instants. The part in whole milliseconds ends once a socket has a datagram. It does
-    /// not wait if a socket has more datagrams than were read.
+    /// Waits for at most so many sampling instants, or for at most `QUIET_WAIT` after `QUIET_WAITS` waits without a
+    /// datagram. A wait of whole milliseconds ends once a socket has a datagram. It does not wait if a socket has more
+    /// datagrams than were read.
     fn wait(&mut self, instants: u64) {
         // Datagrams often arrive in bursts, so busy sockets are polled once more before a sleep.
         if self.is_busy && self.look(0) == PollOutcome::Ready {
