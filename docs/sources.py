@@ -128,9 +128,14 @@ def crate_map(with_lines=False):
         yield ""
 
 
+def code_files(crate):
+    """The files of a crate's code."""
+    return sorted((ROOT / "crates" / crate / "src").rglob("*.rt"))
+
+
 def code_of(crate):
     """The text of each file of a crate's code."""
-    return [file.read_text() for file in sorted((ROOT / "crates" / crate / "src").rglob("*.rt"))]
+    return [file.read_text() for file in code_files(crate)]
 
 
 def owners_in(text):

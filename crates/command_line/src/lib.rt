@@ -1,7 +1,8 @@
 //! The command line of `darbexum`: from its words to the command that they ask for.
 //!
-//! `parse_args` is the whole: it returns a `CliCommand`, or clap's error with its text, which help and the version are too. `commands` has
-//! all commands with their arguments and help as a table, and `clap_args` and `clap_command` make clap's parser of it.
+//! `parse_args` returns the `CliCommand` of a program's words, or clap's error with its text. Help and the version are
+//! errors too. `commands` has all commands with their arguments and help as a table. `clap_args` and `clap_command`
+//! make clap's parser of it.
 #![tactic(auto)]
 
 mod args;

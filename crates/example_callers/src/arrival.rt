@@ -1,4 +1,4 @@
-//! What a receiver knows of a datagram that came in.
+//! A datagram that came in, with all that a receiver knows of it.
 
 use path_merge::Path;
 

@@ -24,7 +24,8 @@ pub fn send_due<K: Sink>(
     requires room { datagram_length engine.old.mixer.packer.spec ≤ length out.old }
     ensures sent { OnOk result ((studio : Studio) (events : List TraceEvent) (datagrams : List (List ℕ))
         → HasSession studio engine.old events datagrams
-        → HasSentReady studio engine.new (turned engine.old.time now events) datagrams (K.handed sink.old) (K.handed sink.new)) }
+        → HasSentReady studio engine.new (turned engine.old.time now events) datagrams
+        (K.handed sink.old) (K.handed sink.new)) }
     ensures there { OnOk result ((studio : Studio) (events : List TraceEvent) (datagrams : List (List ℕ))
         → HasSession studio engine.old events datagrams → (engine.new.turning ≡ false) × (engine.new.time ≡ now)) }
     ensures fine { OnOk result (clock_fault_of engine.old.time engine.old.closed now ≡ None) }

@@ -6,7 +6,8 @@ use path_merge::{Merge, Path, SlotWindow, StreamClock, StreamSpec};
 use rtp_wire::{Enc, read};
 use std::alloc::Global;
 
-/// Returns a stream of mono L24, in packets of 6 sampling instants (125 us). Each slot is due 12 instants after its media time.
+/// Returns a stream of mono L24, in packets of 6 sampling instants (125 us). Each slot is due 12 instants after its
+/// media time.
 fn stream() -> anyhow::Result<StreamSpec> {
     let clock = StreamClock::Media { offset: 0 };
     let spec = StreamSpec::new(Enc::L24, 1, 6, 96, None, clock, 12, 8, 2)?;

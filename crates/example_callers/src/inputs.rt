@@ -6,7 +6,8 @@ use path_merge::Path;
 use std::alloc::{AllocError, Global};
 use studio_config::StudioSpec;
 
-/// The first packet of a stream of six sampling instants a packet: number 1, timestamp 0, source 1 and the samples 1 to 6.
+/// The first packet of a stream of six sampling instants a packet: number 1, timestamp 0, source 1 and the samples 1
+/// to 6.
 pub(crate) const FIRST: [u8; 30] = [
     0x80, 96, 0, 1, 0, 0, 0, 0, 0, 0, 0, 1, 0, 0, 1, 0, 0, 2, 0, 0, 3, 0, 0, 4, 0, 0, 5, 0, 0, 6,
 ];

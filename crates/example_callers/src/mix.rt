@@ -1,5 +1,24 @@
 //! Two streams, from marks to the output's datagrams.
-ghost use Rattle.std.specs.Prelude.{◌≡◌, ℕ, ◌+◌, ◌<◌, ◌≤◌, List, [], ◌∷◌, ◌++◌, length, take, drop, slice_get, slice_set, Some, None, is_some, IfSome};
+ghost use Rattle.std.specs.Prelude.{
+  ◌≡◌,
+  ℕ,
+  ◌+◌,
+  ◌<◌,
+  ◌≤◌,
+  List,
+  [],
+  ◌∷◌,
+  ◌++◌,
+  length,
+  take,
+  drop,
+  slice_get,
+  slice_set,
+  Some,
+  None,
+  is_some,
+  IfSome,
+};
 ghost use Rattle.mix_packets.specs.OutSpec.{datagram_length};
 ghost use Rattle.studio_config.specs.Studio.{Studio};
 ghost use Rattle.studio_mix.specs.Feed.{Feed};
@@ -55,14 +74,19 @@ pub fn mix_next(mixer: &mut Mixer, first: &[Mark], second: &[Mark], out: &mut [u
     ensures taken { (studio : Studio) (a b : Feed) (number : ℕ) → HasFeeds studio mixer.old (a ∷ b ∷ []) number
         → IsTaken studio number a first.now result.first × IsTaken studio number b second.now result.second }
     ensures ready { (studio : Studio) (a b : Feed) (number : ℕ) → HasFeeds studio mixer.old (a ∷ b ∷ []) number
-        → is_some result.len ≡ is_ready studio.output (feeds_with a (take result.first first.now) b (take result.second second.now)) number }
+        → is_some result.len ≡ is_ready studio.output
+        (feeds_with a (take result.first first.now) b (take result.second second.now)) number }
     ensures none { result.len ≡ None → (out.new ≡ out.old)
         × ((studio : Studio) (a b : Feed) (number : ℕ) → HasFeeds studio mixer.old (a ∷ b ∷ []) number
-        → HasFeeds studio mixer.new (feeds_with a (take result.first first.now) b (take result.second second.now)) number) }
-    ensures some { IfSome result.len (λ len. (studio : Studio) (a b : Feed) (number : ℕ) → HasFeeds studio mixer.old (a ∷ b ∷ []) number
+        → HasFeeds studio mixer.new
+        (feeds_with a (take result.first first.now) b (take result.second second.now)) number) }
+    ensures some { IfSome result.len (λ len. (studio : Studio) (a b : Feed) (number : ℕ)
+        → HasFeeds studio mixer.old (a ∷ b ∷ []) number
         → (len ≡ datagram_length studio.output)
-        × (out.new ≡ datagram_of studio (feeds_with a (take result.first first.now) b (take result.second second.now)) number ++ drop len out.old)
-        × HasFeeds studio mixer.new (feeds_with a (take result.first first.now) b (take result.second second.now)) (number + 1)) }
+        × (out.new ≡ datagram_of studio
+        (feeds_with a (take result.first first.now) b (take result.second second.now)) number ++ drop len out.old)
+        × HasFeeds studio mixer.new
+        (feeds_with a (take result.first first.now) b (take result.second second.now)) (number + 1)) }
     ensures len { IfSome result.len (λ len. len ≡ datagram_length mixer.old.packer.spec) }
     ensures spec { mixer.new.packer.spec ≡ mixer.old.packer.spec }
     ensures streams { length mixer.new.lanes ≡ length mixer.old.lanes }

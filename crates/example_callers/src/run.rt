@@ -54,7 +54,8 @@ pub fn run_in_threads<R: Threads + Wait + Sync, K: Sink>(
 ) -> Result<(WorkReport, K), RunFault>
     ensures balance { IfOk result (λ r. Balances r.0.blocks r.0.sent_a r.0.fault_a r.0.sent_b r.0.fault_b) }
     ensures settled { IfOk result (λ r. r.0.settled ≡ true
-        → IsSettledRun studio.now 64 (map (λ path. told_of path.items) datagrams.now) (map (λ _. readings.now) studio.now.streams) r.0 (K.handed sink) (K.handed r.1)) }
+        → IsSettledRun studio.now 64 (map (λ path. told_of path.items) datagrams.now)
+        (map (λ _. readings.now) studio.now.streams) r.0 (K.handed sink) (K.handed r.1)) }
 {
     let ends = open(alloc, studio, PLACES)?;
     if datagrams.len() != ends.paths.len() {

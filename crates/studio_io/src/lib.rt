@@ -1,4 +1,4 @@
-//! What a run is given and returns: the traits `Feed`, `Clock` and `Sink`, and the report.
+//! The devices that a run is given, the traits `Feed`, `Clock` and `Sink`, and the report that it returns.
 //!
 //! The caller of a run passes
 //!

@@ -10,7 +10,8 @@ use path_merge::{Mark, StreamSpec};
 use std::alloc::Global;
 use studio_mix::Mixer;
 
-/// Prints three calls of `mix_next`. The marks of the two streams are final to the end of two blocks, so there is no third.
+/// Prints three calls of `mix_next`. The marks of the two streams are final to the end of two blocks, so there is no
+/// third.
 pub(crate) fn show_mix(rt: &impl Print, alloc: Global) -> anyhow::Result<()> {
     println!(rt; "mix_next:")?;
     let studio = studio_of(alloc, TWO_STREAMS)?;

@@ -8,7 +8,7 @@ use std::hash::RandomState;
 use std::process::Abort;
 use std::random::RandomSource;
 
-/// What a page sends to a client that sends these octets and no more.
+/// Returns the answer of a page to a client that sends these octets and no more.
 fn answers(
     rt: &(impl Abort + RandomSource),
     alloc: Global,
@@ -72,7 +72,7 @@ const SHORT: [(&str, &str); 9] = [
     ("", ""),
 ];
 
-/// What stands nowhere, what can't be read so, heads alone, bodies that are too long or cut, and what is no request.
+/// Unknown paths, methods that don't read, heads alone, bodies that are too long or cut, and text that is no request.
 #[test]
 fn requests_are_answered_octet_by_octet(rt: HostRuntime) {
     let page = &mut Page::new(rt.alloc(), snapshot(&rt));
@@ -82,7 +82,7 @@ fn requests_are_answered_octet_by_octet(rt: HostRuntime) {
     }
 }
 
-/// What comes to a client that asks for the state and then for the page, up to the length of the latter.
+/// Returns the octets that a client gets that asks for the state and then for the page, up to the page's length.
 const KEPT: [&str; 3] = [
     "HTTP/1.1 200 OK\r\ncontent-type: application/json\r\ncache-control: no-store\r\n\
     content-length: 623\r\n\r\n",
@@ -130,7 +130,7 @@ fn a_long_head_is_refused(rt: HostRuntime) {
     assert!(rt; sent.starts_with(b"HTTP/1.1 414 "));
 }
 
-/// What would have a browser fetch something from elsewhere.
+/// The words that would have a browser fetch something from elsewhere.
 const FROM_ELSEWHERE: [&str; 5] = ["http:", "https:", "src=", "@import", "url("];
 
 /// The page is at most 40 KB, and nothing in it comes from elsewhere.

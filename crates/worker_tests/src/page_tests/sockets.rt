@@ -19,7 +19,7 @@ enum Fate {
     Waits,
 }
 
-/// What became of a client.
+/// The outcome of a client.
 fn fate_of(client: &mut TcpStream) -> Fate {
     let mut room = [0; 200];
     match client.read(&mut room) {
@@ -36,7 +36,7 @@ fn ask(rt: &impl Abort, client: &mut TcpStream) {
     assert!(rt; client.set_nonblocking(true).is_ok());
 }
 
-/// How many were answered, and how many let go.
+/// The numbers of clients that were answered, and that were removed.
 fn fates_of(clients: &mut [TcpStream]) -> (u32, u32) {
     let (mut answered, mut let_go) = (0u32, 0u32);
     for client in clients.iter_mut() {

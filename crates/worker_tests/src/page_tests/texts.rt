@@ -32,7 +32,7 @@ const METRICS: [&str; 8] = [
     "# TYPE darbexum_output_saturated_total counter\ndarbexum_output_saturated_total{output=\"0\"} 2\n",
 ];
 
-/// Whether the state was told; else memory was refused.
+/// Returns true if the state was written; else an allocation was refused.
 fn is_told(rt: &impl Abort, alloc: Global, snapshot: &Snapshot, want: &str) -> bool {
     match state_json(alloc, snapshot) {
         Ok(text) => {
@@ -57,7 +57,7 @@ fn the_state_is_json(rt: HostRuntime) {
     );
 }
 
-/// Whether the metrics were told; else memory was refused.
+/// Returns true if the metrics were written; else an allocation was refused.
 fn are_told(rt: &impl Abort, alloc: Global, snapshot: &Snapshot) -> bool {
     match metrics_text(alloc, snapshot) {
         Ok(octets) => {

@@ -12,7 +12,7 @@ use std::time::Duration;
 use studio_io::{MemoryClock, MemoryFeed, MemorySink};
 use studio_rings::{Clock, Feed, FeedAnswer, SendAnswer, Sink, WorkReport};
 
-/// How often something is waited for, a millisecond each time.
+/// The number of waits for something, a millisecond each.
 const WAITS: u32 = 20_000;
 
 /// Begins once the other feed was asked too; where it isn't, it ends at once.

@@ -35,7 +35,7 @@ fn one_stream_at_last(rt: &impl Abort, alloc: Global) -> StudioSpec {
     studio.expect(rt, "with memory again")
 }
 
-/// Whether the trace's report was written; else memory was refused.
+/// Returns true if the trace's report was written; else an allocation was refused.
 fn is_reported(rt: &impl Abort, alloc: Global, studio: &StudioSpec) -> bool {
     let mut reader = TRACE.as_bytes();
     let mut report = Vec::new(alloc);
@@ -97,7 +97,8 @@ fn run_by_workers<R: Threads + Wait + Abort + Sync>(
     Some(())
 }
 
-/// A run by workers with any one allocation refused: each block is kept or told as a fault, or the run answers want of memory, and then succeeds.
+/// A run by workers with any one allocation refused: each block is kept or reported as a fault, or the run returns an
+/// error, and succeeds the next time.
 #[test]
 fn each_refused_allocation_of_a_run_is_answered(rt: HostRuntime) {
     let alloc = rt.alloc();
@@ -115,7 +116,7 @@ fn feeds_of_one<'a>(alloc: Global, packets: &'a [Vec<u8>]) -> Option<Vec<Vec<Mem
     Vec::from_array(alloc, [own]).ok()
 }
 
-/// Whether a run of two blocks in one thread was made; else memory was refused.
+/// Returns true if a run of two blocks in one thread was made; else an allocation was refused.
 fn is_run_alone<R: Wait + Abort>(
     rt: &R,
     alloc: Global,

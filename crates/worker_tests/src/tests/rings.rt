@@ -15,8 +15,8 @@ use studio_ends::*;
 
 pub(super) const MEDIA: StreamClock = StreamClock::Media { offset: 0 };
 
-/// One stream of L24 on two paths, in packets of six sampling instants, twelve later, by a clock, over a window of so many
-/// numbers; its output is alike.
+/// One stream of L24 on two paths, in packets of six sampling instants, twelve later, by a clock, over a window of so
+/// many numbers; its output is alike.
 pub(super) fn studio_of(
     rt: &impl Abort,
     alloc: Global,
@@ -31,7 +31,7 @@ fn stream_in(clock: StreamClock, width: u16) -> Result<StreamSpec, SpecFault> {
     StreamSpec::new(Enc::L24, 1, 6, 96, None, clock, 12, width, 2)
 }
 
-/// The same studio; none where memory is refused.
+/// Returns that studio, or none if an allocation is refused.
 fn studio_in(alloc: Global, clock: StreamClock, width: u16) -> Option<StudioSpec> {
     let spec = stream_in(clock, width).ok()?;
     sum_of(alloc, &[spec], 6)
@@ -92,7 +92,7 @@ fn one_stream(rt: &impl Abort, alloc: Global, clock: StreamClock, ring_len: usiz
     }
 }
 
-/// What a turn took of the first two paths, how many marks it handed on, where it stopped, and why.
+/// A turn's outcome: packets of the first two paths, marks, the time it reached, and the reason why it stopped.
 fn turn(rt: &impl Abort, stream: &mut StreamEnd, now: i64) -> (u32, u32, u32, i64, StopReason)
     ensures { SameProducer stream.old.marks stream.new.marks }
 {
@@ -120,7 +120,7 @@ fn mixes(rt: &impl Abort, mix: &mut MixEnd, taken: u32, samples: &[u8]) {
     assert!(rt; &out[12..30] == samples, "the samples of the block");
 }
 
-/// What is done with the ends of one stream, and what has to come of it.
+/// A step with the ends of one stream, and its expected outcome.
 #[derive(Clone, Copy)]
 enum Step {
     /// A packet is offered on the first path.
@@ -137,9 +137,9 @@ enum Step {
     DrainNone,
     /// A reading of the clock, which changes nothing else.
     Read(i64),
-    /// When the next slot is due.
+    /// The deadline of the next slot.
     Deadline(Option<i64>),
-    /// What the monitor has next, of packets on the first path: how many arrived and were taken, and how many were got.
+    /// The monitor's next counts, of packets on the first path: arrived and taken, and got.
     Show(Option<(u64, u64)>),
 }
 
@@ -175,7 +175,7 @@ fn still_open(stream: &mut StreamEnd) -> Option<[bool; 4]> {
     }
 }
 
-/// Whether the stream's end was there, and how many datagrams were offered, sent and refused for want of room.
+/// Returns whether the stream's end was there, and the numbers of datagrams offered, sent and refused at a full ring.
 fn finished(path: PathEnd) -> (bool, [u64; 3]) {
     let (done, counts) = path.finish();
     let all = [counts.offered, counts.sent, counts.full];
@@ -450,7 +450,7 @@ fn a_reading_sets_the_time_of_the_first_packet(rt: HostRuntime) {
     play(&rt, &mut ends, &FROM_A_READING);
 }
 
-/// Whether ends were opened; else memory was refused.
+/// Returns true if ends were opened; else an allocation was refused.
 fn is_opened(rt: &impl Abort, alloc: Global, studio: &StudioSpec) -> bool {
     match open(alloc, studio, 3) {
         Ok(ends) => {

@@ -1,11 +1,11 @@
-//! What the watches of one stream and of its mix are told.
+//! The statistics that receivers get of one stream and of its mix.
 use super::packets::{FIRST, SECOND};
 use super::rings::{MEDIA, studio_of};
 use std::alloc::Global;
 use std::process::Abort;
 use studio_ends::{Ends, MixEnd, Offer, StatsReceivers, open_with_stats};
 
-/// What is done with the ends of one stream on two paths, and what its watches have to tell.
+/// A step with the ends of one stream on two paths, and the statistics that its receivers have to have then.
 #[derive(Clone, Copy)]
 enum Step {
     /// A path is offered a packet, which finds room.
@@ -22,9 +22,9 @@ enum Step {
     Output(Option<(u64, u32)>),
 }
 
-/// A path's watch is told the counts of the first datagram since it was asked; the stream's is told once in a tenth of a second.
-/// The mix's is told of its first datagram since it was asked, with the peak of all since the one that it was told before: the
-/// samples are 1 to 6, then 7 to 12, of which it isn't told, then silence.
+/// A path's receiver gets the counts of the first datagram since it last looked. The stream's gets its statistics once
+/// in a tenth of a second. The mix's gets those of its first datagram since it last looked, with the peak of all since:
+/// the samples are 1 to 6, then 7 to 12, of which it isn't told, then silence.
 const STEPS: [Step; 24] = [
     Step::Path(0, None),
     Step::Send(0, &FIRST),
@@ -91,7 +91,7 @@ fn gives(mix: &mut MixEnd) -> bool {
     mix.turn(&mut out).len == Some(30)
 }
 
-/// Whether what came of a step is what had to.
+/// Returns true if the outcome of a step is the expected one.
 fn is_as_told(ends: &mut Ends, watches: &mut StatsReceivers, step: Step) -> bool {
     match step {
         Step::Send(path, packet) => sends(ends, path, packet),

@@ -41,7 +41,7 @@ pub(super) fn try_run<R: Threads + Wait + Abort + Sync, F: Feed + Send, C: Clock
     run_workers(rt, alloc, ends, feeds, clocks, sink).ok()
 }
 
-/// The same, where nothing is refused.
+/// Runs the workers of a studio as `try_run` does. Nothing is refused.
 pub(super) fn run<R: Threads + Wait + Abort + Sync, F: Feed + Send, C: Clock + Send, K: Sink>(
     rt: &R,
     alloc: Global,
@@ -226,7 +226,7 @@ fn an_address_that_fails(rt: HostRuntime) {
     gave_both(&rt, sink.handed());
 }
 
-/// How often a feed fails: before its first answer, and before each later one.
+/// The numbers of faults of a feed: before its first answer, and before each later one.
 pub(super) type Failing = (u32, u32);
 
 /// Runs one stream whose feeds fail: each so often before its first answer, and so often before each later one.
@@ -249,7 +249,7 @@ fn run_failing<R: Threads + Wait + Abort + Sync>(
     report
 }
 
-/// How both feeds fail; what arrived, was taken and double; and how often each feed failed.
+/// A run's faults and its expected counts: how both feeds fail; arrived, taken and double; and each feed's faults.
 pub(super) type Failure = (Failing, Failing, [u64; 3], [u64; 2]);
 
 pub(super) const FAILURES: [Failure; 4] = [
