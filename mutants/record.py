@@ -73,7 +73,7 @@ def interface_sum(crate):
 
 def below_sum(crate):
     """The checksum of what all crates below a crate show to it."""
-    return sum_of([interface_sum(name) for name in sources.below(crate)])
+    return sum_of([interface_sum(name) for name in sorted(sources.below(crate))])
 
 
 def read():
