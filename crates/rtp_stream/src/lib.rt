@@ -10,8 +10,8 @@
 //!
 //! The rules of reception are definitions in `specs/`, over whole lists of `Event`s and unbounded
 //! numbers: anchors and epochs (`Epochs`), the copies of each number (`Copies`), the fate of an
-//! arrival (`Fate`), the counts (`Counts`) and the marks (`Marks`). No definition mentions a window
-//! or a queue.
+//! arrival (`Fate`), the counts (`Counts`) and the marks (`Marks`). No definition has a queue or follows
+//! the code's loops. Of the window only its size is in them: it decides which packets are Ahead.
 //!
 //! Merges are built from functions that decide about one packet. `place_of` returns the number of the
 //! packet or why it has none, from `number_of` and `is_in_step`. `fate_of_first` and `goes_on` decide
