@@ -2,12 +2,13 @@
 ghost use Rattle.std.specs.Prelude.{◌≡◌, ◌≤◌, length, IfOk, OnOk};
 
 use super::datagram_text::print_datagram;
+use crate::arrival::Arrival;
 use crate::inputs::{TWO_STREAMS, arrival, packet, path, studio_of};
 use crate::mix::{Mixed, mix_next};
 use crate::receive::receive_stream;
 use anyhow::{Context, ensure};
-use path_merge::{Mark, StreamSpec};
-use std::alloc::Global;
+use path_merge::{Mark, Path, StreamSpec};
+use std::alloc::{AllocError, Global};
 use studio_mix::Mixer;
 
 /// Prints three calls of `mix_next`. The marks of the two streams are final to the end of two blocks, so there is no
@@ -67,10 +68,19 @@ fn ones(alloc: Global, spec: &StreamSpec) -> anyhow::Result<Vec<Mark>> {
 
 /// Returns the marks of a stream whose packets all come at the opening time.
 fn marks_of(alloc: Global, spec: &StreamSpec, packets: &[Vec<u8>]) -> anyhow::Result<Vec<Mark>> {
-    let path = path(0)?;
+    let arrivals = arrivals_of(alloc, path(0)?, packets)?;
+    Ok(receive_stream(alloc, *spec, 0, &arrivals)?)
+}
+
+/// Returns the arrivals of these packets, all at time 0.
+fn arrivals_of<'a>(
+    alloc: Global,
+    path: Path,
+    packets: &'a [Vec<u8>],
+) -> Result<Vec<Arrival<'a>>, AllocError> {
     let mut arrivals = Vec::new(alloc);
     for packet in packets {
         arrivals.push(arrival(0, path, packet))?;
     }
-    Ok(receive_stream(alloc, *spec, 0, &arrivals)?)
+    Ok(arrivals)
 }
