@@ -3,7 +3,7 @@
 use crate::arrival::Arrival;
 use anyhow::Context;
 use path_merge::Path;
-use std::alloc::{AllocError, Global};
+use std::alloc::Global;
 use studio_config::StudioSpec;
 
 /// The first packet of a stream of six sampling instants a packet: number 1, timestamp 0, source 1 and the samples 1
@@ -94,18 +94,19 @@ pub(crate) fn arrival(time: i64, path: Path, datagram: &[u8]) -> Arrival<'_> {
     }
 }
 
-/// Builds a packet of source 1: this number, this timestamp and so many equal samples.
-pub(crate) fn packet(
-    alloc: Global,
-    number: u8,
-    timestamp: u8,
-    times: u8,
-    sample: [u8; 3],
-) -> Result<Vec<u8>, AllocError> {
+/// Builds a packet of source 1: a header with this number and timestamp, and equal samples.
+pub(crate) fn packet<const LEN: usize>(number: u8, timestamp: u8, sample: [u8; 3]) -> [u8; LEN] {
     let head = [0x80, 96, 0, number, 0, 0, 0, timestamp, 0, 0, 0, 1];
-    let mut octets = Vec::from_slice(alloc, &head)?;
-    for _ in 0..times {
-        octets.extend_from_slice(&sample)?;
+    let [high, middle, low] = sample;
+    let mut octets = [low; LEN];
+    for octet in octets.iter_mut().skip(12).step_by(3) {
+        *octet = high;
     }
-    Ok(octets)
+    for octet in octets.iter_mut().skip(13).step_by(3) {
+        *octet = middle;
+    }
+    for (octet, value) in octets.iter_mut().zip(head.iter()) {
+        *octet = *value;
+    }
+    octets
 }

@@ -2,13 +2,12 @@
 ghost use Rattle.std.specs.Prelude.{◌≡◌, ◌≤◌, length, IfOk, OnOk};
 
 use super::datagram_text::print_datagram;
-use crate::arrival::Arrival;
 use crate::inputs::{TWO_STREAMS, arrival, packet, path, studio_of};
 use crate::mix::{Mixed, mix_next};
 use crate::receive::receive_stream;
 use anyhow::{Context, ensure};
-use path_merge::{Mark, Path, StreamSpec};
-use std::alloc::{AllocError, Global};
+use path_merge::{Mark, StreamSpec};
+use std::alloc::Global;
 use studio_mix::Mixer;
 
 /// Prints three calls of `mix_next`. The marks of the two streams are final to the end of two blocks, so there is no
@@ -53,34 +52,32 @@ fn print_next(
 
 /// Returns the marks of a stream of eight packets of six samples, from 0 on, all of them 1000.
 fn thousands(alloc: Global, spec: &StreamSpec) -> anyhow::Result<Vec<Mark>> {
-    let mut packets = Vec::new(alloc);
-    for number in 0..8 {
-        packets.push(packet(alloc, number + 1, number * 6, 6, [0, 3, 0xe8])?)?;
-    }
-    marks_of(alloc, spec, &packets)
+    let path = path(0)?;
+    let marks = receive_stream(
+        alloc,
+        *spec,
+        0,
+        &[
+            arrival(0, path, &thousand(1, 0)),
+            arrival(0, path, &thousand(2, 6)),
+            arrival(0, path, &thousand(3, 12)),
+            arrival(0, path, &thousand(4, 18)),
+            arrival(0, path, &thousand(5, 24)),
+            arrival(0, path, &thousand(6, 30)),
+            arrival(0, path, &thousand(7, 36)),
+            arrival(0, path, &thousand(8, 42)),
+        ],
+    )?;
+    Ok(marks)
+}
+
+/// Builds a packet of six samples, all of them 1000.
+fn thousand(number: u8, timestamp: u8) -> [u8; 30] {
+    packet(number, timestamp, [0, 3, 0xe8])
 }
 
 /// Returns the marks of a stream of one packet of 48 samples, from 20 on, all of them 1.
 fn ones(alloc: Global, spec: &StreamSpec) -> anyhow::Result<Vec<Mark>> {
-    let packet = packet(alloc, 100, 20, 48, [0, 0, 1])?;
-    marks_of(alloc, spec, &[packet])
-}
-
-/// Returns the marks of a stream whose packets all come at the opening time.
-fn marks_of(alloc: Global, spec: &StreamSpec, packets: &[Vec<u8>]) -> anyhow::Result<Vec<Mark>> {
-    let arrivals = arrivals_of(alloc, path(0)?, packets)?;
-    Ok(receive_stream(alloc, *spec, 0, &arrivals)?)
-}
-
-/// Returns the arrivals of these packets, all at time 0.
-fn arrivals_of<'a>(
-    alloc: Global,
-    path: Path,
-    packets: &'a [Vec<u8>],
-) -> Result<Vec<Arrival<'a>>, AllocError> {
-    let mut arrivals = Vec::new(alloc);
-    for packet in packets {
-        arrivals.push(arrival(0, path, packet))?;
-    }
-    Ok(arrivals)
+    let packet: [u8; 156] = packet(100, 20, [0, 0, 1]);
+    Ok(receive_stream(alloc, *spec, 0, &[arrival(0, path(0)?, &packet)])?)
 }
