@@ -22,7 +22,8 @@ pub(crate) fn show_mix(rt: &impl Print, alloc: Global) -> anyhow::Result<()> {
     let (mut first, mut second) = (first.as_slice(), second.as_slice());
     for _ in 0..3 {
         let mixed = print_next(rt, &mut mixer, first, second)?;
-        (first, second) = (&first[mixed.first..], &second[mixed.second..]);
+        first = first.split_at(mixed.first).1;
+        second = second.split_at(mixed.second).1;
     }
     Ok(())
 }
