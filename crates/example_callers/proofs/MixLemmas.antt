@@ -26,7 +26,7 @@ set_as_is (x ∷ xs) (suc i) a at = ap (λ l. x ∷ l) (set_as_is xs i a at)
 
 -- one mark more
 pub one_more : (marks : List MarkView) (i : ℕ) (item mark : MarkView) → i < length marks → item ≡ get_or marks i item → mark ≡ item → take (i + 1) marks ≡ take i marks ++ mark ∷ []
-one_more marks i item mark within is lent = take_more marks i item within ∙ ap (λ m. take i marks ++ m ∷ []) (sym is ∙ sym lent)
+one_more marks i item mark within is as_ref = take_more marks i item within ∙ ap (λ m. take i marks ++ m ∷ []) (sym is ∙ sym as_ref)
 
 before_or_last : (n i : ℕ) → n < i + 1 → (n < i) ⊎ (n ≡ i)
 before_or_last zero zero h = inr refl

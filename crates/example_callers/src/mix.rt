@@ -54,7 +54,7 @@ pub fn feed_wanted(mixer: &mut Mixer, stream: usize, marks: &[Mark]) -> usize
     ensures streams { length mixer.new.lanes ≡ length mixer.old.lanes }
 {
     for (taken, mark) in marks.iter().enumerate() {
-        let mark = mark.lent();
+        let mark = mark.as_ref();
         if !mixer.wants(stream) || !mixer.accepts_ref(stream, &mark) {
             return taken;
         }

@@ -221,7 +221,7 @@ impl Lane {
             → HasFeed stream from size self.now marks t
             → result ≡ list.is_mark_list (format_of stream) (marks ++ mark.now ∷ []) }
     {
-        self.accepts_ref(&mark.lent())
+        self.accepts_ref(&mark.as_ref())
     }
 
     /// Returns true if a borrowed mark may follow those so far.
@@ -284,7 +284,7 @@ impl Lane {
         ensures facts { HasSameFacts self.old self.new }
         ensures position { self.new.position ≡ self.old.position }
     {
-        self.feed_ref(&mark.lent());
+        self.feed_ref(&mark.as_ref());
     }
 
     /// Takes the next mark, which is borrowed: its samples are read without a copy of the payload.

@@ -139,7 +139,7 @@ fn take_event<V: Window>(
 {
     match event {
         Event::Arrive(path, packet) => {
-            let _ = merge.offer_ref(*path, packet.lent());
+            let _ = merge.offer_ref(*path, packet.as_ref());
         }
         Event::Tick(now) => advance_to(merge, *now, marks)?,
         Event::Close => {

@@ -145,7 +145,7 @@ pub fn marks_keep_up_with_the_clock()
     ensures history { (stream : Stream) (open_at : ℤ) (events : List Event) → 0 < stream.frames
         → IsOpen open_at events →
         KeepUp stream open_at (time_of open_at events) (marks_of stream open_at events) }
-    ensures lent { (stream : Stream) (open_at now : ℤ) (merge : MergeState) (events : List Event) (k : ℕ)
+    ensures borrowed { (stream : Stream) (open_at now : ℤ) (merge : MergeState) (events : List Event) (k : ℕ)
         (mark : MarkView) →
         0 < stream.frames → HasHistory stream open_at merge events k
         → clock_fault_of merge.time merge.closed now ≡ None →

@@ -136,7 +136,7 @@ impl<'a> MarkRef<'a> {
 impl Mark {
     /// Returns this mark with its payload borrowed.
     #[inline]
-    pub fn lent(&self) -> MarkRef<'_>
+    pub fn as_ref(&self) -> MarkRef<'_>
         ensures { result ≡ self.now }
     {
         let format = self.format();

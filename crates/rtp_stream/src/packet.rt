@@ -33,7 +33,7 @@ pub struct PacketRef<'a> {
 impl Packet {
     /// Returns this packet with its samples borrowed.
     #[inline]
-    pub fn lent(&self) -> PacketRef<'_>
+    pub fn as_ref(&self) -> PacketRef<'_>
         ensures packet { packet_of result ≡ self.now }
         ensures short { length result.payload.now ≤ 1440 }
     {
@@ -49,7 +49,7 @@ impl Packet {
     pub fn copied(&self) -> Packet
         ensures { result ≡ self.now }
     {
-        self.lent().to_packet()
+        self.as_ref().to_packet()
     }
 
     /// Replaces this packet by a copy of a borrowed one. Of the payload's 1,440 octets only those in use are copied.

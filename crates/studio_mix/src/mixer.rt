@@ -195,7 +195,7 @@ impl Mixer {
             → HasFeeds studio self.now feeds number → slice_get feeds stream ≡ Some feed
             → result ≡ is_mark_list (format_of feed.stream) (feed.marks ++ mark.now ∷ []) }
     {
-        self.accepts_ref(stream, &mark.lent())
+        self.accepts_ref(stream, &mark.as_ref())
     }
 
     /// Returns true if a borrowed mark may follow those of its stream.
@@ -222,7 +222,7 @@ impl Mixer {
         ensures streams { length self.new.lanes ≡ length self.old.lanes }
         ensures rooms { rooms_of self.new.lanes ≡ rooms_of self.old.lanes }
     {
-        self.feed_ref(stream, &mark.lent());
+        self.feed_ref(stream, &mark.as_ref());
     }
 
     /// Takes the next mark of a stream, which is borrowed.

@@ -21,16 +21,19 @@ fn with_room(rt: &impl Abort, alloc: Global, spec: &StudioSpec) -> Mixer {
 fn keeps(rt: &impl Abort, mixer: &mut Mixer, number: usize, within: &Mark, beyond: &Mark) {
     // The calls of a mixer require a number of one of its streams.
     assert!(rt; number < mixer.streams());
-    assert!(rt; !mixer.has_room(number, &beyond.lent()), "stream {number}");
-    assert!(rt; mixer.has_room(number, &within.lent()), "stream {number}");
+    assert!(rt;
+        !mixer.has_room(number, &beyond.as_ref()),
+        "stream {number}"
+    );
+    assert!(rt; mixer.has_room(number, &within.as_ref()), "stream {number}");
     assert!(rt; mixer.accepts(number, within));
-    mixer.keep_ref(number, &within.lent());
+    mixer.keep_ref(number, &within.as_ref());
 }
 
 /// Tests that a mixer has no room for a stream's mark.
 fn has_none(rt: &impl Abort, mixer: &Mixer, number: usize, mark: &Mark) {
     assert!(rt; number < mixer.streams());
-    assert!(rt; !mixer.has_room(number, &mark.lent()), "stream {number}");
+    assert!(rt; !mixer.has_room(number, &mark.as_ref()), "stream {number}");
 }
 
 /// A stream's number, its sampling instants a packet, its latency, and the media time of the last slot that its lane

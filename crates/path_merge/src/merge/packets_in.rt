@@ -50,7 +50,7 @@ impl<V: Window> Merge<V> {
         ensures closed { self.new.closed ≡ self.old.closed }
         ensures spec { self.new.spec ≡ self.old.spec }
     {
-        self.offer_ref(path, packet.lent())
+        self.offer_ref(path, packet.as_ref())
     }
 
     /// Takes a borrowed packet of the stream's length that came in on one of its paths, and returns its fate. The

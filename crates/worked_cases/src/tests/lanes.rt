@@ -125,7 +125,7 @@ impl Player {
         match step {
             Step::Feed(plain) => self.feeds(&mark_of(format, plain)),
             Step::Keep(plain) => self.keeps(&mark_of(format, plain)),
-            Step::NoRoom(plain) => !self.lane.has_room(&mark_of(format, plain).lent()),
+            Step::NoRoom(plain) => !self.lane.has_room(&mark_of(format, plain).as_ref()),
             Step::Refuse(plain) => !self.lane.accepts(&mark_of(format, plain)),
             Step::RefuseOther(plain) => {
                 let other = Format {
@@ -141,7 +141,7 @@ impl Player {
 
     /// Feeds a mark, if the lane wants and accepts it, and returns true if so.
     fn feeds(&mut self, mark: &Mark) -> bool {
-        let mark = mark.lent();
+        let mark = mark.as_ref();
         let is_taken = self.lane.wants(self.lane.position() + 12) && self.lane.accepts_ref(&mark);
         if is_taken {
             self.lane.feed_ref(&mark);
@@ -151,7 +151,7 @@ impl Player {
 
     /// Keeps a mark, if the lane accepts it and has room for it, and returns true if so.
     fn keeps(&mut self, mark: &Mark) -> bool {
-        let mark = mark.lent();
+        let mark = mark.as_ref();
         let is_taken = self.lane.accepts_ref(&mark) && self.lane.has_room(&mark);
         if is_taken {
             self.lane.keep_ref(&mark);

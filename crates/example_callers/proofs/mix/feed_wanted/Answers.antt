@@ -20,12 +20,12 @@ returns-then-not-wants-clause-taken c = λ studio feeds number feed fed at.
     let i = c.loop-taken.taken in
     let before = inv.stands studio feeds number feed fed at in
     let here = after_at studio feeds number c.args.stream feed at (take i marks) in
-    let more = one_more marks i c.index-marks-taken.result c.lent-mark.result c.loop-taken-test.true c.index-marks-taken.is c.lent-mark.ensures in
+    let more = one_more marks i c.index-marks-taken.result c.as_ref-mark.result c.loop-taken-test.true c.index-marks-taken.is c.as_ref-mark.ensures in
     record {
       wanted = inv.wanted studio feeds number feed fed at;
       stopped = λ some. elim c.then-not-wants.branch [
         | then-not-wants-via-then-not-wants w ↦ inl (all_covered c.wants.result _ w.if-not-wants.true (c.wants.ensures.stands studio _ number (feed_with feed (take i marks)) before here))
-        | then-not-wants-via-else-not-wants+then-not-accepts_ref w ↦ inr (not_listed studio feeds number c.args.stream feed at marks i c.lent-mark.result more w.accepts_ref.result w.if-not-accepts_ref.true
+        | then-not-wants-via-else-not-wants+then-not-accepts_ref w ↦ inr (not_listed studio feeds number c.args.stream feed at marks i c.as_ref-mark.result more w.accepts_ref.result w.if-not-accepts_ref.true
             (w.accepts_ref.ensures.stands studio _ number (feed_with feed (take i marks)) before here))
       ];
     }
@@ -35,10 +35,10 @@ loop-taken-preserved c =
     let inv = c.loop-taken.invariant in
     let marks = c.args.marks.now in
     let i = c.loop-taken.taken in
-    let more = one_more marks i c.index-marks-taken.result c.lent-mark.result c.loop-taken-test.true c.index-marks-taken.is c.lent-mark.ensures in
+    let more = one_more marks i c.index-marks-taken.result c.as_ref-mark.result c.loop-taken-test.true c.index-marks-taken.is c.as_ref-mark.ensures in
     record {
       stands = λ studio feeds number feed fed at.
-          fed_more studio feeds number c.args.stream feed at marks i c.lent-mark.result more c.feed_ref.new.self
+          fed_more studio feeds number c.args.stream feed at marks i c.as_ref-mark.result more c.feed_ref.new.self
           (c.feed_ref.ensures.stands studio _ number (feed_with feed (take i marks)) (inv.stands studio feeds number feed fed at) (after_at studio feeds number c.args.stream feed at (take i marks)));
       wanted = λ studio feeds number feed fed at.
           wanted_more studio feeds number c.args.stream feed at marks i c.wants.result c.if-not-wants.false

@@ -11,15 +11,15 @@ pub returns-in-Arrive : goal.returns-in-Arrive
 returns-in-Arrive g c = λ stream open_at events given.
     subst (λ (e : Event). HasGiven stream open_at c.offer_ref.new.self (events ++ e ∷ []) c.args.marks.now.items) (sym c.in-Arrive.is)
     (given_offered stream open_at c.offer_ref.new.self events c.args.marks.now.items c.in-Arrive.path c.in-Arrive.packet c.offer_ref.result given.all
-    (subst (λ (p : Packet). Offers stream open_at c.offer_ref.new.self events (length c.args.marks.now.items) c.in-Arrive.path p c.offer_ref.result) c.lent.ensures.packet (c.offer_ref.ensures.stands stream open_at events (length c.args.marks.now.items) given.stands)))
+    (subst (λ (p : Packet). Offers stream open_at c.offer_ref.new.self events (length c.args.marks.now.items) c.in-Arrive.path p c.offer_ref.result) c.as_ref.ensures.packet (c.offer_ref.ensures.stands stream open_at events (length c.args.marks.now.items) given.stands)))
 
 pub returns-in_ok-drain_to-in-Close : goal.returns-in_ok-drain_to-in-Close
 returns-in_ok-drain_to-in-Close g c = λ stream open_at events given.
     subst (λ (e : Event). HasGiven stream open_at c.drain_to.new.merge (events ++ e ∷ []) c.drain_to.new.marks.items) (sym c.in-Close.is)
     (c.in_ok-drain_to-in-Close.ensures stream open_at (events ++ Close ∷ []) (length c.args.marks.now.items) (c.close.ensures.stands stream open_at events (length c.args.marks.now.items) given.stands) (given_closed stream open_at c.close.new.self events c.args.marks.now.items given.all))
 
-pub lent-requires : goal.lent-requires
-lent-requires g c = search rules
+pub as_ref-requires : goal.as_ref-requires
+as_ref-requires g c = search rules
 
 pub offer_ref-requires-clause-path : goal.offer_ref-requires-clause-path
 offer_ref-requires-clause-path g c = search rules
