@@ -12,7 +12,7 @@ use Rattle.rtp_stream.proofs.ProbationLemmas.{by_last, complete_is, last_of-push
 use Rattle.path_merge.proofs.AnewLemmas.{GoesOn, in_reach, itself_eq, own_copy}
 use Rattle.rtp_stream.specs.Anchor.{anchor_from, can_anchor, is_source_wanted, media_time_of, next_number, restart_from, restart_media_time}
 use Rattle.rtp_stream.specs.EpochLaws.{anchor_with, epochs_in}
-use Rattle.rtp_stream.specs.Epochs.{anchor_in, anchors_after, anchors_at, anchors_of, can_restart, copies_since, goes_on, is_all_given, last_of, placed}
+use Rattle.rtp_stream.specs.Epochs.{anchor_in, anchors_after, anchors_at, anchors_of, can_restart, copies_since, continues_media_time, is_all_given, last_of, placed}
 use Rattle.rtp_stream.specs.Grid.{copies_under_at, end_of_copies}
 use Rattle.rtp_stream.specs.History.{is_counting, time_of}
 use Rattle.rtp_stream.specs.Laws.{numbers_from}
@@ -119,7 +119,7 @@ pub record IsMade (stream : Stream) (open_at : ℤ) (events : List Event) (path 
 
 module _ (stream : Stream) (open_at : ℤ) (some : 0 < stream.frames) where
   restarts : (events : List Event) (path : ℕ) (packet : Packet) (place : ℕ) (a : Anchor) → place < length events → is_counting events ≡ true → can_restart stream open_at place a events path packet ≡ true → IsMade stream open_at events path packet (Some (place, a)) (restart_from stream (time_of open_at events) a (next_number stream a (time_of open_at events)) packet)
-  restarts events path packet place a within counts can = by_tests (goes_on stream (time_of open_at events) a packet) (is_all_given stream open_at place a events) (is_source_wanted stream.ssrc packet.ssrc) refl refl refl can
+  restarts events path packet place a within counts can = by_tests (continues_media_time stream (time_of open_at events) a packet) (is_all_given stream open_at place a events) (is_source_wanted stream.ssrc packet.ssrc) refl refl refl can
     where
       media : ℤ
       media = restart_media_time stream.clock packet.ts (time_of open_at events) (media_time_of stream a (next_number stream a (time_of open_at events)))
@@ -133,7 +133,7 @@ module _ (stream : Stream) (open_at : ℤ) (some : 0 < stream.frames) where
       wide zero f low high after before = absurd (omega (arith, ints, after, before))
       wide (suc w) f low high after before = omega arith
 
-      by_tests : (b c w : Bool) → goes_on stream (time_of open_at events) a packet ≡ b → is_all_given stream open_at place a events ≡ c → is_source_wanted stream.ssrc packet.ssrc ≡ w → (b && (c && (w && completes_probation stream (heard_since stream open_at place a (events ++ Arrive path packet ∷ []) path)))) ≡ true → IsMade stream open_at events path packet (Some (place, a)) (restart_from stream (time_of open_at events) a (next_number stream a (time_of open_at events)) packet)
+      by_tests : (b c w : Bool) → continues_media_time stream (time_of open_at events) a packet ≡ b → is_all_given stream open_at place a events ≡ c → is_source_wanted stream.ssrc packet.ssrc ≡ w → (b && (c && (w && completes_probation stream (heard_since stream open_at place a (events ++ Arrive path packet ∷ []) path)))) ≡ true → IsMade stream open_at events path packet (Some (place, a)) (restart_from stream (time_of open_at events) a (next_number stream a (time_of open_at events)) packet)
       by_tests true true true go given wanted completes =
           let on : GoesOn stream (time_of open_at events) (media_time_of stream a (next_number stream a (time_of open_at events))) (restart_media_time stream.clock packet.ts (time_of open_at events) (media_time_of stream a (next_number stream a (time_of open_at events)))) = in_reach stream (time_of open_at events) (media_time_of stream a (next_number stream a (time_of open_at events))) (restart_media_time stream.clock packet.ts (time_of open_at events) (media_time_of stream a (next_number stream a (time_of open_at events)))) go in
           let small = complete_small stream (heard_since stream open_at place a events path) (is_off stream a (next_number stream a (time_of open_at events)) packet) packet (ap (completes_probation stream) (sym (here wanted)) ∙ completes) in

@@ -7,7 +7,7 @@ use Rattle.path_merge.proofs.AnewLemmas.{itself_eq}
 use Rattle.path_merge.proofs.SentHistoryLemmas.{anchors_closed, base_first, base_high, close_shuts, marks_near, open_next}
 use Rattle.path_merge.proofs.FullNumberLemmas.{near_on_grid}
 use Rattle.rtp_stream.specs.Anchor.{is_source_wanted, next_number}
-use Rattle.rtp_stream.specs.Epochs.{anchors_after, anchors_at, anchors_of, can_restart, goes_on, is_all_given, last_of, placed}
+use Rattle.rtp_stream.specs.Epochs.{anchors_after, anchors_at, anchors_of, can_restart, continues_media_time, is_all_given, last_of, placed}
 use Rattle.rtp_stream.specs.History.{arrival_count, is_closed, is_counting, time_of}
 use Rattle.rtp_stream.specs.Marks.{marks_of}
 use Rattle.rtp_stream.specs.PathProbation.{is_complete}
@@ -26,7 +26,7 @@ on_grid_completes_none stream heard packet = complete_is stream (heard ++ (false
 module _ (stream : Stream) (open_at : ℤ) (before : List Event) (path : ℕ) (packet : Packet) (place : ℕ) (a : Anchor) (on : is_off stream a (next_number stream a (time_of open_at before)) packet ≡ false) (within : place < length before) (counts : is_counting before ≡ true) where
   -- so it opens no epoch
   opens_none : can_restart stream open_at place a before path packet ≡ false
-  opens_none = by_wanted (is_source_wanted stream.ssrc packet.ssrc) refl (goes_on stream (time_of open_at before) a packet) (is_all_given stream open_at place a before)
+  opens_none = by_wanted (is_source_wanted stream.ssrc packet.ssrc) refl (continues_media_time stream (time_of open_at before) a packet) (is_all_given stream open_at place a before)
     where
       none : (b c : Bool) → (b && (c && false)) ≡ false
       none false c = refl

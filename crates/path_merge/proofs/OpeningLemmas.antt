@@ -43,7 +43,7 @@ epoch_media_none m a packet some = rw some refl
 pub record Opens (m : MergeState) (a : Anchor) (packet : Packet) (media : ℤ) : Type 0 where
   pub nothing : holds_nothing m ≡ true
   pub media_is : media ≡ restart_media_time m.spec.clock packet.ts m.time (media_time_of m.spec a m.base)
-  pub goes_on : is_restart_in_reach m.spec m.time (media_time_of m.spec a m.base) media ≡ true
+  pub continues_media_time : is_restart_in_reach m.spec m.time (media_time_of m.spec a m.base) media ≡ true
 
 pub opening_is : (m : MergeState) (a : Anchor) (path : ℕ) (packet : Packet) (media : ℤ) → Some media ≡ opening_of m a path packet → Opens m a packet media
 opening_is m a path packet media is = by_tests (is_source_wanted m.spec.ssrc packet.ssrc && is_complete (probation_heard m.spec (probation_at m.probations path) (is_off m.spec a m.base packet) packet)) (holds_nothing m) (is_restart_in_reach m.spec m.time (media_time_of m.spec a m.base) (restart_media_time m.spec.clock packet.ts m.time (media_time_of m.spec a m.base))) refl refl is
@@ -52,7 +52,7 @@ opening_is m a path packet media is = by_tests (is_source_wanted m.spec.ssrc pac
     some_inj e = cc
 
     by_tests : (c n r : Bool) → holds_nothing m ≡ n → is_restart_in_reach m.spec m.time (media_time_of m.spec a m.base) (restart_media_time m.spec.clock packet.ts m.time (media_time_of m.spec a m.base)) ≡ r → Some media ≡ (if c then (if n && r then Some (restart_media_time m.spec.clock packet.ts m.time (media_time_of m.spec a m.base)) else None) else None) → Opens m a packet media
-    by_tests true true true is_n is_r e = record { nothing = is_n; media_is = some_inj e; goes_on = ap (is_restart_in_reach m.spec m.time (media_time_of m.spec a m.base)) (some_inj e) ∙ is_r }
+    by_tests true true true is_n is_r e = record { nothing = is_n; media_is = some_inj e; continues_media_time = ap (is_restart_in_reach m.spec m.time (media_time_of m.spec a m.base)) (some_inj e) ∙ is_r }
     by_tests false n r is_n is_r e = cc
     by_tests true false r is_n is_r e = cc
     by_tests true true false is_n is_r e = cc

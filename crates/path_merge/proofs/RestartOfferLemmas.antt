@@ -16,7 +16,7 @@ use Rattle.rtp_stream.specs.Anchor.{is_restart_in_reach, is_source_wanted, media
 use Rattle.rtp_stream.specs.Copies.{copies_of, copies_of_all}
 use Rattle.rtp_stream.specs.Counts.{counts_of, fates_of, is_counted_fate, tally_of_fates}
 use Rattle.rtp_stream.specs.CountsFacts.{Tally, with_fate}
-use Rattle.rtp_stream.specs.Epochs.{anchor_in, anchor_of, anchors_at, anchors_of, can_restart, copies_since, goes_on, is_all_given, last_of}
+use Rattle.rtp_stream.specs.Epochs.{anchor_in, anchor_of, anchors_at, anchors_of, can_restart, copies_since, continues_media_time, is_all_given, last_of}
 use Rattle.rtp_stream.specs.Fate.{fate_of}
 use Rattle.rtp_stream.specs.Grid.{end_of_copies, first_with}
 use Rattle.rtp_stream.specs.History.{arrival_count, at_places, is_closed, is_counting, time_of}
@@ -151,8 +151,8 @@ module _ (stream : Stream) (open_at : ℤ) (m : MergeState) (media : ℤ) (s : I
         held_copy : (n : ℕ) → m.base ≤ n → get m.held n ≡ first_with n (copies_of stream open_at events)
         held_copy n low = let past : nat_lt n m.base ≡ false = grind (arith, nat_tests, low) in at.held n ∙ rw past refl
 
-    goes_is : is_restart_in_reach stream m.time (media_time_of stream a m.base) (restart_media_time stream.clock packet.ts m.time (media_time_of stream a m.base)) ≡ goes_on stream (time_of open_at events) a packet
-    goes_is = ap (λ b. is_restart_in_reach stream m.time (media_time_of stream a b) (restart_media_time stream.clock packet.ts m.time (media_time_of stream a b))) next_is ∙ ap (λ t. goes_on stream t a packet) at.time
+    goes_is : is_restart_in_reach stream m.time (media_time_of stream a m.base) (restart_media_time stream.clock packet.ts m.time (media_time_of stream a m.base)) ≡ continues_media_time stream (time_of open_at events) a packet
+    goes_is = ap (λ b. is_restart_in_reach stream m.time (media_time_of stream a b) (restart_media_time stream.clock packet.ts m.time (media_time_of stream a b))) next_is ∙ ap (λ t. continues_media_time stream t a packet) at.time
 
     pub opens_is : opens_epoch m a path packet ≡ can_restart stream open_at place a events path packet
     opens_is =
@@ -179,9 +179,9 @@ module _ (stream : Stream) (open_at : ℤ) (m : MergeState) (media : ℤ) (s : I
       media_then = restart_media_time stream.clock packet.ts m.time (media_time_of stream a m.base)
 
       first : GoesOn stream m.time (media_time_of stream a m.base) (restart_media_time stream.clock packet.ts m.time (media_time_of stream a m.base))
-      first = in_reach_then (goes_on stream (time_of open_at events) a packet) refl opens
+      first = in_reach_then (continues_media_time stream (time_of open_at events) a packet) refl opens
         where
-          in_reach_then : (b : Bool) → goes_on stream (time_of open_at events) a packet ≡ b → (b && (is_all_given stream open_at place a events && (is_source_wanted stream.ssrc packet.ssrc && completes_probation stream (heard_since stream open_at place a (events ++ Arrive path packet ∷ []) path)))) ≡ true → GoesOn stream m.time (media_time_of stream a m.base) (restart_media_time stream.clock packet.ts m.time (media_time_of stream a m.base))
+          in_reach_then : (b : Bool) → continues_media_time stream (time_of open_at events) a packet ≡ b → (b && (is_all_given stream open_at place a events && (is_source_wanted stream.ssrc packet.ssrc && completes_probation stream (heard_since stream open_at place a (events ++ Arrive path packet ∷ []) path)))) ≡ true → GoesOn stream m.time (media_time_of stream a m.base) (restart_media_time stream.clock packet.ts m.time (media_time_of stream a m.base))
           in_reach_then true is e = in_reach stream m.time (media_time_of stream a m.base) (restart_media_time stream.clock packet.ts m.time (media_time_of stream a m.base)) (rw (next_is, at.time) is)
           in_reach_then false is e = cc
 

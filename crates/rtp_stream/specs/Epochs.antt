@@ -25,14 +25,14 @@ abbrev pub is_all_given : Stream → ℤ → ℕ → Anchor → List Event → B
 is_all_given stream open_at place anchor events = nat_le (end_of_copies (copies_since stream open_at place anchor events)) (next_number stream anchor (time_of open_at events))
 
 -- media time goes on with this packet, where the anchor is in force
-abbrev pub goes_on : Stream → ℤ → Anchor → Packet → Bool
-goes_on stream time anchor packet =
+abbrev pub continues_media_time : Stream → ℤ → Anchor → Packet → Bool
+continues_media_time stream time anchor packet =
     is_restart_in_reach stream time (media_time_of stream anchor (next_number stream anchor time)) (restart_media_time stream.clock packet.ts time (media_time_of stream anchor (next_number stream anchor time)))
 
 -- the packet opens the next epoch: nothing is held, media time goes on, and it is itself the last of those that complete a probation on its path
 abbrev pub can_restart : Stream → ℤ → ℕ → Anchor → List Event → ℕ → Packet → Bool
 can_restart stream open_at place anchor before path packet =
-    goes_on stream (time_of open_at before) anchor packet
+    continues_media_time stream (time_of open_at before) anchor packet
     && (is_all_given stream open_at place anchor before
     && (is_source_wanted stream.ssrc packet.ssrc && completes_probation stream (heard_since stream open_at place anchor (before ++ Arrive path packet ∷ []) path)))
 

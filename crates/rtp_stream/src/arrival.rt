@@ -98,7 +98,7 @@ fn reach_fault(spec: &StreamSpec, time: i64, media: i64) -> Option<Fate>
 
 /// Returns true if a packet at `media` may begin the next epoch: it is in reach, and not before `due`, the media
 /// time of the number due next.
-pub fn goes_on(spec: &StreamSpec, time: i64, due: i64, media: i64) -> bool
+pub fn continues_media_time(spec: &StreamSpec, time: i64, due: i64, media: i64) -> bool
     requires low { pos 0 ≤ℤ time }
     requires high { time ≤ℤ pos (2 ^ 60) }
     ensures { result ≡ is_restart_in_reach spec.now time due media }

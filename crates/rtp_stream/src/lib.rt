@@ -14,7 +14,7 @@
 //! the code's loops. Of the window only its size is in them: it decides which packets are Ahead.
 //!
 //! Merges are built from functions that decide about one packet. `place_of` returns the number of the
-//! packet or why it has none, from `number_of` and `is_in_step`. `fate_of_first` and `goes_on` decide
+//! packet or why it has none, from `number_of` and `is_in_step`. `fate_of_first` and `continues_media_time` decide
 //! whether the packet may begin an epoch. `update_probation` decides whether it completes the
 //! probation of its path.
 #![tactic(auto)]
@@ -39,7 +39,9 @@ mod stream_spec;
 pub use anchor::{
     Anchor, is_in_step, is_wanted_source, media_of_first, media_of_restart, number_of,
 };
-pub use arrival::{fate_of_first, fate_of_put, goes_on, is_off_place, is_taken, place_of};
+pub use arrival::{
+    continues_media_time, fate_of_first, fate_of_put, is_off_place, is_taken, place_of,
+};
 pub use counts::Counts;
 pub use event::Event;
 pub use extend::{near16, near32};

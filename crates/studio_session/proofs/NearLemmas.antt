@@ -6,7 +6,7 @@ use Rattle.std.proofs.lemmas.Int.{ints}
 use Rattle.rtp_stream.specs.Anchor.{anchor_from, can_anchor, is_source_wanted, next_number, restart_from}
 use Rattle.rtp_stream.specs.Copies.{copies_at, copies_of, copies_of_all, copies_under_with, copies_with}
 use Rattle.rtp_stream.specs.Counts.{fates_at, fates_of}
-use Rattle.rtp_stream.specs.Epochs.{anchor_in, anchor_of, anchors_after, anchors_of, can_restart, goes_on, last_of, placed}
+use Rattle.rtp_stream.specs.Epochs.{anchor_in, anchor_of, anchors_after, anchors_of, can_restart, continues_media_time, last_of, placed}
 use Rattle.rtp_stream.specs.Fate.{counted_fate, fate_of, is_restart}
 use Rattle.rtp_stream.specs.Grid.{end_of_copies, first_with}
 use Rattle.rtp_stream.specs.History.{arrival_count, is_closed, is_counting, is_well_timed, time_of}
@@ -66,7 +66,7 @@ module _ (stream : Stream) (open_at : ℤ) where
     -- whether it restarts the stream, by what that hangs on
     abbrev decides : ℤ → Anchor → List (ℕ × Packet) → List (Bool × Packet) → Bool
     decides time anchor copies heard =
-        goes_on stream time anchor packet
+        continues_media_time stream time anchor packet
         && (nat_le (end_of_copies copies) (next_number stream anchor time)
         && (is_source_wanted stream.ssrc packet.ssrc && completes_probation stream heard))
 

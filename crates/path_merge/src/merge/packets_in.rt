@@ -13,8 +13,9 @@ ghost use Rattle.rtp_stream.specs.declared.stream_spec.Stream.{Stream};
 use super::Merge;
 use crate::window::Window;
 use rtp_stream::{
-    Anchor, Fate, Packet, PacketRef, Path, Probation, fate_of_first, fate_of_put, goes_on,
-    is_off_place, is_taken, media_of_first, media_of_restart, place_of, update_probation,
+    Anchor, Fate, Packet, PacketRef, Path, Probation, continues_media_time, fate_of_first,
+    fate_of_put, is_off_place, is_taken, media_of_first, media_of_restart, place_of,
+    update_probation,
 };
 
 /// The greatest number of arrivals that are counted, 2^62.
@@ -224,7 +225,7 @@ impl<V: Window> Merge<V> {
         }
         let due = self.next_media;
         let media = media_of_restart(self.spec.clock(), packet.ts, self.time, due);
-        if !goes_on(&self.spec, self.time, due, media) {
+        if !continues_media_time(&self.spec, self.time, due, media) {
             return None;
         }
         Some(media)
@@ -240,7 +241,7 @@ impl<V: Window> Merge<V> {
         requires fits { Fits self.old.spec (packet_of packet.now) }
         requires few_epochs { anchor.epoch < 2 ^ 62 }
         requires nothing_held { IsEmpty self.old.held }
-        requires goes_on { is_restart_in_reach self.old.spec self.old.time
+        requires continues_media_time { is_restart_in_reach self.old.spec self.old.time
             (media_time_of self.old.spec anchor self.old.base) media ≡ true }
         requires media { media ≡ restart_media_time self.old.spec.clock packet.now.ts self.old.time
             (media_time_of self.old.spec anchor self.old.base) }

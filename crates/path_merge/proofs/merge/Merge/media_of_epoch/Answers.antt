@@ -18,8 +18,8 @@ returns-then-base-end g c = λ a is_a.
     let some : nat_le c.end.result c.args.self.now.base ≡ false = subst (λ (m : MergeState). nat_le c.end.result m.base ≡ false) c.self.view_is (grind (arith, nat_tests, c.if-base-end.true, c.base.ensures)) in
     epoch_media_none c.args.self.now a (packet_of c.args.packet.now) (nothing_is c.args.self.now c.self.inside.next_media a sound is_a c.requires.open_yet c.end.result past_all reached ∙ some)
 
-pub returns-then-not-goes_on : goal.returns-then-not-goes_on
-returns-then-not-goes_on g c = λ a is_a.
+pub returns-then-not-continues_media_time : goal.returns-then-not-continues_media_time
+returns-then-not-continues_media_time g c = λ a is_a.
     let sound : IsSound c.args.self.now c.self.inside.next_media = subst (λ m. IsSound m c.self.inside.next_media) c.self.view_is c.self.invariant in
     let an = anchored_at c.args.self.now c.self.inside.next_media c.args.self.now.anchor a is_a sound.anchored in
     let past_all : (n : ℕ) → c.args.self.now.base ≤ n → IsSome (get c.args.self.now.held n) → n < c.end.result = subst (λ (m : MergeState). (n : ℕ) → m.base ≤ n → IsSome (get m.held n) → n < c.end.result) c.self.view_is (λ n low. c.end.ensures.past_all n) in
@@ -32,7 +32,7 @@ returns-then-not-goes_on g c = λ a is_a.
     let spec_is = ap (λ (m : MergeState). m.spec) c.self.view_is in
     let media_is : c.media_of_restart-media.result ≡ restart_media_time c.args.self.now.spec.clock (packet_of c.args.packet.now).ts c.args.self.now.time (media_time_of c.args.self.now.spec a c.args.self.now.base) = c.media_of_restart-media.ensures ∙ rw (time_is, due_is, c.clock.ensures, spec_is) refl in
     let there : to_z w64 (of_z w64 c.media_of_restart-media.result) ≡ restart_media_time c.args.self.now.spec.clock (packet_of c.args.packet.now).ts c.args.self.now.time (media_time_of c.args.self.now.spec a c.args.self.now.base) = omega (arith, ints, media_is) in
-    let reach : is_restart_in_reach c.args.self.now.spec c.args.self.now.time (media_time_of c.args.self.now.spec a c.args.self.now.base) (restart_media_time c.args.self.now.spec.clock (packet_of c.args.packet.now).ts c.args.self.now.time (media_time_of c.args.self.now.spec a c.args.self.now.base)) ≡ false = sym (c.goes_on.ensures ∙ rw (time_is, due_is, there, spec_is) refl) ∙ c.if-not-goes_on.true in
+    let reach : is_restart_in_reach c.args.self.now.spec c.args.self.now.time (media_time_of c.args.self.now.spec a c.args.self.now.base) (restart_media_time c.args.self.now.spec.clock (packet_of c.args.packet.now).ts c.args.self.now.time (media_time_of c.args.self.now.spec a c.args.self.now.base)) ≡ false = sym (c.continues_media_time.ensures ∙ rw (time_is, due_is, there, spec_is) refl) ∙ c.if-not-continues_media_time.true in
     epoch_media_is c.args.self.now a (packet_of c.args.packet.now) true false (nothing_is c.args.self.now c.self.inside.next_media a sound is_a c.requires.open_yet c.end.result past_all reached ∙ none) reach
 
 pub returns : goal.returns
@@ -49,5 +49,5 @@ returns g c = λ a is_a.
     let spec_is = ap (λ (m : MergeState). m.spec) c.self.view_is in
     let media_is : c.media_of_restart-media.result ≡ restart_media_time c.args.self.now.spec.clock (packet_of c.args.packet.now).ts c.args.self.now.time (media_time_of c.args.self.now.spec a c.args.self.now.base) = c.media_of_restart-media.ensures ∙ rw (time_is, due_is, c.clock.ensures, spec_is) refl in
     let there : to_z w64 (of_z w64 c.media_of_restart-media.result) ≡ restart_media_time c.args.self.now.spec.clock (packet_of c.args.packet.now).ts c.args.self.now.time (media_time_of c.args.self.now.spec a c.args.self.now.base) = omega (arith, ints, media_is) in
-    let reach : is_restart_in_reach c.args.self.now.spec c.args.self.now.time (media_time_of c.args.self.now.spec a c.args.self.now.base) (restart_media_time c.args.self.now.spec.clock (packet_of c.args.packet.now).ts c.args.self.now.time (media_time_of c.args.self.now.spec a c.args.self.now.base)) ≡ true = sym (c.goes_on.ensures ∙ rw (time_is, due_is, there, spec_is) refl) ∙ c.if-not-goes_on.false in
+    let reach : is_restart_in_reach c.args.self.now.spec c.args.self.now.time (media_time_of c.args.self.now.spec a c.args.self.now.base) (restart_media_time c.args.self.now.spec.clock (packet_of c.args.packet.now).ts c.args.self.now.time (media_time_of c.args.self.now.spec a c.args.self.now.base)) ≡ true = sym (c.continues_media_time.ensures ∙ rw (time_is, due_is, there, spec_is) refl) ∙ c.if-not-continues_media_time.false in
     ap (λ z. Some z) there ∙ epoch_media_is c.args.self.now a (packet_of c.args.packet.now) true true (nothing_is c.args.self.now c.self.inside.next_media a sound is_a c.requires.open_yet c.end.result past_all reached ∙ none) reach

@@ -19,11 +19,11 @@ restart-requires-clause-nothing_held g c =
     let opens : Opens c.args.self.now c.args.anchor (packet_of c.args.packet.now) c.in-Some.media = opening_is c.args.self.now c.args.anchor c.args.path (packet_of c.args.packet.now) c.in-Some.media (sym c.in-Some.is ∙ c.update_probation_of.ensures.opening) in
     subst (λ (m : MergeState). IsEmpty m.held) (sym c.update_probation_of.ensures.step.changed) (nothing_held c.args.self.now c.self.inside.next_media c.args.anchor sound c.requires.anchored c.requires.open_yet opens.nothing)
 
-pub restart-requires-clause-goes_on : goal.restart-requires-clause-goes_on
-restart-requires-clause-goes_on g c =
+pub restart-requires-clause-continues_media_time : goal.restart-requires-clause-continues_media_time
+restart-requires-clause-continues_media_time g c =
     let opens : Opens c.args.self.now c.args.anchor (packet_of c.args.packet.now) c.in-Some.media = opening_is c.args.self.now c.args.anchor c.args.path (packet_of c.args.packet.now) c.in-Some.media (sym c.in-Some.is ∙ c.update_probation_of.ensures.opening) in
     let media_fits : FitsSigned w64 c.in-Some.media = search rules in
-    subst (λ (m : MergeState). is_restart_in_reach m.spec m.time (media_time_of m.spec c.args.anchor m.base) (to_z w64 (of_z w64 c.in-Some.media)) ≡ true) (sym c.update_probation_of.ensures.step.changed) (ap (is_restart_in_reach c.args.self.now.spec c.args.self.now.time (media_time_of c.args.self.now.spec c.args.anchor c.args.self.now.base)) (to_z-of_z w64 c.in-Some.media media_fits) ∙ opens.goes_on)
+    subst (λ (m : MergeState). is_restart_in_reach m.spec m.time (media_time_of m.spec c.args.anchor m.base) (to_z w64 (of_z w64 c.in-Some.media)) ≡ true) (sym c.update_probation_of.ensures.step.changed) (ap (is_restart_in_reach c.args.self.now.spec c.args.self.now.time (media_time_of c.args.self.now.spec c.args.anchor c.args.self.now.base)) (to_z-of_z w64 c.in-Some.media media_fits) ∙ opens.continues_media_time)
 
 pub restart-requires-clause-media : goal.restart-requires-clause-media
 restart-requires-clause-media g c =
