@@ -46,7 +46,7 @@ impl Packet {
     }
 
     /// Returns a copy of this packet. Takes no memory.
-    pub fn copied(&self) -> Packet
+    pub fn duplicate(&self) -> Packet
         ensures { result ≡ self.now }
     {
         self.as_ref().to_packet()
