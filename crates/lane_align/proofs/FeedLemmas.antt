@@ -12,7 +12,7 @@ use Rattle.rtp_wire.specs.Sample.{octets_per_sample, sample_at, sample_count}
 use Rattle.std.specs.Option.{option_or}
 use Rattle.rtp_stream.specs.MarkFacts.{MarkView, HasLength, payload_length}
 use Rattle.rtp_stream.specs.MarkList.{can_follow, is_same_format, is_mark_list_after, is_end, has_end}
-use Rattle.rtp_stream.specs.declared.mark.Format.{Format}
+use Rattle.rtp_stream.specs.declared.mark.PacketFormat.{PacketFormat}
 use Rattle.rtp_stream.specs.declared.mark.Body.{Body}
 use Rattle.rtp_stream.specs.declared.mark.Body.TheVariants.{Got, Lost}
 use Rattle.rtp_stream.specs.declared.mark.MarkKind.{MarkKind}
@@ -47,7 +47,7 @@ has_end_more [] mark = refl
 has_end_more (x ∷ marks) mark = ap (λ b. is_end x.kind || b) (has_end_more marks mark) ∙ or_past (is_end x.kind) (is_end mark.kind) (has_end marks)
 
 -- the samples of a list and what follows it
-pub sample_among_more : (format : Format) (marks more : List MarkView) (t : ℤ) (k : ℕ) → sample_among format (marks ++ more) t k ≡ option_or (sample_among format marks t k) (sample_among format more t k)
+pub sample_among_more : (format : PacketFormat) (marks more : List MarkView) (t : ℤ) (k : ℕ) → sample_among format (marks ++ more) t k ≡ option_or (sample_among format marks t k) (sample_among format more t k)
 sample_among_more format [] more t k = refl
 sample_among_more format (x ∷ marks) more t k =
     ap (λ o. option_or (sample_in format x.kind t k) o) (sample_among_more format marks more t k)
@@ -63,14 +63,14 @@ past_slot frames media t h = grind (arith, ints)
 in_slot : (frames : ℕ) (media t : ℤ) → media ≤ℤ t → t <ℤ (media +ℤ pos frames) → is_within frames media t ≡ true
 in_slot frames media t h g = grind (arith, ints)
 
-pub sample_before : (format : Format) (e n : ℕ) (m : ℤ) (b : Body) (t : ℤ) (k : ℕ) → t <ℤ m → sample_in format (Slot e n m b) t k ≡ None
+pub sample_before : (format : PacketFormat) (e n : ℕ) (m : ℤ) (b : Body) (t : ℤ) (k : ℕ) → t <ℤ m → sample_in format (Slot e n m b) t k ≡ None
 sample_before format e n m b t k h = rw (before_slot format.frames m t h) refl
 
-pub sample_past : (format : Format) (e n : ℕ) (m : ℤ) (b : Body) (t : ℤ) (k : ℕ) → (m +ℤ pos format.frames) ≤ℤ t → sample_in format (Slot e n m b) t k ≡ None
+pub sample_past : (format : PacketFormat) (e n : ℕ) (m : ℤ) (b : Body) (t : ℤ) (k : ℕ) → (m +ℤ pos format.frames) ≤ℤ t → sample_in format (Slot e n m b) t k ≡ None
 sample_past format e n m b t k h = rw (past_slot format.frames m t h) refl
 
 -- nothing follows an end
-pub after_end : (format : Format) (marks : List MarkView) → is_mark_list_after format (Some End) marks ≡ true → marks ≡ []
+pub after_end : (format : PacketFormat) (marks : List MarkView) → is_mark_list_after format (Some End) marks ≡ true → marks ≡ []
 after_end format [] h = refl
 after_end format (x ∷ marks) h =
     let here = both_left (is_same_format x.format format && false) (is_mark_list_after format (Some x.kind) marks) h in
@@ -84,7 +84,7 @@ pub slot_later : (frames e n : ℕ) (m : ℤ) (b : Body) (e' n' : ℕ) (m' : ℤ
 slot_later frames e n m b e' n' m' b' h = grind (arith, ints, nat_tests)
 
 -- the last slot isn't before an earlier one
-not_before : (format : Format) (e n : ℕ) (m : ℤ) (b : Body) (marks : List MarkView) → is_mark_list_after format (Some (Slot e n m b)) marks ≡ true
+not_before : (format : PacketFormat) (e n : ℕ) (m : ℤ) (b : Body) (marks : List MarkView) → is_mark_list_after format (Some (Slot e n m b)) marks ≡ true
     → m ≤ℤ (unwrap_or (last_slot marks) (record { epoch = e; number = n; media = m })).media
 not_before format e n m b [] h = omega (arith, ints)
 not_before format e n m b (x ∷ marks) h =
@@ -111,7 +111,7 @@ after_some frames None p u h = tt
 after_some frames (Some x) p u h = h
 
 -- from the end of the last slot on there is no sample
-pub silent_after : (format : Format) (last : Option MarkKind) (marks : List MarkView) (u : ℤ) (k : ℕ) → is_mark_list_after format last marks ≡ true
+pub silent_after : (format : PacketFormat) (last : Option MarkKind) (marks : List MarkView) (u : ℤ) (k : ℕ) → is_mark_list_after format last marks ≡ true
     → IsAfter format.frames (last_slot marks) u → sample_among format marks u k ≡ None
 silent_after format last [] u k h after = refl
 silent_after format last (x ∷ marks) u k h after =
@@ -133,7 +133,7 @@ count_is : (enc : Enc) (n len : ℕ) → len ≡ n * octets_per_sample enc → l
 count_is L16 n len e = omega arith
 count_is L24 n len e = omega arith
 
-pub body_length : (format : Format) (b : Body) → HasLength (payload_length format) b → length (body_samples format b) ≡ format.frames * format.channels
+pub body_length : (format : PacketFormat) (b : Body) → HasLength (payload_length format) b → length (body_samples format b) ≡ format.frames * format.channels
 body_length format (Got payload) h =
     length-map-range_with_len (sample_at format.enc payload.items) 0 (sample_count format.enc payload.items)
     ∙ count_is format.enc (format.frames * format.channels) (length payload.items) h
@@ -142,7 +142,7 @@ body_length format Lost h = length-replicate (format.frames * format.channels) (
 pub place_below : (i n k c : ℕ) → i < n → k < c → i * c + k < n * c
 place_below i n k c h g = let more : (i + 1) * c ≤ n * c = mul-le-mul_right c (let m : i + 1 ≤ n = omega arith in m) in omega arith
 
-pub body_in : (format : Format) (b : Body) → HasLength (payload_length format) b → (i k : ℕ) → i < format.frames → k < format.channels
+pub body_in : (format : PacketFormat) (b : Body) → HasLength (payload_length format) b → (i k : ℕ) → i < format.frames → k < format.channels
     → get_or (body_samples format b) (i * format.channels + k) (pos 0) ≡ unwrap_or (sample_of format b i k) (pos 0)
 body_in format (Got payload) h i k below lt =
     let count = count_is format.enc (format.frames * format.channels) (length payload.items) h in
@@ -172,5 +172,5 @@ place_of frames (Some s) m t after = elim (distance (m -ℤ t)) [
   ]
 ]
 
-pub sample_within : (format : Format) (e n : ℕ) (m : ℤ) (b : Body) (t : ℤ) (k : ℕ) → m ≤ℤ t → t <ℤ (m +ℤ pos format.frames) → sample_in format (Slot e n m b) t k ≡ sample_of format b (unsigned_abs (t -ℤ m)) k
+pub sample_within : (format : PacketFormat) (e n : ℕ) (m : ℤ) (b : Body) (t : ℤ) (k : ℕ) → m ≤ℤ t → t <ℤ (m +ℤ pos format.frames) → sample_in format (Slot e n m b) t k ≡ sample_of format b (unsigned_abs (t -ℤ m)) k
 sample_within format e n m b t k h g = rw (in_slot format.frames m t h g) refl

@@ -10,7 +10,7 @@ use Rattle.rtp_stream.specs.declared.stream_spec.Stream.{Stream}
 use Rattle.rtp_stream.specs.StreamSpecFacts.{format_of}
 use Rattle.rtp_stream.specs.MarkFacts.{MarkView}
 use Rattle.rtp_stream.specs.MarkList.{can_follow, is_same_format, is_mark_list, has_end}
-use Rattle.rtp_stream.specs.declared.mark.Format.{Format}
+use Rattle.rtp_stream.specs.declared.mark.PacketFormat.{PacketFormat}
 use Rattle.lane_align.specs.declared.last_slot.LastSlot.{LastSlot}
 use Rattle.lane_align.specs.Cover.{last_slot}
 use Rattle.lane_align.specs.HeldValues.{Held, first_values}
@@ -23,13 +23,13 @@ use Rattle.lane_align.proofs.ValueLemmas.{frames_by_place}
 pub fed_next : (stream : Stream) (from : ℤ) (size : ℕ) (lane : LaneState) (marks : List MarkView) (t : ℤ) (mark : MarkView)
     → HasFeed stream from size lane marks t → is_next lane mark ≡ is_mark_list (format_of stream) (marks ++ mark ∷ [])
 fed_next stream from size lane marks t mark fed =
-    ap (λ (f : Format). is_same_format mark.format f && can_follow f.frames (last_kind lane.ended lane.slot lane.quiet) mark.kind) fed.format
+    ap (λ (f : PacketFormat). is_same_format mark.format f && can_follow f.frames (last_kind lane.ended lane.slot lane.quiet) mark.kind) fed.format
     ∙ ap (λ e. is_same_format mark.format (format_of stream) && can_follow stream.frames (last_kind e lane.slot lane.quiet) mark.kind) fed.ended
     ∙ ap (λ s. is_same_format mark.format (format_of stream) && can_follow stream.frames (last_kind (has_end marks) s lane.quiet) mark.kind) fed.slot
     ∙ ap (λ q. is_same_format mark.format (format_of stream) && can_follow stream.frames (last_kind (has_end marks) (last_slot marks) q) mark.kind) fed.quiet
     ∙ sym (next_is (format_of stream) marks mark fed.mark_list)
 
-abbrev pub lane_of : Format → ℤ → ℕ → ℤ → Option LastSlot → Option ℤ → Bool → ℕ → List ℤ → LaneState
+abbrev pub lane_of : PacketFormat → ℤ → ℕ → ℤ → Option LastSlot → Option ℤ → Bool → ℕ → List ℤ → LaneState
 lane_of format start block position slot quiet ended room values = record { format = format; start = start; block = block; position = position; slot = slot; quiet = quiet; ended = ended; room = room; values = values }
 
 -- a block is read
@@ -63,7 +63,7 @@ frames_left_less frames t n (Some slot) =
 pub block_values : (stream : Stream) (from : ℤ) (size : ℕ) (lane : LaneState) (marks : List MarkView) (t : ℤ) → HasFeed stream from size lane marks t
     → first_values (lane.block * lane.format.channels) lane.values ≡ frames_from (format_of stream) marks t size
 block_values stream from size lane marks t fed =
-    ap (λ (f : Format). first_values (lane.block * f.channels) lane.values) fed.format
+    ap (λ (f : PacketFormat). first_values (lane.block * f.channels) lane.values) fed.format
     ∙ ap (λ b. first_values (b * stream.channels) lane.values) fed.block
     ∙ frames_by_place (format_of stream) marks t size lane.values fed.values
 
@@ -81,7 +81,7 @@ block_read stream from size lane marks t values fed e = record {
   ended = fed.ended;
   values = λ f k lt.
       let n = size * stream.channels in
-      let e' : values ≡ drop n lane.values = e ∙ ap (λ (g : Format). drop (lane.block * g.channels) lane.values) fed.format ∙ ap (λ b. drop (b * stream.channels) lane.values) fed.block in
+      let e' : values ≡ drop n lane.values = e ∙ ap (λ (g : PacketFormat). drop (lane.block * g.channels) lane.values) fed.format ∙ ap (λ b. drop (b * stream.channels) lane.values) fed.block in
       ap (λ vs. get_or vs (f * stream.channels + k) (pos 0)) e'
       ∙ get_or-drop n lane.values (f * stream.channels + k) (pos 0)
       ∙ ap (λ i. get_or lane.values i (pos 0)) (let m : size * stream.channels + (f * stream.channels + k) ≡ (size + f) * stream.channels + k = omega arith in m)

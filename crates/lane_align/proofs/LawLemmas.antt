@@ -7,7 +7,7 @@ use Rattle.std.specs.Int.{int_max}
 use Rattle.std.specs.Option.{option_or}
 use Rattle.rtp_stream.specs.MarkFacts.{MarkView}
 use Rattle.rtp_stream.specs.MarkList.{can_follow, is_same_format, is_mark_list_after, is_mark_list, has_end}
-use Rattle.rtp_stream.specs.declared.mark.Format.{Format}
+use Rattle.rtp_stream.specs.declared.mark.PacketFormat.{PacketFormat}
 use Rattle.rtp_stream.specs.declared.mark.MarkKind.{MarkKind}
 use Rattle.rtp_stream.specs.declared.mark.MarkKind.TheVariants.{Slot, Quiet, End}
 use Rattle.lane_align.specs.declared.last_slot.LastSlot.{LastSlot}
@@ -35,7 +35,7 @@ reaches_next frames (Some (Slot e n m b)) (Quiet u) t r h = absurd (false≢true
 reaches_next frames (Some (Slot e n m b)) End t r h = tt
 reaches_next frames (Some End) next t r h = absurd (false≢true h)
 
-silent_next : (format : Format) (last : Option MarkKind) (next : MarkKind) (t : ℤ) (k : ℕ) → Reaches format.frames last (t +ℤ pos 1) → can_follow format.frames last next ≡ true → sample_in format next t k ≡ None
+silent_next : (format : PacketFormat) (last : Option MarkKind) (next : MarkKind) (t : ℤ) (k : ℕ) → Reaches format.frames last (t +ℤ pos 1) → can_follow format.frames last next ≡ true → sample_in format next t k ≡ None
 unfolding Reaches
 silent_next format None next t k r h = absurd r
 silent_next format (Some (Quiet u)) (Slot e n m b) t k r h = let le : u ≤ℤ m = grind (arith, ints) in sample_before format e n m b t k (omega (arith, ints))
@@ -46,7 +46,7 @@ silent_next format (Some (Slot e n m b)) (Quiet u) t k r h = absurd (false≢tru
 silent_next format (Some (Slot e n m b)) End t k r h = refl
 silent_next format (Some End) next t k r h = absurd (false≢true h)
 
-silent_more : (format : Format) (last : Option MarkKind) (more : List MarkView) (t : ℤ) (k : ℕ) → Reaches format.frames last (t +ℤ pos 1) → is_mark_list_after format last more ≡ true → sample_among format more t k ≡ None
+silent_more : (format : PacketFormat) (last : Option MarkKind) (more : List MarkView) (t : ℤ) (k : ℕ) → Reaches format.frames last (t +ℤ pos 1) → is_mark_list_after format last more ≡ true → sample_among format more t k ≡ None
 silent_more format last [] t k r h = refl
 silent_more format last (x ∷ more) t k r h =
     let here = both_left (is_same_format x.format format && can_follow format.frames last x.kind) (is_mark_list_after format (Some x.kind) more) h in
@@ -55,7 +55,7 @@ silent_more format last (x ∷ more) t k r h =
     ap (λ o. option_or o (sample_among format more t k)) (silent_next format last x.kind t k r follows)
     ∙ silent_more format (Some x.kind) more t k (reaches_next format.frames last x.kind (t +ℤ pos 1) r follows) rest
 
-reaches_more : (format : Format) (last : Option MarkKind) (more : List MarkView) (t : ℤ) → Reaches format.frames last t → is_mark_list_after format last more ≡ true → Reaches format.frames (kind_after last more) t
+reaches_more : (format : PacketFormat) (last : Option MarkKind) (more : List MarkView) (t : ℤ) → Reaches format.frames last t → is_mark_list_after format last more ≡ true → Reaches format.frames (kind_after last more) t
 reaches_more format last [] t r h = r
 reaches_more format last (x ∷ more) t r h =
     let here = both_left (is_same_format x.format format && can_follow format.frames last x.kind) (is_mark_list_after format (Some x.kind) more) h in
@@ -92,7 +92,7 @@ kind_after_more last [] more = refl
 kind_after_more last (x ∷ marks) more = kind_after_more (Some x.kind) marks more
 
 -- values before the cover stay
-pub values_stay : (format : Format) (marks more : List MarkView) (t : ℤ) (k : ℕ) → is_mark_list format (marks ++ more) ≡ true → covers (cover_of format marks) (t +ℤ pos 1) ≡ true
+pub values_stay : (format : PacketFormat) (marks more : List MarkView) (t : ℤ) (k : ℕ) → is_mark_list format (marks ++ more) ≡ true → covers (cover_of format marks) (t +ℤ pos 1) ≡ true
     → value_at format (marks ++ more) t k ≡ value_at format marks t k
 values_stay format marks more t k listed covered =
     let before = list_before format None marks more listed in
@@ -104,7 +104,7 @@ values_stay format marks more t k listed covered =
     ∙ or_none (sample_among format marks t k))
 
 -- and so does the cover
-pub cover_stays : (format : Format) (marks more : List MarkView) (t : ℤ) → is_mark_list format (marks ++ more) ≡ true → covers (cover_of format marks) t ≡ true
+pub cover_stays : (format : PacketFormat) (marks more : List MarkView) (t : ℤ) → is_mark_list format (marks ++ more) ≡ true → covers (cover_of format marks) t ≡ true
     → covers (cover_of format (marks ++ more)) t ≡ true
 cover_stays format marks more t listed covered =
     let before = list_before format None marks more listed in
@@ -117,19 +117,19 @@ ends_last : (frames : ℕ) (last : Option MarkKind) (s : Option LastSlot) (q : O
 ends_last frames last s q (ended s0 q0) = refl
 
 -- nothing follows the end
-pub end_stays : (format : Format) (marks more : List MarkView) → is_mark_list format (marks ++ more) ≡ true → has_end marks ≡ true → more ≡ []
+pub end_stays : (format : PacketFormat) (marks more : List MarkView) → is_mark_list format (marks ++ more) ≡ true → has_end marks ≡ true → more ≡ []
 end_stays format marks more listed is_over =
     let agrees = subst (λ e. Agrees format.frames (kind_after None marks) e (last_slot marks) (last_quiet marks)) is_over (agrees_of format marks (list_before format None marks more listed)) in
     let last = ends_last format.frames (kind_after None marks) (last_slot marks) (last_quiet marks) agrees in
     after_end format more (subst (λ o. is_mark_list_after format o more ≡ true) last (list_after format None marks more listed))
 
 -- accepted marks begin with what was accepted, and are a mark list
-pub record Extends (format : Format) (accepted result : List MarkView) : Type 0 where
+pub record Extends (format : PacketFormat) (accepted result : List MarkView) : Type 0 where
   pub more : List MarkView
   pub is : result ≡ accepted ++ more
   pub listed : is_mark_list format result ≡ true
 
-accepted_extends : (format : Format) (accepted marks : List MarkView) → is_mark_list format accepted ≡ true → Extends format accepted (accepted_after format accepted marks)
+accepted_extends : (format : PacketFormat) (accepted marks : List MarkView) → is_mark_list format accepted ≡ true → Extends format accepted (accepted_after format accepted marks)
 accepted_extends format accepted [] listed = record { more = []; is = sym (append-nil accepted); listed = listed }
 accepted_extends format accepted (x ∷ marks) listed = elim (cases_Bool (is_mark_list format (accepted ++ x ∷ []))) [
   | inl fits ↦
@@ -144,22 +144,22 @@ accepted_extends format accepted (x ∷ marks) listed = elim (cases_Bool (is_mar
       record { more = rest.more; is = here ∙ rest.is; listed = ap (is_mark_list format) here ∙ rest.listed }
 ]
 
-accepted_in_turn : (format : Format) (accepted marks more : List MarkView) → accepted_after format accepted (marks ++ more) ≡ accepted_after format (accepted_after format accepted marks) more
+accepted_in_turn : (format : PacketFormat) (accepted marks more : List MarkView) → accepted_after format accepted (marks ++ more) ≡ accepted_after format (accepted_after format accepted marks) more
 accepted_in_turn format accepted [] more = refl
 accepted_in_turn format accepted (x ∷ marks) more = accepted_in_turn format (accepted_with format accepted x) marks more
 
-pub accepted_more : (format : Format) (came more : List MarkView) → Extends format (accepted_marks format came) (accepted_marks format (came ++ more))
+pub accepted_more : (format : PacketFormat) (came more : List MarkView) → Extends format (accepted_marks format came) (accepted_marks format (came ++ more))
 accepted_more format came more =
     let first = accepted_extends format [] came refl in
     subst (λ l. Extends format (accepted_marks format came) l) (sym (accepted_in_turn format [] came more)) (accepted_extends format (accepted_marks format came) more first.listed)
 
-pub accepted_listed : (format : Format) (came : List MarkView) → is_mark_list format (accepted_marks format came) ≡ true
+pub accepted_listed : (format : PacketFormat) (came : List MarkView) → is_mark_list format (accepted_marks format came) ≡ true
 accepted_listed format came = (accepted_extends format [] came refl).listed
 
-pub accepted_next : (format : Format) (came : List MarkView) (mark : MarkView) → accepted_marks format (came ++ mark ∷ []) ≡ accepted_with format (accepted_marks format came) mark
+pub accepted_next : (format : PacketFormat) (came : List MarkView) (mark : MarkView) → accepted_marks format (came ++ mark ∷ []) ≡ accepted_with format (accepted_marks format came) mark
 accepted_next format came mark = accepted_in_turn format [] came (mark ∷ [])
 
-accepted_whole : (format : Format) (accepted marks : List MarkView) → is_mark_list format (accepted ++ marks) ≡ true → accepted_after format accepted marks ≡ accepted ++ marks
+accepted_whole : (format : PacketFormat) (accepted marks : List MarkView) → is_mark_list format (accepted ++ marks) ≡ true → accepted_after format accepted marks ≡ accepted ++ marks
 accepted_whole format accepted [] listed = sym (append-nil accepted)
 accepted_whole format accepted (x ∷ marks) listed =
     let listed' : is_mark_list format ((accepted ++ x ∷ []) ++ marks) ≡ true = ap (is_mark_list format) (append_assoc accepted (x ∷ []) marks) ∙ listed in
@@ -167,10 +167,10 @@ accepted_whole format accepted (x ∷ marks) listed =
     let same : accepted_with format accepted x ≡ accepted ++ x ∷ [] = ap (λ b. if b then accepted ++ x ∷ [] else accepted) fits in
     ap (λ a. accepted_after format a marks) same ∙ accepted_whole format (accepted ++ x ∷ []) marks listed' ∙ append_assoc accepted (x ∷ []) marks
 
-pub accepted_all : (format : Format) (marks : List MarkView) → is_mark_list format marks ≡ true → accepted_marks format marks ≡ marks
+pub accepted_all : (format : PacketFormat) (marks : List MarkView) → is_mark_list format marks ≡ true → accepted_marks format marks ≡ marks
 accepted_all format marks listed = accepted_whole format [] marks listed
 
-pub accepted_values_stay : (format : Format) (came more : List MarkView) (t : ℤ) (k : ℕ) → covers (cover_of format (accepted_marks format came)) (t +ℤ pos 1) ≡ true
+pub accepted_values_stay : (format : PacketFormat) (came more : List MarkView) (t : ℤ) (k : ℕ) → covers (cover_of format (accepted_marks format came)) (t +ℤ pos 1) ≡ true
     → value_at format (accepted_marks format (came ++ more)) t k ≡ value_at format (accepted_marks format came) t k
 accepted_values_stay format came more t k covered =
     let all = accepted_more format came more in

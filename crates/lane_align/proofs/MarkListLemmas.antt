@@ -6,7 +6,7 @@ use Rattle.std.proofs.lemmas.Bool.Decides.{nat_tests}
 use Rattle.std.specs.Option.{option_or}
 use Rattle.rtp_stream.specs.MarkFacts.{MarkView}
 use Rattle.rtp_stream.specs.MarkList.{can_follow, is_same_format, is_mark_list_after, is_mark_list, is_end, has_end}
-use Rattle.rtp_stream.specs.declared.mark.Format.{Format}
+use Rattle.rtp_stream.specs.declared.mark.PacketFormat.{PacketFormat}
 use Rattle.rtp_stream.specs.declared.mark.Body.{Body}
 use Rattle.rtp_stream.specs.declared.mark.MarkKind.{MarkKind}
 use Rattle.rtp_stream.specs.declared.mark.MarkKind.TheVariants.{Slot, Quiet, End}
@@ -49,7 +49,7 @@ or_false true = refl
 or_false false = refl
 
 -- one mark more
-list_more : (format : Format) (last : Option MarkKind) (marks : List MarkView) (mark : MarkView)
+list_more : (format : PacketFormat) (last : Option MarkKind) (marks : List MarkView) (mark : MarkView)
     → is_mark_list_after format last (marks ++ mark ∷ []) ≡ is_mark_list_after format last marks && (is_same_format mark.format format && can_follow format.frames (kind_after last marks) mark.kind)
 list_more format last [] mark = elim (cases_Bool (is_same_format mark.format format && can_follow format.frames last mark.kind)) [
   | inl yes' ↦ rw yes' refl
@@ -60,7 +60,7 @@ list_more format last (x ∷ marks) mark =
     ∙ sym (and_assoc (is_same_format x.format format && can_follow format.frames last x.kind) (is_mark_list_after format (Some x.kind) marks) (is_same_format mark.format format && can_follow format.frames (kind_after (Some x.kind) marks) mark.kind))
 
 -- of a list and one more, the list is a mark list
-pub list_before : (format : Format) (last : Option MarkKind) (marks more : List MarkView) → is_mark_list_after format last (marks ++ more) ≡ true → is_mark_list_after format last marks ≡ true
+pub list_before : (format : PacketFormat) (last : Option MarkKind) (marks more : List MarkView) → is_mark_list_after format last (marks ++ more) ≡ true → is_mark_list_after format last marks ≡ true
 list_before format last [] more h = refl
 list_before format last (x ∷ marks) more h =
     let here = both_left (is_same_format x.format format && can_follow format.frames last x.kind) (is_mark_list_after format (Some x.kind) (marks ++ more)) h in
@@ -68,7 +68,7 @@ list_before format last (x ∷ marks) more h =
     rw here rest
 
 -- and the rest is one after it
-pub list_after : (format : Format) (last : Option MarkKind) (marks more : List MarkView) → is_mark_list_after format last (marks ++ more) ≡ true → is_mark_list_after format (kind_after last marks) more ≡ true
+pub list_after : (format : PacketFormat) (last : Option MarkKind) (marks more : List MarkView) → is_mark_list_after format last (marks ++ more) ≡ true → is_mark_list_after format (kind_after last marks) more ≡ true
 list_after format last [] more h = h
 list_after format last (x ∷ marks) more h =
     list_after format (Some x.kind) marks more (both_right (is_same_format x.format format && can_follow format.frames last x.kind) (is_mark_list_after format (Some x.kind) (marks ++ more)) h)
@@ -95,7 +95,7 @@ agrees_next frames last e s q (Quiet u') (slot e0 n0 m0 b0 q0 le) h = absurd (fa
 agrees_next frames last e s q End (slot e0 n0 m0 b0 q0 le) h = ended (Some (record { epoch = e0; number = n0; media = m0 })) q0
 agrees_next frames last e s q next (ended s0 q0) h = absurd (false≢true h)
 
-agrees_after : (format : Format) (last : Option MarkKind) (e : Bool) (s : Option LastSlot) (q : Option ℤ) (marks : List MarkView)
+agrees_after : (format : PacketFormat) (last : Option MarkKind) (e : Bool) (s : Option LastSlot) (q : Option ℤ) (marks : List MarkView)
     → Agrees format.frames last e s q → is_mark_list_after format last marks ≡ true
     → Agrees format.frames (kind_after last marks) (has_end marks || e) (option_or (last_slot marks) s) (option_or (last_quiet marks) q)
 agrees_after format last e s q [] agrees h = agrees
@@ -107,7 +107,7 @@ agrees_after format last e s q (x ∷ marks) agrees h =
     (agrees_after format (Some x.kind) (is_end x.kind || e) (option_or (slot_of x.kind) s) (option_or (quiet_of x.kind) q) marks (agrees_next format.frames last e s q x.kind agrees follows) rest)
 
 -- of a mark list
-pub agrees_of : (format : Format) (marks : List MarkView) → is_mark_list format marks ≡ true → Agrees format.frames (kind_after None marks) (has_end marks) (last_slot marks) (last_quiet marks)
+pub agrees_of : (format : PacketFormat) (marks : List MarkView) → is_mark_list format marks ≡ true → Agrees format.frames (kind_after None marks) (has_end marks) (last_slot marks) (last_quiet marks)
 agrees_of format marks h = rw (or_false (has_end marks), or_none (last_slot marks), or_none (last_quiet marks)) at (agrees_after format None false None None marks fresh h)
 
 agrees_follow : (frames : ℕ) (last : Option MarkKind) (e : Bool) (s : Option LastSlot) (q : Option ℤ) (next : MarkKind) → Agrees frames last e s q → can_follow frames last next ≡ can_follow frames (last_kind e s q) next
@@ -119,7 +119,7 @@ agrees_follow frames last e s q End (slot e0 n0 m0 b0 q0 le) = refl
 agrees_follow frames last e s q next (ended s0 q0) = refl
 
 -- one mark more is a mark list exactly where it may follow the last
-pub next_is : (format : Format) (marks : List MarkView) (mark : MarkView) → is_mark_list format marks ≡ true
+pub next_is : (format : PacketFormat) (marks : List MarkView) (mark : MarkView) → is_mark_list format marks ≡ true
     → is_mark_list format (marks ++ mark ∷ []) ≡ is_same_format mark.format format && can_follow format.frames (last_kind (has_end marks) (last_slot marks) (last_quiet marks)) mark.kind
 next_is format marks mark h =
     list_more format None marks mark

@@ -16,7 +16,7 @@ use Rattle.rtp_stream.specs.declared.stream_spec.Stream.{Stream}
 use Rattle.rtp_stream.specs.StreamSpecFacts.{format_of}
 use Rattle.rtp_stream.specs.MarkFacts.{MarkView, HasLength, payload_length}
 use Rattle.rtp_stream.specs.MarkList.{can_follow, is_same_format, is_mark_list, is_end, has_end}
-use Rattle.rtp_stream.specs.declared.mark.Format.{Format}
+use Rattle.rtp_stream.specs.declared.mark.PacketFormat.{PacketFormat}
 use Rattle.rtp_stream.specs.declared.mark.Body.{Body}
 use Rattle.rtp_stream.specs.declared.mark.Body.TheVariants.{Lost}
 use Rattle.rtp_stream.specs.declared.mark.MarkKind.TheVariants.{Slot, Quiet, End}
@@ -30,7 +30,7 @@ use Rattle.lane_align.proofs.LaneLemmas.{past, none, distance, times_less, lane_
 use Rattle.lane_align.proofs.FeedLemmas.{last_slot_more, last_quiet_more, has_end_more, sample_among_more, sample_before, sample_past, sample_within, silent_after, body_length, body_in, place_below, slot_later, ahead, behind, place_of}
 
 -- the values of a list and a slot: those of the list before it, and its own from it on
-value_before : (format : Format) (marks : List MarkView) (mark : MarkView) (e n : ℕ) (m : ℤ) (b : Body) (u : ℤ) (k : ℕ) → mark.kind ≡ Slot e n m b → u <ℤ m
+value_before : (format : PacketFormat) (marks : List MarkView) (mark : MarkView) (e n : ℕ) (m : ℤ) (b : Body) (u : ℤ) (k : ℕ) → mark.kind ≡ Slot e n m b → u <ℤ m
     → value_at format (marks ++ mark ∷ []) u k ≡ value_at format marks u k
 value_before format marks mark e n m b u k is_slot early =
     ap (λ o. unwrap_or o (pos 0)) (
@@ -39,7 +39,7 @@ value_before format marks mark e n m b u k is_slot early =
     ∙ ap (λ o. option_or (sample_among format marks u k) (option_or o None)) (sample_before format e n m b u k early)
     ∙ or_none (sample_among format marks u k))
 
-value_from : (format : Format) (marks : List MarkView) (mark : MarkView) (e n : ℕ) (m : ℤ) (b : Body) (u : ℤ) (k : ℕ) → mark.kind ≡ Slot e n m b
+value_from : (format : PacketFormat) (marks : List MarkView) (mark : MarkView) (e n : ℕ) (m : ℤ) (b : Body) (u : ℤ) (k : ℕ) → mark.kind ≡ Slot e n m b
     → is_mark_list format marks ≡ true → IsAfter format.frames (last_slot marks) u
     → value_at format (marks ++ mark ∷ []) u k ≡ unwrap_or (sample_in format (Slot e n m b) u k) (pos 0)
 value_from format marks mark e n m b u k is_slot listed late =
@@ -50,7 +50,7 @@ value_from format marks mark e n m b u k is_slot listed late =
     ∙ ap (λ kind. sample_in format kind u k) is_slot)
 
 -- the samples of a slot by places, from its beginning on
-slot_place : (format : Format) (e n : ℕ) (m : ℤ) (b : Body) (u : ℤ) (i k : ℕ) → HasLength (payload_length format) b → u ≡ m +ℤ pos i → k < format.channels
+slot_place : (format : PacketFormat) (e n : ℕ) (m : ℤ) (b : Body) (u : ℤ) (i k : ℕ) → HasLength (payload_length format) b → u ≡ m +ℤ pos i → k < format.channels
     → get_or (body_samples format b) (i * format.channels + k) (pos 0) ≡ unwrap_or (sample_in format (Slot e n m b) u k) (pos 0)
 slot_place format e n m b u i k fits at lt = elim (cases_lt i format.frames) [
   | inl below ↦
@@ -100,7 +100,7 @@ not_left frames t None f h = tt
 not_left frames t (Some s) f h = elim (distance ((s.media +ℤ pos frames) -ℤ t)) [ past a ↦ omega (arith, ints) | none a y ↦ omega (arith, ints) ]
 
 -- the values by places
-slot_values : (format : Format) (marks : List MarkView) (mark : MarkView) (e n : ℕ) (m : ℤ) (b : Body) (t : ℤ) (slot : Option LastSlot) (xs : List ℤ)
+slot_values : (format : PacketFormat) (marks : List MarkView) (mark : MarkView) (e n : ℕ) (m : ℤ) (b : Body) (t : ℤ) (slot : Option LastSlot) (xs : List ℤ)
     → mark.kind ≡ Slot e n m b → HasLength (payload_length format) b → is_mark_list format marks ≡ true → slot ≡ last_slot marks → IsAfter format.frames slot m
     → length xs ≡ frames_left format.frames t slot * format.channels
     → ((f k : ℕ) → k < format.channels → get_or xs (f * format.channels + k) (pos 0) ≡ value_at format marks (t +ℤ pos f) k)
@@ -155,13 +155,13 @@ fed_slot stream from size lane marks t mark e n m b fed is_slot fits after len l
   ended = fed.ended ∙ sym (has_end_more marks mark ∙ ap (λ kind. ◌||◌ (is_end kind) (has_end marks)) is_slot);
   values =
       let format = format_of stream in
-      let fits' : HasLength (payload_length format) b = subst (λ (g : Format). HasLength (payload_length g) b) fed.format fits in
-      let after' : IsAfter stream.frames lane.slot m = subst (λ (g : Format). IsAfter g.frames lane.slot m) fed.format after in
+      let fits' : HasLength (payload_length format) b = subst (λ (g : PacketFormat). HasLength (payload_length g) b) fed.format fits in
+      let after' : IsAfter stream.frames lane.slot m = subst (λ (g : PacketFormat). IsAfter g.frames lane.slot m) fed.format after in
       let len' : length lane.values ≡ frames_left stream.frames t lane.slot * stream.channels =
-      len ∙ ap (λ (g : Format). frames_left g.frames lane.position lane.slot * g.channels) fed.format ∙ ap (λ p. frames_left stream.frames p lane.slot * stream.channels) fed.position in
+      len ∙ ap (λ (g : PacketFormat). frames_left g.frames lane.position lane.slot * g.channels) fed.format ∙ ap (λ p. frames_left stream.frames p lane.slot * stream.channels) fed.position in
       let values = slot_values format marks mark e n m b t lane.slot lane.values is_slot fits' fed.mark_list fed.slot after' len' fed.values in
       λ f k lt.
-      ap (λ (g : Format). get_or (lane.values ++ (silence g.channels (frames_between lane.position m - frames_left g.frames lane.position lane.slot) ++ drop (frames_between m lane.position * g.channels) (body_samples g b))) (f * stream.channels + k) (pos 0)) fed.format
+      ap (λ (g : PacketFormat). get_or (lane.values ++ (silence g.channels (frames_between lane.position m - frames_left g.frames lane.position lane.slot) ++ drop (frames_between m lane.position * g.channels) (body_samples g b))) (f * stream.channels + k) (pos 0)) fed.format
       ∙ ap (λ p. get_or (lane.values ++ (silence stream.channels (frames_between p m - frames_left stream.frames p lane.slot) ++ drop (frames_between m p * stream.channels) (body_samples format b))) (f * stream.channels + k) (pos 0)) fed.position
       ∙ values f k lt;
 }
@@ -174,7 +174,7 @@ silence_at_front n k xs ys same silent =
     ap (λ k. take k (xs ++ ys)) (sym len) ∙ take-append_seam xs ys ∙ all
 
 -- what is read of a slot, from the first frame that isn't skipped on
-pub slot_part : (format : Format) (body : Body) (samples : List ℤ) (skipped channels frames : ℕ) → channels ≡ format.channels → frames ≡ format.frames
+pub slot_part : (format : PacketFormat) (body : Body) (samples : List ℤ) (skipped channels frames : ℕ) → channels ≡ format.channels → frames ≡ format.frames
     → take (format.frames * format.channels) samples ≡ body_samples format body
     → between (skipped * channels) (frames * channels) samples ≡ drop (skipped * format.channels) (body_samples format body)
 slot_part format body samples skipped channels frames e_channels e_frames e =
@@ -184,7 +184,7 @@ slot_part format body samples skipped channels frames e_channels e_frames e =
     ∙ ap (drop (skipped * format.channels)) e
 
 -- what is added behind what is held
-pub part_added : (held next : Held) (format : Format) (body : Body) (samples : List ℤ) (silent skipped channels frames : ℕ) → channels ≡ format.channels → frames ≡ format.frames
+pub part_added : (held next : Held) (format : PacketFormat) (body : Body) (samples : List ℤ) (silent skipped channels frames : ℕ) → channels ≡ format.channels → frames ≡ format.frames
     → take (format.frames * format.channels) samples ≡ body_samples format body
     → next ≡ record held { values = held.values ++ (silence held.channels silent ++ between (skipped * channels) (frames * channels) samples) }
     → next ≡ record held { values = held.values ++ (silence held.channels silent ++ drop (skipped * format.channels) (body_samples format body)) }
@@ -339,7 +339,7 @@ pub short_gap : (p m : ℤ) → pos 0 ≤ℤ p → m ≤ℤ pos (2 ^ 61) → fra
 short_gap p m h g = elim (distance (m -ℤ p)) [ past a ↦ omega (arith, ints) | none a y ↦ omega (arith, ints) ]
 
 -- a mark that isn't a slot changes no value
-value_same : (format : Format) (marks : List MarkView) (mark : MarkView) (u : ℤ) (k : ℕ) → sample_in format mark.kind u k ≡ None → value_at format (marks ++ mark ∷ []) u k ≡ value_at format marks u k
+value_same : (format : PacketFormat) (marks : List MarkView) (mark : MarkView) (u : ℤ) (k : ℕ) → sample_in format mark.kind u k ≡ None → value_at format (marks ++ mark ∷ []) u k ≡ value_at format marks u k
 value_same format marks mark u k silent =
     ap (λ o. unwrap_or o (pos 0)) (
     sample_among_more format marks (mark ∷ []) u k

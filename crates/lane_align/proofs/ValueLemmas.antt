@@ -5,7 +5,7 @@ use Rattle.std.proofs.lemmas.List.{length-replicate, get_or-replicate, get_or-ta
 use Rattle.std.proofs.lemmas.List.FromFn.{fill_by_all}
 use Rattle.std.specs.List.{range_with_len, flat_map}
 use Rattle.rtp_stream.specs.MarkFacts.{MarkView}
-use Rattle.rtp_stream.specs.declared.mark.Format.{Format}
+use Rattle.rtp_stream.specs.declared.mark.PacketFormat.{PacketFormat}
 use Rattle.lane_align.specs.HeldValues.{first_values}
 use Rattle.lane_align.specs.Value.{value_at, frames_from}
 
@@ -57,7 +57,7 @@ rows p h channels a (suc n) same =
     ∙ ap (λ vs. map (h a) (range_with_len 0 channels) ++ vs) (rows p h channels (a + 1) n same)
 
 -- values that are right at each place are the frames
-pub frames_by_place : (format : Format) (marks : List MarkView) (t : ℤ) (count : ℕ) (xs : List ℤ)
+pub frames_by_place : (format : PacketFormat) (marks : List MarkView) (t : ℤ) (count : ℕ) (xs : List ℤ)
     → ((f k : ℕ) → k < format.channels → get_or xs (f * format.channels + k) (pos 0) ≡ value_at format marks (t +ℤ pos f) k)
     → first_values (count * format.channels) xs ≡ frames_from format marks t count
 frames_by_place format marks t count xs same =

@@ -4,7 +4,7 @@ use Rattle.std.specs.Int.{int_max}
 use Rattle.std.specs.Option.{option_or, option_map}
 use Rattle.rtp_stream.specs.MarkFacts.{MarkView}
 use Rattle.rtp_stream.specs.MarkList.{has_end}
-use Rattle.rtp_stream.specs.declared.mark.Format.{Format}
+use Rattle.rtp_stream.specs.declared.mark.PacketFormat.{PacketFormat}
 use Rattle.rtp_stream.specs.declared.mark.MarkKind.{MarkKind}
 use Rattle.rtp_stream.specs.declared.mark.MarkKind.TheVariants.{Slot, Quiet, End}
 use Rattle.lane_align.specs.declared.cover.Cover.{Cover}
@@ -47,7 +47,7 @@ cover_to false (Some t) = Until t
 cover_to false None = Nothing
 
 -- the cover of a list: all times once it has ended, else those before the time that it reached
-abbrev pub cover_of : Format → List MarkView → Cover
+abbrev pub cover_of : PacketFormat → List MarkView → Cover
 cover_of format marks = cover_to (has_end marks) (time_reached format.frames (last_slot marks) (last_quiet marks))
 
 -- every time before this one is covered
@@ -57,7 +57,7 @@ covers (Until u) t = int_le t u
 covers All t = true
 
 -- the end of a list: the time that it reached, and the start where it reached none
-abbrev pub end_of : Format → ℤ → List MarkView → ℤ
+abbrev pub end_of : PacketFormat → ℤ → List MarkView → ℤ
 end_of format start marks = unwrap_or (time_reached format.frames (last_slot marks) (last_quiet marks)) start
 
 -- where it is a time, it is one that no sum of a few such leaves 64 bits by

@@ -4,7 +4,7 @@ use Rattle.rtp_stream.specs.declared.stream_spec.Stream.{Stream}
 use Rattle.rtp_stream.specs.StreamSpecFacts.{format_of}
 use Rattle.rtp_stream.specs.MarkFacts.{MarkView, IsTime}
 use Rattle.rtp_stream.specs.MarkList.{can_follow, is_same_format, is_mark_list, has_end}
-use Rattle.rtp_stream.specs.declared.mark.Format.{Format}
+use Rattle.rtp_stream.specs.declared.mark.PacketFormat.{PacketFormat}
 use Rattle.rtp_stream.specs.declared.mark.Body.{Body}
 use Rattle.rtp_stream.specs.declared.mark.Body.TheVariants.{Got, Lost}
 use Rattle.rtp_stream.specs.declared.mark.MarkKind.{MarkKind}
@@ -19,7 +19,7 @@ use Rattle.rtp_wire.specs.Sample.{Is24Bits, samples_of}
 
 -- what contracts see of a lane: its facts, its last marks, and the values from its position to the end of its last slot
 pub record LaneState : Type 0 where
-  pub format : Format
+  pub format : PacketFormat
   pub start : ℤ
   pub block : ℕ
   pub position : ℤ
@@ -79,7 +79,7 @@ abbrev pub has_room_for : LaneState → MarkView → Bool
 has_room_for lane mark = nat_le (frames_to lane mark.kind) lane.room
 
 -- the samples of a slot, frame by frame
-abbrev pub body_samples : Format → Body → List ℤ
+abbrev pub body_samples : PacketFormat → Body → List ℤ
 body_samples format (Got payload) = samples_of format.enc payload.items
 body_samples format Lost = silence format.channels format.frames
 

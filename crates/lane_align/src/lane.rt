@@ -46,7 +46,7 @@ use crate::last_slot::{
     LastSlot, frames_before, frames_between, frames_left, may_follow_slot, time_reached_by,
 };
 use crate::slot_samples::{EMPTY_ROOM, SlotRoom, add_slot, append_slot};
-use rtp_stream::{Format, Mark, MarkKindRef, MarkRef, StreamSpec};
+use rtp_stream::{Mark, MarkKindRef, MarkRef, PacketFormat, StreamSpec};
 use rtp_wire::Enc;
 use std::alloc::{AllocError, Global};
 use std::marker::Model;
@@ -58,7 +58,7 @@ use std::marker::Model;
 /// Outputs: `read_block`, once it wants no mark for the block. Readers: `cover`, `end`, `position`.
 #[derive(Drop)]
 pub struct Lane {
-    format: Format,
+    format: PacketFormat,
     start: i64,
     block: u16,
     position: i64,
@@ -84,7 +84,7 @@ impl Model for Lane {
 }
 
 /// Returns true if the samples of two streams have the same layout.
-fn is_same_format(a: Format, b: Format) -> bool
+fn is_same_format(a: PacketFormat, b: PacketFormat) -> bool
     ensures { result ≡ list.is_same_format a b }
 {
     let same_encoding = match (a.enc, b.enc) {
@@ -159,7 +159,7 @@ impl Lane {
     }
 
     /// Returns the layout of the samples in its stream's packets.
-    pub fn format(&self) -> Format
+    pub fn format(&self) -> PacketFormat
         ensures value { result ≡ self.now.format }
         ensures some { 0 < result.channels }
         ensures few { result.channels ≤ 64 }

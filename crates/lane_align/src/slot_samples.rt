@@ -8,7 +8,7 @@ ghost use Rattle.lane_align.specs.HeldValues.{silence};
 ghost use Rattle.lane_align.specs.Lane.{body_samples};
 
 use crate::frame_queue::FrameQueue;
-use rtp_stream::Format;
+use rtp_stream::PacketFormat;
 use rtp_wire::read_samples;
 
 /// The greatest number of samples in a payload: 1,440 octets of 16-bit samples.
@@ -21,7 +21,7 @@ pub(crate) type SlotRoom = [i32; MOST_SAMPLES];
 pub(crate) const EMPTY_ROOM: SlotRoom = [0; MOST_SAMPLES];
 
 /// Reads the samples of a slot, frame by frame, to the front of `room`.
-fn read_slot(room: &mut SlotRoom, format: Format, payload: Option<&[u8]>)
+fn read_slot(room: &mut SlotRoom, format: PacketFormat, payload: Option<&[u8]>)
     requires count { format.frames * format.channels ≤ 720 }
     requires len { HasLength (payload_length format) (body_from (option_copied payload)) }
     ensures samples { take (format.frames * format.channels) room.new
@@ -44,7 +44,7 @@ pub(crate) fn append_slot(
     values: &mut FrameQueue,
     room: &mut SlotRoom,
     silent: usize,
-    format: Format,
+    format: PacketFormat,
     payload: Option<&[u8]>,
     skipped: usize,
 )
@@ -69,7 +69,7 @@ pub(crate) fn add_slot(
     room: &mut SlotRoom,
     silent: usize,
     gap: u64,
-    format: Format,
+    format: PacketFormat,
     payload: Option<&[u8]>,
     skipped: usize,
 )

@@ -19,7 +19,7 @@ use Rattle.rtp_stream.specs.declared.stream_spec.Stream.{Stream}
 use Rattle.rtp_stream.specs.StreamSpecFacts.{format_of}
 use Rattle.rtp_stream.specs.declared.anchor.Anchor.{Anchor}
 use Rattle.rtp_stream.specs.declared.event.Event.{Event}
-use Rattle.rtp_stream.specs.declared.mark.Format.{Format}
+use Rattle.rtp_stream.specs.declared.mark.PacketFormat.{PacketFormat}
 use Rattle.rtp_stream.specs.declared.mark.MarkKind.{MarkKind}
 use Rattle.rtp_stream.specs.declared.mark.MarkKind.TheVariants.{End, Quiet, Slot}
 use Rattle.rtp_stream.specs.declared.packet.Packet.{Packet}
@@ -75,7 +75,7 @@ both true b e = (refl, e)
 both false b e = cc
 
 -- nothing follows the end
-after_end : (format : Format) (marks : List MarkView) → is_mark_list_after format (Some End) marks ≡ true → slot_times marks ≡ []
+after_end : (format : PacketFormat) (marks : List MarkView) → is_mark_list_after format (Some End) marks ≡ true → slot_times marks ≡ []
 after_end format [] e = refl
 after_end format (mark ∷ marks) e = by_format (is_same_format mark.format format) e
   where
@@ -98,12 +98,12 @@ next_slot frames epoch number epoch' number' media media' follows = by_tests (na
     by_tests true true true false false is e = cc
     by_tests true true true true false is e = cc
 
-record HasTimes (format : Format) (last : Option MarkKind) (times : List ℤ) : Type 0 where
+record HasTimes (format : PacketFormat) (last : Option MarkKind) (times : List ℤ) : Type 0 where
   after : FollowsLast format.frames last times
   order : AreInOrder format.frames times
 
 -- in a mark list media time never goes back
-in_order : (format : Format) (last : Option MarkKind) (marks : List MarkView) → is_mark_list_after format last marks ≡ true → HasTimes format last (slot_times marks)
+in_order : (format : PacketFormat) (last : Option MarkKind) (marks : List MarkView) → is_mark_list_after format last marks ≡ true → HasTimes format last (slot_times marks)
 in_order format last [] e = record { after = none last; order = tt }
   where
     none : (last : Option MarkKind) → FollowsLast format.frames last []

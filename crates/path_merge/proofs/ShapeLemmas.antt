@@ -25,7 +25,7 @@ use Rattle.rtp_stream.specs.declared.anchor.Anchor.{Anchor}
 use Rattle.rtp_stream.specs.declared.event.Event.{Event}
 use Rattle.rtp_stream.specs.declared.event.Event.TheVariants.{Arrive, Tick}
 use Rattle.rtp_stream.specs.declared.mark.Body.{Body}
-use Rattle.rtp_stream.specs.declared.mark.Format.{Format}
+use Rattle.rtp_stream.specs.declared.mark.PacketFormat.{PacketFormat}
 use Rattle.rtp_stream.specs.declared.mark.MarkKind.{MarkKind}
 use Rattle.rtp_stream.specs.declared.mark.MarkKind.TheVariants.{End, Quiet, Slot}
 use Rattle.rtp_stream.specs.declared.packet.Packet.{Packet}
@@ -53,11 +53,11 @@ pub and_left : (a b : Bool) → (a && b) ≡ true → a ≡ true
 and_left true b e = refl
 and_left false b e = cc
 
-pub is_mark_list_after-append : (format : Format) (last : Option MarkKind) (xs ys : List MarkView) → is_mark_list_after format last (xs ++ ys) ≡ (is_mark_list_after format last xs && is_mark_list_after format (last_after last xs) ys)
+pub is_mark_list_after-append : (format : PacketFormat) (last : Option MarkKind) (xs ys : List MarkView) → is_mark_list_after format last (xs ++ ys) ≡ (is_mark_list_after format last xs && is_mark_list_after format (last_after last xs) ys)
 is_mark_list_after-append format last [] ys = refl
 is_mark_list_after-append format last (mark ∷ xs) ys = ap (λ b. (is_same_format mark.format format && can_follow format.frames last mark.kind) && b) (is_mark_list_after-append format (Some mark.kind) xs ys) ∙ and_assoc (is_same_format mark.format format && can_follow format.frames last mark.kind) (is_mark_list_after format (Some mark.kind) xs) (is_mark_list_after format (last_after (Some mark.kind) xs) ys)
 
-pub same_format : (format : Format) → is_same_format format format ≡ true
+pub same_format : (format : PacketFormat) → is_same_format format format ≡ true
 same_format format = rw (same_encoding format.enc, itself_eq format.channels, itself_eq format.frames) refl
   where
     same_encoding : (e : Enc) → is_same_encoding e e ≡ true

@@ -54,8 +54,9 @@ pub use laws::{
 };
 pub use merge::Merge;
 pub use rtp_stream::{
-    AdmitFault, Body, Counts, Event, Fate, Format, Mark, MarkKind, MarkKindRef, MarkRef, Packet,
-    PacketRef, Path, Probation, Put, SpecFault, Stream, StreamClock, StreamSpec, near16, near32,
+    AdmitFault, Body, Counts, Event, Fate, Mark, MarkKind, MarkKindRef, MarkRef, Packet,
+    PacketFormat, PacketRef, Path, Probation, Put, SpecFault, Stream, StreamClock, StreamSpec,
+    near16, near32,
 };
 pub use slot_window::SlotWindow;
 pub use sorted_window::SortedWindow;

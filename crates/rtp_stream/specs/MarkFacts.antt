@@ -1,7 +1,7 @@
 -- What is true of every mark.
 use Rattle.std.specs.Prelude.{◌≡◌, ℕ, ◌*◌, ◌^◌, ◌<◌, ◌≤◌, ℤ, pos, neg_ℤ, ◌≤ℤ◌, length}
 use Rattle.rtp_wire.specs.Sample.{octets_per_sample}
-use Rattle.rtp_stream.specs.declared.mark.Format.{Format}
+use Rattle.rtp_stream.specs.declared.mark.PacketFormat.{PacketFormat}
 use Rattle.rtp_stream.specs.declared.mark.Body.{Body}
 use Rattle.rtp_stream.specs.declared.mark.Body.TheVariants.{Got, Lost}
 use Rattle.rtp_stream.specs.declared.mark.MarkKind.{MarkKind}
@@ -9,11 +9,11 @@ use Rattle.rtp_stream.specs.declared.mark.MarkKind.TheVariants.{Slot, Quiet, End
 
 -- what contracts see of a mark
 pub record MarkView : Type 0 where
-  pub format : Format
+  pub format : PacketFormat
   pub kind : MarkKind
 
 -- the octets of a packet's samples
-abbrev pub payload_length : Format → ℕ
+abbrev pub payload_length : PacketFormat → ℕ
 payload_length format = format.frames * format.channels * octets_per_sample format.enc
 
 -- a time that no sum of a few such leaves 64 bits by
@@ -25,7 +25,7 @@ HasLength len (Got payload) = length payload.items ≡ len
 HasLength len Lost = Unit {0}
 
 -- a payload of the format's length, and small times and numbers
-abbrev pub IsMark : Format → MarkKind → Type 0
+abbrev pub IsMark : PacketFormat → MarkKind → Type 0
 IsMark format (Slot epoch number media body) = (epoch < 2 ^ 62) × (number ≤ 2 ^ 61) × IsTime media × HasLength (payload_length format) body
 IsMark format (Quiet until) = IsTime until
 IsMark format End = Unit {0}

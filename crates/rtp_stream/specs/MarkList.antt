@@ -3,7 +3,7 @@ use Rattle.std.specs.Prelude.{ℕ, ◌+◌, Bool, true, false, ◌&&◌, ◌||�
 use Rattle.rtp_wire.specs.declared.encoding.Enc.{Enc}
 use Rattle.rtp_wire.specs.declared.encoding.Enc.TheVariants.{L16, L24}
 use Rattle.rtp_stream.specs.MarkFacts.{MarkView}
-use Rattle.rtp_stream.specs.declared.mark.Format.{Format}
+use Rattle.rtp_stream.specs.declared.mark.PacketFormat.{PacketFormat}
 use Rattle.rtp_stream.specs.declared.mark.MarkKind.{MarkKind}
 use Rattle.rtp_stream.specs.declared.mark.MarkKind.TheVariants.{Slot, Quiet, End}
 
@@ -16,7 +16,7 @@ is_same_encoding L16 L24 = false
 is_same_encoding L24 L16 = false
 is_same_encoding L24 L24 = true
 
-abbrev pub is_same_format : Format → Format → Bool
+abbrev pub is_same_format : PacketFormat → PacketFormat → Bool
 is_same_format f g = is_same_encoding f.enc g.enc && (nat_eq f.channels g.channels && nat_eq f.frames g.frames)
 
 -- a mark may follow the one before it: Quiets come first and rise; the first slot isn't before the last Quiet;
@@ -34,12 +34,12 @@ can_follow frames (Some (Slot epoch number media body)) End = true
 can_follow frames (Some End) next = false
 
 -- each mark has the stream's format, and may follow the one before it
-abbrev pub is_mark_list_after : Format → Option MarkKind → List MarkView → Bool
+abbrev pub is_mark_list_after : PacketFormat → Option MarkKind → List MarkView → Bool
 is_mark_list_after format last [] = true
 is_mark_list_after format last (mark ∷ marks) =
     (is_same_format mark.format format && can_follow format.frames last mark.kind) && is_mark_list_after format (Some mark.kind) marks
 
-abbrev pub is_mark_list : Format → List MarkView → Bool
+abbrev pub is_mark_list : PacketFormat → List MarkView → Bool
 is_mark_list format marks = is_mark_list_after format None marks
 
 abbrev pub is_end : MarkKind → Bool

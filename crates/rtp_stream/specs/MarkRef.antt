@@ -1,7 +1,7 @@
 -- A mark that is lent.
 use Rattle.std.specs.Prelude.{ℕ, ◌≤◌, List, length, Option, Some, None, option_copied}
 use Rattle.rtp_stream.specs.MarkFacts.{IsMark}
-use Rattle.rtp_stream.specs.declared.mark.Format.{Format}
+use Rattle.rtp_stream.specs.declared.mark.PacketFormat.{PacketFormat}
 use Rattle.rtp_stream.specs.declared.mark.Body.{Body}
 use Rattle.rtp_stream.specs.declared.mark.Body.TheVariants.{Got, Lost}
 use Rattle.rtp_stream.specs.declared.mark.MarkKind.{MarkKind}
@@ -31,6 +31,6 @@ HasShortBody (Quiet until) = Unit {0}
 HasShortBody End = Unit {0}
 
 -- what is true of every mark that is lent
-pub record IsMarkRef (format : Format) (kind : MarkKind) : Type 0 where
+pub record IsMarkRef (format : PacketFormat) (kind : MarkKind) : Type 0 where
   pub sound : IsMark format kind
   pub short : HasShortBody kind

@@ -1,13 +1,13 @@
 -- What a stream's specification says, and what is true of every one.
 use Rattle.std.specs.Prelude.{◌≡◌, ℕ, ◌+◌, ◌*◌, ◌^◌, ◌<◌, ◌≤◌, Bool, true, not, ◌&&◌, ◌||◌, nat_eq, nat_lt, nat_le, Option, Some, None, if◌then◌else◌}
 use Rattle.rtp_wire.specs.PacketTime.{is_packet_time}
-use Rattle.rtp_stream.specs.declared.mark.Format.{Format}
+use Rattle.rtp_stream.specs.declared.mark.PacketFormat.{PacketFormat}
 use Rattle.rtp_stream.specs.declared.stream_spec.Stream.{Stream}
 use Rattle.rtp_stream.specs.declared.stream_spec.SpecFault.{SpecFault}
 use Rattle.rtp_stream.specs.declared.stream_spec.SpecFault.TheVariants.{Channels, Frames, PayloadType, TooLong, Window, Latency, Paths}
 use Rattle.rtp_stream.specs.MarkFacts.{payload_length}
 
-abbrev pub format_of : Stream → Format
+abbrev pub format_of : Stream → PacketFormat
 format_of stream = record { enc = stream.enc; channels = stream.channels; frames = stream.frames }
 
 -- a power of two from 8 to 16,384
@@ -15,7 +15,7 @@ abbrev pub is_window : ℕ → Bool
 is_window size = nat_eq size 8 || (nat_eq size 16 || (nat_eq size 32 || (nat_eq size 64 || (nat_eq size 128 || (nat_eq size 256 || (nat_eq size 512 || (nat_eq size 1024 || (nat_eq size 2048 || (nat_eq size 4096 || (nat_eq size 8192 || nat_eq size 16384))))))))))
 
 -- the first fault of a stream's packets
-abbrev pub packets_fault_of : Format → ℕ → Option SpecFault
+abbrev pub packets_fault_of : PacketFormat → ℕ → Option SpecFault
 packets_fault_of format pt =
     if not (nat_le 1 format.channels && nat_le format.channels 64) then Some Channels
     else if not (is_packet_time format.frames && (nat_le format.channels 8 || nat_eq format.frames 6)) then Some Frames

@@ -46,7 +46,7 @@ pub use counts::Counts;
 pub use event::Event;
 pub use extend::{near16, near32};
 pub use fate::Fate;
-pub use mark::{Body, Format, Mark, MarkKind};
+pub use mark::{Body, Mark, MarkKind, PacketFormat};
 pub use mark_ref::{MarkKindRef, MarkRef};
 pub use packet::{Packet, PacketRef};
 pub use path::Path;

@@ -7,7 +7,7 @@ use std::marker::Model;
 
 /// The layout of the samples in a stream's packets. Each mark carries its stream's.
 #[derive(Clone, Copy, Debug, PartialEq, Eq)]
-pub struct Format {
+pub struct PacketFormat {
     /// The encoding of each sample.
     pub enc: Enc,
     /// The number of channels.
@@ -16,7 +16,7 @@ pub struct Format {
     pub frames: u16,
 }
 
-impl Format {
+impl PacketFormat {
     /// Returns the number of octets of a packet's samples.
     pub fn payload_len(self) -> usize
         ensures { result ≡ payload_length self }
@@ -76,7 +76,7 @@ pub enum MarkKind {
 /// One mark of a stream. If it has a payload, its length is exactly that of its format.
 #[derive(Debug, Drop)]
 pub struct Mark {
-    format: Format,
+    format: PacketFormat,
     kind: MarkKind,
 }
 
@@ -95,7 +95,7 @@ impl Mark {
     ghost use Rattle.rtp_stream.specs.declared.mark.MarkKind.TheVariants.{Slot, Quiet, End};
 
     /// Returns the slot of a number, whose first sampling instant is at `media`.
-    pub fn slot(format: Format, epoch: u64, number: u64, media: i64, body: Body) -> Self
+    pub fn slot(format: PacketFormat, epoch: u64, number: u64, media: i64, body: Body) -> Self
         requires epoch { epoch < 2 ^ 62 }
         requires number { number ≤ 2 ^ 61 }
         requires time { IsTime media }
@@ -112,7 +112,7 @@ impl Mark {
     }
 
     /// Returns a Quiet: the stream is known to be silent before this time.
-    pub fn quiet(format: Format, until: i64) -> Self
+    pub fn quiet(format: PacketFormat, until: i64) -> Self
         requires time { IsTime until }
         ensures { result ≡ record { format = format; kind = Quiet until } }
     {
@@ -121,7 +121,7 @@ impl Mark {
     }
 
     /// Returns the end of a stream.
-    pub fn end(format: Format) -> Self
+    pub fn end(format: PacketFormat) -> Self
         ensures { result ≡ record { format = format; kind = End } }
     {
         let kind = MarkKind::End;
@@ -129,7 +129,7 @@ impl Mark {
     }
 
     /// Returns the layout of the samples in its stream's packets.
-    pub fn format(&self) -> Format
+    pub fn format(&self) -> PacketFormat
         ensures { result ≡ self.now.format }
     {
         self.format

@@ -3,7 +3,7 @@ ghost use Rattle.std.specs.Prelude.{◌≡◌, ◌<◌, ◌≤◌, ◌^◌, opti
 ghost use Rattle.rtp_stream.specs.MarkFacts.{payload_length};
 ghost use Rattle.rtp_stream.specs.MarkRef.{body_from, IsShort};
 
-use crate::mark::{Body, Format, Mark, MarkKind};
+use crate::mark::{Body, Mark, MarkKind, PacketFormat};
 use rtp_wire::Payload;
 use std::marker::Model;
 
@@ -33,7 +33,7 @@ pub enum MarkKindRef<'a> {
 /// payload.
 #[derive(Debug, Drop)]
 pub struct MarkRef<'a> {
-    format: Format,
+    format: PacketFormat,
     kind: MarkKindRef<'a>,
 }
 
@@ -56,7 +56,7 @@ impl<'a> MarkRef<'a> {
     /// Returns the slot of a number, whose first sampling instant is at `media`.
     #[inline]
     pub fn slot(
-        format: Format,
+        format: PacketFormat,
         epoch: u64,
         number: u64,
         media: i64,
@@ -81,7 +81,7 @@ impl<'a> MarkRef<'a> {
 
     /// Returns a Quiet: the stream is known to be silent before this time.
     #[inline]
-    pub fn quiet(format: Format, until: i64) -> MarkRef<'a>
+    pub fn quiet(format: PacketFormat, until: i64) -> MarkRef<'a>
         requires time { IsTime until }
         ensures { result ≡ record { format = format; kind = Quiet until } }
     {
@@ -91,7 +91,7 @@ impl<'a> MarkRef<'a> {
 
     /// Returns the end of a stream.
     #[inline]
-    pub fn end(format: Format) -> MarkRef<'a>
+    pub fn end(format: PacketFormat) -> MarkRef<'a>
         ensures { result ≡ record { format = format; kind = End } }
     {
         let kind = MarkKindRef::End;
@@ -100,7 +100,7 @@ impl<'a> MarkRef<'a> {
 
     /// Returns the layout of the samples in its stream's packets.
     #[inline]
-    pub fn format(&self) -> Format
+    pub fn format(&self) -> PacketFormat
         ensures { result ≡ self.now.format }
     {
         self.format

@@ -6,7 +6,7 @@ ghost use Rattle.rtp_stream.specs.StreamSpecFacts.{IsStream, HasNoFault, spec_fa
 ghost use Rattle.rtp_stream.specs.MarkFacts.{payload_length};
 ghost use Rattle.rtp_stream.specs.PacketRef.{packet_of};
 
-use crate::mark::Format;
+use crate::mark::PacketFormat;
 use crate::packet::{Packet, PacketRef};
 use rtp_wire::{Enc, RtpView, is_packet_time};
 use std::marker::Model;
@@ -85,10 +85,10 @@ pub struct Stream {
 
 impl Stream {
     /// Returns the layout of the samples in its packets.
-    pub fn format(&self) -> Format
+    pub fn format(&self) -> PacketFormat
         ensures { result ≡ format_of self.now }
     {
-        Format {
+        PacketFormat {
             enc: self.enc,
             channels: self.channels,
             frames: self.frames,
@@ -135,7 +135,7 @@ fn is_window(packets: u16) -> bool
 }
 
 /// Returns the first fault of a stream's packets.
-fn check_packets(format: Format, pt: u8) -> Result<(), SpecFault>
+fn check_packets(format: PacketFormat, pt: u8) -> Result<(), SpecFault>
     ensures ok { OnOk result (spec.packets_fault_of format pt ≡ None) }
     ensures fault { IfErr result (λ e. spec.packets_fault_of format pt ≡ Some e) }
 {
@@ -223,7 +223,7 @@ impl StreamSpec {
     }
 
     /// Returns the layout of the samples in its packets.
-    pub fn format(&self) -> Format
+    pub fn format(&self) -> PacketFormat
         ensures value { result ≡ format_of self.now }
         ensures sound { IsStream self.now }
     {

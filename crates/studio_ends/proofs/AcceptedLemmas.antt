@@ -7,7 +7,7 @@ use Rattle.rtrb.specs.Ring.{received, known_items, SameConsumer}
 use Rattle.rtp_stream.specs.StreamSpecFacts.{format_of}
 use Rattle.rtp_stream.specs.MarkFacts.{MarkView}
 use Rattle.rtp_stream.specs.MarkList.{is_mark_list}
-use Rattle.rtp_stream.specs.declared.mark.Format.{Format}
+use Rattle.rtp_stream.specs.declared.mark.PacketFormat.{PacketFormat}
 use Rattle.studio_config.specs.Studio.{Studio}
 use Rattle.studio_mix.specs.Feed.{Feed}
 use Rattle.studio_mix.specs.Mixer.{MixerState, HasFeeds}
@@ -18,7 +18,7 @@ use Rattle.studio_ends.specs.MarksIn.{TakesMarks, TakesWanted, fed_more}
 use Rattle.studio_ends.specs.declared.rings.TokenConsumer.{TokenConsumer}
 use Rattle.studio_ends.proofs.TurnLemmas.{consumers}
 
-pub accepted_after-append : (format : Format) (before xs ys : List MarkView) → accepted_after format before (xs ++ ys) ≡ accepted_after format (accepted_after format before xs) ys
+pub accepted_after-append : (format : PacketFormat) (before xs ys : List MarkView) → accepted_after format before (xs ++ ys) ≡ accepted_after format (accepted_after format before xs) ys
 accepted_after-append format before [] ys = refl
 accepted_after-append format before (x ∷ xs) ys = accepted_after-append format (accepted_with format before x) xs ys
 

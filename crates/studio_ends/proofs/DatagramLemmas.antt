@@ -10,7 +10,7 @@ use Rattle.rtp_stream.specs.declared.stream_spec.Stream.{Stream}
 use Rattle.rtp_stream.specs.StreamSpecFacts.{format_of}
 use Rattle.rtp_stream.specs.MarkFacts.{MarkView}
 use Rattle.rtp_stream.specs.MarkList.{is_mark_list}
-use Rattle.rtp_stream.specs.declared.mark.Format.{Format}
+use Rattle.rtp_stream.specs.declared.mark.PacketFormat.{PacketFormat}
 use Rattle.lane_align.specs.AcceptedMarks.{accepted_after, accepted_marks}
 use Rattle.lane_align.proofs.LawLemmas.{accepted_all, accepted_listed}
 use Rattle.mix_packets.specs.OutSpec.{datagram_length}
@@ -38,7 +38,7 @@ grown_by : (b : Bool) (before : List MarkView) (x : MarkView) (after : List Mark
 grown_by true before x after rest = let r = rest (before ++ x ∷ []) in (x ∷ r.0, r.1 ∙ append_assoc before (x ∷ []) r.0)
 grown_by false before x after rest = rest before
 
-grown : (format : Format) (before xs : List MarkView) → (more : List MarkView) × (accepted_after format before xs ≡ before ++ more)
+grown : (format : PacketFormat) (before xs : List MarkView) → (more : List MarkView) × (accepted_after format before xs ≡ before ++ more)
 grown format before [] = ([], sym (append-nil before))
 grown format before (x ∷ xs) = grown_by (is_mark_list format (before ++ x ∷ [])) before x (λ l. accepted_after format l xs) (λ l. grown format l xs)
 

@@ -4,7 +4,7 @@ use Rattle.rtp_stream.specs.MarkFacts.{MarkView}
 use Rattle.rtp_stream.specs.Marks.{quiet_mark}
 use Rattle.rtp_stream.specs.StreamSpecFacts.{format_of}
 use Rattle.rtp_stream.specs.declared.anchor.Anchor.{Anchor}
-use Rattle.rtp_stream.specs.declared.mark.Format.{Format}
+use Rattle.rtp_stream.specs.declared.mark.PacketFormat.{PacketFormat}
 use Rattle.path_merge.specs.Goal.{next_to}
 use Rattle.path_merge.specs.MergeState.{MergeState}
 use Rattle.path_merge.specs.NextMark.{anchor_due, anchor_after_close, slot_or_end, slot_or_quiet}
@@ -12,11 +12,11 @@ use Rattle.path_merge.specs.declared.goal.Goal.{Goal}
 use Rattle.path_merge.specs.declared.goal.Goal.TheVariants.{End, Reading}
 
 -- a mark's format, or another
-abbrev format_or : Format → Option MarkView → Format
+abbrev format_or : PacketFormat → Option MarkView → PacketFormat
 format_or format None = format
 format_or format (Some mark) = mark.format
 
-either : (format : Format) (b : Bool) (some : Option MarkView) → format_or format some ≡ format → format_or format (if b then some else None) ≡ format
+either : (format : PacketFormat) (b : Bool) (some : Option MarkView) → format_or format some ≡ format → format_or format (if b then some else None) ≡ format
 either format true some h = h
 either format false some h = refl
 
@@ -28,7 +28,7 @@ at_end : (m : MergeState) (anchor : Option Anchor) → (slot_or_end m anchor).fo
 at_end m (Some anchor) = refl
 at_end m None = refl
 
-left : (format : Format) (closed ended : Bool) (mark : MarkView) → mark.format ≡ format → format_or format (if closed then (if ended then None else Some mark) else None) ≡ format
+left : (format : PacketFormat) (closed ended : Bool) (mark : MarkView) → mark.format ≡ format → format_or format (if closed then (if ended then None else Some mark) else None) ≡ format
 left format true true mark h = refl
 left format true false mark h = h
 left format false ended mark h = refl

@@ -4,7 +4,7 @@ use Rattle.std.proofs.lemmas.List.{length-drop}
 use Rattle.std.proofs.lemmas.Slice.{drop-append-drop}
 use Rattle.std.proofs.Math.Seq.{take-append_seam}
 use Rattle.rtp_stream.specs.MarkFacts.{IsMark, payload_length}
-use Rattle.rtp_stream.specs.declared.mark.Format.{Format}
+use Rattle.rtp_stream.specs.declared.mark.PacketFormat.{PacketFormat}
 use Rattle.rtp_stream.specs.declared.mark.Body.TheVariants.{Got, Lost}
 use Rattle.rtp_stream.specs.declared.mark.MarkKind.{MarkKind}
 use Rattle.rtp_stream.specs.declared.mark.MarkKind.TheVariants.{Slot, Quiet, End}
@@ -31,7 +31,7 @@ pub written_is : (len k : ℕ) (before front : List ℕ) → len ≡ k → lengt
 written_is len k before front same e = ap (λ n. take n (front ++ drop k before)) (same ∙ sym e) ∙ take-append_seam front (drop k before)
 
 -- where the format's payloads have room, each mark has
-pub mark_within : (size : ℕ) (format : Format) (kind : MarkKind) → IsMark format kind → payload_length format ≤ size → IsWithin size kind
+pub mark_within : (size : ℕ) (format : PacketFormat) (kind : MarkKind) → IsMark format kind → payload_length format ≤ size → IsWithin size kind
 mark_within size format (Slot epoch number media (Got payload)) sound room = rw sound.3 room
 mark_within size format (Slot epoch number media Lost) sound room = omega arith
 mark_within size format (Quiet until) sound room = omega arith

@@ -1,6 +1,6 @@
 -- A mark whose octets lie in a room.
 use Rattle.std.proofs.Common.{◌≡◌, ℕ, ◌≤◌, List, [], length, refl}
-use Rattle.rtp_stream.specs.declared.mark.Format.{Format}
+use Rattle.rtp_stream.specs.declared.mark.PacketFormat.{PacketFormat}
 use Rattle.rtp_stream.specs.declared.mark.Body.TheVariants.{Got as GotBody, Lost as LostBody}
 use Rattle.rtp_stream.specs.declared.mark.MarkKind.{MarkKind}
 use Rattle.rtp_stream.specs.declared.mark.MarkKind.TheVariants.{Slot, Quiet, End}
@@ -35,7 +35,7 @@ abbrev pub IsWithin : ℕ → MarkKind → Type 0
 IsWithin size kind = length (octets_in kind) ≤ size
 
 -- a mark, and nothing in the room where it got nothing
-pub record IsMarkRoom (format : Format) (said : MarkHeader) (octets : List ℕ) : Type 0 where
+pub record IsMarkRoom (format : PacketFormat) (said : MarkHeader) (octets : List ℕ) : Type 0 where
   pub sound : IsMark format (kind_in said octets)
   pub short : HasShortBody (kind_in said octets)
   pub blank : octets_in (kind_in said octets) ≡ octets

@@ -4,7 +4,7 @@ ghost use Rattle.rtrb.specs.Ring.{Finishes, ProducerLooked, SameProducer, known_
 ghost use Rattle.rtp_stream.specs.MarkFacts.{payload_length};
 
 use crate::rings::mark_cell::MarkCell;
-use path_merge::{Format, MarkRef};
+use path_merge::{MarkRef, PacketFormat};
 use rtrb::{Finished, Producer};
 use std::marker::Model;
 
@@ -30,7 +30,7 @@ impl<const N: usize> Model for SizedMarkProducer<N> {
 
 impl<const N: usize> SizedMarkProducer<N> {
     /// A pushing end over this ring, for marks of this format.
-    pub(crate) fn new(ring: Producer<MarkCell<N>>, format: Format) -> SizedMarkProducer<N>
+    pub(crate) fn new(ring: Producer<MarkCell<N>>, format: PacketFormat) -> SizedMarkProducer<N>
         ensures { result ≡ ring.entry }
     {
         SizedMarkProducer {

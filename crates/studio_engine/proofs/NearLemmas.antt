@@ -11,7 +11,7 @@ use Rattle.std.proofs.lemmas.Option.{slice_get-map}
 use Rattle.rtp_stream.specs.declared.stream_spec.Stream.{Stream}
 use Rattle.rtp_stream.specs.declared.event.Event.{Event}
 use Rattle.rtp_stream.specs.declared.event.Event.TheVariants.{Tick}
-use Rattle.rtp_stream.specs.declared.mark.Format.{Format}
+use Rattle.rtp_stream.specs.declared.mark.PacketFormat.{PacketFormat}
 use Rattle.rtp_stream.specs.declared.mark.MarkKind.{MarkKind}
 use Rattle.rtp_stream.specs.declared.mark.MarkKind.TheVariants.{End, Quiet, Slot}
 use Rattle.rtp_stream.specs.declared.reception.Reception.{Reception}
@@ -124,7 +124,7 @@ last_reached frames t (mark ∷ next ∷ marks) reaches =
     reached_more frames t (last_slot (next ∷ marks)) (slot_of mark.kind) (last_quiet (next ∷ marks)) (quiet_of mark.kind) (last_reached frames t (next ∷ marks) reaches)
 
 -- so every time before it is covered
-covered : (format : Format) (t limit : ℤ) (marks : List MarkView) → t ≤ℤ limit → LastReaches format.frames limit (last_of marks) → covers (cover_of format marks) t ≡ true
+covered : (format : PacketFormat) (t limit : ℤ) (marks : List MarkView) → t ≤ℤ limit → LastReaches format.frames limit (last_of marks) → covers (cover_of format marks) t ≡ true
 covered format t limit marks le reaches = by_end (has_end marks) (time_reached format.frames (last_slot marks) (last_quiet marks)) (last_reached format.frames limit marks reaches)
   where
     by_end : (ended : Bool) (reached : Option ℤ) → IsReached limit reached → covers (cover_to ended reached) t ≡ true
@@ -180,7 +180,7 @@ room_for : (stream : Stream) (lane : LaneState) (lag block : ℕ) (open_at time 
 room_for stream lane lag block open_at time begins mark format position room near due = by_kind mark.kind due
   where
     frames : lane.format.frames ≡ stream.frames
-    frames = ap (λ (f : Format). f.frames) format
+    frames = ap (λ (f : PacketFormat). f.frames) format
 
     by_kind : (kind : MarkKind) → IsDue stream open_at time kind → nat_le (frames_to lane kind) lane.room ≡ true
     by_kind (Slot epoch number media body) d =

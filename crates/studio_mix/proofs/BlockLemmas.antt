@@ -11,7 +11,7 @@ use Rattle.std.proofs.Math.Seq.{map-set_same}
 use Rattle.rtp_stream.specs.declared.stream_spec.Stream.{Stream}
 use Rattle.rtp_stream.specs.StreamSpecFacts.{format_of}
 use Rattle.rtp_stream.specs.MarkFacts.{MarkView}
-use Rattle.rtp_stream.specs.declared.mark.Format.{Format}
+use Rattle.rtp_stream.specs.declared.mark.PacketFormat.{PacketFormat}
 use Rattle.lane_align.specs.Value.{frame_at, frames_from, value_at}
 use Rattle.lane_align.specs.Lane.{LaneState, HasFeed, HasSameFacts}
 use Rattle.gain_mix.specs.Mix.{Is24Bits}
@@ -71,7 +71,7 @@ values_more feeds i feed t at =
     ∙ flat_map-append (λ (g : Feed). frame_at (format_of g.stream) g.marks t) (take i feeds) (feed ∷ [])
     ∙ ap (λ l. studio_values (take i feeds) t ++ l) (append-nil (frame_at (format_of feed.stream) feed.marks t))
 
-frame_length : (format : Format) (marks : List MarkView) (t : ℤ) → length (frame_at format marks t) ≡ format.channels
+frame_length : (format : PacketFormat) (marks : List MarkView) (t : ℤ) → length (frame_at format marks t) ≡ format.channels
 frame_length format marks t = length-map-range_with_len (value_at format marks t) 0 format.channels
 
 -- a lane's frame among the values of a block
@@ -116,8 +116,8 @@ read_more first lanes ins laid frames width at i c lane next values before h is 
           let there : IsLaneAt frames (time +ℤ pos frames) next = record {
             block = reads.facts.block ∙ here.block;
             position = reads.position ∙ ap (λ p. p +ℤ pos lane.block) here.position ∙ ap (λ b. time +ℤ pos b) here.block;
-            some_channels = subst (λ (f : Format). 0 < f.channels) (sym facts) here.some_channels;
-            few_channels = subst (λ (f : Format). f.channels ≤ 64) (sym facts) here.few_channels;
+            some_channels = subst (λ (f : PacketFormat). 0 < f.channels) (sym facts) here.some_channels;
+            few_channels = subst (λ (f : PacketFormat). f.channels ≤ 64) (sym facts) here.few_channels;
           } in
           let all : (k : ℕ) → k < i + 1 → P k = below_more P i
           (λ k g d l. subst (IsLaneAt frames (time +ℤ pos frames)) (sym (get_or-set_other lanes i k next d (omega arith))) (before.moved time each k d g (let e : length (set lanes i next) ≡ length lanes = length-set lanes i next in omega arith)))
@@ -125,7 +125,7 @@ read_more first lanes ins laid frames width at i c lane next values before h is 
           λ k d g l. all k g d l;
       channels = (let e = sum_by-set (λ (l : LaneState). l.format.channels) lanes i next lane within in
           let f : lane_channels (set lanes i next) + lane.format.channels ≡ lane_channels lanes + next.format.channels = ap (λ (l : LaneState). lane_channels (set lanes i next) + l.format.channels) is ∙ e in
-          let g : next.format.channels ≡ lane.format.channels = ap (λ (f : Format). f.channels) facts in
+          let g : next.format.channels ≡ lane.format.channels = ap (λ (f : PacketFormat). f.channels) facts in
           let r : lane_channels (set lanes i next) ≡ lane_channels lanes = omega (arith, f, g) in r) ∙ before.channels;
       rooms = map-set_same (λ (l : LaneState). l.room) lanes i next lane (reads.facts.room ∙ ap (λ (l : LaneState). l.room) is) ∙ before.rooms;
       fed = λ from feeds t fed.
@@ -147,7 +147,7 @@ read_more first lanes ins laid frames width at i c lane next values before h is 
           let is_fed : HasFeed feed.stream from frames lane feed.marks t = subst (HasFeed feed.stream from frames lane feed.marks) (not_moved t frames i i (omega arith)) (fed_at from frames lanes feeds (moved_to t frames i) i lane feed so_far is found.1) in
           lays f g
           ∙ ap (λ l. l ++ take c (drop (f * c) values)) (before.laid from feeds t fed f g)
-          ∙ ap (λ l. studio_values (take i feeds) (t +ℤ pos f) ++ l) (frame_of feed.stream feed.marks t frames c f values (reads.wide ∙ ap (λ (f : Format). f.channels) is_fed.format) g (reads.values feed.stream from feed.marks t is_fed))
+          ∙ ap (λ l. studio_values (take i feeds) (t +ℤ pos f) ++ l) (frame_of feed.stream feed.marks t frames c f values (reads.wide ∙ ap (λ (f : PacketFormat). f.channels) is_fed.format) g (reads.values feed.stream from feed.marks t is_fed))
           ∙ sym (values_more feeds i feed (t +ℤ pos f) found.1);
       in_24_bits = in_24_bits;
     }

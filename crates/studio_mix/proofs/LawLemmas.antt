@@ -11,7 +11,7 @@ use Rattle.rtp_stream.specs.declared.stream_spec.Stream.{Stream}
 use Rattle.rtp_stream.specs.StreamSpecFacts.{format_of}
 use Rattle.rtp_stream.specs.MarkFacts.{MarkView}
 use Rattle.rtp_stream.specs.MarkList.{is_mark_list, is_end, has_end}
-use Rattle.rtp_stream.specs.declared.mark.Format.{Format}
+use Rattle.rtp_stream.specs.declared.mark.PacketFormat.{PacketFormat}
 use Rattle.rtp_stream.specs.declared.mark.MarkKind.{MarkKind}
 use Rattle.rtp_stream.specs.declared.mark.MarkKind.TheVariants.{Slot, Quiet, End}
 use Rattle.lane_align.specs.declared.cover.Cover.{Cover}
@@ -148,7 +148,7 @@ end_quiet (Slot epoch number media body) h = absurd (false≢true h)
 end_quiet (Quiet until) h = absurd (false≢true h)
 end_quiet End h = refl
 
-end_reaches : (format : Format) (start : ℤ) (marks more : List MarkView) (t : ℤ) → is_mark_list format (marks ++ more) ≡ true
+end_reaches : (format : PacketFormat) (start : ℤ) (marks more : List MarkView) (t : ℤ) → is_mark_list format (marks ++ more) ≡ true
     → has_end marks ≡ false → covers (cover_of format marks) t ≡ true → t ≤ℤ end_of format start (marks ++ more)
 end_reaches format start marks [] t listed going covered =
     subst (λ l. t ≤ℤ end_of format start l) (sym (append-nil marks))

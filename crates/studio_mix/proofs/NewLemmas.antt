@@ -9,7 +9,7 @@ use Rattle.std.proofs.lemmas.List.{length_push, length-map, get_or-map, get_or_a
 use Rattle.std.proofs.lemmas.List.Elements.{All-push}
 use Rattle.std.proofs.lemmas.List.Sums.{sum_by_more, sum_by_push}
 use Rattle.rtp_stream.specs.declared.stream_spec.Stream.{Stream}
-use Rattle.rtp_stream.specs.declared.mark.Format.{Format}
+use Rattle.rtp_stream.specs.declared.mark.PacketFormat.{PacketFormat}
 use Rattle.lane_align.specs.Lane.{LaneState, HasFeed}
 use Rattle.studio_config.specs.Studio.{channel_total}
 use Rattle.studio_mix.specs.Feed.{Feed, unfed}
@@ -35,7 +35,7 @@ new_more start block lag streams lanes i stream lane before h is new room some f
       channels =
           sum_by_push (λ (l : LaneState). l.format.channels) lanes lane
           ∙ ap (λ k. k + lane.format.channels) before.channels
-          ∙ ap (λ k. channel_total (take i streams) + k) (ap (λ (f : Format). f.channels) new.format ∙ ap (λ (s : Stream). s.channels) is)
+          ∙ ap (λ k. channel_total (take i streams) + k) (ap (λ (f : PacketFormat). f.channels) new.format ∙ ap (λ (s : Stream). s.channels) is)
           ∙ sym (sum_by_more (λ (s : Stream). s.channels) streams i stream h);
       rooms =
           map_push (λ (l : LaneState). l.room) lanes lane

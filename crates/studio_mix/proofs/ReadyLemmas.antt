@@ -11,7 +11,7 @@ use Rattle.std.proofs.lemmas.Bool.Decides.{nat_tests}
 use Rattle.rtp_stream.specs.declared.stream_spec.Stream.{Stream}
 use Rattle.rtp_stream.specs.StreamSpecFacts.{format_of}
 use Rattle.rtp_stream.specs.MarkFacts.{MarkView}
-use Rattle.rtp_stream.specs.declared.mark.Format.{Format}
+use Rattle.rtp_stream.specs.declared.mark.PacketFormat.{PacketFormat}
 use Rattle.lane_align.specs.declared.cover.Cover.TheVariants.{Nothing, Until, All}
 use Rattle.rtp_stream.specs.MarkList.{has_end}
 use Rattle.lane_align.specs.Cover.{covers, cover_of, cover_to, end_of, last_slot, last_quiet, time_reached}
@@ -51,14 +51,14 @@ not_past time lane e h =
 -- what a lane says is what its marks say
 cover_is : (stream : Stream) (from : ℤ) (size : ℕ) (lane : LaneState) (marks : List MarkView) (t : ℤ) → HasFeed stream from size lane marks t → cover_at lane ≡ cover_of (format_of stream) marks
 cover_is stream from size lane marks t fed =
-    ap (λ (f : Format). cover_to lane.ended (time_reached f.frames lane.slot lane.quiet)) fed.format
+    ap (λ (f : PacketFormat). cover_to lane.ended (time_reached f.frames lane.slot lane.quiet)) fed.format
     ∙ ap (λ e. cover_to e (time_reached stream.frames lane.slot lane.quiet)) fed.ended
     ∙ ap (λ s. cover_to (has_end marks) (time_reached stream.frames s lane.quiet)) fed.slot
     ∙ ap (λ q. cover_to (has_end marks) (time_reached stream.frames (last_slot marks) q)) fed.quiet
 
 end_is : (stream : Stream) (from : ℤ) (size : ℕ) (lane : LaneState) (marks : List MarkView) (t : ℤ) → HasFeed stream from size lane marks t → end_at lane ≡ end_of (format_of stream) from marks
 end_is stream from size lane marks t fed =
-    ap (λ (f : Format). unwrap_or (time_reached f.frames lane.slot lane.quiet) lane.start) fed.format
+    ap (λ (f : PacketFormat). unwrap_or (time_reached f.frames lane.slot lane.quiet) lane.start) fed.format
     ∙ ap (λ s. unwrap_or (time_reached stream.frames s lane.quiet) lane.start) fed.slot
     ∙ ap (λ q. unwrap_or (time_reached stream.frames (last_slot marks) q) lane.start) fed.quiet
     ∙ ap (unwrap_or (time_reached stream.frames (last_slot marks) (last_quiet marks))) fed.start

@@ -15,7 +15,7 @@ use Rattle.rtp_stream.specs.Reception.{is_any, is_bad, is_sent, is_wrong_length,
 use Rattle.rtp_stream.specs.StreamSpecFacts.{format_of}
 use Rattle.rtp_stream.specs.declared.event.Event.TheVariants.{Tick}
 use Rattle.rtp_stream.specs.declared.fate.Fate.{Fate}
-use Rattle.rtp_stream.specs.declared.mark.Format.{Format}
+use Rattle.rtp_stream.specs.declared.mark.PacketFormat.{PacketFormat}
 use Rattle.rtp_stream.specs.declared.reception.Reception.{Reception}
 use Rattle.rtp_stream.specs.declared.stream_spec.Stream.{Stream}
 use Rattle.path_merge.proofs.HistoryLemmas.{time_of-append}
@@ -114,7 +114,7 @@ paths_without stream number first rest a (suc count) =
     ∙ ap (λ t. path_tallies stream number (first ++ rest) count ++ t ∷ []) (path_without stream number count first rest a)
 
 -- the counts of the same fates, and of marks that are alike
-tallies_alike : (format : Format) (fates others : List (ℕ × Fate)) (long short : List MarkView) → fates ≡ others → AreAlike format long short → tally_of_fates fates long ≡ tally_of_fates others short
+tallies_alike : (format : PacketFormat) (fates others : List (ℕ × Fate)) (long short : List MarkView) → fates ≡ others → AreAlike format long short → tally_of_fates fates long ≡ tally_of_fates others short
 tallies_alike format fates others long short same alike =
     ap (λ f. tally_of_fates f long) same
     ∙ ap (λ n. record (tally_of_fates others long) { got = n; lost = count_by (λ mark. is_lost mark.kind) long }) alike.got

@@ -11,7 +11,7 @@ use Rattle.rtp_stream.specs.MarkFacts.{MarkView}
 use Rattle.rtp_stream.specs.MarkList.{can_follow, has_end, is_end, is_mark_list, is_mark_list_after, is_same_format}
 use Rattle.rtp_stream.specs.Marks.{has_slot, is_past_quiet, is_past_quiets, is_quiet_new, is_slot, quiet_mark, slots_or_quiet}
 use Rattle.rtp_stream.specs.declared.mark.Body.{Body}
-use Rattle.rtp_stream.specs.declared.mark.Format.{Format}
+use Rattle.rtp_stream.specs.declared.mark.PacketFormat.{PacketFormat}
 use Rattle.rtp_stream.specs.declared.mark.MarkKind.{MarkKind}
 use Rattle.rtp_stream.specs.declared.mark.MarkKind.TheVariants.{End, Quiet, Slot}
 use Rattle.rtp_stream.specs.declared.stream_spec.Stream.{Stream}
@@ -77,7 +77,7 @@ module _ (stream : Stream) (until : ℤ) (rest : List MarkView) where
       none n = omega arith
   count_with p not_it (x ∷ first) = count_by-first p x (first ++ quiet_mark stream until ∷ rest) ∙ ap (λ n. cond (p x) 1 0 + n) (count_with p not_it first) ∙ sym (count_by-first p x (first ++ rest))
 
-  samples_with : (format : Format) (t : ℤ) (k : ℕ) (first : List MarkView) → sample_among format (first ++ quiet_mark stream until ∷ rest) t k ≡ sample_among format (first ++ rest) t k
+  samples_with : (format : PacketFormat) (t : ℤ) (k : ℕ) (first : List MarkView) → sample_among format (first ++ quiet_mark stream until ∷ rest) t k ≡ sample_among format (first ++ rest) t k
   samples_with format t k [] = refl
   samples_with format t k (x ∷ first) = ap (λ o. option_or (sample_in format x.kind t k) o) (samples_with format t k first)
 
@@ -267,7 +267,7 @@ bounded_within frames last s q (quiet u) = tt
 bounded_within frames last s q (slot e n m b r within) = within
 bounded_within frames last s q (ended s0 q0 within) = within
 
-all_within : (format : Format) (last : Option MarkKind) (s : Option LastSlot) (q : Option ℤ) (marks : List MarkView) → Bounded format.frames last s q → is_mark_list_after format last marks ≡ true
+all_within : (format : PacketFormat) (last : Option MarkKind) (s : Option LastSlot) (q : Option ℤ) (marks : List MarkView) → Bounded format.frames last s q → is_mark_list_after format last marks ≡ true
     → IsWithin format.frames (option_or (last_slot marks) s) (option_or (last_quiet marks) q)
 all_within format last s q [] bounded h = bounded_within format.frames last s q bounded
 all_within format last s q (x ∷ marks) bounded h =
@@ -277,7 +277,7 @@ all_within format last s q (x ∷ marks) bounded h =
     rw (or_assoc (last_slot marks) (slot_of x.kind) s, or_assoc (last_quiet marks) (quiet_of x.kind) q)
     (all_within format (Some x.kind) (option_or (slot_of x.kind) s) (option_or (quiet_of x.kind) q) marks (bounded_next format.frames last s q x.kind bounded follows) rest)
 
-within_of : (format : Format) (marks : List MarkView) → is_mark_list format marks ≡ true → IsWithin format.frames (last_slot marks) (last_quiet marks)
+within_of : (format : PacketFormat) (marks : List MarkView) → is_mark_list format marks ≡ true → IsWithin format.frames (last_slot marks) (last_quiet marks)
 within_of format marks h = rw (or_none (last_slot marks), or_none (last_quiet marks)) at (all_within format None None None marks fresh h)
 
 -- so the last slot alone says how far a list reaches, where it has one
@@ -309,7 +309,7 @@ quiet_alike stream first until x rest (Quiet later) is past none = last_quiet_wi
 quiet_alike stream first until x rest End is past none = absurd past
 
 -- what both lists say of values, ends and counts
-pub record AreAlike (format : Format) (long short : List MarkView) : Type 0 where
+pub record AreAlike (format : PacketFormat) (long short : List MarkView) : Type 0 where
   pub ended : has_end long ≡ has_end short
   pub cover : cover_of format long ≡ cover_of format short
   pub end : (start : ℤ) → end_of format start long ≡ end_of format start short
@@ -317,14 +317,14 @@ pub record AreAlike (format : Format) (long short : List MarkView) : Type 0 wher
   pub got : count_by (λ mark. is_got mark.kind) long ≡ count_by (λ mark. is_got mark.kind) short
   pub lost : count_by (λ mark. is_lost mark.kind) long ≡ count_by (λ mark. is_lost mark.kind) short
 
-alike-refl : (format : Format) (marks : List MarkView) → AreAlike format marks marks
+alike-refl : (format : PacketFormat) (marks : List MarkView) → AreAlike format marks marks
 alike-refl format marks = record { ended = refl; cover = refl; end = λ start. refl; frames = λ t. refl; got = refl; lost = refl }
 
 map_same : {X Y : Type 0} (f g : X → Y) (xs : List X) → ((x : X) → f x ≡ g x) → map f xs ≡ map g xs
 map_same f g [] same = refl
 map_same f g (x ∷ xs) same = ap (λ y. y ∷ map f xs) (same x) ∙ ap (λ l. g x ∷ l) (map_same f g xs same)
 
-module _ (stream : Stream) (format : Format) (first : List MarkView) (until : ℤ) where
+module _ (stream : Stream) (format : PacketFormat) (first : List MarkView) (until : ℤ) where
   with_alike : (rest : List MarkView) → BeginsPast until rest → is_mark_list format (first ++ quiet_mark stream until ∷ rest) ≡ true → is_mark_list format (first ++ rest) ≡ true
       → AreAlike format (first ++ quiet_mark stream until ∷ rest) (first ++ rest)
   with_alike [] past listed shorter = absurd past
@@ -345,7 +345,7 @@ module _ (stream : Stream) (format : Format) (first : List MarkView) (until : �
       }
 
 -- of mark lists
-pub close_alike : (stream : Stream) (format : Format) (long short : List MarkView) → AreClose stream long short → is_mark_list format long ≡ true → is_mark_list format short ≡ true → AreAlike format long short
+pub close_alike : (stream : Stream) (format : PacketFormat) (long short : List MarkView) → AreClose stream long short → is_mark_list format long ≡ true → is_mark_list format short ≡ true → AreAlike format long short
 close_alike stream format long short (inl same) listed shorter = subst (AreAlike format long) same (alike-refl format long)
 close_alike stream format long short (inr m) listed shorter =
     subst (λ l. AreAlike format l short) (sym m.long_is)

@@ -4,7 +4,7 @@ ghost use Rattle.rtp_stream.specs.MarkRef.{kind_of};
 ghost use Rattle.studio_ends.specs.MarkCells.{octets_in, said_of};
 
 use crate::rings::payload_cell::PayloadCell;
-use path_merge::{Format, MarkKindRef, MarkRef};
+use path_merge::{MarkKindRef, MarkRef, PacketFormat};
 use std::marker::Model;
 
 /// The contents of a mark without its payload.
@@ -21,7 +21,7 @@ enum MarkHeader {
 /// A mark whose payload lies in a cell of `N` octets. Contracts see it as that mark.
 #[derive(Clone, Copy)]
 pub(crate) struct MarkCell<const N: usize> {
-    format: Format,
+    format: PacketFormat,
     said: MarkHeader,
     payload: PayloadCell<N>,
 }
@@ -46,7 +46,7 @@ impl<const N: usize> MarkCell<N> {
     ghost use Rattle.studio_ends.specs.MarkCells.{IsWithin};
 
     /// The mark of a stream's end.
-    pub(crate) fn new(format: Format) -> MarkCell<N> {
+    pub(crate) fn new(format: PacketFormat) -> MarkCell<N> {
         MarkCell {
             format,
             said: MarkHeader::End,

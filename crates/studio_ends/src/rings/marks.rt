@@ -38,7 +38,7 @@ use crate::mix_end::marks_in::take_stream;
 use crate::rings::TokenConsumer;
 use crate::rings::mark_cell::MarkCell;
 use crate::rings::payload_cell::{LONG, MIDDLE, SHORT};
-use path_merge::{Format, MarkRef};
+use path_merge::{MarkRef, PacketFormat};
 use rtrb::{Finished, RingBuffer};
 use std::alloc::{AllocError, Global};
 use std::marker::Model;
@@ -223,7 +223,7 @@ impl MarkConsumer {
 /// Opens a ring whose cells have one size and returns both ends.
 fn open_sized<const N: usize>(
     alloc: Global,
-    format: Format,
+    format: PacketFormat,
     places: usize,
 ) -> Result<(SizedMarkProducer<N>, TokenConsumer<MarkCell<N>>), AllocError>
     ensures pair { IfOk result (λ r. IsPair r.0 r.1.ring) }
@@ -240,7 +240,7 @@ fn open_sized<const N: usize>(
 /// Opens a ring of so many places for marks of a format and returns both ends.
 pub(crate) fn open_marks(
     alloc: Global,
-    format: Format,
+    format: PacketFormat,
     places: usize,
 ) -> Result<(MarkProducer, MarkConsumer), AllocError>
     requires { payload_length format ≤ 1440 }

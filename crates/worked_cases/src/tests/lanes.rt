@@ -4,7 +4,7 @@ ghost use Rattle.rtp_stream.specs.MarkFacts.{HasLength, payload_length};
 
 use super::cases::{STREAM, spec_of};
 use lane_align::{Cover, Lane};
-use rtp_stream::{Body, Format, Mark, Stream, StreamSpec};
+use rtp_stream::{Body, Mark, PacketFormat, Stream, StreamSpec};
 use rtp_wire::Payload;
 use std::alloc::Global;
 use std::process::Abort;
@@ -33,7 +33,7 @@ enum Plain {
 }
 
 /// Returns the mark of these values, in a stream of this format.
-fn mark_of(format: Format, plain: Plain) -> Mark {
+fn mark_of(format: PacketFormat, plain: Plain) -> Mark {
     match plain {
         Plain::Quiet(until) => Mark::quiet(format, i64::from(until)),
         Plain::Lost(epoch, number, media) => slot(format, epoch, number, media, Body::Lost),
@@ -45,7 +45,7 @@ fn mark_of(format: Format, plain: Plain) -> Mark {
 }
 
 /// Returns the slot of these values.
-fn slot(format: Format, epoch: u8, number: u32, media: i16, body: Body) -> Mark
+fn slot(format: PacketFormat, epoch: u8, number: u32, media: i16, body: Body) -> Mark
     requires { HasLength (payload_length format) body }
 {
     let (epoch, number) = (u64::from(epoch), u64::from(number));
@@ -53,7 +53,7 @@ fn slot(format: Format, epoch: u8, number: u32, media: i16, body: Body) -> Mark
 }
 
 /// Returns a payload of L24 with these samples, or a lost body if they do not fill a packet of the format.
-fn body_of(format: Format, samples: &[u8]) -> Body
+fn body_of(format: PacketFormat, samples: &[u8]) -> Body
     ensures { HasLength (payload_length format) result }
 {
     let mut octets = Payload::new();
@@ -128,7 +128,7 @@ impl Player {
             Step::NoRoom(plain) => !self.lane.has_room(&mark_of(format, plain).as_ref()),
             Step::Refuse(plain) => !self.lane.accepts(&mark_of(format, plain)),
             Step::RefuseOther(plain) => {
-                let other = Format {
+                let other = PacketFormat {
                     channels: 2,
                     ..format
                 };

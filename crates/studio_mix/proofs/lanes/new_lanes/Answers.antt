@@ -1,6 +1,6 @@
 use Rattle.std.proofs.Common.{◌≡◌, ◌<◌, ◌≤◌, ◌+◌, ◌∙◌, [], length, sym, subst, arith, to_z, of_z, w64}
 use Rattle.std.proofs.lemmas.Int.{to_z-of_z}
-use Rattle.rtp_stream.specs.declared.mark.Format.{Format}
+use Rattle.rtp_stream.specs.declared.mark.PacketFormat.{PacketFormat}
 use Rattle.lane_align.specs.Lane.{HasFeed}
 use Rattle.studio_mix.specs.Feed.{unfed}
 use Rattle.studio_mix.specs.Lanes.{AreFed}
@@ -14,7 +14,7 @@ loop-stream-preserved c =
     let new : HasFeed c.stream-item.result (to_z w64 (of_z w64 c.args.start)) c.args.block c.in_ok-lane.lane [] (to_z w64 (of_z w64 c.args.start)) = c.in_ok-lane.ensures.stands in
     subst (λ l. AreNew (to_z w64 (of_z w64 c.args.start)) c.args.block c.args.lag c.args.streams.now l (c.loop-stream.stream-index + 1)) (sym c.in_ok-push.ensures.items)
     (new_more (to_z w64 (of_z w64 c.args.start)) c.args.block c.args.lag c.args.streams.now c.loop-stream.lanes.items c.loop-stream.stream-index c.stream-item.result c.in_ok-lane.lane c.loop-stream.invariant c.loop-stream-test.true c.stream-item.is new (c.in_ok-lane.ensures.room ∙ c.capacity_for-room.ensures.value)
-    (subst (λ (g : Format). 0 < g.channels) f.value f.some) (subst (λ (g : Format). g.channels ≤ 64) f.value f.few))
+    (subst (λ (g : PacketFormat). 0 < g.channels) f.value f.some) (subst (λ (g : PacketFormat). g.channels ≤ 64) f.value f.few))
 
 pub returns-clause-fed : goal.returns-clause-fed
 returns-clause-fed c =

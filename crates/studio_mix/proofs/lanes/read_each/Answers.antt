@@ -1,6 +1,6 @@
 use Rattle.std.proofs.Common.{◌≡◌, ◌<◌, length, get_or, ap, ◌∙◌, arith}
 use Rattle.std.proofs.lemmas.List.Sums.{sum_by_more_le}
-use Rattle.rtp_stream.specs.declared.mark.Format.{Format}
+use Rattle.rtp_stream.specs.declared.mark.PacketFormat.{PacketFormat}
 use Rattle.lane_align.specs.Lane.{LaneState}
 use Rattle.studio_mix.proofs.BlockLemmas.{read_start, read_more, were_read}
 use Rattle.studio_mix.proofs.lanes.read_each.Goals as goal
@@ -18,7 +18,7 @@ lay_stream-requires-clause-within c =
     let count = inv.count in
     let h : i < length first = omega (arith, count, c.loop-lane-test.true) in
     let as_first : lane ≡ get_or first i lane = is ∙ inv.others i lane (omega arith) in
-    let wide : c.from-channels.result ≡ (get_or first i lane).format.channels = c.from-channels.ensures ∙ ap (λ (f : Format). f.channels) c.format.ensures.value ∙ ap (λ (l : LaneState). l.format.channels) as_first in
+    let wide : c.from-channels.result ≡ (get_or first i lane).format.channels = c.from-channels.ensures ∙ ap (λ (f : PacketFormat). f.channels) c.format.ensures.value ∙ ap (λ (l : LaneState). l.format.channels) as_first in
     let sum = sum_by_more_le (λ (l : LaneState). l.format.channels) first i lane h in
     let at = inv.at_is in
     let width = c.requires.width in
@@ -37,7 +37,7 @@ loop-lane-preserved c =
     read_more first c.loop-lane.lanes c.loop-lane.ins c.lay_stream.new.wide c.args.frames c.args.width c.loop-lane.at i c.from-channels.result lane c.read_block.new.self c.read_block.new.out
     inv h is
     (record {
-      wide = c.from-channels.ensures ∙ ap (λ (f : Format). f.channels) c.format.ensures.value;
+      wide = c.from-channels.ensures ∙ ap (λ (f : PacketFormat). f.channels) c.format.ensures.value;
       facts = read.facts;
       position = read.position;
       values = λ stream from marks t. read.values stream from c.args.frames marks t;

@@ -1,6 +1,6 @@
 use Rattle.std.proofs.Common.{◌∙◌, sym, subst}
 use Rattle.rtp_stream.specs.MarkFacts.{payload_length}
-use Rattle.rtp_stream.specs.declared.mark.Format.{Format}
+use Rattle.rtp_stream.specs.declared.mark.PacketFormat.{PacketFormat}
 use Rattle.studio_ends.specs.RoomRings.{HasRoomFor}
 use Rattle.studio_ends.proofs.FormatLemmas.{next_format}
 use Rattle.studio_ends.proofs.stream_end.marks_out.push_next.Goals as goal
@@ -8,4 +8,4 @@ use Rattle.studio_ends.proofs.stream_end.marks_out.push_next.Goals as goal
 pub push-requires-clause-roomy : goal.push-requires-clause-roomy
 push-requires-clause-roomy c =
     let same = next_format c.args.merge.now c.args.goal c.in-Some.mark (sym c.mark_to-next.ensures ∙ c.in-Some.is) in
-    subst (λ (f : Format). HasRoomFor (payload_length f) c.args.marks.now) (sym same) c.requires.roomy
+    subst (λ (f : PacketFormat). HasRoomFor (payload_length f) c.args.marks.now) (sym same) c.requires.roomy
