@@ -4,7 +4,7 @@ use Rattle.std.proofs.lemmas.Bool.{cases_lt}
 use Rattle.std.proofs.lemmas.List.{drop_all, take_all}
 use Rattle.rtp_stream.specs.Counts.{tally_of}
 use Rattle.rtp_stream.specs.PathCounts.{path_tally_of}
-use Rattle.rtp_stream.specs.declared.path_counts.PathCounts.{PathCounts}
+use Rattle.rtp_stream.specs.declared.stream_counts.PathCounts.{PathCounts}
 use Rattle.rtp_stream.specs.declared.stream_counts.StreamCounts.{StreamCounts}
 use Rattle.studio_run.specs.LiveReport.{feed_line}
 use Rattle.studio_run.specs.Report.{merge_line, path_line}

@@ -1,6 +1,6 @@
 -- What workers' watches told last.
 use Rattle.std.specs.Prelude.{◌≡◌, ℕ, List, length, replicate, slice_get, Option, Some, None, option_map}
-use Rattle.rtp_stream.specs.declared.path_counts.PathCounts.{PathCounts}
+use Rattle.rtp_stream.specs.declared.stream_counts.PathCounts.{PathCounts}
 use Rattle.rtp_stats.specs.Channel.{IsNewest}
 use Rattle.rtp_stats.specs.declared.channel.mix.MixStatsReceiver.{MixStatsReceiver}
 use Rattle.rtp_stats.specs.declared.stats.MixStats.{MixStats}

@@ -2,7 +2,7 @@
 use Rattle.std.specs.Prelude.{ℕ, suc, List, [], ◌∷◌, ◌++◌, length, take, drop}
 use Rattle.rtp_stream.specs.Counts.{tally_of}
 use Rattle.rtp_stream.specs.PathCounts.{path_tally_of}
-use Rattle.rtp_stream.specs.declared.path_counts.PathCounts.{PathCounts}
+use Rattle.rtp_stream.specs.declared.stream_counts.PathCounts.{PathCounts}
 use Rattle.rtp_stream.specs.declared.stream_counts.StreamCounts.{StreamCounts}
 use Rattle.studio_run.specs.Report.{path_line, merge_line}
 use Rattle.studio_run.specs.LiveReport.{feed_line, sink_line}

@@ -38,7 +38,7 @@ use Rattle.rtp_stream.specs.declared.event.Event.TheVariants.{Arrive}
 use Rattle.rtp_stream.specs.declared.fate.Fate.{Fate}
 use Rattle.rtp_stream.specs.declared.fate.Fate.TheVariants.{Ahead, Closed, CountersFull, Double, Late, OffGrid, Restarted, Taken, Unlike, WrongSource}
 use Rattle.rtp_stream.specs.declared.packet.Packet.{Packet}
-use Rattle.rtp_stream.specs.declared.put.Put.{Put}
+use Rattle.rtp_stream.specs.declared.fate.Put.{Put}
 
 -- an order test and its turn
 lt-not_le : (a b : ℤ) → int_lt a b ≡ not (int_le b a)

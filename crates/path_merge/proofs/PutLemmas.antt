@@ -20,8 +20,8 @@ use Rattle.rtp_stream.specs.Put.{is_taken, put_answer}
 use Rattle.rtp_stream.specs.declared.anchor.Anchor.{Anchor}
 use Rattle.rtp_stream.specs.declared.fate.Fate.{Fate}
 use Rattle.rtp_stream.specs.declared.packet.Packet.{Packet}
-use Rattle.rtp_stream.specs.declared.put.Put.{Put}
-use Rattle.rtp_stream.specs.declared.put.Put.TheVariants.{Double as PutDouble, Taken as PutTaken, Unlike as PutUnlike}
+use Rattle.rtp_stream.specs.declared.fate.Put.{Put}
+use Rattle.rtp_stream.specs.declared.fate.Put.TheVariants.{Double as PutDouble, Taken as PutTaken, Unlike as PutUnlike}
 
 -- the steps that the code makes
 pub put_step_fault : (m : MergeState) (a : Anchor) (path : ℕ) (packet : Packet) (fate : Fate) (counts' : Tally) → place_of m.spec a m.base packet ≡ Err fate → counts' ≡ with_fate m.counts path fate → IsPutStep m.spec m (record m { counts = counts' }) a path packet fate

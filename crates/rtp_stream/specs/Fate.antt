@@ -4,8 +4,8 @@ use Rattle.rtp_stream.specs.declared.stream_spec.Stream.{Stream}
 use Rattle.rtp_stream.specs.declared.anchor.Anchor.{Anchor}
 use Rattle.rtp_stream.specs.declared.packet.Packet.{Packet}
 use Rattle.rtp_stream.specs.declared.event.Event.{Event}
-use Rattle.rtp_stream.specs.declared.put.Put.{Put}
-use Rattle.rtp_stream.specs.declared.put.Put.TheVariants.{Taken as PutTaken, Double as PutDouble, Unlike as PutUnlike}
+use Rattle.rtp_stream.specs.declared.fate.Put.{Put}
+use Rattle.rtp_stream.specs.declared.fate.Put.TheVariants.{Taken as PutTaken, Double as PutDouble, Unlike as PutUnlike}
 use Rattle.rtp_stream.specs.declared.fate.Fate.{Fate}
 use Rattle.rtp_stream.specs.declared.fate.Fate.TheVariants.{Closed, CountersFull, WrongSource, OffGrid, Late, Ahead, Taken, Double, Unlike, Restarted}
 use Rattle.rtp_stream.specs.History.{time_of, is_closed, arrival_count}

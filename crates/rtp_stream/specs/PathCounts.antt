@@ -1,6 +1,6 @@
 -- What became of a path's datagrams before the merge.
 use Rattle.std.specs.Prelude.{ℕ, ◌+◌, List, map}
-use Rattle.rtp_stream.specs.declared.path_counts.PathCounts.{PathCounts}
+use Rattle.rtp_stream.specs.declared.stream_counts.PathCounts.{PathCounts}
 use Rattle.rtp_stream.specs.declared.reception.Reception.{Reception}
 use Rattle.rtp_stream.specs.declared.reception.Reception.TheVariants.{Sent, Bad, WrongType, WrongLength}
 

@@ -1,8 +1,8 @@
 -- What a put answers, by what its number has.
 use Rattle.std.specs.Prelude.{Bool, true, false, Option, Some, None, bytes_eq, if◌then◌else◌}
 use Rattle.rtp_stream.specs.declared.packet.Packet.{Packet}
-use Rattle.rtp_stream.specs.declared.put.Put.{Put}
-use Rattle.rtp_stream.specs.declared.put.Put.TheVariants.{Taken, Double, Unlike}
+use Rattle.rtp_stream.specs.declared.fate.Put.{Put}
+use Rattle.rtp_stream.specs.declared.fate.Put.TheVariants.{Taken, Double, Unlike}
 
 abbrev pub put_answer : Option Packet → Packet → Put
 put_answer None packet = Taken

@@ -11,9 +11,8 @@ ghost use Rattle.rtp_stream.specs.declared.anchor.Anchor.{Anchor};
 ghost use Rattle.rtp_stream.specs.declared.packet.Packet.{Packet};
 
 use crate::anchor::{Anchor, is_in_step, is_wanted_source, number_of};
-use crate::fate::Fate;
+use crate::fate::{Fate, Put};
 use crate::packet::PacketRef;
-use crate::put::Put;
 use crate::stream_spec::StreamSpec;
 
 /// Returns the fate of a packet that was put into a window with this result.

@@ -5,8 +5,7 @@
 //! 2. `StreamSpec::admit` makes a `Packet` from the view of a datagram, or returns why the datagram
 //!    is not a packet of this stream. `admit_ref` does the same with the payload left in the
 //!    datagram.
-//! 3. `receive` and `receive_ref` do step 2 from the octets of the datagram. `PathCounts` counts what
-//!    they return.
+//! 3. `receive_ref` does step 2 from the octets of the datagram. `PathCounts` counts what it returns.
 //!
 //! The rules of reception are definitions in `specs/`, over whole lists of `Event`s and unbounded
 //! numbers: anchors and epochs (`Epochs`), the copies of each number (`Copies`), the fate of an
@@ -29,9 +28,7 @@ mod mark;
 mod mark_ref;
 mod packet;
 mod path;
-mod path_counts;
 mod probation;
-mod put;
 mod reception;
 mod stream_counts;
 mod stream_spec;
@@ -45,14 +42,12 @@ pub use arrival::{
 pub use counts::Counts;
 pub use event::Event;
 pub use extend::{near16, near32};
-pub use fate::Fate;
+pub use fate::{Fate, Put};
 pub use mark::{Body, Mark, MarkKind, PacketFormat};
 pub use mark_ref::{MarkKindRef, MarkRef};
 pub use packet::{Packet, PacketRef};
 pub use path::Path;
-pub use path_counts::PathCounts;
 pub use probation::{Probation, update_probation};
-pub use put::Put;
-pub use reception::{Reception, ReceptionRef, receive, receive_ref};
-pub use stream_counts::StreamCounts;
+pub use reception::{Reception, ReceptionRef, receive_ref};
+pub use stream_counts::{PathCounts, StreamCounts};
 pub use stream_spec::{AdmitFault, SpecFault, Stream, StreamClock, StreamSpec};

@@ -31,19 +31,6 @@ pub enum ReceptionRef<'a> {
     WrongLength,
 }
 
-/// Returns the reception of a datagram, with a copy of the samples. Takes no memory.
-pub fn receive(spec: &StreamSpec, datagram: &[u8]) -> Reception
-    ensures value { result ≡ reception_of spec.now datagram.now }
-    ensures fits { FitsReception spec.now result }
-{
-    match receive_ref(spec, datagram) {
-        ReceptionRef::Sent(packet) => Reception::Sent(packet.to_packet()),
-        ReceptionRef::Bad => Reception::Bad,
-        ReceptionRef::WrongType => Reception::WrongType,
-        ReceptionRef::WrongLength => Reception::WrongLength,
-    }
-}
-
 /// Returns the reception of a datagram, whose samples are borrowed.
 pub fn receive_ref<'a>(spec: &StreamSpec, datagram: &'a [u8]) -> ReceptionRef<'a>
     ensures value { reception_from result ≡ reception_of spec.now datagram.now }

@@ -1,5 +1,5 @@
 -- Linear PCM samples in a payload (RFC 3551, L16; RFC 3190, L24).
-use Rattle.std.specs.Prelude.{ℕ, ◌*◌, ◌/◌, ◌^◌, ◌<◌, List, length, take, drop, map, ℤ, pos, negsuc, ◌-ℤ◌, ◌*ℤ◌, ◌≤ℤ◌, ◌<ℤ◌}
+use Rattle.std.specs.Prelude.{ℕ, ◌*◌, ◌/◌, ◌^◌, ◌<◌, List, codes, length, take, drop, map, ℤ, pos, negsuc, ◌-ℤ◌, ◌*ℤ◌, ◌≤ℤ◌, ◌<ℤ◌}
 use Rattle.std.specs.List.{range_with_len, flat_map}
 use Rattle.rtp_wire.specs.declared.encoding.Enc.{Enc}
 use Rattle.rtp_wire.specs.declared.encoding.Enc.TheVariants.{L16, L24}
@@ -9,6 +9,11 @@ use Rattle.rtp_wire.specs.Octets.{big_endian, octets_of, twos_complement, twos_c
 abbrev pub octets_per_sample : Enc → ℕ
 octets_per_sample L16 = 2
 octets_per_sample L24 = 3
+
+-- the name of an encoding, as RFC 3551 and RFC 3190 register it
+abbrev pub encoding_name : Enc → List ℕ
+encoding_name L16 = codes "L16"
+encoding_name L24 = codes "L24"
 
 -- the least number that is too great for the encoding
 abbrev pub sample_limit : Enc → ℕ

@@ -1,6 +1,6 @@
 //! The encodings of a sample, and the payload that holds samples.
 ghost use Rattle.std.specs.Prelude.{◌≡◌};
-ghost use Rattle.rtp_wire.specs.Sample.{octets_per_sample};
+ghost use Rattle.rtp_wire.specs.Sample.{encoding_name, octets_per_sample};
 
 use arrayvec::ArrayVec;
 
@@ -24,6 +24,15 @@ impl Enc {
         match self {
             Enc::L16 => 2,
             Enc::L24 => 3,
+        }
+    }
+    /// Returns its name as a media subtype (RFC 3551, 4.5.11; RFC 3190, 4).
+    pub fn name(self) -> &'static str
+        ensures { result.now ≡ encoding_name self }
+    {
+        match self {
+            Enc::L16 => "L16",
+            Enc::L24 => "L24",
         }
     }
 }

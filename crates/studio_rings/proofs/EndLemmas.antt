@@ -20,7 +20,7 @@ use Rattle.rtp_stream.specs.declared.event.Event.TheVariants.{Arrive, Tick, Clos
 use Rattle.path_merge.proofs.HistoryLemmas.{fates_of-push}
 use Rattle.path_merge.proofs.RestartOfferLemmas.{counted_arrivals}
 use Rattle.rtp_stream.specs.PathCounts.{path_tally_of}
-use Rattle.rtp_stream.specs.declared.path_counts.PathCounts.{PathCounts}
+use Rattle.rtp_stream.specs.declared.stream_counts.PathCounts.{PathCounts}
 use Rattle.studio_ends.specs.Fitting.{fitting}
 use Rattle.studio_ends.specs.FreshEnds.{AllFreshPaths, IsFreshPath, IsFreshStream}
 use Rattle.studio_ends.specs.Streams.{StreamHasHistory, packets_by}

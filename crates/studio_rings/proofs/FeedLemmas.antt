@@ -14,7 +14,7 @@ use Rattle.studio_ends.specs.Paths.{Offers, Receives}
 use Rattle.studio_ends.specs.declared.path.Offer.{Offer}
 use Rattle.studio_ends.specs.declared.path.Offer.TheVariants.{CountersFull, Bad as BadOffer, WrongType as OtherType, WrongLength as OtherLength, Full, Sent as SentOffer}
 use Rattle.studio_ends.specs.declared.path_end.PathEnd.{PathEnd}
-use Rattle.rtp_stream.specs.declared.path_counts.PathCounts.{PathCounts}
+use Rattle.rtp_stream.specs.declared.stream_counts.PathCounts.{PathCounts}
 use Rattle.studio_io.proofs.AnswerLemmas.{told-next}
 use Rattle.studio_io.specs.Answers.{Answer, CountsOthers, Tells, reaches_end, received_as, told_datagrams, told_packets, IsPartOf, packet_in, packets_in, packets_of}
 use Rattle.studio_io.specs.declared.feed.FeedAnswer.{FeedAnswer}

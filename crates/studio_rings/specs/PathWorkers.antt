@@ -4,7 +4,7 @@ use Rattle.rtrb.specs.Ends.{SameRing}
 use Rattle.rtrb.specs.Ring.{all_sent, sent, SameProducer}
 use Rattle.rtp_stream.specs.declared.packet.Packet.{Packet}
 use Rattle.rtp_stream.specs.PathCounts.{path_tally_of}
-use Rattle.rtp_stream.specs.declared.path_counts.PathCounts.{PathCounts}
+use Rattle.rtp_stream.specs.declared.stream_counts.PathCounts.{PathCounts}
 use Rattle.studio_ends.specs.Fitting.{fitting}
 use Rattle.studio_ends.specs.declared.path.PathDone.{PathDone}
 use Rattle.studio_ends.specs.declared.path_end.PathEnd.{PathEnd}

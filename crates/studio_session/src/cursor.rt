@@ -379,7 +379,7 @@ fn count_on(paths: &mut [PathCounts; 4], path: Path, reception: ReceptionRef<'_>
 {
     let place = usize::from(path.number());
     let mut counts = paths[place];
-    counts.add_ref(reception);
+    counts.add(reception);
     paths[place] = counts;
 }
 

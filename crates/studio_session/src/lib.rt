@@ -42,7 +42,7 @@ pub use finish::finish_stream;
 pub use laws::readings_may_be_left_out;
 pub use receipt::ArriveOutcome;
 pub use report::Report;
-pub use rtp_stream::{PathCounts, Reception, ReceptionRef, StreamCounts, receive, receive_ref};
+pub use rtp_stream::{PathCounts, Reception, ReceptionRef, StreamCounts, receive_ref};
 pub use run_list::run_studio;
 pub use session::{Session, studio_cursors};
 pub use source::{DatagramRoom, EventList, EventSource, MOST_ARRIVAL_OCTETS};

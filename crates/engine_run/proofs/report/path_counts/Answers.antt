@@ -1,7 +1,7 @@
 use Rattle.std.proofs.Common.{◌≡◌, ◌+◌, suc, ◌++◌, ◌∷◌, [], Vec, Global, ap, ◌∙◌, arith}
 use Rattle.std.proofs.lemmas.List.{map-append}
 use Rattle.rtp_stream.specs.PathCounts.{PathTally, path_tally_of, tallies_of}
-use Rattle.rtp_stream.specs.declared.path_counts.PathCounts.{PathCounts}
+use Rattle.rtp_stream.specs.declared.stream_counts.PathCounts.{PathCounts}
 use Rattle.studio_session.specs.Counts.{path_counts_of, path_tallies}
 use Rattle.engine_run.proofs.CountLemmas.{has-stream}
 use Rattle.engine_run.proofs.report.path_counts.Goals as goal

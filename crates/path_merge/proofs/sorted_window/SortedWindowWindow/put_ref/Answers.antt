@@ -1,7 +1,7 @@
 use Rattle.std.proofs.Common.{◌≡◌, ℕ, ◌+◌, Bool, Option, if◌then◌else◌, IsOk, Some, List, arith, ap, sym, refl, ◌∙◌}
 use Rattle.std.specs.Prelude.{insert, bytes_eq}
 use Rattle.rtp_stream.specs.declared.packet.Packet.{Packet}
-use Rattle.rtp_stream.specs.declared.put.Put.TheVariants.{Double, Unlike}
+use Rattle.rtp_stream.specs.declared.fate.Put.TheVariants.{Double, Unlike}
 use Rattle.std.specs.Ordering.{nat_cmp}
 use Rattle.std.specs.FinMap.{get, from_entries}
 use Rattle.rtp_stream.specs.Grid.{first_with}

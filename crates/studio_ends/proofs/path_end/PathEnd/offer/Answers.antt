@@ -17,7 +17,7 @@ pushed c = c.push.ensures.sent ∙ ap (λ l. l ++ packet_of c.in-Sent.packet ∷
 pub invariant_of-self-in-Sent-clause-all_counted : goal.invariant_of-self-in-Sent-clause-all_counted
 invariant_of-self-in-Sent-clause-all_counted c =
     let p = c.args.self.now in
-    let added : path_tally_of c.add_ref.new.self ≡ with_reception (path_tally_of p.counts) (Received (packet_of c.in-Sent.packet)) = c.add_ref.ensures ∙ ap (with_reception (path_tally_of p.counts)) (received_is c) in
+    let added : path_tally_of c.add.new.self ≡ with_reception (path_tally_of p.counts) (Received (packet_of c.in-Sent.packet)) = c.add.ensures ∙ ap (with_reception (path_tally_of p.counts)) (received_is c) in
     let one = ap (λ (t : PathTally). t.sent) added in
     let longer = ap length (pushed c) in
     let before = p.all_counted in
