@@ -2,6 +2,7 @@ pub mod Nearest
 pub mod MarkFacts
 pub mod MarkRef
 pub mod PacketRef
+pub mod Path
 pub mod StreamSpecFacts
 pub mod StreamSpec
 pub mod History
