@@ -9,9 +9,11 @@
 #![tactic(auto)]
 
 mod laws;
+mod limits;
 mod out_spec;
 mod packer;
 
 pub use laws::datagrams_count_up;
+pub use limits::MAX_OUTPUT_OCTETS;
 pub use out_spec::{OutFault, OutSpec, Output};
 pub use packer::Packer;

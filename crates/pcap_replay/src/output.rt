@@ -8,10 +8,10 @@ ghost use Rattle.studio_engine.specs.Session.{HasSession, turned};
 ghost use Rattle.pcap_replay.specs.Lines.{BreaksLines, GivesLines};
 
 use crate::observer::ReplayObserver;
+use mix_packets::MAX_OUTPUT_OCTETS;
 use std::io::Write;
 use studio_engine::Engine;
 use studio_run::{TextBuffer, WriteFault, write_datagram};
-use studio_session::MOST_OUTPUT_OCTETS;
 
 /// Moves an engine on to a reading, reports the datagrams that it returns to the observer, and writes their lines.
 pub(crate) fn write_turn<W: Write, L: ReplayObserver>(
@@ -38,7 +38,7 @@ pub(crate) fn write_turn<W: Write, L: ReplayObserver>(
     ensures output { engine.new.mixer.packer.spec ≡ engine.old.mixer.packer.spec }
     ensures closed { engine.new.closed ≡ engine.old.closed }
 {
-    let mut out = [0; MOST_OUTPUT_OCTETS];
+    let mut out = [0; MAX_OUTPUT_OCTETS];
     // The label names the loop in its proof.
     'rounds: loop {
         let Ok(given) = engine.turn(now, &mut out) else {
@@ -73,7 +73,7 @@ pub(crate) fn write_drained<W: Write, L: ReplayObserver>(
         → BreaksLines studio engine.new events datagrams (W.contents writer.old) text.old (W.contents writer.new)
         (L.heard begun listener.old) (L.heard begun listener.new)) }
 {
-    let mut out = [0; MOST_OUTPUT_OCTETS];
+    let mut out = [0; MAX_OUTPUT_OCTETS];
     // The label names the loop in its proof.
     'rounds: loop {
         match engine.drain(&mut out) {

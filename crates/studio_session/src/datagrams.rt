@@ -8,10 +8,8 @@ ghost use Rattle.studio_session.specs.Run.{AreDatagrams};
 
 use crate::session::Session;
 use crate::source::EventSource;
+use mix_packets::MAX_OUTPUT_OCTETS;
 use std::alloc::{AllocError, Global};
-
-/// The most octets of a datagram of the output: an RTP header of 12 (RFC 3550, 5.1) and a payload of 1,440.
-pub const MOST_OUTPUT_OCTETS: usize = 1452;
 
 /// Returns the datagrams of all blocks that are ready, in order.
 pub fn all_datagrams<E: EventSource>(
@@ -30,7 +28,7 @@ pub fn all_datagrams<E: EventSource>(
         → IsRunnableBy studio (E.events source.now) → HasPlayed studio (E.events source.now) session.old 0
         → HasPlayed studio (E.events source.now) session.new (length datagrams.items)) }
 {
-    let mut out = [0u8; MOST_OUTPUT_OCTETS];
+    let mut out = [0u8; MAX_OUTPUT_OCTETS];
     let mut datagrams = Vec::new(alloc);
     // The label names the loop in its proof.
     'rounds: loop {

@@ -6,7 +6,8 @@ ghost use Rattle.studio_session.specs.Cursor.{IsReadyFor, IsRunnable, IsSameCurs
 ghost use Rattle.studio_session.specs.Report.{HasCounts, HasPulledAll, HasPulledSome};
 
 use crate::cursor::Cursor;
-use crate::source::{EventSource, MOST_ARRIVAL_OCTETS};
+use crate::source::EventSource;
+use rtp_wire::MAX_ARRIVAL_OCTETS;
 
 /// Drops the marks of the events that were taken.
 fn drop_marks(cursor: &mut Cursor)
@@ -29,7 +30,7 @@ pub fn finish_stream<E: EventSource>(cursor: &mut Cursor, source: &E)
         → HasPulledSome stream number open_at (E.events source.now) cursor.old
         → HasCounts stream number open_at (E.events source.now) cursor.new }
 {
-    let mut room = [0; MOST_ARRIVAL_OCTETS];
+    let mut room = [0; MAX_ARRIVAL_OCTETS];
     // The label names the loop in its proof.
     'events: loop {
         drop_marks(cursor);

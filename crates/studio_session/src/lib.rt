@@ -34,7 +34,7 @@ mod source;
 mod stream_counts;
 
 pub use cursor::Cursor;
-pub use datagrams::{MOST_OUTPUT_OCTETS, all_datagrams};
+pub use datagrams::all_datagrams;
 pub use event::{EventHeader, StudioEvent};
 pub use fault::{StudioFault, first_fault, is_runnable};
 pub use feed_mixer::pull_marks;
@@ -45,4 +45,4 @@ pub use report::Report;
 pub use rtp_stream::{PathCounts, Reception, ReceptionRef, StreamCounts, receive_ref};
 pub use run_list::run_studio;
 pub use session::{Session, studio_cursors};
-pub use source::{DatagramRoom, EventList, EventSource, MOST_ARRIVAL_OCTETS};
+pub use source::{DatagramRoom, EventList, EventSource};

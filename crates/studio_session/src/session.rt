@@ -30,10 +30,11 @@ ghost use Rattle.studio_session.specs.Play.{AreNew, HasFilled, HasPathsBy, HasPl
 
 use crate::cursor::Cursor;
 use crate::feed_mixer::pull;
-use crate::source::{DatagramRoom, EventSource, MOST_ARRIVAL_OCTETS};
+use crate::source::{DatagramRoom, EventSource};
 use crate::stream_counts::all_counts;
 use path_merge::StreamSpec;
 use rtp_stream::StreamCounts;
+use rtp_wire::MAX_ARRIVAL_OCTETS;
 use std::alloc::{AllocError, Global};
 use std::marker::Model;
 use studio_config::StudioSpec;
@@ -80,7 +81,7 @@ impl Session {
         Ok(Session {
             mixer,
             cursors,
-            room: [0; MOST_ARRIVAL_OCTETS],
+            room: [0; MAX_ARRIVAL_OCTETS],
         })
     }
 

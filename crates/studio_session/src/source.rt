@@ -3,13 +3,10 @@ ghost use Rattle.std.specs.Prelude.{◌≡◌, ◌<◌, ℕ, List, length, slice
 ghost use Rattle.studio_session.specs.Event.{TraceEvent, Arrival, outline_of, said_by};
 
 use crate::event::{EventHeader, StudioEvent};
-
-// A trace's line has at most 4,096 octets, two for each octet of a datagram.
-/// The most octets of a datagram that arrives.
-pub const MOST_ARRIVAL_OCTETS: usize = 2048;
+use rtp_wire::MAX_ARRIVAL_OCTETS;
 
 /// Room for the octets of a datagram.
-pub type DatagramRoom = [u8; MOST_ARRIVAL_OCTETS];
+pub type DatagramRoom = [u8; MAX_ARRIVAL_OCTETS];
 
 /// The events of a run, by their places from 0. No call allocates.
 pub trait EventSource {

@@ -14,9 +14,10 @@ use crate::fault::WavRunFault;
 use crate::header::WavFormat;
 use crate::overwrite::Overwrite;
 use crate::writer::WavWriter;
+use mix_packets::MAX_OUTPUT_OCTETS;
 use std::io::Write;
 use studio_run::{TextBuffer, write_counts, write_datagram};
-use studio_session::{EventSource, MOST_OUTPUT_OCTETS, Session};
+use studio_session::{EventSource, Session};
 
 /// Writes the report of a session that took no event yet, and its samples to an empty file. Returns the error of a
 /// write to either. The file then has the sizes of its whole payloads, if they can be written.
@@ -110,7 +111,7 @@ fn record_datagrams<E: EventSource, W: Write, F: Write>(
         → AreDatagrams studio (E.events source.now) datagrams
         → WritesFront (W.contents writer.old) text.old (W.contents writer.new) (datagrams_text datagrams)) }
 {
-    let mut out = [0; MOST_OUTPUT_OCTETS];
+    let mut out = [0; MAX_OUTPUT_OCTETS];
     // The label names the loop in its proof.
     'rounds: loop {
         match session.next_datagram(source, &mut out) {

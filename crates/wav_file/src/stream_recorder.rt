@@ -13,8 +13,9 @@ use crate::header::WavFormat;
 use crate::overwrite::Overwrite;
 use crate::stream_track::StreamTrack;
 use crate::writer::{WavFault, WavWriter};
+use rtp_wire::MAX_ARRIVAL_OCTETS;
 use std::io::Write;
-use studio_session::{Cursor, EventSource, MOST_ARRIVAL_OCTETS};
+use studio_session::{Cursor, EventSource};
 
 /// Writes the samples of all marks of a stream to an empty file. Lost packets, and the gaps between epochs, are
 /// silence. The cursor has to be before the first event. Returns an error if a write fails.
@@ -68,7 +69,7 @@ fn add_marks<E: EventSource, F: Write>(
         → HasTracked (F.contents file.old) (F.contents file.new) track.old track.new
         (stream_marks stream number open_at (E.events source.now))) }
 {
-    let mut room = [0; MOST_ARRIVAL_OCTETS];
+    let mut room = [0; MAX_ARRIVAL_OCTETS];
     // The label names the loop in its proof.
     'events: loop {
         add_taken(track, file, cursor)?;

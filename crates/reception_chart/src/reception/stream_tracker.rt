@@ -6,11 +6,10 @@ use crate::observer::ReceptionObserver;
 use crate::reception::{CopyTiming, ReceptionEvent, ReceptionKind};
 use path_merge::{Fate, MarkKindRef, PacketRef, Path};
 use rtp_stream::{StreamSpec, is_taken};
+use rtp_wire::MAX_ARRIVAL_OCTETS;
 use std::alloc::{AllocError, Global};
 use studio_config::StudioSpec;
-use studio_session::{
-    ArriveOutcome, Cursor, EventHeader, EventSource, MOST_ARRIVAL_OCTETS, ReceptionRef, receive_ref,
-};
+use studio_session::{ArriveOutcome, Cursor, EventHeader, EventSource, ReceptionRef, receive_ref};
 
 /// The timestamp and the media time of a packet, which give the media times of all others of its epoch.
 #[derive(Clone, Copy)]
@@ -162,7 +161,7 @@ pub fn track_stream<E: EventSource, O: ReceptionObserver>(
         match source.outline(place) {
             EventHeader::Arrive { stream, path } => {
                 if tracker.has(usize::from(stream), path) {
-                    let mut room = [0; MOST_ARRIVAL_OCTETS];
+                    let mut room = [0; MAX_ARRIVAL_OCTETS];
                     let octets = source.octets(place, &mut room);
                     tracker.take(path, octets, observer);
                 } else {

@@ -26,10 +26,8 @@ use crate::config::{ConfigTable, Key, SpecError, SpecErrorKind};
 use crate::studio::StudioSpec;
 use gain_mix::{Matrix, Schedule};
 use mix_packets::OutSpec;
+use rtp_stream::MAX_TIME;
 use std::alloc::Global;
-
-/// The latest time of a studio: 2^60 sampling instants.
-const LATEST: i64 = 1 << 60;
 
 impl StudioSpec {
     /// Returns the studio opened at `open_at`, in sampling instants. The output's start and the times of the changes
@@ -41,7 +39,7 @@ impl StudioSpec {
         ensures fine { OnOk result (shift_fault_of (shifted open_at self) ≡ None) }
         ensures fault { IfErr result (λ e. (e ≡ no_memory) ⊎ (shift_fault_of (shifted open_at self) ≡ Some e)) }
     {
-        if open_at < 0 || open_at > LATEST {
+        if open_at < 0 || open_at > MAX_TIME {
             return Err(out_of_range(ConfigTable::Top, Key::OpenAt));
         }
         let by = open_at - self.open_at;

@@ -14,8 +14,9 @@ ghost use Rattle.studio_run.specs.StudioListing.{HasListed, HasListedAll};
 use crate::buffer::TextBuffer;
 use crate::lines::mark::write_next;
 use crate::text_io::WriteFault;
+use rtp_wire::MAX_ARRIVAL_OCTETS;
 use std::io::Write;
-use studio_session::{Cursor, EventSource, MOST_ARRIVAL_OCTETS};
+use studio_session::{Cursor, EventSource};
 
 /// Writes the lines of the marks of the events that were taken.
 fn write_taken<W: Write>(
@@ -69,7 +70,7 @@ fn write_marks<E: EventSource, W: Write>(
         → HasPulled stream number open_at (E.events source.now) cursor.old 0
         → HasPulledSome stream number open_at (E.events source.now) cursor.new) }
 {
-    let mut room = [0; MOST_ARRIVAL_OCTETS];
+    let mut room = [0; MAX_ARRIVAL_OCTETS];
     // The label names the loop in its proof.
     'events: loop {
         write_taken(text, writer, cursor)?;

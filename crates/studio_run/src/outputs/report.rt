@@ -14,8 +14,9 @@ use crate::buffer::TextBuffer;
 use crate::lines::counts::write_datagram;
 use crate::outputs::studio_counts::write_counts;
 use crate::text_io::WriteFault;
+use mix_packets::MAX_OUTPUT_OCTETS;
 use std::io::Write;
-use studio_session::{EventSource, MOST_OUTPUT_OCTETS, Session};
+use studio_session::{EventSource, Session};
 
 /// Writes the lines of the datagrams of all blocks that are ready.
 fn write_datagrams<E: EventSource, W: Write>(
@@ -37,7 +38,7 @@ fn write_datagrams<E: EventSource, W: Write>(
         → AreDatagrams studio (E.events source.now) datagrams
         → BreaksOff (W.contents writer.old) text.old (W.contents writer.new) (datagrams_text datagrams)) }
 {
-    let mut out = [0; MOST_OUTPUT_OCTETS];
+    let mut out = [0; MAX_OUTPUT_OCTETS];
     // The label names the loop in its proof.
     'rounds: loop {
         match session.next_datagram(source, &mut out) {
