@@ -31,7 +31,7 @@ use thiserror::Error;
 const CHANGES: usize = 64;
 
 /// The greatest time of a change, 2^60 sampling instants, which is also the greatest reading of a merge's clock.
-const LAST_TIME: i64 = 1 << 60;
+const MAX_TIME: i64 = 1 << 60;
 
 /// The reason why changes are no schedule: the first of these that holds, in this order.
 #[derive(Clone, Copy, Debug, PartialEq, Eq, Error)]
@@ -212,7 +212,7 @@ fn has_times(later: &[(i64, Matrix)]) -> bool
 {
     later
         .iter()
-        .all(|change| 0 <= change.0 && change.0 <= LAST_TIME)
+        .all(|change| 0 <= change.0 && change.0 <= MAX_TIME)
 }
 
 /// Returns true if each change's time is later than that of the change before it.

@@ -12,13 +12,13 @@ use rtp_stream::PacketFormat;
 use rtp_wire::read_samples;
 
 /// The greatest number of samples in a payload: 1,440 octets of 16-bit samples.
-const MOST_SAMPLES: usize = 720;
+const MAX_SAMPLES: usize = 720;
 
 /// The room into which a slot's samples are read. Its content before that has no meaning.
-pub(crate) type SlotRoom = [i32; MOST_SAMPLES];
+pub(crate) type SlotRoom = [i32; MAX_SAMPLES];
 
 /// A room before its first slot.
-pub(crate) const EMPTY_ROOM: SlotRoom = [0; MOST_SAMPLES];
+pub(crate) const EMPTY_ROOM: SlotRoom = [0; MAX_SAMPLES];
 
 /// Reads the samples of a slot, frame by frame, to the front of `room`.
 fn read_slot(room: &mut SlotRoom, format: PacketFormat, payload: Option<&[u8]>)

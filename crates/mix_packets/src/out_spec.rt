@@ -34,7 +34,7 @@ pub enum OutFault {
 }
 
 /// The greatest start of an output, 2^60 sampling instants, which is also the greatest reading of a merge's clock.
-const LATEST_START: i64 = 1_152_921_504_606_846_976;
+const MAX_START: i64 = 1_152_921_504_606_846_976;
 
 /// The parts of an output's specification: its encoding and packets, their source, and the numbers of the first one.
 /// `OutSpec::of` looks for faults in them.
@@ -106,7 +106,7 @@ impl OutSpec {
         if output.payload_len() > 1440 {
             return Err(OutFault::TooLong);
         }
-        if output.start < 0 || output.start > LATEST_START {
+        if output.start < 0 || output.start > MAX_START {
             return Err(OutFault::Start);
         }
         Ok(OutSpec { output })
@@ -146,7 +146,7 @@ impl OutSpec {
         ensures fine { OnOk result (is_start start ≡ true) }
         ensures fault { OnErr result (is_start start ≡ false) }
     {
-        if start < 0 || start > LATEST_START {
+        if start < 0 || start > MAX_START {
             return Err(OutFault::Start);
         }
         Ok(OutSpec {

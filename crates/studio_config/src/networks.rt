@@ -36,7 +36,7 @@ pub struct OutputAddresses {
 /// The address that each path of a stream is received at, and the source address that it is limited to.
 #[derive(Clone, Copy)]
 pub(crate) struct PathAddresses {
-    pub binds: [Option<Ipv4Addr>; 4],
+    pub receive_at: [Option<Ipv4Addr>; 4],
     pub sources: [Option<Ipv4Addr>; 4],
 }
 
@@ -62,11 +62,14 @@ impl Networks {
     pub(crate) fn set_path_addresses(&mut self, stream: usize, addresses: PathAddresses)
         requires paths { stream < length self.old.paths }
         requires sources { stream < length self.old.sources }
-        ensures paths { self.new.paths ≡ slice_set self.old.paths stream addresses.binds }
+        ensures paths { self.new.paths ≡ slice_set self.old.paths stream addresses.receive_at }
         ensures sources { self.new.sources ≡ slice_set self.old.sources stream addresses.sources }
     {
-        let PathAddresses { binds, sources } = addresses;
-        self.paths[stream] = binds;
+        let PathAddresses {
+            receive_at,
+            sources,
+        } = addresses;
+        self.paths[stream] = receive_at;
         self.sources[stream] = sources;
     }
 

@@ -59,7 +59,7 @@ use studio_session::{ArriveOutcome, Cursor, is_runnable, studio_cursors};
 
 // At most 2^60 clock readings and a close follow these, so the number of events never wraps.
 /// The number of events after which no more arrivals are taken: 2^62.
-const MOST_EVENTS: usize = 4_611_686_018_427_387_904;
+const MAX_EVENTS: usize = 4_611_686_018_427_387_904;
 
 /// A studio as one object.
 ///
@@ -416,7 +416,7 @@ fn path_fault(paths: u8, path: Path, count: usize) -> Option<ArriveFault>
     if path.number() >= paths {
         return Some(ArriveFault::Path);
     }
-    if count >= MOST_EVENTS {
+    if count >= MAX_EVENTS {
         return Some(ArriveFault::Full);
     }
     None

@@ -20,7 +20,7 @@ use rtp_stream::{
 
 /// The greatest number of arrivals that are counted, 2^62.
 // An arrival after so many changes nothing, so that counts never wrap.
-const MOST_ARRIVALS: u64 = 4_611_686_018_427_387_904;
+const MAX_ARRIVALS: u64 = 4_611_686_018_427_387_904;
 
 impl<V: Window> Merge<V> {
     ghost use Rattle.rtp_stream.specs.StreamSpec.{Fits};
@@ -72,7 +72,7 @@ impl<V: Window> Merge<V> {
         if self.closed {
             return Fate::Closed;
         }
-        if self.counts.arrived == MOST_ARRIVALS {
+        if self.counts.arrived == MAX_ARRIVALS {
             return Fate::CountersFull;
         }
         match self.anchor {

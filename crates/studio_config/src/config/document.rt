@@ -80,7 +80,7 @@ fn read_streams(
         (map (λ t. members_in (view t)) tables.now) ≡ None) }
     ensures streams { IfOk result (λ s. s.items ≡ map stream_of (map (λ t. members_in (view t)) tables.now)) }
     ensures ports { OnOk result (ports.new.paths ≡ port_table (map (λ t. members_in (view t)) tables.now)) }
-    ensures binds { OnOk result (networks.new.paths ≡ bind_table (map (λ t. members_in (view t)) tables.now)) }
+    ensures receive_at { OnOk result (networks.new.paths ≡ bind_table (map (λ t. members_in (view t)) tables.now)) }
     ensures sources { OnOk result (networks.new.sources ≡ sender_table (map (λ t. members_in (view t)) tables.now)) }
     ensures fault { IfErr result (λ e. (e ≡ no_memory)
         ⊎ (each_fault (λ n. stream_fault (at.Stream n)) 0 (map (λ t. members_in (view t)) tables.now) ≡ Some e)) }

@@ -6,7 +6,7 @@ ghost use Rattle.studio_config.specs.Rows.{required, one_of, encodings, clocks, 
 
 use crate::config::fault::{ConfigTable, SpecError, SpecErrorKind};
 use crate::config::keys::Key;
-use crate::config::lookup::found;
+use crate::config::lookup::require;
 use rtp_wire::Enc;
 use toml::{Table, Value};
 
@@ -17,14 +17,10 @@ pub(crate) fn encoding(table: &Table, place: ConfigTable, key: Key) -> Result<En
     ensures fault { IfErr result
         (λ e. row_fault place (table_view table.now) (required key (one_of encodings)) ≡ Some e) }
 {
-    let value = found(table, place, key)?;
+    let value = require(table, place, key)?;
     match encoding_in(value) {
         Ok(enc) => Ok(enc),
-        Err(kind) => Err(SpecError {
-            place,
-            key: Some(key),
-            kind,
-        }),
+        Err(kind) => Err(SpecError::at_key(place, key, kind)),
     }
 }
 
@@ -52,14 +48,10 @@ pub(crate) fn is_media(table: &Table, place: ConfigTable, key: Key) -> Result<bo
     ensures media { IfOk result (λ media. is_media (text_at (table_view table.now) key) ≡ media) }
     ensures fault { IfErr result (λ e. row_fault place (table_view table.now) (required key (one_of clocks)) ≡ Some e) }
 {
-    let value = found(table, place, key)?;
+    let value = require(table, place, key)?;
     match is_media_in(value) {
         Ok(media) => Ok(media),
-        Err(kind) => Err(SpecError {
-            place,
-            key: Some(key),
-            kind,
-        }),
+        Err(kind) => Err(SpecError::at_key(place, key, kind)),
     }
 }
 

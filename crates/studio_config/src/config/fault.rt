@@ -1,5 +1,5 @@
 //! The faults of a configuration, and their texts.
-ghost use Rattle.std.specs.Prelude.{◌≡◌};
+ghost use Rattle.std.specs.Prelude.{◌≡◌, Some};
 ghost use Rattle.studio_config.specs.Config.{no_memory};
 
 use crate::config::keys::Key;
@@ -56,6 +56,19 @@ pub struct SpecError {
     pub kind: SpecErrorKind,
 }
 
+impl SpecError {
+    /// Returns the fault of this kind at a key of a table.
+    pub(crate) fn at_key(place: ConfigTable, key: Key, kind: SpecErrorKind) -> SpecError
+        ensures { result ≡ record { place = place; key = Some key; kind = kind } }
+    {
+        SpecError {
+            place,
+            key: Some(key),
+            kind,
+        }
+    }
+}
+
 impl From<AllocError> for SpecError {
     ghost from_gives = { λ _ fault. fault ≡ no_memory };
 
@@ -80,40 +93,58 @@ impl<T: Drop> From<AllocFailed<T>> for SpecError {
 impl fmt::Display for ConfigTable {
     fn fmt<W: fmt::Write>(&self, f: &mut fmt::Formatter<W>) -> fmt::Result {
         match self {
-            ConfigTable::Top => write!(f, "top"),
+            ConfigTable::Top => f.write_str("top"),
             ConfigTable::Stream(stream) => write!(f, "stream[{stream}]"),
-            ConfigTable::Output => write!(f, "output"),
+            ConfigTable::Output => f.write_str("output"),
             ConfigTable::Change(change) => write!(f, "output.change[{change}]"),
         }
     }
 }
 
+impl SpecErrorKind {
+    /// Returns its word, and the number of the rule that is broken if the word names several.
+    fn word_and_rule(self) -> (&'static str, Option<u8>) {
+        // The rules are numbered from 1 in docs/FORMATS.md.
+        match self {
+            SpecErrorKind::Missing => ("missing", None),
+            SpecErrorKind::WrongKind => ("kind", None),
+            SpecErrorKind::OutOfRange => ("range", None),
+            SpecErrorKind::Unknown => ("unknown", None),
+            SpecErrorKind::Stream(fault) => ("stream", Some(fault as u8 + 1)),
+            SpecErrorKind::Output(fault) => ("output", Some(fault as u8 + 1)),
+            SpecErrorKind::Gains(fault) => ("gains", Some(fault as u8 + 1)),
+            SpecErrorKind::Schedule(fault) => ("schedule", Some(fault as u8 + 1)),
+            SpecErrorKind::Memory => ("memory", None),
+        }
+    }
+}
+
+// One format for all kinds: each further one costs the proof some seconds.
 impl fmt::Display for SpecErrorKind {
     fn fmt<W: fmt::Write>(&self, f: &mut fmt::Formatter<W>) -> fmt::Result {
-        match self {
-            SpecErrorKind::Missing => write!(f, "missing"),
-            SpecErrorKind::WrongKind => write!(f, "kind"),
-            SpecErrorKind::OutOfRange => write!(f, "range"),
-            SpecErrorKind::Unknown => write!(f, "unknown"),
-            // The rules are numbered from 1 in docs/FORMATS.md.
-            SpecErrorKind::Stream(fault) => write!(f, "stream {}", *fault as u8 + 1),
-            SpecErrorKind::Output(fault) => write!(f, "output {}", *fault as u8 + 1),
-            SpecErrorKind::Gains(fault) => write!(f, "gains {}", *fault as u8 + 1),
-            SpecErrorKind::Schedule(fault) => write!(f, "schedule {}", *fault as u8 + 1),
-            SpecErrorKind::Memory => write!(f, "memory"),
+        let (word, rule) = self.word_and_rule();
+        f.write_str(word)?;
+        match rule {
+            Some(rule) => write!(f, " {rule}"),
+            None => Ok(()),
         }
     }
 }
 
 impl fmt::Display for SpecError {
     fn fmt<W: fmt::Write>(&self, f: &mut fmt::Formatter<W>) -> fmt::Result {
-        let kind = self.kind;
         match self.key {
-            None => write!(f, "{}: {kind}", self.place),
+            None => fmt::Display::fmt(&self.place, f)?,
             // A key of the document has no table's name before it.
-            Some(key) if self.place == ConfigTable::Top => write!(f, "{key}: {kind}"),
-            Some(key) => write!(f, "{}.{key}: {kind}", self.place),
+            Some(key) if self.place == ConfigTable::Top => f.write_str(key.name())?,
+            Some(key) => {
+                fmt::Display::fmt(&self.place, f)?;
+                f.write_str(".")?;
+                f.write_str(key.name())?;
+            }
         }
+        f.write_str(": ")?;
+        fmt::Display::fmt(&self.kind, f)
     }
 }
 

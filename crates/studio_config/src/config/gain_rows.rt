@@ -7,7 +7,7 @@ ghost use Rattle.studio_config.specs.Rows.{required, gains, value_fault, row_fau
 
 use crate::config::fault::{ConfigTable, SpecError, SpecErrorKind};
 use crate::config::keys::Key;
-use crate::config::lookup::{found, get};
+use crate::config::lookup::{get, require};
 use toml::value::Array;
 use toml::{Table, Value};
 
@@ -17,14 +17,10 @@ pub(crate) fn check_gains(table: &Table, place: ConfigTable, key: Key) -> Result
     ensures fault { IfErr result (λ e. row_fault place (table_view table.now) (required key gains) ≡ Some e) }
 {
     // Only the types are tested here: the gains' shape depends on channels that are tested after all keys.
-    let value = found(table, place, key)?;
+    let value = require(table, place, key)?;
     match gains_in(value) {
         Ok(_) => Ok(()),
-        Err(kind) => Err(SpecError {
-            place,
-            key: Some(key),
-            kind,
-        }),
+        Err(kind) => Err(SpecError::at_key(place, key, kind)),
     }
 }
 

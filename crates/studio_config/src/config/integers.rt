@@ -6,7 +6,7 @@ ghost use Rattle.studio_config.specs.Rows.{required, optional, whole, value_faul
 
 use crate::config::fault::{ConfigTable, SpecError, SpecErrorKind};
 use crate::config::keys::Key;
-use crate::config::lookup::{found, get};
+use crate::config::lookup::{get, require};
 use toml::{Table, Value};
 
 /// Returns the whole number at a required key, from `least` to `greatest`.
@@ -24,12 +24,8 @@ pub(crate) fn whole(
     ensures fault { IfErr result
         (λ e. row_fault place (table_view table.now) (required key (whole least greatest)) ≡ Some e) }
 {
-    let value = found(table, place, key)?;
-    whole_in(value, least, greatest).map_err(|kind| SpecError {
-        place,
-        key: Some(key),
-        kind,
-    })
+    let value = require(table, place, key)?;
+    whole_in(value, least, greatest).map_err(|kind| SpecError::at_key(place, key, kind))
 }
 
 /// Returns the whole number at an optional key, from `least` to `greatest`, or `None` if the key is absent.
@@ -51,11 +47,7 @@ pub(crate) fn optional_whole(
     };
     match whole_in(value, least, greatest) {
         Ok(number) => Ok(Some(number)),
-        Err(kind) => Err(SpecError {
-            place,
-            key: Some(key),
-            kind,
-        }),
+        Err(kind) => Err(SpecError::at_key(place, key, kind)),
     }
 }
 

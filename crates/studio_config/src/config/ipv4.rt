@@ -26,11 +26,7 @@ pub(crate) fn address(
     };
     match address_in(value) {
         Ok(address) => Ok(Some(address)),
-        Err(kind) => Err(SpecError {
-            place,
-            key: Some(key),
-            kind,
-        }),
+        Err(kind) => Err(SpecError::at_key(place, key, kind)),
     }
 }
 

@@ -15,17 +15,13 @@ pub(crate) fn get(table: &Table, key: Key) -> Option<&Value>
 }
 
 /// Returns the value at a required key.
-pub(crate) fn found(table: &Table, place: ConfigTable, key: Key) -> Result<&Value, SpecError>
+pub(crate) fn require(table: &Table, place: ConfigTable, key: Key) -> Result<&Value, SpecError>
     ensures ok { IfOk result (λ v. value_at (table_view table.now) key ≡ Some (view v.now)) }
     ensures missing { IfErr result (λ e. e ≡ record { place = place; key = Some key; kind = SpecErrorKind.Missing }) }
     ensures absent { OnErr result (value_at (table_view table.now) key ≡ None) }
 {
     match get(table, key) {
         Some(value) => Ok(value),
-        None => Err(SpecError {
-            place,
-            key: Some(key),
-            kind: SpecErrorKind::Missing,
-        }),
+        None => Err(SpecError::at_key(place, key, SpecErrorKind::Missing)),
     }
 }

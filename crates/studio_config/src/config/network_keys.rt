@@ -28,19 +28,22 @@ pub(crate) fn read_path_addresses(
     place: ConfigTable,
 ) -> Result<PathAddresses, SpecError>
     ensures ok { OnOk result (rows_fault place (table_view table.now) path_rows ≡ None) }
-    ensures binds { IfOk result (λ p. p.binds ≡ binds_of (table_view table.now)) }
+    ensures receive_at { IfOk result (λ p. p.receive_at ≡ binds_of (table_view table.now)) }
     ensures sources { IfOk result (λ p. p.sources ≡ sender_addresses_of (table_view table.now)) }
     ensures fault { IfErr result (λ e. rows_fault place (table_view table.now) path_rows ≡ Some e) }
 {
-    let binds = read_binds(table, place)?;
+    let receive_at = read_receive_at(table, place)?;
     let sources = read_sender_addresses(table, place)?;
-    Ok(PathAddresses { binds, sources })
+    Ok(PathAddresses {
+        receive_at,
+        sources,
+    })
 }
 
 /// Reads the address that each path is received at.
-fn read_binds(table: &Table, place: ConfigTable) -> Result<[Option<Ipv4Addr>; 4], SpecError>
+fn read_receive_at(table: &Table, place: ConfigTable) -> Result<[Option<Ipv4Addr>; 4], SpecError>
     ensures ok { OnOk result (rows_fault place (table_view table.now) bind_rows ≡ None) }
-    ensures binds { IfOk result (λ b. b ≡ binds_of (table_view table.now)) }
+    ensures receive_at { IfOk result (λ b. b ≡ binds_of (table_view table.now)) }
     ensures fault { IfErr result (λ e. rows_fault place (table_view table.now) bind_rows ≡ Some e) }
 {
     let a = address(table, place, Key::AddressA)?;

@@ -82,7 +82,7 @@ pub(crate) fn read_stream(table: &Table, place: ConfigTable) -> Result<StreamEnt
     ensures ok { OnOk result (stream_fault place (table_view table.now) ≡ None) }
     ensures stream { IfOk result (λ s. s.spec ≡ stream_of (table_view table.now)) }
     ensures ports { IfOk result (λ s. s.ports ≡ ports_of (table_view table.now)) }
-    ensures binds { IfOk result (λ s. s.addresses.binds ≡ binds_of (table_view table.now)) }
+    ensures receive_at { IfOk result (λ s. s.addresses.receive_at ≡ binds_of (table_view table.now)) }
     ensures sources { IfOk result (λ s. s.addresses.sources ≡ sender_addresses_of (table_view table.now)) }
     ensures fault { IfErr result (λ e. stream_fault place (table_view table.now) ≡ Some e) }
 {

@@ -7,7 +7,7 @@ ghost use Rattle.studio_config.specs.Rows.{required, optional, a_table, tables, 
 
 use crate::config::fault::{ConfigTable, SpecError, SpecErrorKind};
 use crate::config::keys::Key;
-use crate::config::lookup::{found, get};
+use crate::config::lookup::{get, require};
 use toml::value::Array;
 use toml::{Table, Value};
 
@@ -17,14 +17,10 @@ pub(crate) fn table_in(table: &Table, place: ConfigTable, key: Key) -> Result<&T
     ensures table { IfOk result (λ t. table_at (table_view table.now) key ≡ table_view t.now) }
     ensures fault { IfErr result (λ e. row_fault place (table_view table.now) (required key a_table) ≡ Some e) }
 {
-    let value = found(table, place, key)?;
+    let value = require(table, place, key)?;
     match value.as_table() {
         Some(inner) => Ok(inner),
-        None => Err(SpecError {
-            place,
-            key: Some(key),
-            kind: SpecErrorKind::WrongKind,
-        }),
+        None => Err(SpecError::at_key(place, key, SpecErrorKind::WrongKind)),
     }
 }
 
@@ -44,11 +40,7 @@ pub(crate) fn optional_tables(
     };
     match tables_in(value) {
         Ok(items) => Ok(items.as_slice()),
-        Err(kind) => Err(SpecError {
-            place,
-            key: Some(key),
-            kind,
-        }),
+        Err(kind) => Err(SpecError::at_key(place, key, kind)),
     }
 }
 
@@ -69,14 +61,10 @@ pub(crate) fn few_tables(
     ensures fault { IfErr result
         (λ e. row_fault place (table_view table.now) (required key (few_tables least greatest)) ≡ Some e) }
 {
-    let value = found(table, place, key)?;
+    let value = require(table, place, key)?;
     match few_tables_in(value, least, greatest) {
         Ok(items) => Ok(items),
-        Err(kind) => Err(SpecError {
-            place,
-            key: Some(key),
-            kind,
-        }),
+        Err(kind) => Err(SpecError::at_key(place, key, kind)),
     }
 }
 

@@ -58,11 +58,7 @@ impl StudioSpec {
 fn out_of_range(place: ConfigTable, key: Key) -> SpecError
     ensures { result ≡ record { place = place; key = Some key; kind = kind.OutOfRange } }
 {
-    SpecError {
-        place,
-        key: Some(key),
-        kind: SpecErrorKind::OutOfRange,
-    }
+    SpecError::at_key(place, key, SpecErrorKind::OutOfRange)
 }
 
 /// Returns the output, which starts `by` sampling instants later.

@@ -12,10 +12,10 @@ returns-then-self-clause-stands g c = λ stream open_at events k at.
     let shut : c.args.self.now.closed ≡ true = ap (λ (m : MergeState). m.closed) (sym c.self.view_is) ∙ c.if-self.true in
     offers_closed stream open_at c.args.self.now events k at shut c.args.path (packet_of c.args.packet)
 
-pub returns-then-self-eq-MOST_ARRIVALS-clause-stands : goal.returns-then-self-eq-MOST_ARRIVALS-clause-stands
-returns-then-self-eq-MOST_ARRIVALS-clause-stands g c = λ stream open_at events k at.
+pub returns-then-self-eq-MAX_ARRIVALS-clause-stands : goal.returns-then-self-eq-MAX_ARRIVALS-clause-stands
+returns-then-self-eq-MAX_ARRIVALS-clause-stands g c = λ stream open_at events k at.
     let open_yet : c.args.self.now.closed ≡ false = ap (λ (m : MergeState). m.closed) (sym c.self.view_is) ∙ c.if-self.false in
-    let full : c.args.self.now.counts.arrived ≡ 2 ^ 62 = ap (λ (m : MergeState). m.counts.arrived) (sym c.self.view_is) ∙ c.if-self-eq-MOST_ARRIVALS.true in
+    let full : c.args.self.now.counts.arrived ≡ 2 ^ 62 = ap (λ (m : MergeState). m.counts.arrived) (sym c.self.view_is) ∙ c.if-self-eq-MAX_ARRIVALS.true in
     offers_full stream open_at c.args.self.now events k at open_yet full c.args.path (packet_of c.args.packet)
 
 pub returns-in-Some-clause-stands : goal.returns-in-Some-clause-stands
@@ -24,7 +24,7 @@ returns-in-Some-clause-stands g c = λ stream open_at events k at.
     let ts : (packet_of c.args.packet).ts < 2 ^ 32 = search rules in
     let sound : IsSound c.args.self.now c.self.inside.next_media = subst (λ m. IsSound m c.self.inside.next_media) c.self.view_is c.self.invariant in
     let open_yet : c.args.self.now.closed ≡ false = ap (λ (m : MergeState). m.closed) (sym c.self.view_is) ∙ c.if-self.false in
-    let room : c.args.self.now.counts.arrived < 2 ^ 62 = omega (arith, ap (λ (m : MergeState). m.counts.arrived) c.self.view_is, c.if-self-eq-MOST_ARRIVALS.false, sound.few_arrived) in
+    let room : c.args.self.now.counts.arrived < 2 ^ 62 = omega (arith, ap (λ (m : MergeState). m.counts.arrived) c.self.view_is, c.if-self-eq-MAX_ARRIVALS.false, sound.few_arrived) in
     let is_a : c.args.self.now.anchor ≡ Some c.in-Some.anchor = ap (λ (m : MergeState). m.anchor) (sym c.self.view_is) ∙ c.in-Some.is in
     offers_anchored c.args.self.now c.offer_next.new.self c.in-Some.anchor c.args.path (packet_of c.args.packet) c.offer_next.result c.offer_next.ensures.next c.offer_next.ensures.restart stream open_at c.self.inside.next_media sound open_yet events k at room is_a (paths_few c.args.self.now c.self.inside.next_media sound c.args.path c.requires.path) seq ts
 
@@ -32,7 +32,7 @@ pub returns-in-None-clause-stands : goal.returns-in-None-clause-stands
 returns-in-None-clause-stands g c = λ stream open_at events k at.
     let sound : IsSound c.args.self.now c.self.inside.next_media = subst (λ m. IsSound m c.self.inside.next_media) c.self.view_is c.self.invariant in
     let open_yet : c.args.self.now.closed ≡ false = ap (λ (m : MergeState). m.closed) (sym c.self.view_is) ∙ c.if-self.false in
-    let room : c.args.self.now.counts.arrived < 2 ^ 62 = omega (arith, ap (λ (m : MergeState). m.counts.arrived) c.self.view_is, c.if-self-eq-MOST_ARRIVALS.false, sound.few_arrived) in
+    let room : c.args.self.now.counts.arrived < 2 ^ 62 = omega (arith, ap (λ (m : MergeState). m.counts.arrived) c.self.view_is, c.if-self-eq-MAX_ARRIVALS.false, sound.few_arrived) in
     let is_none : c.args.self.now.anchor ≡ None = ap (λ (m : MergeState). m.anchor) (sym c.self.view_is) ∙ c.in-None.is in
     offers_first stream open_at c.args.self.now c.self.inside.next_media sound open_yet events k at is_none room c.args.path (packet_of c.args.packet) (paths_few c.args.self.now c.self.inside.next_media sound c.args.path c.requires.path) c.offer_first.ensures.seq c.offer_first.ensures.ts c.offer_first.new.self c.offer_first.result c.offer_first.ensures.step
 

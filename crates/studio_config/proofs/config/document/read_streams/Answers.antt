@@ -22,7 +22,7 @@ pub set_path_addresses-requires-clause-paths : goal.set_path_addresses-requires-
 set_path_addresses-requires-clause-paths c =
     let ms = map (λ (t : Value). members_in (view t)) (take c.loop-number.number c.args.tables.now) in
     let count : length ms ≡ c.loop-number.number = length-map (take c.loop-number.number c.args.tables.now) (λ (t : Value). members_in (view t)) ∙ length-take-le c.loop-number.number c.args.tables.now (omega (arith, c.loop-number-test.true)) in
-    let long : length c.loop-number.networks.paths ≡ 16 = ap length c.loop-number.invariant.binds ∙ length-row_table binds_of ms (omega (arith, count, c.loop-number-test.true, c.requires.few)) in
+    let long : length c.loop-number.networks.paths ≡ 16 = ap length c.loop-number.invariant.receive_at ∙ length-row_table binds_of ms (omega (arith, count, c.loop-number-test.true, c.requires.few)) in
     omega (arith, long, count, c.loop-number-test.true, c.requires.few)
 
 pub set_path_addresses-requires-clause-sources : goal.set_path_addresses-requires-clause-sources
@@ -58,10 +58,10 @@ loop-number-preserved c =
     ∙ ap (λ k. slice_set (port_table ms) k (ports_of m)) (sym count)
     ∙ row_table-more ports_of ms m (omega (arith, count, c.loop-number-test.true, c.requires.few))
     ∙ ap port_table (sym read_more) in
-    let binds : c.set_path_addresses.new.self.paths ≡ bind_table (map read (take (n + 1) tables)) =
+    let receive_at : c.set_path_addresses.new.self.paths ≡ bind_table (map read (take (n + 1) tables)) =
     c.set_path_addresses.ensures.paths
-    ∙ ap (λ paths. slice_set paths n c.in_ok-entry.entry.addresses.binds) c.loop-number.invariant.binds
-    ∙ ap (slice_set (bind_table ms) n) (c.in_ok-entry.ensures.binds ∙ ap binds_of table)
+    ∙ ap (λ paths. slice_set paths n c.in_ok-entry.entry.addresses.receive_at) c.loop-number.invariant.receive_at
+    ∙ ap (slice_set (bind_table ms) n) (c.in_ok-entry.ensures.receive_at ∙ ap binds_of table)
     ∙ ap (λ k. slice_set (bind_table ms) k (binds_of m)) (sym count)
     ∙ row_table-more binds_of ms m (omega (arith, count, c.loop-number-test.true, c.requires.few))
     ∙ ap bind_table (sym read_more) in
@@ -73,7 +73,7 @@ loop-number-preserved c =
     ∙ row_table-more sender_addresses_of ms m (omega (arith, count, c.loop-number-test.true, c.requires.few))
     ∙ ap sender_table (sym read_more) in
     let left = c.loop-number.invariant.left ∙ fault-later tables n fault read value c.loop-number-test.true c.index-tables-number.is (ap (fault n) (sym table) ∙ c.in_ok-entry.ensures.ok) in
-    record { so_far = so_far; rows = rows; binds = binds; sources = sources; left = left }
+    record { so_far = so_far; rows = rows; receive_at = receive_at; sources = sources; left = left }
 
 pub table_of-requires : goal.table_of-requires
 table_of-requires c =
@@ -102,8 +102,8 @@ returns-clause-streams c = c.loop-number.invariant.so_far ∙ ap (map stream_of)
 pub returns-clause-ports : goal.returns-clause-ports
 returns-clause-ports c = c.loop-number.invariant.rows ∙ ap port_table (all c.args.tables.now c.loop-number.number c.loop-number-test.false)
 
-pub returns-clause-binds : goal.returns-clause-binds
-returns-clause-binds c = c.loop-number.invariant.binds ∙ ap bind_table (all c.args.tables.now c.loop-number.number c.loop-number-test.false)
+pub returns-clause-receive_at : goal.returns-clause-receive_at
+returns-clause-receive_at c = c.loop-number.invariant.receive_at ∙ ap bind_table (all c.args.tables.now c.loop-number.number c.loop-number-test.false)
 
 pub returns-clause-sources : goal.returns-clause-sources
 returns-clause-sources c = c.loop-number.invariant.sources ∙ ap sender_table (all c.args.tables.now c.loop-number.number c.loop-number-test.false)

@@ -12,7 +12,7 @@ abbrev pub invariant-loop-number : goal.invariant-loop-number
 invariant-loop-number l = record {
   so_far : l.streams.items ≡ map stream_of (map (λ t. members_in (view t)) (take l.number l.tables));
   rows : l.ports.paths ≡ port_table (map (λ t. members_in (view t)) (take l.number l.tables));
-  binds : l.networks.paths ≡ bind_table (map (λ t. members_in (view t)) (take l.number l.tables));
+  receive_at : l.networks.paths ≡ bind_table (map (λ t. members_in (view t)) (take l.number l.tables));
   sources : l.networks.sources ≡ sender_table (map (λ t. members_in (view t)) (take l.number l.tables));
   left : each_fault (λ n. stream_fault (at.Stream n)) 0 (map (λ t. members_in (view t)) l.tables)
       ≡ each_fault (λ n. stream_fault (at.Stream n)) l.number (map (λ t. members_in (view t)) (drop l.number l.tables));

@@ -97,7 +97,7 @@ returns-clause-studio c =
     let open_at : to_z w64 c.in_ok-open_at.field-0 ≡ pos (number_or m key.OpenAt 0) = to_z_pos w64 (omega (arith, c.in_ok-open_at.ensures.high)) ∙ ap pos (sym c.in_ok-open_at.ensures.number) in
     let streams : c.in_ok-streams.streams.items ≡ streams_of m = c.in_ok-streams.ensures.streams ∙ ap (map stream_of) c.in_ok-tables.ensures.tables in
     let paths : c.read_streams.new.ports.paths ≡ port_table (tables_at m key.Stream) = c.in_ok-streams.ensures.ports ∙ ap port_table c.in_ok-tables.ensures.tables in
-    let binds : c.read_streams.new.networks.paths ≡ bind_table (tables_at m key.Stream) = c.in_ok-streams.ensures.binds ∙ ap bind_table c.in_ok-tables.ensures.tables in
+    let receive_at : c.read_streams.new.networks.paths ≡ bind_table (tables_at m key.Stream) = c.in_ok-streams.ensures.receive_at ∙ ap bind_table c.in_ok-tables.ensures.tables in
     let sources : c.read_streams.new.networks.sources ≡ sender_table (tables_at m key.Stream) = c.in_ok-streams.ensures.sources ∙ ap sender_table c.in_ok-tables.ensures.tables in
     let table = sym c.in_ok-output_table.ensures.table in
     let output : c.in_ok-output.output.spec ≡ output_of (table_at m key.Output) = c.in_ok-output.ensures.output ∙ ap output_of table in
@@ -105,4 +105,4 @@ returns-clause-studio c =
     let to_a : c.in_ok-output.output.addresses.to_a ≡ number_at (table_at m key.Output) key.ToA = sym c.in_ok-output.ensures.to_a ∙ ap (λ t. number_at t key.ToA) table in
     let to_b : c.in_ok-output.output.addresses.to_b ≡ number_at (table_at m key.Output) key.ToB = sym c.in_ok-output.ensures.to_b ∙ ap (λ t. number_at t key.ToB) table in
     let senders : c.in_ok-output.output.senders ≡ senders_of (table_at m key.Output) = c.in_ok-output.ensures.senders ∙ ap senders_of table in
-    rw (c.with_networks.ensures, c.with_ports.ensures, c.new-studio.ensures, open_at, streams, paths, binds, sources, output, schedule, to_a, to_b, senders)
+    rw (c.with_networks.ensures, c.with_ports.ensures, c.new-studio.ensures, open_at, streams, paths, receive_at, sources, output, schedule, to_a, to_b, senders)
