@@ -19,6 +19,7 @@ use Rattle.rtp_stream.specs.Marks.{marks_of, marks_from}
 use Rattle.rtp_stream.specs.MarkList.{is_mark_list}
 use Rattle.rtp_stream.specs.Fate.{fate_of}
 use Rattle.rtp_stream.specs.Counts.{fates_of, counts_of}
+use Rattle.rtp_stream.specs.CountsFacts.{empty_tally}
 
 -- L24, one channel, six sampling instants a packet, a latency of two packets, a window of eight
 abbrev stream : StreamClock → Stream
@@ -127,7 +128,7 @@ first_of_unlike_copies : marks_of (stream (Media 0)) (pos 0) unlike_copies ≡ g
 unfolding marks_of marks_from anchor_of anchors_of anchors_from copies_of copies_of_all at_places
 first_of_unlike_copies = refl
 
-counts_of_unlike_copies : counts_of (stream (Media 0)) (pos 0) unlike_copies (marks_of (stream (Media 0)) (pos 0) unlike_copies) ≡ record { arrived = 3; taken = 1; taken_by = 1 ∷ 0 ∷ 0 ∷ 0 ∷ []; double = 1; unlike = 1; off_grid = 0; late = 0; ahead = 0; wrong_source = 0; got = 1; lost = 0; restarts = 0 }
+counts_of_unlike_copies : counts_of (stream (Media 0)) (pos 0) unlike_copies (marks_of (stream (Media 0)) (pos 0) unlike_copies) ≡ record empty_tally { arrived = 3; taken = 1; taken_by = 1 ∷ 0 ∷ 0 ∷ 0 ∷ []; double = 1; unlike = 1; got = 1 }
 unfolding marks_of marks_from anchor_of anchors_of anchors_from copies_of copies_of_all at_places fates_of
 counts_of_unlike_copies = refl
 

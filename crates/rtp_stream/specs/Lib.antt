@@ -18,6 +18,7 @@ pub mod Put
 pub mod Fate
 pub mod CountsFacts
 pub mod Counts
+pub mod CountField
 pub mod Reception
 pub mod PathCounts
 pub mod Sent

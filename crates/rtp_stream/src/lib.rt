@@ -20,6 +20,7 @@
 
 mod anchor;
 mod arrival;
+mod count_field;
 mod counts;
 mod event;
 mod extend;
@@ -40,6 +41,7 @@ pub use anchor::{
 pub use arrival::{
     continues_media_time, fate_of_first, fate_of_put, is_off_place, is_taken, place_of,
 };
+pub use count_field::{COUNT_FIELDS, COUNTS_AFTER_PATHS, COUNTS_BEFORE_PATHS, CountField};
 pub use counts::Counts;
 pub use event::Event;
 pub use extend::{near16, near32};
