@@ -7,7 +7,7 @@ use Rattle.std.proofs.lemmas.List.{take-append-le}
 use Rattle.std.proofs.Math.Seq.{take-append_seam, take-length}
 use Rattle.rtp_wire.specs.declared.encoding.Enc.{Enc}
 use Rattle.wav_file.specs.declared.header.WavFormat.{WavFormat}
-use Rattle.wav_file.specs.Head.{head_octets}
+use Rattle.wav_file.specs.Header.{header_octets}
 use Rattle.wav_file.specs.File.{Becomes, IsBegun, WavState, wav_octets}
 use Rattle.wav_file.specs.MixWav.{HasAdded}
 use Rattle.wav_file.specs.MixSamples.{datagram_samples, samples_in}
@@ -72,11 +72,11 @@ sounded_broken first old new datagrams datagram rest whole then s part is =
     })
 
 -- a file that had its head alone
-begun_added : (x : List ℕ) (b : Option (List ℕ)) (wav then : WavState) (octets rest : List ℕ) → x ≡ head_octets wav.format 0 → wav.count ≡ 0 → Appends (Some x) b (octets ++ rest)
+begun_added : (x : List ℕ) (b : Option (List ℕ)) (wav then : WavState) (octets rest : List ℕ) → x ≡ header_octets wav.format 0 → wav.count ≡ 0 → Appends (Some x) b (octets ++ rest)
     → then.count ≡ wav.count + length octets → then.format ≡ wav.format → IsBegun b then octets rest
 begun_added x None wav then octets rest head none added count format = absurd added
 begun_added x (Some y) wav then octets rest head none added count format = record {
-  holds = added ∙ ap (λ l. l ++ (octets ++ rest)) head ∙ ap (λ f. head_octets f 0 ++ (octets ++ rest)) (sym format) ∙ sym (append_assoc (head_octets then.format 0) octets rest);
+  holds = added ∙ ap (λ l. l ++ (octets ++ rest)) head ∙ ap (λ f. header_octets f 0 ++ (octets ++ rest)) (sym format) ∙ sym (append_assoc (header_octets then.format 0) octets rest);
   count = omega (arith, count, none);
 }
 
@@ -101,26 +101,26 @@ first_all first now datagrams a =
 
 -- the sizes were set
 front_whole : (first now : SoundState) (datagrams : List (List ℕ)) (c : Option (List ℕ)) → HasHead first → HasAddedFirst first now datagrams
-    → ((octets rest : List ℕ) → IsBegun now.made now.wav octets rest → Becomes now.made c (head_octets now.wav.format (length octets) ++ octets ++ rest)) → HasFront first.wav.format c datagrams
+    → ((octets rest : List ℕ) → IsBegun now.made now.wav octets rest → Becomes now.made c (header_octets now.wav.format (length octets) ++ octets ++ rest)) → HasFront first.wav.format c datagrams
 front_whole first now datagrams c head a sizes =
     let octets = samples_in first.wav.format.enc (take a.count datagrams) in
-    let x = head_octets first.wav.format 0 in
+    let x = header_octets first.wav.format 0 in
     let added : Appends (Some x) now.made (octets ++ a.rest) = subst (λ m. Appends m now.made (octets ++ a.rest)) head.made a.added in
     let begun = begun_added x now.made first.wav now.wav octets a.rest refl head.none added a.counted a.format in
     record {
       count = a.count;
       within = a.within;
       rest = a.rest;
-      holds = became x now.made c (octets ++ a.rest) _ added (sizes octets a.rest begun) ∙ ap (λ f. Some (head_octets f (length octets) ++ octets ++ a.rest)) a.format;
+      holds = became x now.made c (octets ++ a.rest) _ added (sizes octets a.rest begun) ∙ ap (λ f. Some (header_octets f (length octets) ++ octets ++ a.rest)) a.format;
     }
 
 front_by : (b : Bool) (first now : SoundState) (datagrams : List (List ℕ)) (c : Option (List ℕ)) → HasHead first → HasAddedBy b first now datagrams
-    → ((octets rest : List ℕ) → IsBegun now.made now.wav octets rest → Becomes now.made c (head_octets now.wav.format (length octets) ++ octets ++ rest)) → HasFront first.wav.format c datagrams
+    → ((octets rest : List ℕ) → IsBegun now.made now.wav octets rest → Becomes now.made c (header_octets now.wav.format (length octets) ++ octets ++ rest)) → HasFront first.wav.format c datagrams
 front_by false first now datagrams c head a sizes = front_whole first now datagrams c head (first_all first now datagrams a) sizes
 front_by true first now datagrams c head a sizes = front_whole first now datagrams c head a sizes
 
 pub ends_broken : (first now : SoundState) (datagrams : List (List ℕ)) (c : Option (List ℕ)) → HasHead first → HasSounded first now datagrams
-    → ((octets rest : List ℕ) → IsBegun now.made now.wav octets rest → Becomes now.made c (head_octets now.wav.format (length octets) ++ octets ++ rest)) → HasFront first.wav.format c datagrams
+    → ((octets rest : List ℕ) → IsBegun now.made now.wav octets rest → Becomes now.made c (header_octets now.wav.format (length octets) ++ octets ++ rest)) → HasFront first.wav.format c datagrams
 ends_broken first now datagrams c head s sizes = front_by now.failed first now datagrams c head s sizes
 
 pub ends_finished : (first now : SoundState) (datagrams : List (List ℕ)) (c : Option (List ℕ)) → HasHead first → now.failed ≡ false → HasSounded first now datagrams
@@ -128,7 +128,7 @@ pub ends_finished : (first now : SoundState) (datagrams : List (List ℕ)) (c : 
 ends_finished first now datagrams c head whole s sizes =
     let a = subst (λ b. HasAddedBy b first now datagrams) whole s in
     let octets = samples_in first.wav.format.enc datagrams in
-    let x = head_octets first.wav.format 0 in
+    let x = header_octets first.wav.format 0 in
     let added : Appends (Some x) now.made (octets ++ []) = subst (λ m. Appends m now.made (octets ++ [])) head.made (subst (Appends first.made now.made) (sym (append-nil octets)) a.added) in
     let begun = begun_added x now.made first.wav now.wav octets [] refl head.none added a.count a.format in
     became x now.made c (octets ++ []) _ added (sizes octets begun) ∙ ap (λ f. Some (wav_octets f octets)) a.format

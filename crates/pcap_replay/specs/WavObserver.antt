@@ -2,7 +2,7 @@
 use Rattle.std.specs.Prelude.{◌≡◌, ◌≤◌, ℕ, ◌+◌, Bool, true, false, List, ◌++◌, length, take, Option, Some}
 use Rattle.std.specs.Io.KnownBytes.{Appends}
 use Rattle.wav_file.specs.declared.header.WavFormat.{WavFormat}
-use Rattle.wav_file.specs.Head.{head_octets}
+use Rattle.wav_file.specs.Header.{header_octets}
 use Rattle.wav_file.specs.File.{WavState}
 use Rattle.studio_session.specs.Event.{TraceEvent}
 use Rattle.wav_file.specs.MixWav.{HasAdded}
@@ -19,7 +19,7 @@ pub record SoundState : Type 0 where
 pub record HasHead (sound : SoundState) : Type 0 where
   pub whole : sound.failed ≡ false
   pub none : sound.wav.count ≡ 0
-  pub made : sound.made ≡ Some (head_octets sound.wav.format 0)
+  pub made : sound.made ≡ Some (header_octets sound.wav.format 0)
 
 -- the samples of the first so many of these datagrams were added, whole payloads, and a rest that isn't counted
 pub record HasAddedFirst (first now : SoundState) (datagrams : List (List ℕ)) : Type 0 where
@@ -47,4 +47,4 @@ pub record HasFront (format : WavFormat) (made : Option (List ℕ)) (datagrams :
   pub count : ℕ
   pub within : count ≤ length datagrams
   pub rest : List ℕ
-  pub holds : made ≡ Some (head_octets format (length (samples_in format.enc (take count datagrams))) ++ samples_in format.enc (take count datagrams) ++ rest)
+  pub holds : made ≡ Some (header_octets format (length (samples_in format.enc (take count datagrams))) ++ samples_in format.enc (take count datagrams) ++ rest)

@@ -1,12 +1,12 @@
--- What was seen of a stream, by span and kind.
+-- The events of a stream, counted by time interval and kind.
 use Rattle.std.specs.Prelude.{◌≡◌, ◌<◌, ◌+◌, ◌*◌, ℕ, ℤ, Bool, ◌&&◌, nat_eq, List, get_or, count_by}
 use Rattle.reception_chart.specs.Axis.{span_of}
 use Rattle.reception_chart.specs.declared.reception.axis.Axis.{Axis}
 use Rattle.reception_chart.specs.declared.reception.ReceptionKind.{ReceptionKind}
 use Rattle.reception_chart.specs.declared.reception.ReceptionKind.TheVariants.{Taken, Double, Late, Refused, Lost, Restart}
 
--- one thing that was seen, and when
-pub record Seen : Type 0 where
+-- the kind of an event, and its time
+pub record BinEvent : Type 0 where
   pub time : ℤ
   pub kind : ReceptionKind
 
@@ -29,13 +29,13 @@ abbrev pub bin_of : Axis → ℤ → ℕ
 bin_of axis time = span_of axis.first axis.span axis.bins time
 
 -- it is of this row, and of this span
-abbrev pub is_in : Axis → ℕ → ℕ → Seen → Bool
-is_in axis bin row seen = nat_eq (bin_of axis seen.time) bin && nat_eq (row_of seen.kind) row
+abbrev pub is_in : Axis → ℕ → ℕ → BinEvent → Bool
+is_in axis bin row event = nat_eq (bin_of axis event.time) bin && nat_eq (row_of event.kind) row
 
 -- how many are
-abbrev pub count_in : Axis → List Seen → ℕ → ℕ → ℕ
-count_in axis seen bin row = count_by (is_in axis bin row) seen
+abbrev pub count_in : Axis → List BinEvent → ℕ → ℕ → ℕ
+count_in axis events bin row = count_by (is_in axis bin row) events
 
 -- each count is that of exactly these
-pub record HasCounted (bins : BinsState) (seen : List Seen) : Type 0 where
-  pub each : (bin row : ℕ) → bin < bins.axis.bins → row < 9 → get_or bins.counts (9 * bin + row) 0 ≡ count_in bins.axis seen bin row
+pub record HasCounted (bins : BinsState) (events : List BinEvent) : Type 0 where
+  pub each : (bin row : ℕ) → bin < bins.axis.bins → row < 9 → get_or bins.counts (9 * bin + row) 0 ≡ count_in bins.axis events bin row

@@ -18,8 +18,8 @@ pub record Draws (studio : Studio) (left left_then written written_then : Option
   pub events : List TraceEvent
   pub said : trace_events trace ≡ Ok events
   pub runs : session_fault_of studio events ≡ None
-  pub picture : List ℕ
-  pub wrote : Appends written written_then picture
+  pub svg : List ℕ
+  pub wrote : Appends written written_then svg
 
 -- why it was not: before the first write as for the report
 abbrev pub FailsDrawing : Studio → Option (List ℕ) → Option (List ℕ) → Option (List ℕ) → Option (List ℕ) → PlayFault → Type 0

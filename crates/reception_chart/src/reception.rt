@@ -3,8 +3,6 @@
 ghost use Rattle.std.specs.Prelude.{◌≡◌, ◌<◌};
 ghost use Rattle.reception_chart.specs.Bins.{row_of};
 
-use path_merge::Path;
-
 pub(crate) mod axis;
 pub(crate) mod bins;
 pub(crate) mod extent;
@@ -13,20 +11,22 @@ pub(crate) mod panel_data;
 pub(crate) mod stream_tracker;
 pub(crate) mod studio_tracker;
 
+use path_merge::Path;
+
 /// The row of duplicates. The rows 0 to 3 are those of packets taken from the paths.
-pub const DOUBLE_ROW: usize = 4;
+pub(crate) const DOUBLE_ROW: usize = 4;
 
 /// The row of late packets.
-pub const LATE_ROW: usize = 5;
+pub(crate) const LATE_ROW: usize = 5;
 
 /// The row of lost slots.
-pub const LOST_ROW: usize = 6;
+pub(crate) const LOST_ROW: usize = 6;
 
 /// The row of packets that were refused for another reason.
-pub const REFUSED_ROW: usize = 7;
+pub(crate) const REFUSED_ROW: usize = 7;
 
 /// The row of restarts.
-pub const RESTART_ROW: usize = 8;
+pub(crate) const RESTART_ROW: usize = 8;
 
 /// The kind of an event, which has a row in a strip.
 #[derive(Clone, Copy, Debug, PartialEq, Eq)]
@@ -48,7 +48,7 @@ pub enum ReceptionKind {
 
 impl ReceptionKind {
     /// Returns the row of the kind in a strip: for a taken packet that of its path.
-    pub fn row(self) -> usize
+    pub(crate) fn row(self) -> usize
         ensures value { result ≡ row_of self }
         ensures within { result < 9 }
     {
@@ -70,7 +70,7 @@ pub struct CopyTiming {
     pub path: Path,
     /// The arrival margin: the time from its arrival to its deadline, in sampling instants at 48 kHz. It means nothing
     /// for a late copy.
-    pub spare: i64,
+    pub margin: i64,
 }
 
 /// An event of a stream's reception.
@@ -82,5 +82,11 @@ pub struct ReceptionEvent {
     /// The kind of the event.
     pub kind: ReceptionKind,
     /// The path and the margin of a copy whose media time is known; none for other events.
-    pub copied: Option<CopyTiming>,
+    pub copy: Option<CopyTiming>,
+}
+
+/// An observer of the events of a stream's reception.
+pub trait ReceptionObserver {
+    /// Receives the next event.
+    fn observe(&mut self, event: &ReceptionEvent);
 }

@@ -29,8 +29,8 @@ pub fn chart<R: Read, W: Write>(
 {
     let trace = read_all(alloc, reader)?;
     let events = runnable_events(alloc, spec, trace.as_slice())?;
-    let picture = chart_svg(alloc, spec, &events)?;
-    write_text(writer, picture.as_slice())?;
+    let svg = chart_svg(alloc, spec, &events)?;
+    write_text(writer, svg.as_slice())?;
     Ok(())
 }
 
@@ -41,11 +41,11 @@ fn chart_svg(
     events: &TracedEvents<'_>,
 ) -> Result<Vec<u8>, AllocError> {
     // The events are taken twice, since the axis has to be known before events are counted on it.
-    let mut reach = StudioTracker::measure(alloc, spec)?;
-    reach.take_all(events);
-    let mut seen = reach.for_drawing(alloc, spec)?;
-    seen.take_all(events);
-    seen.svg(alloc)
+    let mut extents = StudioTracker::measure(alloc, spec)?;
+    extents.take_all(events);
+    let mut panels = extents.for_drawing(alloc, spec)?;
+    panels.take_all(events);
+    panels.svg(alloc)
 }
 
 impl StudioTracker<PanelData> {
@@ -56,7 +56,7 @@ impl StudioTracker<PanelData> {
         push_legend(&mut svg)?;
         let mut top = HEAD_HEIGHT;
         for one in self.streams.iter() {
-            push_panel(&mut svg, alloc, top, &one.tracker.cursor, &one.seen)?;
+            push_panel(&mut svg, alloc, top, &one.tracker.cursor, &one.observer)?;
             top = top.saturating_add(panel_height(one.tracker.spec().paths()));
         }
         push_foot(&mut svg)?;

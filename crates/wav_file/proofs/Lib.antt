@@ -1,5 +1,5 @@
 pub mod FileLemmas
-pub mod HeadLemmas
+pub mod HeaderLemmas
 pub mod SamplesLemmas
 pub mod SilenceLemmas
 pub mod FrontLemmas

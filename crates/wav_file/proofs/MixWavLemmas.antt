@@ -17,7 +17,7 @@ use Rattle.studio_run.specs.Listing.{counts_text_of, datagrams_text}
 use Rattle.studio_run.proofs.BufferLemmas.{PassesOn-none, PassesOn-trans, PassesOn-finished}
 use Rattle.studio_run.proofs.StudioReportLemmas.{Gives}
 use Rattle.wav_file.specs.declared.header.WavFormat.{WavFormat}
-use Rattle.wav_file.specs.Head.{head_octets}
+use Rattle.wav_file.specs.Header.{header_octets}
 use Rattle.wav_file.specs.File.{Becomes, Holds, IsBegun, WavState, wav_octets}
 use Rattle.wav_file.specs.MixSamples.{datagram_samples, samples_in}
 use Rattle.wav_file.specs.MixWav.{HasAdded, HasBoth, HasRecorded, IsRecording, Records}
@@ -107,17 +107,17 @@ both_whole studio events a b c d h i j m n wav then session empty r counts rest 
     }
 
 -- the file has its head and its data
-begun : (x y z : List ℕ) (wav then : WavState) (octets : List ℕ) → wav.count ≡ 0 → y ≡ x ++ head_octets wav.format 0 → HasAdded (Some y) (Some z) wav then octets
+begun : (x y z : List ℕ) (wav then : WavState) (octets : List ℕ) → wav.count ≡ 0 → y ≡ x ++ header_octets wav.format 0 → HasAdded (Some y) (Some z) wav then octets
     → x ≡ [] → IsBegun (Some z) then octets []
 begun x y z wav then octets new head added empty =
-    let first : y ≡ head_octets then.format 0 = head ∙ ap (λ l. l ++ head_octets wav.format 0) empty ∙ ap (λ f. head_octets f 0) (sym added.format) in
+    let first : y ≡ header_octets then.format 0 = head ∙ ap (λ l. l ++ header_octets wav.format 0) empty ∙ ap (λ f. header_octets f 0) (sym added.format) in
     record {
-      holds = added.added ∙ ap (λ l. l ++ octets) first ∙ sym (append-nil (head_octets then.format 0 ++ octets));
+      holds = added.added ∙ ap (λ l. l ++ octets) first ∙ sym (append-nil (header_octets then.format 0 ++ octets));
       count = omega (arith, added.count, new);
     }
 
 -- the file is whole
-pub file_whole : (a b c d : Option (List ℕ)) (wav then : WavState) (octets : List ℕ) → wav.count ≡ 0 → Appends a b (head_octets wav.format 0) → HasAdded b c wav then octets
+pub file_whole : (a b c d : Option (List ℕ)) (wav then : WavState) (octets : List ℕ) → wav.count ≡ 0 → Appends a b (header_octets wav.format 0) → HasAdded b c wav then octets
     → ((all : List ℕ) → IsBegun c then all [] → Becomes c d (wav_octets then.format all)) → Holds a [] → Becomes a d (wav_octets wav.format octets)
 file_whole None b c d wav then octets new head added sizes empty = tt
 file_whole (Some x) None c d wav then octets new head added sizes empty = absurd head
@@ -128,7 +128,7 @@ file_whole (Some x) (Some y) (Some z) (Some w) wav then octets new head added si
 
 -- the report and the file are
 pub records_whole : (studio : Studio) (events : List TraceEvent) (written written_then a b c d : Option (List ℕ)) (format : WavFormat) (wav then : WavState)
-    → wav ≡ record { format = format; count = 0 } → Appends a b (head_octets format 0) → HasBoth studio events written written_then b c wav then
+    → wav ≡ record { format = format; count = 0 } → Appends a b (header_octets format 0) → HasBoth studio events written written_then b c wav then
     → ((all : List ℕ) → IsBegun c then all [] → Becomes c d (wav_octets then.format all)) → Records studio events format written written_then a d
 records_whole studio events written written_then a b c d format wav then is head before sizes =
     let first : WavState = record { format = format; count = 0 } in

@@ -7,7 +7,7 @@ use Rattle.rtp_wire.specs.declared.encoding.Enc.{Enc}
 use Rattle.rtp_wire.specs.declared.encoding.Enc.TheVariants.{L16, L24}
 use Rattle.rtp_wire.specs.Sample.{octets_per_sample}
 use Rattle.wav_file.specs.declared.header.WavFormat.{WavFormat}
-use Rattle.wav_file.specs.Head.{frame_length}
+use Rattle.wav_file.specs.Header.{frame_length}
 use Rattle.wav_file.specs.Samples.{little_16, little_24, little_samples}
 use Rattle.wav_file.specs.File.{HasBroken, WavState}
 

@@ -14,7 +14,7 @@ use Rattle.studio_run.specs.Listing.{listing_text}
 use Rattle.studio_run.specs.Play.{IsListing}
 use Rattle.studio_run.proofs.PlayLemmas.{fails_later, fails_read}
 use Rattle.wav_file.specs.declared.header.WavFormat.{WavFormat}
-use Rattle.wav_file.specs.Head.{head_octets}
+use Rattle.wav_file.specs.Header.{header_octets}
 use Rattle.wav_file.specs.File.{Becomes, Holds, IsBegun, WavState, wav_octets}
 use Rattle.wav_file.specs.StreamSamples.{samples_behind, stream_format, stream_samples}
 use Rattle.wav_file.specs.MixWav.{HasAdded}
@@ -43,7 +43,7 @@ format_by spec stream enc channels same e c =
 
 -- a file that was begun with nothing in it became that of a stream's marks
 pub stream_written : (a b c d : Option (List ℕ)) (stream : AStream) (format : WavFormat) (first then : StreamTrack) (marks : List MarkView) → format ≡ stream_format stream → first.wav ≡ record { format = format; count = 0 }
-    → first.frames ≡ stream.frames → first.end ≡ None → Appends a b (head_octets format 0) → HasTracked b c first then marks
+    → first.frames ≡ stream.frames → first.end ≡ None → Appends a b (header_octets format 0) → HasTracked b c first then marks
     → ((all : List ℕ) → IsBegun c then.wav all [] → Becomes c d (wav_octets then.wav.format all)) → Holds a [] → Becomes a d (wav_octets (stream_format stream) (stream_samples stream marks))
 stream_written a b c d stream format first then marks is new own none head tracked sizes empty =
     let begun : WavState = record { format = format; count = 0 } in

@@ -2,7 +2,7 @@
 use Rattle.std.specs.Prelude.{◌≡◌, ◌≤◌, ℕ, ◌+◌, ◌*◌, ◌%◌, ◌==◌, List, [], ◌∷◌, ◌++◌, length, drop, replicate, ⊤, Option, Some, None, if◌then◌else◌}
 use Rattle.wav_file.specs.declared.header.WavFormat.{WavFormat}
 use Rattle.std.specs.Io.KnownBytes.{Appends}
-use Rattle.wav_file.specs.Head.{frame_length, head_octets}
+use Rattle.wav_file.specs.Header.{frame_length, header_octets}
 
 -- what contracts see of a file that is written: its format, and how many octets of data it has
 pub record WavState : Type 0 where
@@ -32,11 +32,11 @@ pad_octets count = if count % 2 == 1 then 0 ∷ [] else []
 
 -- the whole file
 abbrev pub wav_octets : WavFormat → List ℕ → List ℕ
-wav_octets format octets = head_octets format (length octets) ++ octets ++ pad_octets (length octets)
+wav_octets format octets = header_octets format (length octets) ++ octets ++ pad_octets (length octets)
 
 -- the file so far: a head that says no data, the data, and a rest that doesn't count
 pub record IsBegun (written : Option (List ℕ)) (wav : WavState) (octets rest : List ℕ) : Type 0 where
-  pub holds : Holds written (head_octets wav.format 0 ++ octets ++ rest)
+  pub holds : Holds written (header_octets wav.format 0 ++ octets ++ rest)
   pub count : wav.count ≡ length octets
 
 -- so many sampling instants of silence

@@ -1,5 +1,5 @@
 pub mod Samples
-pub mod Head
+pub mod Header
 pub mod File
 pub mod MixSamples
 pub mod MixWav

@@ -1,9 +1,10 @@
 //! The creation of a WAV file.
-ghost use Rattle.std.specs.Prelude.{IfOk, []};
-ghost use Rattle.wav_file.specs.File.{Holds};
+ghost use Rattle.std.specs.Prelude.{IfOk, [], OnOk};
+ghost use Rattle.wav_file.specs.File.{Holds, Overwrites};
 
 use crate::fault::FileFault;
-use crate::overwrite::Overwrite;
+use std::io;
+use std::io::{Seek, SeekFrom, Write};
 
 /// A way to create a file. A run creates it once only a write can fail.
 pub trait CreateFile {
@@ -13,4 +14,43 @@ pub trait CreateFile {
     /// Creates an empty file. Returns `NotCreated` if it can't.
     fn create(&self) -> Result<Self::File, FileFault>
         ensures empty { IfOk result (λ file. Holds (Self.File.Write.contents file) []) };
+}
+
+/// A writer whose first octets can be written over, as those of a file can.
+pub trait Overwrite: Write {
+    /// Writes these octets over the first ones. Later writes go to the end again.
+    fn overwrite(&mut self, octets: &[u8]) -> io::Result<()>
+        ensures bytes { OnOk result (Overwrites (Self.contents self.old) (Self.contents self.new) octets.now) };
+}
+
+/// A file, or another writer that can seek. Contracts don't know its octets.
+#[derive(Drop)]
+pub struct SeekFile<F> {
+    file: F,
+}
+
+impl<F: Write + Seek> SeekFile<F> {
+    /// An `Overwrite` over an empty file.
+    pub fn new(file: F) -> Self {
+        SeekFile { file }
+    }
+}
+
+impl<F: Write + Seek> Write for SeekFile<F> {
+    fn write(&mut self, buf: &[u8]) -> io::Result<usize> {
+        self.file.write(buf)
+    }
+
+    fn flush(&mut self) -> io::Result<()> {
+        self.file.flush()
+    }
+}
+
+impl<F: Write + Seek> Overwrite for SeekFile<F> {
+    fn overwrite(&mut self, octets: &[u8]) -> io::Result<()> {
+        self.file.seek(SeekFrom::Start(0))?;
+        self.file.write_all(octets)?;
+        self.file.seek(SeekFrom::End(0))?;
+        Ok(())
+    }
 }

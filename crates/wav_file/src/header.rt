@@ -1,7 +1,9 @@
 //! The format of a WAV file's samples.
-ghost use Rattle.std.specs.Prelude.{◌≡◌};
-ghost use Rattle.wav_file.specs.Head.{frame_length};
+ghost use Rattle.std.specs.Prelude.{◌≡◌, ◌+◌, ◌++◌, ◌^◌, ◌<◌, ◌≤◌, ◌/◌, length};
+ghost use Rattle.wav_file.specs.Header.{frame_length, format_octets, header_octets, is_long, riff_size, room_chunk, room_octets, size_octets};
+ghost use Rattle.arrayvec.specs.ArrayVec.{array_vec_len};
 
+use arrayvec::ArrayVec;
 use rtp_wire::Enc;
 
 /// The format of a WAV file's samples at 48 kHz. The channels of a sampling instant are next to each other.
@@ -20,4 +22,132 @@ impl WavFormat {
     {
         u16::from(self.channels) * self.enc.octets() as u16
     }
+}
+
+/// The octets of a head, up to the data.
+type Header = ArrayVec<u8, 80>;
+
+/// Returns the header of a file with `count` octets of data.
+pub(crate) fn header_octets(format: WavFormat, count: u64) -> Header
+    requires { count < 2 ^ 63 }
+    ensures head { result.items ≡ header_octets format count }
+    ensures length { array_vec_len result ≡ 80 }
+{
+    let mut head = Header::new();
+    push(&mut head, if is_long(count) { b"RF64" } else { b"RIFF" });
+    push_size(&mut head, count, riff_size(count));
+    push(&mut head, b"WAVE");
+    push_ds64_or_junk(&mut head, format, count);
+    push_format(&mut head, format);
+    push(&mut head, b"data");
+    push_size(&mut head, count, count);
+    head
+}
+
+/// Returns the file's size: the number of octets behind this field, with one more after data of an odd length.
+fn riff_size(count: u64) -> u64
+    requires { count < 2 ^ 63 }
+    ensures { result ≡ riff_size count }
+{
+    72 + count + count % 2
+}
+
+/// Returns true if the file's size doesn't fit 32 bits.
+fn is_long(count: u64) -> bool
+    requires { count < 2 ^ 63 }
+    ensures { result ≡ is_long count }
+{
+    riff_size(count) >= 4_294_967_296
+}
+
+/// Returns the number of sampling instants in so many octets.
+fn frames_in(format: WavFormat, count: u64) -> u64
+    ensures { result ≡ count / frame_length format }
+{
+    // Without channels there are none.
+    count
+        .checked_div(u64::from(format.frame_len()))
+        .unwrap_or(0)
+}
+
+/// Appends octets.
+fn push(head: &mut Header, octets: &[u8])
+    requires { array_vec_len head.old + length octets.now ≤ 80 }
+    ensures items { head.new.items ≡ head.old.items ++ octets.now }
+    ensures length { array_vec_len head.new ≡ array_vec_len head.old + length octets.now }
+{
+    // The clause above requires the room.
+    let Ok(()) = head.try_extend_from_slice(octets) else {
+        unreachable!()
+    };
+}
+
+/// Appends a size of 32 bits: all ones in a long file, whose `ds64` chunk has it.
+fn push_size(head: &mut Header, count: u64, size: u64)
+    requires room { array_vec_len head.old + 4 ≤ 80 }
+    requires count { count < 2 ^ 63 }
+    requires size { size ≤ riff_size count }
+    ensures items { head.new.items ≡ head.old.items ++ size_octets count size }
+    ensures length { array_vec_len head.new ≡ array_vec_len head.old + 4 }
+{
+    let size = if is_long(count) {
+        u32::MAX
+    } else {
+        size as u32
+    };
+    push(head, &size.to_le_bytes());
+}
+
+/// Appends the chunk with the sizes of a long file, or one of the same length that is ignored.
+// The file's length isn't known when its header is first written. `JUNK` keeps the room for `ds64`.
+fn push_ds64_or_junk(head: &mut Header, format: WavFormat, count: u64)
+    requires room { array_vec_len head.old + 36 ≤ 80 }
+    requires count { count < 2 ^ 63 }
+    ensures items { head.new.items ≡ head.old.items ++ room_octets format count }
+    ensures length { array_vec_len head.new ≡ array_vec_len head.old + 36 }
+{
+    if is_long(count) {
+        push_sizes(
+            head,
+            b"ds64",
+            riff_size(count),
+            count,
+            frames_in(format, count),
+        );
+    } else {
+        push_sizes(head, b"JUNK", 0, 0, 0);
+    }
+}
+
+/// Appends a chunk of this name, with the sizes of a long file and its number of sampling instants.
+fn push_sizes(head: &mut Header, name: &[u8; 4], all: u64, count: u64, frames: u64)
+    requires room { array_vec_len head.old + 36 ≤ 80 }
+    ensures items { head.new.items ≡ head.old.items ++ room_chunk name.now all count frames }
+    ensures length { array_vec_len head.new ≡ array_vec_len head.old + 36 }
+{
+    push(head, name);
+    push(head, &28_u32.to_le_bytes());
+    push(head, &all.to_le_bytes());
+    push(head, &count.to_le_bytes());
+    push(head, &frames.to_le_bytes());
+    // A table of no further chunk sizes.
+    push(head, &0_u32.to_le_bytes());
+}
+
+/// Appends the chunk of the format.
+fn push_format(head: &mut Header, format: WavFormat)
+    requires { array_vec_len head.old + 24 ≤ 80 }
+    ensures items { head.new.items ≡ head.old.items ++ format_octets format }
+    ensures length { array_vec_len head.new ≡ array_vec_len head.old + 24 }
+{
+    let frame = format.frame_len();
+    push(head, b"fmt ");
+    push(head, &16_u32.to_le_bytes());
+    // The format 1 is linear PCM.
+    push(head, &1_u16.to_le_bytes());
+    push(head, &u16::from(format.channels).to_le_bytes());
+    push(head, &48_000_u32.to_le_bytes());
+    push(head, &(48_000 * u32::from(frame)).to_le_bytes());
+    push(head, &frame.to_le_bytes());
+    push(head, &(8 * format.enc.octets() as u16).to_le_bytes());
 }

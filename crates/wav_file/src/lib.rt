@@ -15,23 +15,16 @@
 
 mod fault;
 mod files;
-mod head;
 mod header;
 mod mix_wav;
-mod overwrite;
-mod recorder;
 mod samples;
-mod stream_recorder;
 mod stream_track;
 mod stream_wav;
 mod writer;
 
 pub use fault::{FileFault, StreamWavFault, WavRunFault};
-pub use files::CreateFile;
+pub use files::{CreateFile, Overwrite, SeekFile};
 pub use header::WavFormat;
-pub use mix_wav::play_to_wav;
-pub use overwrite::{Overwrite, SeekFile};
-pub use recorder::write_mix_wav;
-pub use stream_recorder::write_stream_wav;
-pub use stream_wav::list_to_wav;
+pub use mix_wav::{play_to_wav, write_mix_wav};
+pub use stream_wav::{list_to_wav, write_stream_wav};
 pub use writer::{WavFault, WavWriter};

@@ -1,21 +1,29 @@
 //! The listing of a trace, with a WAV file of one stream.
-ghost use Rattle.std.specs.Prelude.{◌≡◌, ◌<◌, ◌≤◌, Some, None, slice_get, IfErr, IfOk};
+ghost use Rattle.std.specs.Prelude.{◌≡◌, ◌<◌, ◌≤◌, Some, None, slice_get, IfErr, IfOk, ℕ, ℤ, List, [], Option, OnOk};
 ghost use Rattle.rtp_stream.specs.declared.stream_spec.Stream.{Stream};
-ghost use Rattle.studio_session.specs.Play.{HasPathsBy, IsRunnableBy};
+ghost use Rattle.studio_session.specs.Play.{HasPathsBy, IsRunnableBy, stream_marks};
 ghost use Rattle.wav_file.specs.StreamRun.{FailsBoth, FailsListing, IsUnfit, ListsAndRecords, ListsAndRecordsTextOf};
+ghost use Rattle.studio_session.specs.Event.{TraceEvent};
+ghost use Rattle.studio_session.specs.Cursor.{HasPulled, IsReadyFor, IsRunnable, IsSameCursor};
+ghost use Rattle.wav_file.specs.File.{Becomes, Holds, wav_octets};
+ghost use Rattle.wav_file.specs.StreamSamples.{stream_format, stream_samples};
+ghost use Rattle.wav_file.specs.StreamTrack.{HasTaken, HasTakenAll, HasTracked};
+ghost use Rattle.wav_file.specs.declared.stream_track.StreamTrack.{StreamTrack};
 
 use crate::fault::{StreamWavFault, WavRunFault};
-use crate::files::CreateFile;
-use crate::stream_recorder::write_stream_wav;
+use crate::files::{CreateFile, Overwrite};
+use crate::header::WavFormat;
+use crate::stream_track::StreamTrack;
+use crate::writer::{WavFault, WavWriter};
 use path_merge::StreamSpec;
 use std::alloc::Global;
 use std::io::{Read, Write};
 use studio_config::StudioSpec;
 use studio_run::{TextBuffer, TracedEvents, read_all, runnable_events, write_whole_listing};
-use studio_session::{Cursor, studio_cursors};
+use studio_session::{Cursor, EventSource, MOST_ARRIVAL_OCTETS, studio_cursors};
 
 /// The greatest number of channels of a stream in a WAV file.
-const MOST_CHANNELS: u8 = 8;
+const MAX_CHANNELS: u8 = 8;
 
 /// Reads a trace to its end, writes the samples of the stream `number` to a file, which it returns, and then the
 /// listing of all marks as `list_marks` does. The file is created once only a write can fail. Returns the error of the
@@ -50,7 +58,7 @@ fn stream_at(spec: &StudioSpec, number: u8) -> Result<StreamSpec, StreamWavFault
 {
     match spec.streams().get(usize::from(number)) {
         None => Err(StreamWavFault::Unknown),
-        Some(stream) if stream.channels() > MOST_CHANNELS => Err(StreamWavFault::Channels),
+        Some(stream) if stream.channels() > MAX_CHANNELS => Err(StreamWavFault::Channels),
         Some(stream) => Ok(*stream),
     }
 }
@@ -81,4 +89,90 @@ fn write_both<W: Write, M: CreateFile>(
     write_stream_wav(&mut file, events, &mut cursor)?;
     write_whole_listing(&mut text, writer, events, cursors.as_mut_slice())?;
     Ok(file)
+}
+
+/// Writes the samples of all marks of a stream to an empty file. Lost packets, and the gaps between epochs, are
+/// silence. The cursor has to be before the first event. Returns an error if a write fails.
+pub fn write_stream_wav<E: EventSource, F: Overwrite>(
+    file: &mut F,
+    source: &E,
+    cursor: &mut Cursor,
+) -> Result<(), WavFault>
+    requires settled { cursor.old.reading ≡ None }
+    requires ready { IsReadyFor (E.events source.now) cursor.old }
+    ensures { OnOk result ((stream : Stream) (number : ℕ) (open_at : ℤ)
+        → IsRunnable stream number open_at (E.events source.now)
+        → HasPulled stream number open_at (E.events source.now) cursor.old 0
+        → Holds (F.Write.contents file.old) [] → Becomes (F.Write.contents file.old) (F.Write.contents file.new)
+        (wav_octets (stream_format stream)
+        (stream_samples stream (stream_marks stream number open_at (E.events source.now))))) }
+{
+    let spec = cursor.spec();
+    let format = WavFormat {
+        enc: spec.enc(),
+        channels: spec.channels(),
+    };
+    let wav = WavWriter::begin(format, file)?;
+    let frames = spec.frames();
+    let mut track = StreamTrack {
+        wav,
+        frames,
+        end: None,
+    };
+    match add_marks(&mut track, file, source, cursor) {
+        Ok(()) => track.wav.finish(file),
+        Err(fault) => {
+            // The first error is returned, whether the sizes can be written or not.
+            let _ = track.wav.finish_partial(file);
+            Err(fault)
+        }
+    }
+}
+
+/// Writes the samples of all marks of a stream.
+fn add_marks<E: EventSource, F: Write>(
+    track: &mut StreamTrack,
+    file: &mut F,
+    source: &E,
+    cursor: &mut Cursor,
+) -> Result<(), WavFault>
+    requires ready { IsReadyFor (E.events source.now) cursor.old }
+    ensures { OnOk result ((stream : Stream) (number : ℕ) (open_at : ℤ)
+        → IsRunnable stream number open_at (E.events source.now)
+        → HasPulled stream number open_at (E.events source.now) cursor.old 0
+        → HasTracked (F.contents file.old) (F.contents file.new) track.old track.new
+        (stream_marks stream number open_at (E.events source.now))) }
+{
+    let mut room = [0; MOST_ARRIVAL_OCTETS];
+    // The label names the loop in its proof.
+    'events: loop {
+        add_taken(track, file, cursor)?;
+        if !cursor.take_event(source, &mut room) {
+            return Ok(());
+        }
+    }
+}
+
+/// Writes the samples of all marks that are due after the events so far.
+fn add_taken<F: Write>(
+    track: &mut StreamTrack,
+    file: &mut F,
+    cursor: &mut Cursor,
+) -> Result<(), WavFault>
+    ensures ok { OnOk result
+        ((stream : Stream) (number : ℕ) (open_at : ℤ) (events : List TraceEvent) (made : Option (List ℕ))
+        (first : StreamTrack)
+        → IsRunnable stream number open_at events
+        → HasTaken stream number open_at events made first cursor.old (F.contents file.old) track.old
+        → HasTakenAll stream number open_at events made first cursor.new (F.contents file.new) track.new) }
+    ensures settled { OnOk result (cursor.new.reading ≡ None) }
+    ensures kept { IsSameCursor cursor.old cursor.new }
+{
+    // The label names the loop in its proof.
+    'marks: loop {
+        track.add_next(file, cursor.mark())?;
+        if !cursor.pass() {
+            return Ok(());
+        }
+    }
 }

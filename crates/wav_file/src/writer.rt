@@ -2,23 +2,22 @@
 ghost use Rattle.std.specs.Prelude.{◌≡◌, ◌+◌, ◌≤◌, ◌++◌, ℕ, List, [], length, take, OnOk, OnErr, IfOk};
 ghost use Rattle.std.specs.Io.KnownBytes.{Appends};
 ghost use Rattle.wav_file.specs.Samples.{little_samples};
-ghost use Rattle.wav_file.specs.Head.{head_octets};
+ghost use Rattle.wav_file.specs.Header.{header_octets};
 ghost use Rattle.wav_file.specs.File.{Becomes, HasBroken, IsBegun, pad_octets, silent_octets, wav_octets};
 
-use crate::head::header_octets;
-use crate::header::WavFormat;
-use crate::overwrite::Overwrite;
+use crate::files::Overwrite;
+use crate::header::{WavFormat, header_octets};
 use crate::samples::to_little_endian;
 use std::io::Write;
 use std::marker::Model;
 use thiserror::Error;
 
 /// The greatest number of octets of data to which more are added.
-// With a payload more it stays below 2^63, as a head requires.
-const MOST_OCTETS: u64 = 1 << 62;
+// With a payload more it stays below 2^63, as a header requires.
+const MAX_DATA_OCTETS: u64 = 1 << 62;
 
 /// The greatest number of octets of silence that are written at once: those of the longest payload.
-const MOST_ZEROS: usize = 1440;
+const MAX_ZEROS: usize = 1440;
 
 /// The error of writing a WAV file: a write failed or took no octet, or the file has more than 2^62 octets of data.
 #[derive(Clone, Copy, Debug, PartialEq, Eq, Error)]
@@ -28,7 +27,7 @@ pub struct WavFault;
 /// The writer of a WAV file, which is passed the file at each call.
 ///
 /// `push` and `push_silence` write samples. Call `finish` after the last of them, or `finish_partial` after one that
-/// failed. Until then the head has the sizes of an empty file.
+/// failed. Until then the header has the sizes of an empty file.
 #[derive(Debug, Drop)]
 pub struct WavWriter {
     format: WavFormat,
@@ -48,11 +47,11 @@ impl Model for WavWriter {
 }
 
 impl WavWriter {
-    /// Writes the head to an empty file. Returns an error if a write fails.
+    /// Writes the header to an empty file. Returns an error if a write fails.
     pub fn begin<W: Write>(format: WavFormat, writer: &mut W) -> Result<WavWriter, WavFault>
-        ensures ok { OnOk result (Appends (W.contents writer.old) (W.contents writer.new) (head_octets format 0)) }
+        ensures ok { OnOk result (Appends (W.contents writer.old) (W.contents writer.new) (header_octets format 0)) }
         ensures fault { OnErr result ((n : ℕ)
-            × Appends (W.contents writer.old) (W.contents writer.new) (take n (head_octets format 0))) }
+            × Appends (W.contents writer.old) (W.contents writer.new) (take n (header_octets format 0))) }
         ensures empty { IfOk result (λ wav. wav ≡ record { format = format; count = 0 }) }
     {
         write_octets(writer, header_octets(format, 0).as_slice())?;
@@ -71,7 +70,7 @@ impl WavWriter {
         ensures counted { OnOk result (self.new ≡ record { format = self.old.format; count = self.old.count + length (little_samples self.old.format.enc payload.now) }) }
         ensures same { OnErr result (self.new ≡ self.old) }
     {
-        if self.count > MOST_OCTETS {
+        if self.count > MAX_DATA_OCTETS {
             return Err(WavFault);
         }
         let samples = to_little_endian(self.format.enc, payload);
@@ -92,8 +91,8 @@ impl WavWriter {
         if frame == 0 {
             return Ok(());
         }
-        let zeros = [0; MOST_ZEROS];
-        let most = (MOST_ZEROS / frame) as u64;
+        let zeros = [0; MAX_ZEROS];
+        let most = (MAX_ZEROS / frame) as u64;
         let mut done = 0;
         // The label names the loop in its proof.
         'chunks: while done < instants {
@@ -104,7 +103,7 @@ impl WavWriter {
         Ok(())
     }
 
-    /// Writes the sizes of the data to the head, and an octet more behind data of an odd length. Returns an error if a
+    /// Writes the sizes of the data to the header, and an octet more behind data of an odd length. Returns an error if a
     /// write fails.
     pub fn finish<W: Overwrite>(self, writer: &mut W) -> Result<(), WavFault>
         ensures { OnOk result ((octets : List ℕ) → IsBegun (W.Write.contents writer.old) self octets []
@@ -114,12 +113,12 @@ impl WavWriter {
         self.finish_partial(writer)
     }
 
-    /// Writes the sizes of the whole payloads to the head, after a failed call. A part of a payload may be behind them.
+    /// Writes the sizes of the whole payloads to the header, after a failed call. A part of a payload may be behind them.
     /// Returns an error if the write fails.
     pub fn finish_partial<W: Overwrite>(self, writer: &mut W) -> Result<(), WavFault>
         ensures { OnOk result ((octets rest : List ℕ) → IsBegun (W.Write.contents writer.old) self octets rest
             → Becomes (W.Write.contents writer.old) (W.Write.contents writer.new)
-            (head_octets self.format (length octets) ++ octets ++ rest)) }
+            (header_octets self.format (length octets) ++ octets ++ rest)) }
     {
         let head = header_octets(self.format, self.count);
         match writer.overwrite(head.as_slice()) {

@@ -7,7 +7,7 @@ use std::alloc::AllocError;
 use std::io::Write;
 
 /// The distance of the paths' rows.
-const SPARE_STEP: u32 = 24;
+const MARGIN_STEP: u32 = 24;
 
 /// The class and the name of each path's row.
 const PATHS: [(&str, &str); 4] = [
@@ -18,9 +18,9 @@ const PATHS: [(&str, &str); 4] = [
 ];
 
 /// Returns the height of the rows of a stream with so many paths, with their scale.
-pub(crate) fn spare_height(paths: u8) -> u32 {
+pub(crate) fn margins_height(paths: u8) -> u32 {
     u32::from(paths)
-        .saturating_mul(SPARE_STEP)
+        .saturating_mul(MARGIN_STEP)
         .saturating_add(18)
 }
 
@@ -37,7 +37,7 @@ pub(crate) fn push_margins(
             push_text(svg, "end", LEFT - 8, y.saturating_add(15), name)?;
             push_path(svg, y, class, margins.path(path))?;
         }
-        y = y.saturating_add(SPARE_STEP);
+        y = y.saturating_add(MARGIN_STEP);
     }
     push_scale(svg, y, margins)
 }
@@ -52,7 +52,7 @@ fn push_path(svg: &mut Vec<u8>, y: u32, class: &str, path: &PathMargins) -> Resu
     for place in 0..MARGIN_BINS {
         heights[place] = height_of(path.bins[place], most, 1);
     }
-    push_bars(svg, class, y, SPARE_STEP - 4, &heights)?;
+    push_bars(svg, class, y, MARGIN_STEP - 4, &heights)?;
     let (x, in_time, late) = (LEFT + PLOT_WIDTH + 8, path.in_time, path.late);
     fmt_result(write!(
         svg,

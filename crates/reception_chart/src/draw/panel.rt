@@ -1,7 +1,7 @@
 //! The panel of a stream: its name, strip, ticks, arrival margins and counts.
 use crate::draw::count_lines::{counts_height, push_counts};
 use crate::draw::fmt_result;
-use crate::draw::margin_rows::{millis, push_margins, spare_height};
+use crate::draw::margin_rows::{margins_height, millis, push_margins};
 use crate::draw::strip::{push_strip, strip_height};
 use crate::draw::ticks::{TICKS_HEIGHT, push_ticks};
 use crate::reception::panel_data::PanelData;
@@ -21,7 +21,7 @@ const GAP: u32 = 24;
 pub(crate) fn panel_height(paths: u8) -> u32 {
     (NAME_HEIGHT + TICKS_HEIGHT + GAP)
         .saturating_add(strip_height(paths))
-        .saturating_add(spare_height(paths))
+        .saturating_add(margins_height(paths))
         .saturating_add(counts_height(paths))
 }
 
@@ -31,7 +31,7 @@ pub(crate) fn push_panel(
     alloc: Global,
     top: u32,
     cursor: &Cursor,
-    gathered: &PanelData,
+    data: &PanelData,
 ) -> Result<(), AllocError> {
     let spec = cursor.spec();
     let paths = spec.paths();
@@ -39,12 +39,12 @@ pub(crate) fn push_panel(
     fmt_result(write!(svg, "<g id=\"stream{number}\">\n"))?;
     push_name(svg, top, number, &spec)?;
     let top = top.saturating_add(NAME_HEIGHT);
-    push_strip(svg, alloc, top, paths, &gathered.bins)?;
+    push_strip(svg, alloc, top, paths, &data.bins)?;
     let top = top.saturating_add(strip_height(paths));
-    push_ticks(svg, top, &gathered.bins.axis())?;
+    push_ticks(svg, top, &data.bins.axis())?;
     let top = top.saturating_add(TICKS_HEIGHT);
-    push_margins(svg, top, paths, &gathered.margins)?;
-    let top = top.saturating_add(spare_height(paths));
+    push_margins(svg, top, paths, &data.margins)?;
+    let top = top.saturating_add(margins_height(paths));
     push_counts(svg, alloc, top, cursor)?;
     svg.extend_from_slice(b"</g>\n")
 }

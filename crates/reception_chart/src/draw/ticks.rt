@@ -6,7 +6,7 @@ use std::alloc::AllocError;
 use std::io::Write;
 
 /// The greatest number of ticks behind the first.
-const MOST_TICKS: u64 = 8;
+const MAX_TICKS: u64 = 8;
 
 /// The height of the ticks with their times.
 pub(crate) const TICKS_HEIGHT: u32 = 22;
@@ -16,7 +16,7 @@ pub(crate) fn push_ticks(svg: &mut Vec<u8>, top: u32, axis: &Axis) -> Result<(),
     // A sampling instant at 48 kHz is 125/6 microseconds.
     let micros = axis.length().saturating_mul(125) / 6;
     let step = step_of(micros);
-    for number in 0..MOST_TICKS + 1 {
+    for number in 0..MAX_TICKS + 1 {
         let time = number.saturating_mul(step);
         if time > micros {
             break;
@@ -32,7 +32,7 @@ fn step_of(micros: u64) -> u64 {
     for _ in 0..18 {
         for times in [1, 2, 5] {
             let step = ten.saturating_mul(times);
-            if micros / step.max(1) <= MOST_TICKS {
+            if micros / step.max(1) <= MAX_TICKS {
                 return step;
             }
         }

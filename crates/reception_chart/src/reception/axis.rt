@@ -3,11 +3,11 @@ ghost use Rattle.std.specs.Prelude.{◌≡◌, ◌<◌, ◌≤◌};
 ghost use Rattle.reception_chart.specs.Axis.{length_between, span_of};
 
 /// The greatest number of intervals of an axis.
-pub const MOST_BINS: usize = 480;
+pub(crate) const MAX_BINS: usize = 480;
 
 /// A stretch of media time in adjacent intervals, in sampling instants at 48 kHz.
 #[derive(Clone, Copy, Debug, PartialEq, Eq)]
-pub struct Axis {
+pub(crate) struct Axis {
     /// The media time at which the first interval begins.
     pub first: i64,
     /// The length of each interval.
@@ -22,7 +22,7 @@ pub struct Axis {
 impl Axis {
     /// The axis from one media time to another, with at most 480 intervals, each of which has whole packets of `frames`
     /// sampling instants.
-    pub fn of(first: i64, last: i64, frames: u16) -> Axis
+    pub(crate) fn of(first: i64, last: i64, frames: u16) -> Axis
         ensures { result.first ≡ first }
     {
         // Whole packets: otherwise intervals would have one packet more or less by turns.
@@ -30,20 +30,20 @@ impl Axis {
         let length = length_between(first, last).max(1);
         let packets = length.div_ceil(frames);
         let span = packets
-            .div_ceil(MOST_BINS as u64)
+            .div_ceil(MAX_BINS as u64)
             .saturating_mul(frames)
             .max(1);
-        let bins = length.div_ceil(span).max(1).min(MOST_BINS as u64) as usize;
+        let bins = length.div_ceil(span).max(1).min(MAX_BINS as u64) as usize;
         Axis { first, span, bins }
     }
 
     /// Returns the length of all intervals, in sampling instants.
-    pub fn length(&self) -> u64 {
+    pub(crate) fn length(&self) -> u64 {
         self.span.saturating_mul(self.bins as u64)
     }
 
     /// Returns the interval of a media time; a time before the first or behind the last one belongs to that.
-    pub fn bin_of(&self, time: i64) -> usize
+    pub(crate) fn bin_of(&self, time: i64) -> usize
         ensures value { result ≡ span_of self.now.first self.now.span self.now.bins time }
         ensures within { result < self.now.bins }
     {

@@ -1,6 +1,6 @@
 //! The counts of a stream's events by time interval and kind.
 ghost use Rattle.std.specs.Prelude.{◌≡◌, ◌+◌, ◌<◌, ◌^◌, ◌++◌, ◌∷◌, [], List, length, IfOk};
-ghost use Rattle.reception_chart.specs.Bins.{HasCounted, Seen, count_in};
+ghost use Rattle.reception_chart.specs.Bins.{HasCounted, BinEvent, count_in};
 
 use crate::reception::ReceptionKind;
 use crate::reception::axis::Axis;
@@ -8,11 +8,11 @@ use std::alloc::{AllocError, Global};
 use std::marker::Model;
 
 /// The number of rows of an interval: one for the packets taken from each path, and one for each other kind.
-pub const ROWS: usize = 9;
+pub(crate) const ROWS: usize = 9;
 
 /// The number of events of each kind in each interval of an axis.
 #[derive(Drop)]
-pub struct Bins {
+pub(crate) struct Bins {
     axis: Axis,
     counts: Vec<u64>,
 }
@@ -30,7 +30,7 @@ impl Model for Bins {
 
 impl Bins {
     /// The counts before the first event. Returns `AllocError` if an allocation fails.
-    pub fn new(alloc: Global, axis: Axis) -> Result<Bins, AllocError>
+    pub(crate) fn new(alloc: Global, axis: Axis) -> Result<Bins, AllocError>
         ensures counted { IfOk result (λ bins. HasCounted bins []) }
         ensures axis { IfOk result (λ bins. bins.axis ≡ axis) }
     {
@@ -40,16 +40,16 @@ impl Bins {
     }
 
     /// Returns the axis.
-    pub fn axis(&self) -> Axis
+    pub(crate) fn axis(&self) -> Axis
         ensures { result ≡ self.now.axis }
     {
         self.axis
     }
 
     /// Counts an event of a kind at a media time.
-    pub fn add(&mut self, time: i64, kind: ReceptionKind)
-        ensures counted { (seen : List Seen) → length seen + 1 < 2 ^ 64 → HasCounted self.old seen
-            → HasCounted self.new (seen ++ record { time = time; kind = kind } ∷ []) }
+    pub(crate) fn add(&mut self, time: i64, kind: ReceptionKind)
+        ensures counted { (events : List BinEvent) → length events + 1 < 2 ^ 64 → HasCounted self.old events
+            → HasCounted self.new (events ++ record { time = time; kind = kind } ∷ []) }
         ensures axis { self.new.axis ≡ self.old.axis }
     {
         let place = ROWS * self.axis.bin_of(time) + kind.row();
@@ -57,16 +57,16 @@ impl Bins {
     }
 
     /// Returns the number of events of a row in an interval.
-    pub fn count(&self, bin: usize, row: usize) -> u64
+    pub(crate) fn count(&self, bin: usize, row: usize) -> u64
         requires bin { bin < self.now.axis.bins }
         requires row { row < 9 }
-        ensures { (seen : List Seen) → HasCounted self.now seen → result ≡ count_in self.now.axis seen bin row }
+        ensures { (events : List BinEvent) → HasCounted self.now events → result ≡ count_in self.now.axis events bin row }
     {
         self.counts[ROWS * bin + row]
     }
 
     /// Returns the number of events of a row in all intervals.
-    pub fn total(&self, row: usize) -> u64
+    pub(crate) fn total(&self, row: usize) -> u64
         requires { row < 9 }
     {
         let mut total: u64 = 0;

@@ -1,6 +1,5 @@
 //! The extent of a stream's events in media time.
-use crate::observer::ReceptionObserver;
-use crate::reception::{ReceptionEvent, ReceptionKind};
+use crate::reception::{ReceptionEvent, ReceptionKind, ReceptionObserver};
 
 /// The media time from the first to the last packet that was taken or lost, in sampling instants at 48 kHz, and the
 /// greatest arrival margin.
@@ -11,41 +10,41 @@ pub struct Extent {
     first: Option<i64>,
     last: i64,
     /// The greatest arrival margin.
-    most: i64,
+    greatest_margin: i64,
 }
 
 impl Extent {
     /// The extent before the first event of a stream with packets of so many sampling instants.
-    pub fn new(frames: u16) -> Extent {
+    pub(crate) fn new(frames: u16) -> Extent {
         Extent {
             frames,
             first: None,
             last: 0,
-            most: 0,
+            greatest_margin: 0,
         }
     }
 
     /// Returns the media time at which the first packet begins, if there is one.
-    pub fn first(&self) -> Option<i64> {
+    pub(crate) fn first(&self) -> Option<i64> {
         self.first
     }
 
     /// Returns the media time at which the last packet ends, or 0 if there is none.
-    pub fn last(&self) -> i64 {
+    pub(crate) fn last(&self) -> i64 {
         self.last
     }
 
     /// Returns the greatest arrival margin of a copy in time, or 0 if there is none.
-    pub fn most(&self) -> i64 {
-        self.most
+    pub(crate) fn greatest_margin(&self) -> i64 {
+        self.greatest_margin
     }
 }
 
 impl ReceptionObserver for Extent {
     fn observe(&mut self, event: &ReceptionEvent) {
-        match event.copied {
-            Some(copied) if event.kind != ReceptionKind::Late => {
-                self.most = self.most.max(copied.spare);
+        match event.copy {
+            Some(copy) if event.kind != ReceptionKind::Late => {
+                self.greatest_margin = self.greatest_margin.max(copy.margin);
             }
             _ => {}
         }

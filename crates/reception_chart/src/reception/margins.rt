@@ -3,11 +3,11 @@ use crate::reception::{CopyTiming, ReceptionEvent, ReceptionKind};
 use path_merge::Path;
 
 /// The number of intervals of the time before a deadline.
-pub const MARGIN_BINS: usize = 96;
+pub(crate) const MARGIN_BINS: usize = 96;
 
 /// The arrival margins of a path's copies.
 #[derive(Clone, Copy, Debug, PartialEq, Eq)]
-pub struct PathMargins {
+pub(crate) struct PathMargins {
     /// The number of copies in time in each interval before their deadlines; the first interval is next to the
     /// deadline.
     pub bins: [u64; MARGIN_BINS],
@@ -31,8 +31,8 @@ impl PathMargins {
     }
 
     /// Counts a copy in time by its arrival margin, in intervals of `span` sampling instants.
-    fn add(&mut self, spare: i64, span: u64) {
-        let spans = u64::try_from(spare)
+    fn add(&mut self, margin: i64, span: u64) {
+        let spans = u64::try_from(margin)
             .unwrap_or(0)
             .checked_div(span)
             .unwrap_or(0);
@@ -40,15 +40,15 @@ impl PathMargins {
         self.bins[bin] = self.bins[bin].saturating_add(1);
         self.in_time = self.in_time.saturating_add(1);
         self.least = match self.least {
-            Some(least) => Some(least.min(spare)),
-            None => Some(spare),
+            Some(least) => Some(least.min(margin)),
+            None => Some(margin),
         };
     }
 }
 
 /// The arrival margins of the copies of each path of a stream.
 #[derive(Drop)]
-pub struct Margins {
+pub(crate) struct Margins {
     /// The length of an interval, in sampling instants.
     span: u64,
     paths: [PathMargins; 4],
@@ -57,7 +57,7 @@ pub struct Margins {
 impl Margins {
     /// The margins before the first copy, in intervals up to a greatest margin. A greater one belongs to the last
     /// interval.
-    pub fn new(most: i64) -> Margins {
+    pub(crate) fn new(most: i64) -> Margins {
         let span = (u64::try_from(most).unwrap_or(0) / MARGIN_BINS as u64).saturating_add(1);
         Margins {
             span,
@@ -66,27 +66,27 @@ impl Margins {
     }
 
     /// Returns the length of an interval, in sampling instants at 48 kHz.
-    pub fn span(&self) -> u64 {
+    pub(crate) fn span(&self) -> u64 {
         self.span
     }
 
     /// Counts the copy of an event, if it has one.
-    pub fn add(&mut self, event: &ReceptionEvent) {
-        let Some(copied) = event.copied else {
+    pub(crate) fn add(&mut self, event: &ReceptionEvent) {
+        let Some(copy) = event.copy else {
             return;
         };
-        let place = usize::from(copied.path.number());
+        let place = usize::from(copy.path.number());
         let mut path = self.paths[place];
         if event.kind == ReceptionKind::Late {
             path.late = path.late.saturating_add(1);
         } else {
-            path.add(copied.spare, self.span);
+            path.add(copy.margin, self.span);
         }
         self.paths[place] = path;
     }
 
     /// Returns the arrival margins of a path's copies.
-    pub fn path(&self, path: Path) -> &PathMargins {
+    pub(crate) fn path(&self, path: Path) -> &PathMargins {
         &self.paths[usize::from(path.number())]
     }
 }

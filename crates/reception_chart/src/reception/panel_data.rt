@@ -1,9 +1,8 @@
 //! The data of a stream's panel.
-use crate::observer::ReceptionObserver;
-use crate::reception::ReceptionEvent;
 use crate::reception::axis::Axis;
 use crate::reception::bins::Bins;
 use crate::reception::margins::Margins;
+use crate::reception::{ReceptionEvent, ReceptionObserver};
 use std::alloc::{AllocError, Global};
 
 /// The data of a stream's panel: its events by time and kind, and the arrival margins of its copies.

@@ -2,11 +2,9 @@
 ghost use Rattle.std.specs.Prelude.{◌≡◌, ◌+◌, ◌<◌, None, true, length, IfOk};
 ghost use Rattle.studio_session.specs.Cursor.{IsSameCursor};
 
-use crate::observer::ReceptionObserver;
-use crate::reception::{CopyTiming, ReceptionEvent, ReceptionKind};
+use crate::reception::{CopyTiming, ReceptionEvent, ReceptionKind, ReceptionObserver};
 use path_merge::{Fate, MarkKindRef, PacketRef, Path};
-use rtp_stream::{StreamSpec, is_taken};
-use rtp_wire::MAX_ARRIVAL_OCTETS;
+use rtp_stream::{StreamSpec, is_taken, near32};
 use std::alloc::{AllocError, Global};
 use studio_config::StudioSpec;
 use studio_session::{ArriveOutcome, Cursor, EventHeader, EventSource, ReceptionRef, receive_ref};
@@ -21,39 +19,35 @@ struct GridReference {
 impl GridReference {
     /// Returns the media time of a packet of the same grid by its timestamp.
     fn media_of(&self, ts: u32) -> i64 {
-        // Timestamps wrap after 2^32, so a difference of 2^31 or more is a packet before the reference.
-        let past = i64::from(ts.wrapping_sub(self.ts));
-        if past < 2_147_483_648 {
-            self.media.saturating_add(past)
-        } else {
-            self.media.saturating_sub(4_294_967_296 - past)
-        }
+        // A timestamp has 32 bits and wraps, so the nearest to the reference is meant.
+        let from = i64::from(self.ts);
+        self.media.saturating_add(near32(ts, from) - from)
     }
 }
 
 /// The clock reading and the grid of a stream.
 #[derive(Clone, Copy)]
-struct GridState {
+struct StreamGrid {
     /// The last clock reading, or the opening time.
     time: i64,
     /// The packet that was taken last, if there is one.
-    ruler: Option<GridReference>,
+    reference: Option<GridReference>,
 }
 
 /// A stream with its merge, which takes events one by one and reports what becomes of them.
 #[derive(Drop)]
-pub struct StreamTracker {
+pub(crate) struct StreamTracker {
     pub(crate) cursor: Cursor,
     /// The number of events that were taken, those of other streams too.
     place: usize,
-    view: GridState,
+    grid: StreamGrid,
     pub(crate) ghost counted: { cursor.place ≡ place },
     pub(crate) ghost settled: { cursor.reading ≡ None },
 }
 
 impl StreamTracker {
     /// A stream of a studio before the first event. Returns `AllocError` if an allocation fails.
-    pub fn new(
+    pub(crate) fn new(
         alloc: Global,
         spec: &StudioSpec,
         stream: StreamSpec,
@@ -65,9 +59,9 @@ impl StreamTracker {
         Ok(StreamTracker {
             cursor,
             place: 0,
-            view: GridState {
+            grid: StreamGrid {
                 time: spec.open_at(),
-                ruler: None,
+                reference: None,
             },
         })
     }
@@ -79,7 +73,7 @@ impl StreamTracker {
 
     /// Takes a datagram that arrived on a path of a stream, and reports the fate of its packet if the stream is this
     /// one.
-    pub fn arrived<O: ReceptionObserver>(
+    pub(crate) fn arrived<O: ReceptionObserver>(
         &mut self,
         stream: usize,
         path: Path,
@@ -94,7 +88,7 @@ impl StreamTracker {
     }
 
     /// Takes a clock reading, in sampling instants at 48 kHz, and reports the slots that are lost by then.
-    pub fn read<O: ReceptionObserver>(&mut self, now: i64, observer: &mut O)
+    pub(crate) fn read<O: ReceptionObserver>(&mut self, now: i64, observer: &mut O)
         ensures place { self.old.cursor.place < usize.MAX → self.new.cursor.place ≡ self.old.cursor.place + 1 }
     {
         if self.place == usize::MAX {
@@ -102,12 +96,12 @@ impl StreamTracker {
         }
         self.cursor.push_reading(now);
         self.place += 1;
-        see_lost(&mut self.cursor, observer);
-        self.view.time = now;
+        report_lost(&mut self.cursor, observer);
+        self.grid.time = now;
     }
 
     /// Takes the close, and reports the slots that are lost by then.
-    pub fn closed<O: ReceptionObserver>(&mut self, observer: &mut O)
+    pub(crate) fn closed<O: ReceptionObserver>(&mut self, observer: &mut O)
         ensures place { self.old.cursor.place < usize.MAX → self.new.cursor.place ≡ self.old.cursor.place + 1 }
     {
         if self.place == usize::MAX {
@@ -115,7 +109,7 @@ impl StreamTracker {
         }
         self.cursor.push_close();
         self.place += 1;
-        see_lost(&mut self.cursor, observer);
+        report_lost(&mut self.cursor, observer);
     }
 
     /// Returns true if the path of a stream is a path of this one.
@@ -133,7 +127,7 @@ impl StreamTracker {
         if self.place == usize::MAX {
             return;
         }
-        take_arrival(&mut self.cursor, path, octets, &mut self.view, observer);
+        take_datagram(&mut self.cursor, path, octets, &mut self.grid, observer);
         self.place += 1;
     }
 
@@ -150,7 +144,7 @@ impl StreamTracker {
 }
 
 /// Takes all events of a source from the first on, and reports the stream's packets and lost slots to an observer.
-pub fn track_stream<E: EventSource, O: ReceptionObserver>(
+pub(crate) fn track_stream<E: EventSource, O: ReceptionObserver>(
     tracker: &mut StreamTracker,
     source: &E,
     observer: &mut O,
@@ -175,7 +169,7 @@ pub fn track_stream<E: EventSource, O: ReceptionObserver>(
 }
 
 /// Reports the lost slots among the marks that are due, and passes over all of these.
-fn see_lost<O: ReceptionObserver>(cursor: &mut Cursor, observer: &mut O)
+fn report_lost<O: ReceptionObserver>(cursor: &mut Cursor, observer: &mut O)
     ensures kept { IsSameCursor cursor.old cursor.new }
     ensures settled { cursor.new.reading ≡ None }
 {
@@ -191,7 +185,7 @@ fn see_lost<O: ReceptionObserver>(cursor: &mut Cursor, observer: &mut O)
                 observer.observe(&ReceptionEvent {
                     time: media,
                     kind: ReceptionKind::Lost,
-                    copied: None,
+                    copy: None,
                 });
             }
         }
@@ -202,11 +196,11 @@ fn see_lost<O: ReceptionObserver>(cursor: &mut Cursor, observer: &mut O)
 }
 
 /// Takes a datagram, and reports the fate of its packet.
-fn take_arrival<O: ReceptionObserver>(
+fn take_datagram<O: ReceptionObserver>(
     cursor: &mut Cursor,
     path: Path,
     octets: &[u8],
-    view: &mut GridState,
+    grid: &mut StreamGrid,
     observer: &mut O,
 )
     requires settled { cursor.old.reading ≡ None }
@@ -226,36 +220,42 @@ fn take_arrival<O: ReceptionObserver>(
         if is_taken(fate) {
             let opens = !anchored || fate == Fate::Restarted;
             let due = cursor.next_deadline();
-            view.ruler = Some(ruler_after(&spec, view, opens, due, packet.ts));
+            grid.reference = Some(reference_after(&spec, grid, opens, due, packet.ts));
         }
-        see_packet(&spec, view, path, fate, &packet, observer);
+        report_packet(&spec, grid, path, fate, &packet, observer);
     }
 }
 
 /// Returns the reference for a packet that was taken. If it opens an epoch, its slot is the next that is due, so its
 /// media time is that deadline less the latency.
-fn ruler_after(
+fn reference_after(
     spec: &StreamSpec,
-    view: &GridState,
+    grid: &StreamGrid,
     opens: bool,
     due: Option<i64>,
     ts: u32,
 ) -> GridReference {
     let opened = match due {
         Some(due) => due.saturating_sub(i64::from(spec.latency())),
-        None => view.time,
+        None => grid.time,
     };
-    let media = match view.ruler {
-        Some(ruler) => { if opens { opened } else { ruler.media_of(ts) } }
+    let media = match grid.reference {
+        Some(reference) => {
+            if opens {
+                opened
+            } else {
+                reference.media_of(ts)
+            }
+        }
         None => opened,
     };
     GridReference { ts, media }
 }
 
 /// Reports a packet by its fate.
-fn see_packet<O: ReceptionObserver>(
+fn report_packet<O: ReceptionObserver>(
     spec: &StreamSpec,
-    view: &GridState,
+    grid: &StreamGrid,
     path: Path,
     fate: Fate,
     packet: &PacketRef<'_>,
@@ -270,18 +270,18 @@ fn see_packet<O: ReceptionObserver>(
     };
     // The grid says nothing of the media time of a packet of another source or off the grid.
     let placed = !matches!(fate, Fate::WrongSource | Fate::OffGrid | Fate::Ahead);
-    let media = match view.ruler {
-        Some(ruler) => ruler.media_of(packet.ts),
-        None => view.time,
+    let media = match grid.reference {
+        Some(reference) => reference.media_of(packet.ts),
+        None => grid.time,
     };
-    let spare = media
+    let margin = media
         .saturating_add(i64::from(spec.latency()))
-        .saturating_sub(view.time);
+        .saturating_sub(grid.time);
     observer.observe(&ReceptionEvent {
-        time: if placed { media } else { view.time },
+        time: if placed { media } else { grid.time },
         kind,
-        copied: if placed {
-            Some(CopyTiming { path, spare })
+        copy: if placed {
+            Some(CopyTiming { path, margin })
         } else {
             None
         },
@@ -290,7 +290,7 @@ fn see_packet<O: ReceptionObserver>(
         observer.observe(&ReceptionEvent {
             time: media,
             kind: ReceptionKind::Restart,
-            copied: None,
+            copy: None,
         });
     }
 }

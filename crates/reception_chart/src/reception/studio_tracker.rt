@@ -1,5 +1,5 @@
 //! The tracker of all streams of a studio.
-use crate::observer::ReceptionObserver;
+use crate::reception::ReceptionObserver;
 use crate::reception::axis::Axis;
 use crate::reception::extent::Extent;
 use crate::reception::panel_data::PanelData;
@@ -10,13 +10,13 @@ use studio_config::StudioSpec;
 use studio_session::EventSource;
 
 /// The greatest number of streams of a studio.
-const MOST_STREAMS: u8 = 16;
+const MAX_STREAMS: u8 = 16;
 
 /// The tracker of a stream, with the observer of its reception.
 #[derive(Drop)]
 pub(crate) struct TrackedStream<O> {
     pub(crate) tracker: StreamTracker,
-    pub(crate) seen: O,
+    pub(crate) observer: O,
 }
 
 /// The trackers of all streams of a studio, each with an observer.
@@ -32,28 +32,28 @@ impl<O: ReceptionObserver + Drop> StudioTracker<O> {
     /// Takes a datagram that arrived on a path of a stream.
     pub fn arrived(&mut self, stream: usize, path: Path, octets: &[u8]) {
         for one in self.streams.iter_mut() {
-            one.tracker.arrived(stream, path, octets, &mut one.seen);
+            one.tracker.arrived(stream, path, octets, &mut one.observer);
         }
     }
 
     /// Takes a clock reading, in sampling instants at 48 kHz.
     pub fn read(&mut self, time: i64) {
         for one in self.streams.iter_mut() {
-            one.tracker.read(time, &mut one.seen);
+            one.tracker.read(time, &mut one.observer);
         }
     }
 
     /// Takes the close of the studio.
     pub fn closed(&mut self) {
         for one in self.streams.iter_mut() {
-            one.tracker.closed(&mut one.seen);
+            one.tracker.closed(&mut one.observer);
         }
     }
 
     /// Takes all events, stream by stream.
     pub(crate) fn take_all<E: EventSource>(&mut self, source: &E) {
         for one in self.streams.iter_mut() {
-            track_stream(&mut one.tracker, source, &mut one.seen);
+            track_stream(&mut one.tracker, source, &mut one.observer);
         }
     }
 }
@@ -64,10 +64,10 @@ impl StudioTracker<Extent> {
     pub fn measure(alloc: Global, spec: &StudioSpec) -> Result<StudioTracker<Extent>, AllocError> {
         let mut streams = Vec::new(alloc);
         // Not `enumerate`: the number of a stream is a `u8`.
-        for (number, stream) in (0..MOST_STREAMS).zip(spec.streams().iter()) {
+        for (number, stream) in (0..MAX_STREAMS).zip(spec.streams().iter()) {
             streams.push(TrackedStream {
                 tracker: StreamTracker::new(alloc, spec, *stream, number)?,
-                seen: Extent::new(stream.frames()),
+                observer: Extent::new(stream.frames()),
             })?;
         }
         Ok(StudioTracker { streams })
@@ -82,11 +82,11 @@ impl StudioTracker<Extent> {
     ) -> Result<StudioTracker<PanelData>, AllocError> {
         let axis = self.axis();
         let mut streams = Vec::new(alloc);
-        for (number, one) in (0..MOST_STREAMS).zip(self.streams.iter()) {
+        for (number, one) in (0..MAX_STREAMS).zip(self.streams.iter()) {
             let stream = one.tracker.spec();
             streams.push(TrackedStream {
                 tracker: StreamTracker::new(alloc, spec, stream, number)?,
-                seen: PanelData::new(alloc, axis, one.seen.most())?,
+                observer: PanelData::new(alloc, axis, one.observer.greatest_margin())?,
             })?;
         }
         Ok(StudioTracker { streams })
@@ -99,7 +99,7 @@ impl StudioTracker<Extent> {
         let mut stretch: Option<(i64, i64)> = None;
         for one in self.streams.iter() {
             frames = one.tracker.spec().frames().max(frames);
-            stretch = with_extent(stretch, &one.seen);
+            stretch = with_extent(stretch, &one.observer);
         }
         // Without a packet the axis has a second.
         let (first, last) = stretch.unwrap_or((0, 48_000));

@@ -29,6 +29,6 @@ returns-clause-ok g c = record {
   events = c.in_ok-events.events;
   said = ap trace_events (sym c.as_slice.ensures.value) ∙ c.in_ok-events.ensures.ok;
   runs = c.in_ok-events.ensures.runs;
-  picture = _;
+  svg = _;
   wrote = c.in_ok-write_text.ensures.ok;
 }

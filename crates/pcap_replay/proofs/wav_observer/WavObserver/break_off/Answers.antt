@@ -1,5 +1,5 @@
 use Rattle.std.proofs.Common.{ℕ, List, ◌++◌, length, subst}
-use Rattle.wav_file.specs.Head.{head_octets}
+use Rattle.wav_file.specs.Header.{header_octets}
 use Rattle.wav_file.specs.File.{Becomes, IsBegun}
 use Rattle.pcap_replay.specs.WavObserver.{SoundState}
 use Rattle.pcap_replay.proofs.WavObserverLemmas.{ends_broken}
@@ -9,4 +9,4 @@ pub returns-in-Ok : goal.returns-in-Ok
 returns-in-Ok g c = λ begun datagrams head sounded.
     let then = g.F.Write.contents c.finish_partial.new.writer in
     ends_broken begun c.args.self datagrams then head sounded
-    (subst (λ (s : SoundState). (octets rest : List ℕ) → IsBegun s.made s.wav octets rest → Becomes s.made then (head_octets s.wav.format (length octets) ++ octets ++ rest)) c.self.view_is c.in-Ok.ensures)
+    (subst (λ (s : SoundState). (octets rest : List ℕ) → IsBegun s.made s.wav octets rest → Becomes s.made then (header_octets s.wav.format (length octets) ++ octets ++ rest)) c.self.view_is c.in-Ok.ensures)

@@ -1,6 +1,6 @@
 use Rattle.std.proofs.Common.{◌≡◌, ◌≤◌, ◌*◌, ◌∙◌, Err, ap, sym, subst, arith, rules, replicate, take}
 use Rattle.std.specs.Io.KnownBytes.{Appends}
-use Rattle.wav_file.specs.Head.{frame_length}
+use Rattle.wav_file.specs.Header.{frame_length}
 use Rattle.wav_file.specs.Samples.{little_samples}
 use Rattle.wav_file.specs.File.{WavState}
 use Rattle.wav_file.proofs.SilenceLemmas.{count_more, silence_broken, silence_more, zeros_of}

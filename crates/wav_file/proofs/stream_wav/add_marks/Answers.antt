@@ -1,5 +1,5 @@
 use Rattle.wav_file.proofs.StreamTrackLemmas.{taken_all, taken_next, taken_none}
-use Rattle.wav_file.proofs.stream_recorder.add_marks.Goals as goal
+use Rattle.wav_file.proofs.stream_wav.add_marks.Goals as goal
 
 pub events-init : goal.events-init
 events-init g c = record {

@@ -15,7 +15,7 @@ use Rattle.wav_file.specs.declared.fault.FileFault.TheVariants.{Write as NotWrit
 use Rattle.wav_file.specs.declared.fault.WavRunFault.TheVariants.{Play, File}
 use Rattle.wav_file.proofs.FrontLemmas.{front_of_line, front_of_more}
 use Rattle.wav_file.proofs.MixWavLemmas.{recorded_all, recording_more, recording_none}
-use Rattle.wav_file.proofs.recorder.record_datagrams.Goals as goal
+use Rattle.wav_file.proofs.mix_wav.write_datagrams.Goals as goal
 
 abbrev state : WavFormat → ℕ → WavState
 state format count = record { format = format; count = count }

@@ -4,7 +4,7 @@ use Rattle.wav_file.specs.declared.header.WavFormat.{WavFormat}
 use Rattle.wav_file.proofs.FileLemmas.{at_ok}
 use Rattle.wav_file.specs.StreamSamples.{stream_format}
 use Rattle.wav_file.proofs.StreamRunLemmas.{format_by, stream_written}
-use Rattle.wav_file.proofs.stream_recorder.write_stream_wav.Goals as goal
+use Rattle.wav_file.proofs.stream_wav.write_stream_wav.Goals as goal
 
 pub returns-in-Ok : goal.returns-in-Ok
 returns-in-Ok g c = at_ok c.finish.result (λ sizes stream number open_at run pulled empty.

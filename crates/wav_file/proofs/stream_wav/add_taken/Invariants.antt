@@ -4,7 +4,7 @@ use Rattle.studio_session.specs.Event.{TraceEvent}
 use Rattle.studio_session.specs.Cursor.{IsRunnable, IsSameCursor, way_left}
 use Rattle.wav_file.specs.StreamTrack.{HasTaken}
 use Rattle.wav_file.specs.declared.stream_track.StreamTrack.{StreamTrack}
-use Rattle.wav_file.proofs.stream_recorder.add_taken.Given as goal
+use Rattle.wav_file.proofs.stream_wav.add_taken.Given as goal
 
 -- the samples of the marks so far were added
 abbrev pub invariant-marks : goal.invariant-marks

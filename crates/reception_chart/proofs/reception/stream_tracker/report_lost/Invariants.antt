@@ -1,5 +1,5 @@
 use Rattle.studio_session.specs.Cursor.{IsSameCursor, way_left}
-use Rattle.reception_chart.proofs.reception.stream_tracker.see_lost.Given as goal
+use Rattle.reception_chart.proofs.reception.stream_tracker.report_lost.Given as goal
 
 -- some marks were given
 abbrev pub invariant-marks : goal.invariant-marks

@@ -4,7 +4,7 @@ use Rattle.studio_session.specs.Cursor.{IsReadyFor}
 use Rattle.studio_session.specs.Play.{HasPlayed, IsRunnableBy}
 use Rattle.studio_session.specs.Run.{blocks_left}
 use Rattle.wav_file.specs.MixWav.{IsRecording}
-use Rattle.wav_file.proofs.recorder.record_datagrams.Given as goal
+use Rattle.wav_file.proofs.mix_wav.write_datagrams.Given as goal
 
 -- the blocks so far were written
 abbrev pub invariant-rounds : goal.invariant-rounds

@@ -1,7 +1,7 @@
 use Rattle.std.proofs.Common.{◌≡◌, ◌++◌, ℕ, List}
 use Rattle.byteorder.specs.Endian.{little_bytes}
-use Rattle.wav_file.proofs.HeadLemmas.{before, piece}
-use Rattle.wav_file.proofs.head.push_sizes.Goals as goal
+use Rattle.wav_file.proofs.HeaderLemmas.{before, piece}
+use Rattle.wav_file.proofs.header.push_sizes.Goals as goal
 
 pub returns-clause-items : goal.returns-clause-items
 returns-clause-items c =

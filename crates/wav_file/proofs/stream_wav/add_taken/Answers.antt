@@ -2,7 +2,7 @@ use Rattle.std.proofs.Common.{◌∙◌}
 use Rattle.studio_session.specs.Cursor.{next_of}
 use Rattle.studio_session.proofs.CursorLemmas.{none_due}
 use Rattle.wav_file.proofs.StreamTrackLemmas.{taken_lent}
-use Rattle.wav_file.proofs.stream_recorder.add_taken.Goals as goal
+use Rattle.wav_file.proofs.stream_wav.add_taken.Goals as goal
 
 pub marks-preserved : goal.marks-preserved
 marks-preserved g c =

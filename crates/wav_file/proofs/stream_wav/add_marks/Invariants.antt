@@ -2,7 +2,7 @@ use Rattle.std.proofs.Common.{ℕ, ℤ}
 use Rattle.rtp_stream.specs.declared.stream_spec.Stream.{Stream}
 use Rattle.studio_session.specs.Cursor.{HasPulled, IsReadyFor, IsRunnable, events_left}
 use Rattle.wav_file.specs.StreamTrack.{HasTaken}
-use Rattle.wav_file.proofs.stream_recorder.add_marks.Given as goal
+use Rattle.wav_file.proofs.stream_wav.add_marks.Given as goal
 
 -- the samples of the marks so far were added
 abbrev pub invariant-events : goal.invariant-events

@@ -38,7 +38,7 @@ format_octets format =
     ++ little_bytes 4 (48000 * frame_length format) ++ little_bytes 2 (frame_length format) ++ little_bytes 2 (8 * octets_per_sample format.enc)
 
 -- the 80 octets before data of so many
-abbrev pub head_octets : WavFormat → ℕ → List ℕ
-head_octets format count =
+abbrev pub header_octets : WavFormat → ℕ → List ℕ
+header_octets format count =
     (if is_long count then codes "RF64" else codes "RIFF") ++ size_octets count (riff_size count) ++ codes "WAVE"
     ++ room_octets format count ++ format_octets format ++ codes "data" ++ size_octets count count

@@ -3,7 +3,7 @@ use Rattle.wav_file.specs.declared.fault.FileFault.TheVariants.{Write as NotWrit
 use Rattle.wav_file.specs.declared.fault.WavRunFault.TheVariants.{File}
 use Rattle.wav_file.proofs.FrontLemmas.{front_none, front_of_all}
 use Rattle.wav_file.proofs.MixWavLemmas.{records_whole}
-use Rattle.wav_file.proofs.recorder.write_mix_wav.Goals as goal
+use Rattle.wav_file.proofs.mix_wav.write_mix_wav.Goals as goal
 
 pub returns-in_ok-finish-in-Ok-clause-ok : goal.returns-in_ok-finish-in-Ok-clause-ok
 returns-in_ok-finish-in-Ok-clause-ok g c = λ studio run played.

@@ -1,9 +1,9 @@
 use Rattle.std.proofs.Common.{◌≡◌, ◌*◌, ◌++◌, ℕ, List, codes, ap, ◌∙◌, arith}
 use Rattle.byteorder.specs.Endian.{little_bytes}
 use Rattle.rtp_wire.specs.Sample.{octets_per_sample}
-use Rattle.wav_file.specs.Head.{frame_length}
-use Rattle.wav_file.proofs.HeadLemmas.{before, piece}
-use Rattle.wav_file.proofs.head.push_format.Goals as goal
+use Rattle.wav_file.specs.Header.{frame_length}
+use Rattle.wav_file.proofs.HeaderLemmas.{before, piece}
+use Rattle.wav_file.proofs.header.push_format.Goals as goal
 
 pub returns-clause-items : goal.returns-clause-items
 returns-clause-items c =
