@@ -8,7 +8,7 @@ use Rattle.pcap_flows.specs.declared.packet.FlowPacket.{FlowPacket}
 use Rattle.pcap_flows.specs.declared.flow.Flow.{Flow}
 use Rattle.pcap_flows.specs.FlowPacket.{same_flow}
 use Rattle.pcap_flows.specs.Flow.{FlowView, flow_view, flow_with, flow_first}
-use Rattle.pcap_flows.specs.FlowTable.{TableView, table_seeing, seen_at, table_after, table_with}
+use Rattle.pcap_flows.specs.FlowTable.{TableView, table_counting, counted_at, table_after, table_with}
 
 pub table_after_none : (t : TableView) → table_after t [] ≡ t
 unfolding table_after
@@ -22,9 +22,9 @@ pub table_after_fault : (t : TableView) (fault : CaptureFault) → table_after t
 unfolding table_after table_with
 table_after_fault t fault = refl
 
-pub seeing_known : (t : TableView) (s : FlowPacket) (place : ℕ) → position (same_flow s.key) t.keys ≡ Some place → table_seeing t s ≡ seen_at t s (Some place)
-unfolding table_seeing
-seeing_known t s place e = ap (seen_at t s) e
+pub counting_known : (t : TableView) (s : FlowPacket) (place : ℕ) → position (same_flow s.key) t.keys ≡ Some place → table_counting t s ≡ counted_at t s (Some place)
+unfolding table_counting
+counting_known t s place e = ap (counted_at t s) e
 
 -- a flow of a list is counted in its place
 pub flows_set : (flows : List Flow) (s : FlowPacket) (place : ℕ) (old flow : Flow) → place < length flows → old ≡ slice_index_or flows place old → flow_view flow ≡ flow_with (flow_view old) s → map flow_view (set flows place flow) ≡ set (map flow_view flows) place (flow_with (slice_index_or (map flow_view flows) place (flow_first s)) s)
@@ -35,7 +35,7 @@ flows_set flows s place old flow lt is counted =
 abbrev pub table : List FlowKey → ℕ → ℕ → Option CaptureFault → List FlowView → TableView
 table keys untracked not_rtp fault flows = record { keys = keys; flows = flows; untracked = untracked; not_rtp = not_rtp; fault = fault }
 
-pub counted_in_place : (keys : List FlowKey) (flows : List Flow) (untracked not_rtp : ℕ) (fault : Option CaptureFault) (s : FlowPacket) (place : ℕ) (old flow : Flow) → position (same_flow s.key) keys ≡ Some place → place < length flows → old ≡ slice_index_or flows place old → flow_view flow ≡ flow_with (flow_view old) s → table keys untracked not_rtp fault (map flow_view (set flows place flow)) ≡ table_seeing (table keys untracked not_rtp fault (map flow_view flows)) s
+pub counted_in_place : (keys : List FlowKey) (flows : List Flow) (untracked not_rtp : ℕ) (fault : Option CaptureFault) (s : FlowPacket) (place : ℕ) (old flow : Flow) → position (same_flow s.key) keys ≡ Some place → place < length flows → old ≡ slice_index_or flows place old → flow_view flow ≡ flow_with (flow_view old) s → table keys untracked not_rtp fault (map flow_view (set flows place flow)) ≡ table_counting (table keys untracked not_rtp fault (map flow_view flows)) s
 counted_in_place keys flows untracked not_rtp fault s place old flow at lt is counted =
     ap (table keys untracked not_rtp fault) (flows_set flows s place old flow lt is counted)
-    ∙ sym (seeing_known (table keys untracked not_rtp fault (map flow_view flows)) s place at)
+    ∙ sym (counting_known (table keys untracked not_rtp fault (map flow_view flows)) s place at)

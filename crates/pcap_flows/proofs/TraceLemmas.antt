@@ -2,7 +2,7 @@
 use Rattle.std.proofs.Common.{ℕ, ◌+◌, ◌≡◌, List, [], ◌∷◌, ◌++◌, Err, refl, append_assoc}
 use Rattle.pcap_file.specs.declared.fault.CaptureFault.{CaptureFault}
 use Rattle.pcap_file.specs.Capture.{Item}
-use Rattle.pcap_flows.specs.declared.route.Route.{Route}
+use Rattle.pcap_flows.specs.declared.routes.Route.{Route}
 use Rattle.pcap_flows.specs.declared.import.clock.CaptureClock.{CaptureClock}
 use Rattle.pcap_flows.specs.TraceLines.{close_line}
 use Rattle.pcap_flows.specs.Trace.{events_from, item_clock, item_events, item_text, text_from}
@@ -11,7 +11,7 @@ pub text_from_none : (routes : List Route) (clock : CaptureClock) → text_from 
 unfolding text_from
 text_from_none routes clock = refl
 
--- the lines of one more item stand before what follows it
+-- the lines of one more item are before those of the items after it
 pub text_from_next : (routes : List Route) (clock then : CaptureClock) (item : Item) (items : List Item) (text longer : List ℕ) → longer ≡ text ++ item_text routes clock item → then ≡ item_clock routes clock item → longer ++ text_from routes then items ≡ text ++ text_from routes clock (item ∷ items)
 unfolding text_from
 text_from_next routes clock then item items text longer is at =

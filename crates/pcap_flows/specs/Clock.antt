@@ -2,7 +2,7 @@
 use Rattle.std.specs.Prelude.{ℕ, ◌-◌, ◌*◌, ◌/◌, Option, Some, None, unwrap_or, max}
 use Rattle.pcap_flows.specs.declared.import.clock.CaptureClock.{CaptureClock}
 
--- no time was seen: the clock reads 0
+-- no packet had a time yet: the clock reads 0
 abbrev pub clock_begun : CaptureClock
 clock_begun = record { origin = None; reading = 0 }
 

@@ -1,8 +1,8 @@
 -- A flow's packets, counted.
 use Rattle.std.specs.Prelude.{ℕ, ◌+◌, ◌-◌, ◌%◌, ◌^◌, Bool, false, min, max, Option, Some, None, ◌==◌, not, ◌||◌, if◌then◌else◌}
 use Rattle.pcap_flows.specs.declared.packet.FlowPacket.{FlowPacket}
-use Rattle.pcap_flows.specs.declared.lengths.Lengths.{Lengths}
-use Rattle.pcap_flows.specs.declared.steps.Steps.{Steps}
+use Rattle.pcap_flows.specs.declared.flow.Lengths.{Lengths}
+use Rattle.pcap_flows.specs.declared.flow.Steps.{Steps}
 use Rattle.pcap_flows.specs.declared.flow.Flow.{Flow}
 use Rattle.pcap_flows.specs.ReceivedNumbers.{NumbersView, numbers_first, numbers_with, numbers_view, one_more, span_of}
 
@@ -61,6 +61,6 @@ flow_with f s = record {
 abbrev pub lost_of : FlowView → ℕ
 lost_of f = span_of f.numbers - (f.packets - f.numbers.repeated)
 
--- what the code's value stands for
+-- the view of the value in the code
 abbrev pub flow_view : Flow → FlowView
 flow_view f = record { packets = f.packets; numbers = numbers_view f.numbers; lengths = f.lengths; steps = f.steps }

@@ -27,28 +27,28 @@ abbrev pub table_begun : TableView → FlowPacket → TableView
 table_begun t s = record { keys = t.keys ++ s.key ∷ []; flows = t.flows ++ flow_first s ∷ []; untracked = t.untracked; not_rtp = t.not_rtp; fault = t.fault }
 
 -- a packet of the flow at a place, or of a new one, of which there are 256 at most
-abbrev pub seen_at : TableView → FlowPacket → Option ℕ → TableView
-seen_at t s (Some place) = record {
+abbrev pub counted_at : TableView → FlowPacket → Option ℕ → TableView
+counted_at t s (Some place) = record {
   keys = t.keys;
   flows = set t.flows place (flow_with (slice_index_or t.flows place (flow_first s)) s);
   untracked = t.untracked;
   not_rtp = t.not_rtp;
   fault = t.fault;
 }
-seen_at t s None =
+counted_at t s None =
     if nat_lt (length t.keys) 256
     then table_begun t s
     else record { keys = t.keys; flows = t.flows; untracked = one_more t.untracked; not_rtp = t.not_rtp; fault = t.fault }
 
 -- a packet is counted in its flow
-unfoldable pub table_seeing : TableView → FlowPacket → TableView
-table_seeing t s = seen_at t s (position (same_flow s.key) t.keys)
+unfoldable pub table_counting : TableView → FlowPacket → TableView
+table_counting t s = counted_at t s (position (same_flow s.key) t.keys)
 
 abbrev pub table_telling : TableView → Option FlowPacket → TableView
 table_telling t None = record { keys = t.keys; flows = t.flows; untracked = t.untracked; not_rtp = one_more t.not_rtp; fault = t.fault }
-table_telling t (Some s) = table_seeing t s
+table_telling t (Some s) = table_counting t s
 
--- what is told of a capture is counted
+-- the items of a capture are counted
 unfoldable pub table_with : TableView → Item → TableView
 table_with t (Ok packet) = table_telling t (flow_packet_of packet)
 table_with t (Err fault) = record { keys = t.keys; flows = t.flows; untracked = t.untracked; not_rtp = t.not_rtp; fault = Some fault }
@@ -58,6 +58,6 @@ unfoldable pub table_after : TableView → List Item → TableView
 table_after t [] = t
 table_after t (item ∷ items) = table_after (table_with t item) items
 
--- what the code's value stands for
+-- the view of the value in the code
 abbrev pub table_view : FlowTable → TableView
 table_view t = record { keys = t.keys.items; flows = map flow_view t.flows.items; untracked = t.untracked; not_rtp = t.not_rtp; fault = t.fault }

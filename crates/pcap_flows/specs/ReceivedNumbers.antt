@@ -1,20 +1,20 @@
--- Extended sequence numbers (RFC 3550, 6.4.1 and A.1), and which of them came.
+-- Extended sequence numbers (RFC 3550, 6.4.1 and A.1), and which of them a capture has.
 use Rattle.std.specs.Prelude.{ℕ, ◌+◌, ◌-◌, ◌%◌, ◌^◌, List, replicate, set, slice_index, min, max, nat_lt, ◌==◌, if◌then◌else◌}
 use Rattle.pcap_flows.specs.declared.received_numbers.ReceivedNumbers.{ReceivedNumbers}
 
 pub record NumbersView : Type 0 where
   pub least : ℕ
   pub greatest : ℕ
-  -- how often a number came again
+  -- the number of repeated numbers
   pub repeated : ℕ
-  -- for each 16 bits the number that came last with them, or 0
+  -- the last number with each 16 bits, or 0
   pub last_seen : List ℕ
 
 -- one more, as far as 64 bits hold it
 abbrev pub one_more : ℕ → ℕ
 one_more n = min (n + 1) (2 ^ 64 - 1)
 
--- the number of a first packet; before it stand two cycles of 16 bits
+-- the number of a first packet, after two cycles of 16 bits
 abbrev pub first_number : ℕ → ℕ
 first_number seq = 131_072 + seq
 
@@ -29,11 +29,11 @@ number_near greatest seq =
     then min (greatest + ahead_of greatest seq) (2 ^ 64 - 1)
     else greatest - (65_536 - ahead_of greatest seq)
 
--- no number came
+-- no number
 unfoldable pub no_numbers : List ℕ
 no_numbers = replicate 65_536 0
 
--- one came
+-- a single number
 abbrev pub numbers_first : ℕ → NumbersView
 numbers_first seq = record {
   least = first_number seq;
@@ -42,7 +42,7 @@ numbers_first seq = record {
   last_seen = set no_numbers seq (first_number seq);
 }
 
--- one more came
+-- one number more
 abbrev pub numbers_and : NumbersView → ℕ → ℕ → NumbersView
 numbers_and n seq number = record {
   least = min n.least number;
@@ -58,6 +58,6 @@ numbers_with n seq = numbers_and n seq (number_near n.greatest seq)
 abbrev pub span_of : NumbersView → ℕ
 span_of n = one_more (n.greatest - n.least)
 
--- what the code's value stands for
+-- the view of the value in the code
 abbrev pub numbers_view : ReceivedNumbers → NumbersView
 numbers_view n = record { least = n.least; greatest = n.greatest; repeated = n.repeated; last_seen = n.last_seen.items }

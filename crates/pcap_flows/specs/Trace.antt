@@ -6,7 +6,7 @@ use Rattle.pcap_file.specs.Capture.{Item}
 use Rattle.pcap_flows.specs.declared.packet.FlowKey.{FlowKey}
 use Rattle.pcap_flows.specs.declared.packet.FlowPacket.{FlowPacket}
 use Rattle.pcap_flows.specs.FlowPacket.{flow_packet_of, same_flow}
-use Rattle.pcap_flows.specs.declared.route.Route.{Route}
+use Rattle.pcap_flows.specs.declared.routes.Route.{Route}
 use Rattle.pcap_flows.specs.declared.import.clock.CaptureClock.{CaptureClock}
 use Rattle.pcap_flows.specs.Clock.{clock_begun, clock_with}
 use Rattle.pcap_flows.specs.TraceLines.{tick_text, arrival_line, close_line}

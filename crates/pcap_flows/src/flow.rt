@@ -1,17 +1,15 @@
 //! A flow of RTP packets and its counts.
 ghost use Rattle.std.specs.Prelude.{◌≡◌, IfOk};
-ghost use Rattle.pcap_flows.specs.Flow.{flow_first, flow_view, flow_with, lost_of};
+ghost use Rattle.pcap_flows.specs.Flow.{flow_first, flow_view, flow_with, lost_of, lengths_first, lengths_with, steps_first, steps_with};
 ghost use Rattle.pcap_flows.specs.ReceivedNumbers.{numbers_view};
 
-use crate::lengths::Lengths;
 use crate::packet::FlowPacket;
 use crate::received_numbers::ReceivedNumbers;
-use crate::steps::Steps;
 use std::alloc::{AllocError, Global};
 
 /// The counts of a flow of RTP packets. It keeps none of the packets.
 #[derive(Drop)]
-pub struct Flow {
+pub(crate) struct Flow {
     packets: u64,
     numbers: ReceivedNumbers,
     lengths: Lengths,
@@ -20,7 +18,7 @@ pub struct Flow {
 
 impl Flow {
     /// A flow with its first packet. Returns `AllocError` if the allocation of 512 KiB fails.
-    pub fn new(alloc: Global, first: &FlowPacket) -> Result<Flow, AllocError>
+    pub(crate) fn new(alloc: Global, first: &FlowPacket) -> Result<Flow, AllocError>
         ensures { IfOk result (λ flow. flow_view flow ≡ flow_first first.now) }
     {
         let numbers = ReceivedNumbers::new(alloc, first.seq)?;
@@ -33,7 +31,7 @@ impl Flow {
     }
 
     /// Counts a packet of the flow, in the order of the capture.
-    pub fn add(&mut self, next: &FlowPacket)
+    pub(crate) fn add(&mut self, next: &FlowPacket)
         ensures { flow_view self.new ≡ flow_with (flow_view self.old) next.now }
     {
         self.packets = self.packets.saturating_add(1);
@@ -43,38 +41,110 @@ impl Flow {
     }
 
     /// Returns the number of all its packets, those with repeated numbers too.
-    pub fn packets(&self) -> u64
+    pub(crate) fn packets(&self) -> u64
         ensures { result ≡ self.now.packets }
     {
         self.packets
     }
 
     /// Returns its sequence numbers.
-    pub fn numbers(&self) -> &ReceivedNumbers
+    pub(crate) fn numbers(&self) -> &ReceivedNumbers
         ensures { result.now ≡ self.now.numbers }
     {
         &self.numbers
     }
 
-    /// Returns the number of sequence numbers from the least to the greatest that the capture lacks (RFC 3550, A.3).
-    pub fn lost(&self) -> u64
+    /// Returns the number of sequence numbers from the least to the greatest that are missing in the capture (RFC 3550, A.3).
+    pub(crate) fn lost(&self) -> u64
         ensures { result ≡ lost_of (flow_view self.now) }
     {
-        let came = self.packets.saturating_sub(self.numbers.repeated());
-        self.numbers.span().saturating_sub(came)
+        let distinct = self.packets.saturating_sub(self.numbers.repeated());
+        self.numbers.span().saturating_sub(distinct)
     }
 
     /// Returns its payload lengths.
-    pub fn lengths(&self) -> Lengths
+    pub(crate) fn lengths(&self) -> Lengths
         ensures { result ≡ self.now.lengths }
     {
         self.lengths
     }
 
     /// Returns its timestamp steps.
-    pub fn steps(&self) -> Steps
+    pub(crate) fn steps(&self) -> Steps
         ensures { result ≡ self.now.steps }
     {
         self.steps
+    }
+}
+
+/// The least and the greatest payload length of a flow, in octets.
+#[derive(Clone, Copy)]
+pub(crate) struct Lengths {
+    /// The least length.
+    pub least: usize,
+    /// The greatest length.
+    pub greatest: usize,
+}
+
+impl Lengths {
+    /// The lengths of a single packet.
+    pub(crate) fn new(len: usize) -> Lengths
+        ensures { result ≡ lengths_first len }
+    {
+        Lengths {
+            least: len,
+            greatest: len,
+        }
+    }
+
+    /// Adds the length of a packet.
+    pub(crate) fn add(&mut self, len: usize)
+        ensures { self.new ≡ lengths_with self.old len }
+    {
+        self.least = self.least.min(len);
+        self.greatest = self.greatest.max(len);
+    }
+}
+
+/// The timestamp steps from each packet to the next in the capture, if that has the next sequence number.
+#[derive(Clone, Copy)]
+pub(crate) struct Steps {
+    /// The sequence number of the last packet.
+    pub seq: u16,
+    /// The timestamp of the last packet.
+    pub ts: u32,
+    /// The first such step, in sampling instants.
+    pub first: Option<u32>,
+    /// True if another step was different.
+    pub varies: bool,
+}
+
+impl Steps {
+    /// The steps of a single packet, which has none.
+    pub(crate) fn new(seq: u16, ts: u32) -> Steps
+        ensures { result ≡ steps_first seq ts }
+    {
+        Steps {
+            seq,
+            ts,
+            first: None,
+            varies: false,
+        }
+    }
+
+    /// Adds the next packet of the capture.
+    #[tactic(auto, unfolding(crate::specs::Flow::steps_with))]
+    pub(crate) fn add(&mut self, seq: u16, ts: u32)
+        ensures { self.new ≡ steps_with self.old seq ts }
+    {
+        if seq == self.seq.wrapping_add(1) {
+            let step = ts.wrapping_sub(self.ts);
+            match self.first {
+                None => self.first = Some(step),
+                Some(first) => self.varies = self.varies || first != step,
+            }
+        }
+        self.seq = seq;
+        self.ts = ts;
     }
 }

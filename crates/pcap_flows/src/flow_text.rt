@@ -1,10 +1,8 @@
 //! The text that lists a capture's flows.
-use crate::fit::channels_that_fit;
-use crate::flow::Flow;
-use crate::lengths::Lengths;
+use crate::flow::{Flow, Lengths, Steps};
 use crate::packet::FlowKey;
-use crate::skew::{FlowPair, Skew, skews_of};
-use crate::steps::Steps;
+use crate::packet_format::channels_that_fit;
+use crate::skew::{FlowPair, Skew, push_pairs, skews_of};
 use crate::streams::{StreamFlows, group_streams};
 use crate::table::FlowTable;
 use std::alloc::{AllocError, Global};
@@ -153,33 +151,9 @@ fn pairs_of(
 ) -> Result<Vec<FlowPair>, AllocError> {
     let mut pairs = Vec::new(alloc);
     for stream in streams.iter() {
-        add_pairs(&mut pairs, table, stream.places())?;
+        push_pairs(&mut pairs, table, stream.places())?;
     }
     Ok(pairs)
-}
-
-/// Appends the first of some flows with each further one.
-fn add_pairs(
-    pairs: &mut Vec<FlowPair>,
-    table: &FlowTable,
-    places: &[usize],
-) -> Result<(), AllocError> {
-    let Some((first, further)) = places.split_first() else {
-        return Ok(());
-    };
-    for place in further {
-        if let Some(pair) = pair_of(table, *first, *place) {
-            pairs.push(pair)?;
-        }
-    }
-    Ok(())
-}
-
-/// Returns the flows at two places of a table, if they are there.
-fn pair_of(table: &FlowTable, first: usize, second: usize) -> Option<FlowPair> {
-    let (first, _) = table.flow(first)?;
-    let (second, _) = table.flow(second)?;
-    Some(FlowPair { first, second })
 }
 
 /// Appends a line for the skew of each further path.
@@ -227,14 +201,14 @@ fn push_time(text: &mut String, name: &str, nanoseconds: i64) -> Result<(), Allo
 
 /// Appends the numbers of packets that are in no flow's line.
 fn push_rest(text: &mut String, table: &FlowTable) -> Result<(), AllocError> {
-    let (beyond, others) = (table.untracked(), table.not_rtp());
-    if beyond > 0 {
-        writeln!(text, "packets of flows beyond the first 256: {beyond}")?;
+    let (untracked, not_rtp) = (table.untracked(), table.not_rtp());
+    if untracked > 0 {
+        writeln!(text, "packets of flows beyond the first 256: {untracked}")?;
     }
-    if others > 0 {
+    if not_rtp > 0 {
         writeln!(
             text,
-            "UDP packets that are cut, in fragments or no RTP: {others}"
+            "UDP packets that are cut, in fragments or no RTP: {not_rtp}"
         )?;
     }
     Ok(())

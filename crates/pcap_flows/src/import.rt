@@ -25,7 +25,7 @@ use crate::fault::ImportFault;
 use crate::import::clock::CaptureClock;
 use crate::import::trace_lines::{push_arrival, push_close, push_tick};
 use crate::packet::{FlowKey, flow_packet};
-use crate::route::Route;
+use crate::routes::Route;
 use pcap_file::{Capture, CaptureFault, Packet, UdpBody, open};
 use std::alloc::Global;
 
@@ -36,10 +36,10 @@ mod stream_plan;
 mod trace_lines;
 
 /// The greatest length of a trace, in octets.
-pub const MOST_OCTETS: usize = 67_108_864;
+pub const MAX_TRACE_OCTETS: usize = 67_108_864;
 
 /// The greatest number of events of a trace.
-pub const MOST_EVENTS: u32 = 1_000_000;
+pub const MAX_TRACE_EVENTS: u32 = 1_000_000;
 
 /// The text of a trace up to some place in a capture.
 #[derive(Drop)]
@@ -54,8 +54,8 @@ struct Trace {
 #[tactic(auto, using(crate::proofs::TraceLemmas::text_of_fault, crate::proofs::TraceLemmas::events_of_fault))]
 pub fn trace_text(alloc: Global, octets: &[u8], routes: &[Route]) -> Result<Vec<u8>, ImportFault>
     ensures trace { IfOk result (λ text. text.items ≡ trace_of routes.now (packets_of octets.now)) }
-    ensures fits { IfOk result (λ text. length text.items ≤ MOST_OCTETS) }
-    ensures few { OnOk result (event_count routes.now (packets_of octets.now) ≤ MOST_EVENTS) }
+    ensures fits { IfOk result (λ text. length text.items ≤ MAX_TRACE_OCTETS) }
+    ensures few { OnOk result (event_count routes.now (packets_of octets.now) ≤ MAX_TRACE_EVENTS) }
 {
     let mut trace = Trace::new(alloc);
     if let Ok(capture) = open(octets) {
@@ -81,12 +81,12 @@ impl Trace {
     /// Appends the lines of the packets that are left of a capture.
     #[tactic(auto, using(crate::proofs::TraceLemmas::text_from_none, crate::proofs::TraceLemmas::text_from_next, crate::proofs::TraceLemmas::events_from_none, crate::proofs::TraceLemmas::events_from_next))]
     fn read(&mut self, mut capture: Capture<'_>, routes: &[Route]) -> Result<(), ImportFault>
-        requires few { self.old.events < MOST_EVENTS }
+        requires few { self.old.events < MAX_TRACE_EVENTS }
         ensures text { OnOk result (self.new.text.items ++ close_line
             ≡ self.old.text.items ++ text_from routes.now self.old.clock (packets_left capture.entry)) }
         ensures events { OnOk result (self.new.events + 1
             ≡ self.old.events + events_from routes.now self.old.clock (packets_left capture.entry)) }
-        ensures few { OnOk result (self.new.events < MOST_EVENTS) }
+        ensures few { OnOk result (self.new.events < MAX_TRACE_EVENTS) }
     {
         while let Some(item) = capture.next() {
             self.take(item, routes)?;
@@ -101,13 +101,13 @@ impl Trace {
         item: Result<Packet<'_>, CaptureFault>,
         routes: &[Route],
     ) -> Result<(), ImportFault>
-        requires few { self.old.events < MOST_EVENTS }
+        requires few { self.old.events < MAX_TRACE_EVENTS }
         ensures text { OnOk result (self.new.text.items
             ≡ self.old.text.items ++ item_text routes.now self.old.clock (item_view item.entry)) }
         ensures clock { OnOk result (self.new.clock ≡ item_clock routes.now self.old.clock (item_view item.entry)) }
         ensures events { OnOk result (self.new.events
             ≡ self.old.events + item_events routes.now self.old.clock (item_view item.entry)) }
-        ensures few { OnOk result (self.new.events < MOST_EVENTS) }
+        ensures few { OnOk result (self.new.events < MAX_TRACE_EVENTS) }
     {
         if let Ok(packet) = item
             && let Some(route) = route_in(routes, &packet)
@@ -125,7 +125,7 @@ impl Trace {
             ≡ packet_clock self.old.clock (packet_view packet.now) (Some route.now)) }
         ensures events { OnOk result (self.new.events
             ≡ self.old.events + packet_events self.old.clock (packet_view packet.now) (Some route.now)) }
-        ensures few { OnOk result (self.new.events < MOST_EVENTS) }
+        ensures few { OnOk result (self.new.events < MAX_TRACE_EVENTS) }
     {
         let earlier = self.clock.reading();
         self.clock.read(packet.time);
@@ -140,14 +140,14 @@ impl Trace {
         ensures text { self.new.text ≡ self.old.text }
         ensures clock { self.new.clock ≡ self.old.clock }
         ensures events { OnOk result (self.new.events ≡ self.old.events + events) }
-        ensures few { OnOk result (self.new.events < MOST_EVENTS) }
+        ensures few { OnOk result (self.new.events < MAX_TRACE_EVENTS) }
     {
         self.events = self.events.saturating_add(events);
-        if self.events >= MOST_EVENTS {
+        if self.events >= MAX_TRACE_EVENTS {
             return Err(ImportFault::TooManyEvents);
         }
         // The line of the close has 6 octets.
-        if self.text.len() > MOST_OCTETS - 6 {
+        if self.text.len() > MAX_TRACE_OCTETS - 6 {
             return Err(ImportFault::TooLong);
         }
         Ok(())
@@ -156,11 +156,11 @@ impl Trace {
     /// Returns the text, ended by the line of the close.
     fn close(self) -> Result<Vec<u8>, ImportFault>
         ensures text { IfOk result (λ text. text.items ≡ self.text.items ++ close_line) }
-        ensures fits { IfOk result (λ text. length text.items ≤ MOST_OCTETS) }
+        ensures fits { IfOk result (λ text. length text.items ≤ MAX_TRACE_OCTETS) }
     {
         let mut text = self.text;
         push_close(&mut text)?;
-        if text.len() > MOST_OCTETS {
+        if text.len() > MAX_TRACE_OCTETS {
             return Err(ImportFault::TooLong);
         }
         Ok(text)

@@ -26,7 +26,7 @@ pub struct FlowKey {
 
 impl FlowKey {
     /// Returns true if both keys are the same.
-    pub fn is_same(&self, other: &FlowKey) -> bool
+    pub(crate) fn is_same(&self, other: &FlowKey) -> bool
         ensures { result ≡ same_flow self.now other.now }
     {
         self.from == other.from
@@ -40,7 +40,7 @@ impl FlowKey {
 
 /// The header fields of a captured RTP packet, with its length and time.
 #[derive(Clone, Copy)]
-pub struct FlowPacket {
+pub(crate) struct FlowPacket {
     /// The key of its flow.
     pub key: FlowKey,
     /// The sequence number (RFC 3550, 5.1).
@@ -55,7 +55,7 @@ pub struct FlowPacket {
 
 /// Returns the RTP packet in a captured one, or none if it is cut, a fragment or no RTP.
 #[tactic(auto, unfolding(crate::specs::FlowPacket::flow_packet_of))]
-pub fn flow_packet(packet: &Packet<'_>) -> Option<FlowPacket>
+pub(crate) fn flow_packet(packet: &Packet<'_>) -> Option<FlowPacket>
     ensures { result ≡ flow_packet_of (packet_view packet.now) }
 {
     let UdpBody::Datagram(datagram) = packet.ip.body else {

@@ -1,15 +1,25 @@
 //! The routes of a capture's flows.
 use crate::fault::ImportFault;
 use crate::packet::FlowKey;
-use crate::packet_format::{PacketFormat, format_of};
-use crate::route::Route;
+use crate::packet_format::first_format;
 use crate::streams::{StreamFlows, group_streams};
 use crate::table::FlowTable;
 use std::alloc::Global;
 use std::net::SocketAddrV4;
 
+/// A flow and the path of a stream that it is in a trace.
+#[derive(Clone, Copy)]
+pub struct Route {
+    /// The flow.
+    pub key: FlowKey,
+    /// The stream's number, from 0.
+    pub stream: u8,
+    /// The letter of the path, `a` to `d`.
+    pub letter: u8,
+}
+
 /// The greatest number of streams of a trace.
-const MOST_STREAMS: u8 = 16;
+const MAX_STREAMS: u8 = 16;
 
 /// The letters of a stream's paths.
 const LETTERS: [u8; 4] = [b'a', b'b', b'c', b'd'];
@@ -33,6 +43,48 @@ impl Routes {
     /// Returns the number of flows without a route.
     pub fn left_out(&self) -> usize {
         self.left_out
+    }
+
+    /// Adds the paths of a stream that are named, or all of them if no address is named.
+    fn add(
+        &mut self,
+        table: &FlowTable,
+        names: &[SocketAddrV4],
+        stream: &StreamFlows,
+    ) -> Result<(), ImportFault> {
+        if names.is_empty() && first_format(table, stream.places()).is_none() {
+            return Ok(());
+        }
+        let mut letters = LETTERS.iter();
+        for place in stream.places().iter() {
+            if let Some(key) = table.keys().get(*place)
+                && (names.is_empty() || names.iter().any(|name| is_named(key, name)))
+                && let Some(letter) = letters.next()
+            {
+                self.push(*key, *letter)?;
+            }
+        }
+        // A stream of which no path was added leaves its number to the next.
+        if letters.len() < LETTERS.len() {
+            self.streams = self.streams.saturating_add(1);
+        }
+        Ok(())
+    }
+
+    /// Adds a path of the next stream.
+    fn push(&mut self, key: FlowKey, letter: u8) -> Result<(), ImportFault> {
+        if self.streams >= MAX_STREAMS {
+            return Err(ImportFault::Streams);
+        }
+        let route = Route {
+            key,
+            stream: self.streams,
+            letter,
+        };
+        match self.list.push(route) {
+            Ok(()) => Ok(()),
+            Err(_) => Err(ImportFault::Memory),
+        }
     }
 }
 
@@ -74,60 +126,4 @@ fn check_names(table: &FlowTable, names: &[SocketAddrV4]) -> Result<(), ImportFa
 /// Returns true if a flow goes to an address and a port.
 fn is_named(key: &FlowKey, name: &SocketAddrV4) -> bool {
     name.ip().to_bits() == key.to && name.port() == key.to_port
-}
-
-impl Routes {
-    /// Adds the paths of a stream that are named, or all of them if no address is named.
-    fn add(
-        &mut self,
-        table: &FlowTable,
-        names: &[SocketAddrV4],
-        stream: &StreamFlows,
-    ) -> Result<(), ImportFault> {
-        if names.is_empty() && form_in(table, stream).is_none() {
-            return Ok(());
-        }
-        let mut letters = LETTERS.iter();
-        for place in stream.places().iter() {
-            if let Some(key) = table.keys().get(*place)
-                && (names.is_empty() || names.iter().any(|name| is_named(key, name)))
-                && let Some(letter) = letters.next()
-            {
-                self.push(*key, *letter)?;
-            }
-        }
-        // A stream of which no path was added leaves its number to the next.
-        if letters.len() < LETTERS.len() {
-            self.streams = self.streams.saturating_add(1);
-        }
-        Ok(())
-    }
-
-    /// Adds a path of the next stream.
-    fn push(&mut self, key: FlowKey, letter: u8) -> Result<(), ImportFault> {
-        if self.streams >= MOST_STREAMS {
-            return Err(ImportFault::Streams);
-        }
-        let route = Route {
-            key,
-            stream: self.streams,
-            letter,
-        };
-        match self.list.push(route) {
-            Ok(()) => Ok(()),
-            Err(_) => Err(ImportFault::Memory),
-        }
-    }
-}
-
-/// Returns the format of the first of a stream's flows that has one.
-fn form_in(table: &FlowTable, stream: &StreamFlows) -> Option<PacketFormat> {
-    for place in stream.places().iter() {
-        if let Some((key, flow)) = table.flow(*place)
-            && let Some(form) = format_of(key.pt, flow)
-        {
-            return Some(form);
-        }
-    }
-    None
 }

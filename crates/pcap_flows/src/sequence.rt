@@ -8,7 +8,7 @@ use std::alloc::{AllocError, Global};
 pub(crate) const CYCLE: usize = 65_536;
 
 /// Returns the extended number of a first packet, which has two cycles before it.
-// The numbers of packets that were sent before the first one then stay above 0, which stands for none.
+// The numbers of packets that were sent before the first one then stay above 0, which means none.
 pub(crate) fn first_number(seq: u16) -> u64
     ensures { result ≡ spec.first_number seq }
 {

@@ -1,13 +1,14 @@
 //! The skew of two paths: the times between the arrivals of the same packet (SMPTE ST 2022-7).
 use crate::packet::{FlowKey, FlowPacket, flow_packet};
 use crate::sequence::{CYCLE, first_number, number_near};
-use pcap_file::{Capture, open};
+use crate::table::FlowTable;
+use pcap_file::open;
 use std::alloc::{AllocError, Global};
 
 /// The delays of packets on the second path behind the same ones on the first, in nanoseconds; negative if the second
 /// path is earlier.
 #[derive(Clone, Copy)]
-pub struct Skew {
+pub(crate) struct Skew {
     /// The least delay.
     pub least: i64,
     /// The median delay; the lower of the middle two if their number is even.
@@ -26,7 +27,7 @@ struct Times {
 
 /// Two flows that are paths of one stream.
 #[derive(Clone, Copy)]
-pub struct FlowPair {
+pub(crate) struct FlowPair {
     /// The flow from which delays count.
     pub first: FlowKey,
     /// The other flow.
@@ -34,7 +35,7 @@ pub struct FlowPair {
 }
 
 /// The greatest number of pairs whose times are kept at once. Those of a pair take 2.5 MiB.
-const MOST_PAIRS: usize = 16;
+const MAX_PAIRS: usize = 16;
 
 /// The times and skews of a pair while a capture is read.
 #[derive(Drop)]
@@ -46,7 +47,7 @@ struct PairTimes {
 }
 
 impl PairTimes {
-    /// A pair of which no packet was noted yet.
+    /// A pair before its first packet.
     fn new(alloc: Global, pair: FlowPair) -> Result<PairTimes, AllocError> {
         let none = Times {
             number: 0,
@@ -62,8 +63,8 @@ impl PairTimes {
         })
     }
 
-    /// Notes the time of a packet, if it belongs to one of the flows.
-    fn note(&mut self, next: &FlowPacket) -> Result<(), AllocError> {
+    /// Adds the time of a packet, if it belongs to one of the flows.
+    fn add(&mut self, next: &FlowPacket) -> Result<(), AllocError> {
         let on_first = next.key.is_same(&self.pair.first);
         if !on_first && !next.key.is_same(&self.pair.second) {
             return Ok(());
@@ -82,61 +83,62 @@ impl PairTimes {
         Ok(())
     }
 
-    /// Returns the skew of all noted packets, if there is one.
+    /// Returns the skew of all packets so far, if there is one.
     fn skew(&mut self) -> Option<Skew> {
         self.skews.sort_unstable();
         skew_in(self.skews.as_slice())
     }
 }
 
-/// Returns the skew of the second flow behind the first, over the packets that both have. Returns none if no such
-/// packet has times. Returns `AllocError` if an allocation fails.
-pub fn skew_of(
-    alloc: Global,
-    capture: Capture<'_>,
-    first: &FlowKey,
-    second: &FlowKey,
-) -> Result<Option<Skew>, AllocError> {
-    let pair = FlowPair {
-        first: *first,
-        second: *second,
+/// Appends the first of the flows at these places of a table with each further one.
+pub(crate) fn push_pairs(
+    pairs: &mut Vec<FlowPair>,
+    table: &FlowTable,
+    places: &[usize],
+) -> Result<(), AllocError> {
+    let Some((first, further)) = places.split_first() else {
+        return Ok(());
     };
-    let mut notes = PairTimes::new(alloc, pair)?;
-    for item in capture {
-        let Ok(packet) = item else {
-            break;
-        };
-        if let Some(next) = flow_packet(&packet) {
-            notes.note(&next)?;
+    for place in further {
+        if let Some(pair) = pair_of(table, *first, *place) {
+            pairs.push(pair)?;
         }
     }
-    Ok(notes.skew())
+    Ok(())
 }
 
-/// Returns the skew of each pair, in the same order. The capture `octets` is read once for each 16 pairs. Returns
-/// `AllocError` if an allocation fails.
-pub fn skews_of(
+/// Returns the flows at two places of a table, if they are there.
+fn pair_of(table: &FlowTable, first: usize, second: usize) -> Option<FlowPair> {
+    let (first, _) = table.flow(first)?;
+    let (second, _) = table.flow(second)?;
+    Some(FlowPair { first, second })
+}
+
+/// Returns the skew of the second flow of each pair behind the first one, over the packets that both have; none if no
+/// such packet has times. The capture `octets` is read once for each 16 pairs. Returns `AllocError` if an allocation
+/// fails.
+pub(crate) fn skews_of(
     alloc: Global,
     octets: &[u8],
     pairs: &[FlowPair],
 ) -> Result<Vec<Option<Skew>>, AllocError> {
     let mut skews = Vec::new(alloc);
-    let mut notes = Vec::new(alloc);
+    let mut times = Vec::new(alloc);
     for pair in pairs.iter() {
-        notes.push(PairTimes::new(alloc, *pair)?)?;
-        if notes.len() == MOST_PAIRS {
-            note_all(&mut notes, octets)?;
-            take_skews(&mut notes, &mut skews)?;
+        times.push(PairTimes::new(alloc, *pair)?)?;
+        if times.len() == MAX_PAIRS {
+            add_capture(&mut times, octets)?;
+            take_skews(&mut times, &mut skews)?;
         }
     }
-    note_all(&mut notes, octets)?;
-    take_skews(&mut notes, &mut skews)?;
+    add_capture(&mut times, octets)?;
+    take_skews(&mut times, &mut skews)?;
     Ok(skews)
 }
 
-/// Notes all packets of a capture for each pair.
-fn note_all(notes: &mut Vec<PairTimes>, octets: &[u8]) -> Result<(), AllocError> {
-    if notes.is_empty() {
+/// Adds the times of all packets of a capture to each pair.
+fn add_capture(times: &mut Vec<PairTimes>, octets: &[u8]) -> Result<(), AllocError> {
+    if times.is_empty() {
         return Ok(());
     }
     let Ok(capture) = open(octets) else {
@@ -147,8 +149,8 @@ fn note_all(notes: &mut Vec<PairTimes>, octets: &[u8]) -> Result<(), AllocError>
             break;
         };
         if let Some(next) = flow_packet(&packet) {
-            for pair in notes.iter_mut() {
-                pair.note(&next)?;
+            for pair in times.iter_mut() {
+                pair.add(&next)?;
             }
         }
     }
@@ -156,15 +158,15 @@ fn note_all(notes: &mut Vec<PairTimes>, octets: &[u8]) -> Result<(), AllocError>
 }
 
 /// Appends the skew of each pair, and removes the pairs.
-fn take_skews(notes: &mut Vec<PairTimes>, skews: &mut Vec<Option<Skew>>) -> Result<(), AllocError> {
-    for pair in notes.iter_mut() {
+fn take_skews(times: &mut Vec<PairTimes>, skews: &mut Vec<Option<Skew>>) -> Result<(), AllocError> {
+    for pair in times.iter_mut() {
         skews.push(pair.skew())?;
     }
-    notes.clear();
+    times.clear();
     Ok(())
 }
 
-/// Notes a time. Returns the skew of its packet if the other path already has it and this path didn't.
+/// Sets the time of a packet on a path. Returns the skew of its packet if the other path already has it and this path didn't.
 fn set_time(times: &mut Times, number: u64, on_first: bool, time: u64) -> Option<i64> {
     if times.number != number {
         *times = Times {

@@ -5,19 +5,19 @@ use crate::table::FlowTable;
 use std::alloc::{AllocError, Global};
 
 /// The greatest number of paths of a stream.
-const MOST_PATHS: usize = 4;
+const MAX_PATHS: usize = 4;
 
 /// The paths of a stream, as the places of its flows in the table, in their order. A single flow is a stream of one
 /// path.
 #[derive(Clone, Copy)]
-pub struct StreamFlows {
+pub(crate) struct StreamFlows {
     places: [usize; 4],
     len: usize,
 }
 
 impl StreamFlows {
     /// Returns the places of its flows in the table.
-    pub fn places(&self) -> &[usize] {
+    pub(crate) fn places(&self) -> &[usize] {
         self.places.get(..self.len).unwrap_or(&[])
     }
 
@@ -39,7 +39,10 @@ fn carry_same_packets(a: (FlowKey, &Flow), b: (FlowKey, &Flow)) -> bool {
 
 /// Returns the streams of a table's flows, in the order of their first paths. A fifth path begins a stream of its own.
 /// Returns `AllocError` if an allocation fails.
-pub fn group_streams(alloc: Global, table: &FlowTable) -> Result<Vec<StreamFlows>, AllocError> {
+pub(crate) fn group_streams(
+    alloc: Global,
+    table: &FlowTable,
+) -> Result<Vec<StreamFlows>, AllocError> {
     let mut taken = Vec::from_elem(alloc, false, table.flows().len())?;
     let mut streams = Vec::new(alloc);
     for place in 0..table.flows().len() {
@@ -67,7 +70,7 @@ fn stream_from(
         if let Some(other) = table.flow(place)
             && let Some(is_taken) = taken.get_mut(place)
             && !*is_taken
-            && stream.len < MOST_PATHS
+            && stream.len < MAX_PATHS
             && carry_same_packets(flow, other)
         {
             stream.add(place);

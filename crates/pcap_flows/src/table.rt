@@ -10,7 +10,7 @@ use std::alloc::{AllocError, Global};
 
 /// The greatest number of flows of a table.
 // Each takes 512 KiB for its sequence numbers, so a table takes little more than 128 MiB.
-pub const MOST_FLOWS: usize = 256;
+pub(crate) const MAX_FLOWS: usize = 256;
 
 /// The flows of a capture, in the order of their first packets.
 #[derive(Drop)]
@@ -31,7 +31,7 @@ impl FlowTable {
       no_table,
       table_after,
       table_begun,
-      table_seeing,
+      table_counting,
       table_view,
       table_with,
     };
@@ -70,16 +70,16 @@ impl FlowTable {
 
     /// Counts a packet in its flow; the first of a flow begins it, if there are fewer than 256. Returns `AllocError` if
     /// an allocation fails.
-    #[tactic(auto, unfolding(crate::specs::FlowTable::table_seeing))]
-    pub fn add(&mut self, alloc: Global, next: &FlowPacket) -> Result<(), AllocError>
-        ensures { OnOk result (table_view self.new ≡ table_seeing (table_view self.old) next.now) }
+    #[tactic(auto, unfolding(crate::specs::FlowTable::table_counting))]
+    pub(crate) fn add(&mut self, alloc: Global, next: &FlowPacket) -> Result<(), AllocError>
+        ensures { OnOk result (table_view self.new ≡ table_counting (table_view self.old) next.now) }
     {
         match place_of(&self.keys, &next.key) {
             Some(place) => {
                 self.flows[place].add(next);
                 Ok(())
             }
-            None if self.keys.len() < MOST_FLOWS => self.add_flow(alloc, next),
+            None if self.keys.len() < MAX_FLOWS => self.add_flow(alloc, next),
             None => {
                 self.untracked = self.untracked.saturating_add(1);
                 Ok(())
@@ -132,33 +132,38 @@ impl FlowTable {
     }
 
     /// Returns the keys of the flows, in the order of their first packets.
-    pub fn keys(&self) -> &[FlowKey]
+    pub(crate) fn keys(&self) -> &[FlowKey]
         ensures { result.now ≡ self.now.keys.items }
     {
         self.keys.as_slice()
     }
 
     /// Returns the counts of the flows, in the same order.
-    pub fn flows(&self) -> &[Flow]
+    pub(crate) fn flows(&self) -> &[Flow]
         ensures { result.now ≡ self.now.flows.items }
     {
         self.flows.as_slice()
     }
 
     /// Returns the key and the counts of the flow at a place, if there is one.
-    pub fn flow(&self, place: usize) -> Option<(FlowKey, &Flow)> {
+    pub(crate) fn flow(&self, place: usize) -> Option<(FlowKey, &Flow)> {
         Some((*self.keys.get(place)?, self.flows.get(place)?))
     }
 
+    /// Returns the place of a flow, if it is in the table.
+    pub(crate) fn place_of(&self, key: &FlowKey) -> Option<usize> {
+        place_of(self.keys(), key)
+    }
+
     /// Returns the number of packets of flows that have no room in the table.
-    pub fn untracked(&self) -> u64
+    pub(crate) fn untracked(&self) -> u64
         ensures { result ≡ self.now.untracked }
     {
         self.untracked
     }
 
     /// Returns the number of UDP packets that are cut, fragments or no RTP.
-    pub fn not_rtp(&self) -> u64
+    pub(crate) fn not_rtp(&self) -> u64
         ensures { result ≡ self.now.not_rtp }
     {
         self.not_rtp

@@ -14,7 +14,7 @@ use Rattle.hex.specs.Hex.{IsBytes, decode_of, encode_lower, is_hex_digit, lower_
 use Rattle.hex.proofs.HexLemmas.{IsDigits-lower_digits, decode_of-encode_lower, decode_pairs-encode_with, decode_pairs-ok, length-encode_with}
 use Rattle.pcap_file.specs.Packet.{PacketView}
 use Rattle.pcap_flows.specs.declared.import.clock.CaptureClock.{CaptureClock}
-use Rattle.pcap_flows.specs.declared.route.Route.{Route}
+use Rattle.pcap_flows.specs.declared.routes.Route.{Route}
 use Rattle.pcap_flows.specs.Clock.{clock_begun, clock_with, instants_in}
 use Rattle.pcap_flows.specs.TraceLines.{arrival_line}
 use Rattle.pcap_flows.specs.Trace.{event_count, events_from, item_clock, item_events, item_text, octets_of as datagram_octets, packet_clock, packet_events, packet_text, route_of, text_from, trace_of}

@@ -2,7 +2,7 @@
 use Rattle.std.specs.Prelude.{◌≡◌, ◌≤◌, ◌<◌, ◌^◌, List, [], ◌∷◌, length, Some, IfSome}
 use Rattle.hex.specs.Hex.{IsBytes}
 use Rattle.pcap_file.specs.Packet.{PacketView}
-use Rattle.pcap_flows.specs.declared.route.Route.{Route}
+use Rattle.pcap_flows.specs.declared.routes.Route.{Route}
 use Rattle.pcap_flows.specs.Trace.{octets_of, route_of}
 
 -- a route names a path a to d, 97 to 100, of one of 16 streams

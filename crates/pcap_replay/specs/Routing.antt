@@ -2,7 +2,7 @@
 use Rattle.std.specs.Prelude.{ℕ, ◌+◌, ◌-◌, nat_lt, List, [], ◌∷◌, Option, Some, None, if◌then◌else◌}
 use Rattle.pcap_file.specs.Packet.{PacketView}
 use Rattle.pcap_flows.specs.declared.import.clock.CaptureClock.{CaptureClock}
-use Rattle.pcap_flows.specs.declared.route.Route.{Route}
+use Rattle.pcap_flows.specs.declared.routes.Route.{Route}
 use Rattle.pcap_flows.specs.Clock.{clock_begun, clock_with}
 use Rattle.pcap_flows.specs.Trace.{route_of}
 use Rattle.rtp_stream.specs.declared.stream_spec.Stream.{Stream}

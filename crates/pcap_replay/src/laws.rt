@@ -1,7 +1,7 @@
 //! Laws of replays. These functions compute nothing: their clauses are the laws.
 ghost use Rattle.std.specs.Prelude.{◌≡◌, ◌≤◌, ℕ, pos, ◌≤ℤ◌, List, map, length, Option, None, Ok};
 ghost use Rattle.pcap_file.specs.Packet.{PacketView};
-ghost use Rattle.pcap_flows.specs.declared.route.Route.{Route};
+ghost use Rattle.pcap_flows.specs.declared.routes.Route.{Route};
 ghost use Rattle.pcap_flows.specs.Trace.{event_count, trace_of};
 ghost use Rattle.studio_config.specs.Studio.{Studio};
 ghost use Rattle.studio_session.specs.Event.{TraceEvent};

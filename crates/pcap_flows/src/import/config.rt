@@ -7,10 +7,10 @@ use rtp_wire::Enc;
 use std::alloc::{AllocError, Global};
 
 /// The greatest number of channels of an output.
-const MOST_OUTPUTS: usize = 8;
+const MAX_OUTPUTS: usize = 8;
 
 /// The greatest length of a datagram's payload, in octets.
-const MOST_SAMPLES: usize = 1440;
+const MAX_PAYLOAD: usize = 1440;
 
 /// Returns the configuration for the trace of these routes: each stream with an offset by which its first packet is in
 /// time, and an output of the first channels of all streams, at most 8, unchanged. `latency` is in milliseconds; if it
@@ -45,8 +45,13 @@ fn text_of(alloc: Global, plans: &[StreamPlan], is_chosen: bool) -> Result<Strin
 
 /// Appends the table of a stream.
 fn push_stream(text: &mut String, alloc: Global, plan: &StreamPlan) -> Result<(), AllocError> {
-    let form = plan.form;
-    let (enc, channels, frames, pt) = (name_of(form.enc), form.channels, form.frames, form.pt);
+    let format = plan.format;
+    let (enc, channels, frames, pt) = (
+        name_of(format.enc),
+        format.channels,
+        format.frames,
+        format.pt,
+    );
     let (offset, latency, window, paths) = (plan.offset, plan.latency, plan.window, plan.paths);
     let packets = format!(in alloc;
         "[[stream]]\nencoding = \"{enc}\"\nchannels = {channels}\nframes = {frames}\npt = {pt}\n"
@@ -70,9 +75,9 @@ fn name_of(enc: Enc) -> &'static str {
 fn push_output(text: &mut String, alloc: Global, plans: &[StreamPlan]) -> Result<(), AllocError> {
     let mut inputs = 0usize;
     for plan in plans.iter() {
-        inputs = inputs.saturating_add(usize::from(plan.form.channels));
+        inputs = inputs.saturating_add(usize::from(plan.format.channels));
     }
-    let channels = inputs.min(MOST_OUTPUTS);
+    let channels = inputs.min(MAX_OUTPUTS);
     let frames = frames_for(plans, channels);
     let start = format!(in alloc;
         "[output]\nencoding = \"L24\"\nchannels = {channels}\nframes = {frames}\npt = 97\n"
@@ -91,8 +96,8 @@ fn frames_for(plans: &[StreamPlan], channels: usize) -> u16 {
         Some(plan)
             if channels
                 .saturating_mul(3)
-                .saturating_mul(usize::from(plan.form.frames))
-                <= MOST_SAMPLES => { plan.form.frames }
+                .saturating_mul(usize::from(plan.format.frames))
+                <= MAX_PAYLOAD => { plan.format.frames }
         // 8 channels of L24 then take 1,152 octets.
         _ => 48,
     }

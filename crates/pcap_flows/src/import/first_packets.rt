@@ -22,10 +22,10 @@ pub(crate) fn first_packets_in(
     octets: &[u8],
     routes: &Routes,
 ) -> Result<Vec<Option<FirstPacket>>, ImportFault> {
-    let mut starts = Vec::from_elem(alloc, None, usize::from(routes.streams))?;
+    let mut first_packets = Vec::from_elem(alloc, None, usize::from(routes.streams))?;
     let mut clock = CaptureClock::new();
     let Ok(capture) = open(octets) else {
-        return Ok(starts);
+        return Ok(first_packets);
     };
     for item in capture {
         if let Ok(packet) = item
@@ -34,15 +34,15 @@ pub(crate) fn first_packets_in(
         {
             // Every packet with a route moves the clock, as in the trace.
             clock.read(packet.time);
-            if let Some(start) = starts.get_mut(usize::from(route.stream))
-                && start.is_none()
+            if let Some(first) = first_packets.get_mut(usize::from(route.stream))
+                && first.is_none()
             {
-                *start = Some(FirstPacket {
+                *first = Some(FirstPacket {
                     ts: next.ts,
                     reading: clock.reading(),
                 });
             }
         }
     }
-    Ok(starts)
+    Ok(first_packets)
 }

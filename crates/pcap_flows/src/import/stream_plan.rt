@@ -1,23 +1,20 @@
 //! The streams of a configuration that fits a capture.
 use crate::fault::ImportFault;
 use crate::import::first_packets::{FirstPacket, first_packets_in};
-use crate::packet::FlowKey;
-use crate::packet_format::{PacketFormat, format_of};
-use crate::route::Route;
-use crate::routes::Routes;
-use crate::skew::skew_of;
+use crate::packet_format::{PacketFormat, first_format};
+use crate::routes::{Route, Routes};
+use crate::skew::{push_pairs, skews_of};
 use crate::table::FlowTable;
-use pcap_file::open;
-use std::alloc::Global;
+use std::alloc::{AllocError, Global};
 
 /// The least latency that is chosen: 10 ms, in sampling instants at 48 kHz.
-const LEAST_LATENCY: u32 = 480;
+const MIN_LATENCY: u32 = 480;
 
 /// The configuration of a stream that fits some flows.
 #[derive(Clone, Copy)]
 pub(crate) struct StreamPlan {
     /// The format of its packets.
-    pub(crate) form: PacketFormat,
+    pub(crate) format: PacketFormat,
     /// The number of its paths.
     pub(crate) paths: u8,
     /// The first packet's timestamp minus the reading of the trace's clock at its arrival, modulo 2^32.
@@ -37,14 +34,14 @@ pub(crate) fn stream_plans(
     routes: &Routes,
     latency: Option<u32>,
 ) -> Result<Vec<StreamPlan>, ImportFault> {
-    let starts = first_packets_in(alloc, octets, routes)?;
+    let first_packets = first_packets_in(alloc, octets, routes)?;
     let mut plans = Vec::new(alloc);
-    for (number, start) in starts.iter().enumerate() {
-        let Some(start) = start else {
+    for (number, first) in first_packets.iter().enumerate() {
+        let Some(first) = first else {
             return Err(ImportFault::NoFormat);
         };
-        let keys = keys_of(alloc, routes.list(), number)?;
-        let plan = plan_of(alloc, table, octets, keys.as_slice(), start, latency)?;
+        let places = places_of(alloc, table, routes.list(), number)?;
+        let plan = plan_of(alloc, table, octets, places.as_slice(), first, latency)?;
         if plans.push(plan).is_err() {
             return Err(ImportFault::Memory);
         }
@@ -52,15 +49,22 @@ pub(crate) fn stream_plans(
     Ok(plans)
 }
 
-/// Returns the flows of a stream.
-fn keys_of(alloc: Global, routes: &[Route], number: usize) -> Result<Vec<FlowKey>, ImportFault> {
-    let mut keys = Vec::new(alloc);
+/// Returns the places of a stream's flows in their table.
+fn places_of(
+    alloc: Global,
+    table: &FlowTable,
+    routes: &[Route],
+    number: usize,
+) -> Result<Vec<usize>, AllocError> {
+    let mut places = Vec::new(alloc);
     for route in routes.iter() {
-        if usize::from(route.stream) == number && keys.push(route.key).is_err() {
-            return Err(ImportFault::Memory);
+        if usize::from(route.stream) == number
+            && let Some(place) = table.place_of(&route.key)
+        {
+            places.push(place)?;
         }
     }
-    Ok(keys)
+    Ok(places)
 }
 
 /// Returns the plan of a stream. Returns `NoFormat` if none of its flows has a format, and `Latency` if no window spans
@@ -69,53 +73,41 @@ fn plan_of(
     alloc: Global,
     table: &FlowTable,
     octets: &[u8],
-    keys: &[FlowKey],
-    start: &FirstPacket,
+    places: &[usize],
+    first: &FirstPacket,
     asked: Option<u32>,
 ) -> Result<StreamPlan, ImportFault> {
-    let form = form_for(table, keys).ok_or(ImportFault::NoFormat)?;
+    let format = first_format(table, places).ok_or(ImportFault::NoFormat)?;
     let latency = match asked {
         Some(ms) => ms.saturating_mul(48),
-        None => latency_for(greatest_skew(alloc, octets, keys)?),
+        None => latency_for(greatest_skew(alloc, table, octets, places)?),
     };
-    let paths = keys.len().min(4) as u8;
-    let window = window_for(&form, latency, paths).ok_or(ImportFault::Latency)?;
+    let paths = places.len().min(4) as u8;
+    let window = window_for(&format, latency, paths).ok_or(ImportFault::Latency)?;
     Ok(StreamPlan {
-        form,
+        format,
         paths,
-        offset: start
+        offset: first
             .ts
-            .wrapping_sub((start.reading % 4_294_967_296) as u32),
+            .wrapping_sub((first.reading % 4_294_967_296) as u32),
         latency,
         window,
     })
 }
 
-/// Returns the format of the first of the flows that has one.
-fn form_for(table: &FlowTable, keys: &[FlowKey]) -> Option<PacketFormat> {
-    for key in keys.iter() {
-        for (other, flow) in table.keys().iter().zip(table.flows().iter()) {
-            if other.is_same(key)
-                && let Some(form) = format_of(key.pt, flow)
-            {
-                return Some(form);
-            }
-        }
-    }
-    None
-}
-
 /// Returns the greatest time by which a further path was behind the first or before it, in nanoseconds.
-fn greatest_skew(alloc: Global, octets: &[u8], keys: &[FlowKey]) -> Result<u64, ImportFault> {
+fn greatest_skew(
+    alloc: Global,
+    table: &FlowTable,
+    octets: &[u8],
+    places: &[usize],
+) -> Result<u64, AllocError> {
+    let mut pairs = Vec::new(alloc);
+    push_pairs(&mut pairs, table, places)?;
+    let skews = skews_of(alloc, octets, pairs.as_slice())?;
     let mut greatest = 0;
-    let Some(first) = keys.first() else {
-        return Ok(greatest);
-    };
-    for second in keys.iter().skip(1) {
-        let Ok(capture) = open(octets) else {
-            return Ok(greatest);
-        };
-        if let Some(skew) = skew_of(alloc, capture, first, second)? {
+    for skew in skews.iter() {
+        if let Some(skew) = skew {
             greatest = greatest
                 .max(skew.least.unsigned_abs())
                 .max(skew.greatest.unsigned_abs());
@@ -128,25 +120,23 @@ fn greatest_skew(alloc: Global, octets: &[u8], keys: &[FlowKey]) -> Result<u64, 
 fn latency_for(skew: u64) -> u32 {
     // A nanosecond is 3/62,500 of a sampling instant.
     let instants = (u128::from(skew) * 6).div_ceil(62_500);
-    u32::try_from(instants)
-        .unwrap_or(u32::MAX)
-        .max(LEAST_LATENCY)
+    u32::try_from(instants).unwrap_or(u32::MAX).max(MIN_LATENCY)
 }
 
 /// Returns the least window that spans twice the latency and two packets. If there is none it returns the greatest that
 /// spans the latency, if there is one.
 // With so wide a window, packets of the earlier path are not too early for it.
-fn window_for(form: &PacketFormat, latency: u32, paths: u8) -> Option<u16> {
+fn window_for(format: &PacketFormat, latency: u32, paths: u8) -> Option<u16> {
     let wanted = u64::from(latency)
-        .saturating_add(u64::from(form.frames))
+        .saturating_add(u64::from(format.frames))
         .saturating_mul(2);
     let mut greatest = None;
     // The windows of streams are the powers of two from 8 to 16,384.
     for power in 3..15u32 {
         let window = 1u16.wrapping_shl(power);
-        if form.is_stream(latency, window, paths) {
+        if format.is_stream(latency, window, paths) {
             greatest = Some(window);
-            if u64::from(window).saturating_mul(u64::from(form.frames)) >= wanted {
+            if u64::from(window).saturating_mul(u64::from(format.frames)) >= wanted {
                 break;
             }
         }

@@ -4,12 +4,12 @@ ghost use Rattle.hex.specs.Hex.{encode_lower};
 ghost use Rattle.pcap_flows.specs.TraceLines.{arrival_line, close_line, tick_text};
 
 use crate::fault::ImportFault;
-use crate::route::Route;
+use crate::routes::Route;
 use std::alloc::AllocError;
 
 /// The greatest length of a datagram in a trace, in octets.
 // A line has at most 4,096 octets: a letter, a number of up to two digits, two spaces, and two digits for each octet.
-const MOST_DATAGRAM: usize = 2045;
+const MAX_DATAGRAM_LEN: usize = 2045;
 
 /// Appends the line of a clock reading, if it is later than the earlier one.
 pub(crate) fn push_tick(text: &mut Vec<u8>, earlier: u64, reading: u64) -> Result<(), AllocError>
@@ -32,7 +32,7 @@ pub(crate) fn push_arrival(
 ) -> Result<(), ImportFault>
     ensures { OnOk result (text.new.items ≡ text.old.items ++ arrival_line route.now octets.now) }
 {
-    if octets.len() > MOST_DATAGRAM {
+    if octets.len() > MAX_DATAGRAM_LEN {
         return Err(ImportFault::DatagramTooLong);
     }
     push_short(text, route, octets)?;
