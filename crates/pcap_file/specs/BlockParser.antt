@@ -4,7 +4,7 @@ use Rattle.pcap_file.specs.declared.decode.endian.Endian.{Endian}
 use Rattle.pcap_file.specs.declared.cursor.Format.{Format}
 use Rattle.pcap_file.specs.declared.cursor.Format.TheVariants.{Pcap, Pcapng}
 use Rattle.pcap_file.specs.declared.fault.CaptureFaultKind.{CaptureFaultKind}
-use Rattle.pcap_file.specs.declared.parts.BlockParser.{BlockParser}
+use Rattle.pcap_file.specs.declared.block_parser.BlockParser.{BlockParser}
 use Rattle.pcap_file.specs.declared.decode.pcap.Pcap.{Pcap as Header}
 use Rattle.pcap_file.specs.Octets.{number_at}
 use Rattle.pcap_file.specs.Pcap.{record_end}

@@ -4,13 +4,13 @@ use Rattle.std.specs.Option.{option_to_list}
 use Rattle.std.specs.Io.KnownBytes.{Consumes, IsAtEnd}
 use Rattle.pcap_file.specs.declared.fault.CaptureFault.{CaptureFault}
 use Rattle.pcap_file.specs.declared.block_parser.CaptureBlock.{CaptureBlock}
-use Rattle.pcap_file.specs.declared.parts.BlockParser.{BlockParser}
+use Rattle.pcap_file.specs.declared.block_parser.BlockParser.{BlockParser}
 use Rattle.pcap_file.specs.Packet.{PacketView, packet_view}
 use Rattle.pcap_file.specs.Capture.{packets_of}
 use Rattle.pcap_file.specs.BlockParser.{is_cut_in, items_at}
 use Rattle.pcap_file.specs.Entries.{Entry, Packet, Mark, entries_at, entries_in, entries_of}
-use Rattle.pcap_file.specs.declared.reader_fault.ReaderFault.{ReaderFault}
-use Rattle.pcap_file.specs.declared.reader_fault.ReaderFault.TheVariants.{ReadFailed, Capture, TooLong, Memory}
+use Rattle.pcap_file.specs.declared.fault.ReaderFault.{ReaderFault}
+use Rattle.pcap_file.specs.declared.fault.ReaderFault.TheVariants.{ReadFailed, Capture, TooLong, Memory}
 
 -- the packets among entries
 abbrev pub packets_among : List Entry → List PacketView

@@ -4,11 +4,12 @@ ghost use Rattle.pcap_file.specs.Capture as spec;
 ghost use Rattle.pcap_file.specs.Capture.{HasRead, item_view, packets_left, packets_of, state_of};
 
 use crate::block_parser::CaptureBlock;
+use crate::block_type::SECTION_HEADER;
 use crate::cursor::{Capture, Format};
 use crate::decode::Packet;
 use crate::decode::endian::Endian;
 use crate::decode::pcap::{FILE_HEADER, read_header, read_record};
-use crate::decode::pcapng::{SECTION_HEADER, Section};
+use crate::decode::pcapng::Section;
 use crate::fault::{CaptureFault, CaptureFaultKind};
 
 /// Opens a capture whose whole file is `octets`, and returns an iterator over its UDP packets. Returns the fault of the

@@ -9,10 +9,11 @@ ghost use Rattle.pcap_file.specs.Blocks.{
   padded,
   section_block,
 };
+ghost use Rattle.pcap_file.specs.Overwrites.{written_at};
 
+use crate::block_type::{ENHANCED_PACKET, INTERFACE, SECTION_HEADER, STATISTICS};
+use crate::encode::body::{closing_body, datagram_body, interface_body, section_body};
 use crate::encode::datagram::RecordedDatagram;
-use crate::heads::{closing_body, datagram_body, interface_body, section_body};
-use crate::places::write_at;
 
 pub(crate) mod body;
 pub(crate) mod datagram;
@@ -31,7 +32,7 @@ pub fn write_section_header(open_at: u64, out: &mut [u8]) -> usize
     ensures len { result ≡ length (section_block open_at) }
     ensures short { result ≤ 2108 }
 {
-    write_block(0x0a0d_0d0a, section_body(open_at).as_slice(), &[], out)
+    write_block(SECTION_HEADER, section_body(open_at).as_slice(), &[], out)
 }
 
 /// Writes the description of a path's interface to the start of `out`, and returns its length in octets. The
@@ -43,7 +44,12 @@ pub fn write_interface(stream: u16, letter: u8, out: &mut [u8]) -> usize
     ensures len { result ≡ length (interface_block stream letter) }
     ensures short { result ≤ 2108 }
 {
-    write_block(1, interface_body(stream, letter).as_slice(), &[], out)
+    write_block(
+        INTERFACE,
+        interface_body(stream, letter).as_slice(),
+        &[],
+        out,
+    )
 }
 
 /// Writes a datagram as an IPv4 packet to the start of `out`, and returns the block's length in octets.
@@ -55,7 +61,12 @@ pub fn write_packet(arrival: &RecordedDatagram<'_>, out: &mut [u8]) -> usize
     ensures len { result ≡ length (datagram_block (arrival_view arrival.now)) }
     ensures short { result ≤ 2108 }
 {
-    write_block(6, datagram_body(arrival).as_slice(), arrival.octets, out)
+    write_block(
+        ENHANCED_PACKET,
+        datagram_body(arrival).as_slice(),
+        arrival.octets,
+        out,
+    )
 }
 
 /// Writes the interface statistics of a record's end to the start of `out`, and returns their length in octets. The
@@ -67,7 +78,7 @@ pub fn write_statistics(nanoseconds: u64, out: &mut [u8]) -> usize
     ensures len { result ≡ length (closing_block nanoseconds) }
     ensures short { result ≤ 2108 }
 {
-    write_block(5, closing_body(nanoseconds).as_slice(), &[], out)
+    write_block(STATISTICS, closing_body(nanoseconds).as_slice(), &[], out)
 }
 
 /// Writes a block of a type, with a head and octets, which zeros fill up to whole words of 4. Returns its length.
@@ -87,4 +98,15 @@ fn write_block(kind: u32, head: &[u8], octets: &[u8], out: &mut [u8]) -> usize
     let place = write_at(out, place, octets);
     let place = write_at(out, place, &[0; 3][..zeros]);
     write_at(out, place, &len.to_le_bytes())
+}
+
+/// Writes octets at a place, and returns the place behind them.
+pub(crate) fn write_at(out: &mut [u8], place: usize, octets: &[u8]) -> usize
+    requires { place + length octets.now ≤ length out.old }
+    ensures written { out.new ≡ written_at place octets.now out.old }
+    ensures place { result ≡ place + length octets.now }
+{
+    let end = place + octets.len();
+    out[place..end].copy_from_slice(octets);
+    end
 }

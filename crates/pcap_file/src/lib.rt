@@ -21,35 +21,26 @@
 #![tactic(auto)]
 
 mod block_parser;
+mod block_type;
 mod capture;
 mod cursor;
-mod decimal;
 mod decode;
 mod encode;
 mod fault;
-mod feed;
-mod heads;
 mod laws;
-mod parts;
-mod places;
 mod reader;
-mod reader_fault;
-mod times;
 
-pub use block_parser::CaptureBlock;
+pub use block_parser::{BlockParser, CaptureBlock};
 pub use capture::open;
 pub use cursor::Capture;
 pub use decode::Packet;
 pub use decode::ipv4::{UdpBody, UdpDatagram, UdpPacket};
 pub use decode::record_mark::RecordMark;
-pub use encode::datagram::{MOST_OCTETS, RecordedDatagram};
+pub use encode::datagram::{MAX_DATAGRAM_LEN, RecordedDatagram, nanoseconds_after};
 pub use encode::{
     MAX_BLOCK_LEN, write_interface, write_packet, write_section_header, write_statistics,
 };
-pub use fault::{CaptureFault, CaptureFaultKind};
+pub use fault::{CaptureFault, CaptureFaultKind, ReaderFault};
 pub use laws::{checksums_are_right, instants_come_back, records_are_read_back};
-pub use parts::BlockParser;
 pub use reader::buffer::ReadBuffer;
 pub use reader::{has_block, next_block, open_reader};
-pub use reader_fault::ReaderFault;
-pub use times::nanoseconds_after;

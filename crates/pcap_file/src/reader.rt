@@ -32,13 +32,12 @@ ghost use Rattle.pcap_file.specs.Reader.{
   IsOpenFault,
   part_entries,
 };
-ghost use Rattle.pcap_file.specs.declared.reader_fault.ReaderFault.TheVariants.{ReadFailed};
+ghost use Rattle.pcap_file.specs.declared.fault.ReaderFault.TheVariants.{ReadFailed};
 
-use crate::block_parser::CaptureBlock;
-use crate::fault::CaptureFault;
-use crate::parts::BlockParser;
+use crate::block_parser::{BlockParser, CaptureBlock};
+use crate::decode::pcap::FILE_HEADER;
+use crate::fault::{CaptureFault, ReaderFault};
 use crate::reader::buffer::ReadBuffer;
-use crate::reader_fault::ReaderFault;
 use std::alloc::Global;
 use std::io::Read;
 
@@ -46,13 +45,10 @@ pub(crate) mod buffer;
 
 /// The greatest number of octets before a record or a block, 2^63.
 // A place then stays below 2^64 with the length of a record or a block added, as `BlockParser::next` requires.
-const MOST_PLACE: usize = 9_223_372_036_854_775_808;
-
-/// The length of the longest header of a file, that of pcap, in octets.
-const FILE_HEADER: usize = 24;
+const MAX_PLACE: usize = 9_223_372_036_854_775_808;
 
 /// More reads than a record or a block can take, each of which brings an octet or the file's end.
-const MOST_READS: u32 = 1_000_000;
+const MAX_READS: u32 = 1_000_000;
 
 /// Opens a capture by the header of its file. Returns an error if the allocation of 1 MiB or a read fails, and the
 /// fault of the header if it has one.
@@ -83,7 +79,7 @@ fn fill_header<R: Read>(window: &mut ReadBuffer, reader: &mut R) -> Result<(), R
         (octets_of window.new) window.new.ended) }
     ensures unread { IfErr result (λ fault. fault ≡ ReadFailed) }
 {
-    // The label names the loop in its proof.
+    // The header of pcap is the longest. The label names the loop in its proof.
     'reads: for _turn in 0..FILE_HEADER {
         if window.front().len() >= FILE_HEADER {
             return Ok(());
@@ -116,7 +112,7 @@ pub fn has_block<R: Read>(
     if window.front().is_empty() {
         return Ok(false);
     }
-    if parts.place() > MOST_PLACE {
+    if parts.place() > MAX_PLACE {
         return Err(ReaderFault::TooLong(parts.place()));
     }
     Ok(true)
@@ -135,7 +131,7 @@ fn fill<R: Read>(
     ensures fault { IfErr result (λ fault. IsLong fault) }
 {
     // The label names the loop in its proof.
-    'reads: for _turn in 0..MOST_READS {
+    'reads: for _turn in 0..MAX_READS {
         if !parts.is_cut(window.front()) {
             return Ok(());
         }

@@ -1,6 +1,15 @@
 //! A flow of RTP packets and its counts.
 ghost use Rattle.std.specs.Prelude.{◌≡◌, IfOk};
-ghost use Rattle.pcap_flows.specs.Flow.{flow_first, flow_view, flow_with, lost_of, lengths_first, lengths_with, steps_first, steps_with};
+ghost use Rattle.pcap_flows.specs.Flow.{
+  flow_first,
+  flow_view,
+  flow_with,
+  lost_of,
+  lengths_first,
+  lengths_with,
+  steps_first,
+  steps_with,
+};
 ghost use Rattle.pcap_flows.specs.ReceivedNumbers.{numbers_view};
 
 use crate::packet::FlowPacket;

@@ -5,8 +5,8 @@ use Rattle.std.proofs.KnownBytes.{Appends-nil}
 use Rattle.std.proofs.lemmas.Bool.{false≢true}
 use Rattle.pcap_file.specs.Capture.{packets_of}
 use Rattle.pcap_file.specs.Entries.{entries_of}
-use Rattle.pcap_file.specs.declared.reader_fault.ReaderFault.{ReaderFault}
-use Rattle.pcap_file.specs.declared.reader_fault.ReaderFault.TheVariants as reader
+use Rattle.pcap_file.specs.declared.fault.ReaderFault.{ReaderFault}
+use Rattle.pcap_file.specs.declared.fault.ReaderFault.TheVariants as reader
 use Rattle.pcap_file.specs.Reader.{IsOpenFault}
 use Rattle.studio_config.specs.Studio.{Studio}
 use Rattle.studio_session.specs.Event.{TraceEvent, Closing}

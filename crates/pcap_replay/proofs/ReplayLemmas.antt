@@ -4,13 +4,13 @@ use Rattle.std.specs.Prelude.{⊤}
 use Rattle.std.specs.Io.KnownBytes.{Appends}
 use Rattle.std.proofs.Math.Seq.{take-length}
 use Rattle.std.proofs.lemmas.List.{length-map}
-use Rattle.pcap_file.specs.declared.parts.BlockParser.{BlockParser}
+use Rattle.pcap_file.specs.declared.block_parser.BlockParser.{BlockParser}
 use Rattle.pcap_file.specs.declared.block_parser.CaptureBlock.{CaptureBlock}
 use Rattle.pcap_file.specs.Entries.{Entry, entries_at}
 use Rattle.pcap_file.specs.Packet.{PacketView, packet_view}
 use Rattle.pcap_file.specs.BlockParser.{items_at}
-use Rattle.pcap_file.specs.declared.reader_fault.ReaderFault.{ReaderFault}
-use Rattle.pcap_file.specs.declared.reader_fault.ReaderFault.TheVariants as reader
+use Rattle.pcap_file.specs.declared.fault.ReaderFault.{ReaderFault}
+use Rattle.pcap_file.specs.declared.fault.ReaderFault.TheVariants as reader
 use Rattle.pcap_file.specs.Reader.{HasEntries, HasTold, IsLong, packets_among, packets_in, part_entries}
 use Rattle.pcap_file.proofs.ReaderEntryLemmas.{among_more}
 use Rattle.pcap_flows.specs.declared.import.clock.CaptureClock.{CaptureClock}

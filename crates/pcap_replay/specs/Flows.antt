@@ -1,6 +1,6 @@
 -- The flows of a capture's packets so far.
 use Rattle.std.specs.Prelude.{◌≡◌, ℕ, Bool, List, map, Option, Ok}
-use Rattle.pcap_file.specs.declared.parts.BlockParser.{BlockParser}
+use Rattle.pcap_file.specs.declared.block_parser.BlockParser.{BlockParser}
 use Rattle.pcap_file.specs.Entries.{Entry}
 use Rattle.pcap_flows.specs.FlowTable.{TableView, no_table, table_after}
 use Rattle.pcap_file.specs.Reader.{HasTold, packets_among}

@@ -1,12 +1,12 @@
 -- The report of a capture, and how far it was written.
 use Rattle.std.specs.Prelude.{◌≡◌, ◌≢◌, ◌⊎◌, ◌<◌, ℕ, ◌++◌, Bool, false, List, [], ◌∷◌, length, take, map, Option, Ok, Err, IfSome, ⊤}
 use Rattle.std.specs.Io.KnownBytes.{Appends}
-use Rattle.pcap_file.specs.declared.parts.BlockParser.{BlockParser}
+use Rattle.pcap_file.specs.declared.block_parser.BlockParser.{BlockParser}
 use Rattle.pcap_file.specs.Entries.{Entry, entries_of}
 use Rattle.pcap_file.specs.Packet.{PacketView}
 use Rattle.pcap_file.specs.Capture.{Item, packets_of}
-use Rattle.pcap_file.specs.declared.reader_fault.ReaderFault.{ReaderFault}
-use Rattle.pcap_file.specs.declared.reader_fault.ReaderFault.TheVariants as reader
+use Rattle.pcap_file.specs.declared.fault.ReaderFault.{ReaderFault}
+use Rattle.pcap_file.specs.declared.fault.ReaderFault.TheVariants as reader
 use Rattle.pcap_file.specs.Reader.{HasEntries, HasTold, packets_among}
 use Rattle.studio_config.specs.Studio.{Studio}
 use Rattle.studio_mix.specs.Blocks.{AreFirstBlocks}

@@ -3,6 +3,8 @@
 ghost use Rattle.std.specs.Prelude.{◌≡◌, ◌<◌};
 ghost use Rattle.reception_chart.specs.Bins.{row_of};
 
+use path_merge::Path;
+
 pub(crate) mod axis;
 pub(crate) mod bins;
 pub(crate) mod extent;
@@ -10,8 +12,6 @@ pub(crate) mod margins;
 pub(crate) mod panel_data;
 pub(crate) mod stream_tracker;
 pub(crate) mod studio_tracker;
-
-use path_merge::Path;
 
 /// The row of duplicates. The rows 0 to 3 are those of packets taken from the paths.
 pub(crate) const DOUBLE_ROW: usize = 4;

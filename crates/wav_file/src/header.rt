@@ -1,6 +1,15 @@
 //! The format of a WAV file's samples.
 ghost use Rattle.std.specs.Prelude.{◌≡◌, ◌+◌, ◌++◌, ◌^◌, ◌<◌, ◌≤◌, ◌/◌, length};
-ghost use Rattle.wav_file.specs.Header.{frame_length, format_octets, header_octets, is_long, riff_size, room_chunk, room_octets, size_octets};
+ghost use Rattle.wav_file.specs.Header.{
+  frame_length,
+  format_octets,
+  header_octets,
+  is_long,
+  riff_size,
+  room_chunk,
+  room_octets,
+  size_octets,
+};
 ghost use Rattle.arrayvec.specs.ArrayVec.{array_vec_len};
 
 use arrayvec::ArrayVec;

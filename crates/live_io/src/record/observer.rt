@@ -15,7 +15,7 @@ ghost use Rattle.live_io.specs.RecordBlocks.{
 
 use crate::record::block_producer::BlockProducer;
 use crate::way::DatagramOrigin;
-use pcap_file::{MOST_OCTETS, RecordedDatagram, nanoseconds_after};
+use pcap_file::{MAX_DATAGRAM_LEN, RecordedDatagram, nanoseconds_after};
 use rtp_stream::StreamSpec;
 use rtrb::Producer;
 use studio_config::StudioSpec;
@@ -96,7 +96,7 @@ impl RecordObserver {
         ensures packet { IfSome result
             (λ arrival. IsPacket self.now.open_at time way.now octets.now (arrival_view arrival)) }
     {
-        if octets.len() > MOST_OCTETS {
+        if octets.len() > MAX_DATAGRAM_LEN {
             return None;
         }
         let nanoseconds = self.nanoseconds(time)?;

@@ -15,7 +15,7 @@ const TIME_OFFSET: u16 = 14;
 
 /// The description of an interface.
 #[derive(Clone, Copy, Debug, Default, PartialEq, Eq)]
-pub struct Interface {
+pub(crate) struct Interface {
     /// The header in front of each IP packet.
     pub link: LinkType,
     /// The greatest number of octets that are captured of a packet; 0 if there is no limit.

@@ -16,6 +16,7 @@ pub(crate) const FILE_HEADER: usize = 24;
 
 /// The length of a record's header, in octets.
 const RECORD_HEADER: usize = 16;
+
 /// The magic number of a file whose times are in microseconds.
 const MICROSECONDS: u32 = 0xa1b2_c3d4;
 

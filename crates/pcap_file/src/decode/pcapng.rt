@@ -8,6 +8,9 @@ ghost use Rattle.pcap_file.specs.Mark.{mark_of};
 ghost use Rattle.pcap_file.specs.CaptureBlock.{part_view};
 
 use crate::block_parser::CaptureBlock;
+use crate::block_type::{
+    BYTE_ORDER_MAGIC, ENHANCED_PACKET, INTERFACE, SECTION_HEADER, SIMPLE_PACKET, STATISTICS,
+};
 use crate::decode::endian::Endian;
 use crate::decode::interface::{Interface, read_interface, time_of, time_units};
 use crate::decode::record_mark::{RecordMark, read_closing, read_opening};
@@ -18,15 +21,10 @@ use arrayvec::ArrayVec;
 /// The greatest number of interfaces of a section.
 // A record has at most 16 streams with 4 paths each. The limit lets the interfaces lie in an array, so that reading
 // allocates nothing.
-const INTERFACES: usize = 64;
+const MAX_INTERFACES: usize = 64;
+
 /// The length of an empty block in octets: its type, and its length twice.
 const EMPTY_BLOCK: usize = 12;
-/// The block type of a section header, which is the same in both byte orders.
-pub(crate) const SECTION_HEADER: u32 = 0x0a0d_0d0a;
-/// The block type of an interface's statistics.
-const STATISTICS: u32 = 5;
-/// The number in a section header that shows its byte order.
-const BYTE_ORDER_MAGIC: u32 = 0x1a2b_3c4d;
 
 /// The kind of a block, by its type.
 #[derive(Clone, Copy, Debug, PartialEq, Eq)]
@@ -43,7 +41,7 @@ pub(crate) enum BlockKind {
 #[derive(Drop)]
 pub(crate) struct Section {
     pub(crate) order: Endian,
-    pub(crate) interfaces: ArrayVec<Interface, INTERFACES>,
+    pub(crate) interfaces: ArrayVec<Interface, MAX_INTERFACES>,
 }
 
 impl Section {
@@ -191,9 +189,9 @@ fn block_kind(number: u32) -> BlockKind
 {
     match number {
         SECTION_HEADER => BlockKind::SectionHeader,
-        1 => BlockKind::Interface,
-        3 => BlockKind::SimplePacket,
-        6 => BlockKind::EnhancedPacket,
+        INTERFACE => BlockKind::Interface,
+        SIMPLE_PACKET => BlockKind::SimplePacket,
+        ENHANCED_PACKET => BlockKind::EnhancedPacket,
         _ => BlockKind::Other,
     }
 }

@@ -1,8 +1,11 @@
 //! A received datagram, as it is recorded.
+ghost use Rattle.std.specs.Prelude.{◌≡◌};
+ghost use Rattle.pcap_file.specs.Times.{nanoseconds_in_64};
+
 use std::net::Ipv4Addr;
 
 /// The greatest length of a datagram in a record, in octets.
-pub const MOST_OCTETS: usize = 2_048;
+pub const MAX_DATAGRAM_LEN: usize = 2_048;
 
 /// A received datagram with its time, addresses and ports. Its octets are borrowed.
 #[derive(Clone, Copy)]
@@ -21,4 +24,13 @@ pub struct RecordedDatagram<'a> {
     pub destination_port: u16,
     /// The datagram's octets, without the UDP header.
     pub octets: &'a [u8],
+}
+
+/// Returns the first nanosecond that isn't before so many sampling instants at 48 kHz, if it fits 64 bits.
+pub fn nanoseconds_after(instants: u64) -> Option<u64>
+    ensures { result ≡ nanoseconds_in_64 instants }
+{
+    // 3 sampling instants are 62,500 nanoseconds. Rounding up makes the conversion back exact (`instants_come_back`).
+    let nanoseconds = (u128::from(instants) * 62_500 + 2) / 3;
+    u64::try_from(nanoseconds).ok()
 }

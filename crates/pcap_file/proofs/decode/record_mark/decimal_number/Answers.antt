@@ -2,7 +2,7 @@ use Rattle.std.proofs.Common.{◌≡◌, subst, sym, refl, ◌∙◌, arith}
 use Rattle.std.specs.Str.{IsUtf8}
 use Rattle.std.specs.Str.Parse.{ParsesUnsigned}
 use Rattle.pcap_file.proofs.DecimalLemmas.{BeginsPlainly, BeginsPlainly-decimal, IsUtf8-decimal, decimal-parsed, parsed-decimal}
-use Rattle.pcap_file.proofs.decimal.decimal_number.Goals as goal
+use Rattle.pcap_file.proofs.decode.record_mark.decimal_number.Goals as goal
 
 pub returns-then-not-begins_plainly-clause-found : goal.returns-then-not-begins_plainly-clause-found
 returns-then-not-begins_plainly-clause-found c n most is =

@@ -3,7 +3,7 @@ use Rattle.pcap_file.specs.Packet.{packet_view}
 use Rattle.pcap_file.specs.BlockParser.{state_at}
 use Rattle.pcap_file.proofs.EntryLemmas.{passed_entries, no_entry_behind}
 use Rattle.pcap_file.proofs.BlockParserLemmas.{passed_fault, passed_part}
-use Rattle.pcap_file.proofs.parts.BlockParser.next.Goals as goal
+use Rattle.pcap_file.proofs.block_parser.BlockParser.next.Goals as goal
 
 pub returns-in-Ok-clause-part : goal.returns-in-Ok-clause-part
 returns-in-Ok-clause-part c = λ rest whole.

@@ -5,7 +5,7 @@ use Rattle.pcap_file.specs.Capture.{packets_from}
 use Rattle.pcap_file.specs.Entries.{entries_from}
 use Rattle.pcap_file.proofs.EntryLemmas.{listed_pcap, listed_pcapng}
 use Rattle.pcap_file.proofs.BlockParserLemmas.{opened_none, opened_pcap, opened_pcapng}
-use Rattle.pcap_file.proofs.parts.BlockParser.open.Goals as goal
+use Rattle.pcap_file.proofs.block_parser.BlockParser.open.Goals as goal
 
 pub returns-then-is_pcapng-clause-parts : goal.returns-then-is_pcapng-clause-parts
 returns-then-is_pcapng-clause-parts c = λ rest enough.

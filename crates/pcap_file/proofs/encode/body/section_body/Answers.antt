@@ -2,7 +2,7 @@ use Rattle.std.proofs.Common.{◌≡◌, ◌-◌, ◌^◌, ◌++◌, ℕ, List, 
 use Rattle.byteorder.specs.Endian.{little_bytes}
 use Rattle.pcap_file.specs.Mark.{opening_text}
 use Rattle.pcap_file.specs.Blocks.{option_octets, section_body}
-use Rattle.pcap_file.proofs.heads.section_body.Goals as goal
+use Rattle.pcap_file.proofs.encode.body.section_body.Goals as goal
 
 pub returns : goal.returns
 unfolding section_body
