@@ -1,4 +1,4 @@
--- A capture of which only the front came.
+-- A capture of which only a prefix was read.
 use Rattle.std.proofs.Common.{◌≡◌, ◌⊎◌, inl, inr, ◌≤◌, ◌+◌, ℕ, true, false, List, [], ◌∷◌, ◌++◌, length, drop, Option, Some, None, Ok, Err, nat_lt, refl, sym, ap, ◌∙◌, arith, append-nil, length-append}
 use Rattle.std.proofs.lemmas.Bool.Decides.{nat_tests}
 use Rattle.std.proofs.lemmas.List.{drop-append-le}
@@ -54,7 +54,7 @@ pcap_front front rest long =
     pcap_whole (front ++ rest) (omega (arith, long, more)) ∙ ap (header_in (front ++ rest)) (magic_front front rest long)
     ∙ header_front front rest (magic_of front) long ∙ sym (pcap_whole front (omega (arith, long)))
 
--- what the front shows of the header holds of the whole file
+-- the header in a prefix is that of the whole file
 pub same_header : (front rest : List ℕ) → IsEnough front rest → (is_pcapng (front ++ rest) ≡ is_pcapng front) × (pcap_of (front ++ rest) ≡ pcap_of front)
 same_header front rest (inl long) = (pcapng_front front rest long, pcap_front front rest long)
 same_header front rest (inr none) =

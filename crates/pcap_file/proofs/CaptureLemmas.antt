@@ -18,7 +18,7 @@ packets_past-drop zero state place octets = refl
 packets_past-drop (suc count) state place [] = refl
 packets_past-drop (suc count) state place (octet ∷ octets) = packets_past-drop count state place octets
 
--- nothing is told of no octets
+-- no octets have no item
 pub packets_from-none : (state : State) (place : ℕ) → packets_from state place [] ≡ []
 unfolding packets_past
 packets_from-none state place = refl

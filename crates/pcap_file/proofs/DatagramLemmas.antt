@@ -23,7 +23,7 @@ use Rattle.pcap_file.proofs.WriteInterfaceLemmas.{raw}
 use Rattle.pcap_file.proofs.OctetLemmas.{midst, number_behind}
 use Rattle.pcap_file.proofs.WholeLemmas.{IsWhole, Tells, not_below, whole_block}
 
--- the pieces of the block: what stands before the packet, the packet, and what stands behind it
+-- the pieces of the block: the octets before the packet, the packet, and the octets behind it
 abbrev begin : ℕ → ArrivalView → List ℕ
 begin len a = little_bytes 4 6 ++ little_bytes 4 len ++ little_bytes 4 a.interface
 

@@ -33,7 +33,7 @@ entries_from-part state (octet ∷ octets) block some long e =
     ∙ ap (λ l. entries_in block.part.packet block.part.mark ++ l)
     (entries_past-drop (block.part.len - 1) next octets ∙ ap (λ n. entries_from next (drop n (octet ∷ octets))) far)
 
--- none stands behind a fault
+-- no entry is behind a fault
 entries_from-fault : (state : State) (octets : List ℕ) (kind : CaptureFaultKind) → 1 ≤ length octets → part_of state octets ≡ Err kind → entries_from state octets ≡ []
 unfolding entries_past
 entries_from-fault state [] kind some e = absurd (omega arith)

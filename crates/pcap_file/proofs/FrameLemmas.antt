@@ -96,7 +96,7 @@ flags_are : (sum : ℕ) (a : ArrivalView) → number_at Big 2 6 (packet_with sum
 unfolding number_at header_with
 flags_are sum a = refl
 
--- what stands behind the first three words
+-- the octets behind the first three words
 tail : (a : ArrivalView) → a.source ++ a.destination ++ udp_octets a ++ a.octets ≡ a.source ++ (a.destination ++ (udp_octets a ++ a.octets))
 tail a = append_assoc (a.source ++ a.destination) (udp_octets a) a.octets ∙ append_assoc a.source a.destination (udp_octets a ++ a.octets)
 

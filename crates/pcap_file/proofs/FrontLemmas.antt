@@ -35,7 +35,7 @@ little_front (suc n) i xs ys h =
     ap (λ x. x + 256 * little_from (suc i) n (xs ++ ys)) (get_front xs ys i (omega (arith, h)))
     ∙ ap (λ x. get_or xs i 0 + 256 * x) (little_front n (suc i) xs ys (omega (arith, h)))
 
--- a number within the front
+-- a number within a prefix
 pub number_front : (order : Endian) (n place : ℕ) (xs ys : List ℕ) → place + n ≤ length xs → number_at order n place (xs ++ ys) ≡ number_at order n place xs
 unfolding number_at
 number_front Big n place xs ys h =
@@ -84,7 +84,7 @@ unfolding order_of
 order_front order xs ys long =
     rw (number_front Big 4 0 xs ys (omega (arith, long)), number_front Big 4 8 xs ys (omega (arith, long)), number_front Little 4 8 xs ys (omega (arith, long))) refl
 
--- its length: three tests, of which the first two need no more than its front
+-- its length: three tests, of which the first two need only a prefix
 abbrev length_by : Endian → ℕ → List ℕ → Result ℕ CaptureFaultKind
 length_by order n octets =
     cond (nat_lt n 12 || not (n % 4 == 0)) (Err fault.Length)

@@ -6,7 +6,7 @@ use Rattle.byteorder.specs.Numbers.{big_number-reads_back, little_number-reads_b
 use Rattle.pcap_file.specs.declared.decode.endian.Endian.TheVariants.{Big, Little}
 use Rattle.pcap_file.specs.Octets.{number_at}
 
--- what stands behind other octets
+-- the octets behind others
 pub behind_front : (p : ℕ) (front rest : List ℕ) → p ≡ length front → drop p (front ++ rest) ≡ rest
 behind_front p front rest e = ap (λ n. drop n (front ++ rest)) e ∙ drop-append_seam front rest
 

@@ -70,7 +70,7 @@ option_of-next order code options rest many some whole differs e =
     ∙ option_among-enough (length next) (length options - 1) order code next (omega arith) (omega arith)
     ∙ sym (option_among-step (length options) (length options - 1) order code options (omega arith) many some whole differs)
 
--- what an option answers that ends the search
+-- the result of an option that ends the search
 pub option_of-few : (order : Endian) (code : ℕ) (options : List ℕ) → length options < 4 → option_of order code options ≡ Ok None
 option_of-few order code options h = none_among (length options) order code options h
 

@@ -4,7 +4,7 @@ use Rattle.std.proofs.lemmas.List.{length-take-le, drop-drop}
 use Rattle.std.proofs.Math.Seq.{take-append_seam, drop-append-add}
 use Rattle.pcap_file.specs.Overwrites.{written_at}
 
--- what stands before the end of octets, and behind it
+-- the octets before the end of others, and behind it
 before_end : (q : ℕ) (xs rest : List ℕ) → q ≡ length xs → take q (xs ++ rest) ≡ xs
 before_end q xs rest e = ap (λ m. take m (xs ++ rest)) e ∙ take-append_seam xs rest
 
@@ -27,7 +27,7 @@ behind p q xs ys a b c first then place room =
     ∙ ap (λ l. front ++ ys ++ l) past
     ∙ ap (λ l. l ++ drop (p + length (xs ++ ys)) a) (append_assoc (take p a) xs ys)
 
--- octets stand at the front of a list in place of as many, and the place is behind them
+-- octets replace as many at the start of a list, and the place is behind them
 pub record IsFront (place : ℕ) (octets all written : List ℕ) : Type 0 where
   pub are : written ≡ octets ++ drop place all
   pub place_is : place ≡ length octets

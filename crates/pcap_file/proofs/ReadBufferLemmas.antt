@@ -1,4 +1,4 @@
--- The octets that are lent.
+-- The octets that `front` returns.
 use Rattle.std.proofs.Common.{◌≡◌, ℕ, ◌-◌, List, length, take, drop, min, ap, ◌∙◌, arith}
 use Rattle.std.proofs.lemmas.List.{take_min, take_rest}
 

@@ -1,4 +1,4 @@
--- A capture's entries, told as its octets come.
+-- A capture's entries, returned as its octets are read.
 use Rattle.std.proofs.Common.{◌≡◌, ◌⊎◌, inl, inr, ◌≤◌, ◌<◌, ◌+◌, ℕ, Bool, true, false, List, [], ◌∷◌, ◌++◌, length, take, drop, map, Option, Some, None, IfSome, Result, Ok, Err, IfOk, IfErr, OnErr, refl, sym, ap, subst, ◌∙◌, arith, append_assoc, append-nil, take-append-drop, length-append}
 use Rattle.std.specs.Option.{option_to_list}
 use Rattle.std.specs.Io.KnownBytes.{Consumes, IsAtEnd}
@@ -15,10 +15,10 @@ use Rattle.pcap_file.specs.Capture.{Item, packets_of, packets_past, with_packet}
 use Rattle.pcap_file.specs.Entries.{Entry, entries_at, entries_in, entries_of, entries_past}
 use Rattle.pcap_file.specs.BlockParser.{IsEnough, is_cut_as, is_cut_in, items_at}
 use Rattle.pcap_file.specs.ReadBuffer.{Reads}
-use Rattle.pcap_file.specs.Reader.{HasEntries, HasOpened, HasTold, IsFaultBehind, IsFilled, packets_among}
+use Rattle.pcap_file.specs.Reader.{HasEntries, HasOpened, HasReturned, IsFaultBehind, IsFilled, packets_among}
 use Rattle.pcap_file.proofs.ReaderEntryLemmas.{among_more}
 
--- what is said of a value that is there
+-- a fact about a value that is there
 pub some_of : {X : Type 0} (o : Option X) (P : X → Type 0) → ((x : X) → o ≡ Some x → P x) → IfSome o P
 some_of None P f = tt
 some_of (Some x) P f = f x refl
@@ -26,7 +26,7 @@ some_of (Some x) P f = f x refl
 one : (o : Option (List ℕ)) (x y : List ℕ) → o ≡ Some x → o ≡ Some y → x ≡ y
 one o x y e f = cc
 
--- what was read of known octets was their front
+-- what was read of known octets is a prefix of them
 pub consumed : (left then : Option (List ℕ)) (rest octets : List ℕ) → left ≡ Some rest → Consumes left then octets → (more : List ℕ) × (then ≡ Some more) × (rest ≡ octets ++ more)
 consumed None then rest octets e read = absurd (let f : None ≡ Some rest = e in cc)
 consumed (Some x) None rest octets e read = absurd read
@@ -37,7 +37,7 @@ at_end left rest e end = subst IsAtEnd e end
 
 -- more octets came
 pub told_more : (file : List ℕ) (entries : List Entry) (left then : Option (List ℕ)) (parts : BlockParser) (held longer : List ℕ) (ended now : Bool)
-    → HasTold file entries left parts held ended → Reads left then held longer now → HasTold file entries then parts longer now
+    → HasReturned file entries left parts held ended → Reads left then held longer now → HasReturned file entries then parts longer now
 told_more file entries left then parts held longer ended now told reads =
     let came = consumed left then told.rest reads.octets told.left_is reads.read in
     let same : held ++ told.rest ≡ longer ++ came.0 = ap (λ l. held ++ l) came.2 ∙ sym (append_assoc held reads.octets came.0) ∙ ap (λ l. l ++ came.0) (sym reads.grown) in
@@ -68,7 +68,7 @@ none_taken (x ∷ held) e = absurd (let f : x ∷ take 983039 held ≡ [] = e in
 
 -- no octet is left
 pub told_end : (file : List ℕ) (entries : List Entry) (left : Option (List ℕ)) (parts : BlockParser) (held : List ℕ) (ended : Bool)
-    → take 983040 held ≡ [] → IsFilled parts held ended → HasTold file entries left parts held ended → HasEntries file entries
+    → take 983040 held ≡ [] → IsFilled parts held ended → HasReturned file entries left parts held ended → HasEntries file entries
 told_end file entries left parts held ended empty filled told =
     let none = none_taken held empty in
     let over : ended ≡ true = elim filled [
@@ -87,7 +87,7 @@ with_more : (packets : List PacketView) (packet : Option PacketView) (items : Li
 with_more packets None items = ap (λ l. map Ok l ++ items) (sym (append-nil packets))
 with_more packets (Some p) items = sym (append_assoc (map Ok packets) (Ok p ∷ []) items) ∙ ap (λ l. l ++ items) (sym (map-append Ok packets (p ∷ [])))
 
--- the octets behind those that are lent
+-- the octets behind those of `front`
 pub behind : (parts : BlockParser) (held : List ℕ) (rest : List ℕ) (ended : Bool) → IsFilled parts held ended → (ended ≡ true → rest ≡ [])
     → (is_cut_in parts (take 983040 held) ≡ false) ⊎ (drop 983040 held ++ rest ≡ [])
 behind parts held rest ended (inl whole) end = inl whole
@@ -101,7 +101,7 @@ left_of len held rest within =
     sym (append_assoc (drop len (take 983040 held)) (drop 983040 held) rest)
     ∙ ap (λ l. l ++ rest) (sym (drop-append-le len (take 983040 held) (drop 983040 held) within) ∙ ap (drop len) (take-append-drop 983040 held))
 
--- what holds of what is lent holds of what is held
+-- what holds of the octets of `front` holds of all that the buffer has
 lent_as : {X : Type 0} (f : List ℕ → X) (x : List ℕ → X) (parts : BlockParser) (held rest : List ℕ) (ended : Bool) (front : List ℕ) → front ≡ take 983040 held → IsFilled parts held ended → (ended ≡ true → rest ≡ [])
     → ((rest : List ℕ) → (is_cut_in parts front ≡ false) ⊎ (rest ≡ []) → f (front ++ rest) ≡ x rest) → f (held ++ rest) ≡ x (drop 983040 held ++ rest)
 lent_as f x parts held rest ended front is filled end says =
@@ -114,7 +114,7 @@ pub told_next : (file : List ℕ) (entries : List Entry) (left : Option (List �
     → IsFilled parts held ended → len ≤ length front
     → ((rest : List ℕ) → (is_cut_in parts front ≡ false) ⊎ (rest ≡ []) → items_at parts (front ++ rest) ≡ with_packet packet (items_at then (drop len front ++ rest)))
     → ((rest : List ℕ) → (is_cut_in parts front ≡ false) ⊎ (rest ≡ []) → entries_at parts (front ++ rest) ≡ entries_in packet tells ++ entries_at then (drop len front ++ rest))
-    → HasTold file entries left parts held ended → HasTold file (entries ++ entries_in packet tells) left then (drop len held) ended
+    → HasReturned file entries left parts held ended → HasReturned file (entries ++ entries_in packet tells) left then (drop len held) ended
 told_next file entries left parts then held ended len packet tells front is filled short passes lists told =
     let within : len ≤ length (take 983040 held) = subst (λ f. len ≤ length f) is short in
     let here : drop len front ++ (drop 983040 held ++ told.rest) ≡ drop len held ++ told.rest = ap (λ f. drop len f ++ (drop 983040 held ++ told.rest)) is ∙ left_of len held told.rest within in
@@ -139,7 +139,7 @@ pub told_fault : (file : List ℕ) (entries : List Entry) (left : Option (List �
     → IsFilled parts held ended
     → ((rest : List ℕ) → (is_cut_in parts front ≡ false) ⊎ (rest ≡ []) → items_at parts (front ++ rest) ≡ Err fault ∷ [])
     → ((rest : List ℕ) → (is_cut_in parts front ≡ false) ⊎ (rest ≡ []) → entries_at parts (front ++ rest) ≡ [])
-    → HasTold file entries left parts held ended → IsFaultBehind file entries fault
+    → HasReturned file entries left parts held ended → IsFaultBehind file entries fault
 told_fault file entries left parts held ended fault front is filled fails lists told = record {
   packets = told.packets ∙ ap (λ l. map Ok (packets_among entries) ++ l) (lent_as (items_at parts) (λ _. Err fault ∷ []) parts held told.rest ended front is filled told.end fails);
   all = told.all ∙ ap (λ l. entries ++ l) (lent_as (entries_at parts) (λ _. []) parts held told.rest ended front is filled told.end lists) ∙ append-nil entries;
@@ -153,7 +153,7 @@ shown held rest false enough few end = inl (subst (λ l. 24 ≤ length l) (sym (
 pub told_open : (file : List ℕ) (left then : Option (List ℕ)) (parts : BlockParser) (held : List ℕ) (ended : Bool) (front : List ℕ) → front ≡ take 983040 held → left ≡ Some file → HasOpened left then held ended
     → ((rest : List ℕ) → IsEnough front rest → packets_of (front ++ rest) ≡ items_at parts (drop parts.place (front ++ rest)))
     → ((rest : List ℕ) → IsEnough front rest → entries_of (front ++ rest) ≡ entries_at parts (drop parts.place (front ++ rest)))
-    → parts.place ≤ length front → HasTold file [] then parts (drop parts.place held) ended
+    → parts.place ≤ length front → HasReturned file [] then parts (drop parts.place held) ended
 told_open file left then parts held ended front front_is is opened says lists short =
     let came = consumed left then file held is opened.read in
     let whole : front ≡ held = front_is ∙ take_all 983040 held (omega (arith, opened.few)) in

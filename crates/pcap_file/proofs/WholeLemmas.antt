@@ -26,7 +26,7 @@ not_below a b h = grind (arith, nat_tests)
 pub same_as : (a b : ℕ) → a ≡ b → (a == b) ≡ true
 same_as a b h = grind (arith, nat_tests)
 
--- the tests of a length that stands at both ends
+-- the tests of a length that is at both ends
 length_by : (octets : List ℕ) (len : ℕ) → number_at Little 4 4 octets ≡ len → number_at Little 4 (len - 4) octets ≡ len → len ≡ length octets → 12 ≤ len → len % 4 ≡ 0
     → length_of Little octets ≡ Ok len
 unfolding length_of
@@ -75,7 +75,7 @@ uncut order octets is whole = rw (is, whole.first, not_below (length octets) 12 
 abbrev pub at : List Interface → State
 at interfaces = record { format = format.Pcapng; section = record { order = Little; interfaces = interfaces } }
 
--- a block tells its packet and its mark before those behind it
+-- the packet and the mark of a block are before those behind it
 pub record Tells (order : Endian) (old new : List Interface) (octets : List ℕ) (packet : Option PacketView) (tells : Option RecordMark) : Type 0 where
   pub order_is : order_of order octets ≡ Ok Little
   pub whole : IsWhole octets

@@ -47,7 +47,7 @@ of_first P x xs every = every 0 x (omega arith)
 of_others : {X : Type 0} (P : X → Type 0) (x : X) (xs : List X) → All P (x ∷ xs) → All P xs
 of_others P x xs every = λ k d h. every (suc k) d (omega (arith, h))
 
--- what is told behind the interfaces
+-- the entries behind the interfaces
 interfaces_packets : (names : List Name) (n : ℕ) (place : ℕ) (rest : List ℕ) (items : List Item) → All IsName names → n + length names ≤ 64
     → ((place : ℕ) → packets_from (at (raws (n + length names))) place rest ≡ items)
     → packets_from (at (raws n)) place (interface_blocks names ++ rest) ≡ items

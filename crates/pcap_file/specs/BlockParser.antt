@@ -33,7 +33,7 @@ abbrev pub is_cut_as : Format → Endian → List ℕ → Bool
 is_cut_as (Pcap header) order octets = is_record_cut header octets
 is_cut_as Pcapng order octets = is_block_cut order octets
 
--- what the code's values stand for
+-- the views of the values in the code
 abbrev pub is_cut_in : BlockParser → List ℕ → Bool
 is_cut_in parts octets = is_cut_as parts.format parts.section.order octets
 

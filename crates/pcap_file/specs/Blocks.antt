@@ -9,7 +9,7 @@ use Rattle.pcap_file.specs.IpHeader.{header_octets, udp_octets}
 unfoldable pub padded : List ℕ → List ℕ
 padded octets = octets ++ replicate (3 * length octets % 4) 0
 
--- a block of a type: its length stands before what it holds, and behind it
+-- a block of a type: its length is before its body and behind it
 unfoldable pub block_octets : ℕ → List ℕ → List ℕ
 block_octets kind held = little_bytes 4 kind ++ little_bytes 4 (12 + length held) ++ held ++ little_bytes 4 (12 + length held)
 
@@ -47,7 +47,7 @@ interface_block stream letter = block_octets 1 (interface_body stream letter)
 abbrev pub time_octets : ℕ → List ℕ
 time_octets nanoseconds = little_bytes 4 (nanoseconds / 2 ^ 32) ++ little_bytes 4 (nanoseconds % 2 ^ 32)
 
--- what stands before a datagram in its block: its interface, its time, its packet's length as captured and as sent, and its headers
+-- the octets before a datagram in its block: its interface, its time, its packet's length as captured and as sent, and its headers
 unfoldable pub datagram_head : ArrivalView → List ℕ
 datagram_head a =
     little_bytes 4 a.interface ++ time_octets a.nanoseconds ++ little_bytes 4 (28 + length a.octets) ++ little_bytes 4 (28 + length a.octets)

@@ -14,11 +14,11 @@ use Rattle.pcap_file.specs.CaptureBlock.{PartView, part_view}
 use Rattle.pcap_file.specs.Pcap.{pcap_of, record_of}
 use Rattle.pcap_file.specs.Section.{SectionView, Block, no_section, is_section_header, block_of, section_view}
 
--- what is told of a capture: a packet, or the first fault
+-- an item of a capture: a packet, or the first fault
 abbrev pub Item : Type 0
 Item = Result PacketView CaptureFault
 
--- the format, and what the blocks of the section said so far
+-- the format, and the state of the section after the blocks so far
 pub record State : Type 0 where
   pub format : Format
   pub section : SectionView
@@ -46,7 +46,7 @@ abbrev pub items_after : ℕ → (Block → List Item) → Result Block CaptureF
 items_after place rest (Ok block) = with_packet block.part.packet (rest block)
 items_after place rest (Err kind) = Err (record { place = place; kind = kind }) ∷ []
 
--- what the records or blocks hold that stand one behind the other from a place on, once so many octets are passed over
+-- the items of the adjacent records or blocks from a place on, after so many octets
 unfoldable pub packets_past : ℕ → State → ℕ → List ℕ → List Item
 packets_past count state place [] = []
 packets_past (suc count) state place (octet ∷ octets) = packets_past count state place octets
@@ -64,7 +64,7 @@ abbrev pub packets_behind : List ℕ → Result Pcap CaptureFaultKind → List I
 packets_behind octets (Ok pcap) = packets_from (record { format = format.Pcap pcap; section = no_section }) 24 (drop 24 octets)
 packets_behind octets (Err kind) = Err (record { place = 0; kind = kind }) ∷ []
 
--- a section header's block stands first
+-- a section header's block is first
 abbrev pub is_pcapng : List ℕ → Bool
 is_pcapng octets = nat_le 4 (length octets) && is_section_header octets
 
@@ -75,7 +75,7 @@ packets_of octets =
     then packets_from (record { format = format.Pcapng; section = no_section }) 0 octets
     else packets_behind octets (pcap_of octets)
 
--- what the code's values stand for
+-- the views of the values in the code
 abbrev pub state_of : Capture → State
 state_of c = record { format = c.format; section = section_view c.section }
 

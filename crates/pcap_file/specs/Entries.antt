@@ -1,4 +1,4 @@
--- The entries of a capture, record by record or block by block: its UDP packets, and what it tells of a record.
+-- The entries of a capture, record by record or block by block: its UDP packets, and its marks of a record.
 use Rattle.std.specs.Prelude.{◌-◌, ℕ, zero, suc, List, [], ◌∷◌, ◌++◌, map, drop, Option, Result, Ok, Err, if◌then◌else◌}
 use Rattle.std.specs.Option.{option_to_list}
 use Rattle.pcap_file.specs.declared.cursor.Format.TheVariants as format
@@ -12,7 +12,7 @@ use Rattle.pcap_file.specs.Section.{Block, no_section}
 use Rattle.pcap_file.specs.Capture.{State, is_pcapng, part_of}
 use Rattle.pcap_file.specs.BlockParser.{state_at}
 
--- a packet, or what a block tells of a record
+-- a packet, or the mark of a record
 pub data Entry : Type 0 where
   Packet : PacketView → Entry
   Mark : RecordMark → Entry
@@ -26,7 +26,7 @@ abbrev pub entries_after : (Block → List Entry) → Result Block CaptureFaultK
 entries_after rest (Ok block) = entries_in block.part.packet block.part.mark ++ rest block
 entries_after rest (Err kind) = []
 
--- the entries of the records or blocks that stand one behind the other, once so many octets are passed over
+-- the entries of the adjacent records or blocks after so many octets
 unfoldable pub entries_past : ℕ → State → List ℕ → List Entry
 entries_past count state [] = []
 entries_past (suc count) state (octet ∷ octets) = entries_past count state octets

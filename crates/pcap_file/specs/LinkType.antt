@@ -17,19 +17,19 @@ link_of number =
     else (if number == 228 then Raw
     else (if number == 276 then LinuxSll2 else Other))))))
 
--- a type of two octets stands at a place
+-- a type of two octets is at a place
 abbrev pub has_type : List ℕ → ℕ → ℕ → Bool
 has_type frame place kind = nat_le (place + 2) (length frame) && (number_at Big 2 place frame == kind)
 
--- a VLAN tag of four octets stands at a place: a customer's or a service's
+-- a VLAN tag of four octets is at a place: a customer's or a service's
 abbrev pub has_tag : List ℕ → ℕ → Bool
 has_tag frame place = has_type frame place 0x8100 || has_type frame place 0x88a8
 
--- where an Ethernet frame's type stands: behind two addresses of six octets and at most two tags
+-- the place of an Ethernet frame's type: behind two addresses of six octets and at most two tags
 abbrev pub type_place : List ℕ → ℕ
 type_place frame = if has_tag frame 12 then (if has_tag frame 16 then 20 else 16) else 12
 
--- the family of IPv4, 2, stands first, in an order
+-- the first word is the family of IPv4, 2, in a byte order
 abbrev pub has_family : Endian → List ℕ → Bool
 has_family order frame = nat_le 4 (length frame) && (number_at order 4 0 frame == 2)
 

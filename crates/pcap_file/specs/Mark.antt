@@ -1,4 +1,4 @@
--- What a block tells of a record, a live run that was written down: when its studio was opened, and when it was closed.
+-- The marks of a record, which a live run wrote: the times at which its studio was opened and closed.
 use Rattle.std.specs.Prelude.{◌-◌, ◌^◌, ℕ, List, [], ◌++◌, length, take, drop, slice_get, slice_range, Option, Some, None, option_map, option_and_then, Result, Ok, Err, codes, decimal, bytes_eq, nat_lt, ◌==◌, ◌&&◌, if◌then◌else◌}
 use Rattle.std.specs.Str.Parse.{digits_value}
 use Rattle.pcap_file.specs.declared.decode.endian.Endian.{Endian}
@@ -21,7 +21,7 @@ number_if number text = if nat_lt number (2 ^ 63) && bytes_eq text (decimal numb
 unfoldable pub number_in : List ℕ → Option ℕ
 number_in text = number_if (digits_value 10 text) text
 
--- the opening that a comment says
+-- the opening that a comment gives
 abbrev pub opening_in : List ℕ → Option ℕ
 opening_in comment = if bytes_eq (take 8 comment) (codes "open_at ") then number_in (drop 8 comment) else None
 
@@ -38,21 +38,21 @@ text_at order code options = found_text (option_of order code options)
 abbrev pub section_options : List ℕ → List ℕ
 section_options block = slice_range block 24 (length block - 4)
 
--- the opening that a section header says: its writer's name, the option 4, is `darbexum`, and its comment, the option 1, says it
+-- the opening that a section header gives: its writer's name, the option 4, is `darbexum`, and its comment, the option 1, has the time
 unfoldable pub opened_by : Endian → List ℕ → Option RecordMark
 opened_by order block =
     if nat_lt (length block) 28 then None
     else (if bytes_eq (text_at order 4 (section_options block)) (codes "darbexum")
     then option_map (λ open_at. mark.Opened open_at) (opening_in (text_at order 1 (section_options block))) else None)
 
--- the time that an interface's statistics say, if 64 bits hold its nanoseconds and the interface is described
+-- the time of an interface's statistics, if 64 bits hold its nanoseconds and the interface is described
 unfoldable pub closed_by : Endian → List Interface → List ℕ → Option RecordMark
 closed_by order interfaces block =
     if nat_lt (length block) 24 then None
     else option_map (λ time. mark.Closed time)
     (option_and_then (λ interface. time_of interface (time_units order block)) (slice_get interfaces (number_at order 4 8 block)))
 
--- what a whole block tells: a section header, or statistics, whose type is 5
+-- the mark in a whole block: a section header, or statistics, whose type is 5
 abbrev pub mark_of : Endian → List Interface → List ℕ → Option RecordMark
 mark_of order interfaces block =
     if number_at order 4 0 block == 0x0a0d0d0a then opened_by order block

@@ -31,6 +31,6 @@ option_among (suc count) order code options =
 abbrev pub option_of : Endian → ℕ → List ℕ → Result (Option (List ℕ)) CaptureFaultKind
 option_of order code options = option_among (length options) order code options
 
--- what the code's value stands for
+-- the view of the value in the code
 abbrev pub value_view : Result (Option (Bor (List ℕ))) CaptureFaultKind → Result (Option (List ℕ)) CaptureFaultKind
 value_view value = result_map_both (option_map (λ octets. octets.now)) (λ kind. kind) value

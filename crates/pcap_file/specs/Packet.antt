@@ -17,6 +17,6 @@ packet_in link time interface frame =
     option_map (λ ip. record { time = time; interface = interface; ip = ip })
     (option_and_then ipv4_of (ip_octets link frame))
 
--- what the code's value stands for
+-- the view of the value in the code
 abbrev pub packet_view : Packet → PacketView
 packet_view p = record { time = p.time; interface = p.interface; ip = ipv4_view p.ip }

@@ -17,7 +17,7 @@ abbrev pub nanoseconds_in : TimeUnit → ℕ
 nanoseconds_in Microsecond = 1000
 nanoseconds_in Nanosecond = 1
 
--- the order of octets, and the smaller unit of times, that the first four octets say
+-- the byte order and the smaller unit of times that the first four octets give
 abbrev pub magic_of : List ℕ → Option (Endian × TimeUnit)
 magic_of octets =
     if number_at Big 4 0 octets == 0xa1b2c3d4 then Some (Big, Microsecond)

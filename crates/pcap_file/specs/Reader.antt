@@ -20,7 +20,7 @@ packets_among (Mark mark ∷ entries) = packets_among entries
 
 -- the first entries of a file are these, and their packets its first packets; the others are those of the octets that are held and
 -- of what is left of the file
-pub record HasTold (file : List ℕ) (entries : List Entry) (left : Option (List ℕ)) (parts : BlockParser) (held : List ℕ) (ended : Bool) : Type 0 where
+pub record HasReturned (file : List ℕ) (entries : List Entry) (left : Option (List ℕ)) (parts : BlockParser) (held : List ℕ) (ended : Bool) : Type 0 where
   pub rest : List ℕ
   pub left_is : left ≡ Some rest
   pub packets : packets_of file ≡ map Ok (packets_among entries) ++ items_at parts (held ++ rest)
@@ -52,7 +52,7 @@ pub record HasOpened (left left_then : Option (List ℕ)) (held : List ℕ) (end
   pub enough : ended ≡ false → 24 ≤ length held
   pub end : ended ≡ true → IsAtEnd left_then
 
--- what comes next is whole within the octets that are lent, or they are all
+-- the next record or block is whole within the octets of `front`, or they are all
 abbrev pub IsFilled : BlockParser → List ℕ → Bool → Type 0
 IsFilled parts held ended = (is_cut_in parts (take 983040 held) ≡ false) ⊎ ((ended ≡ true) × (length held < 983040))
 

@@ -13,7 +13,7 @@ pub record ArrivalView : Type 0 where
   pub destination_port : ℕ
   pub octets : List ℕ
 
--- what the code's value stands for
+-- the view of the value in the code
 abbrev pub arrival_view : RecordedDatagram → ArrivalView
 arrival_view a = record {
   interface = a.interface;

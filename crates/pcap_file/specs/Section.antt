@@ -16,7 +16,7 @@ use Rattle.pcap_file.specs.Packet.{PacketView, packet_in, packet_view}
 use Rattle.pcap_file.specs.Mark.{mark_of}
 use Rattle.pcap_file.specs.CaptureBlock.{PartView}
 
--- what the blocks of a section said so far: the order of its octets, and its interfaces by number
+-- the state of a section after its blocks so far: its byte order, and its interfaces by number
 pub record SectionView : Type 0 where
   pub order : Endian
   pub interfaces : List Interface
@@ -35,7 +35,7 @@ pub record Block : Type 0 where
 abbrev pub no_section : SectionView
 no_section = record { order = Big; interfaces = [] }
 
--- a section header's type stands first; it is the same in either order
+-- a section header's type is first; it is the same in either byte order
 abbrev pub is_section_header : List ℕ → Bool
 is_section_header octets = number_at Big 4 0 octets == 0x0a0d0d0a
 
@@ -79,7 +79,7 @@ enhanced_at order block interface None = Err fault.Time
 enhanced_at order block interface (Some time) =
     Ok (packet_in interface.link (Some time) (number_at order 4 8 block) (slice_range block 28 (28 + enhanced_captured order block)))
 
--- the UDP packet of an interface: 28 octets stand before it, and at least 4 behind it
+-- the UDP packet of an interface: 28 octets are before it, and at least 4 behind it
 abbrev pub enhanced_in : Endian → List ℕ → Interface → Result (Option PacketView) CaptureFaultKind
 enhanced_in order block interface =
     if nat_lt (length block) (32 + enhanced_captured order block) then Err fault.Length
@@ -96,7 +96,7 @@ abbrev pub captured_of : Interface → ℕ → ℕ
 captured_of interface original =
     if not (interface.limit == 0) && nat_lt interface.limit original then interface.limit else original
 
--- the UDP packet of an interface: 12 octets stand before it, and at least 4 behind it; it has no time
+-- the UDP packet of an interface: 12 octets are before it, and at least 4 behind it; it has no time
 abbrev pub simple_in : Endian → List ℕ → Interface → Result (Option PacketView) CaptureFaultKind
 simple_in order block interface =
     if nat_lt (length block) (16 + captured_of interface (number_at order 4 8 block)) then Err fault.Length
@@ -150,7 +150,7 @@ content_as kind.Other section block = same_section section None
 abbrev pub content_of : SectionView → List ℕ → Result Content CaptureFaultKind
 content_of section block = content_as (kind_of (number_at section.order 4 0 block)) section block
 
--- the same with its length, and what it tells of a record
+-- the same with its length and its mark
 abbrev pub with_length : ℕ → List ℕ → Content → Result Block CaptureFaultKind
 with_length len block content = Ok (record {
   part = record { len = len; packet = content.packet; mark = mark_of content.section.order content.section.interfaces block };
@@ -170,18 +170,18 @@ block_of section octets =
     if nat_lt (length octets) 12 then Err fault.Truncated
     else and_then (order_of section.order octets) (block_in section.interfaces octets)
 
--- what the code's value stands for
+-- the view of the value in the code
 abbrev pub section_view : Section → SectionView
 section_view s = record { order = s.order; interfaces = s.interfaces.items }
 
 -- a call answered a packet, or the first fault
-abbrev pub AnswersPacket : Result (Option PacketView) CaptureFaultKind → Result (Option Packet) CaptureFaultKind → Type 0
-AnswersPacket defined result =
+abbrev pub GivesPacket : Result (Option PacketView) CaptureFaultKind → Result (Option Packet) CaptureFaultKind → Type 0
+GivesPacket defined result =
     MatchResult result (λ packet. defined ≡ Ok (option_map packet_view packet)) (λ f. defined ≡ Err f)
 
 -- a call took in a block, or answered its first fault
-abbrev pub AnswersContent : Result Content CaptureFaultKind → SectionView → Result (Option Packet) CaptureFaultKind → Type 0
-AnswersContent defined new result =
+abbrev pub GivesContent : Result Content CaptureFaultKind → SectionView → Result (Option Packet) CaptureFaultKind → Type 0
+GivesContent defined new result =
     MatchResult result
     (λ packet. defined ≡ Ok (record { packet = option_map packet_view packet; section = new }))
     (λ f. defined ≡ Err f)

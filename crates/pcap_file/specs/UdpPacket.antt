@@ -38,11 +38,11 @@ header_length octets = 4 * (slice_index octets 0 % 16)
 abbrev pub total_length : List ℕ → ℕ
 total_length octets = number_at Big 2 2 octets
 
--- the fixed fields of a header of version 4 stand first, and its protocol is UDP's, 17
+-- the fixed fields of a header of version 4 are first, and its protocol is UDP's, 17
 abbrev pub has_udp_header : List ℕ → Bool
 has_udp_header octets = nat_le 20 (length octets) && (slice_index octets 0 / 16 == 4) && (slice_index octets 9 == 17)
 
--- the packet is a fragment: more fragments follow, or its offset isn't 0; two bits stand before these fourteen
+-- the packet is a fragment: more fragments follow, or its offset isn't 0; two bits are before these fourteen
 abbrev pub is_fragment : List ℕ → Bool
 is_fragment octets = not (number_at Big 2 6 octets % 2 ^ 14 == 0)
 
@@ -63,7 +63,7 @@ abbrev pub whole_or_cut : Option UdpView → BodyView
 whole_or_cut None = Truncated
 whole_or_cut (Some datagram) = Whole datagram
 
--- what an IPv4 packet carries: it is cut where fewer octets are there than it says, and where its lengths can't be
+-- the body of an IPv4 packet: it is truncated if fewer octets are there than its length, or if its lengths can't be
 unfoldable pub body_of : List ℕ → BodyView
 body_of octets =
     if is_fragment octets then Part
@@ -77,7 +77,7 @@ ipv4_of octets =
     then Some (record { source = address_at 12 octets; destination = address_at 16 octets; body = body_of octets })
     else None
 
--- what the code's values stand for
+-- the views of the values in the code
 abbrev pub udp_view : UdpDatagram → UdpView
 udp_view d = record { source_port = d.source_port; destination_port = d.destination_port; payload = d.payload.now }
 

@@ -1,4 +1,4 @@
--- A record, block behind block, and what is told of it.
+-- A record, block by block, and its entries.
 use Rattle.std.specs.Prelude.{◌≡◌, ◌<◌, ◌≤◌, ◌^◌, ℕ, List, [], ◌∷◌, ◌++◌, length, map, Some, Ok}
 use Rattle.pcap_file.specs.Packet.{PacketView}
 use Rattle.pcap_file.specs.UdpPacket.{Whole}

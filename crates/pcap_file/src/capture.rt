@@ -63,7 +63,7 @@ impl<'a> Capture<'a> {
     /// Passes over the record or the block that comes next, and returns its packet or its fault, if it has one.
     fn advance(&mut self) -> Option<Result<Packet<'a>, CaptureFault>>
         requires { 1 ≤ length self.old.octets.now }
-        ensures told { MatchOption result (packets_left self.new ≡ packets_left self.old)
+        ensures returned { MatchOption result (packets_left self.new ≡ packets_left self.old)
             (λ item. packets_left self.old ≡ item_view item ∷ packets_left self.new) }
         ensures shorter { length self.new.octets.now < length self.old.octets.now }
     {

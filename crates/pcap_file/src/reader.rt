@@ -24,7 +24,7 @@ ghost use Rattle.pcap_file.specs.ReadBuffer.{octets_of, Reads};
 ghost use Rattle.pcap_file.specs.Reader.{
   HasEntries,
   HasOpened,
-  HasTold,
+  HasReturned,
   IsFaultBehind,
   IsFilled,
   IsLong,
@@ -56,8 +56,8 @@ pub fn open_reader<R: Read>(
     alloc: Global,
     reader: &mut R,
 ) -> Result<(ReadBuffer, BlockParser), ReaderFault>
-    ensures told { IfOk result (λ opened. IfSome (R.remaining reader.old) (λ file.
-        HasTold file [] (R.remaining reader.new) opened.1 (octets_of opened.0) opened.0.ended)) }
+    ensures returned { IfOk result (λ opened. IfSome (R.remaining reader.old) (λ file.
+        HasReturned file [] (R.remaining reader.new) opened.1 (octets_of opened.0) opened.0.ended)) }
     ensures fault { IfErr result (λ fault. IfSome (R.remaining reader.old) (λ file. IsOpenFault file fault)) }
 {
     let mut window = ReadBuffer::new(alloc)?;
@@ -99,12 +99,12 @@ pub fn has_block<R: Read>(
     window: &mut ReadBuffer,
     reader: &mut R,
 ) -> Result<bool, ReaderFault>
-    ensures told { OnOk result ((file : List ℕ) (entries : List Entry)
-        → HasTold file entries (R.remaining reader.old) parts.now (octets_of window.old) window.old.ended
-        → HasTold file entries (R.remaining reader.new) parts.now (octets_of window.new) window.new.ended) }
+    ensures returned { OnOk result ((file : List ℕ) (entries : List Entry)
+        → HasReturned file entries (R.remaining reader.old) parts.now (octets_of window.old) window.old.ended
+        → HasReturned file entries (R.remaining reader.new) parts.now (octets_of window.new) window.new.ended) }
     ensures next { IfOk result (λ some. some ≡ true → IsNext parts.now (octets_of window.new) window.new.ended) }
     ensures end { IfOk result (λ some. some ≡ false → (file : List ℕ) (entries : List Entry)
-        → HasTold file entries (R.remaining reader.old) parts.now (octets_of window.old) window.old.ended
+        → HasReturned file entries (R.remaining reader.old) parts.now (octets_of window.old) window.old.ended
         → HasEntries file entries) }
     ensures fault { IfErr result (λ fault. IsLong fault) }
 {
@@ -124,9 +124,9 @@ fn fill<R: Read>(
     window: &mut ReadBuffer,
     reader: &mut R,
 ) -> Result<(), ReaderFault>
-    ensures told { OnOk result ((file : List ℕ) (entries : List Entry)
-        → HasTold file entries (R.remaining reader.old) parts.now (octets_of window.old) window.old.ended
-        → HasTold file entries (R.remaining reader.new) parts.now (octets_of window.new) window.new.ended) }
+    ensures returned { OnOk result ((file : List ℕ) (entries : List Entry)
+        → HasReturned file entries (R.remaining reader.old) parts.now (octets_of window.old) window.old.ended
+        → HasReturned file entries (R.remaining reader.new) parts.now (octets_of window.new) window.new.ended) }
     ensures filled { OnOk result (IsFilled parts.now (octets_of window.new) window.new.ended) }
     ensures fault { IfErr result (λ fault. IsLong fault) }
 {
@@ -155,12 +155,12 @@ pub fn next_block<'a>(
 ) -> Result<CaptureBlock<'a>, CaptureFault>
     requires { IsNext parts.old (octets_of window.now) window.now.ended }
     ensures len { IfOk result (λ part. part.len ≤ length (octets_of window.now)) }
-    ensures told { IfOk result (λ part. (file : List ℕ) (entries : List Entry) (left : Option (List ℕ))
-        → HasTold file entries left parts.old (octets_of window.now) window.now.ended
-        → HasTold file (entries ++ part_entries part) left parts.new
+    ensures returned { IfOk result (λ part. (file : List ℕ) (entries : List Entry) (left : Option (List ℕ))
+        → HasReturned file entries left parts.old (octets_of window.now) window.now.ended
+        → HasReturned file (entries ++ part_entries part) left parts.new
         (drop part.len (octets_of window.now)) window.now.ended) }
     ensures fault { IfErr result (λ fault. (file : List ℕ) (entries : List Entry) (left : Option (List ℕ))
-        → HasTold file entries left parts.old (octets_of window.now) window.now.ended
+        → HasReturned file entries left parts.old (octets_of window.now) window.now.ended
         → IsFaultBehind file entries fault) }
 {
     parts.next(window.front())

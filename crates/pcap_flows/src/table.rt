@@ -151,7 +151,7 @@ impl FlowTable {
     }
 
     /// Returns the place of a flow, if it is in the table.
-    pub(crate) fn place_of(&self, key: &FlowKey) -> Option<usize> {
+    pub(crate) fn index_of(&self, key: &FlowKey) -> Option<usize> {
         place_of(self.keys(), key)
     }
 

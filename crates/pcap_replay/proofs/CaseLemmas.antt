@@ -1,4 +1,4 @@
--- What is said of a value that is there.
+-- A fact about a value that is there.
 use Rattle.std.proofs.Common.{◌≡◌, Option, Some, None, IfSome, Result, Ok, Err, OnOk, IfErr, refl, sym, subst}
 use Rattle.std.specs.Prelude.{IsErrAnd}
 use Rattle.pcap_replay.specs.declared.fault.ReplayFault.{ReplayFault}

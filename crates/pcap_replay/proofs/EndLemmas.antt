@@ -50,7 +50,7 @@ unopened studio plan first a H run fault r is = record {
   front = inl (record { datagrams = r.datagrams; first = r.session.given.first; count = 0; wrote = Appends-nil a; told = heard_first studio [] a a H run r });
 }
 
--- a fault came on the way, and what was held is written
+-- a fault came before the end, and what was held is written
 ends_front : (studio : Studio) (plan : PlanView) (first a b c : Option (List ℕ)) (H : Hearing) (run : ReplayState) (fault : ReplayFault) (s : StopsFile studio plan first a run b H fault)
     → BreaksReport studio s.stops.events a c H → WritesFront studio plan first a c H fault
 ends_front studio plan first a b c H run fault s front = record {
@@ -97,7 +97,7 @@ ends_write : (studio : Studio) (plan : PlanView) (first a c : Option (List ℕ))
 ends_write studio plan first a c H run fault is s =
     as_write studio plan first a c H fault (ends_front studio plan first a c c H run fault s (inl (subst (StopsAt studio s.stops.events a run c H) is s.stops.at)))
 
--- a listener was told of all events and datagrams
+-- an observer received all events and datagrams
 pub heard_all : (studio : Studio) (events : List TraceEvent) (datagrams : List (List ℕ)) (H : Hearing) → AreDatagrams studio events datagrams → H events datagrams → HasHeardAll studio events H
 heard_all studio events datagrams H ready told = record { datagrams = datagrams; given = ready; told = told }
 

@@ -15,7 +15,7 @@ unfolding table_after
 table_more t [] item = refl
 table_more t (i ∷ items) item = table_more (table_with t i) items item
 
--- nothing was seen
+-- no packet so far
 pub seen_none : no_table ≡ table_after no_table []
 unfolding table_after
 seen_none = refl
@@ -28,7 +28,7 @@ seen_packet old new packets packet is seen =
 seen_more : (table : TableView) (packets : List PacketView) → table ≡ table_after no_table (map Ok packets) → table ≡ table_after no_table (map Ok (packets ++ []))
 seen_more table packets seen = seen ∙ ap (λ l. table_after no_table (map Ok l)) (sym (append-nil packets))
 
--- what a record or a block tells was seen, or it tells of no packet
+-- the packet of a record or a block was counted, or it has none
 pub seen_part : (old new : TableView) (entries : List Entry) (packet : PacketView) (tells : Option RecordMark) → new ≡ table_with old (Ok packet) → old ≡ table_after no_table (map Ok (packets_among entries))
     → new ≡ table_after no_table (map Ok (packets_among (entries ++ entries_in (Some packet) tells)))
 seen_part old new entries packet tells is seen =

@@ -157,7 +157,7 @@ arrival_is_line letter s octets low few short bytes =
           (encoded_not 10 octets refl bytes);
     }
 
--- the clock stays within what a trace can say, and never goes back
+-- the clock stays within the range of a trace, and never goes back
 instants_few : (t origin : ℕ) → t < 2 ^ 64 → instants_in (t - origin) < 2 ^ 50
 instants_few t origin small = omega (arith, small)
 
@@ -177,7 +177,7 @@ says_first : (line rest : List ℕ) (event : TraceEvent) (number count : ℕ) (m
 says_first line rest event number count more is said room later =
     ap (λ l. lines_said number count (lines_of l)) (append_assoc line (10 ∷ []) rest) ∙ reads-event line is event said count room number rest ∙ ap (prepend (event ∷ [])) later
 
--- a text that follows some events says the events that are left of all
+-- a text that follows some events has the remaining ones of all events
 record IsSaid (events : List TraceEvent) (text : List ℕ) (all : List TraceEvent) : Type 0 where
   pub more : List TraceEvent
   pub said : (number : ℕ) → lines_said number (length events) (lines_of text) ≡ Ok more
@@ -281,7 +281,7 @@ room_end : (routes : List Route) (clock : CaptureClock) (n : ℕ) → n + events
 unfolding events_from
 room_end routes clock n room = room
 
--- by the route of a packet, where the lines of the others are known to be said
+-- by the route of a packet, if the lines of the others are known
 by_route : (routes : List Route) (clock : CaptureClock) (events : List TraceEvent) (packet : PacketView) (packets : List PacketView) (o : Option Route)
     → ((route : Route) → o ≡ Some route → IsPathRoute route × IsLineOf packet) → clock.reading < 2 ^ 50 → time_at (pos 0) events ≡ pos clock.reading
     → length events + (packet_events clock packet o + events_from routes (packet_clock clock packet o) (map Ok packets)) ≤ 1000000

@@ -35,7 +35,7 @@ gives_none studio engine events same datagrams a h H e s = record {
   told = λ es told. subst (H es) (sym (append-nil datagrams)) told;
 }
 
--- a listener is told of one datagram more
+-- an observer receives one datagram more
 abbrev pub Hears : Hearing → Hearing → List ℕ → Type 0
 Hears K L datagram = (events : List TraceEvent) (datagrams : List (List ℕ)) → K events datagrams → L events (datagrams ++ datagram ∷ [])
 

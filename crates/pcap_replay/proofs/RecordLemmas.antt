@@ -5,10 +5,10 @@ use Rattle.pcap_file.specs.declared.decode.record_mark.RecordMark.TheVariants.{O
 use Rattle.pcap_file.specs.declared.block_parser.BlockParser.{BlockParser}
 use Rattle.pcap_file.specs.Packet.{PacketView}
 use Rattle.pcap_file.specs.Entries.{Entry, Packet, Mark, entries_at, entries_in, entries_of}
-use Rattle.pcap_file.specs.Reader.{HasTold}
+use Rattle.pcap_file.specs.Reader.{HasReturned}
 use Rattle.pcap_replay.specs.Record.{closing_in, closing_with, opening_decided, opening_in}
 
--- the close behind some entries, where one mark more is told
+-- the close behind some entries, with one mark more
 closing_mark : (tells : Option RecordMark) → closing_in (entries_in None tells) ≡ closing_with None tells
 closing_mark None = refl
 closing_mark (Some (Opened open_at)) = refl
@@ -30,7 +30,7 @@ decided [] later given is = absurd (let f : None ≡ Some given = is in cc)
 decided (Packet p ∷ entries) later given is = let e : None ≡ given = cc in e
 decided (Mark mark ∷ entries) later given is = let e : opening_in (Mark mark ∷ entries) ≡ given = cc in e
 
--- a file that told them first is a record by them, or is none
+-- a file that begins with them is a record by them, or is none
 pub opening_told : (file : List ℕ) (entries : List Entry) (given : Option ℕ) (left : Option (List ℕ)) (parts : BlockParser) (held : List ℕ) (ended : Bool) → opening_decided entries ≡ Some given
-    → HasTold file entries left parts held ended → opening_in (entries_of file) ≡ given
+    → HasReturned file entries left parts held ended → opening_in (entries_of file) ≡ given
 opening_told file entries given left parts held ended is told = ap opening_in told.all ∙ decided entries (entries_at parts (held ++ told.rest)) given is

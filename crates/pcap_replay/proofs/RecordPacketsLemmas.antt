@@ -1,4 +1,4 @@
--- The events that a record says, packet by packet, are those of its run.
+-- The events of a record, packet by packet, are those of its run.
 use Rattle.std.proofs.Common.{◌≡◌, ◌<◌, ◌≤◌, ◌+◌, ◌-◌, ℕ, zero, suc, Bool, true, false, nat_lt, List, [], ◌∷◌, ◌++◌, Option, Some, None, slice_get, unwrap_or, max, ℤ, pos, negsuc, ◌+ℤ◌, ◌≤ℤ◌, ◌<ℤ◌, if◌then◌else◌, refl, sym, ap, subst, ◌∙◌, arith, append_assoc, append-nil}
 use Rattle.std.specs.Ordering.{int_eq}
 use Rattle.std.proofs.lemmas.Bool.{false≢true}
@@ -129,7 +129,7 @@ module _ (studio : Studio) (low : pos 0 ≤ℤ studio.open_at) where
       its (pos n) h = refl
       its (negsuc n) h = absurd (omega (arith, ints, h))
 
-  -- the reading that is told comes behind some events, if it goes on
+  -- the recorded reading is behind some events, if it is later
   read_is : (events : List TraceEvent) (r i : ℕ) → r ≤ i → time_at studio.open_at events ≡ studio.open_at +ℤ pos r
       → read_at studio.open_at (natural studio.open_at) events r i ≡ events ++ turned (studio.open_at +ℤ pos r) (studio.open_at +ℤ pos i) []
   read_is events r i le is = by_test (nat_lt r i) refl

@@ -11,7 +11,7 @@ use Rattle.pcap_file.specs.Packet.{PacketView, packet_view}
 use Rattle.pcap_file.specs.BlockParser.{items_at}
 use Rattle.pcap_file.specs.declared.fault.ReaderFault.{ReaderFault}
 use Rattle.pcap_file.specs.declared.fault.ReaderFault.TheVariants as reader
-use Rattle.pcap_file.specs.Reader.{HasEntries, HasTold, IsLong, packets_among, packets_in, part_entries}
+use Rattle.pcap_file.specs.Reader.{HasEntries, HasReturned, IsLong, packets_among, packets_in, part_entries}
 use Rattle.pcap_file.proofs.ReaderEntryLemmas.{among_more}
 use Rattle.pcap_flows.specs.declared.import.clock.CaptureClock.{CaptureClock}
 use Rattle.pcap_flows.specs.Clock.{clock_with}
@@ -54,7 +54,7 @@ broke_more studio engine events earlier a b c h H K datagrams first early told b
       told = record { earlier = earlier; early = early; datagrams = datagrams ++ broken.more; first = broken.stands.given.first; told = broken.told earlier told };
     }
 
--- what a listener was told of so far
+-- what an observer received so far
 pub heard_first : (studio : Studio) (events : List TraceEvent) (a b : Option (List ℕ)) (H : Hearing) (run : ReplayState) → HasReplayed studio events a run b H → HasHeardFirst studio events H
 heard_first studio events a b H run r = record { earlier = events; early = first_same events; datagrams = r.datagrams; first = r.session.given.first; told = r.told }
 
@@ -109,8 +109,8 @@ streams_of_session studio engine events datagrams s =
     let played = s.given.played in
     ap length (sym played.fed.streams) ∙ length-map played.feeds (λ (feed : Feed). feed.stream) ∙ sym played.count
 
--- a file that told entries begins with them
-pub begins : (file : List ℕ) (entries : List Entry) (left : Option (List ℕ)) (parts : BlockParser) (held : List ℕ) (ended : Bool) → HasTold file entries left parts held ended → BeginsWith file entries
+-- a file begins with the entries that were returned
+pub begins : (file : List ℕ) (entries : List Entry) (left : Option (List ℕ)) (parts : BlockParser) (held : List ℕ) (ended : Bool) → HasReturned file entries left parts held ended → BeginsWith file entries
 begins file entries left parts held ended told = record { items = items_at parts (held ++ told.rest); packets = told.packets; later = entries_at parts (held ++ told.rest); all = told.all }
 
 pub begins_whole : (file : List ℕ) (entries : List Entry) → HasEntries file entries → BeginsWith file entries
@@ -158,9 +158,9 @@ stops_more studio plan packets packet a b c H K old new fault taken stops = subs
 pub taken_same : (studio : Studio) (plan : PlanView) (packets : List PacketView) (a c : Option (List ℕ)) (H : Hearing) (run : ReplayState) → HasTaken studio plan packets a run c H → HasTaken studio plan (packets ++ []) a run c H
 taken_same studio plan packets a c H run taken = subst (λ l. HasTaken studio plan l a run c H) (sym (append-nil packets)) taken
 
--- a file told the same entries, as more of it was read
+-- the entries of a file stay the same as more of it is read
 pub replaying_read : (studio : Studio) (plan : PlanView) (first a : Option (List ℕ)) (run : ReplayState) (parts : BlockParser) (held held' : List ℕ) (ended ended' : Bool) (left left' c : Option (List ℕ)) (H : Hearing) (closing : Option ℕ)
-    → ((file : List ℕ) (entries : List Entry) → HasTold file entries left parts held ended → HasTold file entries left' parts held' ended')
+    → ((file : List ℕ) (entries : List Entry) → HasReturned file entries left parts held ended → HasReturned file entries left' parts held' ended')
     → IsReplaying studio plan first a run parts held ended left c H closing → IsReplaying studio plan first a run parts held' ended' left' c H closing
 replaying_read studio plan first a run parts held held' ended ended' left left' c H closing reads r = record {
   entries = r.entries;
@@ -171,7 +171,7 @@ replaying_read studio plan first a run parts held held' ended ended' left left' 
 
 -- before the first entry
 pub replaying_none : (studio : Studio) (plan : PlanView) (first a : Option (List ℕ)) (run : ReplayState) (parts : BlockParser) (held : List ℕ) (ended : Bool) (left : Option (List ℕ)) (H : Hearing)
-    → IfSome first (λ file. HasTold file [] left parts held ended) → run.clock ≡ clock_before plan → HasReplayed studio [] a run a H → IsReplaying studio plan first a run parts held ended left a H None
+    → IfSome first (λ file. HasReturned file [] left parts held ended) → run.clock ≡ clock_before plan → HasReplayed studio [] a run a H → IsReplaying studio plan first a run parts held ended left a H None
 replaying_none studio plan first a run parts held ended left H told clock replayed = record {
   entries = [];
   told = told;
@@ -219,9 +219,9 @@ before_close studio plan entries =
     let packets = packets_among entries in
     first_read studio.open_at (opening_of plan) (events_of studio plan packets) (clock_of plan packets).reading (clock_with (clock_of plan packets) (closing_of plan (closing_in entries))).reading
 
--- a fault comes behind the entries that were told
+-- a fault is behind the entries that were returned
 pub stops_behind : (studio : Studio) (plan : PlanView) (first a : Option (List ℕ)) (run : ReplayState) (parts : BlockParser) (held : List ℕ) (ended : Bool) (left c : Option (List ℕ)) (H : Hearing) (closing : Option ℕ) (fault : ReplayFault)
-    (r : IsReplaying studio plan first a run parts held ended left c H closing) → ((file : List ℕ) → HasTold file r.entries left parts held ended → IsReason file r.entries fault)
+    (r : IsReplaying studio plan first a run parts held ended left c H closing) → ((file : List ℕ) → HasReturned file r.entries left parts held ended → IsReason file r.entries fault)
     → ((events : List TraceEvent) → HasReplayed studio events a run c H → StopsAt studio events a run c H fault) → StopsFile studio plan first a run c H fault
 stops_behind studio plan first a run parts held ended left c H closing fault r reason at = record {
   entries = r.entries;
@@ -229,9 +229,9 @@ stops_behind studio plan first a run parts held ended left c H closing fault r r
   stops = record { events = events_of studio plan (packets_among r.entries); first = before_close studio plan r.entries; at = at (events_of studio plan (packets_among r.entries)) r.taken.replayed };
 }
 
--- a record or a block more was told
+-- a record or a block more was returned
 pub replaying_more : (studio : Studio) (plan : PlanView) (first a : Option (List ℕ)) (run : ReplayState) (parts : BlockParser) (held : List ℕ) (ended : Bool) (left c : Option (List ℕ)) (H : Hearing) (closing : Option ℕ) (entries : List Entry) (part : CaptureBlock)
-    → IfSome first (λ file. HasTold file (entries ++ part_entries part) left parts held ended) → HasTaken studio plan (packets_among entries ++ packets_in part) a run c H → closing ≡ closing_in entries
+    → IfSome first (λ file. HasReturned file (entries ++ part_entries part) left parts held ended) → HasTaken studio plan (packets_among entries ++ packets_in part) a run c H → closing ≡ closing_in entries
     → IsReplaying studio plan first a run parts held ended left c H (closing_with closing part.mark)
 replaying_more studio plan first a run parts held ended left c H closing entries part told taken closes = record {
   entries = entries ++ part_entries part;

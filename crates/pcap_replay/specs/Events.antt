@@ -1,4 +1,4 @@
--- The events that a capture says, by a plan of where its datagrams go.
+-- The events of a capture, by the routing of its datagrams.
 use Rattle.std.specs.Prelude.{◌≡◌, ℕ, ◌+◌, ◌++◌, nat_lt, List, [], ◌∷◌, ℤ, pos, Option, Some, None, if◌then◌else◌}
 use Rattle.pcap_file.specs.Packet.{PacketView}
 use Rattle.pcap_file.specs.Entries.{Entry}
@@ -42,7 +42,7 @@ events_of studio plan packets = events_after studio.open_at plan (clock_before p
 abbrev pub clock_of : PlanView → List PacketView → CaptureClock
 clock_of plan packets = clock_after plan (clock_before plan) packets
 
--- and a reading at the time of the close, if that is told, with the close behind it
+-- and a reading at the time of the close, if that is known, with the close behind it
 abbrev pub closed_events : Studio → PlanView → List PacketView → Option ℕ → List TraceEvent
 closed_events studio plan packets closing =
     read_at studio.open_at (opening_of plan) (events_of studio plan packets) (clock_of plan packets).reading (clock_with (clock_of plan packets) closing).reading
@@ -50,7 +50,7 @@ closed_events studio plan packets closing =
 abbrev pub replay_events : Studio → PlanView → List PacketView → Option ℕ → List TraceEvent
 replay_events studio plan packets closing = closed_events studio plan packets closing ++ Closing ∷ []
 
--- those of a file's entries up to its close, and with it: the marks tell when it is, where the plan goes by them
+-- those of a file's entries up to its close, and with it: the marks have its time, if the routing is that of a record
 abbrev pub events_told : Studio → PlanView → List Entry → List TraceEvent
 events_told studio plan entries = closed_events studio plan (packets_among entries) (closing_of plan (closing_in entries))
 

@@ -7,22 +7,22 @@ use Rattle.studio_engine.specs.Session.{HasSession}
 use Rattle.studio_run.specs.Buffer.{BreaksOff, PassesOn}
 use Rattle.studio_run.specs.Listing.{datagrams_text}
 
--- what is known of a listener: that it was told of such events and such datagrams
+-- what is known of an observer: that it received such events and such datagrams
 abbrev pub Hearing : Type 1
 Hearing = List TraceEvent → List (List ℕ) → Type 0
 
--- a listener that was told of these datagrams, whatever the events, was told of more
+-- an observer that received these datagrams, whatever the events, received more
 abbrev pub Tells : Hearing → List (List ℕ) → Hearing → List (List ℕ) → Type 0
 Tells heard datagrams heard_then all = (events : List TraceEvent) → heard events datagrams → heard_then events all
 
--- it gave more datagrams, of which a listener was told, and their lines follow what was held
+-- the engine returned more datagrams, which an observer received, and their lines follow what was held
 pub record GivesLines (studio : Studio) (engine : EngineState) (events : List TraceEvent) (datagrams : List (List ℕ)) (written : Option (List ℕ)) (held : List ℕ) (written_then : Option (List ℕ)) (held_then : List ℕ) (heard heard_then : Hearing) : Type 0 where
   pub more : List (List ℕ)
   pub stands : HasSession studio engine events (datagrams ++ more)
   pub wrote : PassesOn written held written_then held_then (datagrams_text more)
   pub told : Tells heard datagrams heard_then (datagrams ++ more)
 
--- or a part of them was written, from the front
+-- or a prefix of them was written
 pub record BreaksLines (studio : Studio) (engine : EngineState) (events : List TraceEvent) (datagrams : List (List ℕ)) (written : Option (List ℕ)) (held : List ℕ) (written_then : Option (List ℕ)) (heard heard_then : Hearing) : Type 0 where
   pub more : List (List ℕ)
   pub stands : HasSession studio engine events (datagrams ++ more)

@@ -1,8 +1,8 @@
--- What is known of a listener that there may not be.
+-- What is known of an observer that may be absent.
 use Rattle.std.specs.Prelude.{ℕ, List, Option, Some, None, ⊤}
 use Rattle.studio_session.specs.Event.{TraceEvent}
 
--- where there is one it was told of these events and datagrams; where there was none, there is none
+-- if there is one, it received these events and datagrams; if there was none, there is none
 abbrev pub HasHeardIf : {X : Type 0} → (X → X → List TraceEvent → List (List ℕ) → Type 0) → Option X → Option X → List TraceEvent → List (List ℕ) → Type 0
 HasHeardIf heard None None events datagrams = ⊤
 HasHeardIf heard None (Some now) events datagrams = ⊥

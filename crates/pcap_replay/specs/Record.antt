@@ -1,4 +1,4 @@
--- What the entries of a file say of a live run.
+-- The marks of a live run among the entries of a file.
 use Rattle.std.specs.Prelude.{ℕ, List, [], ◌∷◌, Option, Some, None}
 use Rattle.pcap_file.specs.declared.decode.record_mark.RecordMark.{RecordMark}
 use Rattle.pcap_file.specs.declared.decode.record_mark.RecordMark.TheVariants.{Opened, Closed}
@@ -9,7 +9,7 @@ abbrev pub opening_by : RecordMark → Option ℕ
 opening_by (Opened open_at) = Some open_at
 opening_by (Closed time) = None
 
--- by the entries of a file: the first mark before its first packet tells it, or the file is no record of a run
+-- by the entries of a file: the first mark before its first packet has it, or the file is no record of a run
 abbrev pub opening_in : List Entry → Option ℕ
 opening_in [] = None
 opening_in (Packet packet ∷ entries) = None
@@ -20,7 +20,7 @@ abbrev pub opening_decided : List Entry → Option (Option ℕ)
 opening_decided [] = None
 opening_decided (entry ∷ entries) = Some (opening_in (entry ∷ entries))
 
--- when the studio was closed, by the first mark that tells it, wherever it stands
+-- the time at which the studio was closed, by the first mark of a close, wherever it is
 abbrev pub closing_in : List Entry → Option ℕ
 closing_in [] = None
 closing_in (Packet packet ∷ entries) = closing_in entries

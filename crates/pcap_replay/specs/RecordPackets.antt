@@ -13,7 +13,7 @@ place_of [] stream path = path
 place_of (s ∷ streams) zero path = path
 place_of (s ∷ streams) (suc stream) path = s.paths + place_of streams stream path
 
--- the nanoseconds that are told have as many whole sampling instants as a time is behind an opening
+-- the recorded nanoseconds have as many whole sampling instants as a time is behind an opening
 pub record IsAt (open_at time : ℤ) (told : Option ℕ) : Type 0 where
   pub nanoseconds : ℕ
   pub told_is : told ≡ Some nanoseconds

@@ -7,7 +7,7 @@ use Rattle.pcap_file.specs.Packet.{PacketView}
 use Rattle.pcap_file.specs.Capture.{Item, packets_of}
 use Rattle.pcap_file.specs.declared.fault.ReaderFault.{ReaderFault}
 use Rattle.pcap_file.specs.declared.fault.ReaderFault.TheVariants as reader
-use Rattle.pcap_file.specs.Reader.{HasEntries, HasTold, packets_among}
+use Rattle.pcap_file.specs.Reader.{HasEntries, HasReturned, packets_among}
 use Rattle.studio_config.specs.Studio.{Studio}
 use Rattle.studio_mix.specs.Blocks.{AreFirstBlocks}
 use Rattle.studio_session.specs.Event.{TraceEvent}
@@ -27,7 +27,7 @@ use Rattle.pcap_replay.specs.Events.{AreFirst, clock_of, events_of, events_told,
 use Rattle.pcap_replay.specs.Routing.{PlanView}
 use Rattle.pcap_replay.specs.Record.{closing_in}
 
--- the engine took these events, the lines of what it gave were written or are held, and a listener was told of both
+-- the engine took these events, the lines of the datagrams that it returned were written or are held, and an observer received both
 pub record HasReplayed (studio : Studio) (events : List TraceEvent) (written : Option (List ℕ)) (run : ReplayState) (written_then : Option (List ℕ)) (heard : Hearing) : Type 0 where
   pub datagrams : List (List ℕ)
   pub session : HasSession studio run.engine events datagrams
@@ -42,7 +42,7 @@ pub record HasBegun (studio : Studio) (run : ReplayState) : Type 0 where
   pub rested : run.engine.turning ≡ false
   pub none : run.text ≡ []
 
--- a listener was told of some of these events, from the front, and of some of the datagrams that they all give
+-- an observer received a prefix of these events, and some of the datagrams that they all give
 pub record HasHeardFirst (studio : Studio) (events : List TraceEvent) (heard : Hearing) : Type 0 where
   pub earlier : List TraceEvent
   pub early : AreFirst earlier events
@@ -50,7 +50,7 @@ pub record HasHeardFirst (studio : Studio) (events : List TraceEvent) (heard : H
   pub first : AreFirstBlocks studio (feeds_of studio events) datagrams
   pub told : heard earlier datagrams
 
--- of the lines of the datagrams that these events give a part from the front was written
+-- a prefix of the lines of the datagrams that these events give was written
 pub record BreaksAt (studio : Studio) (events : List TraceEvent) (written written_then : Option (List ℕ)) (heard : Hearing) : Type 0 where
   pub datagrams : List (List ℕ)
   pub first : AreFirstBlocks studio (feeds_of studio events) datagrams
@@ -58,7 +58,7 @@ pub record BreaksAt (studio : Studio) (events : List TraceEvent) (written writte
   pub wrote : Appends written written_then (take count (datagrams_text datagrams))
   pub told : HasHeardFirst studio events heard
 
--- a fault came after these events: what is written is a part from the front, or what is written and held is whole
+-- a fault came after these events: a prefix was written, or what is written and held is whole
 abbrev pub StopsAt : Studio → List TraceEvent → Option (List ℕ) → ReplayState → Option (List ℕ) → Hearing → ReplayFault → Type 0
 StopsAt studio events written run written_then heard Memory = ⊥
 StopsAt studio events written run written_then heard (Capture fault) = HasReplayed studio events written run written_then heard
@@ -84,10 +84,10 @@ pub record HasTaken (studio : Studio) (plan : PlanView) (packets : List PacketVi
   pub clock : run.clock ≡ clock_of plan packets
   pub replayed : HasReplayed studio (events_of studio plan packets) written run written_then heard
 
--- the packets among the entries that a file told so far were replayed, and this is known of the close
+-- the packets among the entries of a file so far were replayed, and this is known of the close
 pub record IsReplaying (studio : Studio) (plan : PlanView) (first : Option (List ℕ)) (written : Option (List ℕ)) (run : ReplayState) (parts : BlockParser) (held : List ℕ) (ended : Bool) (left written_then : Option (List ℕ)) (heard : Hearing) (closing : Option ℕ) : Type 0 where
   pub entries : List Entry
-  pub told : IfSome first (λ file. HasTold file entries left parts held ended)
+  pub told : IfSome first (λ file. HasReturned file entries left parts held ended)
   pub taken : HasTaken studio plan (packets_among entries) written run written_then heard
   pub closes : closing ≡ closing_in entries
 
@@ -98,7 +98,7 @@ pub record HasGoneOver (studio : Studio) (plan : PlanView) (first : Option (List
   pub taken : HasTaken studio plan (packets_among entries) written run written_then heard
   pub closes : closing ≡ closing_in entries
 
--- and a reading at the time of the close, if its marks tell one
+-- and a reading at the time of the close, if its marks have one
 pub record HasComeToClose (studio : Studio) (plan : PlanView) (first : Option (List ℕ)) (written : Option (List ℕ)) (run : ReplayState) (written_then : Option (List ℕ)) (heard : Hearing) : Type 0 where
   pub entries : List Entry
   pub told : IfSome first (λ file. HasEntries file entries)
@@ -124,26 +124,26 @@ pub record StopsFile (studio : Studio) (plan : PlanView) (first : Option (List �
   pub told : IfSome first (λ file. BeginsWith file entries × IsReason file entries fault)
   pub stops : Stops studio (events_told studio plan entries) written run written_then heard fault
 
--- a listener was told of all these events, and of exactly the datagrams that they give
+-- an observer received all these events, and exactly the datagrams that they give
 pub record HasHeardAll (studio : Studio) (events : List TraceEvent) (heard : Hearing) : Type 0 where
   pub datagrams : List (List ℕ)
   pub given : AreDatagrams studio events datagrams
   pub told : heard events datagrams
 
--- the report of a file's events was written, and a listener was told of them; the file has no fault
+-- the report of a file's events was written, and an observer received them; the file has no fault
 pub record WritesReplay (studio : Studio) (plan : PlanView) (left : Option (List ℕ)) (written written_then : Option (List ℕ)) (heard : Hearing) : Type 0 where
   pub entries : List Entry
   pub told : IfSome left (λ file. HasEntries file entries)
   pub writes : WritesEvents studio IsReport (file_events studio plan entries) written written_then
   pub hears : HasHeardAll studio (file_events studio plan entries) heard
 
--- of the report of events a part from the front was written: of its datagrams, or of all
+-- a prefix of the report of events was written: of its datagrams, or of all
 abbrev pub BreaksReport : Studio → List TraceEvent → Option (List ℕ) → Option (List ℕ) → Hearing → Type 0
 BreaksReport studio events written written_then heard =
     BreaksAt studio events written written_then heard
     ⊎ (((report : List ℕ) → IsReport studio events report → BreaksOff written [] written_then report) × HasHeardAll studio events heard)
 
--- a part from the front of it was: of the datagrams of its first events, or of all
+-- a prefix of it was: of the datagrams of its first events, or of all
 pub record WritesFront (studio : Studio) (plan : PlanView) (left : Option (List ℕ)) (written written_then : Option (List ℕ)) (heard : Hearing) (fault : ReplayFault) : Type 0 where
   pub entries : List Entry
   pub told : IfSome left (λ file. BeginsWith file entries × IsReason file entries fault)

@@ -18,7 +18,7 @@ pub data PlanView : Type 0 where
   Flows : List Route → PlanView
   Interfaces : List Stream → ℕ → PlanView
 
--- what the code's value stands for
+-- the view of the value in the code
 abbrev pub plan_view : declared.Routing → PlanView
 plan_view (plan.Flows routes) = Flows routes.now
 plan_view (plan.Interfaces streams open_at) = Interfaces streams.now open_at
@@ -52,7 +52,7 @@ abbrev pub clock_before : PlanView → CaptureClock
 clock_before (Flows routes) = clock_begun
 clock_before (Interfaces streams open_at) = clock_with clock_begun (Some 0)
 
--- the time of the close, where marks told this of it: only a record goes by them
+-- the time of the close by the marks, which count only in a record
 abbrev pub closing_of : PlanView → Option ℕ → Option ℕ
 closing_of (Flows routes) told = None
 closing_of (Interfaces streams open_at) told = told

@@ -9,13 +9,13 @@ use Rattle.wav_file.specs.MixWav.{HasAdded}
 use Rattle.wav_file.specs.MixSamples.{samples_in}
 use Rattle.pcap_replay.specs.Observed.{HasHeardIf}
 
--- what contracts see of a file that is written: its octets, if it tells them, its format and count, and whether a write failed
+-- the view of a file that is written: its octets, if its contents are known, its format and count, and whether a write failed
 pub record SoundState : Type 0 where
   pub made : Option (List ℕ)
   pub wav : WavState
   pub failed : Bool
 
--- it tells its octets, and has its head alone
+-- its contents are known, and they are its header alone
 pub record HasHead (sound : SoundState) : Type 0 where
   pub whole : sound.failed ≡ false
   pub none : sound.wav.count ≡ 0

@@ -70,22 +70,22 @@ impl ReplayState {
         window: &mut ReadBuffer,
         reader: &mut R,
         writer: &mut W,
-        listener: &mut L,
+        observer: &mut L,
     ) -> Result<Option<u64>, ReplayFault>
         ensures ok { IfOk result
             (λ closing. (studio : Studio) (first : Option (List ℕ)) (written : Option (List ℕ)) (begun : L)
             → IsReplaying studio (plan_view plan.now) first written self.old parts.old
             (octets_of window.old) window.old.ended (R.remaining reader.old) (W.contents writer.old)
-            (L.heard begun listener.old) None
+            (L.heard begun observer.old) None
             → HasGoneOver studio (plan_view plan.now) first written self.new (W.contents writer.new)
-            (L.heard begun listener.new) closing) }
+            (L.heard begun observer.new) closing) }
         ensures fault { IfErr result
             (λ fault. (studio : Studio) (first : Option (List ℕ)) (written : Option (List ℕ)) (begun : L)
             → IsReplaying studio (plan_view plan.now) first written self.old parts.old
             (octets_of window.old) window.old.ended (R.remaining reader.old) (W.contents writer.old)
-            (L.heard begun listener.old) None
+            (L.heard begun observer.old) None
             → StopsFile studio (plan_view plan.now) first written self.new (W.contents writer.new)
-            (L.heard begun listener.new) fault) }
+            (L.heard begun observer.new) fault) }
     {
         let mut closing = None;
         // The label names the loop in its proof.
@@ -94,7 +94,7 @@ impl ReplayState {
                 return Ok(closing);
             }
             // The block borrows the window, so only its length and its mark come back before `consume`.
-            let (len, mark) = self.take_next(plan, parts, window, writer, listener)?;
+            let (len, mark) = self.take_next(plan, parts, window, writer, observer)?;
             closing = first_close(closing, mark);
             window.consume(len);
         }
@@ -108,7 +108,7 @@ impl ReplayState {
         parts: &mut BlockParser,
         window: &ReadBuffer,
         writer: &mut W,
-        listener: &mut L,
+        observer: &mut L,
     ) -> Result<(usize, Option<RecordMark>), ReplayFault>
         requires next { IsNext parts.old (octets_of window.now) window.now.ended }
         ensures len { IfOk result (λ passed. passed.0 ≤ length (octets_of window.now)) }
@@ -116,21 +116,21 @@ impl ReplayState {
             (λ passed. (studio : Studio) (first : Option (List ℕ)) (written : Option (List ℕ))
             (begun : L) (left : Option (List ℕ)) (closing : Option ℕ)
             → IsReplaying studio (plan_view plan.now) first written self.old parts.old
-            (octets_of window.now) window.now.ended left (W.contents writer.old) (L.heard begun listener.old) closing
+            (octets_of window.now) window.now.ended left (W.contents writer.old) (L.heard begun observer.old) closing
             → IsReplaying studio (plan_view plan.now) first written self.new parts.new
             (drop passed.0 (octets_of window.now)) window.now.ended left (W.contents writer.new)
-            (L.heard begun listener.new) (closing_with closing passed.1)) }
+            (L.heard begun observer.new) (closing_with closing passed.1)) }
         ensures fault { IfErr result
             (λ fault. (studio : Studio) (first : Option (List ℕ)) (written : Option (List ℕ)) (begun : L)
             (left : Option (List ℕ)) (closing : Option ℕ)
             → IsReplaying studio (plan_view plan.now) first written self.old parts.old
-            (octets_of window.now) window.now.ended left (W.contents writer.old) (L.heard begun listener.old) closing
+            (octets_of window.now) window.now.ended left (W.contents writer.old) (L.heard begun observer.old) closing
             → StopsFile studio (plan_view plan.now) first written self.new (W.contents writer.new)
-            (L.heard begun listener.new) fault) }
+            (L.heard begun observer.new) fault) }
     {
         match next_block(parts, window) {
             Ok(part) => {
-                self.take_part(plan, &part, writer, listener)?;
+                self.take_part(plan, &part, writer, observer)?;
                 Ok((part.len, part.mark))
             }
             Err(fault) => Err(ReplayFault::Capture(ReaderFault::Capture(fault))),
@@ -143,23 +143,23 @@ impl ReplayState {
         plan: &Routing<'_>,
         part: &CaptureBlock<'_>,
         writer: &mut W,
-        listener: &mut L,
+        observer: &mut L,
     ) -> Result<(), ReplayFault>
         ensures ok { OnOk result ((studio : Studio) (packets : List PacketView) (written : Option (List ℕ)) (begun : L)
             → HasTaken studio (plan_view plan.now) packets written self.old (W.contents writer.old)
-            (L.heard begun listener.old)
+            (L.heard begun observer.old)
             → HasTaken studio (plan_view plan.now) (packets ++ packets_in part.now) written self.new
-            (W.contents writer.new) (L.heard begun listener.new)) }
+            (W.contents writer.new) (L.heard begun observer.new)) }
         ensures fault { IfErr result
             (λ fault. (studio : Studio) (packets : List PacketView) (written : Option (List ℕ)) (begun : L)
             → HasTaken studio (plan_view plan.now) packets written self.old (W.contents writer.old)
-            (L.heard begun listener.old)
+            (L.heard begun observer.old)
             → Stops studio (events_of studio (plan_view plan.now) (packets ++ packets_in part.now)) written self.new
-            (W.contents writer.new) (L.heard begun listener.new) fault) }
+            (W.contents writer.new) (L.heard begun observer.new) fault) }
         ensures kind { IfErr result (λ fault. IsOwn fault) }
     {
         match part.packet {
-            Some(packet) => self.take(plan, &packet, writer, listener),
+            Some(packet) => self.take(plan, &packet, writer, observer),
             None => Ok(()),
         }
     }
@@ -170,31 +170,31 @@ impl ReplayState {
         plan: &Routing<'_>,
         packet: &Packet<'_>,
         writer: &mut W,
-        listener: &mut L,
+        observer: &mut L,
     ) -> Result<(), ReplayFault>
         ensures ok { OnOk result ((studio : Studio) (events : List TraceEvent) (written : Option (List ℕ)) (begun : L)
-            → HasReplayed studio events written self.old (W.contents writer.old) (L.heard begun listener.old)
+            → HasReplayed studio events written self.old (W.contents writer.old) (L.heard begun observer.old)
             → HasReplayed studio
             (events_with studio.open_at (opening_of (plan_view plan.now)) self.old.clock events (packet_view packet.now)
             (target_of (plan_view plan.now) (packet_view packet.now))) written self.new (W.contents writer.new)
-            (L.heard begun listener.new)) }
+            (L.heard begun observer.new)) }
         ensures kind { IfErr result (λ fault. IsOwn fault) }
         ensures clock { OnOk result (self.new.clock
             ≡ clock_past self.old.clock (packet_view packet.now)
             (target_of (plan_view plan.now) (packet_view packet.now))) }
         ensures fault { IfErr result
             (λ fault. (studio : Studio) (events : List TraceEvent) (written : Option (List ℕ)) (begun : L)
-            → HasReplayed studio events written self.old (W.contents writer.old) (L.heard begun listener.old)
+            → HasReplayed studio events written self.old (W.contents writer.old) (L.heard begun observer.old)
             → Stops studio
             (events_with studio.open_at (opening_of (plan_view plan.now)) self.old.clock events (packet_view packet.now)
             (target_of (plan_view plan.now) (packet_view packet.now))) written self.new (W.contents writer.new)
-            (L.heard begun listener.new) fault) }
+            (L.heard begun observer.new) fault) }
     {
         let Some(target) = plan.target(packet) else {
             return Ok(());
         };
-        self.read(plan.opening(), packet.time, writer, listener)?;
-        self.arrive(target, datagram_octets(packet), listener)
+        self.read(plan.opening(), packet.time, writer, observer)?;
+        self.arrive(target, datagram_octets(packet), observer)
     }
 
     /// Moves the clock to a time in nanoseconds, and takes its reading in sampling instants from an opening on. A
@@ -204,23 +204,23 @@ impl ReplayState {
         from: u64,
         time: Option<u64>,
         writer: &mut W,
-        listener: &mut L,
+        observer: &mut L,
     ) -> Result<(), ReplayFault>
         ensures ok { OnOk result ((studio : Studio) (events : List TraceEvent) (written : Option (List ℕ)) (begun : L)
-            → HasReplayed studio events written self.old (W.contents writer.old) (L.heard begun listener.old)
+            → HasReplayed studio events written self.old (W.contents writer.old) (L.heard begun observer.old)
             → HasReplayed studio
             (read_at studio.open_at from events self.old.clock.reading
             (clock_with self.old.clock time).reading) written self.new (W.contents writer.new)
-            (L.heard begun listener.new)) }
+            (L.heard begun observer.new)) }
         ensures kind { IfErr result (λ fault. IsOwn fault) }
         ensures clock { self.new.clock ≡ clock_with self.old.clock time }
         ensures fault { IfErr result
             (λ fault. (studio : Studio) (events : List TraceEvent) (written : Option (List ℕ)) (begun : L)
-            → HasReplayed studio events written self.old (W.contents writer.old) (L.heard begun listener.old)
+            → HasReplayed studio events written self.old (W.contents writer.old) (L.heard begun observer.old)
             → Stops studio
             (read_at studio.open_at from events self.old.clock.reading
             (clock_with self.old.clock time).reading) written self.new (W.contents writer.new)
-            (L.heard begun listener.new) fault) }
+            (L.heard begun observer.new) fault) }
     {
         let earlier = self.clock.reading();
         self.clock.read(time);
@@ -228,7 +228,7 @@ impl ReplayState {
         if reading <= earlier {
             return Ok(());
         }
-        self.turn(from, reading, writer, listener)
+        self.turn(from, reading, writer, observer)
     }
 
     /// Moves the engine on to a reading, and writes the datagrams that it returns. A reading that repeats the engine's
@@ -238,19 +238,19 @@ impl ReplayState {
         from: u64,
         reading: u64,
         writer: &mut W,
-        listener: &mut L,
+        observer: &mut L,
     ) -> Result<(), ReplayFault>
         ensures ok { OnOk result ((studio : Studio) (events : List TraceEvent) (written : Option (List ℕ)) (begun : L)
-            → HasReplayed studio events written self.old (W.contents writer.old) (L.heard begun listener.old)
+            → HasReplayed studio events written self.old (W.contents writer.old) (L.heard begun observer.old)
             → HasReplayed studio (turned (time_at studio.open_at events) (pos (from + reading)) events) written self.new
-            (W.contents writer.new) (L.heard begun listener.new)) }
+            (W.contents writer.new) (L.heard begun observer.new)) }
         ensures kind { IfErr result (λ fault. IsOwn fault) }
         ensures clock { self.new.clock ≡ self.old.clock }
         ensures fault { IfErr result
             (λ fault. (studio : Studio) (events : List TraceEvent) (written : Option (List ℕ)) (begun : L)
-            → HasReplayed studio events written self.old (W.contents writer.old) (L.heard begun listener.old)
+            → HasReplayed studio events written self.old (W.contents writer.old) (L.heard begun observer.old)
             → Stops studio (turned (time_at studio.open_at events) (pos (from + reading)) events) written self.new
-            (W.contents writer.new) (L.heard begun listener.new) fault) }
+            (W.contents writer.new) (L.heard begun observer.new) fault) }
     {
         let time = self.engine.time();
         let Some(now) = instants_at(from, reading) else {
@@ -259,8 +259,8 @@ impl ReplayState {
         if refuses(&self.engine, now) {
             return Err(ReplayFault::Run(StudioFault::Clock(self.count)));
         }
-        write_turn(&mut self.engine, now, &mut self.text, writer, listener)?;
-        tell_reading(listener, time, now);
+        write_turn(&mut self.engine, now, &mut self.text, writer, observer)?;
+        report_reading(observer, time, now);
         self.count = self.count.saturating_add(usize::from(time != now));
         Ok(())
     }
@@ -270,19 +270,19 @@ impl ReplayState {
         &mut self,
         target: StreamPath,
         octets: &[u8],
-        listener: &mut L,
+        observer: &mut L,
     ) -> Result<(), ReplayFault>
         ensures ok { OnOk result
             ((studio : Studio) (events : List TraceEvent) (written written_then : Option (List ℕ)) (begun : L)
-            → HasReplayed studio events written self.old written_then (L.heard begun listener.old)
+            → HasReplayed studio events written self.old written_then (L.heard begun observer.old)
             → HasReplayed studio
             (events ++ Arrival target.stream target.path octets.now ∷ []) written self.new written_then
-            (L.heard begun listener.new)) }
+            (L.heard begun observer.new)) }
         ensures fault { IfErr result
             (λ fault. (studio : Studio) (events : List TraceEvent) (written written_then : Option (List ℕ)) (begun : L)
-            → HasReplayed studio events written self.old written_then (L.heard begun listener.old)
+            → HasReplayed studio events written self.old written_then (L.heard begun observer.old)
             → Stops studio (events ++ Arrival target.stream target.path octets.now ∷ []) written self.new written_then
-            (L.heard begun listener.new) fault) }
+            (L.heard begun observer.new) fault) }
         ensures kind { IfErr result (λ fault. IsRun fault) }
         ensures clock { self.new.clock ≡ self.old.clock }
     {
@@ -292,7 +292,7 @@ impl ReplayState {
         };
         match self.engine.arrive(target.stream, path, octets) {
             Ok(_receipt) => {
-                listener.arrived(target.stream, path, octets);
+                observer.arrived(target.stream, path, octets);
                 self.count = self.count.saturating_add(1);
                 Ok(())
             }
@@ -322,13 +322,13 @@ fn instants_at(from: u64, reading: u64) -> Option<i64>
 }
 
 /// Reports a reading to the observer, if it isn't the one before.
-fn tell_reading<L: ReplayObserver>(listener: &mut L, before: i64, now: i64)
+fn report_reading<L: ReplayObserver>(observer: &mut L, before: i64, now: i64)
     ensures { (begun : L) (events : List TraceEvent) (datagrams : List (List ℕ))
-        → L.heard begun listener.old events datagrams
-        → L.heard begun listener.new (turned before now events) datagrams }
+        → L.heard begun observer.old events datagrams
+        → L.heard begun observer.new (turned before now events) datagrams }
 {
     if before != now {
-        listener.read(now);
+        observer.read(now);
     }
 }
 

@@ -2,7 +2,7 @@
 ghost use Rattle.std.specs.Prelude.{◌≡◌, ◌≤◌, ◌++◌, ℕ, List, map, length, drop, Option, None, Ok, IfOk, IfSome, OnOk};
 ghost use Rattle.pcap_file.specs.Entries.{Entry};
 ghost use Rattle.pcap_file.specs.ReadBuffer.{octets_of};
-ghost use Rattle.pcap_file.specs.Reader.{HasTold, IsNext, packets_among, part_entries};
+ghost use Rattle.pcap_file.specs.Reader.{HasReturned, IsNext, packets_among, part_entries};
 ghost use Rattle.pcap_replay.specs.Flows.{HasTable};
 ghost use Rattle.pcap_file.specs.Capture.{packets_of};
 ghost use Rattle.pcap_flows.specs.FlowTable.{no_table, table_after, table_view};
@@ -44,7 +44,7 @@ fn add_all<R: Read>(
     reader: &mut R,
 ) -> Result<(), ReaderFault>
     ensures { OnOk result ((file : List ℕ) (entries : List Entry)
-        → HasTold file entries (R.remaining reader.old) parts.old (octets_of window.old) window.old.ended
+        → HasReturned file entries (R.remaining reader.old) parts.old (octets_of window.old) window.old.ended
         → table_view table.old ≡ table_after no_table (map Ok (packets_among entries))
         → table_view table.new ≡ table_after no_table (packets_of file)) }
 {
@@ -70,13 +70,13 @@ fn add_next(
 ) -> Result<Option<usize>, AllocError>
     requires { IsNext parts.old (octets_of window.now) window.now.ended }
     ensures len { IfOk result (λ given. IfSome given (λ len. len ≤ length (octets_of window.now))) }
-    ensures told { IfOk result
+    ensures returned { IfOk result
         (λ given. IfSome given (λ len. (file : List ℕ) (entries : List Entry) (left : Option (List ℕ))
-        → HasTold file entries left parts.old (octets_of window.now) window.now.ended
+        → HasReturned file entries left parts.old (octets_of window.now) window.now.ended
         → table_view table.old ≡ table_after no_table (map Ok (packets_among entries))
         → HasTable file left (table_view table.new) parts.new (drop len (octets_of window.now)) window.now.ended)) }
     ensures fault { IfOk result (λ given. given ≡ None → (file : List ℕ) (entries : List Entry) (left : Option (List ℕ))
-        → HasTold file entries left parts.old (octets_of window.now) window.now.ended
+        → HasReturned file entries left parts.old (octets_of window.now) window.now.ended
         → table_view table.old ≡ table_after no_table (map Ok (packets_among entries))
         → table_view table.new ≡ table_after no_table (packets_of file)) }
 {

@@ -12,7 +12,7 @@
 //!    write.
 //!
 //! A `ReplayObserver` is called with these events and with the datagrams that they give.
-//! `WavObserver` writes the datagrams to a WAV file; `NoObserver` does nothing.
+//! `WavObserver` writes the datagrams to a WAV file.
 #![tactic(auto)]
 
 mod count_lines;
@@ -31,7 +31,7 @@ mod wav_observer;
 pub use fault::ReplayFault;
 pub use flow_scan::scan_flows;
 pub use laws::{a_record_says_its_run, a_replay_takes_its_import};
-pub use observer::{NoObserver, ReplayObserver};
+pub use observer::ReplayObserver;
 pub use player::{replay, replay_record};
 pub use record_times::record_opening;
 pub use wav_observer::WavObserver;

@@ -1,5 +1,5 @@
 //! The observer of a replay, which receives its events and its datagrams.
-ghost use Rattle.std.specs.Prelude.{◌≡◌, ◌≤◌, ◌∷◌, ◌++◌, [], ⊤, ℕ, List, length};
+ghost use Rattle.std.specs.Prelude.{◌≡◌, ◌≤◌, ◌∷◌, ◌++◌, ℕ, List, length};
 ghost use Rattle.studio_session.specs.Event.{TraceEvent, Arrival, Closing, Reading};
 ghost use Rattle.pcap_replay.specs.Observed.{HasHeardIf};
 
@@ -36,47 +36,31 @@ pub trait ReplayObserver {
             → heard begun self.old events datagrams → heard begun self.new events (datagrams ++ datagram.now ∷ []) };
 }
 
-/// An observer that ignores all events and datagrams.
-#[derive(Clone, Copy, Debug)]
-pub struct NoObserver;
-
-impl ReplayObserver for NoObserver {
-    ghost heard = { λ _ _ _ _. ⊤ };
-
-    fn arrived(&mut self, _stream: usize, _path: Path, _octets: &[u8]) {}
-
-    fn read(&mut self, _time: i64) {}
-
-    fn closed(&mut self) {}
-
-    fn output(&mut self, _datagram: &[u8]) {}
-}
-
 /// An observer that may be absent.
 impl<L: ReplayObserver> ReplayObserver for Option<L> {
     ghost heard = { λ begun now events datagrams. HasHeardIf L.heard begun now events datagrams };
 
     fn arrived(&mut self, stream: usize, path: Path, octets: &[u8]) {
-        if let Some(listener) = self {
-            listener.arrived(stream, path, octets);
+        if let Some(observer) = self {
+            observer.arrived(stream, path, octets);
         }
     }
 
     fn read(&mut self, time: i64) {
-        if let Some(listener) = self {
-            listener.read(time);
+        if let Some(observer) = self {
+            observer.read(time);
         }
     }
 
     fn closed(&mut self) {
-        if let Some(listener) = self {
-            listener.closed();
+        if let Some(observer) = self {
+            observer.closed();
         }
     }
 
     fn output(&mut self, datagram: &[u8]) {
-        if let Some(listener) = self {
-            listener.output(datagram);
+        if let Some(observer) = self {
+            observer.output(datagram);
         }
     }
 }

@@ -19,21 +19,21 @@ pub(crate) fn write_turn<W: Write, L: ReplayObserver>(
     now: i64,
     text: &mut TextBuffer,
     writer: &mut W,
-    listener: &mut L,
+    observer: &mut L,
 ) -> Result<(), WriteFault>
     requires short { datagram_length engine.old.mixer.packer.spec ≤ 1452 }
     ensures ok { OnOk result ((studio : Studio) (events : List TraceEvent) (datagrams : List (List ℕ)) (begun : L)
         → HasSession studio engine.old events datagrams → clock_fault_of engine.old.time engine.old.closed now ≡ None
         → GivesLines studio engine.new (turned engine.old.time now events) datagrams (W.contents writer.old) text.old
-        (W.contents writer.new) text.new (L.heard begun listener.old) (L.heard begun listener.new)) }
+        (W.contents writer.new) text.new (L.heard begun observer.old) (L.heard begun observer.new)) }
     ensures rested { OnOk result ((studio : Studio) (events : List TraceEvent) (datagrams : List (List ℕ))
         → HasSession studio engine.old events datagrams → clock_fault_of engine.old.time engine.old.closed now ≡ None
         → engine.new.turning ≡ false) }
     ensures fault { OnErr result ((studio : Studio) (events : List TraceEvent) (datagrams : List (List ℕ)) (begun : L)
         → HasSession studio engine.old events datagrams → clock_fault_of engine.old.time engine.old.closed now ≡ None
         → BreaksLines studio engine.new (turned engine.old.time engine.new.time events) datagrams
-        (W.contents writer.old) text.old (W.contents writer.new) (L.heard begun listener.old)
-        (L.heard begun listener.new)) }
+        (W.contents writer.old) text.old (W.contents writer.new) (L.heard begun observer.old)
+        (L.heard begun observer.new)) }
     ensures time { (engine.new.time ≡ engine.old.time) ⊎ (engine.new.time ≡ now) }
     ensures output { engine.new.mixer.packer.spec ≡ engine.old.mixer.packer.spec }
     ensures closed { engine.new.closed ≡ engine.old.closed }
@@ -47,7 +47,7 @@ pub(crate) fn write_turn<W: Write, L: ReplayObserver>(
         };
         match given {
             Some(len) => {
-                listener.output(&out[..len]);
+                observer.output(&out[..len]);
                 write_datagram(text, writer, &out[..len])?;
             }
             None => return Ok(()),
@@ -60,25 +60,25 @@ pub(crate) fn write_drained<W: Write, L: ReplayObserver>(
     engine: &mut Engine,
     text: &mut TextBuffer,
     writer: &mut W,
-    listener: &mut L,
+    observer: &mut L,
 ) -> Result<(), WriteFault>
     requires short { datagram_length engine.old.mixer.packer.spec ≤ 1452 }
     ensures ok { OnOk result ((studio : Studio) (events : List TraceEvent) (datagrams : List (List ℕ)) (begun : L)
         → HasSession studio engine.old events datagrams
         → GivesLines studio engine.new events datagrams (W.contents writer.old) text.old
-        (W.contents writer.new) text.new (L.heard begun listener.old) (L.heard begun listener.new)) }
+        (W.contents writer.new) text.new (L.heard begun observer.old) (L.heard begun observer.new)) }
     ensures settled { OnOk result (engine.new.settled ≡ engine.old.closed) }
     ensures fault { OnErr result ((studio : Studio) (events : List TraceEvent) (datagrams : List (List ℕ)) (begun : L)
         → HasSession studio engine.old events datagrams
         → BreaksLines studio engine.new events datagrams (W.contents writer.old) text.old (W.contents writer.new)
-        (L.heard begun listener.old) (L.heard begun listener.new)) }
+        (L.heard begun observer.old) (L.heard begun observer.new)) }
 {
     let mut out = [0; MAX_OUTPUT_OCTETS];
     // The label names the loop in its proof.
     'rounds: loop {
         match engine.drain(&mut out) {
             Some(len) => {
-                listener.output(&out[..len]);
+                observer.output(&out[..len]);
                 write_datagram(text, writer, &out[..len])?;
             }
             None => return Ok(()),

@@ -44,15 +44,15 @@ pub fn replay<R: Read, W: Write, L: ReplayObserver>(
     routes: &[Route],
     reader: &mut R,
     writer: &mut W,
-    listener: &mut L,
+    observer: &mut L,
 ) -> Result<(), ReplayFault>
-    requires fresh { L.heard listener.old listener.old [] [] }
+    requires fresh { L.heard observer.old observer.old [] [] }
     ensures ok { OnOk result
         (WritesReplay spec.now (Flows routes.now) (R.remaining reader.old) (W.contents writer.old)
-        (W.contents writer.new) (L.heard listener.old listener.new)) }
+        (W.contents writer.new) (L.heard observer.old observer.new)) }
     ensures fault { IfErr result
         (λ fault. BreaksOffReplay spec.now (Flows routes.now) (R.remaining reader.old) (W.contents writer.old)
-        (W.contents writer.new) (L.heard listener.old listener.new) fault) }
+        (W.contents writer.new) (L.heard observer.old observer.new) fault) }
 {
     replay_routed(
         alloc,
@@ -60,7 +60,7 @@ pub fn replay<R: Read, W: Write, L: ReplayObserver>(
         &Routing::Flows(routes),
         reader,
         writer,
-        listener,
+        observer,
     )
 }
 
@@ -72,21 +72,21 @@ pub fn replay_record<R: Read, W: Write, L: ReplayObserver>(
     spec: &StudioSpec,
     reader: &mut R,
     writer: &mut W,
-    listener: &mut L,
+    observer: &mut L,
 ) -> Result<(), ReplayFault>
-    requires fresh { L.heard listener.old listener.old [] [] }
+    requires fresh { L.heard observer.old observer.old [] [] }
     ensures ok { OnOk result
         (WritesReplay spec.now (places_of spec.now) (R.remaining reader.old) (W.contents writer.old)
-        (W.contents writer.new) (L.heard listener.old listener.new)) }
+        (W.contents writer.new) (L.heard observer.old observer.new)) }
     ensures fault { IfErr result
         (λ fault. BreaksOffReplay spec.now (places_of spec.now) (R.remaining reader.old) (W.contents writer.old)
-        (W.contents writer.new) (L.heard listener.old listener.new) fault) }
+        (W.contents writer.new) (L.heard observer.old observer.new) fault) }
 {
     let plan = Routing::Interfaces {
         streams: spec.streams(),
         open_at: instants_of(spec.open_at()),
     };
-    replay_routed(alloc, spec, &plan, reader, writer, listener)
+    replay_routed(alloc, spec, &plan, reader, writer, observer)
 }
 
 /// Returns a time, or 0 if it is negative.
@@ -103,22 +103,22 @@ fn replay_routed<R: Read, W: Write, L: ReplayObserver>(
     plan: &Routing<'_>,
     reader: &mut R,
     writer: &mut W,
-    listener: &mut L,
+    observer: &mut L,
 ) -> Result<(), ReplayFault>
-    requires fresh { L.heard listener.old listener.old [] [] }
+    requires fresh { L.heard observer.old observer.old [] [] }
     ensures ok { OnOk result
         (WritesReplay spec.now (plan_view plan.now) (R.remaining reader.old) (W.contents writer.old)
-        (W.contents writer.new) (L.heard listener.old listener.new)) }
+        (W.contents writer.new) (L.heard observer.old observer.new)) }
     ensures fault { IfErr result
         (λ fault. BreaksOffReplay spec.now (plan_view plan.now) (R.remaining reader.old) (W.contents writer.old)
-        (W.contents writer.new) (L.heard listener.old listener.new) fault) }
+        (W.contents writer.new) (L.heard observer.old observer.new) fault) }
 {
     // All memory is taken before the first write, so an allocation failure leaves nothing written.
     let mut run = ReplayState::new(alloc, spec, plan)?;
     let (mut window, mut parts) = open_reader(alloc, reader)?;
-    match run.go_to_close(plan, &mut parts, &mut window, reader, writer, listener) {
+    match run.go_to_close(plan, &mut parts, &mut window, reader, writer, observer) {
         Ok(()) => {
-            run.close(spec, writer, listener)?;
+            run.close(spec, writer, observer)?;
             Ok(())
         }
         Err(fault) => Err(run.break_off(fault, writer)),
@@ -149,24 +149,24 @@ impl ReplayState {
         window: &mut ReadBuffer,
         reader: &mut R,
         writer: &mut W,
-        listener: &mut L,
+        observer: &mut L,
     ) -> Result<(), ReplayFault>
         ensures ok { OnOk result ((studio : Studio) (first : Option (List ℕ)) (written : Option (List ℕ)) (begun : L)
             → IsReplaying studio (plan_view plan.now) first written self.old parts.old
             (octets_of window.old) window.old.ended (R.remaining reader.old) (W.contents writer.old)
-            (L.heard begun listener.old) None
+            (L.heard begun observer.old) None
             → HasComeToClose studio (plan_view plan.now) first written self.new (W.contents writer.new)
-            (L.heard begun listener.new)) }
+            (L.heard begun observer.new)) }
         ensures fault { IfErr result
             (λ fault. (studio : Studio) (first : Option (List ℕ)) (written : Option (List ℕ)) (begun : L)
             → IsReplaying studio (plan_view plan.now) first written self.old parts.old
             (octets_of window.old) window.old.ended (R.remaining reader.old) (W.contents writer.old)
-            (L.heard begun listener.old) None
+            (L.heard begun observer.old) None
             → StopsFile studio (plan_view plan.now) first written self.new (W.contents writer.new)
-            (L.heard begun listener.new) fault) }
+            (L.heard begun observer.new) fault) }
     {
-        let told = self.run_events(plan, parts, window, reader, writer, listener)?;
-        self.read(plan.opening(), plan.closing(told), writer, listener)
+        let marked = self.run_events(plan, parts, window, reader, writer, observer)?;
+        self.read(plan.opening(), plan.closing(marked), writer, observer)
     }
 
     /// Closes the studio, and writes the rest of the report: the datagrams that are left, and the counts.
@@ -174,19 +174,19 @@ impl ReplayState {
         self,
         spec: &StudioSpec,
         writer: &mut W,
-        listener: &mut L,
+        observer: &mut L,
     ) -> Result<(), WriteFault>
         requires { CanClose spec.now self (W.contents writer.old) }
         ensures ok { OnOk result ((events : List TraceEvent) (written : Option (List ℕ)) (begun : L)
-            → HasReplayed spec.now events written self (W.contents writer.old) (L.heard begun listener.old)
+            → HasReplayed spec.now events written self (W.contents writer.old) (L.heard begun observer.old)
             → WritesEvents spec.now IsReport (events ++ Closing ∷ []) written (W.contents writer.new)) }
         ensures hears { OnOk result ((events : List TraceEvent) (written : Option (List ℕ)) (begun : L)
-            → HasReplayed spec.now events written self (W.contents writer.old) (L.heard begun listener.old)
-            → HasHeardAll spec.now (events ++ Closing ∷ []) (L.heard begun listener.new)) }
+            → HasReplayed spec.now events written self (W.contents writer.old) (L.heard begun observer.old)
+            → HasHeardAll spec.now (events ++ Closing ∷ []) (L.heard begun observer.new)) }
         ensures fault { OnErr result ((events : List TraceEvent) (written : Option (List ℕ)) (begun : L)
-            → HasReplayed spec.now events written self (W.contents writer.old) (L.heard begun listener.old)
+            → HasReplayed spec.now events written self (W.contents writer.old) (L.heard begun observer.old)
             → BreaksReport spec.now (events ++ Closing ∷ []) written (W.contents writer.new)
-            (L.heard begun listener.new)) }
+            (L.heard begun observer.new)) }
     {
         let mut engine = self.engine;
         let mut text = self.text;
@@ -194,8 +194,8 @@ impl ReplayState {
         let Ok(()) = engine.close() else {
             unreachable!()
         };
-        listener.closed();
-        write_drained(&mut engine, &mut text, writer, listener)?;
+        observer.closed();
+        write_drained(&mut engine, &mut text, writer, observer)?;
         // Only for its clause: a settled engine has all marks, which `write_all_counts` requires.
         let _all = engine.settled();
         write_all_counts(&mut text, writer, &engine, spec.streams())?;

@@ -2,7 +2,7 @@
 ghost use Rattle.std.specs.Prelude.{◌≡◌, [], ℕ, List, Option, None, IfOk, IfSome};
 ghost use Rattle.pcap_file.specs.Entries.{entries_of};
 ghost use Rattle.pcap_file.specs.ReadBuffer.{octets_of};
-ghost use Rattle.pcap_file.specs.Reader.{HasTold, IsNext, part_entries};
+ghost use Rattle.pcap_file.specs.Reader.{HasReturned, IsNext, part_entries};
 ghost use Rattle.pcap_replay.specs.Record as spec;
 
 use pcap_file::{
@@ -31,7 +31,7 @@ fn find_opening<R: Read>(
     reader: &mut R,
 ) -> Result<Option<u64>, ReaderFault>
     ensures { IfOk result (λ given. (file : List ℕ)
-        → HasTold file [] (R.remaining reader.old) parts.old (octets_of window.old) window.old.ended
+        → HasReturned file [] (R.remaining reader.old) parts.old (octets_of window.old) window.old.ended
         → spec.opening_in (entries_of file) ≡ given) }
 {
     // The label names the loop in its proof.
@@ -51,11 +51,11 @@ fn find_opening<R: Read>(
 fn opening_at_next(parts: &mut BlockParser, window: &mut ReadBuffer) -> Option<Option<u64>>
     requires { IsNext parts.old (octets_of window.old) window.old.ended }
     ensures decided { IfSome result (λ given. (file : List ℕ) (left : Option (List ℕ))
-        → HasTold file [] left parts.old (octets_of window.old) window.old.ended
+        → HasReturned file [] left parts.old (octets_of window.old) window.old.ended
         → spec.opening_in (entries_of file) ≡ given) }
     ensures passed { result ≡ None → (file : List ℕ) (left : Option (List ℕ))
-        → HasTold file [] left parts.old (octets_of window.old) window.old.ended
-        → HasTold file [] left parts.new (octets_of window.new) window.new.ended }
+        → HasReturned file [] left parts.old (octets_of window.old) window.old.ended
+        → HasReturned file [] left parts.new (octets_of window.new) window.new.ended }
 {
     let (len, decided) = match next_block(parts, window) {
         Ok(part) => (part.len, opening_decided(&part)),

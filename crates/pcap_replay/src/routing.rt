@@ -8,7 +8,7 @@ use path_merge::StreamSpec;
 use pcap_file::Packet;
 use pcap_flows::{CaptureClock, Route, route_in};
 
-/// The way in which packets get paths and times.
+/// The rule by which packets get paths and times.
 #[derive(Clone, Copy)]
 pub(crate) enum Routing<'a> {
     /// A packet's flow has a route, and readings count from the first packet's time.
@@ -51,12 +51,12 @@ impl Routing<'_> {
 
     /// Returns the time of the close by its mark, in nanoseconds. Only a record has one: statistics of another capture
     /// mean nothing for it.
-    pub(crate) fn closing(&self, told: Option<u64>) -> Option<u64>
-        ensures { result ≡ closing_of (plan_view self.now) told }
+    pub(crate) fn closing(&self, marked: Option<u64>) -> Option<u64>
+        ensures { result ≡ closing_of (plan_view self.now) marked }
     {
         match self {
             Routing::Flows(_) => None,
-            Routing::Interfaces { .. } => told,
+            Routing::Interfaces { .. } => marked,
         }
     }
 

@@ -10,7 +10,7 @@ pub record BinEvent : Type 0 where
   pub time : ℤ
   pub kind : ReceptionKind
 
--- what contracts see of bins: a count for each row of each span
+-- the view of bins: a count for each row of each interval
 pub record BinsState : Type 0 where
   pub axis : Axis
   pub counts : List ℕ

@@ -49,7 +49,7 @@ not_silent : (w : ℕ) (rest : List ℕ) → 97 ≤ w → is_silent (w ∷ rest)
 not_silent w rest low =
     neither (eqb (length (w ∷ rest)) 0) (eqb w 35) (ne_eqb (length (w ∷ rest)) 0 (λ e. absurd (omega arith))) (ne_eqb w 35 (λ e. absurd (omega arith)))
 
--- what the three fields say
+-- the events of the three fields
 fields_are : (w d n path : ℕ) (ds : List ℕ) → path_of (w ∷ []) ≡ Some path → number_of 15 (d ∷ []) ≡ Some n → octets_of ds ≡ Some (octets_by ds) → fields_said ((w ∷ []) ∷ (d ∷ []) ∷ ds ∷ []) ≡ Ok (Arrival n path (octets_by ds))
 fields_are w d n path ds letter number octets =
     let rest : List (List ℕ) = (d ∷ []) ∷ ds ∷ [] in
@@ -62,7 +62,7 @@ fields_are w d n path ds letter number octets =
     ∙ ap (λ (o : Option ℕ). arrival path o (octets_of ds)) number
     ∙ ap (λ (o : Option (List ℕ)). arrival path (Some n) o) octets
 
--- what the line says
+-- the event of the line
 pub common_said : (line : List ℕ) (w d n path : ℕ) (ds : List ℕ) → line ≡ w ∷ 32 ∷ d ∷ 32 ∷ ds → path_of (w ∷ []) ≡ Some path → d ≡ 48 + n → n < 10 → is_some (octets_of ds) ≡ true → line_said line ≡ Ok (Some (Arrival n path (octets_by ds)))
 common_said line w d n path ds is letter digit small spelled =
     let range = letter_range w path letter in
@@ -75,6 +75,6 @@ common_said line w d n path ds is letter digit small spelled =
     ∙ ap (λ (fs : List (List ℕ)). with_event (fields_said fs)) (common_fields w d ds no_space no_space_too (no_spaces ds spelled))
     ∙ ap with_event (fields_are w d n path ds letter (digit_number d n digit small) (some_octets ds spelled))
 
--- its datagram stands at its end
+-- its datagram is at its end
 pub common_last : (line : List ℕ) (w d : ℕ) (ds : List ℕ) → line ≡ w ∷ 32 ∷ d ∷ 32 ∷ ds → is_some (octets_of ds) ≡ true → EndsWith line ds × IsSome (octets_of ds)
 common_last line w d ds is spelled = let octets = some_octets ds spelled in ((w ∷ 32 ∷ d ∷ 32 ∷ [], is), rw octets)

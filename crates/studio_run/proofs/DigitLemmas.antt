@@ -36,7 +36,7 @@ spelled_parts text spelled = by_answer (eqb (length text) 0) (decode_of text) re
 pub digits_of : (text : List ℕ) → is_some (octets_of text) ≡ true → AllPass is_hex_digit text
 digits_of text spelled = (spelled_parts text spelled).0
 
--- two digits, wherever they stand
+-- two digits, at any place
 pair_reads : (h l : ℕ) → is_hex_digit h ≡ true → is_hex_digit l ≡ true → (v : ℕ) × ((i : ℕ) → pair_value h l i ≡ Ok v)
 pair_reads h l high low = by_values (hex_digit_value h) (hex_digit_value l) refl refl high low
   where
@@ -46,7 +46,7 @@ pair_reads h l high low = by_values (hex_digit_value h) (hex_digit_value l) refl
     by_values (Some m) (Some n) p q s t =
         (m * 16 + n, λ i. ap (λ (x : Option ℕ). digit_or_error h i x >>= (λ a. value_at l (i + 1) >>= (λ b. Ok (a * 16 + b)))) p ∙ ap (λ (y : Option ℕ). digit_or_error l (i + 1) y >>= (λ b. Ok (m * 16 + b))) q)
 
--- what decoding two digits answers is their octet
+-- decoding two digits returns their octet
 pub pair_is : (h l : ℕ) (r : Result (List ℕ) FromHexError) (octets : List ℕ) → r ≡ decode_sized (h ∷ l ∷ []) 1 → r ≡ Ok octets → is_hex_digit h ≡ true → is_hex_digit l ≡ true → (i : ℕ) → pair_value h l i ≡ Ok (get_or octets 0 0)
 unfolding decode_pairs
 pair_is h l r octets sized is high low i =

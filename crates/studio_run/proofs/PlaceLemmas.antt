@@ -1,4 +1,4 @@
--- Where the datagrams of a trace stand in its text.
+-- The places of a trace's datagrams in its text.
 use Rattle.std.proofs.Common.{◌≡◌, ℕ, suc, ◌+◌, ◌-◌, ◌<◌, ◌≤◌, List, ◌∷◌, [], ◌++◌, Option, Some, None, length, take, drop, take-append-drop, append_assoc, length-append, length-take, sym, ◌∙◌, ap, subst, refl, arith}
 use Rattle.std.specs.Prelude.{IfSome, IsSome, slice_range}
 use Rattle.std.proofs.Math.Seq.{take-append_seam, drop-append_seam}
@@ -15,7 +15,7 @@ range-middle front middle back =
     let width : length front + length middle - length front ≡ length middle = omega arith in
     ap (λ n. take n (drop (length front) (front ++ (middle ++ back)))) width ∙ ap (take (length middle)) (drop-append_seam front (middle ++ back)) ∙ take-append_seam middle back
 
--- where the digits of a line's event stand
+-- the place of the digits of a line's event
 pub record Stands (text : List ℕ) (event : LineEvent) (end : ℕ) : Type 0 where
   pub said : event_at text (text_event end event) ≡ said_in event
   pub place : IsPlace text (text_event end event)

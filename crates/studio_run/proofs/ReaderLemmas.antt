@@ -17,13 +17,13 @@ gives-line front line lines count before said gives reads rest =
     ap (λ t. lines_said 1 0 (lines_of t)) (append_assoc front (line ++ (10 ∷ [])) rest ∙ ap (λ l. front ++ l) (append_assoc line (10 ∷ []) rest))
     ∙ gives (line ++ (10 ∷ rest)) ∙ ap (prepend before) (reads (lines + 1) rest) ∙ prepend-prepend before said (lines_said (lines + 1 + 1) (count + length said) (lines_of rest))
 
--- the same of a line that says nothing
+-- the same of a line without an event
 pub gives-silent : (front line : List ℕ) (lines count : ℕ) (before : List TraceEvent) → GivesEvents front lines count before → ReadsLine line count [] → GivesEvents (front ++ (line ++ (10 ∷ []))) (lines + 1) count (before ++ [])
 gives-silent front line lines count before gives reads rest =
     let same : count + 0 ≡ count = omega arith in
     gives-line front line lines count before [] gives reads rest ∙ ap (λ n. prepend (before ++ []) (lines_said (lines + 1 + 1) n (lines_of rest))) same
 
--- a text that is not too long is what its lines say
+-- the events of a text that is not too long are those of its lines
 said-few : (text : List ℕ) → length text ≤ 67108864 → trace_events text ≡ lines_said 1 0 (lines_of text)
 said-few text few = rw (le-ltb 67108864 (length text) few)
 

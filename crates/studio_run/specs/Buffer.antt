@@ -2,13 +2,13 @@
 use Rattle.std.specs.Prelude.{◌≡◌, ℕ, ◌<◌, List, ◌++◌, length, take, Option}
 use Rattle.std.specs.Io.KnownBytes.{Appends}
 
--- these octets follow what was held: a front of both was written, and the rest is held
+-- these octets follow what was held: a prefix of both was written, and the rest is held
 pub record PassesOn (written : Option (List ℕ)) (held : List ℕ) (written_then : Option (List ℕ)) (held_then octets : List ℕ) : Type 0 where
   pub front : List ℕ
   pub whole : held ++ octets ≡ front ++ held_then
   pub wrote : Appends written written_then front
 
--- of what was held and these octets a part from the front was written, and not all
+-- a prefix of what was held and these octets was written, and not all
 pub record BreaksOff (written : Option (List ℕ)) (held : List ℕ) (written_then : Option (List ℕ)) (octets : List ℕ) : Type 0 where
   pub count : ℕ
   pub part : count < length (held ++ octets)

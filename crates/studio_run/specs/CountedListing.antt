@@ -1,4 +1,4 @@
--- A listing, and the lines of the counts beside it.
+-- A listing, and the lines of the counts.
 use Rattle.std.specs.Prelude.{◌≡◌, List, ℕ, [], Option, None, Ok, ◌⊎◌}
 use Rattle.std.specs.Io.KnownBytes.{Appends, Consumes, IsAtEnd}
 use Rattle.studio_config.specs.Studio.{Studio}
@@ -16,7 +16,7 @@ pub record ListsAndCounts (studio : Studio) (events : List TraceEvent) (written 
   pub listing : Appends written written_then (listing_text studio events)
   pub counts : Appends counted counted_then (counts_text_of studio events)
 
--- the listing was written, and a part from the front of the counts
+-- the listing was written, and a prefix of the counts
 pub record BreaksOffCounts (studio : Studio) (events : List TraceEvent) (written written_then counted counted_then : Option (List ℕ)) (fault : PlayFault) : Type 0 where
   pub fault_is : fault ≡ Write
   pub listing : Appends written written_then (listing_text studio events)

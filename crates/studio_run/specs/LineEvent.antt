@@ -12,24 +12,24 @@ use Rattle.studio_run.specs.declared.trace.fault.TraceFaultKind.{TraceFaultKind}
 abbrev pub octets_by : List ℕ → List ℕ
 octets_by digits = unwrap_or (octets_of digits) []
 
--- what it says
+-- its event
 abbrev pub said_in : LineEvent → TraceEvent
 said_in (Arrive stream path digits) = Arrival stream path (octets_by digits.now)
 said_in (Tick time) = Reading time
 said_in Close = Closing
 
--- an answer to what fields say
+-- a result for the event of fields
 abbrev pub event_of : Result LineEvent TraceFaultKind → Result TraceEvent TraceFaultKind
 event_of (Ok event) = Ok (said_in event)
 event_of (Err kind) = Err kind
 
--- an answer to what a line says, which may be nothing
+-- a result for the event of a line, which may have none
 abbrev pub line_event_of : Result (Option LineEvent) TraceFaultKind → Result (Option TraceEvent) TraceFaultKind
 line_event_of (Ok None) = Ok None
 line_event_of (Ok (Some event)) = Ok (Some (said_in event))
 line_event_of (Err kind) = Err kind
 
--- the digits of a datagram are good, and stand at the end of this text
+-- the digits of a datagram are valid, and are at the end of this text
 abbrev pub IsLast : List ℕ → LineEvent → Type 0
 IsLast text (Arrive stream path digits) = EndsWith text digits.now × IsSome (octets_of digits.now)
 IsLast text (Tick time) = Unit {0}
@@ -42,7 +42,7 @@ IsLastIn None (Arrive stream path digits) = ⊥
 IsLastIn None (Tick time) = Unit {0}
 IsLastIn None Close = Unit {0}
 
--- what a line's event says, if it gave one
+-- the event of a line, if it has one
 abbrev pub said_by_line : Option LineEvent → List TraceEvent
 said_by_line None = []
 said_by_line (Some event) = said_in event ∷ []

@@ -30,7 +30,7 @@ pub record WritesEvents (studio : Studio) (IsText : Studio → List TraceEvent �
   pub is : IsText studio events text
   pub wrote : Appends written written_then text
 
--- why it was not: memory was refused before, or a write failed after a part from the front
+-- why it was not: an allocation failed before, or a write failed after a prefix
 abbrev pub FailsWriting : Studio → (Studio → List TraceEvent → List ℕ → Type 0) → List TraceEvent → Option (List ℕ) → Option (List ℕ) → PlayFault → Type 0
 FailsWriting studio IsText events written written_then Read = ⊥
 FailsWriting studio IsText events written written_then Memory = written_then ≡ written
@@ -64,7 +64,7 @@ pub record WritesText (studio : Studio) (IsText : Studio → List TraceEvent →
   pub runs : session_fault_of studio events ≡ None
   pub writes : WritesEvents studio IsText events written written_then
 
--- they run, and a part from the front of their text was written
+-- they run, and a prefix of their text was written
 pub record BreaksOffText (studio : Studio) (IsText : Studio → List TraceEvent → List ℕ → Type 0) (trace : List ℕ) (written written_then : Option (List ℕ)) : Type 0 where
   pub events : List TraceEvent
   pub said : trace_events trace ≡ Ok events
@@ -104,8 +104,8 @@ abbrev pub FailsOf : Studio → (Studio → List TraceEvent → List ℕ → Typ
 FailsOf studio IsText left left_then written written_then Read = written_then ≡ written
 FailsOf studio IsText left left_then written written_then Memory = written_then ≡ written
 FailsOf studio IsText left left_then written written_then (Trace fault) =
-    (trace : List ℕ) × ReadsToEnd left left_then trace × (trace_events trace ≡ Err fault) × (written_then ≡ written)
+    (trace : List ℕ) × ReadsToEnd left left_then trace × FailsOn studio IsText trace written written_then (Trace fault)
 FailsOf studio IsText left left_then written written_then (Run fault) =
     (trace : List ℕ) × Consumes left left_then trace × IsAtEnd left_then × FailsOn studio IsText trace written written_then (Run fault)
 FailsOf studio IsText left left_then written written_then Write =
-    (trace : List ℕ) × Consumes left left_then trace × IsAtEnd left_then × BreaksOffText studio IsText trace written written_then
+    (trace : List ℕ) × Consumes left left_then trace × IsAtEnd left_then × FailsOn studio IsText trace written written_then Write

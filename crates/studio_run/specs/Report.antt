@@ -13,7 +13,7 @@ datagram_line datagram = codes "out " ++ encode_lower datagram ++ 10 ∷ []
 abbrev pub path_letter : ℕ → List ℕ
 path_letter path = (97 + path) ∷ []
 
--- a number, after a word and what stands between them
+-- a number, after a word and the text between them
 abbrev pub pair_text : List ℕ → List ℕ → ℕ → List ℕ
 pair_text between word number = codes " " ++ word ++ between ++ decimal number
 
@@ -48,7 +48,7 @@ refused_text between counts =
     ++ pair_text between (codes "ahead") counts.ahead
     ++ pair_text between (codes "source") counts.wrong_source
 
--- how many slots were handed on, by what they got, and how many restarts there were
+-- the number of slots by the kind of their mark, and the number of restarts
 abbrev pub slots_text : List ℕ → Tally → List ℕ
 slots_text between counts = pair_text between (codes "got") counts.got ++ pair_text between (codes "lost") counts.lost ++ pair_text between (codes "restarts") counts.restarts
 

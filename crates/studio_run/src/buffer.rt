@@ -1,4 +1,4 @@
-//! Text on its way to a writer, through a buffer of fixed size.
+//! A buffer of fixed size for the text of a writer.
 ghost use Rattle.std.specs.Prelude.{◌≡◌, ◌+◌, ◌*◌, ◌≤◌, [], ◌++◌, length, take, ℕ, ◌<◌, IfOk, OnOk, OnErr};
 ghost use Rattle.std.specs.Io.KnownBytes.{Appends};
 ghost use Rattle.hex.specs.Hex.{encode_lower};
@@ -10,12 +10,12 @@ use std::alloc::{AllocError, Global};
 use std::io::Write;
 use std::marker::Model;
 
-/// The most octets that are held.
-const MOST_HELD: usize = 65_536;
+/// The greatest number of octets that are held.
+const MAX_HELD: usize = 65_536;
 
 // The longest lines, those of slots and datagrams, have two digits for each of at most 1,452 octets.
-/// The most octets of one line, with its line feed.
-const MOST_LINE: usize = 4096;
+/// The greatest length of a line in octets, with its line feed.
+const MAX_LINE: usize = 4096;
 
 /// Text that no writer has taken yet: at most 65,536 octets. Only `new` allocates.
 ///
@@ -41,7 +41,7 @@ impl TextBuffer {
     pub fn new(alloc: Global) -> Result<Self, AllocError>
         ensures { IfOk result (λ buffer. buffer ≡ []) }
     {
-        let held = Vec::with_capacity(alloc, MOST_HELD)?;
+        let held = Vec::with_capacity(alloc, MAX_HELD)?;
         Ok(TextBuffer { held })
     }
 
@@ -64,7 +64,7 @@ impl TextBuffer {
         ensures room { OnOk result (length self.new + 4096 ≤ 65536) }
     {
         // The room is made once for a whole line, so that the parts of the line can't fail.
-        if self.held.len() > MOST_HELD - MOST_LINE {
+        if self.held.len() > MAX_HELD - MAX_LINE {
             self.finish(writer)?;
         }
         Ok(())

@@ -24,13 +24,13 @@ mod trace;
 
 pub use buffer::TextBuffer;
 pub use laws::{a_report_is_the_only_one, events_have_a_report};
-pub use lines::counts::{write_datagram, write_merge_counts, write_path_counts};
+pub use lines::counts::{
+    write_datagram, write_merge_counts, write_path_counts, write_running_counts,
+};
 pub use lines::live::{SinkCounts, write_feed_faults, write_sink_counts};
 pub use lines::mark::write_mark;
-pub use lines::running_counts::write_running_counts;
-pub use outputs::counted_listing::list_marks_and_counts;
-pub use outputs::listing::write_whole_listing;
-pub use outputs::studio_counts::write_counts;
+pub use outputs::listing::{list_marks_and_counts, write_whole_listing};
+pub use outputs::report::write_counts;
 pub use player::{PlayFault, list_marks, play, read_all, runnable_events};
 pub use rtp_stream::{PathCounts, StreamCounts};
 pub use studio_config::{Ports, SpecError, StudioSpec};
@@ -39,4 +39,4 @@ pub use studio_session::{Report, StudioEvent, StudioFault, run_studio};
 pub use text_io::{ReadFault, WriteFault, read_text, write_text};
 pub use trace::events::read_trace;
 pub use trace::fault::{TraceFault, TraceFaultKind};
-pub use trace::traced_events::TracedEvents;
+pub use trace::text_events::TracedEvents;

@@ -25,7 +25,7 @@ use crate::outputs::listing::write_whole_listing;
 use crate::outputs::report::write_whole_report;
 use crate::text_io::{ReadFault, WriteFault, read_text};
 use crate::trace::fault::{TraceFault, TraceFaultKind};
-use crate::trace::traced_events::TracedEvents;
+use crate::trace::text_events::TracedEvents;
 use std::alloc::{AllocError, Global};
 use std::io::{Read, Write};
 use studio_config::StudioSpec;
@@ -182,7 +182,7 @@ pub fn runnable_events<'a>(
     }
 }
 
-/// Returns the fault of a trace, or the allocation failure that it stands for.
+/// Returns the fault of a trace, or an allocation failure.
 fn play_fault(fault: TraceFault) -> PlayFault
     ensures { result ≡ play_fault fault.kind fault }
 {

@@ -3,17 +3,17 @@ ghost use Rattle.std.specs.Prelude.{◌≡◌, ℕ, ◌<◌, ◌≤◌, List, le
 ghost use Rattle.std.specs.Io.KnownBytes.{Appends, Consumes, IsAtEnd};
 ghost use Rattle.studio_run.specs.declared.text_io.ReadFault.TheVariants.{TooMany};
 
-use crate::trace::reader::MOST_TRACE_OCTETS;
+use crate::trace::reader::MAX_TRACE_OCTETS;
 use std::alloc::{AllocError, Global};
 use std::io::{Read, Write};
 use thiserror::Error;
 
 // Each call reads an octet or more, so a text is too long before it comes to this limit. The limit bounds the loop.
-/// The most calls of a reader for one text.
-const MOST_CALLS: u32 = 100_000_000;
+/// The greatest number of calls of a reader for one text.
+const MAX_CALLS: u32 = 100_000_000;
 
-/// The most octets of one read.
-const MOST_OCTETS_A_READ: usize = 65_536;
+/// The greatest number of octets of one read.
+const MAX_READ: usize = 65_536;
 
 /// The reason why a text was not read.
 #[derive(Clone, Copy, Debug, PartialEq, Eq, Error)]
@@ -38,19 +38,19 @@ pub struct WriteFault;
 pub fn read_text<R: Read>(alloc: Global, reader: &mut R) -> Result<Vec<u8>, ReadFault>
     ensures ok { IfOk result (λ text. Consumes (R.remaining reader.old) (R.remaining reader.new) text.items) }
     ensures end { OnOk result (IsAtEnd (R.remaining reader.new)) }
-    ensures fits { IfOk result (λ text. length text.items ≤ MOST_TRACE_OCTETS) }
-    ensures long { IfErr result (λ fault. fault ≡ TooMany → (octets : List ℕ) × (MOST_TRACE_OCTETS < length octets)
+    ensures fits { IfOk result (λ text. length text.items ≤ MAX_TRACE_OCTETS) }
+    ensures long { IfErr result (λ fault. fault ≡ TooMany → (octets : List ℕ) × (MAX_TRACE_OCTETS < length octets)
         × Consumes (R.remaining reader.old) (R.remaining reader.new) octets) }
 {
-    let mut text = Vec::with_capacity(alloc, MOST_OCTETS_A_READ).map_err(|_| ReadFault::Memory)?;
-    let mut chunk = [0u8; MOST_OCTETS_A_READ];
+    let mut text = Vec::with_capacity(alloc, MAX_READ).map_err(|_| ReadFault::Memory)?;
+    let mut chunk = [0u8; MAX_READ];
     // The label names the loop in its proof.
-    'reads: for _ in 0..MOST_CALLS {
+    'reads: for _ in 0..MAX_CALLS {
         match reader.read(&mut chunk) {
             Err(_) => return Err(ReadFault::Device),
             Ok(0) => return Ok(text),
             // The length is tested before the octets are kept, so no text takes more memory than the longest one.
-            Ok(count) if count > MOST_TRACE_OCTETS - text.len() => return Err(ReadFault::TooMany),
+            Ok(count) if count > MAX_TRACE_OCTETS - text.len() => return Err(ReadFault::TooMany),
             Ok(count) => {
                 push_chunk(&mut text, &chunk[..count]).map_err(|_| ReadFault::Memory)?;
             }
@@ -61,12 +61,12 @@ pub fn read_text<R: Read>(alloc: Global, reader: &mut R) -> Result<Vec<u8>, Read
 
 /// Appends octets that were read.
 fn push_chunk(text: &mut Vec<u8>, chunk: &[u8]) -> Result<(), AllocError>
-    requires fits { vec_len text.old + length chunk.now ≤ MOST_TRACE_OCTETS }
+    requires fits { vec_len text.old + length chunk.now ≤ MAX_TRACE_OCTETS }
     ensures items { OnOk result (text.new.items ≡ text.old.items ++ chunk.now) }
 {
     // The room doubles, but not past the longest text: the old room and the new one together are at most 3/2 of that.
     if text.capacity() - text.len() < chunk.len() {
-        let room = text.capacity().saturating_mul(2).min(MOST_TRACE_OCTETS);
+        let room = text.capacity().saturating_mul(2).min(MAX_TRACE_OCTETS);
         text.reserve_exact(room - text.len())?;
     }
     text.extend_from_slice(chunk)

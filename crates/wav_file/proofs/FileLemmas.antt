@@ -23,7 +23,7 @@ sized (Some old) (Some new) wav octets rest head begun is len over =
     over (omega (arith, long, len)) ∙ ap (λ l. head ++ l) left ∙ sym (append_assoc head octets rest)
     ∙ ap (λ h. h ++ octets ++ rest) (is ∙ ap (header_octets wav.format) begun.count)
 
--- known octets became others by way of a third
+-- known octets became others in two steps
 becomes_later : (a b c : Option (List ℕ)) (xs ys : List ℕ) → Appends a b xs → Becomes b c ys → Becomes a c ys
 becomes_later None b c xs ys p q = tt
 becomes_later (Some x) None c xs ys p q = absurd p

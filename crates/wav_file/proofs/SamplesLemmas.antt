@@ -1,4 +1,4 @@
--- One sample more, with its octets the other way round.
+-- One sample more, with its octets in the other order.
 use Rattle.std.proofs.Common.{◌≡◌, ◌<◌, ◌+◌, ◌*◌, ◌/◌, ℕ, zero, suc, List, [], ◌∷◌, ◌++◌, length, take, get_or, refl, ap, arith}
 use Rattle.wav_file.specs.Samples.{little_16, little_24}
 

@@ -23,7 +23,7 @@ zeros_24 (suc n) =
     let next : suc n * 3 ≡ suc (suc (suc (n * 3))) = omega arith in
     rw next (ap (λ l. 0 ∷ 0 ∷ 0 ∷ l) (zeros_24 n))
 
--- whole samples of 0 are the same the other way round
+-- whole samples of 0 are the same in the other order
 zeros : (enc : Enc) (n : ℕ) → little_samples enc (replicate (n * octets_per_sample enc) 0) ≡ replicate (n * octets_per_sample enc) 0
 zeros L16 n = zeros_16 n
 zeros L24 n = zeros_24 n

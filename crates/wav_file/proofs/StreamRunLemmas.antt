@@ -1,4 +1,4 @@
--- A listing, and a stream's file beside it.
+-- A listing and a stream's file.
 use Rattle.std.proofs.Common.{◌≡◌, ℕ, ℤ, List, [], Option, None, Ok, refl, sym, ap, subst, ◌∙◌}
 use Rattle.std.specs.Io.KnownBytes.{Appends, Consumes, IsAtEnd}
 use Rattle.rtp_wire.specs.declared.encoding.Enc.{Enc}

@@ -105,7 +105,7 @@ taken_given stream number open_at events m n o track mid then old new None run t
       tracked = subst (HasTracked m o track then) (append-nil marks) (tracked_both m n o track mid then marks [] t.tracked more);
     }
 
--- the same, as a cursor lent it
+-- the same, with a mark that a cursor returned by reference
 pub taken_lent : (stream : Stream) (number : ℕ) (open_at : ℤ) (events : List TraceEvent) (m n o : Option (List ℕ)) (track mid then : StreamTrack) (old new : CursorState) (mark lent : Option MarkView)
     → IsRunnable stream number open_at events → (t : HasTaken stream number open_at events m track old n mid) → IsOnTheWay stream number open_at events new t.given mark
     → lent ≡ mark → HasTracked n o mid then (option_to_list lent) → HasTaken stream number open_at events m track new o then

@@ -4,12 +4,12 @@ use Rattle.wav_file.specs.declared.header.WavFormat.{WavFormat}
 use Rattle.std.specs.Io.KnownBytes.{Appends}
 use Rattle.wav_file.specs.Header.{frame_length, header_octets}
 
--- what contracts see of a file that is written: its format, and how many octets of data it has
+-- the view of a file that is written: its format, and the number of its octets of data
 pub record WavState : Type 0 where
   pub format : WavFormat
   pub count : ℕ
 
--- a writer holds these octets, if it tells its own
+-- a writer holds these octets, if its contents are known
 abbrev pub Holds : Option (List ℕ) → List ℕ → Type 0
 Holds None octets = ⊤
 Holds (Some held) octets = held ≡ octets
@@ -34,7 +34,7 @@ pad_octets count = if count % 2 == 1 then 0 ∷ [] else []
 abbrev pub wav_octets : WavFormat → List ℕ → List ℕ
 wav_octets format octets = header_octets format (length octets) ++ octets ++ pad_octets (length octets)
 
--- the file so far: a head that says no data, the data, and a rest that doesn't count
+-- the file so far: a header without data, the data, and a rest that doesn't count
 pub record IsBegun (written : Option (List ℕ)) (wav : WavState) (octets rest : List ℕ) : Type 0 where
   pub holds : Holds written (header_octets wav.format 0 ++ octets ++ rest)
   pub count : wav.count ≡ length octets

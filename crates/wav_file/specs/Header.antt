@@ -24,7 +24,7 @@ size_octets count size = little_bytes 4 (if is_long count then 2 ^ 32 - 1 else s
 abbrev pub room_chunk : List ℕ → ℕ → ℕ → ℕ → List ℕ
 room_chunk name all count frames = name ++ (little_bytes 4 28 ++ little_bytes 8 all ++ little_bytes 8 count ++ little_bytes 8 frames ++ little_bytes 4 0)
 
--- where a file is long it says them; else it keeps room for them
+-- the sizes of a long file; otherwise room for them
 abbrev pub room_octets : WavFormat → ℕ → List ℕ
 room_octets format count =
     if is_long count

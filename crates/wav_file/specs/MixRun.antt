@@ -1,4 +1,4 @@
--- What is written of a trace with a WAV file beside its report, and why it may not be.
+-- The report of a trace and its WAV file, and why they may not be written.
 use Rattle.std.specs.Prelude.{◌≡◌, ℕ, List, [], ◌++◌, take, Option, None, Ok, ⊤}
 use Rattle.std.specs.Io.KnownBytes.{Appends, Consumes, IsAtEnd}
 use Rattle.studio_config.specs.Studio.{Studio}
@@ -26,7 +26,7 @@ pub record RecordsTextOf (studio : Studio) (left left_then written written_then 
   pub empty : Holds made []
   pub records : Records studio events (output_format studio.output) written written_then made made_then
 
--- of what was held and these octets a part from the front was written, or all
+-- a prefix of what was held and these octets was written, or all
 abbrev pub WritesFront : Option (List ℕ) → List ℕ → Option (List ℕ) → List ℕ → Type 0
 WritesFront written held written_then octets = (count : ℕ) × Appends written written_then (take count (held ++ octets))
 
@@ -40,7 +40,7 @@ IsOfWriters (Play Write) = ⊤
 IsOfWriters (Stream fault) = ⊥
 IsOfWriters (File fault) = ⊤
 
--- all that was left of an input is a trace whose events run, and of their report a part from the front was written, or all
+-- all that was left of an input is a trace whose events run, and a prefix of their report was written, or all
 pub record BreaksOffRecording (studio : Studio) (left left_then written written_then : Option (List ℕ)) : Type 0 where
   pub trace : List ℕ
   pub read : Consumes left left_then trace

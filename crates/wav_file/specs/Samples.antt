@@ -3,7 +3,7 @@ use Rattle.std.specs.Prelude.{ℕ, List, [], ◌∷◌}
 use Rattle.rtp_wire.specs.declared.encoding.Enc.{Enc}
 use Rattle.rtp_wire.specs.declared.encoding.Enc.TheVariants.{L16, L24}
 
--- each pair of octets the other way round, and none of a pair that is cut
+-- each pair of octets in the other order, and none of a pair that is cut
 abbrev pub little_16 : List ℕ → List ℕ
 little_16 [] = []
 little_16 (high ∷ []) = []
@@ -16,7 +16,7 @@ little_24 (high ∷ []) = []
 little_24 (high ∷ middle ∷ []) = []
 little_24 (high ∷ middle ∷ low ∷ octets) = low ∷ middle ∷ high ∷ little_24 octets
 
--- the whole samples of a payload, in order, each with its octets the other way round
+-- the whole samples of a payload, in order, each with its octets in the other order
 abbrev pub little_samples : Enc → List ℕ → List ℕ
 little_samples L16 octets = little_16 octets
 little_samples L24 octets = little_24 octets

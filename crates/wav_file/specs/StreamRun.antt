@@ -1,4 +1,4 @@
--- What is written of a trace with a stream's WAV file beside its listing, and why it may not be.
+-- The listing of a trace and a stream's WAV file, and why they may not be written.
 use Rattle.std.specs.Prelude.{◌≡◌, ◌<◌, ℕ, List, [], Option, Some, None, Ok, slice_get}
 use Rattle.std.specs.Io.KnownBytes.{Appends, Consumes, IsAtEnd}
 use Rattle.rtp_stream.specs.declared.stream_spec.Stream.{Stream as AStream}

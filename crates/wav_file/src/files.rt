@@ -1,4 +1,4 @@
-//! The creation of a WAV file.
+//! The creation of a file, and writers whose first octets can be overwritten.
 ghost use Rattle.std.specs.Prelude.{IfOk, [], OnOk};
 ghost use Rattle.wav_file.specs.File.{Holds, Overwrites};
 
@@ -6,7 +6,7 @@ use crate::fault::FileFault;
 use std::io;
 use std::io::{Seek, SeekFrom, Write};
 
-/// A way to create a file. A run creates it once only a write can fail.
+/// A creator of files. A run creates its file last, when only a write can still fail.
 pub trait CreateFile {
     /// The type of the file.
     type File: Overwrite + Drop;

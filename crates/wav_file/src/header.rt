@@ -1,4 +1,5 @@
-//! The format of a WAV file's samples.
+//! The header of a WAV file, and the format of its samples: RIFF WAVE, and RF64 if its size doesn't fit 32 bits (EBU
+//! Tech 3306).
 ghost use Rattle.std.specs.Prelude.{◌≡◌, ◌+◌, ◌++◌, ◌^◌, ◌<◌, ◌≤◌, ◌/◌, length};
 ghost use Rattle.wav_file.specs.Header.{
   frame_length,
@@ -33,7 +34,7 @@ impl WavFormat {
     }
 }
 
-/// The octets of a head, up to the data.
+/// The octets of a header, up to the data.
 type Header = ArrayVec<u8, 80>;
 
 /// Returns the header of a file with `count` octets of data.

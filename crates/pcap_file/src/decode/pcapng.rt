@@ -3,7 +3,7 @@
 ghost use Rattle.std.specs.Prelude.{◌≡◌, ◌≤◌, ◌*◌, MatchResult, IfOk, None, Ok, Err, Some, length, option_copied};
 ghost use Rattle.pcap_file.specs.BlockParser as parts;
 ghost use Rattle.pcap_file.specs.Section as spec;
-ghost use Rattle.pcap_file.specs.Section.{AnswersContent, AnswersPacket, block_of, section_view};
+ghost use Rattle.pcap_file.specs.Section.{GivesContent, GivesPacket, block_of, section_view};
 ghost use Rattle.pcap_file.specs.Mark.{mark_of};
 ghost use Rattle.pcap_file.specs.CaptureBlock.{part_view};
 
@@ -82,7 +82,7 @@ impl Section {
     /// Takes over a whole block's section or interface, and returns the UDP packet in it, if there is one.
     fn read_content<'a>(&mut self, block: &'a [u8]) -> Result<Option<Packet<'a>>, CaptureFaultKind>
         requires { 12 ≤ length block.now }
-        ensures { AnswersContent (spec.content_of (section_view self.old) block.now) (section_view self.new) result }
+        ensures { GivesContent (spec.content_of (section_view self.old) block.now) (section_view self.new) result }
     {
         match block_kind(self.order.read_u32(block, 0)) {
             BlockKind::SectionHeader => self.begin(block),
@@ -108,7 +108,7 @@ impl Section {
     /// Begins the section of a header: its interfaces are numbered from 0 again.
     #[tactic(auto, unfolding(crate::specs::Section::begun_by))]
     fn begin<'a>(&mut self, block: &'a [u8]) -> Result<Option<Packet<'a>>, CaptureFaultKind>
-        ensures { AnswersContent (spec.begun_by (section_view self.old) block.now) (section_view self.new) result }
+        ensures { GivesContent (spec.begun_by (section_view self.old) block.now) (section_view self.new) result }
     {
         check_version(self.order, block)?;
         self.interfaces.clear();
@@ -118,7 +118,7 @@ impl Section {
     /// Adds an interface by its description. Returns `TooMany` after 64.
     #[tactic(auto, unfolding(crate::specs::Section::described_by))]
     fn add_interface<'a>(&mut self, block: &'a [u8]) -> Result<Option<Packet<'a>>, CaptureFaultKind>
-        ensures { AnswersContent (spec.described_by (section_view self.old) block.now) (section_view self.new) result }
+        ensures { GivesContent (spec.described_by (section_view self.old) block.now) (section_view self.new) result }
     {
         let interface = read_interface(self.order, block)?;
         if self.interfaces.is_full() {
@@ -131,7 +131,7 @@ impl Section {
     /// Returns the UDP packet in an enhanced packet block, if there is one.
     #[tactic(auto, unfolding(crate::specs::Section::enhanced_of))]
     fn read_enhanced<'a>(&self, block: &'a [u8]) -> Result<Option<Packet<'a>>, CaptureFaultKind>
-        ensures { AnswersPacket (spec.enhanced_of (section_view self.now) block.now) result }
+        ensures { GivesPacket (spec.enhanced_of (section_view self.now) block.now) result }
     {
         if block.len() < 32 {
             return Err(CaptureFaultKind::Length);
@@ -156,7 +156,7 @@ impl Section {
     /// Returns the UDP packet in a simple packet block, which belongs to the first interface, if there is one.
     #[tactic(auto, unfolding(crate::specs::Section::simple_of))]
     fn read_simple<'a>(&self, block: &'a [u8]) -> Result<Option<Packet<'a>>, CaptureFaultKind>
-        ensures { AnswersPacket (spec.simple_of (section_view self.now) block.now) result }
+        ensures { GivesPacket (spec.simple_of (section_view self.now) block.now) result }
     {
         if block.len() < 16 {
             return Err(CaptureFaultKind::Length);

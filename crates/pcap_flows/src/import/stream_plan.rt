@@ -59,7 +59,7 @@ fn places_of(
     let mut places = Vec::new(alloc);
     for route in routes.iter() {
         if usize::from(route.stream) == number
-            && let Some(place) = table.place_of(&route.key)
+            && let Some(place) = table.index_of(&route.key)
         {
             places.push(place)?;
         }

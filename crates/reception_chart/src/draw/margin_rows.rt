@@ -44,13 +44,13 @@ pub(crate) fn push_margins(
 
 /// Appends a path's row: its bars in proportion to the greatest of them, its counts and its least margin.
 fn push_path(svg: &mut Vec<u8>, y: u32, class: &str, path: &PathMargins) -> Result<(), AllocError> {
-    let mut most = 0;
+    let mut greatest = 0;
     for count in path.bins.iter() {
-        most = most.max(*count);
+        greatest = greatest.max(*count);
     }
     let mut heights = [0; MARGIN_BINS];
     for place in 0..MARGIN_BINS {
-        heights[place] = height_of(path.bins[place], most, 1);
+        heights[place] = height_of(path.bins[place], greatest, 1);
     }
     push_bars(svg, class, y, MARGIN_STEP - 4, &heights)?;
     let (x, in_time, late) = (LEFT + PLOT_WIDTH + 8, path.in_time, path.late);

@@ -57,8 +57,8 @@ pub(crate) struct Margins {
 impl Margins {
     /// The margins before the first copy, in intervals up to a greatest margin. A greater one belongs to the last
     /// interval.
-    pub(crate) fn new(most: i64) -> Margins {
-        let span = (u64::try_from(most).unwrap_or(0) / MARGIN_BINS as u64).saturating_add(1);
+    pub(crate) fn new(greatest: i64) -> Margins {
+        let span = (u64::try_from(greatest).unwrap_or(0) / MARGIN_BINS as u64).saturating_add(1);
         Margins {
             span,
             paths: [PathMargins::new(); 4],

@@ -14,11 +14,11 @@ pub struct PanelData {
 
 impl PanelData {
     /// The data before the first event. Returns `AllocError` if an allocation fails.
-    pub(crate) fn new(alloc: Global, axis: Axis, most: i64) -> Result<PanelData, AllocError> {
+    pub(crate) fn new(alloc: Global, axis: Axis, greatest: i64) -> Result<PanelData, AllocError> {
         let bins = Bins::new(alloc, axis)?;
         Ok(PanelData {
             bins,
-            margins: Margins::new(most),
+            margins: Margins::new(greatest),
         })
     }
 }

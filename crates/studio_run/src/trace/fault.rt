@@ -6,8 +6,8 @@ ghost use Rattle.studio_run.specs.LineEvent.{IsLineOf};
 use crate::trace::line::{LineEvent, read_event, split_line};
 use thiserror::Error;
 
-/// The most events of a trace.
-const MOST_EVENTS: usize = 1_000_000;
+/// The greatest number of events of a trace.
+const MAX_EVENTS: usize = 1_000_000;
 
 /// The fault of a line: the first of these that holds. Its text is the kind's word.
 #[derive(Clone, Copy, Debug, PartialEq, Eq, Error)]
@@ -67,7 +67,7 @@ pub(crate) fn read_line<'a>(
     match read_event(line) {
         Ok(Some(event)) => {
             // The number of events is tested last: event 1,000,001 is too many only if its line is good.
-            if events < MOST_EVENTS {
+            if events < MAX_EVENTS {
                 Ok((Some(event), rest))
             } else {
                 Err(TraceFaultKind::TooMany)

@@ -10,14 +10,14 @@ use crate::trace::fault::TraceFaultKind;
 use crate::trace::field::{decimal_number, first_place, split_field};
 use path_merge::Path;
 
-/// The most octets of a line, without its line feed.
-const MOST_LINE_OCTETS: usize = 4096;
+/// The greatest length of a line in octets, without its line feed.
+const MAX_LINE_OCTETS: usize = 4096;
 
 /// The greatest time: the greatest `i64`.
-const MOST_TIME: u64 = 9_223_372_036_854_775_807;
+const MAX_CLOCK_READING: u64 = 9_223_372_036_854_775_807;
 
 /// The greatest number of a stream: a studio has at most 16.
-const MOST_STREAM: u64 = 15;
+const MAX_STREAM_NUMBER: u64 = 15;
 
 /// The event of a line. The digits of a datagram are at the line's end, two for each octet.
 #[derive(Clone, Copy)]
@@ -41,10 +41,10 @@ pub(crate) fn split_line(text: &[u8]) -> Result<(&[u8], &[u8]), TraceFaultKind>
     ensures short { IfOk result (λ parts. length parts.0.now ≤ 4096) }
 {
     // Only so much is searched, so that a long text without a line feed is refused at once.
-    let seen = text.len().min(MOST_LINE_OCTETS + 1);
-    match first_place(&text[..seen], b'\n') {
+    let searched = text.len().min(MAX_LINE_OCTETS + 1);
+    match first_place(&text[..searched], b'\n') {
         Some(end) => Ok((&text[..end], &text[end + 1..])),
-        None if text.len() > MOST_LINE_OCTETS => Err(TraceFaultKind::TooLong),
+        None if text.len() > MAX_LINE_OCTETS => Err(TraceFaultKind::TooLong),
         None => Err(TraceFaultKind::Cut),
     }
 }
@@ -166,7 +166,7 @@ fn read_tick<'a>(rest: Option<&'a [u8]>) -> Result<LineEvent<'a>, TraceFaultKind
     if more.is_some() {
         return Err(TraceFaultKind::Fields);
     }
-    match decimal_number(time, MOST_TIME) {
+    match decimal_number(time, MAX_CLOCK_READING) {
         Some(time) => Ok(LineEvent::Tick(time as i64)),
         None => Err(TraceFaultKind::Number),
     }
@@ -189,7 +189,7 @@ fn read_arrival<'a>(path: Path, rest: Option<&'a [u8]>) -> Result<LineEvent<'a>,
         return Err(TraceFaultKind::Fields);
     }
     // The number of fields is tested first, then each field: the order of `TraceFaultKind`.
-    let Some(stream) = decimal_number(stream, MOST_STREAM) else {
+    let Some(stream) = decimal_number(stream, MAX_STREAM_NUMBER) else {
         return Err(TraceFaultKind::Number);
     };
     if !spells_octets(digits) {

@@ -6,8 +6,8 @@ ghost use Rattle.studio_run.specs.Trace.{trace_events};
 use crate::trace::fault::{TraceFault, TraceFaultKind, read_line};
 use crate::trace::text_events::{TextEvent, text_event};
 
-/// The most octets of a trace: 64 MiB.
-pub(crate) const MOST_TRACE_OCTETS: usize = 67_108_864;
+/// The greatest length of a trace in octets, 64 MiB.
+pub(crate) const MAX_TRACE_OCTETS: usize = 67_108_864;
 
 /// A trace, read up to the beginning of a line.
 #[derive(Drop)]
@@ -35,7 +35,7 @@ impl<'a> TraceReader<'a> {
         ensures text { IfOk result (λ reader. reader.text.now ≡ text.now) }
         ensures fault { IfErr result (λ e. trace_events text.now ≡ Err e) }
     {
-        if text.len() > MOST_TRACE_OCTETS {
+        if text.len() > MAX_TRACE_OCTETS {
             return Err(TraceFault {
                 line: 0,
                 kind: TraceFaultKind::TooMany,

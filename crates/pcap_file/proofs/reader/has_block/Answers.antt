@@ -5,4 +5,4 @@ use Rattle.pcap_file.proofs.reader.has_block.Goals as goal
 
 pub returns-then-is_empty-clause-end : goal.returns-then-is_empty-clause-end
 returns-then-is_empty-clause-end g c = λ _ file entries told.
-    told_end file entries _ _ _ _ (sym c.front.ensures ∙ nil_from_length c.front.result.now (search rules)) c.in_ok-fill.ensures.filled (c.in_ok-fill.ensures.told file entries told)
+    told_end file entries _ _ _ _ (sym c.front.ensures ∙ nil_from_length c.front.result.now (search rules)) c.in_ok-fill.ensures.filled (c.in_ok-fill.ensures.returned file entries told)

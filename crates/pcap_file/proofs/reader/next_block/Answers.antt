@@ -11,8 +11,8 @@ next-requires-clause-some c = subst (λ f. 1 ≤ length f) (sym c.front.ensures)
 pub returns-clause-len : goal.returns-clause-len
 returns-clause-len c = ok_both c.next.result _ _ _ (λ part within _. lent_within (octets_of c.args.window.now) part.len (subst (λ f. part.len ≤ length f) c.front.ensures within.1)) c.next.ensures.len c.next.ensures.len
 
-pub returns-clause-told : goal.returns-clause-told
-returns-clause-told c =
+pub returns-clause-returned : goal.returns-clause-returned
+returns-clause-returned c =
     ok_each c.next.result _ _ _ _ (λ part within next lists file entries left.
     told_next file entries left c.args.parts.now c.next.new.self (octets_of c.args.window.now) c.args.window.now.ended part.len (option_map packet_view part.packet) part.mark c.front.result.now c.front.ensures
     c.requires.filled within.1 next lists) c.next.ensures.len c.next.ensures.part c.next.ensures.entries

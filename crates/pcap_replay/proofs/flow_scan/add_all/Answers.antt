@@ -14,7 +14,7 @@ returns-then-not-branch g c = λ file entries told seen.
 pub returns-in-None : goal.returns-in-None
 returns-in-None g c = λ file entries told seen.
     let t = c.parts.invariant file entries told seen in
-    c.in_ok-len.ensures.fault c.in-None.is file t.entries _ (c.in_ok-has_block.ensures.told file t.entries t.told) t.seen
+    c.in_ok-len.ensures.fault c.in-None.is file t.entries _ (c.in_ok-has_block.ensures.returned file t.entries t.told) t.seen
 
 pub parts-preserved : goal.parts-preserved
 parts-preserved g c = λ file entries told seen.
@@ -22,6 +22,6 @@ parts-preserved g c = λ file entries told seen.
     let left = g.R.Read.remaining c.has_block.new.reader in
     let table = table_view c.add_next.new.table in
     let window = c.has_block.new.window in
-    let next = some_is c.in_ok-len.field-0 c.in-Some.len _ c.in-Some.is c.in_ok-len.ensures.told file t.entries left (c.in_ok-has_block.ensures.told file t.entries t.told) t.seen in
+    let next = some_is c.in_ok-len.field-0 c.in-Some.len _ c.in-Some.is c.in_ok-len.ensures.returned file t.entries left (c.in_ok-has_block.ensures.returned file t.entries t.told) t.seen in
     subst (λ h. HasTable file left table c.add_next.new.parts h c.consume.new.self.ended) (sym c.consume.ensures.octets)
     (subst (λ e. HasTable file left table c.add_next.new.parts (drop c.in-Some.len (octets_of window)) e) (sym c.consume.ensures.ended) next)

@@ -6,7 +6,7 @@ use Rattle.pcap_replay.proofs.flow_scan.scan_flows.Goals as goal
 
 pub returns-in_ok-add_all-in-Ok : goal.returns-in_ok-add_all-in-Ok
 returns-in_ok-add_all-in-Ok g c =
-    some_maps (g.R.Read.remaining c.args.reader.now) _ _ (λ file told. c.in_ok-add_all-in-Ok.ensures file [] told (c.new-table.ensures ∙ seen_none)) c.in-Ok.ensures.told
+    some_maps (g.R.Read.remaining c.args.reader.now) _ _ (λ file told. c.in_ok-add_all-in-Ok.ensures file [] told (c.new-table.ensures ∙ seen_none)) c.in-Ok.ensures.returned
 
 pub returns-in_ok-take-in-Err-Capture : goal.returns-in_ok-take-in-Err-Capture
 returns-in_ok-take-in-Err-Capture g c =

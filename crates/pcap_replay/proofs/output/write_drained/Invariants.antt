@@ -13,7 +13,7 @@ invariant-rounds g l = record {
   output : l.engine.mixer.packer.spec ≡ l.fn.engine.mixer.packer.spec;
   closed : l.engine.closed ≡ l.fn.engine.closed;
   stands : (studio : Studio) (events : List TraceEvent) (datagrams : List (List ℕ)) (begun : g.row.L.Denot) → HasSession studio l.fn.engine events datagrams
-      → GivesLines studio l.engine events datagrams (g.W.Write.contents l.fn.writer) l.fn.text (g.W.Write.contents l.writer) l.text (g.L.ReplayObserver.heard begun l.fn.listener) (g.L.ReplayObserver.heard begun l.listener);
+      → GivesLines studio l.engine events datagrams (g.W.Write.contents l.fn.writer) l.fn.text (g.W.Write.contents l.writer) l.text (g.L.ReplayObserver.heard begun l.fn.observer) (g.L.ReplayObserver.heard begun l.observer);
 }
 
 abbrev pub decreases-rounds : goal.decreases-rounds

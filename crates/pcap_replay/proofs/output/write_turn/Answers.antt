@@ -83,7 +83,7 @@ returns-in-None-clause-ok g c = λ studio events datagrams begun s fine.
 
 pub returns-in-None-clause-rested : goal.returns-in-None-clause-rested
 returns-in-None-clause-rested g c = λ studio events datagrams s fine.
-    let r = c.rounds.invariant.stands studio events datagrams c.args.listener.now s in
+    let r = c.rounds.invariant.stands studio events datagrams c.args.observer.now s in
     (c.in-Ok.ensures.there c.in-None.is studio (turned c.args.engine.now.time c.rounds.engine.time events) (datagrams ++ r.more) r.stands).0
 
 pub returns-in-None-clause-time : goal.returns-in-None-clause-time

@@ -14,7 +14,7 @@ invariant-rounds g l = record {
   closed : l.engine.closed ≡ l.fn.engine.closed;
   time : (l.engine.time ≡ l.fn.engine.time) ⊎ (l.engine.time ≡ l.now);
   stands : (studio : Studio) (events : List TraceEvent) (datagrams : List (List ℕ)) (begun : g.row.L.Denot) → HasSession studio l.fn.engine events datagrams
-      → GivesLines studio l.engine (turned l.fn.engine.time l.engine.time events) datagrams (g.W.Write.contents l.fn.writer) l.fn.text (g.W.Write.contents l.writer) l.text (g.L.ReplayObserver.heard begun l.fn.listener) (g.L.ReplayObserver.heard begun l.listener);
+      → GivesLines studio l.engine (turned l.fn.engine.time l.engine.time events) datagrams (g.W.Write.contents l.fn.writer) l.fn.text (g.W.Write.contents l.writer) l.text (g.L.ReplayObserver.heard begun l.fn.observer) (g.L.ReplayObserver.heard begun l.observer);
 }
 
 abbrev pub decreases-rounds : goal.decreases-rounds

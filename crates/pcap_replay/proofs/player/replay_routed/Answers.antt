@@ -13,7 +13,7 @@ returns-in_err-window-clause-fault g c =
     let written = g.W.Write.contents c.args.writer.now in
     let fault = c.in_err-window.field-0.0 in
     told _ (Capture fault) c.from_residual-in_err-window.result c.from_residual-in_err-window.ensures.1
-    (unopened c.args.spec.now (plan_view c.args.plan.now) first written (g.L.ReplayObserver.heard c.args.listener.now c.args.listener.now) c.in_ok-run.run' fault (begun_replayed c.args.spec.now written _ _ c.in_ok-run.ensures.begun c.requires.fresh) c.in_err-window.ensures.fault)
+    (unopened c.args.spec.now (plan_view c.args.plan.now) first written (g.L.ReplayObserver.heard c.args.observer.now c.args.observer.now) c.in_ok-run.run' fault (begun_replayed c.args.spec.now written _ _ c.in_ok-run.ensures.begun c.requires.fresh) c.in_err-window.ensures.fault)
 
 pub close-requires : goal.close-requires
 close-requires g c =
@@ -21,7 +21,7 @@ close-requires g c =
     let plan = plan_view c.args.plan.now in
     let first = g.R.Read.remaining c.args.reader.now in
     let written = g.W.Write.contents c.args.writer.now in
-    let come = c.in-Ok.ensures.ok spec first written c.args.listener.now (replaying_none spec plan first written _ _ _ _ _ _ c.in_ok-window.ensures.told c.in_ok-run.ensures.clock (begun_replayed spec written _ _ c.in_ok-run.ensures.begun c.requires.fresh)) in
+    let come = c.in-Ok.ensures.ok spec first written c.args.observer.now (replaying_none spec plan first written _ _ _ _ _ _ c.in_ok-window.ensures.returned c.in_ok-run.ensures.clock (begun_replayed spec written _ _ c.in_ok-run.ensures.begun c.requires.fresh)) in
     record { events = events_told spec plan come.entries; written = written; replayed = unheard spec (events_told spec plan come.entries) written _ _ _ come.replayed }
 
 pub returns-in_err-close-in-Ok-clause-fault : goal.returns-in_err-close-in-Ok-clause-fault
@@ -30,13 +30,13 @@ returns-in_err-close-in-Ok-clause-fault g c =
     let plan = plan_view c.args.plan.now in
     let first = g.R.Read.remaining c.args.reader.now in
     let written = g.W.Write.contents c.args.writer.now in
-    let come = c.in-Ok.ensures.ok spec first written c.args.listener.now (replaying_none spec plan first written _ _ _ _ _ _ c.in_ok-window.ensures.told c.in_ok-run.ensures.clock (begun_replayed spec written _ _ c.in_ok-run.ensures.begun c.requires.fresh)) in
+    let come = c.in-Ok.ensures.ok spec first written c.args.observer.now (replaying_none spec plan first written _ _ _ _ _ _ c.in_ok-window.ensures.returned c.in_ok-run.ensures.clock (begun_replayed spec written _ _ c.in_ok-run.ensures.begun c.requires.fresh)) in
     told _ Write c.from_residual-in_err-close-in-Ok.result c.from_residual-in_err-close-in-Ok.ensures.1 (record {
       entries = come.entries;
       told = some_maps first _ _ (λ file whole. (begins_whole file come.entries whole, tt)) come.told;
       events = file_events spec plan come.entries;
       first = first_same (file_events spec plan come.entries);
-      front = c.in_err-close-in-Ok.ensures.fault (events_told spec plan come.entries) written c.args.listener.now come.replayed;
+      front = c.in_err-close-in-Ok.ensures.fault (events_told spec plan come.entries) written c.args.observer.now come.replayed;
     })
 
 pub returns-in-Ok-clause-ok : goal.returns-in-Ok-clause-ok
@@ -45,8 +45,8 @@ returns-in-Ok-clause-ok g c =
     let plan = plan_view c.args.plan.now in
     let first = g.R.Read.remaining c.args.reader.now in
     let written = g.W.Write.contents c.args.writer.now in
-    let come = c.in-Ok.ensures.ok spec first written c.args.listener.now (replaying_none spec plan first written _ _ _ _ _ _ c.in_ok-window.ensures.told c.in_ok-run.ensures.clock (begun_replayed spec written _ _ c.in_ok-run.ensures.begun c.requires.fresh)) in
-    record { entries = come.entries; told = come.told; writes = c.in_ok-close-in-Ok.ensures.ok (events_told spec plan come.entries) written c.args.listener.now come.replayed; hears = c.in_ok-close-in-Ok.ensures.hears (events_told spec plan come.entries) written c.args.listener.now come.replayed }
+    let come = c.in-Ok.ensures.ok spec first written c.args.observer.now (replaying_none spec plan first written _ _ _ _ _ _ c.in_ok-window.ensures.returned c.in_ok-run.ensures.clock (begun_replayed spec written _ _ c.in_ok-run.ensures.begun c.requires.fresh)) in
+    record { entries = come.entries; told = come.told; writes = c.in_ok-close-in-Ok.ensures.ok (events_told spec plan come.entries) written c.args.observer.now come.replayed; hears = c.in_ok-close-in-Ok.ensures.hears (events_told spec plan come.entries) written c.args.observer.now come.replayed }
 
 pub returns-clause-fault : goal.returns-clause-fault
 returns-clause-fault g c =
@@ -54,5 +54,5 @@ returns-clause-fault g c =
     let plan = plan_view c.args.plan.now in
     let first = g.R.Read.remaining c.args.reader.now in
     let written = g.W.Write.contents c.args.writer.now in
-    ends_behind spec plan first written _ _ _ c.go_to_close.new.self c.in-Err.fault c.break_off.result c.break_off.ensures (c.in-Err.ensures.fault spec first written c.args.listener.now
-    (replaying_none spec plan first written _ _ _ _ _ _ c.in_ok-window.ensures.told c.in_ok-run.ensures.clock (begun_replayed spec written _ _ c.in_ok-run.ensures.begun c.requires.fresh)))
+    ends_behind spec plan first written _ _ _ c.go_to_close.new.self c.in-Err.fault c.break_off.result c.break_off.ensures (c.in-Err.ensures.fault spec first written c.args.observer.now
+    (replaying_none spec plan first written _ _ _ _ _ _ c.in_ok-window.ensures.returned c.in_ok-run.ensures.clock (begun_replayed spec written _ _ c.in_ok-run.ensures.begun c.requires.fresh)))

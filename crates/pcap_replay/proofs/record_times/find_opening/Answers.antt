@@ -10,8 +10,8 @@ returns-then-not-branch g c = λ file told.
 
 pub returns-in-Some : goal.returns-in-Some
 returns-in-Some g c = λ file told.
-    some_is c.opening_at_next.result c.in-Some.opening _ c.in-Some.is c.opening_at_next.ensures.decided file _ (c.in_ok-has_block.ensures.told file [] (c.parts.invariant file told))
+    some_is c.opening_at_next.result c.in-Some.opening _ c.in-Some.is c.opening_at_next.ensures.decided file _ (c.in_ok-has_block.ensures.returned file [] (c.parts.invariant file told))
 
 pub parts-preserved : goal.parts-preserved
 parts-preserved g c = λ file told.
-    c.opening_at_next.ensures.passed c.in_default.is file _ (c.in_ok-has_block.ensures.told file [] (c.parts.invariant file told))
+    c.opening_at_next.ensures.passed c.in_default.is file _ (c.in_ok-has_block.ensures.returned file [] (c.parts.invariant file told))

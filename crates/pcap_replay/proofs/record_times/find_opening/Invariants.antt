@@ -1,9 +1,9 @@
 use Rattle.std.proofs.Common.{[], ℕ, List}
 use Rattle.pcap_file.specs.ReadBuffer.{octets_of}
-use Rattle.pcap_file.specs.Reader.{HasTold}
+use Rattle.pcap_file.specs.Reader.{HasReturned}
 use Rattle.pcap_replay.proofs.record_times.find_opening.Given as goal
 
--- nothing was told so far
+-- no entry was returned so far
 abbrev pub invariant-parts : goal.invariant-parts
-invariant-parts g l = (file : List ℕ) → HasTold file [] (g.R.Read.remaining l.fn.reader) l.fn.parts (octets_of l.fn.window) l.fn.window.ended
-    → HasTold file [] (g.R.Read.remaining l.reader) l.parts (octets_of l.window) l.window.ended
+invariant-parts g l = (file : List ℕ) → HasReturned file [] (g.R.Read.remaining l.fn.reader) l.fn.parts (octets_of l.fn.window) l.fn.window.ended
+    → HasReturned file [] (g.R.Read.remaining l.reader) l.parts (octets_of l.window) l.window.ended

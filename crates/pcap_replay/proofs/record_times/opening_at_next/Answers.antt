@@ -12,4 +12,4 @@ returns-in-Err-clause-decided c = λ file left told.
 
 pub returns-else-is_none-clause-decided : goal.returns-else-is_none-clause-decided
 returns-else-is_none-clause-decided c = some_when c.opening_decided.result _ (λ given is file left told.
-    opening_told file (part_entries c.in-Ok.part) given left _ _ _ (sym c.opening_decided.ensures ∙ is) (c.in-Ok.ensures.told file [] left told))
+    opening_told file (part_entries c.in-Ok.part) given left _ _ _ (sym c.opening_decided.ensures ∙ is) (c.in-Ok.ensures.returned file [] left told))

@@ -20,7 +20,7 @@ write_all_counts-requires-clause-all g c =
     let q = c.requires in
     let r = q.replayed in
     let session = closed_session spec c.args.self c.close.new.self q.events q.written _ _ r (c.in-Ok.ensures.stands spec q.events r.datagrams r.session) in
-    let gives = c.in_ok-write_drained.ensures.ok spec (q.events ++ Closing ∷ []) r.datagrams c.args.listener.now session in
+    let gives = c.in_ok-write_drained.ensures.ok spec (q.events ++ Closing ∷ []) r.datagrams c.args.observer.now session in
     ap length c.streams.ensures.value ∙ streams_of_session spec c.write_drained.new.engine (q.events ++ Closing ∷ []) (r.datagrams ++ gives.more) gives.stands
 
 pub returns-in_err-write_all_counts-clause-fault : goal.returns-in_err-write_all_counts-clause-fault

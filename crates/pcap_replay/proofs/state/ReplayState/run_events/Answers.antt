@@ -14,7 +14,7 @@ returns-in_err-has_block-clause-fault g c =
     told _ (Capture fault) c.from_residual.result c.from_residual.ensures.1
     (λ studio first written begun r.
     let now = c.parts.invariant studio first written begun r in
-    stops_behind studio (plan_view c.args.plan.now) first written c.parts.self c.parts.parts (octets_of c.parts.window) c.parts.window.ended (g.R.Read.remaining c.parts.reader) (g.W.Write.contents c.parts.writer) (g.L.ReplayObserver.heard begun c.parts.listener) c.parts.closing (Capture fault) now
+    stops_behind studio (plan_view c.args.plan.now) first written c.parts.self c.parts.parts (octets_of c.parts.window) c.parts.window.ended (g.R.Read.remaining c.parts.reader) (g.W.Write.contents c.parts.writer) (g.L.ReplayObserver.heard begun c.parts.observer) c.parts.closing (Capture fault) now
     (λ file _. long_reason file now.entries fault c.in_err-has_block.ensures.fault) (λ events replayed. replayed))
 
 pub returns-then-not-branch-clause-ok : goal.returns-then-not-branch-clause-ok
@@ -33,15 +33,15 @@ returns-in_err-len-clause-fault g c =
     let is : c.from_residual-in_err-len.result ≡ Err fault = search rules in
     rw is (λ studio first written begun r.
     let now = c.parts.invariant studio first written begun r in
-    c.in_err-len.ensures.fault studio first written begun _ c.parts.closing (replaying_read studio (plan_view c.args.plan.now) first written c.parts.self c.parts.parts _ _ _ _ _ (g.R.Read.remaining c.has_block.new.reader) _ _ c.parts.closing c.in_ok-has_block.ensures.told now))
+    c.in_err-len.ensures.fault studio first written begun _ c.parts.closing (replaying_read studio (plan_view c.args.plan.now) first written c.parts.self c.parts.parts _ _ _ _ _ (g.R.Read.remaining c.has_block.new.reader) _ _ c.parts.closing c.in_ok-has_block.ensures.returned now))
 
 pub parts-preserved : goal.parts-preserved
 parts-preserved g c = λ studio first written begun r.
     let now = c.parts.invariant studio first written begun r in
     let left = g.R.Read.remaining c.has_block.new.reader in
     let then = g.W.Write.contents c.take_next.new.writer in
-    let heard = g.L.ReplayObserver.heard begun c.take_next.new.listener in
-    let next = c.in_ok-len.ensures.ok studio first written begun left c.parts.closing (replaying_read studio (plan_view c.args.plan.now) first written c.parts.self c.parts.parts _ _ _ _ _ left _ _ c.parts.closing c.in_ok-has_block.ensures.told now) in
+    let heard = g.L.ReplayObserver.heard begun c.take_next.new.observer in
+    let next = c.in_ok-len.ensures.ok studio first written begun left c.parts.closing (replaying_read studio (plan_view c.args.plan.now) first written c.parts.self c.parts.parts _ _ _ _ _ left _ _ c.parts.closing c.in_ok-has_block.ensures.returned now) in
     let window = c.has_block.new.window in
     let passed = c.consume.new.self in
     subst (λ o. IsReplaying studio (plan_view c.args.plan.now) first written c.take_next.new.self c.take_next.new.parts (octets_of passed) passed.ended left then heard o) (sym c.first_close-closing.ensures)
@@ -51,5 +51,5 @@ parts-preserved g c = λ studio first written begun r.
 
 pub returns-clause-fault : goal.returns-clause-fault
 returns-clause-fault g c = λ studio first written begun r.
-    stops_behind studio (plan_view c.args.plan.now) first written c.parts.self c.parts.parts (octets_of c.parts.window) c.parts.window.ended (g.R.Read.remaining c.parts.reader) (g.W.Write.contents c.parts.writer) (g.L.ReplayObserver.heard begun c.parts.listener) c.parts.closing _
+    stops_behind studio (plan_view c.args.plan.now) first written c.parts.self c.parts.parts (octets_of c.parts.window) c.parts.window.ended (g.R.Read.remaining c.parts.reader) (g.W.Write.contents c.parts.writer) (g.L.ReplayObserver.heard begun c.parts.observer) c.parts.closing _
     (c.parts.invariant studio first written begun r) (λ file _. tt) (λ events replayed. replayed)

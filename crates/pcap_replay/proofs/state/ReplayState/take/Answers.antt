@@ -22,10 +22,10 @@ returns-in_err-read-clause-fault g c =
     let known : target_of plan packet ≡ Some target = sym c.target.ensures ∙ c.in-Some.is in
     rw is (λ studio events written begun r.
     let before = read_at studio.open_at (opening_of plan) events clock.reading (clock_with clock packet.time).reading in
-    subst (λ o. Stops studio (events_with studio.open_at (opening_of plan) clock events packet o) written c.read.new.self (g.W.Write.contents c.read.new.writer) (g.L.ReplayObserver.heard begun c.read.new.listener) fault) (sym known)
+    subst (λ o. Stops studio (events_with studio.open_at (opening_of plan) clock events packet o) written c.read.new.self (g.W.Write.contents c.read.new.writer) (g.L.ReplayObserver.heard begun c.read.new.observer) fault) (sym known)
     (stops_longer studio before (events_with studio.open_at (opening_of plan) clock events packet (Some target)) written _ _ c.read.new.self fault
     (first_more before (Arrival target.stream target.path (octets_of packet.ip.body) ∷ []))
-    (subst (λ from. Stops studio (read_at studio.open_at from events clock.reading (clock_with clock packet.time).reading) written c.read.new.self (g.W.Write.contents c.read.new.writer) (g.L.ReplayObserver.heard begun c.read.new.listener) fault) c.opening.ensures
+    (subst (λ from. Stops studio (read_at studio.open_at from events clock.reading (clock_with clock packet.time).reading) written c.read.new.self (g.W.Write.contents c.read.new.writer) (g.L.ReplayObserver.heard begun c.read.new.observer) fault) c.opening.ensures
     (c.in_err-read.ensures.fault studio events written begun r))))
 
 pub returns-clause-fault : goal.returns-clause-fault
@@ -38,6 +38,6 @@ returns-clause-fault g c =
     let known : target_of plan packet ≡ Some target = sym c.target.ensures ∙ c.in-Some.is in
     err_then c.arrive.result _ _ (λ fault stops studio events written begun r.
     let before = read_at studio.open_at (opening_of plan) events clock.reading (clock_with clock packet.time).reading in
-    subst (λ o. Stops studio (events_with studio.open_at (opening_of plan) clock events packet o) written c.arrive.new.self last (g.L.ReplayObserver.heard begun c.arrive.new.listener) fault) (sym known)
-    (subst (λ l. Stops studio (before ++ Arrival target.stream target.path l ∷ []) written c.arrive.new.self last (g.L.ReplayObserver.heard begun c.arrive.new.listener) fault) c.datagram_octets.ensures
-    (stops studio before written last begun (subst (λ from. HasReplayed studio (read_at studio.open_at from events clock.reading (clock_with clock packet.time).reading) written c.read.new.self last (g.L.ReplayObserver.heard begun c.read.new.listener)) c.opening.ensures (c.in_ok-read.ensures.ok studio events written begun r))))) c.arrive.ensures.fault
+    subst (λ o. Stops studio (events_with studio.open_at (opening_of plan) clock events packet o) written c.arrive.new.self last (g.L.ReplayObserver.heard begun c.arrive.new.observer) fault) (sym known)
+    (subst (λ l. Stops studio (before ++ Arrival target.stream target.path l ∷ []) written c.arrive.new.self last (g.L.ReplayObserver.heard begun c.arrive.new.observer) fault) c.datagram_octets.ensures
+    (stops studio before written last begun (subst (λ from. HasReplayed studio (read_at studio.open_at from events clock.reading (clock_with clock packet.time).reading) written c.read.new.self last (g.L.ReplayObserver.heard begun c.read.new.observer)) c.opening.ensures (c.in_ok-read.ensures.ok studio events written begun r))))) c.arrive.ensures.fault

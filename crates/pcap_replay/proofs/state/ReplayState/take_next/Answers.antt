@@ -9,7 +9,7 @@ use Rattle.pcap_replay.proofs.state.ReplayState.take_next.Goals as goal
 pub returns-in_ok-take_part-in-Ok-clause-ok : goal.returns-in_ok-take_part-in-Ok-clause-ok
 returns-in_ok-take_part-in-Ok-clause-ok g c = λ studio first written begun left closing r.
     replaying_more studio (plan_view c.args.plan.now) first written _ _ _ _ left _ _ closing r.entries c.in-Ok.part
-    (some_maps first _ _ (λ file told. c.in-Ok.ensures.told file r.entries left told) r.told)
+    (some_maps first _ _ (λ file told. c.in-Ok.ensures.returned file r.entries left told) r.told)
     (c.in_ok-take_part-in-Ok.ensures.ok studio (packets_among r.entries) written begun r.taken) r.closes
 
 pub returns-in_err-take_part-in-Ok-clause-fault : goal.returns-in_err-take_part-in-Ok-clause-fault
@@ -18,10 +18,10 @@ returns-in_err-take_part-in-Ok-clause-fault g c =
     let is : c.from_residual.result ≡ Err fault = search rules in
     rw is (λ studio first written begun left closing r.
     stops_among studio (plan_view c.args.plan.now) first written _ _ _ fault r.entries c.in-Ok.part
-    (some_maps first _ _ (λ file told. begins file (r.entries ++ part_entries c.in-Ok.part) left _ _ _ (c.in-Ok.ensures.told file r.entries left told)) r.told)
+    (some_maps first _ _ (λ file told. begins file (r.entries ++ part_entries c.in-Ok.part) left _ _ _ (c.in-Ok.ensures.returned file r.entries left told)) r.told)
     c.in_err-take_part-in-Ok.ensures.kind (c.in_err-take_part-in-Ok.ensures.fault studio (packets_among r.entries) written begun r.taken))
 
 pub returns-in-Err-clause-fault : goal.returns-in-Err-clause-fault
 returns-in-Err-clause-fault g c = λ studio first written begun left closing r.
-    stops_behind studio (plan_view c.args.plan.now) first written c.args.self.now _ (octets_of c.args.window.now) c.args.window.now.ended left (g.W.Write.contents c.args.writer.now) (g.L.ReplayObserver.heard begun c.args.listener.now) closing _ r
+    stops_behind studio (plan_view c.args.plan.now) first written c.args.self.now _ (octets_of c.args.window.now) c.args.window.now.ended left (g.W.Write.contents c.args.writer.now) (g.L.ReplayObserver.heard begun c.args.observer.now) closing _ r
     (λ file told. let behind = c.in-Err.ensures.fault file r.entries left told in behind.packets) (λ events replayed. replayed)

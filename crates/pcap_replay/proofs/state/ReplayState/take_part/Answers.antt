@@ -13,8 +13,8 @@ returns-in-Some-clause-ok g c =
     let plan = plan_view c.args.plan.now in
     let then = g.W.Write.contents c.take.new.writer in
     ok_both c.take.result _ _ _ (λ replayed clock studio packets written begun taken.
-    subst (λ o. HasTaken studio plan (packets ++ option_to_list (option_map packet_view o)) written c.take.new.self then (g.L.ReplayObserver.heard begun c.take.new.listener)) (sym c.in-Some.is)
-    (taken_more studio plan packets (packet_view c.in-Some.packet) written _ then _ (g.L.ReplayObserver.heard begun c.take.new.listener) c.args.self.now c.take.new.self taken clock (replayed studio (events_of studio plan packets) written begun taken.replayed)))
+    subst (λ o. HasTaken studio plan (packets ++ option_to_list (option_map packet_view o)) written c.take.new.self then (g.L.ReplayObserver.heard begun c.take.new.observer)) (sym c.in-Some.is)
+    (taken_more studio plan packets (packet_view c.in-Some.packet) written _ then _ (g.L.ReplayObserver.heard begun c.take.new.observer) c.args.self.now c.take.new.self taken clock (replayed studio (events_of studio plan packets) written begun taken.replayed)))
     c.take.ensures.ok c.take.ensures.clock
 
 pub returns-in-Some-clause-fault : goal.returns-in-Some-clause-fault
@@ -22,11 +22,11 @@ returns-in-Some-clause-fault g c =
     let plan = plan_view c.args.plan.now in
     let then = g.W.Write.contents c.take.new.writer in
     err_then c.take.result _ _ (λ fault stops studio packets written begun taken.
-    subst (λ o. Stops studio (events_of studio plan (packets ++ option_to_list (option_map packet_view o))) written c.take.new.self then (g.L.ReplayObserver.heard begun c.take.new.listener) fault) (sym c.in-Some.is)
-    (stops_more studio plan packets (packet_view c.in-Some.packet) written _ then _ (g.L.ReplayObserver.heard begun c.take.new.listener) c.args.self.now c.take.new.self fault taken (stops studio (events_of studio plan packets) written begun taken.replayed)))
+    subst (λ o. Stops studio (events_of studio plan (packets ++ option_to_list (option_map packet_view o))) written c.take.new.self then (g.L.ReplayObserver.heard begun c.take.new.observer) fault) (sym c.in-Some.is)
+    (stops_more studio plan packets (packet_view c.in-Some.packet) written _ then _ (g.L.ReplayObserver.heard begun c.take.new.observer) c.args.self.now c.take.new.self fault taken (stops studio (events_of studio plan packets) written begun taken.replayed)))
     c.take.ensures.fault
 
 pub returns-in-None-clause-ok : goal.returns-in-None-clause-ok
 returns-in-None-clause-ok g c = λ studio packets written begun taken.
-    subst (λ o. HasTaken studio (plan_view c.args.plan.now) (packets ++ option_to_list (option_map packet_view o)) written c.args.self.now (g.W.Write.contents c.args.writer.now) (g.L.ReplayObserver.heard begun c.args.listener.now)) (sym c.in-None.is)
+    subst (λ o. HasTaken studio (plan_view c.args.plan.now) (packets ++ option_to_list (option_map packet_view o)) written c.args.self.now (g.W.Write.contents c.args.writer.now) (g.L.ReplayObserver.heard begun c.args.observer.now)) (sym c.in-None.is)
     (taken_same studio (plan_view c.args.plan.now) packets written _ _ c.args.self.now taken)

@@ -23,9 +23,9 @@ returns-clause-ok g c = λ studio events written begun r.
       rested = c.in_ok-write_turn.ensures.rested studio events r.datagrams r.session fine;
       open_yet = open_turned (time_at studio.open_at events) (pos (c.args.from + c.args.reading)) events r.open_yet;
       wrote = wrote_more _ _ _ _ _ r.datagrams gives.more r.wrote gives.wrote;
-      told = subst (λ l. g.L.ReplayObserver.heard begun c.tell_reading.new.listener l (r.datagrams ++ gives.more))
+      told = subst (λ l. g.L.ReplayObserver.heard begun c.report_reading.new.observer l (r.datagrams ++ gives.more))
           (turned_alike (to_z w64 (of_z w64 c.time-time.result)) (to_z w64 (of_z w64 c.in-Some.now)) (time_at studio.open_at events) (pos (c.args.from + c.args.reading)) events (before ∙ (c.time-time.ensures.value ∙ r.session.time)) reading)
-          (c.tell_reading.ensures begun events (r.datagrams ++ gives.more) (gives.told events r.told));
+          (c.report_reading.ensures begun events (r.datagrams ++ gives.more) (gives.told events r.told));
     }
 
 pub returns-in_err-write_turn-clause-fault : goal.returns-in_err-write_turn-clause-fault

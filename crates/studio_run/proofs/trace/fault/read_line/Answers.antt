@@ -22,23 +22,23 @@ returns-in-Err-clause-fault c =
     let here = (goal.at.returns-in-Err-clause-fault c).In_ok-line in
     fails-said _ _ _ (first here) (whole here) c.in-Err.kind c.in-Err.ensures.said c.args.events
 
-pub returns-then-events-lt-MOST_EVENTS-clause-ok : goal.returns-then-events-lt-MOST_EVENTS-clause-ok
-returns-then-events-lt-MOST_EVENTS-clause-ok c =
-    let here = (goal.at.returns-then-events-lt-MOST_EVENTS-clause-ok c).In_ok-line in
+pub returns-then-events-lt-MAX_EVENTS-clause-ok : goal.returns-then-events-lt-MAX_EVENTS-clause-ok
+returns-then-events-lt-MAX_EVENTS-clause-ok c =
+    let here = (goal.at.returns-then-events-lt-MAX_EVENTS-clause-ok c).In_ok-line in
     let some : c.in-Ok-Some.field-0 ≡ Some c.in-Ok-Some.event = search rules in
     record {
       line = c.in_ok-line.line.now;
       whole = whole here;
       short = c.in_ok-line.ensures.short;
       last = subst (λ e. IfSome e (IsLast c.in_ok-line.line.now)) some c.in-Ok-Some.ensures.last;
-      reads = reads-event _ (first here) (said_in c.in-Ok-Some.event) (subst (λ e. line_said c.in_ok-line.line.now ≡ line_event_of (Ok e)) some c.in-Ok-Some.ensures.said) c.args.events (omega (arith, c.if-events-lt-MOST_EVENTS.true));
+      reads = reads-event _ (first here) (said_in c.in-Ok-Some.event) (subst (λ e. line_said c.in_ok-line.line.now ≡ line_event_of (Ok e)) some c.in-Ok-Some.ensures.said) c.args.events (omega (arith, c.if-events-lt-MAX_EVENTS.true));
     }
 
-pub returns-else-events-lt-MOST_EVENTS-clause-fault : goal.returns-else-events-lt-MOST_EVENTS-clause-fault
-returns-else-events-lt-MOST_EVENTS-clause-fault c =
-    let here = (goal.at.returns-else-events-lt-MOST_EVENTS-clause-fault c).In_ok-line in
+pub returns-else-events-lt-MAX_EVENTS-clause-fault : goal.returns-else-events-lt-MAX_EVENTS-clause-fault
+returns-else-events-lt-MAX_EVENTS-clause-fault c =
+    let here = (goal.at.returns-else-events-lt-MAX_EVENTS-clause-fault c).In_ok-line in
     let some : c.in-Ok-Some.field-0 ≡ Some c.in-Ok-Some.event = search rules in
-    fails-many _ _ _ (first here) (whole here) (said_in c.in-Ok-Some.event) (subst (λ e. line_said c.in_ok-line.line.now ≡ line_event_of (Ok e)) some c.in-Ok-Some.ensures.said) c.args.events (omega (arith, c.if-events-lt-MOST_EVENTS.false))
+    fails-many _ _ _ (first here) (whole here) (said_in c.in-Ok-Some.event) (subst (λ e. line_said c.in_ok-line.line.now ≡ line_event_of (Ok e)) some c.in-Ok-Some.ensures.said) c.args.events (omega (arith, c.if-events-lt-MAX_EVENTS.false))
 
 pub returns-in-Ok-None-clause-ok : goal.returns-in-Ok-None-clause-ok
 returns-in-Ok-None-clause-ok c =

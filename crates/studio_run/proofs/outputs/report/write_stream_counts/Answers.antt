@@ -4,7 +4,7 @@ use Rattle.rtp_stream.specs.Counts.{tally_of}
 use Rattle.studio_run.specs.Buffer.{BreaksOff, PassesOn}
 use Rattle.studio_run.specs.Report.{merge_line}
 use Rattle.studio_run.proofs.StudioCountsLemmas.{own_tallies, stream_after, stream_broken, stream_broken_early}
-use Rattle.studio_run.proofs.outputs.studio_counts.write_stream_counts.Goals as goal
+use Rattle.studio_run.proofs.outputs.report.write_stream_counts.Goals as goal
 
 pub returns-in_err-write_paths-clause-fault : goal.returns-in_err-write_paths-clause-fault
 returns-in_err-write_paths-clause-fault g c =

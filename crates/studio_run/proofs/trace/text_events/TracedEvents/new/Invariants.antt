@@ -2,7 +2,7 @@ use Rattle.std.proofs.Common.{◌≡◌, ◌-◌, length}
 use Rattle.std.specs.Prelude.{map, All}
 use Rattle.studio_run.specs.Places.{event_at, IsPlace}
 use Rattle.studio_run.specs.Reader.{HasRead}
-use Rattle.studio_run.proofs.trace.traced_events.TracedEvents.new.Given as goal
+use Rattle.studio_run.proofs.trace.text_events.TracedEvents.new.Given as goal
 
 -- the events so far are those of the places
 abbrev pub invariant-loop-places : goal.invariant-loop-places

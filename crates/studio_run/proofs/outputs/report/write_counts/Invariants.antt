@@ -5,7 +5,7 @@ use Rattle.studio_session.specs.Play.{IsRunnableBy}
 use Rattle.studio_session.specs.Report.{ArePulled}
 use Rattle.studio_run.specs.Buffer.{PassesOn}
 use Rattle.studio_run.specs.Listing.{stream_counts_text, texts_from}
-use Rattle.studio_run.proofs.outputs.studio_counts.write_counts.Given as goal
+use Rattle.studio_run.proofs.outputs.report.write_counts.Given as goal
 
 -- the lines of the streams so far were written, and the others are as they were
 abbrev pub invariant-loop-number : goal.invariant-loop-number

@@ -3,7 +3,7 @@ use Rattle.studio_session.specs.Event.{TraceEvent}
 use Rattle.studio_session.specs.Counts.{AreTallies}
 use Rattle.studio_run.specs.Buffer.{PassesOn}
 use Rattle.studio_run.specs.Listing.{paths_text}
-use Rattle.studio_run.proofs.outputs.studio_counts.write_paths.Given as goal
+use Rattle.studio_run.proofs.outputs.report.write_paths.Given as goal
 
 -- the lines of the paths so far were written
 abbrev pub invariant-loop-place : goal.invariant-loop-place

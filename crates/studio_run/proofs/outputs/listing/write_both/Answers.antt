@@ -7,7 +7,7 @@ use Rattle.studio_run.specs.Listing.{counts_text_of}
 use Rattle.studio_run.specs.declared.player.PlayFault.TheVariants.{Memory, Write}
 use Rattle.studio_run.proofs.BufferLemmas.{BreaksOff-finished, PassesOn-finished}
 use Rattle.studio_run.proofs.PlayLemmas.{told}
-use Rattle.studio_run.proofs.outputs.counted_listing.write_both.Goals as goal
+use Rattle.studio_run.proofs.outputs.listing.write_both.Goals as goal
 
 pub write_whole_listing-requires-clause-ready : goal.write_whole_listing-requires-clause-ready
 write_whole_listing-requires-clause-ready g c =

@@ -7,7 +7,7 @@ use Rattle.studio_run.specs.Listing.{stream_counts_text}
 use Rattle.studio_run.proofs.BufferLemmas.{PassesOn-none}
 use Rattle.studio_run.proofs.StudioCountsLemmas.{pulled_at}
 use Rattle.studio_run.proofs.StudioListingLemmas.{texts_after, texts_all, texts_broken}
-use Rattle.studio_run.proofs.outputs.studio_counts.write_counts.Goals as goal
+use Rattle.studio_run.proofs.outputs.report.write_counts.Goals as goal
 
 pub loop-number-init : goal.loop-number-init
 loop-number-init g c = record {

@@ -6,8 +6,8 @@ use Rattle.studio_run.specs.Places.{IsPlace, event_at, said_at}
 use Rattle.studio_run.specs.Reader.{HasRead}
 use Rattle.studio_run.specs.declared.trace.fault.TraceFaultKind.TheVariants.{Memory}
 use Rattle.studio_run.proofs.ReaderLemmas.{gives-some}
-use Rattle.studio_run.proofs.trace.traced_events.TracedEvents.new.Goals as goal
-use Rattle.studio_run.proofs.trace.traced_events.TracedEvents.new.Goals.{In-Some}
+use Rattle.studio_run.proofs.trace.text_events.TracedEvents.new.Goals as goal
+use Rattle.studio_run.proofs.trace.text_events.TracedEvents.new.Goals.{In-Some}
 
 -- the event of this place was read after those of the places before it
 has : (c : In-Some) → HasRead c.next.new.self (map (event_at c.args.text.now) c.loop-places.places.items ++ (event_at c.args.text.now c.in-Some.place ∷ []))

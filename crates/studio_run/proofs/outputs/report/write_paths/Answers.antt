@@ -6,7 +6,7 @@ use Rattle.studio_run.specs.Buffer.{BreaksOff, PassesOn}
 use Rattle.studio_run.specs.Listing.{paths_text}
 use Rattle.studio_run.specs.Report.{path_line}
 use Rattle.studio_run.proofs.StudioCountsLemmas.{paths_broken, paths_more}
-use Rattle.studio_run.proofs.outputs.studio_counts.write_paths.Goals as goal
+use Rattle.studio_run.proofs.outputs.report.write_paths.Goals as goal
 
 pub loop-place-preserved : goal.loop-place-preserved
 loop-place-preserved g c = λ events are.

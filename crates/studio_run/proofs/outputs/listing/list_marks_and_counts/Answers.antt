@@ -3,7 +3,7 @@ use Rattle.studio_run.specs.Play.{IsListing, StopsAt}
 use Rattle.studio_run.specs.Trace.{trace_events}
 use Rattle.studio_run.proofs.PlayLemmas.{fails_before, fails_read, fails_reading}
 use Rattle.studio_run.proofs.CountedListingLemmas.{fails_with_counts}
-use Rattle.studio_run.proofs.outputs.counted_listing.list_marks_and_counts.Goals as goal
+use Rattle.studio_run.proofs.outputs.listing.list_marks_and_counts.Goals as goal
 
 pub returns-in_err-trace-clause-fault : goal.returns-in_err-trace-clause-fault
 returns-in_err-trace-clause-fault g c =

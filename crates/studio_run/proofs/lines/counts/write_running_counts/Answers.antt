@@ -2,7 +2,7 @@ use Rattle.std.proofs.Common.{◌≡◌, ◌++◌, [], Err, rules}
 use Rattle.rtp_stream.specs.Counts.{tally_of}
 use Rattle.studio_run.specs.LiveReport.{running_line}
 use Rattle.studio_run.proofs.BufferLemmas.{PassesOn-grown, BreaksOff-longer}
-use Rattle.studio_run.proofs.lines.running_counts.write_running_counts.Goals as goal
+use Rattle.studio_run.proofs.lines.counts.write_running_counts.Goals as goal
 
 pub returns-in_err-make_room-clause-fault : goal.returns-in_err-make_room-clause-fault
 returns-in_err-make_room-clause-fault g c =
