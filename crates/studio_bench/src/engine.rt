@@ -7,8 +7,8 @@ use std::fs;
 use std::io::Write;
 use studio_engine::Engine;
 use studio_run::{
-    StudioEvent, StudioSpec, TextBuffer, read_text, read_trace, write_datagram, write_merge_counts,
-    write_path_counts,
+    StudioEvent, StudioSpec, TextBuffer, read_octets, read_trace, write_datagram,
+    write_merge_counts, write_path_counts,
 };
 
 /// The greatest number of octets of an output's datagram.
@@ -34,7 +34,7 @@ pub fn play_trace(rt: &HostRuntime, words: &mut Args) -> anyhow::Result<()> {
 
 /// Returns the studio of the configuration at a path.
 fn studio_at(rt: &HostRuntime, path: &str) -> anyhow::Result<StudioSpec> {
-    let config = read_text(rt.alloc(), &mut fs::open(rt, path)?)?;
+    let config = read_octets(rt.alloc(), &mut fs::open(rt, path)?)?;
     studio_of(rt.alloc(), config.as_slice())
 }
 
@@ -49,7 +49,7 @@ fn studio_of(alloc: Global, octets: &[u8]) -> anyhow::Result<StudioSpec> {
 
 /// Returns the events of the trace on standard input.
 fn trace_of(rt: &HostRuntime) -> anyhow::Result<Vec<StudioEvent>> {
-    let trace = read_text(rt.alloc(), &mut rt.stdin())?;
+    let trace = read_octets(rt.alloc(), &mut rt.stdin())?;
     Ok(read_trace(rt.alloc(), trace.as_slice())?)
 }
 

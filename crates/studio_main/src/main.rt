@@ -22,7 +22,7 @@ use std::io::ErrorKind;
 use std::process::ExitCode;
 use std::rt::Env;
 use std::{env, fs};
-use studio_run::{ReadFault, read_text};
+use studio_run::{ReadFault, read_octets};
 use wav_file::{FileFault, SeekFile};
 
 /// The files of the host system.
@@ -47,7 +47,7 @@ impl Files for HostFiles<'_> {
         let Ok(mut file) = fs::open(self.rt, path) else {
             return Err(ReadFault::Device);
         };
-        read_text(alloc, &mut file)
+        read_octets(alloc, &mut file)
     }
 
     fn create(&self, path: &str) -> Result<SeekFile<fs::File>, FileFault> {

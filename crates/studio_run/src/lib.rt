@@ -6,7 +6,7 @@
 //!
 //! Their parts are exported for other commands:
 //!
-//! - `read_text` and `read_all` read the octets of a trace; `read_trace` returns its events.
+//! - `read_octets` and `read_all` read the octets of a trace; `read_trace` returns its events.
 //! - `TracedEvents` and `runnable_events` return the events of a text by index.
 //! - `write_mark`, `write_datagram` and the like write one line each to a `TextBuffer`, whose
 //!   `finish` writes what it still holds.
@@ -36,7 +36,7 @@ pub use rtp_stream::{PathCounts, StreamCounts};
 pub use studio_config::{Ports, SpecError, StudioSpec};
 pub use studio_mix::Mixer;
 pub use studio_session::{Report, StudioEvent, StudioFault, run_studio};
-pub use text_io::{ReadFault, WriteFault, read_text, write_text};
+pub use text_io::{ReadFault, WriteFault, read_octets, write_text};
 pub use trace::events::read_trace;
 pub use trace::fault::{TraceFault, TraceFaultKind};
 pub use trace::text_events::TracedEvents;

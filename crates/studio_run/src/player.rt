@@ -23,7 +23,7 @@ ghost use Rattle.studio_run.specs.declared.player.PlayFault.TheVariants as fault
 use crate::buffer::TextBuffer;
 use crate::outputs::listing::write_whole_listing;
 use crate::outputs::report::write_whole_report;
-use crate::text_io::{ReadFault, WriteFault, read_text};
+use crate::text_io::{ReadFault, WriteFault, read_octets};
 use crate::trace::fault::{TraceFault, TraceFaultKind};
 use crate::trace::text_events::TracedEvents;
 use std::alloc::{AllocError, Global};
@@ -131,7 +131,7 @@ pub fn read_all<R: Read>(alloc: Global, reader: &mut R) -> Result<Vec<u8>, PlayF
     ensures end { OnOk result (IsAtEnd (R.remaining reader.new)) }
     ensures fault { IfErr result (StopsReading (R.remaining reader.old) (R.remaining reader.new)) }
 {
-    match read_text(alloc, reader) {
+    match read_octets(alloc, reader) {
         Ok(trace) => Ok(trace),
         Err(ReadFault::Device) => Err(PlayFault::Read),
         Err(ReadFault::Memory) => Err(PlayFault::Memory),

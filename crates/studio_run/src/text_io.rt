@@ -35,7 +35,7 @@ pub enum ReadFault {
 pub struct WriteFault;
 
 /// Reads to the end of the input, or to the first octet for which a trace has no room.
-pub fn read_text<R: Read>(alloc: Global, reader: &mut R) -> Result<Vec<u8>, ReadFault>
+pub fn read_octets<R: Read>(alloc: Global, reader: &mut R) -> Result<Vec<u8>, ReadFault>
     ensures ok { IfOk result (λ text. Consumes (R.remaining reader.old) (R.remaining reader.new) text.items) }
     ensures end { OnOk result (IsAtEnd (R.remaining reader.new)) }
     ensures fits { IfOk result (λ text. length text.items ≤ MAX_TRACE_OCTETS) }

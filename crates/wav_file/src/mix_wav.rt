@@ -22,7 +22,8 @@ use studio_run::{TextBuffer, read_all, runnable_events, write_counts, write_data
 use studio_session::{EventSource, MOST_OUTPUT_OCTETS, Session};
 
 /// Reads a trace to its end, and writes its report as `play` does and the samples of its datagrams to a file, which it
-/// returns. The file is created last, when only a write can still fail. Returns the error of the trace, the report or the file.
+/// returns. The file is created last, when only a write can still fail. Returns the error of the trace, the report or
+/// the file.
 pub fn play_to_wav<R: Read, W: Write, M: CreateFile>(
     alloc: Global,
     spec: &StudioSpec,

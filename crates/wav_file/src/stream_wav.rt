@@ -26,8 +26,8 @@ use studio_session::{Cursor, EventSource, MOST_ARRIVAL_OCTETS, studio_cursors};
 const MAX_CHANNELS: u8 = 8;
 
 /// Reads a trace to its end, writes the samples of the stream `number` to a file, which it returns, and then the
-/// listing of all marks as `list_marks` does. The file is created last, when only a write can still fail. Returns the error of the
-/// stream, the trace, the listing or the file.
+/// listing of all marks as `list_marks` does. The file is created last, when only a write can still fail. Returns the
+/// error of the stream, the trace, the listing or the file.
 pub fn list_to_wav<R: Read, W: Write, M: CreateFile>(
     alloc: Global,
     spec: &StudioSpec,

@@ -77,7 +77,7 @@ pub(crate) fn read_closing(
 }
 
 /// Returns the number below 2^63 that a text spells.
-pub(crate) fn number_in(text: &[u8]) -> Option<u64>
+fn number_in(text: &[u8]) -> Option<u64>
     ensures { result ≡ spec.number_in text.now }
 {
     decimal_number(text)
@@ -89,7 +89,8 @@ fn decimal_number(text: &[u8]) -> Option<u64>
     ensures small { IfSome result (λ n. n < 2 ^ 63) }
     ensures found { (n : ℕ) → n < 2 ^ 63 → text.now ≡ decimal n → result ≡ Some n }
 {
-    // `parse` accepts a plus sign and leading zeros, so these are refused first.
+    // `parse` accepts a plus sign and leading zeros, so these are refused first. `studio_run` reads the numbers of a
+    // trace by the same rule; no crate below both is about texts.
     if !begins_plainly(text) {
         return None;
     }

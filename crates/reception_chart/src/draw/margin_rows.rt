@@ -1,6 +1,6 @@
 //! The rows of arrival margins: the time from the arrival of each path's copies to their deadlines.
 use crate::draw::bars::{LEFT, PLOT_WIDTH, height_of, push_bars};
-use crate::draw::{fmt_result, push_text};
+use crate::draw::{fmt_result, millis, push_text};
 use crate::reception::margins::{MARGIN_BINS, Margins, PathMargins};
 use path_merge::Path;
 use std::alloc::AllocError;
@@ -86,11 +86,4 @@ fn push_scale(svg: &mut Vec<u8>, y: u32, margins: &Margins) -> Result<(), AllocE
         LEFT + PLOT_WIDTH,
         y.saturating_add(10)
     ))
-}
-
-/// Returns sampling instants at 48 kHz in milliseconds, and the thousandths of a millisecond behind these.
-pub(crate) fn millis(instants: u64) -> (u64, u64) {
-    // A sampling instant is 125/6 microseconds.
-    let micros = instants.saturating_mul(125) / 6;
-    (micros / 1000, micros % 1000)
 }

@@ -1,6 +1,6 @@
 //! The ticks below a strip, with their times in seconds.
 use crate::draw::bars::{LEFT, PLOT_WIDTH};
-use crate::draw::fmt_result;
+use crate::draw::{fmt_result, micros};
 use crate::reception::axis::Axis;
 use std::alloc::AllocError;
 use std::io::Write;
@@ -13,8 +13,7 @@ pub(crate) const TICKS_HEIGHT: u32 = 22;
 
 /// Appends a tick at each round time from the beginning of the axis on, with this time in seconds.
 pub(crate) fn push_ticks(svg: &mut Vec<u8>, top: u32, axis: &Axis) -> Result<(), AllocError> {
-    // A sampling instant at 48 kHz is 125/6 microseconds.
-    let micros = axis.length().saturating_mul(125) / 6;
+    let micros = micros(axis.length());
     let step = step_of(micros);
     for number in 0..MAX_TICKS + 1 {
         let time = number.saturating_mul(step);

@@ -1,6 +1,6 @@
 use Rattle.std.proofs.Common.{◌≡◌, ℕ, List, take, ◌++◌, rules, Option, Some, None, arith, ap, sym, ◌∙◌, append_assoc, length-append}
 use Rattle.std.specs.Io.KnownBytes.{Consumes}
-use Rattle.studio_run.proofs.text_io.read_text.Goals as goal
+use Rattle.studio_run.proofs.text_io.read_octets.Goals as goal
 
 -- one run of octets after another
 consumes_both : (a b c : Option (List ℕ)) (xs ys : List ℕ) → Consumes a b xs → Consumes b c ys → Consumes a c (xs ++ ys)
