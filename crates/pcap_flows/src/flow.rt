@@ -63,7 +63,7 @@ impl Flow {
         &self.numbers
     }
 
-    /// Returns the number of sequence numbers from the least to the greatest that are missing in the capture (RFC 3550, A.3).
+    /// Returns the number of missing sequence numbers from the least to the greatest (RFC 3550, A.3).
     pub(crate) fn lost(&self) -> u64
         ensures { result ≡ lost_of (flow_view self.now) }
     {

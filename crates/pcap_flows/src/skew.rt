@@ -166,7 +166,8 @@ fn take_skews(times: &mut Vec<PairTimes>, skews: &mut Vec<Option<Skew>>) -> Resu
     Ok(())
 }
 
-/// Sets the time of a packet on a path. Returns the skew of its packet if the other path already has it and this path didn't.
+/// Sets the time of a packet on a path. Returns its skew if the other path already has it, and this path didn't have it
+/// before.
 fn set_time(times: &mut Times, number: u64, on_first: bool, time: u64) -> Option<i64> {
     if times.number != number {
         *times = Times {

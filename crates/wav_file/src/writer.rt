@@ -103,8 +103,8 @@ impl WavWriter {
         Ok(())
     }
 
-    /// Writes the sizes of the data to the header, and an octet more behind data of an odd length. Returns an error if a
-    /// write fails.
+    /// Writes the sizes of the data to the header, and an octet more behind data of an odd length. Returns an error if
+    /// a write fails.
     pub fn finish<W: Overwrite>(self, writer: &mut W) -> Result<(), WavFault>
         ensures { OnOk result ((octets : List ℕ) → IsBegun (W.Write.contents writer.old) self octets []
             → Becomes (W.Write.contents writer.old) (W.Write.contents writer.new) (wav_octets self.format octets)) }
@@ -113,8 +113,8 @@ impl WavWriter {
         self.finish_partial(writer)
     }
 
-    /// Writes the sizes of the whole payloads to the header, after a failed call. A part of a payload may be behind them.
-    /// Returns an error if the write fails.
+    /// Writes the sizes of the whole payloads to the header, after a failed call. A part of a payload may be behind
+    /// them. Returns an error if the write fails.
     pub fn finish_partial<W: Overwrite>(self, writer: &mut W) -> Result<(), WavFault>
         ensures { OnOk result ((octets rest : List ℕ) → IsBegun (W.Write.contents writer.old) self octets rest
             → Becomes (W.Write.contents writer.old) (W.Write.contents writer.new)

@@ -60,7 +60,8 @@ impl Bins {
     pub(crate) fn count(&self, bin: usize, row: usize) -> u64
         requires bin { bin < self.now.axis.bins }
         requires row { row < 9 }
-        ensures { (events : List BinEvent) → HasCounted self.now events → result ≡ count_in self.now.axis events bin row }
+        ensures { (events : List BinEvent) → HasCounted self.now events
+            → result ≡ count_in self.now.axis events bin row }
     {
         self.counts[ROWS * bin + row]
     }
