@@ -1,5 +1,7 @@
 -- The numbers of a snapshot, by the fields that name them.
 use Rattle.std.specs.Prelude.{ℕ, List, Option, Some, codes, option_map}
+use Rattle.rtp_stream.specs.CountField.{count_help, count_key, count_value}
+use Rattle.rtp_stream.specs.Counts.{tally_of}
 use Rattle.status_page.specs.declared.snapshot.PathState.{PathState}
 use Rattle.status_page.specs.declared.snapshot.StreamState.{StreamState}
 use Rattle.status_page.specs.declared.snapshot.OutputState.{OutputState}
@@ -62,47 +64,17 @@ path_help Path.SpareMedian = codes "The median time before their deadlines that 
 
 -- how a number of a stream is called
 abbrev pub stream_key : StreamField → List ℕ
-stream_key Stream.Got = codes "got"
-stream_key Stream.Lost = codes "lost"
-stream_key Stream.Arrived = codes "arrived"
-stream_key Stream.Taken = codes "taken"
-stream_key Stream.Double = codes "double"
-stream_key Stream.Unlike = codes "unlike"
-stream_key Stream.OffGrid = codes "off_grid"
-stream_key Stream.Late = codes "late"
-stream_key Stream.Ahead = codes "ahead"
-stream_key Stream.WrongSource = codes "wrong_source"
-stream_key Stream.Restarts = codes "restarts"
+stream_key (Stream.Count count) = count_key count
 stream_key Stream.Latency = codes "latency"
 
 -- whether it only rises
 abbrev pub stream_kind : StreamField → MetricKind
-stream_kind Stream.Got = Counter
-stream_kind Stream.Lost = Counter
-stream_kind Stream.Arrived = Counter
-stream_kind Stream.Taken = Counter
-stream_kind Stream.Double = Counter
-stream_kind Stream.Unlike = Counter
-stream_kind Stream.OffGrid = Counter
-stream_kind Stream.Late = Counter
-stream_kind Stream.Ahead = Counter
-stream_kind Stream.WrongSource = Counter
-stream_kind Stream.Restarts = Counter
+stream_kind (Stream.Count count) = Counter
 stream_kind Stream.Latency = Gauge
 
 -- what it counts
 abbrev pub stream_help : StreamField → List ℕ
-stream_help Stream.Got = codes "Slots that were handed on with a payload."
-stream_help Stream.Lost = codes "Slots that were handed on as lost."
-stream_help Stream.Arrived = codes "Packets that came to the merge."
-stream_help Stream.Taken = codes "Packets that were the first copy of their number."
-stream_help Stream.Double = codes "Further copies, with the payload of the first."
-stream_help Stream.Unlike = codes "Further copies, with another payload than the first."
-stream_help Stream.OffGrid = codes "Packets whose timestamp was not in step with their number."
-stream_help Stream.Late = codes "Packets that came after their deadline."
-stream_help Stream.Ahead = codes "Packets beyond the reorder window."
-stream_help Stream.WrongSource = codes "Packets of another synchronization source."
-stream_help Stream.Restarts = codes "Packets that opened a new epoch."
+stream_help (Stream.Count count) = count_help count
 stream_help Stream.Latency = codes "From a packet's media time to its deadline, in periods of 48 kHz."
 
 -- how a number of an output channel is called
@@ -138,17 +110,7 @@ path_value Path.SpareMedian path = option_map (λ spare. spare.median) path.spar
 
 -- a number of a stream
 abbrev pub stream_value : StreamField → StreamState → ℕ
-stream_value Stream.Got stream = stream.counts.got
-stream_value Stream.Lost stream = stream.counts.lost
-stream_value Stream.Arrived stream = stream.counts.arrived
-stream_value Stream.Taken stream = stream.counts.taken
-stream_value Stream.Double stream = stream.counts.double
-stream_value Stream.Unlike stream = stream.counts.unlike
-stream_value Stream.OffGrid stream = stream.counts.off_grid
-stream_value Stream.Late stream = stream.counts.late
-stream_value Stream.Ahead stream = stream.counts.ahead
-stream_value Stream.WrongSource stream = stream.counts.wrong_source
-stream_value Stream.Restarts stream = stream.counts.restarts
+stream_value (Stream.Count count) stream = count_value count (tally_of stream.counts)
 stream_value Stream.Latency stream = stream.latency
 
 -- a number of an output channel

@@ -14,7 +14,9 @@ use Rattle.status_page.specs.declared.fields.path.PathField.{PathField}
 use Rattle.status_page.specs.declared.fields.stream.StreamField.{StreamField}
 use Rattle.status_page.specs.declared.fields.output.OutputField.{OutputField}
 use Rattle.status_page.specs.declared.fields.path.TheConstants.{PATH_FIELDS}
-use Rattle.status_page.specs.declared.fields.stream.TheConstants.{STREAM_FIELDS}
+use Rattle.status_page.specs.declared.fields.stream.StreamField.TheVariants.{Count, Latency}
+use Rattle.rtp_stream.specs.declared.count_field.CountField.{CountField}
+use Rattle.rtp_stream.specs.declared.count_field.TheConstants.{COUNT_FIELDS}
 use Rattle.status_page.specs.declared.fields.output.TheConstants.{OUTPUT_FIELDS}
 use Rattle.status_page.specs.declared.condition.TheConstants.{CONDITIONS}
 use Rattle.status_page.specs.Fields.{path_key, path_kind, path_help, path_value, stream_key, stream_kind, stream_help, stream_value, output_key, output_kind, output_help, output_value}
@@ -159,10 +161,14 @@ unfoldable pub output_samples : OutputField → ℕ → List OutputState → Lis
 output_samples field number [] = []
 output_samples field number (output ∷ outputs) = output_sample field number output ++ output_samples field (suc number) outputs
 
--- the metrics of the streams
-unfoldable pub stream_families : List StreamField → List StreamState → List ℕ
-stream_families [] streams = []
-stream_families (field ∷ fields) streams = stream_header field ++ stream_samples field 0 streams ++ stream_families fields streams
+-- the metric of one number of the streams
+abbrev pub stream_family : StreamField → List StreamState → List ℕ
+stream_family field streams = stream_header field ++ stream_samples field 0 streams
+
+-- the metrics of the streams: these counts, and the latency
+unfoldable pub stream_families : List CountField → List StreamState → List ℕ
+stream_families [] streams = stream_family Latency streams
+stream_families (count ∷ counts) streams = stream_family (Count count) streams ++ stream_families counts streams
 
 -- the metrics of the paths
 unfoldable pub path_families : List PathField → List StreamState → List ℕ
@@ -178,6 +184,6 @@ output_families (field ∷ fields) outputs = output_header field ++ output_sampl
 unfoldable pub metrics_text : Snapshot → List ℕ
 metrics_text snapshot =
     state_header ++ all_condition_samples CONDITIONS 0 snapshot.streams.items
-    ++ stream_families STREAM_FIELDS snapshot.streams.items
+    ++ stream_families COUNT_FIELDS snapshot.streams.items
     ++ path_families PATH_FIELDS snapshot.streams.items
     ++ output_families OUTPUT_FIELDS snapshot.outputs.items

@@ -11,7 +11,9 @@ use Rattle.status_page.specs.declared.fields.path.PathField.{PathField}
 use Rattle.status_page.specs.declared.fields.stream.StreamField.{StreamField}
 use Rattle.status_page.specs.declared.fields.output.OutputField.{OutputField}
 use Rattle.status_page.specs.declared.fields.path.TheConstants.{PATH_FIELDS}
-use Rattle.status_page.specs.declared.fields.stream.TheConstants.{STREAM_FIELDS}
+use Rattle.status_page.specs.declared.fields.stream.StreamField.TheVariants.{Count, Latency}
+use Rattle.rtp_stream.specs.declared.count_field.CountField.{CountField}
+use Rattle.rtp_stream.specs.declared.count_field.TheConstants.{COUNT_FIELDS}
 use Rattle.status_page.specs.declared.fields.output.TheConstants.{OUTPUT_FIELDS}
 use Rattle.status_page.specs.Fields.{path_key, path_value, stream_key, stream_value, output_key, output_value}
 use Rattle.status_page.specs.Metrics.{condition_text}
@@ -35,12 +37,16 @@ unfoldable pub path_members : List PathField → PathState → List Token
 path_members [] path = []
 path_members (field ∷ fields) path = key (path_key field) ∷ known_token (path_value field path) ∷ path_members fields path
 
--- those of a stream
-unfoldable pub stream_members : List StreamField → StreamState → List Token
-stream_members [] stream = []
-stream_members (field ∷ fields) stream = key (stream_key field) ∷ number_token (stream_value field stream) ∷ stream_members fields stream
+-- a number of a stream, behind its key
+abbrev pub stream_member : StreamField → StreamState → List Token
+stream_member field stream = key (stream_key field) ∷ number_token (stream_value field stream) ∷ []
 
--- those of an output channel
+-- the numbers of a stream: these counts, and the latency
+unfoldable pub stream_members : List CountField → StreamState → List Token
+stream_members [] stream = stream_member Latency stream
+stream_members (count ∷ counts) stream = stream_member (Count count) stream ++ stream_members counts stream
+
+-- the numbers of an output channel, each behind its key
 unfoldable pub output_members : List OutputField → OutputState → List Token
 output_members [] output = []
 output_members (field ∷ fields) output = key (output_key field) ∷ number_token (output_value field output) ∷ output_members fields output
@@ -66,7 +72,7 @@ array_tokens name items = key name ∷ begin_array ∷ (items ++ end_array ∷ [
 -- a stream
 abbrev pub stream_tokens : StreamState → List Token
 stream_tokens stream =
-    front_tokens stream ++ stream_members STREAM_FIELDS stream
+    front_tokens stream ++ stream_members COUNT_FIELDS stream
     ++ array_tokens (codes "paths") (paths_tokens stream.paths.items) ++ end_object ∷ []
 
 -- the streams

@@ -29,7 +29,7 @@ pub use connection::new_connection;
 pub use fields::MetricKind;
 pub use fields::output::{OUTPUT_FIELDS, OutputField};
 pub use fields::path::{PATH_FIELDS, PathField};
-pub use fields::stream::{STREAM_FIELDS, StreamField};
+pub use fields::stream::StreamField;
 pub use page::Page;
 pub use page::html::HTML;
 pub use page::metrics::metrics_text;

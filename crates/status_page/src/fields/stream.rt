@@ -1,42 +1,18 @@
 //! The numbers of a stream.
+ghost use Rattle.rtp_stream.specs.Counts.{tally_of};
 ghost use Rattle.std.specs.Prelude.{◌≡◌};
 ghost use Rattle.status_page.specs.Fields.{stream_help, stream_key, stream_kind, stream_value};
 
 use crate::fields::MetricKind;
 use crate::snapshot::StreamState;
+use rtp_stream::CountField;
 
-/// A number of a stream. `help` describes each.
+/// A number of a stream. `help` describes each. The counts are shown first, in the order of `COUNT_FIELDS`.
 #[derive(Clone, Copy, Debug, PartialEq, Eq)]
 pub enum StreamField {
-    Got,
-    Lost,
-    Arrived,
-    Taken,
-    Double,
-    Unlike,
-    OffGrid,
-    Late,
-    Ahead,
-    WrongSource,
-    Restarts,
+    Count(CountField),
     Latency,
 }
-
-/// The numbers of a stream, in the order in which they are shown.
-pub const STREAM_FIELDS: [StreamField; 12] = [
-    StreamField::Got,
-    StreamField::Lost,
-    StreamField::Arrived,
-    StreamField::Taken,
-    StreamField::Double,
-    StreamField::Unlike,
-    StreamField::OffGrid,
-    StreamField::Late,
-    StreamField::Ahead,
-    StreamField::WrongSource,
-    StreamField::Restarts,
-    StreamField::Latency,
-];
 
 impl StreamField {
     /// Returns the number's name in `/state` and `/metrics`.
@@ -44,17 +20,7 @@ impl StreamField {
         ensures { result.now ≡ stream_key self }
     {
         match self {
-            StreamField::Got => "got",
-            StreamField::Lost => "lost",
-            StreamField::Arrived => "arrived",
-            StreamField::Taken => "taken",
-            StreamField::Double => "double",
-            StreamField::Unlike => "unlike",
-            StreamField::OffGrid => "off_grid",
-            StreamField::Late => "late",
-            StreamField::Ahead => "ahead",
-            StreamField::WrongSource => "wrong_source",
-            StreamField::Restarts => "restarts",
+            StreamField::Count(count) => count.key(),
             StreamField::Latency => "latency",
         }
     }
@@ -64,8 +30,8 @@ impl StreamField {
         ensures { result ≡ stream_kind self }
     {
         match self {
+            StreamField::Count(_) => MetricKind::Counter,
             StreamField::Latency => MetricKind::Gauge,
-            _ => MetricKind::Counter,
         }
     }
 
@@ -74,17 +40,7 @@ impl StreamField {
         ensures { result.now ≡ stream_help self }
     {
         match self {
-            StreamField::Got => "Slots that were handed on with a payload.",
-            StreamField::Lost => "Slots that were handed on as lost.",
-            StreamField::Arrived => "Packets that came to the merge.",
-            StreamField::Taken => "Packets that were the first copy of their number.",
-            StreamField::Double => "Further copies, with the payload of the first.",
-            StreamField::Unlike => "Further copies, with another payload than the first.",
-            StreamField::OffGrid => "Packets whose timestamp was not in step with their number.",
-            StreamField::Late => "Packets that came after their deadline.",
-            StreamField::Ahead => "Packets beyond the reorder window.",
-            StreamField::WrongSource => "Packets of another synchronization source.",
-            StreamField::Restarts => "Packets that opened a new epoch.",
+            StreamField::Count(count) => count.help(),
             StreamField::Latency =>
                 "From a packet's media time to its deadline, in periods of 48 kHz.",
         }
@@ -95,17 +51,7 @@ impl StreamField {
         ensures { result ≡ stream_value self stream.now }
     {
         match self {
-            StreamField::Got => stream.counts.got,
-            StreamField::Lost => stream.counts.lost,
-            StreamField::Arrived => stream.counts.arrived,
-            StreamField::Taken => stream.counts.taken,
-            StreamField::Double => stream.counts.double,
-            StreamField::Unlike => stream.counts.unlike,
-            StreamField::OffGrid => stream.counts.off_grid,
-            StreamField::Late => stream.counts.late,
-            StreamField::Ahead => stream.counts.ahead,
-            StreamField::WrongSource => stream.counts.wrong_source,
-            StreamField::Restarts => stream.counts.restarts,
+            StreamField::Count(count) => count.of(&stream.counts),
             StreamField::Latency => stream.latency,
         }
     }

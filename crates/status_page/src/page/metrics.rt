@@ -7,6 +7,7 @@ ghost use Rattle.status_page.specs.Metrics.{
   condition_samples,
   all_condition_samples,
   output_samples,
+  stream_family,
   stream_families,
   path_families,
   output_families,
@@ -18,12 +19,13 @@ use crate::condition::CONDITIONS;
 use crate::fields::MetricKind;
 use crate::fields::output::{OUTPUT_FIELDS, OutputField};
 use crate::fields::path::{PATH_FIELDS, PathField};
-use crate::fields::stream::{STREAM_FIELDS, StreamField};
+use crate::fields::stream::StreamField;
 use crate::page::samples::{
     push_condition_sample, push_output_sample, push_path_sample, push_stream_sample,
 };
 use crate::page::text::push_header;
 use crate::snapshot::{Condition, OutputState, PathState, Snapshot, StreamState};
+use rtp_stream::{COUNT_FIELDS, CountField};
 use std::alloc::{AllocError, Global};
 
 /// Returns a snapshot in the text form of Prometheus, version 0.0.4, or `AllocError` if an allocation fails.
@@ -34,7 +36,7 @@ pub fn metrics_text(alloc: Global, snapshot: &Snapshot) -> Result<Vec<u8>, Alloc
     let mut text = Vec::new(alloc);
     let streams = snapshot.streams.as_slice();
     push_conditions(&mut text, &CONDITIONS, streams)?;
-    push_stream_families(&mut text, &STREAM_FIELDS, streams)?;
+    push_stream_families(&mut text, &COUNT_FIELDS, streams)?;
     push_path_families(&mut text, &PATH_FIELDS, streams)?;
     push_output_families(&mut text, &OUTPUT_FIELDS, snapshot.outputs.as_slice())?;
     Ok(text)
@@ -88,20 +90,31 @@ fn push_condition_samples(
     Ok(())
 }
 
-/// Appends the metrics of the streams.
+/// Appends the metrics of the streams: these counts, and the latency.
 #[tactic(auto, unfolding(crate::specs::Metrics::stream_families))]
 fn push_stream_families(
     text: &mut Vec<u8>,
-    fields: &[StreamField],
+    counts: &[CountField],
     streams: &[StreamState],
 ) -> Result<(), AllocError>
-    ensures { OnOk result (text.new.items ≡ text.old.items ++ stream_families fields.now streams.now) }
+    ensures { OnOk result (text.new.items ≡ text.old.items ++ stream_families counts.now streams.now) }
 {
-    for field in fields {
-        push_header(text, "stream_", field.key(), field.kind(), field.help())?;
-        push_stream_samples(text, *field, streams)?;
+    for count in counts {
+        push_stream_family(text, StreamField::Count(*count), streams)?;
     }
-    Ok(())
+    push_stream_family(text, StreamField::Latency, streams)
+}
+
+/// Appends the metric of one number of the streams.
+fn push_stream_family(
+    text: &mut Vec<u8>,
+    field: StreamField,
+    streams: &[StreamState],
+) -> Result<(), AllocError>
+    ensures { OnOk result (text.new.items ≡ text.old.items ++ stream_family field streams.now) }
+{
+    push_header(text, "stream_", field.key(), field.kind(), field.help())?;
+    push_stream_samples(text, field, streams)
 }
 
 /// Appends the lines with one number of each stream.

@@ -7,6 +7,7 @@ ghost use Rattle.status_page.specs.State.{
   known_token,
   name_token,
   path_members,
+  stream_member,
   stream_members,
   output_members,
   path_tokens,
@@ -21,9 +22,10 @@ ghost use Rattle.status_page.specs.State.{
 
 use crate::fields::output::{OUTPUT_FIELDS, OutputField};
 use crate::fields::path::{PATH_FIELDS, PathField};
-use crate::fields::stream::{STREAM_FIELDS, StreamField};
+use crate::fields::stream::StreamField;
 use crate::snapshot::{OutputState, PathState, Snapshot, StreamName, StreamState};
 use json::Writer;
+use rtp_stream::{COUNT_FIELDS, CountField};
 use std::alloc::{AllocError, Global};
 
 /// Returns a snapshot as JSON (RFC 8259), or `AllocError` if an allocation fails.
@@ -70,7 +72,7 @@ fn write_stream(writer: &mut Writer, stream: &StreamState) -> Result<(), AllocEr
     ensures before { OnOk result (writer.new.before ≡ writer.old.before) }
 {
     write_front(writer, stream)?;
-    write_stream_members(writer, &STREAM_FIELDS, stream)?;
+    write_stream_members(writer, &COUNT_FIELDS, stream)?;
     write_paths(writer, stream.paths.as_slice())?;
     writer.end_object()
 }
@@ -98,21 +100,33 @@ fn write_name(writer: &mut Writer, name: &Option<StreamName>) -> Result<(), Allo
     }
 }
 
-/// Writes the numbers of a stream.
+/// Writes the numbers of a stream: these counts, and the latency.
 #[tactic(auto, unfolding(crate::specs::State::stream_members))]
 fn write_stream_members(
     writer: &mut Writer,
-    fields: &[StreamField],
+    counts: &[CountField],
     stream: &StreamState,
 ) -> Result<(), AllocError>
-    ensures tokens { OnOk result (writer.new.tokens ≡ writer.old.tokens ++ stream_members fields.now stream.now) }
+    ensures tokens { OnOk result (writer.new.tokens ≡ writer.old.tokens ++ stream_members counts.now stream.now) }
     ensures before { OnOk result (writer.new.before ≡ writer.old.before) }
 {
-    for field in fields {
-        writer.key(field.key())?;
-        writer.u64(field.value(stream))?;
+    for count in counts {
+        write_stream_member(writer, StreamField::Count(*count), stream)?;
     }
-    Ok(())
+    write_stream_member(writer, StreamField::Latency, stream)
+}
+
+/// Writes a number of a stream.
+fn write_stream_member(
+    writer: &mut Writer,
+    field: StreamField,
+    stream: &StreamState,
+) -> Result<(), AllocError>
+    ensures tokens { OnOk result (writer.new.tokens ≡ writer.old.tokens ++ stream_member field stream.now) }
+    ensures before { OnOk result (writer.new.before ≡ writer.old.before) }
+{
+    writer.key(field.key())?;
+    writer.u64(field.value(stream))
 }
 
 /// Writes the member with the paths of a stream.
