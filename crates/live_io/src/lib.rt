@@ -6,8 +6,8 @@
 //!    that systemd passed in.
 //! 2. `tai_now` returns the present International Atomic Time, at which a studio can be opened.
 //!    `RunPeriod` has the clock of the run, and decides when the feeds end.
-//! 3. `open_sockets` binds a socket for each path and two for the output, except those that are
-//!    inherited. `udp_feeds` makes a `Feed` of each receiving socket. `UdpSink` is the `Sink` of the
+//! 3. `open_sockets` binds a socket for each path and two for the output, by a `SocketConfig`, except
+//!    those that are inherited. `udp_feeds` makes a `Feed` of each receiving socket. `UdpSink` is the `Sink` of the
 //!    two sending sockets.
 //! 4. A `RecordChannel` has two ends of a ring. The thread of the run passes each datagram to its
 //!    `RecordObserver`, which pushes whole blocks and never waits. `write_record`, in another thread,
@@ -20,9 +20,9 @@ mod options;
 mod places;
 mod record;
 mod recorded;
-mod setup;
 mod sockets;
 mod start;
+mod stream_name;
 mod tai;
 mod way;
 
@@ -34,7 +34,6 @@ pub use record::RecordChannel;
 pub use record::observer::RecordObserver;
 pub use record::writer::{FileResult, RecordWriter, write_record};
 pub use recorded::RecordResult;
-pub use setup::{LiveInputs, StreamName};
 pub use sockets::addresses::{PathAddress, addresses_of};
 pub use sockets::feed::{FeedFlags, UdpFeed};
 pub use sockets::inherited::{InheritedSocketFault, InheritedSockets};
@@ -42,7 +41,8 @@ pub use sockets::ports::LivePorts;
 pub use sockets::receiver::Receiver;
 pub use sockets::sink::UdpSink;
 pub use sockets::unexpected::{ExpectedSource, UnexpectedSources};
-pub use sockets::{Sockets, open_sockets};
+pub use sockets::{SocketConfig, Sockets, open_sockets};
 pub use start::RunPeriod;
+pub use stream_name::StreamName;
 pub use tai::{TaiOffset, TaiTime, tai_now};
 pub use way::DatagramOrigin;

@@ -2,10 +2,12 @@
 //! and `receiver` and `sink` those that receive and send. `feed` makes a feed of a receiver; `unexpected` tests and
 //! counts the sources of datagrams.
 
-use crate::setup::LiveInputs;
 use crate::sockets::addresses::{PathAddress, addresses_of};
+use crate::sockets::inherited::InheritedSockets;
+use crate::sockets::ports::LivePorts;
 use crate::sockets::receiver::{Receiver, inherited_socket, receiving_socket};
 use crate::sockets::sink::UdpSink;
+use crate::sockets::unexpected::UnexpectedSources;
 use std::alloc::Global;
 use std::io;
 use std::io::ErrorKind;
@@ -19,6 +21,17 @@ pub(crate) mod ports;
 pub(crate) mod receiver;
 pub(crate) mod sink;
 pub(crate) mod unexpected;
+
+/// The configuration of a run's sockets.
+#[derive(Clone, Copy)]
+pub struct SocketConfig<'a> {
+    /// The ports of all paths and of the output.
+    pub ports: &'a LivePorts,
+    /// The inherited sockets.
+    pub inherited: &'a InheritedSockets,
+    /// The counts of datagrams from unexpected sources.
+    pub unexpected: &'a UnexpectedSources,
+}
 
 /// The sockets of a run.
 #[derive(Drop)]
@@ -35,12 +48,12 @@ pub fn open_sockets<'a, R: Net>(
     rt: &R,
     alloc: Global,
     studio: &StudioSpec,
-    setup: LiveInputs<'a>,
+    config: SocketConfig<'a>,
 ) -> io::Result<Sockets<'a>> {
-    let receiving = open_receivers(rt, alloc, studio, setup)?;
+    let receiving = open_receivers(rt, alloc, studio, config)?;
     let output = studio.networks().output;
-    let ports = setup.ports;
-    let sink = UdpSink::bind(rt, ports.to_a, ports.to_b, &output, setup.handed)?;
+    let ports = config.ports;
+    let sink = UdpSink::bind(rt, ports.to_a, ports.to_b, &output, config.inherited)?;
     Ok(Sockets { receiving, sink })
 }
 
@@ -50,7 +63,7 @@ pub fn open_sockets<'a, R: Net>(
 struct ReceiverPlan<'a> {
     addresses: Vec<PathAddress>,
     descriptors: Vec<Option<i32>>,
-    setup: LiveInputs<'a>,
+    config: SocketConfig<'a>,
 }
 
 /// Returns a socket for each path, ordered by stream and then by path.
@@ -58,14 +71,14 @@ fn open_receivers<'a, R: Net>(
     rt: &R,
     alloc: Global,
     studio: &StudioSpec,
-    setup: LiveInputs<'a>,
+    config: SocketConfig<'a>,
 ) -> io::Result<Vec<Receiver<'a>>> {
     let places = ReceiverPlan {
         addresses: addresses_of(alloc, studio)?,
-        descriptors: setup.handed.descriptors(alloc, studio.streams())?,
-        setup,
+        descriptors: config.inherited.descriptors(alloc, studio.streams())?,
+        config,
     };
-    let count = setup.ports.paths.len();
+    let count = config.ports.paths.len();
     let mut receivers = Vec::with_capacity(alloc, count)?;
     for place in 0..count {
         receivers.push(places.receiver(rt, place)?)?;
@@ -78,12 +91,12 @@ impl<'a> ReceiverPlan<'a> {
     fn receiver<R: Net>(&self, rt: &R, place: usize) -> io::Result<Receiver<'a>> {
         let (Some(address), Some(port)) = (
             self.addresses.get(place),
-            self.setup.ports.paths.get(place),
+            self.config.ports.paths.get(place),
         ) else {
             return Err(io::Error::from(ErrorKind::InvalidInput));
         };
         let socket = self.socket(rt, place, address, *port)?;
-        let source = self.setup.strangers.source(place, address.from);
+        let source = self.config.unexpected.source(place, address.from);
         Ok(Receiver::new(socket, source, SocketAddrV4::new(address.at, *port)))
     }
 
@@ -110,7 +123,7 @@ impl<'a> ReceiverPlan<'a> {
         if !own.at.is_multicast() {
             return false;
         }
-        for (other, other_port) in self.addresses.iter().zip(self.setup.ports.paths.iter()) {
+        for (other, other_port) in self.addresses.iter().zip(self.config.ports.paths.iter()) {
             if other.at == own.at && *other_port == port && is_other(other.from, from) {
                 return true;
             }
