@@ -4,7 +4,7 @@ use Rattle.std.proofs.lemmas.List.{append-nil}
 use Rattle.studio_run.specs.Buffer.{BreaksOff, PassesOn}
 use Rattle.studio_run.proofs.BufferLemmas.{BreaksOff-later, BreaksOff-longer, PassesOn-none, PassesOn-trans}
 
--- a front of the whole text was passed on, and this is left of it
+-- a prefix of the whole text was passed on, and this is left of it
 pub record IsWriting (whole : List ℕ) (a : Option (List ℕ)) (h : List ℕ) (b : Option (List ℕ)) (i : List ℕ) (left : List ℕ) : Type 0 where
   pub done : List ℕ
   pub wrote : PassesOn a h b i done

@@ -21,7 +21,7 @@ paths_text stream path (counts ∷ more) = path_line stream path (path_tally_of 
 abbrev pub stream_text : ℕ → StreamCounts → List ℕ
 stream_text stream counts = paths_text stream 0 (paths_in counts) ++ merge_line stream (length (paths_in counts)) (tally_of counts.merge)
 
--- those of streams, from this one on
+-- the lines of the counts of streams, from this one on
 abbrev pub streams_text : ℕ → List StreamCounts → List ℕ
 streams_text stream [] = []
 streams_text stream (counts ∷ more) = stream_text stream counts ++ streams_text (suc stream) more
@@ -31,7 +31,7 @@ abbrev pub own_feeds_text : ℕ → ℕ → List ℕ → List ℕ
 own_feeds_text stream path [] = []
 own_feeds_text stream path (faults ∷ more) = feed_line stream path faults ++ own_feeds_text stream (suc path) more
 
--- those of the feeds of streams, from this one on; their faults stand stream by stream and path by path
+-- the lines of the feeds of streams, from this one on; their faults are ordered by stream and then by path
 abbrev pub feeds_text : ℕ → List StreamCounts → List ℕ → List ℕ
 feeds_text stream [] faults = []
 feeds_text stream (counts ∷ more) faults =
@@ -41,7 +41,7 @@ feeds_text stream (counts ∷ more) faults =
 abbrev pub streams_in : WorkReport → List StreamCounts
 streams_in report = take 16 report.streams.items
 
--- the datagrams of a report, and how many of them each address took
+-- the number of datagrams of a report, and of those that each address took
 abbrev pub sink_text : WorkReport → List ℕ
 sink_text report =
     sink_line (record { blocks = report.blocks; sent_a = report.sent_a; sent_b = report.sent_b; fault_a = report.fault_a; fault_b = report.fault_b })

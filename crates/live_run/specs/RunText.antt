@@ -1,4 +1,4 @@
--- What a live run writes, and why it may not.
+-- The text that a live run writes.
 use Rattle.std.specs.Prelude.{◌≡◌, false, Bool, ℕ, List, [], Option}
 use Rattle.std.specs.Io.KnownBytes.{Appends}
 use Rattle.studio_config.specs.Studio.{Studio}
@@ -9,20 +9,20 @@ use Rattle.live_run.specs.RunResult.{IsRunOf}
 use Rattle.live_run.specs.declared.fault.LiveFault.{LiveFault}
 use Rattle.live_run.specs.declared.fault.LiveFault.TheVariants.{Memory, Socket, Page, Thread, Unsettled, Write}
 
--- the report of a run was written, which is settled or not
+-- the report of a run was written, settled or not
 pub record WritesRun (one_thread : Bool) (studio : Studio) (settled : Bool) (written written_then : Option (List ℕ)) : Type 0 where
   pub report : WorkReport
   pub is : IsRunOf one_thread studio report
   pub answer : report.settled ≡ settled
   pub wrote : Appends written written_then (report_text report)
 
--- a part from the front of it was written, and not all
+-- a prefix of it was written, and not all
 pub record BreaksOffRun (one_thread : Bool) (studio : Studio) (written written_then : Option (List ℕ)) : Type 0 where
   pub report : WorkReport
   pub is : IsRunOf one_thread studio report
   pub part : BreaksOff written [] written_then (report_text report)
 
--- why no report of a settled run was written: nothing was, but where the run was not settled, or a write failed
+-- the text that was written before each fault: none, except if the run was not settled or a write failed
 abbrev pub FailsRun : Bool → Studio → Option (List ℕ) → Option (List ℕ) → LiveFault → Type 0
 FailsRun one_thread studio written written_then Memory = written_then ≡ written
 FailsRun one_thread studio written written_then Socket = written_then ≡ written

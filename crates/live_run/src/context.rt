@@ -6,13 +6,13 @@ use live_status::StatusOutputs;
 
 /// The context of a run, in addition to its studio and its sockets.
 #[derive(Drop)]
-pub struct RunContext<'a, E> {
+pub(crate) struct RunContext<'a, E> {
     /// The start of the run, and its end by the clock.
-    pub start: RunPeriod,
+    pub(crate) period: RunPeriod,
     /// True if the run ends at the end of standard input.
-    pub until_eof: bool,
+    pub(crate) until_eof: bool,
     /// The outputs of the run's status.
-    pub showing: StatusOutputs<'a, E>,
+    pub(crate) status: StatusOutputs<'a, E>,
     /// The flags between the run and its supervisor.
-    pub signs: &'a StopFlags,
+    pub(crate) flags: &'a StopFlags,
 }

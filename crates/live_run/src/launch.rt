@@ -5,14 +5,13 @@ ghost use Rattle.live_run.specs.RunResult.{IsEarly, IsRunOf};
 
 use crate::context::RunContext;
 use crate::fault::LiveFault;
+use crate::inputs::LiveInputs;
 use crate::scoped_thread::with_scoped_thread;
 use crate::single_thread::{RecordOutput, run_in_one_thread};
 use crate::std_fds::open_missing_fds;
 use crate::supervisor::stop_flags::StopFlags;
 use crate::workers::run_in_workers;
-use live_io::{
-    LiveInputs, LiveOptions, RecordChannel, RecordResult, RunPeriod, Sockets, open_sockets,
-};
+use live_io::{LiveOptions, RecordChannel, RecordResult, RunPeriod, Sockets, open_sockets};
 use live_status::{Meter, OpenStatus, PageThread, StatusInputs, open_status};
 use std::alloc::{AllocError, Global};
 use std::io::Write;
@@ -29,11 +28,12 @@ use studio_io::WorkReport;
 struct PreparedRun<'a, E, D> {
     one_thread: bool,
     sockets: Sockets<'a>,
-    setting: RunContext<'a, E>,
+    context: RunContext<'a, E>,
     recording: RecordOutput<'a, D>,
 }
 
-/// Opens all that a run needs before its first thread starts, and runs it.
+/// Opens all that a run needs before its first thread starts, and runs it: the record, the sockets and the outputs of
+/// its status.
 pub(crate) fn launch_run<
     R: Threads + Wait + Sync + Net + Clock + RandomSource,
     E: Write + Send + Drop,
@@ -42,7 +42,7 @@ pub(crate) fn launch_run<
     rt: &R,
     alloc: Global,
     studio: &StudioSpec,
-    setup: LiveInputs<'_>,
+    inputs: LiveInputs<'_>,
     options: &LiveOptions,
     faults: E,
     file: Option<D>,
@@ -50,66 +50,26 @@ pub(crate) fn launch_run<
     ensures run { IfOk result (IsRunOf options.now.one_thread studio.now) }
     ensures early { IfErr result IsEarly }
 {
-    // Made here and not in `bind_and_run`, whose parts and threads borrow them.
-    let signs = StopFlags::new();
+    let flags = StopFlags::new();
     let meter = Meter::new(studio.output().enc(), studio.output().channels());
-    let seen = StatusInputs {
-        names: setup.names,
-        meter: &meter,
-    };
-    let recording = recording_of(alloc, studio, setup.recorded, file)?;
-    bind_and_run(
-        rt, alloc, studio, setup, options, seen, &signs, recording, faults,
-    )
-}
-
-/// Returns the record of a run, if there is a file for it, with the place for its result.
-fn recording_of<'a, D: Write + Drop>(
-    alloc: Global,
-    studio: &StudioSpec,
-    told: &'a RecordResult,
-    file: Option<D>,
-) -> Result<RecordOutput<'a, D>, AllocError> {
-    let record = match file {
-        Some(file) => Some(RecordChannel::new(alloc, studio, file)?),
-        None => None,
-    };
-    Ok(RecordOutput { record, told })
-}
-
-/// Opens the sockets of a run and the outputs of its status, and runs it.
-fn bind_and_run<
-    'a,
-    R: Threads + Wait + Sync + Net + Clock + RandomSource,
-    E: Write + Send + Drop,
-    D: Write + Send + Drop,
->(
-    rt: &'a R,
-    alloc: Global,
-    studio: &StudioSpec,
-    setup: LiveInputs<'a>,
-    options: &LiveOptions,
-    seen: StatusInputs<'a>,
-    signs: &'a StopFlags,
-    recording: RecordOutput<'a, D>,
-    faults: E,
-) -> Result<WorkReport, LiveFault>
-    ensures run { IfOk result (IsRunOf options.now.one_thread studio.now) }
-    ensures early { IfErr result IsEarly }
-{
+    let recording = recording_of(alloc, studio, inputs.recorded, file)?;
     // Before the first socket, which would else get the descriptor of a standard stream that is closed.
     open_missing_fds();
-    let sockets = open_sockets(rt, alloc, studio, setup)?;
-    let shown = open_status(rt, alloc, studio, &sockets, options, seen, faults)?;
-    let OpenStatus { serving, showing } = shown;
+    let sockets = open_sockets(rt, alloc, studio, inputs.sockets)?;
+    let shown = StatusInputs {
+        names: inputs.names,
+        meter: &meter,
+    };
+    let status = open_status(rt, alloc, studio, &sockets, options, shown, faults)?;
+    let OpenStatus { serving, showing } = status;
     let parts = PreparedRun {
         one_thread: options.one_thread,
         sockets,
-        setting: RunContext {
-            start: RunPeriod::new(studio, setup.began, options),
+        context: RunContext {
+            period: RunPeriod::new(studio, inputs.began, options),
             until_eof: options.until_eof,
-            showing,
-            signs,
+            status: showing,
+            flags: &flags,
         },
         recording,
     };
@@ -119,10 +79,24 @@ fn bind_and_run<
     }
 }
 
+/// Returns the record of a run, if there is a file for it, with the place for its result.
+fn recording_of<'a, D: Write + Drop>(
+    alloc: Global,
+    studio: &StudioSpec,
+    recorded: &'a RecordResult,
+    file: Option<D>,
+) -> Result<RecordOutput<'a, D>, AllocError> {
+    let record = match file {
+        Some(file) => Some(RecordChannel::new(alloc, studio, file)?),
+        None => None,
+    };
+    Ok(RecordOutput { record, recorded })
+}
+
 /// Runs a studio, with the page's server in another thread, which ends with the run.
 fn run_with_page<
     'a,
-    R: Threads + Wait + Sync + Net + Clock,
+    R: Threads + Wait + Sync + Clock,
     E: Write + Send + Drop,
     D: Write + Send + Drop,
 >(
@@ -130,7 +104,7 @@ fn run_with_page<
     alloc: Global,
     studio: &StudioSpec,
     parts: PreparedRun<'a, E, D>,
-    serving: PageThread,
+    page: PageThread,
 ) -> Result<WorkReport, LiveFault>
     ensures run { IfOk result (IsRunOf parts.entry.one_thread studio.now) }
     ensures early { IfErr result IsEarly }
@@ -138,7 +112,7 @@ fn run_with_page<
     // The server ends once the run's end of the snapshots' ring was dropped, as it is at the end of `run_prepared`.
     let (_, ran) = with_scoped_thread(
         rt,
-        move || serving.serve(rt),
+        move || page.serve(rt),
         move || -> Result<WorkReport, LiveFault>
             requires sync { IsSync R.row }
             ensures run { IfOk result (IsRunOf parts.entry.one_thread studio.entry.now) }
@@ -151,7 +125,7 @@ fn run_with_page<
 /// Runs a studio in one thread or by workers, as its parts say. Only a run in one thread has a record.
 fn run_prepared<
     'a,
-    R: Threads + Wait + Sync + Net + Clock,
+    R: Threads + Wait + Sync + Clock,
     E: Write + Send + Drop,
     D: Write + Send + Drop,
 >(
@@ -166,12 +140,12 @@ fn run_prepared<
     let PreparedRun {
         one_thread,
         sockets,
-        setting,
+        context,
         recording,
     } = parts;
     if one_thread {
-        run_in_one_thread(rt, alloc, studio, sockets, setting, recording)
+        run_in_one_thread(rt, alloc, studio, sockets, context, recording)
     } else {
-        run_in_workers(rt, alloc, studio, sockets, setting)
+        run_in_workers(rt, alloc, studio, sockets, context)
     }
 }

@@ -18,14 +18,10 @@
 //! If a form returns an early `LiveFault`, no run has begun.
 #![tactic(auto)]
 
-mod asked;
 mod context;
 mod fault;
-mod feed_groups;
-mod input;
+mod inputs;
 mod launch;
-mod metered_sink;
-mod ready;
 mod report;
 mod run;
 mod scoped_thread;
@@ -34,13 +30,7 @@ mod std_fds;
 mod supervisor;
 mod workers;
 
-pub use context::RunContext;
 pub use fault::LiveFault;
-pub use metered_sink::MeteredSink;
+pub use inputs::LiveInputs;
+pub use live_io::LiveOptions;
 pub use run::run_studio_live;
-pub use scoped_thread::with_scoped_thread;
-pub use single_thread::{RecordOutput, run_in_one_thread};
-pub use supervisor::stop_conditions::has_stop_signal;
-pub use supervisor::stop_flags::StopFlags;
-pub use supervisor::{NoStatusTask, StatusTask, Supervisor, run_supervised};
-pub use workers::run_in_workers;

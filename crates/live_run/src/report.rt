@@ -22,7 +22,7 @@ use studio_run::{
 
 /// Writes the report of a run: the counts of each stream in the lines of a played trace's report, the faults of each
 /// feed, and the datagrams by the result at each address. Returns `WriteFault` if a write fails.
-pub fn write_report<W: Write>(
+pub(crate) fn write_report<W: Write>(
     text: &mut TextBuffer,
     writer: &mut W,
     report: &WorkReport,

@@ -3,9 +3,10 @@ ghost use Rattle.std.specs.Prelude.{true, IfErr, OnOk};
 ghost use Rattle.live_run.specs.RunText.{FailsRun, WritesRun};
 
 use crate::fault::LiveFault;
+use crate::inputs::LiveInputs;
 use crate::launch::launch_run;
 use crate::report::write_report;
-use live_io::{LiveInputs, LiveOptions};
+use live_io::LiveOptions;
 use std::alloc::Global;
 use std::io::Write;
 use std::net::Net;
@@ -41,7 +42,7 @@ pub fn run_studio_live<
     rt: &R,
     alloc: Global,
     studio: &StudioSpec,
-    setup: LiveInputs<'_>,
+    inputs: LiveInputs<'_>,
     options: &LiveOptions,
     output: &mut W,
     faults: E,
@@ -54,7 +55,7 @@ pub fn run_studio_live<
 {
     // Allocated before the run, so that no run is left without memory for its report.
     let mut text = TextBuffer::new(alloc)?;
-    let report = launch_run(rt, alloc, studio, setup, options, faults, record)?;
+    let report = launch_run(rt, alloc, studio, inputs, options, faults, record)?;
     write_report(&mut text, output, &report)?;
     text.finish(output)?;
     if !report.settled {

@@ -9,7 +9,7 @@ use std::thread::Threads;
 
 /// Calls `run` in this thread and `other` in a new one, and returns both results, `other`'s first, once both have
 /// ended. Returns `LiveFault::Thread` if no thread can be started; then neither is called.
-pub fn with_scoped_thread<
+pub(crate) fn with_scoped_thread<
     'a,
     R: Threads + Wait,
     F: FnOnce() -> A + Send + Drop + 'a,
@@ -31,11 +31,11 @@ pub fn with_scoped_thread<
             ensures ran { IfOk result (λ both. G.post run both.1) }
             ensures early { IfErr result IsEarly }
         {
-            let Ok(beside) = scope.spawn(other) else {
+            let Ok(other) = scope.spawn(other) else {
                 return Err(LiveFault::Thread);
             };
             let ran = run();
-            Ok((beside.join(rt), ran))
+            Ok((other.join(rt), ran))
         },
     )
 }

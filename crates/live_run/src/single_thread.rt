@@ -6,10 +6,10 @@ ghost use Rattle.live_run.specs.RunResult.{IsEarly, IsRunOf};
 
 use crate::context::RunContext;
 use crate::fault::LiveFault;
-use crate::ready::ready_flags;
 use crate::scoped_thread::with_scoped_thread;
 use crate::single_thread::engine_io::{SingleThreadRun, prepare_engine_io};
 use crate::single_thread::observer::LiveObserver;
+use crate::single_thread::socket_wait::ready_flags;
 use crate::supervisor::stop_flags::StopFlags;
 use crate::supervisor::{NoStatusTask, Supervisor, run_supervised};
 use live_io::{
@@ -19,7 +19,6 @@ use live_io::{
 use std::alloc::Global;
 use std::io::Write;
 use std::sync::Wait;
-use std::sync::atomic::AtomicBool;
 use std::thread::Threads;
 use std::time::Clock;
 use studio_config::StudioSpec;
@@ -31,16 +30,16 @@ mod socket_wait;
 
 /// The record of a run, if there is one, and the place for its result.
 #[derive(Drop)]
-pub struct RecordOutput<'a, D> {
+pub(crate) struct RecordOutput<'a, D> {
     /// The two ends of the record, if there is one.
-    pub record: Option<RecordChannel<D>>,
+    pub(crate) record: Option<RecordChannel<D>>,
     /// The result, which the run sets.
-    pub told: &'a RecordResult,
+    pub(crate) recorded: &'a RecordResult,
 }
 
 /// Runs a studio in this thread, the supervisor in another, and the writer of the record in a third, if there is a
 /// record. Returns once all have ended. After an error there is no report.
-pub fn run_in_one_thread<
+pub(crate) fn run_in_one_thread<
     'a,
     R: Threads + Wait + Sync + Clock,
     E: Write + Send + Drop,
@@ -50,72 +49,43 @@ pub fn run_in_one_thread<
     alloc: Global,
     studio: &StudioSpec,
     sockets: Sockets<'a>,
-    setting: RunContext<'a, E>,
+    context: RunContext<'a, E>,
     recording: RecordOutput<'a, D>,
 ) -> Result<WorkReport, LiveFault>
     ensures run { IfOk result (IsRunOf true studio.now) }
     ensures early { IfErr result IsEarly }
 {
     let mut sockets = sockets;
+    let RunContext {
+        period,
+        until_eof,
+        status,
+        flags,
+    } = context;
+    let RecordOutput { record, recorded } = recording;
     // Only a record needs the sources, and keeping them makes each receive slower.
-    if recording.record.is_some() {
+    if record.is_some() {
         keep_sources(sockets.receiving.as_mut_slice());
     }
     let ready = ready_flags(alloc, sockets.receiving.len())?;
-    run_on_sockets(
-        rt,
-        alloc,
-        studio,
-        sockets,
-        ready.as_slice(),
-        setting,
-        recording,
-    )
-}
-
-/// Runs a studio like `run_in_one_thread`, with a flag for each socket that receives.
-fn run_on_sockets<
-    'a,
-    R: Threads + Wait + Sync + Clock,
-    E: Write + Send + Drop,
-    D: Write + Send + Drop,
->(
-    rt: &'a R,
-    alloc: Global,
-    studio: &StudioSpec,
-    sockets: Sockets<'a>,
-    ready: &'a [AtomicBool],
-    setting: RunContext<'a, E>,
-    recording: RecordOutput<'a, D>,
-) -> Result<WorkReport, LiveFault>
-    ensures run { IfOk result (IsRunOf true studio.now) }
-    ensures early { IfErr result IsEarly }
-{
-    let RunContext {
-        start,
-        until_eof,
-        showing,
-        signs,
-    } = setting;
-    let meter = showing.meter;
-    let RecordOutput { record, told } = recording;
-    let (record, recorder) = ends_of(record);
-    let tap = LiveObserver::new(alloc, studio, record, showing)?;
-    let flags = FeedFlags {
-        stop: &signs.stop,
-        ready,
+    let feed_flags = FeedFlags {
+        stop: &flags.stop,
+        ready: ready.as_slice(),
     };
-    let lone = prepare_engine_io(rt, alloc, studio, sockets, start, flags, meter)?;
-    let watched = SupervisedRun {
-        lone,
-        tap,
+    let meter = status.meter;
+    let (record, writer) = ends_of(record);
+    let observer = LiveObserver::new(alloc, studio, record, status)?;
+    let io = prepare_engine_io(rt, alloc, studio, sockets, period, feed_flags, meter)?;
+    let run = SupervisedRun {
+        io,
+        observer,
         until_eof,
-        signs,
-        told,
+        flags,
+        recorded,
     };
-    match recorder {
-        Some(recorder) => run_recorded(rt, alloc, studio, watched, recorder),
-        None => watched.run(rt, alloc, studio),
+    match writer {
+        Some(writer) => run_recorded(rt, alloc, studio, run, writer),
+        None => run.run(rt, alloc, studio),
     }
 }
 
@@ -139,43 +109,43 @@ fn ends_of<D: Drop>(
 /// A run in one thread that is ready to start, with its observer and the inputs of its supervisor.
 #[derive(Drop)]
 struct SupervisedRun<'a, R: Wait + Clock, E> {
-    lone: SingleThreadRun<'a, R>,
-    tap: LiveObserver<'a, E>,
+    io: SingleThreadRun<'a, R>,
+    observer: LiveObserver<'a, E>,
     until_eof: bool,
-    signs: &'a StopFlags,
-    told: &'a RecordResult,
+    flags: &'a StopFlags,
+    recorded: &'a RecordResult,
 }
 
 impl<R: Threads + Wait + Sync + Clock, E: Write + Send + Drop> SupervisedRun<'_, R, E> {
     /// Runs an engine in this thread, and the supervisor in another.
     fn run(self, rt: &R, alloc: Global, studio: &StudioSpec) -> Result<WorkReport, LiveFault>
-        requires feeds { map (λ own. length own.items) self.lone.feeds.items
+        requires feeds { map (λ own. length own.items) self.io.feeds.items
             ≡ map (λ stream. stream.paths) studio.now.streams }
         ensures run { IfOk result (IsRunOf true studio.now) }
         ensures early { IfErr result IsEarly }
     {
         let SupervisedRun {
-            lone,
-            tap,
+            io,
+            observer,
             until_eof,
-            signs,
-            told,
+            flags,
+            recorded,
         } = self;
         // The run's own thread publishes the status, since only it may look at the engine.
-        let watcher = Supervisor {
+        let supervisor = Supervisor {
             until_eof,
-            view: NoStatusTask,
+            task: NoStatusTask,
         };
         run_supervised(
             rt,
-            watcher,
-            signs,
+            supervisor,
+            flags,
             move || -> Result<WorkReport, LiveFault>
-                requires feeds { map (λ own. length own.items) lone.feeds.items
+                requires feeds { map (λ own. length own.items) io.feeds.items
                     ≡ map (λ stream. stream.paths) studio.now.streams }
                 ensures run { IfOk result (IsRunOf true studio.entry.now) }
                 ensures early { IfErr result IsEarly }
-            { lone.run(rt, alloc, studio, tap, told) },
+            { io.run(rt, alloc, studio, observer, recorded) },
         )?
     }
 }
@@ -190,27 +160,27 @@ fn run_recorded<
     rt: &'a R,
     alloc: Global,
     studio: &StudioSpec,
-    watched: SupervisedRun<'a, R, E>,
-    recorder: RecordWriter<D>,
+    run: SupervisedRun<'a, R, E>,
+    writer: RecordWriter<D>,
 ) -> Result<WorkReport, LiveFault>
-    requires feeds { map (λ own. length own.items) watched.lone.feeds.items
+    requires feeds { map (λ own. length own.items) run.io.feeds.items
         ≡ map (λ stream. stream.paths) studio.now.streams }
     ensures run { IfOk result (IsRunOf true studio.now) }
     ensures early { IfErr result IsEarly }
 {
-    let told = watched.told;
+    let recorded = run.recorded;
     // The writer ends once the observer's end of the ring was dropped, as it is at the end of the run.
     let (written, ran) = with_scoped_thread(
         rt,
-        move || write_record(rt, recorder),
+        move || write_record(rt, writer),
         move || -> Result<WorkReport, LiveFault>
             requires sync { IsSync R.row }
-            requires feeds { map (λ own. length own.items) watched.lone.feeds.items
+            requires feeds { map (λ own. length own.items) run.io.feeds.items
                 ≡ map (λ stream. stream.paths) studio.now.streams }
             ensures run { IfOk result (IsRunOf true studio.entry.now) }
             ensures early { IfErr result IsEarly }
-        { watched.run(rt, alloc, studio) },
+        { run.run(rt, alloc, studio) },
     )?;
-    told.set_written(written.datagrams, written.failed);
+    recorded.set_written(written.datagrams, written.failed);
     ran
 }

@@ -4,9 +4,8 @@ ghost use Rattle.std.specs.Prelude.{IfOk, IfErr};
 ghost use Rattle.live_run.specs.RunResult.{IsEarly};
 
 use crate::fault::LiveFault;
-use crate::input::has_input_ended;
 use crate::scoped_thread::with_scoped_thread;
-use crate::supervisor::stop_conditions::is_stop_signal_pending;
+use crate::supervisor::stop_conditions::{has_input_ended, is_stop_signal_pending};
 use crate::supervisor::stop_flags::StopFlags;
 use std::sync::Wait;
 use std::sync::atomic::Ordering;
@@ -22,22 +21,22 @@ pub(crate) mod stop_flags;
 const POLL_INTERVAL_MS: u64 = 50;
 
 /// The task that publishes the status of a run from the supervisor's thread.
-pub trait StatusTask: Drop {
+pub(crate) trait StatusTask: Drop {
     /// Publishes the run's status, if it is due. It must not wait.
     fn poll(&mut self);
 }
 
-impl<V: StatusTask> StatusTask for Option<V> {
+impl<T: StatusTask> StatusTask for Option<T> {
     fn poll(&mut self) {
-        if let Some(view) = self {
-            view.poll();
+        if let Some(task) = self {
+            task.poll();
         }
     }
 }
 
 /// The task of a run whose status the supervisor does not publish.
 #[derive(Clone, Copy)]
-pub struct NoStatusTask;
+pub(crate) struct NoStatusTask;
 
 impl StatusTask for NoStatusTask {
     fn poll(&mut self) {}
@@ -45,58 +44,58 @@ impl StatusTask for NoStatusTask {
 
 /// The supervisor of a run.
 #[derive(Drop)]
-pub struct Supervisor<V> {
+pub(crate) struct Supervisor<T> {
     /// True if the run ends at the end of standard input.
-    pub until_eof: bool,
+    pub(crate) until_eof: bool,
     /// The task that publishes the run's status.
-    pub view: V,
+    pub(crate) task: T,
 }
 
-impl<V: StatusTask> Supervisor<V> {
+impl<T: StatusTask> Supervisor<T> {
     /// Sets the flag `stop` if the feeds are to end, and publishes the status if it is due.
-    fn poll(&mut self, signs: &StopFlags) {
+    fn poll(&mut self, flags: &StopFlags) {
         if is_stop_signal_pending() || self.until_eof && has_input_ended() {
-            signs.stop.store(true, Ordering::SeqCst);
+            flags.stop.store(true, Ordering::SeqCst);
         }
-        self.view.poll();
+        self.task.poll();
     }
 }
 
 /// Polls again and again until the run has ended.
-fn watch<R: Wait, V: StatusTask>(rt: &R, watcher: Supervisor<V>, signs: &StopFlags) {
-    let mut watcher = watcher;
+fn supervise<R: Wait, T: StatusTask>(rt: &R, supervisor: Supervisor<T>, flags: &StopFlags) {
+    let mut supervisor = supervisor;
     for _ in rt.forever() {
-        signs
+        flags
             .parker
             .park_timeout(rt, Duration::from_millis(POLL_INTERVAL_MS));
-        if signs.finished.load(Ordering::SeqCst) {
+        if flags.finished.load(Ordering::SeqCst) {
             return;
         }
-        watcher.poll(signs);
+        supervisor.poll(flags);
     }
 }
 
 /// Calls `run` in this thread, with the supervisor in another, and returns the result of `run` once both have ended.
 /// Returns `LiveFault::Thread` if no thread can be started; then `run` is not called.
-pub fn run_supervised<
+pub(crate) fn run_supervised<
     R: Threads + Wait + Sync,
-    V: StatusTask + Send,
-    F: FnOnce() -> T + Drop,
-    T: Drop,
->(rt: &R, watcher: Supervisor<V>, signs: &StopFlags, run: F) -> Result<T, LiveFault>
+    T: StatusTask + Send,
+    F: FnOnce() -> O + Drop,
+    O: Drop,
+>(rt: &R, supervisor: Supervisor<T>, flags: &StopFlags, run: F) -> Result<O, LiveFault>
     requires { F.pre run }
     ensures ran { IfOk result (λ r. F.post run r) }
     ensures early { IfErr result IsEarly }
 {
     let (_, ran) = with_scoped_thread(
         rt,
-        move || watch(rt, watcher, signs),
-        move || -> T
+        move || supervise(rt, supervisor, flags),
+        move || -> O
             requires { F.pre run }
             ensures { F.post run result }
         {
             let ran = run();
-            signs.set_finished();
+            flags.set_finished();
             ran
         },
     )?;

@@ -32,84 +32,65 @@ mod worker_run;
 
 /// Runs a studio's workers, and the supervisor in another thread. Returns once all have ended. All memory but the
 /// workers' is allocated before the first thread starts. After an error there is no report.
-pub fn run_in_workers<'a, R: Threads + Wait + Sync + Clock, E: Write + Send + Drop>(
+pub(crate) fn run_in_workers<'a, R: Threads + Wait + Sync + Clock, E: Write + Send + Drop>(
     rt: &'a R,
     alloc: Global,
     studio: &StudioSpec,
     sockets: Sockets<'a>,
-    setting: RunContext<'a, E>,
+    context: RunContext<'a, E>,
 ) -> Result<WorkReport, LiveFault>
-    ensures run { IfOk result (IsRunOf false studio.now) }
-    ensures early { IfErr result IsEarly }
-{
-    // Without a status there are no rings for statistics, and the workers send none.
-    let is_shown = setting.showing.board.is_some();
-    let rings = open_rings(alloc, studio, sockets.receiving.len(), is_shown)?;
-    run_on_rings(rt, alloc, studio, rings, sockets, setting)
-}
-
-/// Runs the workers on these rings and sockets, and the supervisor in another thread.
-fn run_on_rings<'a, R: Threads + Wait + Sync + Clock, E: Write + Send + Drop>(
-    rt: &'a R,
-    alloc: Global,
-    studio: &StudioSpec,
-    rings: Rings,
-    sockets: Sockets<'a>,
-    setting: RunContext<'a, E>,
-) -> Result<WorkReport, LiveFault>
-    requires opened { AreOpenedTogether studio.now 256 rings.ends }
-    requires paths { length rings.ends.paths.items ≡ length sockets.receiving.items }
     ensures run { IfOk result (IsRunOf false studio.now) }
     ensures early { IfErr result IsEarly }
 {
     let RunContext {
-        start,
+        period,
         until_eof,
-        showing,
-        signs,
-    } = setting;
-    let Rings { ends, watches } = rings;
-    let view = view_of(rt, alloc, watches, start, showing.board)?;
-    // No flags: each path has a thread of its own, whose receives may wait.
-    let flags = FeedFlags {
-        stop: &signs.stop,
+        status,
+        flags,
+    } = context;
+    // Without a status there are no rings for statistics, and the workers send none.
+    let is_shown = status.board.is_some();
+    let rings = open_rings(alloc, studio, sockets.receiving.len(), is_shown)?;
+    let Rings { ends, receivers } = rings;
+    // No flags of sockets: each path has a thread of its own, whose receives may wait.
+    let feed_flags = FeedFlags {
+        stop: &flags.stop,
         ready: &[],
     };
-    let work = prepare_workers(rt, alloc, ends, sockets, start, flags)?;
-    let watcher = Supervisor { until_eof, view };
+    let workers = prepare_workers(rt, alloc, ends, sockets, period, feed_flags)?;
+    let task = worker_status_task(rt, alloc, receivers, period, status.board)?;
+    let supervisor = Supervisor { until_eof, task };
     run_supervised(
         rt,
-        watcher,
-        signs,
+        supervisor,
+        flags,
         move || -> Result<WorkReport, LiveFault>
             requires sync { IsSync R.row }
-            requires opened { AreOpenedTogether studio.now 256 work.ends }
-            requires feeds { length work.feeds.items ≡ length work.ends.paths.items }
-            requires clocks { length work.clocks.items ≡ length work.ends.streams.items }
+            requires opened { AreOpenedTogether studio.now 256 workers.ends }
+            requires feeds { length workers.feeds.items ≡ length workers.ends.paths.items }
+            requires clocks { length workers.clocks.items ≡ length workers.ends.streams.items }
             ensures run { IfOk result (IsRunOf false studio.entry.now) }
             ensures early { IfErr result IsEarly }
-        { work.run(rt, alloc, studio) },
+        { workers.run(rt, alloc, studio) },
     )?
 }
 
 /// Returns the task that publishes the run's status from its statistics, if there is a status.
-fn view_of<'a, R: Clock, E: Write + Drop>(
+fn worker_status_task<'a, R: Clock, E: Write + Drop>(
     rt: &'a R,
     alloc: Global,
-    watches: Option<StatsReceivers>,
-    start: RunPeriod,
-    board: Option<StatusPublisher<E>>,
+    receivers: Option<StatsReceivers>,
+    period: RunPeriod,
+    publisher: Option<StatusPublisher<E>>,
 ) -> Result<Option<WorkerStatusTask<'a, R, E>>, AllocError> {
-    match (watches, board) {
-        (Some(watches), Some(board)) => {
-            let told = LatestStats::empty(alloc, watches.paths.len(), watches.streams.len())?;
-            Ok(Some(WorkerStatusTask {
-                watches,
-                told,
-                clock: start.clock(rt),
-                board,
-            }))
-        }
-        _ => Ok(None),
-    }
+    let (Some(receivers), Some(publisher)) = (receivers, publisher) else {
+        return Ok(None);
+    };
+    let latest = LatestStats::empty(alloc, receivers.paths.len(), receivers.streams.len())?;
+    Ok(Some(WorkerStatusTask {
+        receivers,
+        latest,
+        clock: period.clock(rt),
+        publisher,
+    }))
 }

@@ -1,10 +1,8 @@
 //! The feeds, the clock, the sink and the wait of a run in one thread.
-ghost use Rattle.std.specs.Prelude.{◌≡◌, true, IfOk, IfErr, length, map};
+ghost use Rattle.std.specs.Prelude.{◌≡◌, None, true, IfOk, IfErr, length, map};
 ghost use Rattle.live_run.specs.RunResult.{IsEarly, IsRunOf};
 
 use crate::fault::LiveFault;
-use crate::feed_groups::group_by_stream;
-use crate::metered_sink::MeteredSink;
 use crate::single_thread::observer::LiveObserver;
 use crate::single_thread::socket_wait::SocketWait;
 use engine_run::run_engine;
@@ -12,12 +10,14 @@ use live_io::{
     FeedFlags, Receiver, RecordResult, RunPeriod, Sockets, SystemClock, UdpFeed, UdpSink, udp_feeds,
 };
 use live_status::Meter;
+use rtp_stream::StreamSpec;
 use std::alloc::Global;
 use std::io::Write;
 use std::sync::Wait;
 use std::time::Clock;
+use std::vec::IntoIter;
 use studio_config::StudioSpec;
-use studio_io::WorkReport;
+use studio_io::{SendAnswer, Sink, WorkReport};
 
 /// The feeds, the clock, the sink and the wait of a run in one thread.
 #[derive(Drop)]
@@ -25,7 +25,29 @@ pub(crate) struct SingleThreadRun<'a, R: Wait + Clock> {
     pub(crate) feeds: Vec<Vec<UdpFeed<'a, R>>>,
     clock: SystemClock<'a, R>,
     sink: MeteredSink<'a, UdpSink>,
-    rest: SocketWait<'a, R>,
+    wait: SocketWait<'a, R>,
+}
+
+/// A sink with a meter, if there is one.
+#[derive(Drop)]
+struct MeteredSink<'a, K> {
+    /// The sink that sends.
+    sink: K,
+    /// The meter. `None` if there is no page.
+    meter: Option<&'a Meter>,
+}
+
+impl<K: Sink> Sink for MeteredSink<'_, K> {
+    ghost handed = { λ sink. None };
+
+    fn send(&mut self, datagram: &[u8]) -> SendAnswer {
+        // Measured after it was sent, so that the meter does not delay the datagram.
+        let answer = self.sink.send(datagram);
+        if let Some(meter) = self.meter {
+            meter.measure(datagram);
+        }
+        answer
+    }
 }
 
 /// Returns the feeds of these sockets, grouped by stream, and the clock, the sink and the wait of a run.
@@ -34,24 +56,24 @@ pub(crate) fn prepare_engine_io<'a, R: Wait + Clock>(
     alloc: Global,
     studio: &StudioSpec,
     sockets: Sockets<'a>,
-    start: RunPeriod,
+    period: RunPeriod,
     flags: FeedFlags<'a>,
     meter: Option<&'a Meter>,
 ) -> Result<SingleThreadRun<'a, R>, LiveFault>
-    ensures feeds { IfOk result (λ lone. map (λ own. length own.items) lone.feeds.items
+    ensures feeds { IfOk result (λ io. map (λ own. length own.items) io.feeds.items
         ≡ map (λ stream. stream.paths) studio.now.streams) }
     ensures early { IfErr result IsEarly }
 {
     let Sockets { receiving, sink } = sockets;
-    let clock = start.clock(rt);
+    let clock = period.clock(rt);
     // The wait takes the descriptors before the feeds take the sockets.
-    let rest = SocketWait::new(rt, alloc, receiving.as_slice(), flags.ready, clock)?;
-    let feeds = stream_feeds(rt, alloc, studio, receiving, start, flags)?;
+    let wait = SocketWait::new(rt, alloc, receiving.as_slice(), flags.ready, clock)?;
+    let feeds = stream_feeds(rt, alloc, studio, receiving, period, flags)?;
     Ok(SingleThreadRun {
         feeds,
-        clock: start.clock(rt),
+        clock: period.clock(rt),
         sink: MeteredSink { sink, meter },
-        rest,
+        wait,
     })
 }
 
@@ -61,15 +83,53 @@ fn stream_feeds<'a, R: Clock>(
     alloc: Global,
     studio: &StudioSpec,
     receiving: Vec<Receiver<'a>>,
-    start: RunPeriod,
+    period: RunPeriod,
     flags: FeedFlags<'a>,
 ) -> Result<Vec<Vec<UdpFeed<'a, R>>>, LiveFault>
     ensures each { IfOk result
         (λ all. map (λ own. length own.items) all.items ≡ map (λ stream. stream.paths) studio.now.streams) }
     ensures early { IfErr result IsEarly }
 {
-    let feeds = udp_feeds(rt, alloc, receiving, start, flags)?;
+    let feeds = udp_feeds(rt, alloc, receiving, period, flags)?;
     group_by_stream(alloc, feeds, studio.streams())
+}
+
+/// Returns the feeds of all paths grouped by stream, as many for each as it has paths. Returns `LiveFault::Socket` if
+/// there are too few, and `LiveFault::Memory` if an allocation fails.
+fn group_by_stream<F: Drop>(
+    alloc: Global,
+    feeds: Vec<F>,
+    streams: &[StreamSpec],
+) -> Result<Vec<Vec<F>>, LiveFault>
+    ensures each { IfOk result
+        (λ all. map (λ own. length own.items) all.items ≡ map (λ stream. stream.paths) streams.now) }
+    ensures early { IfErr result IsEarly }
+{
+    let mut all = Vec::with_capacity(alloc, streams.len())?;
+    let mut feeds = feeds.into_iter();
+    for stream in streams {
+        all.push(next_feeds(alloc, &mut feeds, usize::from(stream.paths()))?)?;
+    }
+    Ok(all)
+}
+
+/// Returns the next `count` feeds, or `LiveFault::Socket` if there are too few.
+fn next_feeds<F: Drop>(
+    alloc: Global,
+    feeds: &mut IntoIter<F>,
+    count: usize,
+) -> Result<Vec<F>, LiveFault>
+    ensures count { IfOk result (λ own. length own.items ≡ count) }
+    ensures early { IfErr result IsEarly }
+{
+    let mut own = Vec::with_capacity(alloc, count)?;
+    for _ in 0..count {
+        let Some(feed) = feeds.next() else {
+            return Err(LiveFault::Socket);
+        };
+        own.push(feed)?;
+    }
+    Ok(own)
 }
 
 impl<R: Wait + Clock> SingleThreadRun<'_, R> {
@@ -79,8 +139,8 @@ impl<R: Wait + Clock> SingleThreadRun<'_, R> {
         rt: &R,
         alloc: Global,
         studio: &StudioSpec,
-        tap: LiveObserver<'_, E>,
-        told: &RecordResult,
+        observer: LiveObserver<'_, E>,
+        recorded: &RecordResult,
     ) -> Result<WorkReport, LiveFault>
         requires feeds { map (λ own. length own.items) self.feeds.items
             ≡ map (λ stream. stream.paths) studio.now.streams }
@@ -91,10 +151,12 @@ impl<R: Wait + Clock> SingleThreadRun<'_, R> {
             feeds,
             clock,
             sink,
-            rest,
+            wait,
         } = self;
-        let (report, _sink, tap) = run_engine(rt, alloc, studio, feeds, clock, sink, tap, rest)?;
-        told.set_received(tap.received());
+        let (report, _sink, observer) = run_engine(
+            rt, alloc, studio, feeds, clock, sink, observer, wait,
+        )?;
+        recorded.set_received(observer.received());
         Ok(report)
     }
 }

@@ -17,7 +17,7 @@ use studio_session::ArriveOutcome;
 #[derive(Drop)]
 pub(crate) struct LiveObserver<'v, E> {
     record: Option<RecordObserver>,
-    view: Option<EngineStatus<'v, E>>,
+    status: Option<EngineStatus<'v, E>>,
 }
 
 impl<'v, E: Write + Drop> LiveObserver<'v, E> {
@@ -27,14 +27,14 @@ impl<'v, E: Write + Drop> LiveObserver<'v, E> {
         alloc: Global,
         studio: &StudioSpec,
         record: Option<RecordObserver>,
-        showing: StatusOutputs<'v, E>,
+        outputs: StatusOutputs<'v, E>,
     ) -> Result<LiveObserver<'v, E>, AllocError> {
-        let StatusOutputs { board, meter } = showing;
-        let view = match board {
+        let StatusOutputs { board, meter } = outputs;
+        let status = match board {
             Some(board) => Some(EngineStatus::new(alloc, studio.streams(), board, meter)?),
             None => None,
         };
-        Ok(LiveObserver { record, view })
+        Ok(LiveObserver { record, status })
     }
 
     /// Returns the number of datagrams that the record was passed.
@@ -59,21 +59,21 @@ impl<'a, R: Clock, E: Write + Drop> RunObserver<UdpFeed<'a, R>> for LiveObserver
         feed: &UdpFeed<'a, R>,
     ) {
         if let Some(record) = &mut self.record {
-            let way = DatagramOrigin {
+            let origin = DatagramOrigin {
                 path_index: feed.place(),
                 source: feed.source(),
                 destination: feed.destination(),
             };
-            record.arrived(engine.time(), octets, &way);
+            record.arrived(engine.time(), octets, &origin);
         }
-        if let Some(view) = &mut self.view {
-            view.note(engine, stream, path, octets, receipt);
+        if let Some(status) = &mut self.status {
+            status.note(engine, stream, path, octets, receipt);
         }
     }
 
     fn before_wait(&mut self, engine: &Engine) {
-        if let Some(view) = &mut self.view {
-            view.publish_if_due(engine);
+        if let Some(status) = &mut self.status {
+            status.publish_if_due(engine);
         }
     }
 
@@ -81,8 +81,8 @@ impl<'a, R: Clock, E: Write + Drop> RunObserver<UdpFeed<'a, R>> for LiveObserver
         if let Some(record) = &mut self.record {
             record.closed(engine.time());
         }
-        if let Some(view) = &mut self.view {
-            view.publish_last(engine);
+        if let Some(status) = &mut self.status {
+            status.publish_last(engine);
         }
     }
 }

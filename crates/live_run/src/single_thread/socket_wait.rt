@@ -1,10 +1,11 @@
-//! The wait of a run in one thread for its sockets.
+//! The wait of a run in one thread for its sockets, and the flags of the sockets that are ready to be read.
 
 use engine_run::IdleWait;
-use libc::net::{POLLIN, poll};
+use libc::net;
+use libc::net::POLLIN;
 use libc::types::pollfd;
 use live_io::{Receiver, SystemClock};
-use std::alloc::Global;
+use std::alloc::{AllocError, Global};
 use std::io;
 use std::sync::Wait;
 use std::sync::atomic::{AtomicBool, Ordering};
@@ -18,11 +19,11 @@ const MILLISECOND: u64 = 48;
 
 /// The longest sleep while datagrams arrive, in sampling instants.
 // Less than a millisecond, since the system makes a sleep longer: the clock reading from before the sleep should be no
-// older than `OLDEST` after the sleep.
+// older than `MAX_AGE` after the sleep.
 const SHORT_SLEEP: u64 = 40;
 
 /// The greatest age of a clock reading by which datagrams are judged, in sampling instants.
-const OLDEST: i64 = 48;
+const MAX_AGE: i64 = 48;
 
 /// The number of nanoseconds in three sampling instants.
 // One sampling instant is no whole number of nanoseconds.
@@ -34,6 +35,18 @@ const QUIET_WAITS: u32 = 100;
 
 /// The least length of such a wait in milliseconds, if no datagram arrives.
 const QUIET_WAIT: i32 = 4;
+
+/// Returns a flag for each of `count` sockets, which is true if the socket may have a datagram. The wait for the
+/// sockets sets a flag. The socket's feed clears it and receives one datagram. Returns `AllocError` if an allocation
+/// fails.
+pub(crate) fn ready_flags(alloc: Global, count: usize) -> Result<Vec<AtomicBool>, AllocError> {
+    let mut ready = Vec::with_capacity(alloc, count)?;
+    for _ in 0..count {
+        // True at first: before the first wait nothing is known of a socket.
+        ready.push(AtomicBool::new(true))?;
+    }
+    Ok(ready)
+}
 
 /// The result of polling the sockets.
 #[derive(Clone, Copy, PartialEq, Eq, Debug)]
@@ -123,11 +136,11 @@ impl<'a, R: Wait + Clock> SocketWait<'a, R> {
     /// datagrams than were read.
     fn wait(&mut self, instants: u64) {
         // Datagrams often arrive in bursts, so busy sockets are polled once more before a sleep.
-        if self.is_busy && self.look(0) == PollOutcome::Ready {
+        if self.is_busy && self.poll(0) == PollOutcome::Ready {
             return;
         }
-        let most = self.sleep(instants);
-        self.is_busy = self.look(most) != PollOutcome::Nothing;
+        let limit = self.sleep(instants);
+        self.is_busy = self.poll(limit) != PollOutcome::Nothing;
         self.quiet = if self.is_busy {
             0
         } else {
@@ -136,8 +149,8 @@ impl<'a, R: Wait + Clock> SocketWait<'a, R> {
     }
 
     /// Polls the sockets for so many milliseconds at most, and sets the flags of those that have a datagram.
-    fn look(&mut self, most: i32) -> PollOutcome {
-        let count = poll(self.sockets.as_mut_slice(), most);
+    fn poll(&mut self, limit: i32) -> PollOutcome {
+        let count = net::poll(self.sockets.as_mut_slice(), limit);
         if count == 0 {
             return PollOutcome::Nothing;
         }
@@ -156,8 +169,8 @@ impl<'a, R: Wait + Clock> SocketWait<'a, R> {
 }
 
 impl<R: Wait + Clock> IdleWait for SocketWait<'_, R> {
-    fn wait_for_input(&mut self, engine: &Engine, most: i64) -> bool {
-        self.wait(u64::try_from(most).unwrap_or(0));
-        self.clock.now().saturating_sub(engine.time()) <= OLDEST
+    fn wait_for_input(&mut self, engine: &Engine, limit: i64) -> bool {
+        self.wait(u64::try_from(limit).unwrap_or(0));
+        self.clock.now().saturating_sub(engine.time()) <= MAX_AGE
     }
 }

@@ -5,9 +5,9 @@ use std::thread::Parker;
 
 /// The flags between a run and its supervisor.
 #[derive(Drop)]
-pub struct StopFlags {
+pub(crate) struct StopFlags {
     /// True once each feed is to end.
-    pub stop: AtomicBool,
+    pub(crate) stop: AtomicBool,
     /// True once the run has ended, and the supervisor is to end.
     pub(crate) finished: AtomicBool,
     /// The parker in which the supervisor waits between two polls.
@@ -16,7 +16,7 @@ pub struct StopFlags {
 
 impl StopFlags {
     /// Returns the flags of a run that has not started, all false.
-    pub fn new() -> StopFlags {
+    pub(crate) fn new() -> StopFlags {
         StopFlags {
             stop: AtomicBool::new(false),
             finished: AtomicBool::new(false),

@@ -1,14 +1,13 @@
-//! The latest statistics that the workers sent.
+//! The latest statistics that the workers sent, refreshed from the receivers of paths, of streams and of the mix.
 ghost use Rattle.std.specs.Prelude.{◌≡◌, None, replicate, IfOk, IsNone, IsSomeAnd, MatchOption};
 ghost use Rattle.live_status.specs.Each.{AreEach};
 ghost use Rattle.live_status.specs.Outputs.{HasNumbers};
-ghost use Rattle.live_run.specs.LatestStats.{AreAsked, TellsMix, TellsPath, TellsStream};
-ghost use Rattle.live_run.specs.StreamStatus.{SeesTold};
+ghost use Rattle.live_run.specs.LatestStats.{AreRefreshed, RefreshesMix, RefreshesPath, RefreshesStream, mix_last_of};
+ghost use Rattle.live_run.specs.StreamStatus.{FillsEachStream};
 
-use crate::asked::{refresh_mix, refresh_paths, refresh_streams};
 use crate::workers::stream_status::fill_streams;
 use live_status::fill_outputs;
-use rtp_stats::{MixStats, StreamStats};
+use rtp_stats::{MixStats, MixStatsReceiver, PathCountsReceiver, StreamStats, StreamStatsReceiver};
 use rtp_stream::PathCounts;
 use status_page::Snapshot;
 use std::alloc::{AllocError, Global};
@@ -33,9 +32,9 @@ impl LatestStats {
         paths: usize,
         streams: usize,
     ) -> Result<LatestStats, AllocError>
-        ensures paths { IfOk result (λ told. told.paths.items ≡ replicate paths None) }
-        ensures streams { IfOk result (λ told. told.streams.items ≡ replicate streams None) }
-        ensures mix { IfOk result (λ told. IsNone told.mix) }
+        ensures paths { IfOk result (λ stats. stats.paths.items ≡ replicate paths None) }
+        ensures streams { IfOk result (λ stats. stats.streams.items ≡ replicate streams None) }
+        ensures mix { IfOk result (λ stats. IsNone stats.mix) }
     {
         Ok(LatestStats {
             paths: Vec::from_elem(alloc, None, paths)?,
@@ -45,30 +44,99 @@ impl LatestStats {
     }
 
     /// Refreshes all statistics from the receivers.
-    pub(crate) fn refresh(&mut self, watches: &mut StatsReceivers)
-        ensures paths { AreAsked TellsPath watches.old.paths.items watches.new.paths.items
+    pub(crate) fn refresh(&mut self, receivers: &mut StatsReceivers)
+        ensures paths { AreRefreshed RefreshesPath receivers.old.paths.items receivers.new.paths.items
             self.old.paths.items self.new.paths.items }
-        ensures streams { AreAsked TellsStream watches.old.streams.items watches.new.streams.items
+        ensures streams { AreRefreshed RefreshesStream receivers.old.streams.items receivers.new.streams.items
             self.old.streams.items self.new.streams.items }
-        ensures mix { MatchOption watches.old.mix (IsNone watches.new.mix × (self.new.mix ≡ self.old.mix))
-            (λ old. IsSomeAnd watches.new.mix (λ new. TellsMix old new self.old.mix self.new.mix)) }
+        ensures mix { MatchOption receivers.old.mix (IsNone receivers.new.mix × (self.new.mix ≡ self.old.mix))
+            (λ old. IsSomeAnd receivers.new.mix (λ new. RefreshesMix old new self.old.mix self.new.mix)) }
     {
-        refresh_paths(watches.paths.as_mut_slice(), self.paths.as_mut_slice());
-        refresh_streams(watches.streams.as_mut_slice(), self.streams.as_mut_slice());
-        refresh_mix(&mut watches.mix, &mut self.mix);
+        refresh_paths(receivers.paths.as_mut_slice(), self.paths.as_mut_slice());
+        refresh_streams(
+            receivers.streams.as_mut_slice(),
+            self.streams.as_mut_slice(),
+        );
+        refresh_mix(&mut receivers.mix, &mut self.mix);
     }
 
     /// Fills the statistics into a snapshot.
     pub(crate) fn fill(&self, snapshot: &mut Snapshot)
-        ensures streams { AreEach (SeesTold self.now.streams.items self.now.paths.items snapshot.old.streams.items)
+        ensures streams { AreEach (FillsEachStream self.now.streams.items self.now.paths.items snapshot.old.streams.items)
             snapshot.old.streams.items snapshot.new.streams.items }
         ensures outputs { MatchOption self.now.mix (snapshot.new.outputs ≡ snapshot.old.outputs)
-            (λ numbers. AreEach (HasNumbers numbers) snapshot.old.outputs.items snapshot.new.outputs.items) }
+            (λ stats. AreEach (HasNumbers stats) snapshot.old.outputs.items snapshot.new.outputs.items) }
     {
-        if let Some(numbers) = &self.mix {
-            fill_outputs(numbers, snapshot.outputs.as_mut_slice());
+        if let Some(stats) = &self.mix {
+            fill_outputs(stats, snapshot.outputs.as_mut_slice());
         }
         let streams = snapshot.streams.as_mut_slice();
         fill_streams(self.streams.as_slice(), self.paths.as_slice(), streams);
+    }
+}
+
+/// Refreshes the counts of all paths from their receivers.
+fn refresh_paths(receivers: &mut [PathCountsReceiver], counts: &mut [Option<PathCounts>])
+    ensures { AreRefreshed RefreshesPath receivers.old receivers.new counts.old counts.new }
+{
+    for place in 0..receivers.len().min(counts.len()) {
+        refresh_path(&mut receivers[place], &mut counts[place]);
+    }
+}
+
+/// Refreshes the counts of a path from its receiver. They stay if it received none.
+fn refresh_path(receiver: &mut PathCountsReceiver, counts: &mut Option<PathCounts>)
+    ensures { RefreshesPath receiver.old receiver.new counts.old counts.new }
+{
+    if let Some(newest) = receiver.latest() {
+        *counts = Some(newest);
+    }
+}
+
+/// Refreshes the statistics of all streams from their receivers.
+fn refresh_streams(receivers: &mut [StreamStatsReceiver], stats: &mut [Option<StreamStats>])
+    ensures { AreRefreshed RefreshesStream receivers.old receivers.new stats.old stats.new }
+{
+    for place in 0..receivers.len().min(stats.len()) {
+        refresh_stream(&mut receivers[place], &mut stats[place]);
+    }
+}
+
+/// Refreshes the statistics of a stream from its receiver. They stay if it received none.
+fn refresh_stream(receiver: &mut StreamStatsReceiver, stats: &mut Option<StreamStats>)
+    ensures { RefreshesStream receiver.old receiver.new stats.old stats.new }
+{
+    if let Some(newest) = receiver.latest() {
+        *stats = Some(newest);
+    }
+}
+
+/// Refreshes the statistics of the mix from its receiver, if there is one.
+fn refresh_mix(receiver: &mut Option<MixStatsReceiver>, stats: &mut Option<MixStats>)
+    ensures { MatchOption receiver.old (IsNone receiver.new × (stats.new ≡ stats.old))
+        (λ old. IsSomeAnd receiver.new (λ new. RefreshesMix old new stats.old stats.new)) }
+{
+    if let Some(receiver) = receiver {
+        refresh_mixer(receiver, stats);
+    }
+}
+
+/// Refreshes the statistics of the mix from its receiver. If it received none, the peaks are set to 0.
+// Without new statistics no datagram was sent since the last ones, so there is nothing that a peak could be of.
+fn refresh_mixer(receiver: &mut MixStatsReceiver, stats: &mut Option<MixStats>)
+    ensures { RefreshesMix receiver.old receiver.new stats.old stats.new }
+{
+    match receiver.latest() {
+        Some(newest) => *stats = Some(newest),
+        None => clear_peaks(stats),
+    }
+}
+
+/// Sets the peaks to 0.
+fn clear_peaks(stats: &mut Option<MixStats>)
+    ensures { stats.new ≡ mix_last_of None stats.old }
+{
+    if let Some(stats) = stats {
+        stats.peaks = [0; 8];
     }
 }

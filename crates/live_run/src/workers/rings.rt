@@ -16,7 +16,7 @@ const PLACES: usize = 256;
 #[derive(Drop)]
 pub(crate) struct Rings {
     pub(crate) ends: Ends,
-    pub(crate) watches: Option<StatsReceivers>,
+    pub(crate) receivers: Option<StatsReceivers>,
 }
 
 /// Returns the rings of a studio with so many paths. Returns `LiveFault::Socket` if the studio has another number of
@@ -43,15 +43,15 @@ fn opened_rings(alloc: Global, studio: &StudioSpec, is_shown: bool) -> Result<Ri
     ensures opened { IfOk result (λ rings. AreOpenedTogether studio.now 256 rings.ends) }
 {
     if is_shown {
-        let (ends, watches) = open_with_stats(alloc, studio, PLACES)?;
+        let (ends, receivers) = open_with_stats(alloc, studio, PLACES)?;
         return Ok(Rings {
             ends,
-            watches: Some(watches),
+            receivers: Some(receivers),
         });
     }
     let ends = open(alloc, studio, PLACES)?;
     Ok(Rings {
         ends,
-        watches: None,
+        receivers: None,
     })
 }

@@ -13,21 +13,21 @@ use studio_io::Clock;
 /// the clock and the publisher.
 #[derive(Drop)]
 pub(crate) struct WorkerStatusTask<'a, R: time::Clock, E> {
-    pub(crate) watches: StatsReceivers,
-    pub(crate) told: LatestStats,
+    pub(crate) receivers: StatsReceivers,
+    pub(crate) latest: LatestStats,
     pub(crate) clock: SystemClock<'a, R>,
-    pub(crate) board: StatusPublisher<E>,
+    pub(crate) publisher: StatusPublisher<E>,
 }
 
 impl<R: time::Clock, E: Write + Drop> StatusTask for WorkerStatusTask<'_, R, E> {
     /// Publishes the statistics that the workers sent, if a snapshot or lines are due.
     fn poll(&mut self) {
         let now = self.clock.now();
-        if self.board.is_due(now) {
-            self.told.refresh(&mut self.watches);
-            let mut snapshot = self.board.blank_snapshot();
-            self.told.fill(&mut snapshot);
-            self.board.publish(now, snapshot, false);
+        if self.publisher.is_due(now) {
+            self.latest.refresh(&mut self.receivers);
+            let mut snapshot = self.publisher.blank_snapshot();
+            self.latest.fill(&mut snapshot);
+            self.publisher.publish(now, snapshot, false);
         }
     }
 }

@@ -1,7 +1,7 @@
 //! Filling a snapshot's streams with the statistics that the workers sent.
 ghost use Rattle.std.specs.Prelude.{◌≡◌, drop};
 ghost use Rattle.live_status.specs.Each.{AreEach};
-ghost use Rattle.live_run.specs.StreamStatus.{HasCounts, SeesAt, SeesStream, SeesTold};
+ghost use Rattle.live_run.specs.StreamStatus.{HasCounts, FillsStreamAt, FillsStream, FillsEachStream};
 
 use live_status::{fill_datagrams, fill_stream};
 use rtp_stats::StreamStats;
@@ -10,31 +10,31 @@ use status_page::{PathState, StreamState};
 
 /// Fills in each stream and each path. `counts` has the counts of all paths, ordered by stream and then by path.
 pub(crate) fn fill_streams(
-    told: &[Option<StreamStats>],
+    stats: &[Option<StreamStats>],
     counts: &[Option<PathCounts>],
     streams: &mut [StreamState],
 )
-    ensures { AreEach (SeesTold told.now counts.now streams.old) streams.old streams.new }
+    ensures { AreEach (FillsEachStream stats.now counts.now streams.old) streams.old streams.new }
 {
     let mut left = counts;
     for (number, stream) in streams.iter_mut().enumerate() {
         let paths = stream.paths.len();
-        fill_stream_at(told, number, left, stream);
+        fill_stream_at(stats, number, left, stream);
         left = counts_past(left, paths);
     }
 }
 
 /// Fills in the stream at a place, if there is a place for its statistics. `counts` starts with those of its paths.
 fn fill_stream_at(
-    told: &[Option<StreamStats>],
+    stats: &[Option<StreamStats>],
     place: usize,
     counts: &[Option<PathCounts>],
     stream: &mut StreamState,
 )
-    ensures { SeesAt told.now place counts.now stream.old stream.new }
+    ensures { FillsStreamAt stats.now place counts.now stream.old stream.new }
 {
-    if let Some(numbers) = told.get(place) {
-        fill_stream_with_paths(numbers, counts, stream);
+    if let Some(own) = stats.get(place) {
+        fill_stream_with_paths(own, counts, stream);
     }
 }
 
@@ -51,14 +51,14 @@ fn counts_past(counts: &[Option<PathCounts>], paths: usize) -> &[Option<PathCoun
 
 /// Fills in a stream and its paths. The stream's own part stays as it is if no statistics were sent yet.
 fn fill_stream_with_paths(
-    told: &Option<StreamStats>,
+    stats: &Option<StreamStats>,
     counts: &[Option<PathCounts>],
     stream: &mut StreamState,
 )
-    ensures { SeesStream told.now counts.now stream.old stream.new }
+    ensures { FillsStream stats.now counts.now stream.old stream.new }
 {
-    if let Some(numbers) = told {
-        fill_stream(numbers, stream);
+    if let Some(own) = stats {
+        fill_stream(own, stream);
     }
     fill_path_counts(counts, stream.paths.as_mut_slice());
 }
@@ -76,7 +76,7 @@ fn fill_path_counts(counts: &[Option<PathCounts>], paths: &mut [PathState])
 fn fill_counts_at(counts: &[Option<PathCounts>], place: usize, path: &mut PathState)
     ensures { HasCounts counts.now place path.old path.new }
 {
-    if let Some(Some(told)) = counts.get(place) {
-        fill_datagrams(*told, path);
+    if let Some(Some(own)) = counts.get(place) {
+        fill_datagrams(*own, path);
     }
 }

@@ -29,16 +29,16 @@ pub(crate) fn prepare_workers<'a, R: Clock>(
     alloc: Global,
     ends: Ends,
     sockets: Sockets<'a>,
-    start: RunPeriod,
+    period: RunPeriod,
     flags: FeedFlags<'a>,
 ) -> Result<WorkerRun<'a, R>, AllocError>
-    ensures ends { IfOk result (λ work. work.ends ≡ ends) }
-    ensures feeds { IfOk result (λ work. length work.feeds.items ≡ length sockets.entry.receiving.items) }
-    ensures clocks { IfOk result (λ work. length work.clocks.items ≡ length ends.streams.items) }
+    ensures ends { IfOk result (λ workers. workers.ends ≡ ends) }
+    ensures feeds { IfOk result (λ workers. length workers.feeds.items ≡ length sockets.entry.receiving.items) }
+    ensures clocks { IfOk result (λ workers. length workers.clocks.items ≡ length ends.streams.items) }
 {
     let Sockets { receiving, sink } = sockets;
-    let clocks = clocks_of(rt, alloc, ends.streams.len(), start)?;
-    let feeds = udp_feeds(rt, alloc, receiving, start, flags)?;
+    let clocks = clocks_of(rt, alloc, ends.streams.len(), period)?;
+    let feeds = udp_feeds(rt, alloc, receiving, period, flags)?;
     Ok(WorkerRun {
         ends,
         feeds,
@@ -52,13 +52,13 @@ fn clocks_of<R: Clock>(
     rt: &R,
     alloc: Global,
     count: usize,
-    start: RunPeriod,
+    period: RunPeriod,
 ) -> Result<Vec<SystemClock<'_, R>>, AllocError>
     ensures { IfOk result (λ clocks. length clocks.items ≡ count) }
 {
     let mut clocks = Vec::with_capacity(alloc, count)?;
     for _ in 0..count {
-        clocks.push(start.clock(rt))?;
+        clocks.push(period.clock(rt))?;
     }
     Ok(clocks)
 }

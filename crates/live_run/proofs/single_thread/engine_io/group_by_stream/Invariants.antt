@@ -1,5 +1,5 @@
 use Rattle.std.proofs.Common.{◌≡◌, length, map, take}
-use Rattle.live_run.proofs.feed_groups.group_by_stream.Given as goal
+use Rattle.live_run.proofs.single_thread.engine_io.group_by_stream.Given as goal
 
 -- the streams so far have their feeds
 abbrev pub invariant-loop-stream : goal.invariant-loop-stream

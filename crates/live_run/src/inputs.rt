@@ -1,0 +1,17 @@
+//! The inputs of a live run.
+
+use live_io::{RecordResult, SocketConfig, StreamName};
+use std::time::Duration;
+
+/// The inputs of a live run, in addition to its studio and its options.
+#[derive(Clone, Copy)]
+pub struct LiveInputs<'a> {
+    /// The configuration of the sockets.
+    pub sockets: SocketConfig<'a>,
+    /// The name of each stream, if it has one.
+    pub names: &'a [Option<StreamName>],
+    /// The result of the record, which the run sets if there is one.
+    pub recorded: &'a RecordResult,
+    /// The reading of the system's monotonic clock at the studio's opening time, if it could be read.
+    pub began: Option<Duration>,
+}
