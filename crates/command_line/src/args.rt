@@ -1,4 +1,5 @@
 //! The commands of the program and their arguments.
+use live_io::LiveOptions;
 
 /// The command that the command line asks for.
 #[derive(Drop)]
@@ -39,7 +40,7 @@ pub enum FileCommand<'a> {
 /// The arguments of `marks --wav`: a stream, and the WAV file for its samples.
 #[derive(Clone, Copy)]
 pub struct StreamWavArgs<'a> {
-    // The option takes two words of one kind, a number and a path, so the program parses the number itself.
+    // The option takes two words of one kind, a number and a path, so the command parses the number itself.
     /// The stream's number, as the word that was given.
     pub stream: &'a str,
     /// The file's path.
@@ -57,34 +58,28 @@ pub struct ReplayArgs<'a> {
     pub chart: Option<&'a str>,
 }
 
-/// The options of `import`.
+/// The arguments of `import`.
 #[derive(Drop)]
 pub struct ImportArgs<'a> {
-    /// The addresses and ports of the flows, as the words that were given. Empty: all flows that fit a stream.
+    /// The addresses and ports of the flows, as the words that were given. If it is empty, all flows that fit a stream
+    /// are taken.
     pub addresses: Vec<&'a str>,
-    /// True if the configuration is asked for in place of the trace.
+    /// True if the configuration is asked for instead of the trace.
     pub config: bool,
-    /// The latency of the configuration's streams in milliseconds. None: one that follows from the skew between paths.
+    /// The latency of the configuration's streams in milliseconds. If `None`, it follows from the skew between paths.
     pub latency: Option<u32>,
 }
 
-/// The options of `live`.
+/// The arguments of `live`.
 #[derive(Clone, Copy)]
 pub struct LiveArgs<'a> {
-    /// The number of sampling instants at 48 kHz after which the run ends. None: the clock does not end it.
-    pub instants: Option<i64>,
-    /// The seconds from one report of each stream's counts to the next. None: they are reported at the end only.
-    pub stats: Option<u32>,
-    /// The port of 127.0.0.1 at which a page shows the run, if one is asked for. At 0 the system picks one.
-    pub page: Option<u16>,
-    /// True if the end of standard input ends the run.
-    pub until_eof: bool,
-    /// True if an engine in one thread does all that the workers would do.
-    pub one_thread: bool,
+    /// The options of the run.
+    pub options: LiveOptions,
     /// True if the run uses the sockets that it inherited, as by sd_listen_fds(3).
     pub listen_fds: bool,
     /// The offset of International Atomic Time from the system's time of day, if the run opens by that time: a number
-    /// of seconds, or `system` for the offset that the system knows. None: the run opens at the configuration's time.
+    /// of seconds, or `system` for the offset that the system knows. If `None`, the run opens at the configuration's
+    /// time.
     pub tai_offset: Option<&'a str>,
     /// The path of the run's record, if one is asked for.
     pub record: Option<&'a str>,

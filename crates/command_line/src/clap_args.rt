@@ -1,6 +1,8 @@
-//! The arguments of a command as constants, and clap's arguments of them.
+//! The table of commands as clap's types: the arguments of a command as constants, clap's arguments made of them, and
+//! clap's parser of the whole command line.
+use crate::commands::{COMMANDS, CommandSpec};
 use clap::builder::ValueParser;
-use clap::{Arg, ArgAction};
+use clap::{Arg, ArgAction, Command};
 use std::alloc::{AllocError, Global};
 
 /// An argument of a command: a path or an option.
@@ -8,11 +10,11 @@ use std::alloc::{AllocError, Global};
 pub(crate) struct ArgSpec {
     pub(crate) name: &'static str,
     pub(crate) help: &'static str,
-    pub(crate) form: ArgKind,
-    pub(crate) bound: ArgRelation,
+    pub(crate) kind: ArgKind,
+    pub(crate) relation: ArgRelation,
 }
 
-/// The form of an argument.
+/// The kind of an argument.
 #[derive(Clone, Copy)]
 pub(crate) enum ArgKind {
     /// A path, which is required.
@@ -39,13 +41,14 @@ pub(crate) enum ArgRelation {
 
 impl ArgSpec {
     /// Returns clap's argument for this one.
-    pub(crate) fn arg<'a>(&self, alloc: Global) -> Result<Arg<'a>, AllocError> {
+    pub(crate) fn clap_arg<'a>(&self, alloc: Global) -> Result<Arg<'a>, AllocError> {
         let arg = Arg::new(alloc, self.name).help(self.help);
-        match self.form {
+        match self.kind {
             ArgKind::Path => Ok(arg.required(true)),
-            ArgKind::Option(action, values, kind) => {
+            ArgKind::Option(action, values, parser) => {
                 let arg = arg.long(self.name).action(action);
-                self.bound.bind(arg.value_names(values).value_parser(kind))
+                self.relation
+                    .bind(arg.value_names(values).value_parser(parser))
             }
         }
     }
@@ -60,4 +63,49 @@ impl ArgRelation {
             ArgRelation::Excludes(other) => arg.conflicts_with(other),
         }
     }
+}
+
+/// Returns the parser of the program's command line.
+pub(crate) fn program_parser<'a>(alloc: Global) -> Result<Command<'a>, AllocError> {
+    program_of(alloc, command_parsers(alloc, COMMANDS)?)
+}
+
+/// Returns the parsers of these commands.
+fn command_parsers<'a>(
+    alloc: Global,
+    specs: &[CommandSpec],
+) -> Result<Vec<Command<'a>>, AllocError> {
+    let mut commands = Vec::with_capacity(alloc, specs.len())?;
+    for spec in specs {
+        commands.push(command_parser(alloc, spec)?)?;
+    }
+    Ok(commands)
+}
+
+/// Returns the parser of the program with these commands.
+fn program_of<'a>(alloc: Global, commands: Vec<Command<'a>>) -> Result<Command<'a>, AllocError> {
+    let about =
+        "Receives studio audio over IP, from a trace or live. Formats: docs/FORMATS.md. Without a word it lists \
+             the marks of the trace on standard input, by the configuration of examples/first";
+    let command = Command::new(alloc, "darbexum")
+        .about(about)
+        .version("0.2.0")
+        // The caller leaves the program's name out of the words.
+        .no_binary_name(true);
+    command.subcommands(commands)?.bin_name("darbexum")
+}
+
+/// Returns the parser of a command with its arguments.
+fn command_parser<'a>(alloc: Global, spec: &CommandSpec) -> Result<Command<'a>, AllocError> {
+    let args = arg_list(alloc, spec)?;
+    Command::new(alloc, spec.name).about(spec.about).args(args)
+}
+
+/// Returns clap's arguments for those of a command.
+fn arg_list<'a>(alloc: Global, spec: &CommandSpec) -> Result<Vec<Arg<'a>>, AllocError> {
+    let mut args = Vec::with_capacity(alloc, spec.args.len())?;
+    for arg in spec.args {
+        args.push(arg.clap_arg(alloc)?)?;
+    }
+    Ok(args)
 }

@@ -5,18 +5,18 @@ use clap::builder::ValueParser;
 
 // 2^40, which are 265 days.
 /// The greatest number of sampling instants of a live run.
-const MOST_INSTANTS: i64 = 1_099_511_627_776;
+const MAX_INSTANTS: i64 = 1_099_511_627_776;
 
 // The widest window, 16,384 packets, of the longest packets, 192 sampling instants, holds 65,536 ms.
 /// The greatest latency of an imported stream, in milliseconds.
-const MOST_LATENCY: i64 = 65_536;
+const MAX_LATENCY: i64 = 65_536;
 
-// The greatest value of `LiveArgs::stats`.
+// The greatest value of `LiveOptions::stats`.
 /// The greatest number of seconds from one report of a live run's counts to the next.
-const MOST_SECONDS: i64 = 4_294_967_295;
+const MAX_SECONDS: i64 = 4_294_967_295;
 
 /// The greatest port.
-const LAST_PORT: i64 = 65_535;
+const MAX_PORT: i64 = 65_535;
 
 /// A command: its word, its help and its arguments.
 #[derive(Clone, Copy)]
@@ -24,7 +24,7 @@ pub(crate) struct CommandSpec {
     pub(crate) name: &'static str,
     pub(crate) about: &'static str,
     /// The arguments, in the order of the command's help.
-    pub(crate) parts: &'static [ArgSpec],
+    pub(crate) args: &'static [ArgSpec],
 }
 
 // A table of constants, so that one loop makes the parser of all commands.
@@ -33,7 +33,7 @@ pub(crate) const COMMANDS: &[CommandSpec] = &[
     CommandSpec {
         name: "marks",
         about: "Lists the marks of the trace on standard input, stream by stream",
-        parts: &[
+        args: &[
             CONFIG,
             ArgSpec {
                 name: "counts",
@@ -43,41 +43,41 @@ pub(crate) const COMMANDS: &[CommandSpec] = &[
             ArgSpec {
                 name: "wav",
                 help: "Write the samples of a stream to this WAV file too, lost packets as silence",
-                form: ArgKind::Option(ArgAction::Set, &["STREAM", "FILE"], ValueParser::String),
-                bound: ArgRelation::Excludes("counts"),
+                kind: ArgKind::Option(ArgAction::Set, &["STREAM", "FILE"], ValueParser::String),
+                relation: ArgRelation::Excludes("counts"),
             },
         ],
     },
     CommandSpec {
         name: "play",
         about: "Plays the trace on standard input to its datagrams and counts",
-        parts: &[CONFIG, MIX],
+        args: &[CONFIG, MIX],
     },
     CommandSpec {
         name: "chart",
         about: "Draws what each path gave to each stream of the trace on standard input, as an SVG",
-        parts: &[CONFIG],
+        args: &[CONFIG],
     },
     CommandSpec {
         name: "check",
         about: "Says what a configuration means",
-        parts: &[CONFIG],
+        args: &[CONFIG],
     },
     CommandSpec {
         name: "streams",
         about: "Says what RTP audio a capture holds: counts, what fits each flow, and the skew of paths",
-        parts: &[CAPTURE],
+        args: &[CAPTURE],
     },
     CommandSpec {
         name: "import",
         about: "Writes a capture's RTP datagrams as a trace, for marks and play",
-        parts: &[
+        args: &[
             CAPTURE,
             ArgSpec {
                 name: "path",
                 help: "Take the flows to this address alone; may be given again. Without it all that fit are taken",
-                form: ArgKind::Option(ArgAction::Append, &["ADDRESS:PORT"], ValueParser::String),
-                bound: ArgRelation::Free,
+                kind: ArgKind::Option(ArgAction::Append, &["ADDRESS:PORT"], ValueParser::String),
+                relation: ArgRelation::Free,
             },
             ArgSpec {
                 name: "config",
@@ -87,19 +87,15 @@ pub(crate) const COMMANDS: &[CommandSpec] = &[
             ArgSpec {
                 name: "latency",
                 help: "Its latency; without it twice the greatest skew between paths, and 10 ms at least",
-                form: ArgKind::Option(
-                    ArgAction::Set,
-                    &["MS"],
-                    ValueParser::Signed(1, MOST_LATENCY),
-                ),
-                bound: ArgRelation::Free,
+                kind: ArgKind::Option(ArgAction::Set, &["MS"], ValueParser::Signed(1, MAX_LATENCY)),
+                relation: ArgRelation::Free,
             },
         ],
     },
     CommandSpec {
         name: "replay",
         about: "Plays a capture of any length, as play does the trace that import writes of it",
-        parts: &[
+        args: &[
             CONFIG,
             CAPTURE,
             MIX,
@@ -113,7 +109,7 @@ pub(crate) const COMMANDS: &[CommandSpec] = &[
     CommandSpec {
         name: "live",
         about: "Receives from sockets, and sends the mix to two ports, at the configuration's addresses or 127.0.0.1",
-        parts: LIVE,
+        args: LIVE,
     },
 ];
 
@@ -123,28 +119,24 @@ const LIVE: &[ArgSpec] = &[
     ArgSpec {
         name: "instants",
         help: "End after so many sampling instants at 48 kHz, 1 to 1099511627776",
-        form: ArgKind::Option(
-            ArgAction::Set,
-            &["N"],
-            ValueParser::Signed(1, MOST_INSTANTS),
-        ),
-        bound: ArgRelation::Free,
+        kind: ArgKind::Option(ArgAction::Set, &["N"], ValueParser::Signed(1, MAX_INSTANTS)),
+        relation: ArgRelation::Free,
     },
     ArgSpec {
         name: "stats",
         help: "Tell each stream's counts on standard error so often",
-        form: ArgKind::Option(
+        kind: ArgKind::Option(
             ArgAction::Set,
             &["SECONDS"],
-            ValueParser::Signed(1, MOST_SECONDS),
+            ValueParser::Signed(1, MAX_SECONDS),
         ),
-        bound: ArgRelation::Free,
+        relation: ArgRelation::Free,
     },
     ArgSpec {
         name: "page",
         help: "Serve a page of the run at this port of 127.0.0.1; at 0 the system picks one",
-        form: ArgKind::Option(ArgAction::Set, &["PORT"], ValueParser::Signed(0, LAST_PORT)),
-        bound: ArgRelation::Free,
+        kind: ArgKind::Option(ArgAction::Set, &["PORT"], ValueParser::Signed(0, MAX_PORT)),
+        relation: ArgRelation::Free,
     },
     ArgSpec {
         name: "until-eof",
@@ -164,20 +156,20 @@ const LIVE: &[ArgSpec] = &[
     ArgSpec {
         name: "record",
         help: "Write what was received to this pcapng file, for replay; of a run in one thread",
-        bound: ArgRelation::Needs("one-thread"),
+        relation: ArgRelation::Needs("one-thread"),
         ..FILE
     },
     ArgSpec {
         name: "clock",
         help: "Open now by International Atomic Time, as the media clock of ST 2110 counts it",
-        form: ArgKind::Option(ArgAction::Set, &["tai"], ValueParser::Names(&["tai"])),
-        bound: ArgRelation::Free,
+        kind: ArgKind::Option(ArgAction::Set, &["tai"], ValueParser::Names(&["tai"])),
+        relation: ArgRelation::Free,
     },
     ArgSpec {
         name: "tai-offset",
         help: "How many seconds that time is ahead of the system's, or system where that was told",
-        form: ArgKind::Option(ArgAction::Set, &["SECONDS"], ValueParser::String),
-        bound: ArgRelation::Needs("clock"),
+        kind: ArgKind::Option(ArgAction::Set, &["SECONDS"], ValueParser::String),
+        relation: ArgRelation::Needs("clock"),
     },
 ];
 
@@ -185,16 +177,16 @@ const LIVE: &[ArgSpec] = &[
 const CONFIG: ArgSpec = ArgSpec {
     name: "CONFIG",
     help: "The configuration, in TOML",
-    form: ArgKind::Path,
-    bound: ArgRelation::Free,
+    kind: ArgKind::Path,
+    relation: ArgRelation::Free,
 };
 
 /// The path of a capture.
 const CAPTURE: ArgSpec = ArgSpec {
     name: "FILE",
     help: "The capture, a pcap or pcapng file",
-    form: ArgKind::Path,
-    bound: ArgRelation::Free,
+    kind: ArgKind::Path,
+    relation: ArgRelation::Free,
 };
 
 /// The path of the mix's WAV file.
@@ -208,14 +200,14 @@ const MIX: ArgSpec = ArgSpec {
 const FLAG: ArgSpec = ArgSpec {
     name: "",
     help: "",
-    form: ArgKind::FLAG,
-    bound: ArgRelation::Free,
+    kind: ArgKind::FLAG,
+    relation: ArgRelation::Free,
 };
 
 /// An option with the path of a file, whose name and help are still to be filled in.
 const FILE: ArgSpec = ArgSpec {
     name: "",
     help: "",
-    form: ArgKind::Option(ArgAction::Set, &["FILE"], ValueParser::String),
-    bound: ArgRelation::Free,
+    kind: ArgKind::Option(ArgAction::Set, &["FILE"], ValueParser::String),
+    relation: ArgRelation::Free,
 };

@@ -1,13 +1,12 @@
 //! The command line of `darbexum`: from its words to the command that they ask for.
 //!
 //! `parse_args` returns the `CliCommand` of a program's words, or clap's error with its text. Help and the version are
-//! errors too. `commands` has all commands with their arguments and help as a table. `clap_args` and `clap_command`
-//! make clap's parser of it.
+//! errors too. `commands` has all commands with their arguments and help as a table. `clap_args` makes clap's parser of
+//! it.
 #![tactic(auto)]
 
 mod args;
 mod clap_args;
-mod clap_command;
 mod commands;
 mod parse;
 
