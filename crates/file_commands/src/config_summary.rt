@@ -7,10 +7,14 @@ use std::io;
 use std::io::Write;
 use std::net::Ipv4Addr;
 use studio_config::{Networks, OutputAddresses, Ports, StudioSpec};
+use studio_run::millis;
+
+/// The names of a stream's paths.
+const PATH_NAMES: [&str; 4] = ["a", "b", "c", "d"];
 
 /// Writes a line for each stream and each of its paths, for the output and each of its copies, and the gains with the
 /// times from which they are in force. Returns the writer's error if a write fails.
-pub fn write_summary<W: Write>(studio: &StudioSpec, output: &mut W) -> io::Result<()> {
+pub(crate) fn write_summary<W: Write>(studio: &StudioSpec, output: &mut W) -> io::Result<()> {
     for (number, stream) in studio.streams().iter().enumerate() {
         write_stream(number, stream, output)?;
         let paths = stream.paths();
@@ -27,22 +31,26 @@ pub fn write_summary<W: Write>(studio: &StudioSpec, output: &mut W) -> io::Resul
     Ok(())
 }
 
-/// Returns sampling instants at 48 kHz as whole milliseconds, and the rest in microseconds, rounded down.
-fn millis(instants: u64) -> (u64, u64) {
-    // 1,000,000 / 48,000 microseconds for each instant, in lowest terms.
-    let micros = instants.saturating_mul(125) / 6;
-    (micros / 1000, micros % 1000)
+/// Writes sampling instants at 48 kHz as milliseconds, in parentheses.
+fn write_millis<W: Write>(instants: u64, output: &mut W) -> io::Result<()> {
+    let (ms, us) = millis(instants);
+    write!(output, "({ms}.{us:03} ms)")
+}
+
+// Lines are written in several short formats: one format of many values takes long to prove.
+/// Writes the encoding and the channels of packets, and their length in sampling instants and in milliseconds.
+fn write_packets<W: Write>(enc: Enc, channels: u8, frames: u16, output: &mut W) -> io::Result<()> {
+    let name = name_of(enc);
+    write!(output, "{name}, channels {channels}, packets of {frames} ")?;
+    write_millis(u64::from(frames), output)
 }
 
 /// Writes the line of a stream.
 fn write_stream<W: Write>(number: usize, stream: &StreamSpec, output: &mut W) -> io::Result<()> {
-    let enc = name_of(stream.enc());
-    let (channels, frames, pt) = (stream.channels(), stream.frames(), stream.pt());
-    let (ms, us) = millis(u64::from(frames));
-    write!(
-        output,
-        "stream {number}: {enc}, channels {channels}, packets of {frames} ({ms}.{us:03} ms), type {pt}"
-    )?;
+    write!(output, "stream {number}: ")?;
+    write_packets(stream.enc(), stream.channels(), stream.frames(), output)?;
+    let pt = stream.pt();
+    write!(output, ", type {pt}")?;
     write_source(stream.ssrc(), output)?;
     write_clock(stream.clock(), output)?;
     write_wait(stream, output)
@@ -67,12 +75,11 @@ fn write_clock<W: Write>(clock: StreamClock, output: &mut W) -> io::Result<()> {
 /// Writes how long a stream waits for packets, and how many it may hold.
 fn write_wait<W: Write>(stream: &StreamSpec, output: &mut W) -> io::Result<()> {
     let (latency, window) = (stream.latency(), stream.window());
-    let (wait, wait_us) = millis(u64::from(latency));
-    let (held, held_us) = millis(u64::from(window) * u64::from(stream.frames()));
-    writeln!(
-        output,
-        ", latency {latency} ({wait}.{wait_us:03} ms), window of {window} packets ({held}.{held_us:03} ms)"
-    )
+    write!(output, ", latency {latency} ")?;
+    write_millis(u64::from(latency), output)?;
+    write!(output, ", window of {window} packets ")?;
+    write_millis(u64::from(window) * u64::from(stream.frames()), output)?;
+    writeln!(output)
 }
 
 /// Writes a line for each path of a stream: its port, and its addresses if the configuration has them.
@@ -83,22 +90,27 @@ fn write_paths<W: Write>(
     networks: &Networks,
     output: &mut W,
 ) -> io::Result<()> {
-    for (place, name) in ["a", "b", "c", "d"]
-        .iter()
-        .enumerate()
-        .take(usize::from(paths))
-    {
-        // Never none: `Path::new` takes the places of the four names.
-        let Some(path) = Path::new(place as u8) else {
-            return Ok(());
-        };
-        let (at, from) = (
-            networks.address(number, path),
-            networks.source(number, path),
-        );
-        write_path(name, ports.port(number, path), at, from, output)?;
+    for place in 0..paths {
+        write_path_at(number, place, ports, networks, output)?;
     }
     Ok(())
+}
+
+/// Writes the line of the path at a place.
+fn write_path_at<W: Write>(
+    number: usize,
+    place: u8,
+    ports: &Ports,
+    networks: &Networks,
+    output: &mut W,
+) -> io::Result<()> {
+    // Never none: a stream has at most four paths.
+    let (Some(name), Some(path)) = (PATH_NAMES.get(usize::from(place)), Path::new(place)) else {
+        return Ok(());
+    };
+    let at = networks.address(number, path);
+    let from = networks.source(number, path);
+    write_path(name, ports.port(number, path), at, from, output)
 }
 
 /// Writes a path's port, and, if the configuration has them, the address to which its packets come and the source
@@ -121,40 +133,45 @@ fn write_path<W: Write>(
 
 /// Writes the line of the output.
 fn write_output<W: Write>(spec: &OutSpec, output: &mut W) -> io::Result<()> {
-    let enc = name_of(spec.enc());
-    let (channels, frames, pt) = (spec.channels(), spec.frames(), spec.pt());
-    let (ms, us) = millis(u64::from(frames));
-    let (ssrc, seq, start) = (spec.ssrc(), spec.seq0(), spec.start());
-    writeln!(
-        output,
-        "output: {enc}, channels {channels}, packets of {frames} ({ms}.{us:03} ms), type {pt}, source {ssrc}, \
-        first number {seq}, from {start}"
-    )
+    write!(output, "output: ")?;
+    write_packets(spec.enc(), spec.channels(), spec.frames(), output)?;
+    let (pt, ssrc) = (spec.pt(), spec.ssrc());
+    write!(output, ", type {pt}, source {ssrc}, ")?;
+    let (seq, start) = (spec.seq0(), spec.start());
+    writeln!(output, "first number {seq}, from {start}")
 }
 
-/// Writes a line for each copy of the output that has a port: the port, its addresses and the time to live, if the
-/// configuration has them.
+/// Writes a line for each copy of the output that has a port.
 fn write_copies<W: Write>(
     ports: &Ports,
     senders: &OutputAddresses,
     output: &mut W,
 ) -> io::Result<()> {
-    for (name, port, to, from) in [
-        ("a", ports.to_a, senders.to_a, senders.from_a),
-        ("b", ports.to_b, senders.to_b, senders.from_b),
-    ] {
-        let Some(port) = port else {
-            continue;
-        };
-        write!(output, "  to {name}: port {port}")?;
-        write_address(" at", to, output)?;
-        write_address(", from", from, output)?;
-        if let Some(ttl) = senders.ttl {
-            write!(output, ", time to live {ttl}")?;
-        }
-        writeln!(output)?;
+    let ttl = senders.ttl;
+    write_copy("a", ports.to_a, senders.to_a, senders.from_a, ttl, output)?;
+    write_copy("b", ports.to_b, senders.to_b, senders.from_b, ttl, output)
+}
+
+/// Writes the line of a copy of the output, if it has a port: the port, its addresses and the time to live, if the
+/// configuration has them.
+fn write_copy<W: Write>(
+    name: &str,
+    port: Option<u16>,
+    to: Option<Ipv4Addr>,
+    from: Option<Ipv4Addr>,
+    ttl: Option<u8>,
+    output: &mut W,
+) -> io::Result<()> {
+    let Some(port) = port else {
+        return Ok(());
+    };
+    write!(output, "  to {name}: port {port}")?;
+    write_address(" at", to, output)?;
+    write_address(", from", from, output)?;
+    if let Some(ttl) = ttl {
+        write!(output, ", time to live {ttl}")?;
     }
-    Ok(())
+    writeln!(output)
 }
 
 /// Writes a word and an address, or nothing if there is no address.
@@ -173,11 +190,11 @@ fn write_address<W: Write>(
 fn write_gains<W: Write>(matrix: &Matrix, output: &mut W) -> io::Result<()> {
     for (place, gain) in matrix.gains().iter().enumerate() {
         // A matrix has at least one input. `max` shows that the divisor is not 0.
-        let first = place % matrix.ins().max(1) == 0;
-        if first && place > 0 {
-            writeln!(output)?;
-        }
-        let space = if first { "  " } else { " " };
+        let space = match (place, place % matrix.ins().max(1)) {
+            (0, _) => "  ",
+            (_, 0) => "\n  ",
+            _ => " ",
+        };
         write!(output, "{space}{gain}")?;
     }
     writeln!(output)

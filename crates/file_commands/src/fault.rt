@@ -5,7 +5,7 @@ use pcap_replay::ReplayFault;
 use std::alloc::{AllocError, AllocFailed};
 use std::io;
 use studio_config::SpecErrorKind;
-use studio_run::{PlayFault, SpecError, StudioFault, WriteFault};
+use studio_run::{PlayFault, ReadFault, SpecError, StudioFault, WriteFault};
 use thiserror::Error;
 use wav_file::{FileFault, StreamWavFault};
 
@@ -81,6 +81,24 @@ pub enum CaptureInputFault {
 }
 
 impl CommandFault {
+    /// Returns the fault of a configuration that was not read.
+    pub(crate) fn of_config(fault: ReadFault) -> CommandFault {
+        match fault {
+            ReadFault::Device => CommandFault::Config(ConfigFault::Unread),
+            ReadFault::TooMany => CommandFault::Config(ConfigFault::TooLong),
+            ReadFault::Memory => CommandFault::Memory,
+        }
+    }
+
+    /// Returns the fault of a capture that was not opened or not read.
+    pub(crate) fn of_capture(fault: ReadFault) -> CommandFault {
+        match fault {
+            ReadFault::Device => CommandFault::Capture(CaptureInputFault::Unread),
+            ReadFault::TooMany => CommandFault::Capture(CaptureInputFault::TooLong),
+            ReadFault::Memory => CommandFault::Memory,
+        }
+    }
+
     /// Returns the exit status of the program: 1 for a fault of a trace, an event or a capture, 2 for one of the
     /// command line, 3 for one of the configuration, 4 if an allocation failed, and 5 if a read or a write failed.
     pub fn status(&self) -> u8 {

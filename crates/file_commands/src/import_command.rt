@@ -1,7 +1,7 @@
 //! The command `import`: a capture as a trace, or the configuration that fits it.
 use crate::fault::{CaptureInputFault, CommandFault};
-use crate::files::Files;
-use crate::streams_command::{capture_of, own_fault};
+use crate::host::{Host, read_capture};
+use crate::streams_command::own_fault;
 use command_line::ImportArgs;
 use pcap_flows::{FlowTable, ImportFault, Routes, config_text, routes_of, trace_text};
 use std::alloc::Global;
@@ -11,41 +11,73 @@ use studio_run::write_text;
 
 /// Writes the trace of the capture at a path, or the configuration that fits it. If some flows were left out, it writes
 /// their number to `faults`. A fault of the capture itself is returned after that, since the packets before it count.
-pub fn run_import<C: Files, W: Write, E: Write>(
-    files: &C,
+pub fn run_import<H: Host>(
+    host: &H,
     alloc: Global,
     path: &str,
-    options: &ImportArgs<'_>,
-    output: &mut W,
-    faults: &mut E,
+    args: &ImportArgs<'_>,
+    output: &mut H::Stdout,
+    faults: &mut H::Stderr,
 ) -> Result<(), CommandFault> {
-    let names = addresses_in(alloc, options.addresses.as_slice())?;
-    let octets = capture_of(files, alloc, path)?;
-    let octets = octets.as_slice();
+    let addresses = addresses_in(alloc, args.addresses.as_slice())?;
+    let octets = read_capture(host, alloc, path)?;
+    import_octets::<H>(
+        alloc,
+        octets.as_slice(),
+        addresses.as_slice(),
+        args,
+        output,
+        faults,
+    )
+}
+
+/// Writes the trace or the configuration of a capture's octets, for the flows to these addresses.
+fn import_octets<H: Host>(
+    alloc: Global,
+    octets: &[u8],
+    addresses: &[SocketAddrV4],
+    args: &ImportArgs<'_>,
+    output: &mut H::Stdout,
+    faults: &mut H::Stderr,
+) -> Result<(), CommandFault> {
     let table = FlowTable::of(alloc, octets)?;
-    let routes = routed(alloc, &table, names.as_slice())?;
-    write_import(alloc, &table, octets, &routes, options, output)?;
-    if routes.left_out() > 0 {
+    let left_out = import_flows(alloc, &table, octets, addresses, args, output)?;
+    if left_out > 0 {
         // If this line cannot be written it is lost, as a fault's line is.
-        let _ = writeln!(faults, "capture: flows left out: {}", routes.left_out());
+        let _ = writeln!(faults, "capture: flows left out: {left_out}");
     }
     own_fault(&table)
 }
 
-/// Returns the routes of a capture's flows to these addresses, or, if there are none, of all flows that fit a stream.
-pub(crate) fn routed(
+/// Writes the trace or the configuration of a capture's flows to these addresses, and returns the number of flows that
+/// were left out.
+fn import_flows<W: Write>(
     alloc: Global,
     table: &FlowTable,
-    names: &[SocketAddrV4],
+    octets: &[u8],
+    addresses: &[SocketAddrV4],
+    args: &ImportArgs<'_>,
+    output: &mut W,
+) -> Result<usize, CommandFault> {
+    let routes = routes_to(alloc, table, addresses)?;
+    write_import(alloc, table, octets, &routes, args, output)?;
+    Ok(routes.left_out())
+}
+
+/// Returns the routes of a capture's flows to these addresses, or, if there are none, of all flows that fit a stream.
+pub(crate) fn routes_to(
+    alloc: Global,
+    table: &FlowTable,
+    addresses: &[SocketAddrV4],
 ) -> Result<Routes, CommandFault> {
-    match routes_of(alloc, table, names) {
+    match routes_of(alloc, table, addresses) {
         Ok(routes) => Ok(routes),
-        Err(fault) => Err(unrouted(table, fault)),
+        Err(fault) => Err(route_fault(table, fault)),
     }
 }
 
 /// Returns the fault of a capture that has no routes.
-fn unrouted(table: &FlowTable, fault: ImportFault) -> CommandFault {
+fn route_fault(table: &FlowTable, fault: ImportFault) -> CommandFault {
     // A flow may be missing only because the capture was read up to its own fault, which is then the cause.
     match (fault, table.fault()) {
         (ImportFault::NoFlow | ImportFault::UnknownAddress, Some(fault)) => {
@@ -55,17 +87,17 @@ fn unrouted(table: &FlowTable, fault: ImportFault) -> CommandFault {
     }
 }
 
-/// Writes the configuration if the options ask for it, or else the trace.
+/// Writes the configuration if it is asked for, or else the trace.
 fn write_import<W: Write>(
     alloc: Global,
     table: &FlowTable,
     octets: &[u8],
     routes: &Routes,
-    options: &ImportArgs<'_>,
+    args: &ImportArgs<'_>,
     output: &mut W,
 ) -> Result<(), CommandFault> {
-    if options.config {
-        write_config(alloc, table, octets, routes, options, output)
+    if args.config {
+        write_config(alloc, table, octets, routes, args, output)
     } else {
         write_trace(alloc, octets, routes, output)
     }
@@ -77,10 +109,10 @@ fn write_config<W: Write>(
     table: &FlowTable,
     octets: &[u8],
     routes: &Routes,
-    options: &ImportArgs<'_>,
+    args: &ImportArgs<'_>,
     output: &mut W,
 ) -> Result<(), CommandFault> {
-    match config_text(alloc, table, octets, routes, options.latency) {
+    match config_text(alloc, table, octets, routes, args.latency) {
         Ok(text) => Ok(write_text(output, text.as_bytes())?),
         Err(fault) => Err(fault_of(fault)),
     }

@@ -5,29 +5,27 @@
 //! command to `output`, or return a `CommandFault`, which has its line and exit status.
 //! `run_quick_start` is the run without words.
 //!
-//! The caller passes `Files`, which opens and creates files by path: no command opens a file itself.
-//! `read_config` and `parse_studio` read a configuration, and `write_summary` writes the lines of
-//! check.
+//! The caller passes a `Host`, which opens and creates files by path: no command opens a file itself.
+//! `read_config` and `parse_studio` read a configuration.
 #![tactic(auto)]
 
+mod config;
 mod config_summary;
 mod fault;
-mod files;
+mod host;
 mod import_command;
-mod named_file;
 mod replay_command;
 mod replay_outputs;
 mod streams_command;
 mod trace_commands;
-mod wav;
 
-pub use config_summary::write_summary;
+pub use config::{parse_studio, read_config, table_in};
 pub use fault::{CaptureInputFault, CommandFault, ConfigFault, output_result};
-pub use files::{Files, parse_studio, read_config, table_in};
+pub use host::Host;
 pub use import_command::run_import;
 pub use replay_command::run_replay;
 pub use streams_command::run_streams;
 pub use trace_commands::{
-    run_chart, run_check, run_marks, run_marks_with_counts, run_play, run_quick_start,
+    run_chart, run_check, run_marks, run_marks_to_wav, run_marks_with_counts, run_play,
+    run_play_to_wav, run_quick_start,
 };
-pub use wav::{run_marks_to_wav, run_play_to_wav};

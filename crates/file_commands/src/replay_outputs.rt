@@ -3,7 +3,7 @@ ghost use Rattle.std.specs.Prelude.{[], IfOk};
 ghost use Rattle.pcap_replay.specs.WavObserver.{HasSoundedIf};
 
 use crate::fault::CommandFault;
-use crate::files::Files;
+use crate::host::{Host, begin_fault_line};
 use mix_packets::OutSpec;
 use pcap_replay::{ReplayObserver, WavObserver};
 use reception_chart::{ReceptionObserver, StudioTracker};
@@ -15,92 +15,92 @@ use wav_file::{FileFault, Overwrite};
 /// The observer of a replay: the mix's WAV file and the trackers of the chart, each if it is asked for.
 #[derive(Drop)]
 pub(crate) struct ReplayOutputs<F: Overwrite, O> {
-    pub(crate) sound: Option<WavObserver<F>>,
+    pub(crate) wav: Option<WavObserver<F>>,
     pub(crate) streams: Option<StudioTracker<O>>,
 }
 
 impl<F: Overwrite + Drop, O: ReceptionObserver + Drop> ReplayObserver for ReplayOutputs<F, O> {
     // Contracts follow the WAV file alone. The chart is outside them.
-    ghost heard = { λ begun now events datagrams. HasSoundedIf begun.sound now.sound events datagrams };
+    ghost heard = { λ begun now events datagrams. HasSoundedIf begun.wav now.wav events datagrams };
 
     fn arrived(&mut self, stream: usize, path: Path, octets: &[u8]) {
-        self.sound.arrived(stream, path, octets);
+        self.wav.arrived(stream, path, octets);
         if let Some(streams) = &mut self.streams {
             streams.arrived(stream, path, octets);
         }
     }
 
     fn read(&mut self, time: i64) {
-        self.sound.read(time);
+        self.wav.read(time);
         if let Some(streams) = &mut self.streams {
             streams.read(time);
         }
     }
 
     fn closed(&mut self) {
-        self.sound.closed();
+        self.wav.closed();
         if let Some(streams) = &mut self.streams {
             streams.closed();
         }
     }
 
     fn output(&mut self, datagram: &[u8]) {
-        self.sound.output(datagram);
+        self.wav.output(datagram);
     }
 }
 
 /// Creates the mix's WAV file and writes its header, if one is asked for.
-pub(crate) fn create_wav<C: Files, E: Write>(
-    files: &C,
+pub(crate) fn create_wav<H: Host>(
+    host: &H,
     path: Option<&str>,
     output: &OutSpec,
-    faults: &mut E,
-) -> Result<Option<WavObserver<C::File>>, CommandFault>
-    ensures { IfOk result (λ sound. HasSoundedIf sound sound [] []) }
+    faults: &mut H::Stderr,
+) -> Result<Option<WavObserver<H::Target>>, CommandFault>
+    ensures { IfOk result (λ wav. HasSoundedIf wav wav [] []) }
 {
     let Some(path) = path else {
         return Ok(None);
     };
-    let begun = match files.create(path) {
+    let created = match host.create(path) {
         Ok(file) => WavObserver::begin(file, output),
         Err(fault) => Err(fault),
     };
-    match begun {
-        Ok(sound) => Ok(Some(sound)),
+    match created {
+        Ok(wav) => Ok(Some(wav)),
         Err(fault) => Err(file_fault("wav", path, fault, faults)),
     }
 }
 
 /// Completes the mix's WAV file after a report, or after the fault that ended the report.
 pub(crate) fn finish_wav<F: Overwrite + Drop, E: Write>(
-    sound: Option<WavObserver<F>>,
+    wav: Option<WavObserver<F>>,
     played: Result<(), CommandFault>,
     path: Option<&str>,
     faults: &mut E,
 ) -> Result<(), CommandFault> {
-    let (Some(sound), Some(path)) = (sound, path) else {
+    let (Some(wav), Some(path)) = (wav, path) else {
         return played;
     };
-    // The report's fault came first, so it is the answer, whatever becomes of the file.
+    // The report's fault came first, so it is returned, whatever becomes of the file.
     if played.is_err() {
-        let _ = sound.break_off();
+        let _ = wav.break_off();
         return played;
     }
-    match sound.finish() {
+    match wav.finish() {
         Ok(_file) => Ok(()),
         Err(fault) => Err(file_fault("wav", path, fault, faults)),
     }
 }
 
 /// Writes a chart to a new file at a path.
-pub(crate) fn write_chart<C: Files, E: Write>(
-    files: &C,
+pub(crate) fn write_chart<H: Host>(
+    host: &H,
     path: &str,
-    picture: &[u8],
-    faults: &mut E,
+    chart: &[u8],
+    faults: &mut H::Stderr,
 ) -> Result<(), CommandFault> {
-    let written = match files.create(path) {
-        Ok(mut file) => written_picture(&mut file, picture),
+    let written = match host.create(path) {
+        Ok(mut file) => write_to(&mut file, chart),
         Err(fault) => Err(fault),
     };
     match written {
@@ -110,8 +110,8 @@ pub(crate) fn write_chart<C: Files, E: Write>(
 }
 
 /// Writes a chart's text to its file.
-fn written_picture<W: Write>(file: &mut W, picture: &[u8]) -> Result<(), FileFault> {
-    match write_text(file, picture) {
+fn write_to<W: Write>(file: &mut W, chart: &[u8]) -> Result<(), FileFault> {
+    match write_text(file, chart) {
         Ok(()) => Ok(()),
         Err(_) => Err(FileFault::Write),
     }
@@ -119,6 +119,6 @@ fn written_picture<W: Write>(file: &mut W, picture: &[u8]) -> Result<(), FileFau
 
 /// Writes the path of a file to `faults`, and returns the fault that its line goes on with.
 fn file_fault<E: Write>(word: &str, path: &str, fault: FileFault, faults: &mut E) -> CommandFault {
-    let _ = write!(faults, "{word} {path}: ");
+    begin_fault_line(word, path, faults);
     CommandFault::Wav(fault)
 }

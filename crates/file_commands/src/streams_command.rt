@@ -1,35 +1,21 @@
 //! The command `streams`: the RTP flows of a capture.
 use crate::fault::{CaptureInputFault, CommandFault};
-use crate::files::Files;
+use crate::host::{Host, read_capture};
 use pcap_flows::{FlowTable, table_text};
 use std::alloc::Global;
 use std::io::Write;
-use studio_run::{ReadFault, write_text};
+use studio_run::write_text;
 
 /// Writes a line for each RTP flow of the capture at a path, stream by stream. A fault of the capture itself is
 /// returned after the lines of the flows before it are written.
-pub fn run_streams<C: Files, W: Write>(
-    files: &C,
+pub fn run_streams<H: Host>(
+    host: &H,
     alloc: Global,
     path: &str,
-    output: &mut W,
+    output: &mut H::Stdout,
 ) -> Result<(), CommandFault> {
-    let octets = capture_of(files, alloc, path)?;
+    let octets = read_capture(host, alloc, path)?;
     write_streams(alloc, octets.as_slice(), output)
-}
-
-/// Returns the octets of the capture at a path.
-pub(crate) fn capture_of<C: Files>(
-    files: &C,
-    alloc: Global,
-    path: &str,
-) -> Result<Vec<u8>, CommandFault> {
-    match files.read_all(alloc, path) {
-        Ok(octets) => Ok(octets),
-        Err(ReadFault::Device) => Err(CommandFault::Capture(CaptureInputFault::Unread)),
-        Err(ReadFault::TooMany) => Err(CommandFault::Capture(CaptureInputFault::TooLong)),
-        Err(ReadFault::Memory) => Err(CommandFault::Memory),
-    }
 }
 
 /// Writes the lines of the flows of a capture's octets, and returns the capture's own fault.

@@ -1,11 +1,14 @@
-//! The commands over a trace on standard input that write one text, and `check`.
+//! The commands over a trace on standard input, with or without a WAV file of the mix or of one stream, and `check`.
+use crate::config::{quick_start_studio, studio_of};
 use crate::config_summary::write_summary;
 use crate::fault::{CommandFault, output_result};
-use crate::files::{Files, quick_start_studio, studio_of};
+use crate::host::{Host, NamedFile, begin_fault_line};
+use command_line::StreamWavArgs;
 use reception_chart::chart;
 use std::alloc::Global;
 use std::io::{Read, Write};
 use studio_run::{list_marks, list_marks_and_counts, play};
+use wav_file::{WavRunFault, list_to_wav, play_to_wav};
 
 /// Writes the marks of the trace in `input` by the configuration of examples/first.
 pub fn run_quick_start<I: Read, W: Write>(
@@ -18,62 +21,121 @@ pub fn run_quick_start<I: Read, W: Write>(
 }
 
 /// Writes the marks of the trace in `input` by the configuration at a path.
-pub fn run_marks<C: Files, I: Read, W: Write>(
-    files: &C,
+pub fn run_marks<H: Host>(
+    host: &H,
     alloc: Global,
     path: &str,
-    input: &mut I,
-    output: &mut W,
+    input: &mut H::Stdin,
+    output: &mut H::Stdout,
 ) -> Result<(), CommandFault> {
-    let studio = studio_of(files, alloc, path)?;
+    let studio = studio_of(host, alloc, path)?;
     Ok(list_marks(alloc, &studio, input, output)?)
 }
 
 /// Writes the marks of the trace in `input` by the configuration at a path, and the counts of paths and merges to
 /// `faults`.
-pub fn run_marks_with_counts<C: Files, I: Read, W: Write, E: Write>(
-    files: &C,
+pub fn run_marks_with_counts<H: Host>(
+    host: &H,
     alloc: Global,
     path: &str,
-    input: &mut I,
-    output: &mut W,
-    faults: &mut E,
+    input: &mut H::Stdin,
+    output: &mut H::Stdout,
+    faults: &mut H::Stderr,
 ) -> Result<(), CommandFault> {
-    let studio = studio_of(files, alloc, path)?;
+    let studio = studio_of(host, alloc, path)?;
     Ok(list_marks_and_counts(alloc, &studio, input, output, faults)?)
 }
 
 /// Writes the report of the trace in `input` by the configuration at a path.
-pub fn run_play<C: Files, I: Read, W: Write>(
-    files: &C,
+pub fn run_play<H: Host>(
+    host: &H,
     alloc: Global,
     path: &str,
-    input: &mut I,
-    output: &mut W,
+    input: &mut H::Stdin,
+    output: &mut H::Stdout,
 ) -> Result<(), CommandFault> {
-    let studio = studio_of(files, alloc, path)?;
+    let studio = studio_of(host, alloc, path)?;
     Ok(play(alloc, &studio, input, output)?)
 }
 
 /// Writes a chart of what the streams of the trace in `input` received, by the configuration at a path, as an SVG.
-pub fn run_chart<C: Files, I: Read, W: Write>(
-    files: &C,
+pub fn run_chart<H: Host>(
+    host: &H,
     alloc: Global,
     path: &str,
-    input: &mut I,
-    output: &mut W,
+    input: &mut H::Stdin,
+    output: &mut H::Stdout,
 ) -> Result<(), CommandFault> {
-    let studio = studio_of(files, alloc, path)?;
+    let studio = studio_of(host, alloc, path)?;
     Ok(chart(alloc, &studio, input, output)?)
 }
 
 /// Writes the summary of the configuration at a path.
-pub fn run_check<C: Files, W: Write>(
-    files: &C,
+pub fn run_check<H: Host>(
+    host: &H,
     alloc: Global,
     path: &str,
-    output: &mut W,
+    output: &mut H::Stdout,
 ) -> Result<(), CommandFault> {
-    let studio = studio_of(files, alloc, path)?;
+    let studio = studio_of(host, alloc, path)?;
     output_result(write_summary(&studio, output))
+}
+
+/// Writes the report of the trace in `input` by the configuration at a path, and the mix to the WAV file at another
+/// path. Before a fault of that file its path is written to `faults`.
+pub fn run_play_to_wav<H: Host>(
+    host: &H,
+    alloc: Global,
+    config: &str,
+    path: &str,
+    input: &mut H::Stdin,
+    output: &mut H::Stdout,
+    faults: &mut H::Stderr,
+) -> Result<(), CommandFault> {
+    let studio = studio_of(host, alloc, config)?;
+    let file = NamedFile { host, path };
+    match play_to_wav(alloc, &studio, input, output, &file) {
+        Ok(_file) => Ok(()),
+        Err(fault) => Err(wav_fault(fault, path, faults)),
+    }
+}
+
+/// Writes the marks of the trace in `input` by the configuration at a path, and one stream's samples to a WAV file.
+/// Returns `CommandFault::StreamNumber` if the stream's word is not a number from 0 to 255. Before a fault of the file
+/// its path is written to `faults`.
+pub fn run_marks_to_wav<H: Host>(
+    host: &H,
+    alloc: Global,
+    config: &str,
+    args: StreamWavArgs<'_>,
+    input: &mut H::Stdin,
+    output: &mut H::Stdout,
+    faults: &mut H::Stderr,
+) -> Result<(), CommandFault> {
+    // The number is tested before the configuration is read: a fault of the command line comes first.
+    let Ok(stream) = args.stream.parse::<u8>() else {
+        return Err(CommandFault::StreamNumber);
+    };
+    let studio = studio_of(host, alloc, config)?;
+    let path = args.file;
+    let file = NamedFile { host, path };
+    match list_to_wav(alloc, &studio, stream, input, output, &file) {
+        Ok(_file) => Ok(()),
+        Err(fault) => Err(wav_fault(fault, path, faults)),
+    }
+}
+
+/// Returns the fault of a run with a WAV file. Before a fault of the file or of its stream it writes the file's path.
+fn wav_fault<E: Write>(fault: WavRunFault, path: &str, faults: &mut E) -> CommandFault {
+    match fault {
+        WavRunFault::Play(fault) => CommandFault::Play(fault),
+        WavRunFault::Stream(fault) => {
+            begin_fault_line("wav", path, faults);
+            CommandFault::StreamWav(fault)
+        }
+        WavRunFault::File(fault) => {
+            begin_fault_line("wav", path, faults);
+            CommandFault::Wav(fault)
+        }
+    }
 }

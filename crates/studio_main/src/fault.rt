@@ -9,7 +9,7 @@ use thiserror::Error;
 
 /// The fault that ended the program. Its `Display` is the fault's line.
 #[derive(Debug, Drop, Error)]
-pub enum ProgramFault {
+pub(crate) enum ProgramFault {
     /// A word of the command line is not UTF-8.
     #[error("usage: a word of the command line is not UTF-8")]
     Usage,
@@ -39,7 +39,7 @@ pub enum ProgramFault {
 impl ProgramFault {
     /// Returns the exit status of the program: 2 for a fault of the command line, 4 if an allocation failed, 5 if a
     /// device failed, and else the status of the command.
-    pub fn status(&self) -> u8 {
+    pub(crate) fn status(&self) -> u8 {
         match self {
             ProgramFault::Usage | ProgramFault::TaiOffset => 2,
             ProgramFault::Command(fault) => fault.status(),
@@ -51,7 +51,7 @@ impl ProgramFault {
     }
 
     /// Writes the fault's line, and returns its exit status. A line that cannot be written is lost.
-    pub fn report<E: Write>(&self, faults: &mut E) -> u8 {
+    pub(crate) fn report<E: Write>(&self, faults: &mut E) -> u8 {
         let _ = writeln!(faults, "{self}");
         self.status()
     }

@@ -1,13 +1,12 @@
-//! The command `live`: a live run, from a configuration to its report.
+//! The command `live`: a live run, from a configuration to its report and the lines after it.
 use crate::fault::ProgramFault;
-use crate::names::names_in;
 use command_line::LiveArgs;
-use file_commands::{Files, output_result, parse_studio, read_config};
+use file_commands::{CommandFault, Host, output_result, parse_studio, read_config, table_in};
 use live_io::{
-    InheritedSockets, LiveInputs, LiveOptions, LivePorts, RecordResult, StreamName, TaiOffset,
-    TaiTime, UnexpectedSources, tai_now,
+    InheritedSockets, LivePorts, RecordResult, SocketConfig, StreamName, TaiOffset, TaiTime,
+    UnexpectedSources, tai_now,
 };
-use live_run::{LiveFault, run_studio_live};
+use live_run::{LiveFault, LiveInputs, run_studio_live};
 use rtp_stream::Path;
 use std::alloc::Global;
 use std::io::Write;
@@ -18,9 +17,10 @@ use std::sync::Wait;
 use std::thread::Threads;
 use std::time::{Clock, Duration};
 use studio_config::StudioSpec;
+use toml::Value;
 
 /// The names of a stream's paths in a report.
-const NAMES: [&str; 4] = ["a", "b", "c", "d"];
+const PATH_NAMES: [&str; 4] = ["a", "b", "c", "d"];
 
 /// A studio, and the reading of the system's monotonic clock at its opening time, if that clock could be read.
 #[derive(Drop)]
@@ -32,76 +32,89 @@ struct OpenedStudio {
 /// Runs the studio of the configuration at a path, as `run_live_config` does with the configuration's octets.
 pub(crate) fn run_live<
     R: Threads + Wait + Sync + Net + Clock + RandomSource + Env + AllocGlobal,
-    C: Files,
-    W: Write,
-    E: Write + Send,
+    H: Host,
 >(
     rt: &R,
-    files: &C,
+    host: &H,
     alloc: Global,
     path: &str,
-    words: LiveArgs<'_>,
-    output: &mut W,
-    faults: &mut E,
+    args: LiveArgs<'_>,
+    output: &mut H::Stdout,
+    faults: &mut H::Stderr,
 ) -> Result<(), ProgramFault> {
-    let config = read_config(files, alloc, path)?;
-    run_live_config(rt, files, alloc, config.as_slice(), words, output, faults)
+    let config = read_config(host, alloc, path)?;
+    run_live_config(rt, host, alloc, config.as_slice(), args, output, faults)
 }
 
 /// Runs the studio of a configuration's octets over sockets, and writes its report to `output`. If counts are asked for
 /// while it runs, they go to `faults`. Returns the first fault: of the configuration, of the offset or the time of
 /// `--clock`, of a missing port or an inherited socket, of the record's file, or of the run.
-pub fn run_live_config<
+fn run_live_config<
     R: Threads + Wait + Sync + Net + Clock + RandomSource + Env + AllocGlobal,
-    C: Files,
-    W: Write,
-    E: Write + Send,
+    H: Host,
 >(
     rt: &R,
-    files: &C,
+    host: &H,
     alloc: Global,
     config: &[u8],
-    words: LiveArgs<'_>,
-    output: &mut W,
-    faults: &mut E,
+    args: LiveArgs<'_>,
+    output: &mut H::Stdout,
+    faults: &mut H::Stderr,
 ) -> Result<(), ProgramFault> {
-    let started = opened(rt, alloc, parse_studio(alloc, config)?, words.tai_offset)?;
-    let given = given_of(rt, alloc, &started.studio, config, words.listen_fds)?;
+    let opened = open_studio(rt, alloc, parse_studio(alloc, config)?, args.tai_offset)?;
+    let loaded = load_inputs(rt, alloc, &opened.studio, config, args.listen_fds)?;
     // Before the run binds a socket: a run whose record cannot be created receives nothing.
-    let record = record_of(files, words.record)?;
+    let record = create_record(host, args.record)?;
+    run_loaded::<R, H>(rt, alloc, &opened, &loaded, record, args, output, faults)
+}
+
+/// Runs a studio with its inputs, and a record if there is a file for it. Writes the report and the lines after it.
+fn run_loaded<R: Threads + Wait + Sync + Net + Clock + RandomSource + Env + AllocGlobal, H: Host>(
+    rt: &R,
+    alloc: Global,
+    opened: &OpenedStudio,
+    loaded: &LoadedInputs,
+    record: Option<H::Target>,
+    args: LiveArgs<'_>,
+    output: &mut H::Stdout,
+    faults: &mut H::Stderr,
+) -> Result<(), ProgramFault> {
     let recorded = RecordResult::new();
-    let setup = LiveInputs {
-        ports: &given.ports,
-        handed: &given.handed,
-        names: given.names.as_slice(),
-        strangers: &given.strangers,
+    let inputs = LiveInputs {
+        sockets: SocketConfig {
+            ports: &loaded.ports,
+            inherited: &loaded.inherited,
+            unexpected: &loaded.unexpected,
+        },
+        names: loaded.names.as_slice(),
         recorded: &recorded,
-        began: started.began,
+        began: opened.began,
     };
+    let studio = &opened.studio;
     let ran = run_studio_live(
         rt,
         alloc,
-        &started.studio,
-        setup,
-        &options_of(words),
+        studio,
+        inputs,
+        &args.options,
         output,
-        &mut *faults,
+        faults,
         record,
     );
-    finish(ran, &started.studio, setup, words, output)
+    finish(ran, studio, inputs, args, output)
 }
 
 /// The inputs of a live run in addition to its studio.
 #[derive(Drop)]
 struct LoadedInputs {
     ports: LivePorts,
-    handed: InheritedSockets,
+    inherited: InheritedSockets,
     names: Vec<Option<StreamName>>,
-    strangers: UnexpectedSources,
+    unexpected: UnexpectedSources,
 }
 
 /// Returns the inputs of a run of a configuration's studio.
-fn given_of<R: Env + AllocGlobal>(
+fn load_inputs<R: Env + AllocGlobal>(
     rt: &R,
     alloc: Global,
     studio: &StudioSpec,
@@ -109,19 +122,19 @@ fn given_of<R: Env + AllocGlobal>(
     listen_fds: bool,
 ) -> Result<LoadedInputs, ProgramFault> {
     let ports = LivePorts::of(alloc, studio)?;
-    let handed = handed_of(rt, alloc, studio, listen_fds)?;
+    let inherited = inherited_sockets(rt, alloc, studio, listen_fds)?;
     let names = names_in(alloc, config)?;
-    let strangers = UnexpectedSources::new(alloc, studio)?;
+    let unexpected = UnexpectedSources::new(alloc, studio)?;
     Ok(LoadedInputs {
         ports,
-        handed,
+        inherited,
         names,
-        strangers,
+        unexpected,
     })
 }
 
-/// Returns the inherited sockets, or none if the words do not ask for them.
-fn handed_of<R: Env + AllocGlobal>(
+/// Returns the inherited sockets, or none if they are not asked for.
+fn inherited_sockets<R: Env + AllocGlobal>(
     rt: &R,
     alloc: Global,
     studio: &StudioSpec,
@@ -137,36 +150,25 @@ fn handed_of<R: Env + AllocGlobal>(
 fn finish<W: Write>(
     ran: Result<(), LiveFault>,
     studio: &StudioSpec,
-    setup: LiveInputs<'_>,
-    words: LiveArgs<'_>,
+    inputs: LiveInputs<'_>,
+    args: LiveArgs<'_>,
     output: &mut W,
 ) -> Result<(), ProgramFault> {
     // A run that is not settled has a report too.
     if matches!(ran, Ok(()) | Err(LiveFault::Unsettled)) {
-        write_after_report(studio, setup, words, output)?;
+        write_after_report(studio, inputs, args, output)?;
     }
     ran?;
-    if setup.recorded.has_failed() {
+    if inputs.recorded.has_failed() {
         return Err(ProgramFault::RecordWrite);
     }
     Ok(())
 }
 
-/// Returns the options of the run.
-fn options_of(words: LiveArgs<'_>) -> LiveOptions {
-    LiveOptions {
-        instants: words.instants,
-        stats: words.stats,
-        page: words.page,
-        until_eof: words.until_eof,
-        one_thread: words.one_thread,
-    }
-}
-
 /// Creates the file of a record, if one is asked for.
-fn record_of<C: Files>(files: &C, path: Option<&str>) -> Result<Option<C::File>, ProgramFault> {
+fn create_record<H: Host>(host: &H, path: Option<&str>) -> Result<Option<H::Target>, ProgramFault> {
     match path {
-        Some(path) => match files.create(path) {
+        Some(path) => match host.create(path) {
             Ok(file) => Ok(Some(file)),
             Err(_) => Err(ProgramFault::Record),
         },
@@ -178,17 +180,17 @@ fn record_of<C: Files>(files: &C, path: Option<&str>) -> Result<Option<C::File>,
 /// from unexpected sources, and the datagrams of the record, if there is one.
 fn write_after_report<W: Write>(
     studio: &StudioSpec,
-    setup: LiveInputs<'_>,
-    words: LiveArgs<'_>,
+    inputs: LiveInputs<'_>,
+    args: LiveArgs<'_>,
     output: &mut W,
 ) -> Result<(), ProgramFault> {
-    if words.tai_offset.is_some() {
+    if args.tai_offset.is_some() {
         let open_at = studio.open_at();
         output_result(writeln!(output, "open_at {open_at}"))?;
     }
-    write_unexpected(studio, setup.strangers, output)?;
-    if words.record.is_some() {
-        write_record_line(setup.recorded, output)?;
+    write_unexpected(studio, inputs.sockets.unexpected, output)?;
+    if args.record.is_some() {
+        write_record_line(inputs.recorded, output)?;
     }
     Ok(())
 }
@@ -198,13 +200,13 @@ fn write_record_line<W: Write>(
     recorded: &RecordResult,
     output: &mut W,
 ) -> Result<(), ProgramFault> {
-    let (count, came) = (recorded.written(), recorded.received());
-    output_result(writeln!(output, "record {count} of {came}"))?;
+    let (written, received) = (recorded.written(), recorded.received());
+    output_result(writeln!(output, "record {written} of {received}"))?;
     Ok(())
 }
 
 /// Returns the studio as the configuration has it, or, if an offset is given, opened now by International Atomic Time.
-fn opened<R: Clock>(
+fn open_studio<R: Clock>(
     rt: &R,
     alloc: Global,
     studio: StudioSpec,
@@ -214,18 +216,18 @@ fn opened<R: Clock>(
         let began = rt.monotonic().ok();
         return Ok(OpenedStudio { studio, began });
     };
-    let opening = opening_of(rt, word)?;
-    let studio = studio.shifted(alloc, opening.at)?;
+    let present = present_tai(rt, word)?;
+    let studio = studio.shifted(alloc, present.at)?;
     Ok(OpenedStudio {
         studio,
-        began: Some(opening.began),
+        began: Some(present.began),
     })
 }
 
 /// Returns the present International Atomic Time, by the offset that a word gives.
-fn opening_of<R: Clock>(rt: &R, word: &str) -> Result<TaiTime, ProgramFault> {
+fn present_tai<R: Clock>(rt: &R, word: &str) -> Result<TaiTime, ProgramFault> {
     match tai_now(rt, offset_of(word)?) {
-        Some(opening) => Ok(opening),
+        Some(present) => Ok(present),
         None => Err(ProgramFault::Clock),
     }
 }
@@ -244,14 +246,14 @@ fn offset_of(word: &str) -> Result<TaiOffset, ProgramFault> {
 /// Writes the number of datagrams from unexpected sources, for each path that has a source address.
 fn write_unexpected<W: Write>(
     studio: &StudioSpec,
-    strangers: &UnexpectedSources,
+    unexpected: &UnexpectedSources,
     output: &mut W,
 ) -> Result<(), ProgramFault> {
     // The counters are numbered through all paths, stream by stream.
     let mut place = 0;
     for (number, stream) in studio.streams().iter().enumerate() {
         for path in 0..stream.paths() {
-            write_unexpected_of(studio, number, path, strangers.count(place), output)?;
+            write_unexpected_of(studio, number, path, unexpected.count(place), output)?;
             place = place.saturating_add(1);
         }
     }
@@ -266,7 +268,7 @@ fn write_unexpected_of<W: Write>(
     count: u64,
     output: &mut W,
 ) -> Result<(), ProgramFault> {
-    let Some(name) = NAMES.get(usize::from(path)) else {
+    let Some(name) = PATH_NAMES.get(usize::from(path)) else {
         return Ok(());
     };
     if has_source(studio, stream, path) {
@@ -281,4 +283,32 @@ fn has_source(studio: &StudioSpec, stream: usize, path: u8) -> bool {
         Some(path) => studio.networks().source(stream, path).is_some(),
         None => false,
     }
+}
+
+// Names are for people: no event, datagram or count depends on them.
+/// Returns the name of each stream of a configuration, if it has one. The configuration has to describe a studio.
+fn names_in(alloc: Global, octets: &[u8]) -> Result<Vec<Option<StreamName>>, CommandFault> {
+    // Read again: a `StudioSpec` has no names.
+    let table = table_in(alloc, octets)?;
+    match table.get("stream") {
+        Some(streams) => names_of(alloc, streams),
+        None => Ok(Vec::new(alloc)),
+    }
+}
+
+/// Returns the name of each stream in the value of the key `stream`, if it has one.
+fn names_of(alloc: Global, streams: &Value) -> Result<Vec<Option<StreamName>>, CommandFault> {
+    let mut names = Vec::new(alloc);
+    if let Some(streams) = streams.as_array() {
+        for stream in streams {
+            names.push(name_in(stream))?;
+        }
+    }
+    Ok(names)
+}
+
+/// Returns the name in a stream's table, if there is one that a `StreamName` can hold.
+fn name_in(stream: &Value) -> Option<StreamName> {
+    let name = stream.as_table()?.get("name")?.as_str()?;
+    StreamName::from(name).ok()
 }

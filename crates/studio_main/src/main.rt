@@ -2,39 +2,42 @@
 //!
 //! `main` collects the words of the command line. `run` is the whole after that: it parses the words
 //! by `command_line`, runs the command, and returns the exit status. `file_commands` runs a command
-//! over files, and `run_live_config` the live command. A `ProgramFault` has the line and the exit
-//! status of every fault. `HostFiles` opens files by path.
+//! over files, and `live_command` the live command. A `ProgramFault` has the line and the exit
+//! status of every fault. `SystemHost` opens files by path.
 #![tactic(auto)]
 
 mod fault;
 mod live_command;
-mod names;
 mod program;
-mod told;
 
-pub use fault::ProgramFault;
-pub use file_commands::{CaptureInputFault, CommandFault, ConfigFault, Files};
-pub use live_command::run_live_config;
-pub use program::run;
+use crate::fault::ProgramFault;
+use crate::program::run;
+use file_commands::{CommandFault, Host};
 use std::alloc::Global;
 use std::env::Args;
-use std::io::ErrorKind;
+use std::io::{ErrorKind, Stderr, Stdin, Stdout};
 use std::process::ExitCode;
 use std::rt::Env;
 use std::{env, fs};
 use studio_run::{ReadFault, read_octets};
 use wav_file::{FileFault, SeekFile};
 
-/// The files of the host system.
+/// The system as the host of the commands.
 #[derive(Clone, Copy)]
-struct HostFiles<'a> {
+struct SystemHost<'a> {
     rt: &'a HostRuntime,
 }
 
-impl Files for HostFiles<'_> {
-    type File = SeekFile<fs::File>;
+impl Host for SystemHost<'_> {
+    type Stdin = Stdin;
 
-    type Input = fs::File;
+    type Stdout = Stdout;
+
+    type Stderr = Stderr;
+
+    type Source = fs::File;
+
+    type Target = SeekFile<fs::File>;
 
     fn open(&self, path: &str) -> Result<fs::File, ReadFault> {
         match fs::open(self.rt, path) {
@@ -64,7 +67,7 @@ fn main(rt: HostRuntime) -> ExitCode {
     let status = match program_args(&rt) {
         Ok(words) => run(
             &rt,
-            &HostFiles { rt: &rt },
+            &SystemHost { rt: &rt },
             alloc,
             words.as_slice(),
             &mut rt.stdin(),
@@ -86,8 +89,10 @@ fn program_args(rt: &(impl Env + AllocGlobal)) -> Result<Vec<String>, ProgramFau
 
 /// Returns all words but the first, which is the program's name.
 fn words_in(alloc: Global, all: Args) -> Result<Vec<String>, ProgramFault> {
+    let mut all = all;
+    let _program = all.next();
     let mut words = Vec::new(alloc);
-    for word in all.skip(1) {
+    for word in all {
         words.push(word)?;
     }
     Ok(words)

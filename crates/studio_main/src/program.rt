@@ -1,14 +1,15 @@
-//! The program: from the words of its command line to its exit status.
+//! The program: from the words of its command line to its exit status, with help, the version and usage faults.
 use crate::fault::ProgramFault;
 use crate::live_command::run_live;
-use crate::told::report_usage;
+use clap::Error;
+use clap::error::ErrorKind;
 use command_line::{CliCommand, FileCommand, parse_args};
 use file_commands::{
-    CommandFault, Files, run_chart, run_check, run_import, run_marks, run_marks_to_wav,
+    CommandFault, Host, run_chart, run_check, run_import, run_marks, run_marks_to_wav,
     run_marks_with_counts, run_play, run_play_to_wav, run_quick_start, run_replay, run_streams,
 };
 use std::alloc::Global;
-use std::io::{Read, Write};
+use std::io::Write;
 use std::net::Net;
 use std::random::RandomSource;
 use std::rt::Env;
@@ -18,85 +19,88 @@ use std::time::Clock;
 
 /// Runs the program and returns its exit status. The words do not include the program's name. The text goes to
 /// `output`, and the line of a fault to `faults`.
-pub fn run<
+pub(crate) fn run<
     R: Threads + Wait + Sync + Net + Clock + RandomSource + Env + AllocGlobal,
-    C: Files,
-    I: Read,
-    W: Write,
-    E: Write + Send,
+    H: Host,
 >(
     rt: &R,
-    files: &C,
+    host: &H,
     alloc: Global,
     words: &[String],
-    input: &mut I,
-    output: &mut W,
-    faults: &mut E,
+    input: &mut H::Stdin,
+    output: &mut H::Stdout,
+    faults: &mut H::Stderr,
 ) -> u8 {
     let command = match parse_args(alloc, words) {
         Ok(command) => command,
         Err(error) => return report_usage(&error, output, faults),
     };
-    match dispatch(rt, files, alloc, command, input, output, faults) {
+    match dispatch(rt, host, alloc, command, input, output, faults) {
         Ok(()) => 0,
         Err(fault) => fault.report(faults),
     }
 }
 
+/// Writes help or the version to `output`, or a usage fault to `faults`, and returns the exit status.
+fn report_usage<W: Write, E: Write>(error: &Error, output: &mut W, faults: &mut E) -> u8 {
+    if error.kind() == ErrorKind::OutOfMemory {
+        return ProgramFault::Command(CommandFault::Memory).report(faults);
+    }
+    // Clap's text takes the place of the fault's line, which speaks of UTF-8 alone.
+    if error.use_stderr() {
+        let _ = write!(faults, "{error}");
+        return ProgramFault::Usage.status();
+    }
+    match write!(output, "{error}") {
+        Ok(()) => 0,
+        Err(_) => ProgramFault::Command(CommandFault::Write).report(faults),
+    }
+}
+
 /// Runs the command that the words ask for.
-fn dispatch<
-    R: Threads + Wait + Sync + Net + Clock + RandomSource + Env + AllocGlobal,
-    C: Files,
-    I: Read,
-    W: Write,
-    E: Write + Send,
->(
+fn dispatch<R: Threads + Wait + Sync + Net + Clock + RandomSource + Env + AllocGlobal, H: Host>(
     rt: &R,
-    files: &C,
+    host: &H,
     alloc: Global,
     command: CliCommand<'_>,
-    input: &mut I,
-    output: &mut W,
-    faults: &mut E,
+    input: &mut H::Stdin,
+    output: &mut H::Stdout,
+    faults: &mut H::Stderr,
 ) -> Result<(), ProgramFault> {
     match command {
-        CliCommand::Live(path, words) => run_live(rt, files, alloc, path, words, output, faults),
+        CliCommand::Live(path, args) => run_live(rt, host, alloc, path, args, output, faults),
         CliCommand::File(command) => {
-            Ok(run_file_command(files, alloc, command, input, output, faults)?)
+            Ok(run_file_command(host, alloc, command, input, output, faults)?)
         }
     }
 }
 
 /// Runs a command over files. The counts of `marks --counts` go to `faults`.
-fn run_file_command<C: Files, I: Read, W: Write, E: Write>(
-    files: &C,
+fn run_file_command<H: Host>(
+    host: &H,
     alloc: Global,
     command: FileCommand<'_>,
-    input: &mut I,
-    output: &mut W,
-    faults: &mut E,
+    input: &mut H::Stdin,
+    output: &mut H::Stdout,
+    faults: &mut H::Stderr,
 ) -> Result<(), CommandFault> {
     match command {
         FileCommand::QuickStart => run_quick_start(alloc, input, output),
-        FileCommand::Marks(path) => run_marks(files, alloc, path, input, output),
+        FileCommand::Marks(path) => run_marks(host, alloc, path, input, output),
         FileCommand::MarksAndCounts(path) => {
-            run_marks_with_counts(files, alloc, path, input, output, faults)
+            run_marks_with_counts(host, alloc, path, input, output, faults)
         }
-        FileCommand::MarksToWav(path, words) => {
-            run_marks_to_wav(files, alloc, path, words, input, output, faults)
+        FileCommand::MarksToWav(path, args) => {
+            run_marks_to_wav(host, alloc, path, args, input, output, faults)
         }
-        FileCommand::Play(path) => run_play(files, alloc, path, input, output),
+        FileCommand::Play(path) => run_play(host, alloc, path, input, output),
         FileCommand::PlayToWav(path, file) => {
-            run_play_to_wav(files, alloc, path, file, input, output, faults)
+            run_play_to_wav(host, alloc, path, file, input, output, faults)
         }
-        FileCommand::Chart(path) => run_chart(files, alloc, path, input, output),
-        FileCommand::Check(path) => run_check(files, alloc, path, output),
-        FileCommand::Streams(path) => run_streams(files, alloc, path, output),
-        FileCommand::Import(path, options) => {
-            run_import(files, alloc, path, &options, output, faults)
-        }
-        FileCommand::Replay(config, words) => {
-            run_replay(files, alloc, config, words, output, faults)
-        }
+        FileCommand::Chart(path) => run_chart(host, alloc, path, input, output),
+        FileCommand::Check(path) => run_check(host, alloc, path, output),
+        FileCommand::Streams(path) => run_streams(host, alloc, path, output),
+        FileCommand::Import(path, args) => run_import(host, alloc, path, &args, output, faults),
+        FileCommand::Replay(config, args) => run_replay(host, alloc, config, args, output, faults),
     }
 }

@@ -62,7 +62,8 @@ impl LatestStats {
 
     /// Fills the statistics into a snapshot.
     pub(crate) fn fill(&self, snapshot: &mut Snapshot)
-        ensures streams { AreEach (FillsEachStream self.now.streams.items self.now.paths.items snapshot.old.streams.items)
+        ensures streams { AreEach
+            (FillsEachStream self.now.streams.items self.now.paths.items snapshot.old.streams.items)
             snapshot.old.streams.items snapshot.new.streams.items }
         ensures outputs { MatchOption self.now.mix (snapshot.new.outputs ≡ snapshot.old.outputs)
             (λ stats. AreEach (HasNumbers stats) snapshot.old.outputs.items snapshot.new.outputs.items) }

@@ -1,0 +1,61 @@
+//! The configuration of a command, from its file to the studio that it describes.
+use crate::fault::{CommandFault, ConfigFault};
+use crate::host::Host;
+use std::alloc::Global;
+use studio_config::StudioSpec;
+use toml::Table;
+
+// Tested here, since `Host::read_all` may return as many octets as a trace may have.
+/// The greatest number of octets of a configuration.
+const MAX_OCTETS: usize = 1_048_576;
+
+/// Returns the octets of the configuration at a path. Returns `ConfigFault::Unread` if the file cannot be read,
+/// `ConfigFault::TooLong` if it has too many octets, and `CommandFault::Memory` if an allocation fails.
+pub fn read_config<H: Host>(host: &H, alloc: Global, path: &str) -> Result<Vec<u8>, CommandFault> {
+    match host.read_all(alloc, path) {
+        Ok(octets) => Ok(octets),
+        Err(fault) => Err(CommandFault::of_config(fault)),
+    }
+}
+
+/// Returns the studio of the configuration at a path.
+pub(crate) fn studio_of<H: Host>(
+    host: &H,
+    alloc: Global,
+    path: &str,
+) -> Result<StudioSpec, CommandFault> {
+    let octets = read_config(host, alloc, path)?;
+    parse_studio(alloc, octets.as_slice())
+}
+
+/// Returns the studio that a configuration's octets describe. Returns the configuration's first fault, or
+/// `CommandFault::Memory` if an allocation fails.
+pub fn parse_studio(alloc: Global, octets: &[u8]) -> Result<StudioSpec, CommandFault> {
+    let table = table_in(alloc, octets)?;
+    Ok(StudioSpec::from_table(alloc, &table)?)
+}
+
+/// Returns the TOML table of a configuration's octets. Returns `ConfigFault::TooLong` for more than 1,048,576 octets,
+/// `ConfigFault::NotToml` if they are not UTF-8 or not TOML, and `CommandFault::Memory` if an allocation fails.
+pub fn table_in(alloc: Global, octets: &[u8]) -> Result<Table, CommandFault> {
+    if octets.len() > MAX_OCTETS {
+        return Err(CommandFault::Config(ConfigFault::TooLong));
+    }
+    let Ok(text) = str::from_utf8(octets) else {
+        return Err(CommandFault::Config(ConfigFault::NotToml));
+    };
+    match toml::table_from_str(alloc, text) {
+        Ok(table) => Ok(table),
+        Err(error) if error.is_memory() => Err(CommandFault::Memory),
+        Err(_) => Err(CommandFault::Config(ConfigFault::NotToml)),
+    }
+}
+
+/// Returns the studio of a command line without words, that of examples/first: one mono stream of L24 on two paths, in
+/// packets of 6 sampling instants.
+pub(crate) fn quick_start_studio(alloc: Global) -> Result<StudioSpec, CommandFault> {
+    let text = "open_at = 0\n[[stream]]\nencoding = \"L24\"\nchannels = 1\nframes = 6\npt = 96\n\
+        clock = \"media\"\nlatency = 12\nwindow = 8\n[output]\nencoding = \"L24\"\nchannels = 1\n\
+        frames = 6\npt = 97\nssrc = 2\nseq = 0\nstart = 0\ngains = [[65536]]\n";
+    parse_studio(alloc, text.as_bytes())
+}

@@ -1,0 +1,84 @@
+//! The host of the commands: its standard streams, and its files by their paths.
+ghost use Rattle.std.specs.Prelude.{IfOk, []};
+ghost use Rattle.wav_file.specs.File.{Holds};
+
+use crate::fault::CommandFault;
+use std::alloc::Global;
+use std::io::{Read, Write};
+use studio_run::ReadFault;
+use wav_file::{CreateFile, FileFault, Overwrite};
+
+/// The host of the commands: the types of its standard streams, and its files by their paths. The program implements it
+/// over the system's files.
+// One trait, so that a command has one type parameter: each bound that a call passes on costs time to prove.
+pub trait Host {
+    /// Standard input.
+    type Stdin: Read;
+
+    /// Standard output.
+    type Stdout: Write;
+
+    /// Standard error.
+    type Stderr: Write + Send;
+
+    /// A file that is read: a capture.
+    type Source: Read + Drop;
+
+    /// A file that is written: a WAV file, a chart or a record.
+    type Target: Overwrite + Send + Drop;
+
+    /// Opens the file at a path for reading, from its start. Returns `ReadFault::Memory` if an allocation fails, and
+    /// `ReadFault::Device` if the file cannot be opened.
+    fn open(&self, path: &str) -> Result<Self::Source, ReadFault>;
+
+    /// Returns the octets of the file at a path. Returns `ReadFault::Device` if the file cannot be read,
+    /// `ReadFault::TooMany` if it is too long, and `ReadFault::Memory` if an allocation fails.
+    fn read_all(&self, alloc: Global, path: &str) -> Result<Vec<u8>, ReadFault>;
+
+    /// Creates an empty file at a path, or empties the one that is there. Returns `FileFault::NotCreated` if it cannot.
+    fn create(&self, path: &str) -> Result<Self::Target, FileFault>
+        ensures empty { IfOk result (λ file. Holds (Self.Target.Write.contents file) []) };
+}
+
+// `play_to_wav` and `list_to_wav` call `create` only once the trace is known to have no fault, so a run that fails
+// before that leaves a file alone that is already at the path.
+/// A path of the host's files, at which `create` makes the file.
+#[derive(Clone, Copy)]
+pub(crate) struct NamedFile<'a, H> {
+    pub(crate) host: &'a H,
+    pub(crate) path: &'a str,
+}
+
+impl<H: Host> CreateFile for NamedFile<'_, H> {
+    type File = H::Target;
+
+    fn create(&self) -> Result<H::Target, FileFault> {
+        self.host.create(self.path)
+    }
+}
+
+/// Writes what a file is and its path to `faults`, as the beginning of the line of a fault. If it cannot be written it
+/// is lost, as a fault's line is.
+pub(crate) fn begin_fault_line<E: Write>(word: &str, path: &str, faults: &mut E) {
+    let _ = write!(faults, "{word} {path}: ");
+}
+
+/// Opens the capture at a path.
+pub(crate) fn open_capture<H: Host>(host: &H, path: &str) -> Result<H::Source, CommandFault> {
+    match host.open(path) {
+        Ok(input) => Ok(input),
+        Err(fault) => Err(CommandFault::of_capture(fault)),
+    }
+}
+
+/// Returns the octets of the capture at a path.
+pub(crate) fn read_capture<H: Host>(
+    host: &H,
+    alloc: Global,
+    path: &str,
+) -> Result<Vec<u8>, CommandFault> {
+    match host.read_all(alloc, path) {
+        Ok(octets) => Ok(octets),
+        Err(fault) => Err(CommandFault::of_capture(fault)),
+    }
+}
