@@ -15,11 +15,12 @@ use crate::fault::WavRunFault;
 use crate::files::{CreateFile, Overwrite};
 use crate::header::WavFormat;
 use crate::writer::WavWriter;
+use mix_packets::MAX_OUTPUT_OCTETS;
 use std::alloc::Global;
 use std::io::{Read, Write};
 use studio_config::StudioSpec;
 use studio_run::{TextBuffer, read_all, runnable_events, write_counts, write_datagram};
-use studio_session::{EventSource, MOST_OUTPUT_OCTETS, Session};
+use studio_session::{EventSource, Session};
 
 /// Reads a trace to its end, and writes its report as `play` does and the samples of its datagrams to a file, which it
 /// returns. The file is created last, when only a write can still fail. Returns the error of the trace, the report or
@@ -151,7 +152,7 @@ fn write_datagrams<E: EventSource, W: Write, F: Write>(
         → AreDatagrams studio (E.events source.now) datagrams
         → WritesFront (W.contents writer.old) text.old (W.contents writer.new) (datagrams_text datagrams)) }
 {
-    let mut out = [0; MOST_OUTPUT_OCTETS];
+    let mut out = [0; MAX_OUTPUT_OCTETS];
     // The label names the loop in its proof.
     'rounds: loop {
         match session.next_datagram(source, &mut out) {

@@ -16,11 +16,12 @@ use crate::header::WavFormat;
 use crate::stream_track::StreamTrack;
 use crate::writer::{WavFault, WavWriter};
 use path_merge::StreamSpec;
+use rtp_wire::MAX_ARRIVAL_OCTETS;
 use std::alloc::Global;
 use std::io::{Read, Write};
 use studio_config::StudioSpec;
 use studio_run::{TextBuffer, TracedEvents, read_all, runnable_events, write_whole_listing};
-use studio_session::{Cursor, EventSource, MOST_ARRIVAL_OCTETS, studio_cursors};
+use studio_session::{Cursor, EventSource, studio_cursors};
 
 /// The greatest number of channels of a stream in a WAV file.
 const MAX_CHANNELS: u8 = 8;
@@ -143,7 +144,7 @@ fn add_marks<E: EventSource, F: Write>(
         → HasTracked (F.contents file.old) (F.contents file.new) track.old track.new
         (stream_marks stream number open_at (E.events source.now))) }
 {
-    let mut room = [0; MOST_ARRIVAL_OCTETS];
+    let mut room = [0; MAX_ARRIVAL_OCTETS];
     // The label names the loop in its proof.
     'events: loop {
         add_taken(track, file, cursor)?;

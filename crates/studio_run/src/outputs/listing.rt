@@ -18,10 +18,11 @@ use crate::outputs::report::write_counts;
 use crate::player::{PlayFault, read_all, runnable_events};
 use crate::text_io::WriteFault;
 use crate::trace::text_events::TracedEvents;
+use rtp_wire::MAX_ARRIVAL_OCTETS;
 use std::alloc::Global;
 use std::io::{Read, Write};
 use studio_config::StudioSpec;
-use studio_session::{Cursor, EventSource, MOST_ARRIVAL_OCTETS, studio_cursors};
+use studio_session::{Cursor, EventSource, studio_cursors};
 
 /// Writes the lines of the marks of the events that were taken.
 fn write_taken<W: Write>(

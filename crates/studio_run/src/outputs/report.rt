@@ -17,9 +17,10 @@ ghost use Rattle.studio_session.specs.Report.{ArePulled, HasPulledSome};
 use crate::buffer::TextBuffer;
 use crate::lines::counts::{write_datagram, write_merge_counts, write_path_counts};
 use crate::text_io::WriteFault;
+use mix_packets::MAX_OUTPUT_OCTETS;
 use path_merge::Path;
 use std::io::Write;
-use studio_session::{Cursor, EventSource, MOST_OUTPUT_OCTETS, Session, finish_stream};
+use studio_session::{Cursor, EventSource, Session, finish_stream};
 
 /// Writes the lines of the datagrams of all blocks that are ready.
 fn write_datagrams<E: EventSource, W: Write>(

@@ -1,6 +1,6 @@
 use Rattle.std.proofs.Common.{Option, length, slice_index_or, sym, refl, subst, ◌∙◌, arith}
 use Rattle.std.proofs.lemmas.Option.{slice_get_read}
-use Rattle.rtp_stream.specs.declared.path_counts.PathCounts.{PathCounts}
+use Rattle.rtp_stream.specs.declared.stream_counts.PathCounts.{PathCounts}
 use Rattle.rtp_stats.specs.declared.channel.path.PathCountsReceiver.{PathCountsReceiver}
 use Rattle.live_run.specs.LatestStats.{RefreshesPath}
 use Rattle.live_run.proofs.LatestStatsLemmas.{refreshed-all, refreshed-next}
