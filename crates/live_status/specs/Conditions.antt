@@ -1,7 +1,7 @@
 -- Where streams stand, by when their packets came.
 use Rattle.std.specs.Prelude.{◌≡◌, ℕ, ℤ, Bool, List, slice_get, ◌≢◌, MatchOption, length, option_map, ◌==◌, if◌then◌else◌}
-use Rattle.status_page.specs.Condition.{condition_of, is_silent}
-use Rattle.status_page.specs.declared.pulse.SignalPresence.{SignalPresence}
+use Rattle.live_status.specs.SignalPresence.{condition_of, is_silent}
+use Rattle.live_status.specs.declared.signal_presence.SignalPresence.{SignalPresence}
 use Rattle.status_page.specs.declared.snapshot.StreamState.{StreamState}
 use Rattle.live_status.specs.declared.stream_status.StreamStatus.{StreamStatus}
 

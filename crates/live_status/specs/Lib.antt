@@ -3,6 +3,7 @@ pub mod Each
 pub mod Engine
 pub mod EngineOffers
 pub mod Outputs
+pub mod SignalPresence
 pub mod Conditions
 pub mod StreamStatus
 pub mod Publisher

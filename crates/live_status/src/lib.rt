@@ -25,6 +25,7 @@ mod page_thread;
 mod places;
 mod publisher;
 mod showing;
+mod signal_presence;
 mod snapshot_fill;
 mod status_outputs;
 mod stream_status;

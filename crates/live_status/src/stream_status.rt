@@ -1,8 +1,9 @@
 //! The status of a stream in addition to its counts: its name, its latency and its condition.
 ghost use Rattle.std.specs.Prelude.{◌≡◌, ◌≤◌};
 
+use crate::signal_presence::SignalPresence;
 use rtp_stream::StreamSpec;
-use status_page::{PathState, SignalPresence, StreamName, StreamState};
+use status_page::{PathState, StreamName, StreamState};
 
 /// The name of a stream, its fixed properties, and the presence of its signal.
 #[derive(Drop)]

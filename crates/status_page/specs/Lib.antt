@@ -1,5 +1,4 @@
 pub mod Blank
-pub mod Condition
 pub mod Connections
 pub mod Fields
 pub mod Metrics

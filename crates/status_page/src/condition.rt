@@ -5,7 +5,7 @@ ghost use Rattle.status_page.specs.Metrics.{condition_text, has_condition};
 use crate::snapshot::Condition;
 
 /// All conditions of a stream, in the order in which `/metrics` lists them.
-pub const CONDITIONS: [Condition; 4] = [
+pub(crate) const CONDITIONS: [Condition; 4] = [
     Condition::NoPacket,
     Condition::Running,
     Condition::SignalLost,
@@ -14,7 +14,7 @@ pub const CONDITIONS: [Condition; 4] = [
 
 impl Condition {
     /// Returns the condition's name in `/state` and `/metrics`.
-    pub fn text(self) -> &'static str
+    pub(crate) fn text(self) -> &'static str
         ensures { result.now ≡ condition_text self }
     {
         match self {

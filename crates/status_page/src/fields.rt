@@ -7,7 +7,7 @@ pub(crate) mod stream;
 
 /// The kind of a number, as Prometheus has it.
 #[derive(Clone, Copy, Debug, PartialEq, Eq)]
-pub enum MetricKind {
+pub(crate) enum MetricKind {
     /// A number that only rises, from 0 at the start.
     Counter,
     /// A number that may fall.

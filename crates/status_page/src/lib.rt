@@ -1,43 +1,33 @@
 //! The operator's page of a run: HTML, JSON and Prometheus metrics of a snapshot, and their HTTP
 //! server on 127.0.0.1.
 //!
-//! - **What is shown**: `Snapshot` holds everything. `StreamField`, `PathField` and `OutputField`
-//!   list its numbers with their keys, for both JSON and metrics. `SignalPresence` decides when a
-//!   stream counts as lost.
+//! - **What is shown**: `Snapshot` holds everything. `state_json` and `metrics_text` write its numbers
+//!   under the same keys.
 //! - **Without sockets**: the caller keeps a `Page` with the newest snapshot, and for each client a
 //!   connection from `new_connection`. After octets arrived, call `read_from` and `Page::answer`. As
 //!   long as the connection `wants_write`, call `write_to` and `answer`. Drop the connection once it
 //!   `is_done`. The page is at `/`, `state_json` at `/state`, and `metrics_text` at `/metrics`.
 //! - **With sockets**: `PageServer::bind` listens on 127.0.0.1, and each `turn` waits for sockets and
 //!   responds from the page. `serve_page` does so in a thread of its own, and takes a newer snapshot
-//!   from its `SnapshotSource` before each turn.
+//!   from its `RingSource` before each turn.
 //!
 //! Nothing else waits for the server's thread. A client that reads nothing delays only itself. It is
 //! dropped after ten seconds, and so is every client beyond the 64th.
 #![tactic(auto)]
 
 mod condition;
-mod connection;
 mod fields;
 mod page;
-mod pulse;
 mod server;
 mod snapshot;
 
-pub use condition::CONDITIONS;
-pub use connection::new_connection;
-pub use fields::MetricKind;
-pub use fields::output::{OUTPUT_FIELDS, OutputField};
-pub use fields::path::{PATH_FIELDS, PathField};
-pub use fields::stream::StreamField;
 pub use page::Page;
 pub use page::html::HTML;
 pub use page::metrics::metrics_text;
-pub use page::resource::Resource;
 pub use page::state::state_json;
-pub use pulse::SignalPresence;
-pub use server::source::{RingSource, SnapshotSource, serve_page};
-pub use server::{MOST_CLIENTS, PageServer};
+pub use server::client::new_connection;
+pub use server::source::{RingSource, serve_page};
+pub use server::{MAX_CLIENTS, PageServer};
 pub use snapshot::{
     ArrivalMargin, Condition, CopyCounts, OutputState, PathState, Snapshot, StreamName, StreamState,
 };

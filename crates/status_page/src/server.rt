@@ -1,8 +1,7 @@
 //! The server of the page: its listener and its clients. `client` has a client's turn, and `source` the snapshots and
 //! the loop of the page's thread.
-use crate::connection::new_connection;
 use crate::page::Page;
-use crate::server::client::{Client, Progress};
+use crate::server::client::{Client, Progress, new_connection};
 use mio::net::{TcpListener, TcpStream};
 use mio::{Events, Interest, Poll, Token};
 use slab::Slab;
@@ -12,23 +11,23 @@ use std::io;
 use std::net::{Ipv4Addr, Net, SocketAddr};
 use std::time::Duration;
 
-mod client;
+pub(crate) mod client;
 pub(crate) mod source;
 
 /// The greatest number of clients at the same time. Further ones are disconnected.
-pub const MOST_CLIENTS: usize = 64;
+pub const MAX_CLIENTS: usize = 64;
 
 /// The greatest number of events of one poll.
 // More than there are sockets, which are 64 clients and the listener.
-const MOST_EVENTS: usize = 128;
+const MAX_EVENTS: usize = 128;
 
 /// The greatest number of connections that are accepted in one turn.
 // A limit, so that clients which connect again and again do not keep the others from their turns.
-const MOST_AT_ONCE: u32 = 256;
+const MAX_AT_ONCE: u32 = 256;
 
 /// The token of the listener.
 // Clients have the numbers of their places, which are less.
-const LISTENER: Token = Token(MOST_CLIENTS);
+const LISTENER: Token = Token(MAX_CLIENTS);
 
 /// The server of the page: a listener at 127.0.0.1 and its clients.
 #[derive(Drop)]
@@ -59,9 +58,9 @@ impl PageServer {
             alloc,
             keys,
             poll,
-            events: Events::with_capacity(alloc, MOST_EVENTS)?,
+            events: Events::with_capacity(alloc, MAX_EVENTS)?,
             listener,
-            clients: Slab::with_capacity(alloc, MOST_CLIENTS)?,
+            clients: Slab::with_capacity(alloc, MAX_CLIENTS)?,
         })
     }
 
@@ -83,7 +82,7 @@ impl PageServer {
 
     /// Returns true if a client is ready to read or write at once.
     fn has_more(&self) -> bool {
-        for place in 0..MOST_CLIENTS {
+        for place in 0..MAX_CLIENTS {
             if let Some(client) = self.clients.get(place) {
                 if client.progress == Progress::Ready {
                     return true;
@@ -98,7 +97,7 @@ impl PageServer {
     pub fn turn(&mut self, page: &mut Page, now: Duration) {
         // New clients come last: they may get the places of clients that were just disconnected.
         self.note_ready();
-        for place in 0..MOST_CLIENTS {
+        for place in 0..MAX_CLIENTS {
             self.turn_at(place, page, now);
         }
         self.take_clients(now);
@@ -123,11 +122,11 @@ impl PageServer {
 
     /// Accepts the clients that wait. Those for which there is no place are disconnected.
     fn take_clients(&mut self, now: Duration) {
-        for _ in 0..MOST_AT_ONCE {
+        for _ in 0..MAX_AT_ONCE {
             let Ok((stream, _)) = self.listener.accept() else {
                 return;
             };
-            if self.clients.len() < MOST_CLIENTS {
+            if self.clients.len() < MAX_CLIENTS {
                 self.take(stream, now);
             }
         }

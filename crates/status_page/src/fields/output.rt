@@ -7,17 +7,17 @@ use crate::snapshot::OutputState;
 
 /// A number of an output channel. `help` describes each.
 #[derive(Clone, Copy, Debug, PartialEq, Eq)]
-pub enum OutputField {
+pub(crate) enum OutputField {
     Peak,
     Saturated,
 }
 
 /// The numbers of an output channel, in the order in which they are shown.
-pub const OUTPUT_FIELDS: [OutputField; 2] = [OutputField::Peak, OutputField::Saturated];
+pub(crate) const OUTPUT_FIELDS: [OutputField; 2] = [OutputField::Peak, OutputField::Saturated];
 
 impl OutputField {
     /// Returns the number's name in `/state` and `/metrics`.
-    pub fn key(self) -> &'static str
+    pub(crate) fn key(self) -> &'static str
         ensures { result.now ≡ output_key self }
     {
         match self {
@@ -27,7 +27,7 @@ impl OutputField {
     }
 
     /// Returns the number's kind.
-    pub fn kind(self) -> MetricKind
+    pub(crate) fn kind(self) -> MetricKind
         ensures { result ≡ output_kind self }
     {
         match self {
@@ -37,7 +37,7 @@ impl OutputField {
     }
 
     /// Returns the number's description in `/metrics`, one line.
-    pub fn help(self) -> &'static str
+    pub(crate) fn help(self) -> &'static str
         ensures { result.now ≡ output_help self }
     {
         match self {
@@ -49,7 +49,7 @@ impl OutputField {
     }
 
     /// Returns the number's value.
-    pub fn value(self, output: &OutputState) -> u64
+    pub(crate) fn value(self, output: &OutputState) -> u64
         ensures { result ≡ output_value self output.now }
     {
         match self {

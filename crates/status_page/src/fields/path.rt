@@ -7,7 +7,7 @@ use crate::snapshot::PathState;
 
 /// A number of a path. `help` describes each.
 #[derive(Clone, Copy, Debug, PartialEq, Eq)]
-pub enum PathField {
+pub(crate) enum PathField {
     Datagrams,
     First,
     Sent,
@@ -24,7 +24,7 @@ pub enum PathField {
 }
 
 /// The numbers of a path, in the order in which they are shown.
-pub const PATH_FIELDS: [PathField; 13] = [
+pub(crate) const PATH_FIELDS: [PathField; 13] = [
     PathField::Datagrams,
     PathField::First,
     PathField::Sent,
@@ -42,7 +42,7 @@ pub const PATH_FIELDS: [PathField; 13] = [
 
 impl PathField {
     /// Returns the number's name in `/state` and `/metrics`.
-    pub fn key(self) -> &'static str
+    pub(crate) fn key(self) -> &'static str
         ensures { result.now ≡ path_key self }
     {
         match self {
@@ -63,7 +63,7 @@ impl PathField {
     }
 
     /// Returns the number's kind.
-    pub fn kind(self) -> MetricKind
+    pub(crate) fn kind(self) -> MetricKind
         ensures { result ≡ path_kind self }
     {
         match self {
@@ -73,7 +73,7 @@ impl PathField {
     }
 
     /// Returns the number's description in `/metrics`, one line.
-    pub fn help(self) -> &'static str
+    pub(crate) fn help(self) -> &'static str
         ensures { result.now ≡ path_help self }
     {
         match self {
@@ -96,7 +96,7 @@ impl PathField {
     }
 
     /// Returns the number's value, or `None` if it is not known.
-    pub fn value(self, path: &PathState) -> Option<u64>
+    pub(crate) fn value(self, path: &PathState) -> Option<u64>
         ensures { result ≡ path_value self path.now }
     {
         match self {

@@ -9,14 +9,40 @@ use rtp_stream::CountField;
 
 /// A number of a stream. `help` describes each. The counts are shown first, in the order of `COUNT_FIELDS`.
 #[derive(Clone, Copy, Debug, PartialEq, Eq)]
-pub enum StreamField {
-    Count(CountField),
+pub(crate) enum StreamField {
+    Got,
+    Lost,
+    Arrived,
+    Taken,
+    Double,
+    Unlike,
+    OffGrid,
+    Late,
+    Ahead,
+    WrongSource,
+    Restarts,
     Latency,
 }
 
+/// The numbers of a stream, in the order in which they are shown.
+pub(crate) const STREAM_FIELDS: [StreamField; 12] = [
+    StreamField::Got,
+    StreamField::Lost,
+    StreamField::Arrived,
+    StreamField::Taken,
+    StreamField::Double,
+    StreamField::Unlike,
+    StreamField::OffGrid,
+    StreamField::Late,
+    StreamField::Ahead,
+    StreamField::WrongSource,
+    StreamField::Restarts,
+    StreamField::Latency,
+];
+
 impl StreamField {
     /// Returns the number's name in `/state` and `/metrics`.
-    pub fn key(self) -> &'static str
+    pub(crate) fn key(self) -> &'static str
         ensures { result.now ≡ stream_key self }
     {
         match self {
@@ -26,7 +52,7 @@ impl StreamField {
     }
 
     /// Returns the number's kind.
-    pub fn kind(self) -> MetricKind
+    pub(crate) fn kind(self) -> MetricKind
         ensures { result ≡ stream_kind self }
     {
         match self {
@@ -36,7 +62,7 @@ impl StreamField {
     }
 
     /// Returns the number's description in `/metrics`, one line.
-    pub fn help(self) -> &'static str
+    pub(crate) fn help(self) -> &'static str
         ensures { result.now ≡ stream_help self }
     {
         match self {
@@ -47,7 +73,7 @@ impl StreamField {
     }
 
     /// Returns the number's value.
-    pub fn value(self, stream: &StreamState) -> u64
+    pub(crate) fn value(self, stream: &StreamState) -> u64
         ensures { result ≡ stream_value self stream.now }
     {
         match self {

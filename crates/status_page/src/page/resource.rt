@@ -6,7 +6,7 @@ use http::HeaderValue;
 
 /// A resource that a client can request.
 #[derive(Clone, Copy, Debug, PartialEq, Eq)]
-pub enum Resource {
+pub(crate) enum Resource {
     /// The page itself.
     Page,
     /// The snapshot as JSON.
@@ -17,7 +17,7 @@ pub enum Resource {
 
 impl Resource {
     /// Returns the resource at a path, or `None` if there is none.
-    pub fn of(path: &str) -> Option<Resource>
+    pub(crate) fn of(path: &str) -> Option<Resource>
         ensures { result ≡ resource_of path.now }
     {
         if path == "/" {

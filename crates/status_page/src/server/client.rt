@@ -1,16 +1,48 @@
-//! A client of the page.
+//! A client of the page: its connection, with the limits of its requests, and its turns.
+ghost use Rattle.std.specs.Prelude.{◌≡◌};
+ghost use Rattle.http_server.specs.Connection.{config_of, history};
+ghost use Rattle.http_server.specs.History.{new_history};
+ghost use Rattle.status_page.specs.Responses.{IsGuarded};
+
 use crate::page::Page;
-use http_server::Connection;
+use http_server::{Config, Connection};
+use http1::Limits;
 use mio::net::TcpStream;
+use std::alloc::Global;
+use std::hash::RandomState;
 use std::io::ErrorKind;
 use std::time::Duration;
 
+/// The greatest number of octets of a request's head, of its trailers and of its body, and of one read.
+// More than a browser or Prometheus sends, and a bound on what 64 clients can make the server hold.
+const MAX_OCTETS: usize = 8192;
+
 /// The greatest number of reads and writes in one turn.
 // A limit, so that a busy client does not keep the others from their turns.
-const MOST_STEPS: u32 = 16;
+const MAX_STEPS: u32 = 16;
 
 /// The time in seconds without a read or a write after which a client is disconnected.
 const IDLE_SECONDS: u64 = 10;
+
+/// Returns the connection of a new client, from which nothing was read yet. It refuses a head, trailers or a body of
+/// more than 8,192 octets. While a response waits to be sent it reads no request.
+pub fn new_connection(alloc: Global, keys: RandomState) -> Connection
+    ensures limits { IsGuarded (config_of result) }
+    ensures new { history result ≡ new_history }
+{
+    let config = Config {
+        limits: Limits {
+            max_head_len: MAX_OCTETS,
+            max_extensions_len: MAX_OCTETS,
+            max_trailers_len: MAX_OCTETS,
+        },
+        max_body_len: MAX_OCTETS,
+        // So a client that sends requests and reads no response cannot fill the memory with responses.
+        max_pending: 0,
+        read_size: MAX_OCTETS,
+    };
+    Connection::new(alloc, keys, config)
+}
 
 /// The state of a client between two turns.
 #[derive(Clone, Copy, Debug, PartialEq, Eq)]
@@ -57,7 +89,7 @@ impl Client {
     fn turn(&mut self, page: &mut Page, now: Duration) {
         // A client stays ready until its socket would block: only then does the system send an event again.
         self.progress = Progress::Ready;
-        for _ in 0..MOST_STEPS {
+        for _ in 0..MAX_STEPS {
             page.answer(&mut self.connection);
             self.progress = self.step();
             if self.progress != Progress::Ready {

@@ -7,13 +7,8 @@ use std::sync::Wait;
 use std::time::{Clock, Duration};
 
 /// The longest wait for sockets before the next test for a newer snapshot, in milliseconds.
-const LOOK: u64 = 50;
-
-/// The source of a page's snapshots.
-pub trait SnapshotSource {
-    /// Updates a page if there is a newer snapshot. Returns false once the run has ended. It must not wait.
-    fn renew(&mut self, page: &mut Page) -> bool;
-}
+// Half the time between two snapshots, so that a client sees each of them before the next one comes.
+const POLL_INTERVAL_MS: u64 = 50;
 
 /// A source of snapshots from a ring, of which it uses the newest. The run has ended once the ring's producer was
 /// dropped.
@@ -27,10 +22,9 @@ impl RingSource {
     pub fn new(ring: Consumer<Snapshot>) -> RingSource {
         RingSource { ring }
     }
-}
 
-impl SnapshotSource for RingSource {
-    fn renew(&mut self, page: &mut Page) -> bool {
+    /// Updates a page if there is a newer snapshot. Returns false once the run has ended. It does not wait.
+    fn update(&mut self, page: &mut Page) -> bool {
         let is_over = self.ring.is_abandoned();
         // As many as are in the ring now, so that it ends even if snapshots are pushed all the time.
         for _ in 0..self.ring.slots() {
@@ -43,27 +37,27 @@ impl SnapshotSource for RingSource {
 }
 
 /// Serves a page's clients until the run has ended. It blocks the calling thread, which should be one of its own.
-pub fn serve_page<R: Wait + Clock, S: SnapshotSource + Drop>(
+pub fn serve_page<R: Wait + Clock>(
     rt: &R,
     mut server: PageServer,
     mut page: Page,
-    mut source: S,
+    mut source: RingSource,
 ) {
     serve_until_end(rt, &mut server, &mut page, &mut source);
 }
 
 /// Serves like `serve_page`, on borrowed parts.
 // A function of its own, so that few functions hold sockets.
-fn serve_until_end<R: Wait + Clock, S: SnapshotSource + Drop>(
+fn serve_until_end<R: Wait + Clock>(
     rt: &R,
     server: &mut PageServer,
     page: &mut Page,
-    source: &mut S,
+    source: &mut RingSource,
 ) {
     let mut now = Duration::ZERO;
     for _ in rt.forever() {
-        server.wait(Duration::from_millis(LOOK));
-        if !source.renew(page) {
+        server.wait(Duration::from_millis(POLL_INTERVAL_MS));
+        if !source.update(page) {
             return;
         }
         // If the clock cannot be read, the reading before counts: then no client becomes idle.

@@ -1,6 +1,6 @@
 //! Clients at real sockets, with the server and the clients in one thread.
 use super::sample::snapshot;
-use status_page::{MOST_CLIENTS, Page, PageServer};
+use status_page::{MAX_CLIENTS, Page, PageServer};
 use std::hash::RandomState;
 use std::io::{ErrorKind, Read, Write};
 use std::net::TcpStream;
@@ -57,7 +57,7 @@ fn clients_are_answered_or_let_go(rt: HostRuntime) {
     let mut server = PageServer::bind(&rt, rt.alloc(), keys, 0).expect(&rt, "a port");
     let address = server.address().expect(&rt, "an address");
     let mut clients = Vec::new(rt.alloc());
-    for _ in 0..MOST_CLIENTS + 6 {
+    for _ in 0..MAX_CLIENTS + 6 {
         let mut client = TcpStream::connect(&rt, address).expect(&rt, "a connection");
         ask(&rt, &mut client);
         assert!(rt; clients.push(client).is_ok());

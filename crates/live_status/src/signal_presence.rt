@@ -1,15 +1,15 @@
 //! The presence of a stream's signal, by the times at which its packets were taken.
 ghost use Rattle.std.specs.Prelude.{◌≡◌, if◌then◌else◌, ◌==◌};
-ghost use Rattle.status_page.specs.Condition.{condition_of, is_silent};
+ghost use Rattle.live_status.specs.SignalPresence.{condition_of, is_silent};
 
-use crate::snapshot::Condition;
+use status_page::Condition;
 
 /// The time without a packet after which a stream's signal is lost, in sampling instants: a second.
 const LOST_AFTER: i64 = 48_000;
 
 /// The presence of a stream's signal.
 #[derive(Clone, Copy, Debug)]
-pub struct SignalPresence {
+pub(crate) struct SignalPresence {
     /// The number of packets that were taken at the last update.
     taken: u64,
     /// The time of the first update with that number, in sampling instants.
@@ -18,7 +18,7 @@ pub struct SignalPresence {
 
 impl SignalPresence {
     /// Returns the presence of a stream of which no packet was taken by the time `now`, in sampling instants.
-    pub fn new(now: i64) -> SignalPresence
+    pub(crate) fn new(now: i64) -> SignalPresence
         ensures { (result.taken ≡ 0) × (result.since ≡ now) }
     {
         SignalPresence {
@@ -29,7 +29,7 @@ impl SignalPresence {
 
     /// Notes the number of packets that were taken by the time `now`, in sampling instants, and returns the stream's
     /// condition. `has_ended` is true if the stream has ended.
-    pub fn update(&mut self, now: i64, taken: u64, has_ended: bool) -> Condition
+    pub(crate) fn update(&mut self, now: i64, taken: u64, has_ended: bool) -> Condition
         ensures condition { result ≡ condition_of has_ended taken (is_silent self.new.since now) }
         ensures taken { self.new.taken ≡ taken }
         ensures since { self.new.since ≡ (if taken == self.old.taken then self.old.since else now) }

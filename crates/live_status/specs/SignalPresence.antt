@@ -1,4 +1,4 @@
--- Where a stream stands.
+-- The condition of a stream, by when its packets were taken.
 use Rattle.std.specs.Prelude.{ℕ, Bool, true, false, ℤ, pos, ◌+ℤ◌, int_le, ◌==◌, if◌then◌else◌}
 use Rattle.status_page.specs.declared.snapshot.Condition.{Condition}
 use Rattle.status_page.specs.declared.snapshot.Condition.TheVariants.{NoPacket, Running, SignalLost, Ended}
