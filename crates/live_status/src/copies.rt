@@ -11,8 +11,8 @@ pub(crate) fn fill_copies(numbers: &PathStats, lost: u64, state: &mut PathState)
     ensures { state.new ≡ with_numbers numbers.now lost state.old }
 {
     let tally = numbers.tally;
-    // A packet that the stream lost was taken from no path, so it counts as lost on each. The tally has only those that
-    // another path brought.
+    // A packet that the stream lost was taken from no path, so it counts as lost on each, also if it arrived there after
+    // its deadline. `missed` has only packets that another path brought.
     state.copies = Some(CopyCounts {
         lost: tally.missed.saturating_add(lost),
         double: tally.double,

@@ -51,7 +51,7 @@ abbrev pub path_help : PathField → List ℕ
 path_help Path.Datagrams = codes "Datagrams that came on the path."
 path_help Path.First = codes "Packets of which the path brought the first copy."
 path_help Path.Sent = codes "Datagrams that were packets of the stream."
-path_help Path.Lost = codes "Packets of the stream that the path never brought."
+path_help Path.Lost = codes "Packets that the stream lost, also if the path brought them late, and packets that another path brought and this one did not within the reorder window."
 path_help Path.Double = codes "Further copies, with the payload of the first."
 path_help Path.Unlike = codes "Further copies, with another payload than the first."
 path_help Path.Late = codes "Packets that came after their deadline."

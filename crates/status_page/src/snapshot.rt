@@ -34,7 +34,8 @@ pub struct ArrivalMargin {
 /// The numbers of a path's packets by fate, in addition to the first copies.
 #[derive(Clone, Copy, Debug, PartialEq, Eq)]
 pub struct CopyCounts {
-    /// The packets that were taken from no path, and those that only other paths brought.
+    /// The packets that the stream lost, and those that another path brought and this one did not, until a number one
+    /// reorder window later was taken. A packet that the stream lost and this path brought late is in `late` too.
     pub lost: u64,
     /// The duplicates, with the payload of the first copy.
     pub double: u64,

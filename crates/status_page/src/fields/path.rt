@@ -80,7 +80,8 @@ impl PathField {
             PathField::Datagrams => "Datagrams that came on the path.",
             PathField::First => "Packets of which the path brought the first copy.",
             PathField::Sent => "Datagrams that were packets of the stream.",
-            PathField::Lost => "Packets of the stream that the path never brought.",
+            PathField::Lost =>
+                "Packets that the stream lost, also if the path brought them late, and packets that another path brought and this one did not within the reorder window.",
             PathField::Double => "Further copies, with the payload of the first.",
             PathField::Unlike => "Further copies, with another payload than the first.",
             PathField::Late => "Packets that came after their deadline.",
