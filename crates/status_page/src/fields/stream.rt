@@ -10,35 +10,9 @@ use rtp_stream::CountField;
 /// A number of a stream. `help` describes each. The counts are shown first, in the order of `COUNT_FIELDS`.
 #[derive(Clone, Copy, Debug, PartialEq, Eq)]
 pub(crate) enum StreamField {
-    Got,
-    Lost,
-    Arrived,
-    Taken,
-    Double,
-    Unlike,
-    OffGrid,
-    Late,
-    Ahead,
-    WrongSource,
-    Restarts,
+    Count(CountField),
     Latency,
 }
-
-/// The numbers of a stream, in the order in which they are shown.
-pub(crate) const STREAM_FIELDS: [StreamField; 12] = [
-    StreamField::Got,
-    StreamField::Lost,
-    StreamField::Arrived,
-    StreamField::Taken,
-    StreamField::Double,
-    StreamField::Unlike,
-    StreamField::OffGrid,
-    StreamField::Late,
-    StreamField::Ahead,
-    StreamField::WrongSource,
-    StreamField::Restarts,
-    StreamField::Latency,
-];
 
 impl StreamField {
     /// Returns the number's name in `/state` and `/metrics`.
