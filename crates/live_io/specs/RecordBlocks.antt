@@ -8,7 +8,7 @@ use Rattle.pcap_file.specs.Times.{nanoseconds_in_64}
 use Rattle.rtp_stream.specs.declared.stream_spec.Stream.{Stream}
 use Rattle.studio_config.specs.Studio.{Studio}
 use Rattle.live_io.specs.declared.record.block_producer.BlockProducer.{BlockProducer}
-use Rattle.live_io.specs.declared.way.DatagramOrigin.{DatagramOrigin}
+use Rattle.live_io.specs.declared.record.observer.DatagramOrigin.{DatagramOrigin}
 
 -- nothing was sent, and nothing will be any more
 abbrev pub Ends : BlockProducer → BlockProducer → Type 0
@@ -23,18 +23,18 @@ Puts old block new =
 abbrev pub IsSince : ℤ → ℤ → ℕ → Type 0
 IsSince open_at time nanoseconds = (instants : ℕ) → time ≡ (open_at +ℤ pos instants) → nanoseconds_in_64 instants ≡ Some nanoseconds
 
--- a datagram with these octets that came at a time and this way: on the path at its place, from one address to another
-pub record IsPacket (open_at time : ℤ) (way : DatagramOrigin) (octets : List ℕ) (view : ArrivalView) : Type 0 where
-  pub place_is : view.interface ≡ way.path_index
+-- a datagram with these octets that came at a time and has this origin: its path, from one address to another
+pub record IsPacket (open_at time : ℤ) (origin : DatagramOrigin) (octets : List ℕ) (view : ArrivalView) : Type 0 where
+  pub place_is : view.interface ≡ origin.path_index
   pub octets_are : view.octets ≡ octets
   pub since : IsSince open_at time view.nanoseconds
-  pub source : (view.source ≡ ipv4_octets way.source.ip) × (view.source_port ≡ way.source.port)
-  pub destination : (view.destination ≡ ipv4_octets way.destination.ip) × (view.destination_port ≡ way.destination.port)
+  pub source : (view.source ≡ ipv4_octets origin.source.ip) × (view.source_port ≡ origin.source.port)
+  pub destination : (view.destination ≡ ipv4_octets origin.destination.ip) × (view.destination_port ≡ origin.destination.port)
 
 -- its packet was sent, or nothing
 abbrev pub PutsPacket : ℤ → ℤ → DatagramOrigin → List ℕ → BlockProducer → BlockProducer → Type 0
-PutsPacket open_at time way octets old new =
-    ((view : ArrivalView) × IsPacket open_at time way octets view × (new.ended ≡ false) × (sent new.ring ≡ sent old.ring ++ datagram_block view)) ⊎ Ends old new
+PutsPacket open_at time origin octets old new =
+    ((view : ArrivalView) × IsPacket open_at time origin octets view × (new.ended ≡ false) × (sent new.ring ≡ sent old.ring ++ datagram_block view)) ⊎ Ends old new
 
 -- a close at a time was sent, or nothing
 abbrev pub PutsClose : ℤ → ℤ → BlockProducer → BlockProducer → Type 0

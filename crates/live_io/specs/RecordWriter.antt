@@ -7,7 +7,7 @@ use Rattle.live_io.specs.declared.record.writer.RecordWriter.{RecordWriter}
 module _ {D : Type 0} where
   -- of all that came through the ring these octets went on, and the rest is held
   abbrev pub HasPassed : RecordWriter D → List ℕ → Type 0
-  HasPassed recorder done = received recorder.ring ≡ done ++ take recorder.held recorder.octets.items
+  HasPassed writer done = received writer.ring ≡ done ++ take writer.held writer.octets.items
 
   -- the ring was seen empty, or what is held leaves no room
   abbrev pub SeesNone : RecordWriter D → RecordWriter D → Type 0

@@ -1,4 +1,4 @@
-//! The clock of a live run: the system's monotonic clock, in sampling instants.
+//! The clock of a live run, which is the system's monotonic clock in sampling instants, and the period of the run.
 ghost use Rattle.std.specs.Prelude.{◌≡◌, ◌≤◌, ◌<◌, ◌^◌, ◌-◌, pos, ◌≤ℤ◌, ◌<ℤ◌, ◌+ℤ◌, ℤ, []};
 ghost use Rattle.std.specs.Duration.{as_nanos};
 ghost use Rattle.studio_io.specs.Clocks.{TellsTime};
@@ -6,11 +6,12 @@ ghost use Rattle.live_io.specs.Clock.{instants_in};
 
 use std::time;
 use std::time::Duration;
+use studio_config::StudioSpec;
 use studio_io::Clock;
 
 /// Returns the reading of a clock `elapsed` after it started at `open_at`, in sampling instants at 48 kHz, rounded
 /// down. A reading past the greatest `i64` is the greatest `i64`.
-pub fn reading_after(open_at: i64, elapsed: Duration) -> i64
+pub(crate) fn reading_after(open_at: i64, elapsed: Duration) -> i64
     requires open { pos 0 ≤ℤ open_at }
     ensures exact { (open_at +ℤ pos (instants_in (as_nanos elapsed))) <ℤ pos (2 ^ 63)
         → result ≡ (open_at +ℤ pos (instants_in (as_nanos elapsed))) }
@@ -43,7 +44,7 @@ pub struct SystemClock<'a, R: time::Clock> {
 impl<'a, R: time::Clock> SystemClock<'a, R> {
     /// Returns a clock that reads `open_at` when the system's clock reads `began`. If `began` is `None`, it reads
     /// `open_at` at all times.
-    pub fn since(rt: &'a R, began: Option<Duration>, open_at: i64) -> SystemClock<'a, R>
+    pub(crate) fn since(rt: &'a R, began: Option<Duration>, open_at: i64) -> SystemClock<'a, R>
         requires { pos 0 ≤ℤ open_at }
         ensures { result.last ≡ open_at }
     {
@@ -77,5 +78,42 @@ impl<R: time::Clock> Clock for SystemClock<'_, R> {
             self.last = self.last.max(reading);
         }
         self.last
+    }
+}
+
+/// The start of a run, and its end by the clock, if it has one.
+#[derive(Clone, Copy)]
+pub struct RunPeriod {
+    /// The opening time, in sampling instants at 48 kHz.
+    open_at: i64,
+    /// The reading of the system's monotonic clock at the opening time, if it could be read.
+    began: Option<Duration>,
+    /// The time at which the feeds end, in sampling instants, if the clock ends them.
+    until: Option<i64>,
+    ghost from_zero: { pos 0 ≤ℤ open_at },
+}
+
+impl RunPeriod {
+    /// Returns the period of a run of this studio, in which the system's monotonic clock read `began` at the studio's
+    /// opening time. The feeds end so many sampling instants at 48 kHz after it. If `instants` is `None`, the clock
+    /// does not end them.
+    pub fn new(studio: &StudioSpec, began: Option<Duration>, instants: Option<i64>) -> RunPeriod {
+        let open_at = studio.open_at();
+        RunPeriod {
+            open_at,
+            began,
+            until: instants.map(|instants| open_at.saturating_add(instants)),
+        }
+    }
+
+    /// Returns a clock of the run, in sampling instants at 48 kHz.
+    pub fn clock<R: time::Clock>(self, rt: &R) -> SystemClock<'_, R> {
+        SystemClock::since(rt, self.began, self.open_at)
+    }
+
+    /// Returns the time at which the feeds end, in sampling instants at 48 kHz, or `None` if the clock does not end
+    /// them.
+    pub(crate) fn until(&self) -> Option<i64> {
+        self.until
     }
 }

@@ -15,34 +15,22 @@
 #![tactic(auto)]
 
 mod clock;
-mod feeds;
 mod options;
-mod places;
 mod record;
-mod recorded;
 mod sockets;
-mod start;
-mod stream_name;
 mod tai;
-mod way;
 
-pub use clock::{SystemClock, reading_after};
-pub use feeds::udp_feeds;
+pub use clock::{RunPeriod, SystemClock};
 pub use options::LiveOptions;
-pub use places::write_addresses;
-pub use record::RecordChannel;
-pub use record::observer::RecordObserver;
+pub use record::observer::{DatagramOrigin, RecordObserver};
 pub use record::writer::{FileResult, RecordWriter, write_record};
-pub use recorded::RecordResult;
+pub use record::{RecordChannel, RecordResult};
 pub use sockets::addresses::{PathAddress, addresses_of};
-pub use sockets::feed::{FeedFlags, UdpFeed};
+pub use sockets::feed::{FeedFlags, UdpFeed, udp_feeds};
 pub use sockets::inherited::{InheritedSocketFault, InheritedSockets};
 pub use sockets::ports::LivePorts;
 pub use sockets::receiver::Receiver;
 pub use sockets::sink::UdpSink;
-pub use sockets::unexpected::{ExpectedSource, UnexpectedSources};
+pub use sockets::unexpected::UnexpectedSources;
 pub use sockets::{SocketConfig, Sockets, open_sockets};
-pub use start::RunPeriod;
-pub use stream_name::StreamName;
 pub use tai::{TaiOffset, TaiTime, tai_now};
-pub use way::DatagramOrigin;

@@ -22,7 +22,7 @@ pub(crate) mod receiver;
 pub(crate) mod sink;
 pub(crate) mod unexpected;
 
-/// The configuration of a run's sockets.
+/// The configuration of a run's sockets, in addition to the studio's addresses.
 #[derive(Clone, Copy)]
 pub struct SocketConfig<'a> {
     /// The ports of all paths and of the output.
@@ -73,42 +73,42 @@ fn open_receivers<'a, R: Net>(
     studio: &StudioSpec,
     config: SocketConfig<'a>,
 ) -> io::Result<Vec<Receiver<'a>>> {
-    let places = ReceiverPlan {
+    let plan = ReceiverPlan {
         addresses: addresses_of(alloc, studio)?,
         descriptors: config.inherited.descriptors(alloc, studio.streams())?,
         config,
     };
     let count = config.ports.paths.len();
     let mut receivers = Vec::with_capacity(alloc, count)?;
-    for place in 0..count {
-        receivers.push(places.receiver(rt, place)?)?;
+    for index in 0..count {
+        receivers.push(plan.receiver(rt, index)?)?;
     }
     Ok(receivers)
 }
 
 impl<'a> ReceiverPlan<'a> {
-    /// Returns the socket of the path at a place.
-    fn receiver<R: Net>(&self, rt: &R, place: usize) -> io::Result<Receiver<'a>> {
+    /// Returns the socket of the path at an index.
+    fn receiver<R: Net>(&self, rt: &R, index: usize) -> io::Result<Receiver<'a>> {
         let (Some(address), Some(port)) = (
-            self.addresses.get(place),
-            self.config.ports.paths.get(place),
+            self.addresses.get(index),
+            self.config.ports.paths.get(index),
         ) else {
             return Err(io::Error::from(ErrorKind::InvalidInput));
         };
-        let socket = self.socket(rt, place, address, *port)?;
-        let source = self.config.unexpected.source(place, address.from);
+        let socket = self.socket(rt, index, address, *port)?;
+        let source = self.config.unexpected.source(index, address.from);
         Ok(Receiver::new(socket, source, SocketAddrV4::new(address.at, *port)))
     }
 
-    /// Returns the inherited socket of the path at a place, or a new one at this address and port if there is none.
+    /// Returns the inherited socket of the path at an index, or a new one at this address and port if there is none.
     fn socket<R: Net>(
         &self,
         rt: &R,
-        place: usize,
+        index: usize,
         address: &PathAddress,
         port: u16,
     ) -> io::Result<UdpSocket> {
-        match self.descriptors.get(place) {
+        match self.descriptors.get(index) {
             Some(Some(descriptor)) => inherited_socket(*descriptor),
             _ => receiving_socket(rt, address.at, port, self.is_shared(address, port)),
         }
@@ -116,7 +116,7 @@ impl<'a> ReceiverPlan<'a> {
 
     /// Returns true if another path is received at the same group and port from another source.
     fn is_shared(&self, own: &PathAddress, port: u16) -> bool {
-        // Only such sockets get SO_REUSEADDR: the sources tell their datagrams apart.
+        // Only such sockets get SO_REUSEADDR: the source addresses distinguish their datagrams.
         let Some(from) = own.from else {
             return false;
         };

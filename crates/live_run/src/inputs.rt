@@ -1,6 +1,7 @@
 //! The inputs of a live run.
 
-use live_io::{RecordResult, SocketConfig, StreamName};
+use live_io::{RecordResult, SocketConfig};
+use status_page::StreamName;
 use std::time::Duration;
 
 /// The inputs of a live run, in addition to its studio and its options.

@@ -8,11 +8,12 @@ use crate::fault::LiveFault;
 use crate::inputs::LiveInputs;
 use crate::scoped_thread::with_scoped_thread;
 use crate::single_thread::{RecordOutput, run_in_one_thread};
+use crate::status::{OpenStatus, open_status};
 use crate::std_fds::open_missing_fds;
 use crate::supervisor::stop_flags::StopFlags;
 use crate::workers::run_in_workers;
 use live_io::{LiveOptions, RecordChannel, RecordResult, RunPeriod, Sockets, open_sockets};
-use live_status::{Meter, OpenStatus, PageThread, StatusInputs, open_status};
+use live_status::{Meter, PageThread, StatusInputs};
 use std::alloc::{AllocError, Global};
 use std::io::Write;
 use std::net::Net;
@@ -66,7 +67,7 @@ pub(crate) fn launch_run<
         one_thread: options.one_thread,
         sockets,
         context: RunContext {
-            period: RunPeriod::new(studio, inputs.began, options),
+            period: RunPeriod::new(studio, inputs.began, options.instants),
             until_eof: options.until_eof,
             status: showing,
             flags: &flags,

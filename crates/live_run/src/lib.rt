@@ -18,6 +18,7 @@
 //! If a form returns an early `LiveFault`, no run has begun.
 #![tactic(auto)]
 
+mod address_line;
 mod context;
 mod fault;
 mod inputs;
@@ -26,6 +27,7 @@ mod report;
 mod run;
 mod scoped_thread;
 mod single_thread;
+mod status;
 mod std_fds;
 mod supervisor;
 mod workers;
@@ -34,3 +36,4 @@ pub use fault::LiveFault;
 pub use inputs::LiveInputs;
 pub use live_io::LiveOptions;
 pub use run::run_studio_live;
+pub use status_page::StreamName;

@@ -101,7 +101,7 @@ fn ends_of<D: Drop>(
     record: Option<RecordChannel<D>>,
 ) -> (Option<RecordObserver>, Option<RecordWriter<D>>) {
     match record {
-        Some(RecordChannel { tap, recorder }) => (Some(tap), Some(recorder)),
+        Some(RecordChannel { observer, writer }) => (Some(observer), Some(writer)),
         None => (None, None),
     }
 }

@@ -49,7 +49,7 @@ pub(crate) fn run_in_workers<'a, R: Threads + Wait + Sync + Clock, E: Write + Se
         flags,
     } = context;
     // Without a status there are no rings for statistics, and the workers send none.
-    let is_shown = status.board.is_some();
+    let is_shown = status.publisher.is_some();
     let rings = open_rings(alloc, studio, sockets.receiving.len(), is_shown)?;
     let Rings { ends, receivers } = rings;
     // No flags of sockets: each path has a thread of its own, whose receives may wait.
@@ -58,7 +58,7 @@ pub(crate) fn run_in_workers<'a, R: Threads + Wait + Sync + Clock, E: Write + Se
         ready: &[],
     };
     let workers = prepare_workers(rt, alloc, ends, sockets, period, feed_flags)?;
-    let task = worker_status_task(rt, alloc, receivers, period, status.board)?;
+    let task = worker_status_task(rt, alloc, receivers, period, status.publisher)?;
     let supervisor = Supervisor { until_eof, task };
     run_supervised(
         rt,

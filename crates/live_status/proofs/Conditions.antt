@@ -1,25 +1,25 @@
--- The seen ones that look at their streams, place by place.
+-- Statuses that are updated by their streams, place by place.
 use Rattle.std.proofs.Common.{◌≡◌, ◌⊎◌, inl, inr, ℕ, ◌+◌, ◌<◌, ◌≤◌, ℤ, Bool, List, length, slice_get, Some, option_map, MatchOption, sym, ap, subst, ◌∙◌, arith}
 use Rattle.std.proofs.lemmas.Option.{slice_get_past}
 use Rattle.status_page.specs.declared.snapshot.StreamState.{StreamState}
 use Rattle.live_status.specs.Each.{AreEach}
-use Rattle.live_status.specs.Conditions.{Looks, LooksAt, Stands, looked, with_condition}
+use Rattle.live_status.specs.Conditions.{Updates, UpdatesAt, SetsCondition, updated, with_condition}
 use Rattle.live_status.specs.declared.stream_status.StreamStatus.{StreamStatus}
 use Rattle.live_status.proofs.Each.{IsUpTo, below_next}
 
--- the one at this place has looked too
-pub looks-step : (streams : List StreamState) (now : ℤ) (n : ℕ) (olds news next : List StreamStatus) (stream : StreamState)
-    → slice_get streams n ≡ Some stream → IsUpTo (Looks streams now) n olds news → LooksAt n stream.counts.taken now news next → IsUpTo (Looks streams now) (n + 1) olds next
-looks-step streams now n olds news next stream at upto one = record {
+-- the one at this place was updated too
+pub updates-step : (streams : List StreamState) (now : ℤ) (n : ℕ) (olds news next : List StreamStatus) (stream : StreamState)
+    → slice_get streams n ≡ Some stream → IsUpTo (Updates streams now) n olds news → UpdatesAt n stream.counts.taken now news next → IsUpTo (Updates streams now) (n + 1) olds next
+updates-step streams now n olds news next stream at upto one = record {
   length_is = one.length_is ∙ upto.length_is;
   done = λ place x y below in_olds in_next.
       elim (below_next place n below) [
         | inl less ↦ upto.done place x y less in_olds (sym (one.elsewhere place (omega arith)) ∙ in_next)
         | inr same ↦
             let was : slice_get news n ≡ Some x = upto.left n (omega arith) ∙ (ap (slice_get olds) (sym same) ∙ in_olds) in
-            let is : Some (looked stream.counts.taken now x) ≡ Some y = ap (option_map (looked stream.counts.taken now)) (sym was) ∙ (sym one.here ∙ (ap (slice_get next) (sym same) ∙ in_next)) in
-            let new : y ≡ looked stream.counts.taken now x = cc is in
-            subst (λ k. Looks streams now k x y) (sym same) (subst (λ o. MatchOption o (y ≡ x) (λ s. y ≡ looked s.counts.taken now x)) (sym at) new)
+            let is : Some (updated stream.counts.taken now x) ≡ Some y = ap (option_map (updated stream.counts.taken now)) (sym was) ∙ (sym one.here ∙ (ap (slice_get next) (sym same) ∙ in_next)) in
+            let new : y ≡ updated stream.counts.taken now x = cc is in
+            subst (λ k. Updates streams now k x y) (sym same) (subst (λ o. MatchOption o (y ≡ x) (λ s. y ≡ updated s.counts.taken now x)) (sym at) new)
       ];
   left = λ place above. one.elsewhere place (omega arith) ∙ upto.left place (omega arith);
 }
@@ -27,19 +27,19 @@ looks-step streams now n olds news next stream at upto one = record {
 below_or_not : (place n : ℕ) → (place < n) ⊎ (n ≤ place)
 below_or_not place n = grind arith
 
--- where all streams were gone through, each seen one has looked at its stream, and the others are as they were
-pub looks-all : (streams : List StreamState) (now : ℤ) (n : ℕ) (olds news : List StreamStatus) → length streams ≤ n → IsUpTo (Looks streams now) n olds news → AreEach (Looks streams now) olds news
-looks-all streams now n olds news all upto = record {
+-- where all streams were gone through, each status was updated by its stream, and the others are as they were
+pub updates-all : (streams : List StreamState) (now : ℤ) (n : ℕ) (olds news : List StreamStatus) → length streams ≤ n → IsUpTo (Updates streams now) n olds news → AreEach (Updates streams now) olds news
+updates-all streams now n olds news all upto = record {
   length_is = upto.length_is;
   each = λ place x y in_olds in_news.
       elim (below_or_not place n) [
         | inl less ↦ upto.done place x y less in_olds in_news
         | inr not_less ↦
             let same : y ≡ x = cc (upto.left place not_less, in_olds, in_news) in
-            subst (λ o. MatchOption o (y ≡ x) (λ s. y ≡ looked s.counts.taken now x)) (sym (slice_get_past streams place (omega arith))) same
+            subst (λ o. MatchOption o (y ≡ x) (λ s. y ≡ updated s.counts.taken now x)) (sym (slice_get_past streams place (omega arith))) same
       ];
 }
 
--- a stream that stands by what was seen of it once others had looked stands by what was seen before
-pub stands-before : (olds news : List StreamStatus) (now : ℤ) (has_ended : Bool) (n : ℕ) (old new : StreamState) → slice_get news n ≡ slice_get olds n → Stands news now has_ended n old new → Stands olds now has_ended n old new
-stands-before olds news now has_ended n old new same stands = subst (λ o. MatchOption o (new ≡ old) (λ one. new ≡ with_condition one.pulse now has_ended old)) same stands
+-- a stream with the condition by its status once others were updated has the condition by its status before
+pub sets-before : (olds news : List StreamStatus) (now : ℤ) (has_ended : Bool) (n : ℕ) (old new : StreamState) → slice_get news n ≡ slice_get olds n → SetsCondition news now has_ended n old new → SetsCondition olds now has_ended n old new
+sets-before olds news now has_ended n old new same sets = subst (λ o. MatchOption o (new ≡ old) (λ one. new ≡ with_condition one.presence now has_ended old)) same sets

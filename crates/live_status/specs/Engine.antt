@@ -13,7 +13,7 @@ use Rattle.studio_engine.specs.Engine.{EngineState, HasAllMarks}
 use Rattle.studio_engine.specs.Session.{HasSession}
 use Rattle.status_page.specs.declared.snapshot.PathState.{PathState}
 
--- of the events that an engine was handed, the counts of this stream's merge, once its marks were taken
+-- of the events that were passed to an engine, the counts of this stream's merge, once its marks were taken
 abbrev pub HasEngineCounts : EngineState → ℕ → Counts → Type 0
 HasEngineCounts engine number counts =
     (studio : Studio) (events : List TraceEvent) (datagrams : List (List ℕ)) (stream : Stream) → HasSession studio engine events datagrams → slice_get studio.streams number ≡ Some stream → HasAllMarks engine

@@ -1,4 +1,4 @@
--- What a view of an engine notes.
+-- What the status of an engine notes of its offers.
 use Rattle.std.specs.Prelude.{◌≡◌, ◌≢◌, ℕ, ◌∷◌, [], List, length, slice_get, Some, ℤ, Option, MatchBool, nat_lt}
 use Rattle.rtp_wire.specs.Datagram.{head_at}
 use Rattle.rtp_stream.specs.declared.fate.Fate.{Fate}
@@ -9,9 +9,9 @@ use Rattle.rtp_stats.specs.declared.copy_tracker.CopyTracker.{CopyTracker}
 use Rattle.studio_session.specs.declared.receipt.ArriveOutcome.{ArriveOutcome}
 use Rattle.studio_session.specs.declared.receipt.ArriveOutcome.TheVariants.{Offered, Bad, WrongType, WrongLength}
 
--- a watch of a stream of which nothing was offered
-abbrev pub IsUnheard : ℕ → Stream → CopyTracker → Type 0
-IsUnheard place stream watch = HasTally stream [] watch.tally
+-- a tracker of a stream of which nothing was offered
+abbrev pub IsNewTracker : ℕ → Stream → CopyTracker → Type 0
+IsNewTracker place stream tracker = HasTally stream [] tracker.tally
 
 -- one more packet in a tally: its path, its fate, its sequence number, some spare time, and when it came
 abbrev pub AddsOffer : ℕ → Fate → ℕ → ℤ → CopyTracker → CopyTracker → Type 0

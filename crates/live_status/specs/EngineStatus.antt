@@ -1,4 +1,4 @@
--- What a view shows of an engine.
+-- What is published of an engine.
 use Rattle.std.specs.Prelude.{◌≡◌, ◌≤◌, ◌<◌, ℕ, ℤ, Bool, List, length, replicate, slice_get, IfSome}
 use Rattle.rtp_stream.specs.declared.stream_spec.Stream.{Stream}
 use Rattle.rtp_stats.specs.Offer.{Offer}
@@ -21,14 +21,14 @@ use Rattle.live_status.specs.declared.publisher.StatusPublisher.{StatusPublisher
 use Rattle.live_status.specs.declared.stream_status.StreamStatus.{StreamStatus}
 
 -- a stream of an engine: its name and latency, the counts of its merge, and each of its paths
-pub record IsEngineStream (engine : EngineState) (number : ℕ) (seen : StreamStatus) (stream : StreamState) : Type 0 where
-  pub name_is : stream.name ≡ seen.name
-  pub latency_is : stream.latency ≡ seen.latency
+pub record IsEngineStream (engine : EngineState) (number : ℕ) (status : StreamStatus) (stream : StreamState) : Type 0 where
+  pub name_is : stream.name ≡ status.name
+  pub latency_is : stream.latency ≡ status.latency
   pub counts : number < length engine.cursors → HasEngineCounts engine number stream.counts
-  pub paths : number < length engine.cursors → AreEach (IsEnginePath engine number stream.counts) (replicate seen.paths blank_path) stream.paths.items
+  pub paths : number < length engine.cursors → AreEach (IsEnginePath engine number stream.counts) (replicate status.paths blank_path) stream.paths.items
 
--- a stream that is seen: its counts and its paths are the engine's, and the rest is what it was
-pub record SeesStream (engine : EngineState) (number : ℕ) (old new : StreamState) : Type 0 where
+-- a stream that was filled in: its counts and its paths are the engine's, and the rest is what it was
+pub record FillsStream (engine : EngineState) (number : ℕ) (old new : StreamState) : Type 0 where
   pub name_is : new.name ≡ old.name
   pub condition_is : new.condition ≡ old.condition
   pub latency_is : new.latency ≡ old.latency
@@ -40,17 +40,17 @@ abbrev pub IsEngineOutput : EngineState → ℕ → OutputState → OutputState 
 IsEngineOutput engine channel blank output = IfSome (slice_get engine.mixer.saturated channel) (λ count. output.saturated ≡ count)
 
 -- the streams and the output channels of an engine
-pub record IsOfEngine (engine : EngineState) (seen : List StreamStatus) (channels : ℕ) (snapshot : Snapshot) : Type 0 where
-  pub streams : length seen ≤ 16 → AreEach (IsEngineStream engine) seen snapshot.streams.items
+pub record IsOfEngine (engine : EngineState) (statuses : List StreamStatus) (channels : ℕ) (snapshot : Snapshot) : Type 0 where
+  pub streams : length statuses ≤ 16 → AreEach (IsEngineStream engine) statuses snapshot.streams.items
   pub outputs : AreEach (IsEngineOutput engine) (replicate channels blank_output) snapshot.outputs.items
 
 -- a path with the numbers of its packets by this time, of a stream that lost so many
-abbrev pub IsWatched : ℕ → ℤ → ℕ → PathState → PathState → CopyTracker → Type 0
-IsWatched path now lost old new watch = (stream : Stream) (offers : List Offer) → HasTally stream offers watch.tally → (numbers : PathStats)
+abbrev pub HasPathStats : ℕ → ℤ → ℕ → PathState → PathState → CopyTracker → Type 0
+HasPathStats path now lost old new tracker = (stream : Stream) (offers : List Offer) → HasTally stream offers tracker.tally → (numbers : PathStats)
     × AreNumbers stream offers path now numbers × (new ≡ with_numbers numbers lost old)
 
 module _ {E : Type 0} where
-  -- a board shows a snapshot of an engine, at the engine's time
+  -- a publisher shows a snapshot of an engine, at the engine's time
   abbrev pub ShowsEngine : EngineState → Bool → StatusPublisher E → StatusPublisher E → Type 0
   ShowsEngine engine has_ended old new = (snapshot : Snapshot) × IsOfEngine engine old.streams.items old.channels snapshot
       × Shows old.streams.items engine.time has_ended snapshot old.page new.page

@@ -13,7 +13,7 @@ const SECOND: i64 = 48_000;
 
 /// The schedule of the lines with the streams' counts, and the buffer for their text.
 #[derive(Drop)]
-pub struct CountLines {
+pub(crate) struct CountLines {
     /// The period of the lines, in sampling instants at 48 kHz.
     every: i64,
     /// The time at which lines are due next, in sampling instants. After a failed write it is the greatest `i64`.
@@ -25,9 +25,9 @@ pub struct CountLines {
 impl CountLines {
     /// Returns a schedule with the first lines `seconds` seconds after `from`, which is in sampling instants at 48 kHz,
     /// and then with this period. Returns `AllocError` if an allocation fails.
-    pub fn new(alloc: Global, from: i64, seconds: u32) -> Result<CountLines, AllocError>
-        ensures every { IfOk result (λ stats. stats.every ≡ pos (seconds * 48_000)) }
-        ensures next { IfOk result (λ stats. stats.next ≡ saturate_to_bits 63 (from +ℤ stats.every)) }
+    pub(crate) fn new(alloc: Global, from: i64, seconds: u32) -> Result<CountLines, AllocError>
+        ensures every { IfOk result (λ lines. lines.every ≡ pos (seconds * 48_000)) }
+        ensures next { IfOk result (λ lines. lines.next ≡ saturate_to_bits 63 (from +ℤ lines.every)) }
     {
         let every = i64::from(seconds).saturating_mul(SECOND);
         Ok(CountLines {

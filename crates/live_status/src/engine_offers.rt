@@ -2,7 +2,7 @@
 ghost use Rattle.std.specs.Prelude.{◌≡◌, ◌<◌, ◌≤◌, length, IfOk, IfSome, IsNone};
 ghost use Rattle.rtp_wire.specs.Datagram.{head_at};
 ghost use Rattle.live_status.specs.Each.{AreEach};
-ghost use Rattle.live_status.specs.EngineOffers.{AddsOfferAt, IsUnheard};
+ghost use Rattle.live_status.specs.EngineOffers.{AddsOfferAt, IsNewTracker};
 
 use byteorder::{BigEndian, ByteOrder};
 use path_merge::{Fate, Path};
@@ -11,7 +11,7 @@ use rtp_stream::StreamSpec;
 use std::alloc::{AllocError, Global};
 
 /// The number of octets of the fixed part of a packet's header (RFC 3550, 5.1).
-const HEAD: usize = 12;
+pub(crate) const RTP_HEADER_LEN: usize = 12;
 
 /// The sequence number and the timestamp of a packet.
 #[derive(Clone, Copy)]
@@ -30,7 +30,7 @@ pub(crate) fn numbers_of(octets: &[u8]) -> Option<PacketNumbers>
     ensures ts { IfSome result (λ numbers. numbers.ts ≡ (head_at octets.now).ts) }
     ensures none { IsNone result → length octets.now < 12 }
 {
-    if octets.len() < HEAD {
+    if octets.len() < RTP_HEADER_LEN {
         return None;
     }
     Some(PacketNumbers {
@@ -45,19 +45,19 @@ pub(crate) fn copy_trackers(
     alloc: Global,
     streams: &[StreamSpec],
 ) -> Result<Vec<CopyTracker>, AllocError>
-    ensures { IfOk result (λ watched. AreEach IsUnheard streams.now watched.items) }
+    ensures { IfOk result (λ trackers. AreEach IsNewTracker streams.now trackers.items) }
 {
-    let mut watched = Vec::with_capacity(alloc, streams.len())?;
+    let mut trackers = Vec::with_capacity(alloc, streams.len())?;
     for stream in streams {
-        watched.push(CopyTracker::new(alloc, stream)?)?;
+        trackers.push(CopyTracker::new(alloc, stream)?)?;
     }
-    Ok(watched)
+    Ok(trackers)
 }
 
 /// Notes a packet of the stream of this number, if there is a copy tracker for it. `due` is the stream's next deadline
 /// and `now` the time of the offer, both in sampling instants.
 pub(crate) fn note_offer(
-    watched: &mut [CopyTracker],
+    trackers: &mut [CopyTracker],
     number: usize,
     path: Path,
     numbers: PacketNumbers,
@@ -65,9 +65,9 @@ pub(crate) fn note_offer(
     due: Option<i64>,
     now: i64,
 )
-    ensures { AddsOfferAt number path fate numbers.seq now watched.old watched.new }
+    ensures { AddsOfferAt number path fate numbers.seq now trackers.old trackers.new }
 {
-    if number < watched.len() {
-        watched[number].note(path, numbers.seq, numbers.ts, fate, due, now);
+    if number < trackers.len() {
+        trackers[number].note(path, numbers.seq, numbers.ts, fate, due, now);
     }
 }

@@ -16,15 +16,14 @@ ghost use Rattle.std.specs.Prelude.{
 };
 ghost use Rattle.live_status.specs.Each.{AreEach};
 ghost use Rattle.live_status.specs.Engine.{HasEngineBefore, IsEnginePath};
-ghost use Rattle.live_status.specs.EngineOffers.{IsUnheard, Notes};
+ghost use Rattle.live_status.specs.EngineOffers.{IsNewTracker, Notes};
 ghost use Rattle.live_status.specs.Publisher.{is_due_at};
-ghost use Rattle.live_status.specs.EngineStatus.{IsEngineOutput, IsWatched, SeesStream, ShowsEngine};
+ghost use Rattle.live_status.specs.EngineStatus.{IsEngineOutput, HasPathStats, FillsStream, ShowsEngine};
 
-use crate::copies::fill_copies;
 use crate::engine_offers::{copy_trackers, note_offer, numbers_of};
 use crate::meter::Meter;
 use crate::publisher::StatusPublisher;
-use crate::snapshot_fill::{fill_datagrams, fill_saturated, first_at};
+use crate::snapshot_fill::{fill_copies, fill_datagrams, fill_saturated, first_at};
 use path_merge::Path;
 use rtp_stats::CopyTracker;
 use rtp_stream::{Counts, StreamSpec};
@@ -37,9 +36,9 @@ use studio_session::ArriveOutcome;
 /// The publisher of an engine's status, with a copy tracker for each stream if there is a page.
 #[derive(Drop)]
 pub struct EngineStatus<'a, E> {
-    board: StatusPublisher<E>,
+    publisher: StatusPublisher<E>,
     /// The copy tracker of each stream. Empty without a page, since the lines do not need them.
-    watched: Vec<CopyTracker>,
+    trackers: Vec<CopyTracker>,
     /// The meter of the mix, if there is one.
     meter: Option<&'a Meter>,
 }
@@ -50,21 +49,21 @@ impl<'a, E: Write + Drop> EngineStatus<'a, E> {
     pub fn new(
         alloc: Global,
         streams: &[StreamSpec],
-        board: StatusPublisher<E>,
+        publisher: StatusPublisher<E>,
         meter: Option<&'a Meter>,
     ) -> Result<EngineStatus<'a, E>, AllocError>
-        ensures board { IfOk result (λ view. view.board ≡ board) }
-        ensures watched { IfOk result (λ view. MatchBool (is_some board.page)
-            (AreEach IsUnheard streams.now view.watched.items) (view.watched.items ≡ [])) }
+        ensures publisher { IfOk result (λ status. status.publisher ≡ publisher) }
+        ensures trackers { IfOk result (λ status. MatchBool (is_some publisher.page)
+            (AreEach IsNewTracker streams.now status.trackers.items) (status.trackers.items ≡ [])) }
     {
-        let watched = if board.has_page() {
+        let trackers = if publisher.has_page() {
             copy_trackers(alloc, streams)?
         } else {
             Vec::new(alloc)
         };
         Ok(EngineStatus {
-            board,
-            watched,
+            publisher,
+            trackers,
             meter,
         })
     }
@@ -80,8 +79,8 @@ impl<'a, E: Write + Drop> EngineStatus<'a, E> {
         receipt: ArriveOutcome,
     )
         ensures noted { Notes receipt stream path octets.now engine.now.time
-            self.old.watched.items self.new.watched.items }
-        ensures board { self.new.board ≡ self.old.board }
+            self.old.trackers.items self.new.trackers.items }
+        ensures publisher { self.new.publisher ≡ self.old.publisher }
     {
         // A datagram that was not offered to a merge has no fate: `fill_before_merge` shows its count.
         let ArriveOutcome::Offered(fate) = receipt else {
@@ -89,49 +88,50 @@ impl<'a, E: Write + Drop> EngineStatus<'a, E> {
         };
         if let Some(numbers) = numbers_of(octets) {
             let due = engine.stream_deadline(stream);
-            let watched = self.watched.as_mut_slice();
-            note_offer(watched, stream, path, numbers, fate, due, engine.time());
+            let trackers = self.trackers.as_mut_slice();
+            note_offer(trackers, stream, path, numbers, fate, due, engine.time());
         }
     }
 
     /// Publishes the engine's status, if a snapshot or lines are due by the engine's time.
     pub fn publish_if_due(&mut self, engine: &Engine)
-        ensures shown { MatchBool (is_due_at self.old.board engine.now.time)
-            (ShowsEngine engine.now false self.old.board self.new.board) (self.new.board ≡ self.old.board) }
-        ensures watched { self.new.watched ≡ self.old.watched }
+        ensures shown { MatchBool (is_due_at self.old.publisher engine.now.time)
+            (ShowsEngine engine.now false self.old.publisher self.new.publisher)
+            (self.new.publisher ≡ self.old.publisher) }
+        ensures trackers { self.new.trackers ≡ self.old.trackers }
     {
-        if self.board.is_due(engine.time()) {
+        if self.publisher.is_due(engine.time()) {
             self.publish(engine, false);
         }
     }
 
     /// Publishes the status of an engine that was closed, as the last one.
     pub fn publish_last(&mut self, engine: &Engine)
-        ensures shown { ShowsEngine engine.now true self.old.board self.new.board }
-        ensures watched { self.new.watched ≡ self.old.watched }
+        ensures shown { ShowsEngine engine.now true self.old.publisher self.new.publisher }
+        ensures trackers { self.new.trackers ≡ self.old.trackers }
     {
         self.publish(engine, true);
     }
 
     /// Publishes the engine's status.
     fn publish(&mut self, engine: &Engine, has_ended: bool)
-        ensures shown { ShowsEngine engine.now has_ended self.old.board self.new.board }
-        ensures watched { self.new.watched ≡ self.old.watched }
+        ensures shown { ShowsEngine engine.now has_ended self.old.publisher self.new.publisher }
+        ensures trackers { self.new.trackers ≡ self.old.trackers }
     {
-        let mut snapshot = self.board.blank_snapshot();
+        let mut snapshot = self.publisher.blank_snapshot();
         let streams = snapshot.streams.as_mut_slice();
-        fill_streams(engine, self.watched.as_slice(), streams);
+        fill_streams(engine, self.trackers.as_slice(), streams);
         fill_engine_outputs(engine, self.meter, snapshot.outputs.as_mut_slice());
-        self.board.publish(engine.time(), snapshot, has_ended);
+        self.publisher.publish(engine.time(), snapshot, has_ended);
     }
 }
 
 /// Fills in the streams of an engine.
-fn fill_streams(engine: &Engine, watched: &[CopyTracker], streams: &mut [StreamState])
-    ensures { AreEach (SeesStream engine.now) streams.old streams.new }
+fn fill_streams(engine: &Engine, trackers: &[CopyTracker], streams: &mut [StreamState])
+    ensures { AreEach (FillsStream engine.now) streams.old streams.new }
 {
     for (number, stream) in streams.iter_mut().enumerate() {
-        fill_engine_stream(engine, number, watched.get(number), stream);
+        fill_engine_stream(engine, number, trackers.get(number), stream);
     }
 }
 
@@ -149,17 +149,17 @@ fn fill_engine_outputs(engine: &Engine, meter: Option<&Meter>, outputs: &mut [Ou
 fn fill_engine_stream(
     engine: &Engine,
     number: usize,
-    watched: Option<&CopyTracker>,
+    tracker: Option<&CopyTracker>,
     stream: &mut StreamState,
 )
-    ensures { SeesStream engine.now number stream.old stream.new }
+    ensures { FillsStream engine.now number stream.old stream.new }
 {
     if let Some(counts) = engine.counts(number) {
         stream.counts = counts;
         fill_paths(
             engine,
             number,
-            watched,
+            tracker,
             &counts,
             stream.paths.as_mut_slice(),
         );
@@ -170,7 +170,7 @@ fn fill_engine_stream(
 fn fill_paths(
     engine: &Engine,
     number: usize,
-    watched: Option<&CopyTracker>,
+    tracker: Option<&CopyTracker>,
     counts: &Counts,
     paths: &mut [PathState],
 )
@@ -178,7 +178,7 @@ fn fill_paths(
         → AreEach (IsEnginePath engine.now number counts.now) paths.old paths.new }
 {
     for (place, path) in paths.iter_mut().enumerate() {
-        fill_path(engine, number, watched, counts, place, path);
+        fill_path(engine, number, tracker, counts, place, path);
     }
 }
 
@@ -186,7 +186,7 @@ fn fill_paths(
 fn fill_path(
     engine: &Engine,
     number: usize,
-    watched: Option<&CopyTracker>,
+    tracker: Option<&CopyTracker>,
     counts: &Counts,
     place: usize,
     state: &mut PathState,
@@ -198,7 +198,7 @@ fn fill_path(
     };
     state.first = first_at(counts, place);
     fill_before_merge(engine, number, path, state);
-    fill_path_copies(watched, path, engine.time(), counts.lost, state);
+    fill_path_copies(tracker, path, engine.time(), counts.lost, state);
 }
 
 /// Fills in the counts of a path's datagrams before the merge.
@@ -215,20 +215,20 @@ fn fill_before_merge(engine: &Engine, number: usize, path: Path, state: &mut Pat
 /// Fills in the copies and arrival margins of a path at the time `now`, if the stream has a copy tracker. `lost` is the
 /// number of packets that the stream lost.
 fn fill_path_copies(
-    watched: Option<&CopyTracker>,
+    tracker: Option<&CopyTracker>,
     path: Path,
     now: i64,
     lost: u64,
     state: &mut PathState,
 )
-    ensures copies { MatchOption watched.entry (state.new ≡ state.old)
-        (λ watch. IsWatched path now lost state.old state.new watch.now) }
+    ensures copies { MatchOption tracker.entry (state.new ≡ state.old)
+        (λ copies. HasPathStats path now lost state.old state.new copies.now) }
     ensures rest { (state.new.first ≡ state.old.first) × (state.new.counts ≡ state.old.counts)
         × (state.new.datagrams ≡ state.old.datagrams) }
 {
-    if let Some(watch) = watched {
-        let numbers = watch.stats(path, now);
-        fill_copies(&numbers, lost, state);
+    if let Some(copies) = tracker {
+        let path_stats = copies.stats(path, now);
+        fill_copies(&path_stats, lost, state);
     }
 }
 

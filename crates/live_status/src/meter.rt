@@ -3,16 +3,12 @@ ghost use Rattle.std.specs.Prelude.{◌≡◌, ◌≤◌, min};
 ghost use Rattle.live_status.specs.Each.{AreEach};
 ghost use Rattle.live_status.specs.Outputs.{KeepsCount};
 
+use crate::engine_offers::RTP_HEADER_LEN;
+use crate::publisher::MAX_CHANNELS;
 use rtp_stats::raise_peaks;
 use rtp_wire::Enc;
 use status_page::OutputState;
 use std::sync::atomic::{AtomicU32, Ordering};
-
-/// The greatest number of output channels.
-const MAX_CHANNELS: usize = 8;
-
-/// The number of octets before the samples of a datagram of the mix: an RTP header without CSRC list and extension.
-const HEAD: usize = 12;
 
 /// A meter that measures the datagrams of the mix as they are sent, and that may be read in another thread.
 // Peaks are atomics and not behind a lock, so the thread that sends never waits for the one that reads.
@@ -49,12 +45,17 @@ impl Meter {
 
     /// Raises the peaks by the samples of a datagram of the mix. Ignores one that is shorter than a header.
     pub fn measure(&self, datagram: &[u8]) {
-        if datagram.len() < HEAD || self.channels == 0 {
+        // A header of the mix has no CSRC list and no extension, so the samples follow its fixed part.
+        if datagram.len() < RTP_HEADER_LEN || self.channels == 0 {
             return;
         }
         // Collected here first, so that there is one atomic operation for each channel and not for each sample.
         let mut peaks = [0u32; MAX_CHANNELS];
-        raise_peaks(&mut peaks[..self.channels], self.enc, &datagram[HEAD..]);
+        raise_peaks(
+            &mut peaks[..self.channels],
+            self.enc,
+            &datagram[RTP_HEADER_LEN..],
+        );
         for (channel, peak) in self.peaks.iter().zip(peaks) {
             channel.fetch_max(peak, Ordering::SeqCst);
         }

@@ -1,9 +1,8 @@
-//! The server of a run's page, which runs in a thread of its own.
+//! The server of a run's page, which runs in a thread of its own, and the error of a page that cannot be opened.
 
-use crate::fault::PageFault;
 use rtrb::{Producer, RingBuffer};
 use status_page::{Page, PageServer, RingSource, Snapshot, serve_page};
-use std::alloc::Global;
+use std::alloc::{AllocError, AllocFailed, Global};
 use std::hash::RandomState;
 use std::io;
 use std::io::ErrorKind;
@@ -11,10 +10,34 @@ use std::net::{Net, SocketAddr};
 use std::random::RandomSource;
 use std::sync::Wait;
 use std::time::Clock;
+use thiserror::Error;
 
-/// The number of snapshots that may wait for the page.
+/// The greatest number of snapshots that wait for the page.
 // Few are enough: the page uses only the newest, and the run drops one that finds no room.
-const PLACES: usize = 4;
+const MAX_SNAPSHOTS: usize = 4;
+
+/// The error of a page that cannot be opened.
+#[derive(Clone, Copy, Debug, PartialEq, Eq, Error)]
+pub enum PageFault {
+    /// An allocation failed.
+    #[error("out of memory")]
+    Memory,
+    /// The port of the page could not be bound.
+    #[error("device: socket page")]
+    Page,
+}
+
+impl From<AllocError> for PageFault {
+    fn from(_fault: AllocError) -> PageFault {
+        PageFault::Memory
+    }
+}
+
+impl<T: Drop> From<AllocFailed<T>> for PageFault {
+    fn from(_refused: AllocFailed<T>) -> PageFault {
+        PageFault::Memory
+    }
+}
 
 /// The server of a run's page, with the page and the ring from which its snapshots come.
 #[derive(Drop)]
@@ -32,8 +55,8 @@ impl PageThread {
         alloc: Global,
         port: u16,
     ) -> Result<(PageThread, Producer<Snapshot>), PageFault> {
-        let (producer, consumer) = RingBuffer::new(alloc, PLACES)?;
-        match bound(rt, alloc, port) {
+        let (producer, consumer) = RingBuffer::new(alloc, MAX_SNAPSHOTS)?;
+        match bind_server(rt, alloc, port) {
             Ok(server) => Ok((
                 PageThread {
                     server,
@@ -63,7 +86,7 @@ impl PageThread {
 }
 
 /// Returns the server of a page, which listens at a port of 127.0.0.1.
-fn bound<R: Net + RandomSource>(rt: &R, alloc: Global, port: u16) -> io::Result<PageServer> {
+fn bind_server<R: Net + RandomSource>(rt: &R, alloc: Global, port: u16) -> io::Result<PageServer> {
     PageServer::bind(rt, alloc, RandomState::new(rt)?, port)
 }
 

@@ -17,11 +17,10 @@ ghost use Rattle.std.specs.Prelude.{
 };
 ghost use Rattle.live_status.specs.Each.{AreEach};
 ghost use Rattle.live_status.specs.Outputs.{blank_output};
-ghost use Rattle.live_status.specs.Conditions.{Looks, LooksAt, Stands};
-ghost use Rattle.live_status.specs.StreamStatus.{IsBlankOf, IsFirstSeenOf};
+ghost use Rattle.live_status.specs.Conditions.{Updates, UpdatesAt, SetsCondition};
+ghost use Rattle.live_status.specs.StreamStatus.{IsBlankOf, IsNewStatusAt};
 
 use crate::count_lines::CountLines;
-use crate::names::all_seen;
 use crate::stream_status::StreamStatus;
 use rtp_stream::StreamSpec;
 use rtrb::Producer;
@@ -30,9 +29,10 @@ use std::alloc::{AllocError, Global};
 use std::io::Write;
 
 /// The greatest number of output channels.
-const MAX_CHANNELS: usize = 8;
+pub(crate) const MAX_CHANNELS: usize = 8;
 
 /// The period of snapshots, in sampling instants at 48 kHz: a tenth of a second.
+// The page asks for a snapshot ten times a second, and the workers send their statistics as often.
 const SNAPSHOT_INTERVAL: i64 = 4_800;
 
 /// The publisher of a run's status, to its page and as lines on standard error.
@@ -40,7 +40,7 @@ const SNAPSHOT_INTERVAL: i64 = 4_800;
 pub struct StatusPublisher<E> {
     streams: Vec<StreamStatus>,
     /// The schedule of the lines, if lines are wanted.
-    stats: Option<CountLines>,
+    lines: Option<CountLines>,
     /// The ring to the page, if there is one. A snapshot that finds it full is dropped.
     page: Option<Producer<Snapshot>>,
     /// The time at which the next snapshot is due, in sampling instants.
@@ -58,25 +58,26 @@ impl<E: Write + Drop> StatusPublisher<E> {
 
     /// Returns the publisher of the status of these streams and so many output channels; channels past the eighth are
     /// ignored. `now` is in sampling instants. Allocates all its memory, and returns `AllocError` if that fails.
-    pub fn new(
+    pub(crate) fn new(
         alloc: Global,
         streams: &[StreamSpec],
         names: &[Option<StreamName>],
         now: i64,
-        stats: Option<CountLines>,
+        lines: Option<CountLines>,
         page: Option<Producer<Snapshot>>,
         channels: u8,
         writer: E,
     ) -> Result<StatusPublisher<E>, AllocError>
-        ensures streams { IfOk result (λ board. AreEach (IsFirstSeenOf names.now now) streams.now board.streams.items) }
-        ensures next { IfOk result (λ board. board.next ≡ now) }
-        ensures page { IfOk result (λ board. (board.page ≡ page) × (board.stats ≡ stats)) }
-        ensures channels { IfOk result (λ board. board.channels ≡ min channels 8) }
+        ensures streams { IfOk result
+            (λ publisher. AreEach (IsNewStatusAt names.now now) streams.now publisher.streams.items) }
+        ensures next { IfOk result (λ publisher. publisher.next ≡ now) }
+        ensures page { IfOk result (λ publisher. (publisher.page ≡ page) × (publisher.lines ≡ lines)) }
+        ensures channels { IfOk result (λ publisher. publisher.channels ≡ min channels 8) }
     {
-        let streams = all_seen(alloc, streams, names, now)?;
+        let streams = StreamStatus::of_streams(alloc, streams, names, now)?;
         Ok(StatusPublisher {
             streams,
-            stats,
+            lines,
             page,
             next: now,
             channels: usize::from(channels).min(MAX_CHANNELS),
@@ -98,8 +99,8 @@ impl<E: Write + Drop> StatusPublisher<E> {
         if self.page.is_some() && now >= self.next {
             return true;
         }
-        match &self.stats {
-            Some(stats) => stats.is_due(now),
+        match &self.lines {
+            Some(lines) => lines.is_due(now),
             None => false,
         }
     }
@@ -119,7 +120,7 @@ impl<E: Write + Drop> StatusPublisher<E> {
     /// lines that are due, and sends the snapshot to the page. `have_ended` is true if the streams have ended.
     pub fn publish(&mut self, now: i64, mut snapshot: Snapshot, have_ended: bool)
         ensures shown { Shows self.old.streams.items now have_ended snapshot self.old.page self.new.page }
-        ensures streams { AreEach (Looks snapshot.streams.items now) self.old.streams.items self.new.streams.items }
+        ensures streams { AreEach (Updates snapshot.streams.items now) self.old.streams.items self.new.streams.items }
         ensures next { IsSome self.old.page → self.new.next ≤ℤ (now +ℤ SNAPSHOT_INTERVAL) }
     {
         let streams = snapshot.streams.as_mut_slice();
@@ -133,9 +134,9 @@ impl<E: Write + Drop> StatusPublisher<E> {
         ensures streams { self.new.streams ≡ self.old.streams }
         ensures page { (self.new.page ≡ self.old.page) × (self.new.next ≡ self.old.next) }
     {
-        if let Some(stats) = &mut self.stats {
-            if stats.is_due(now) {
-                stats.write_due(now, snapshot, &mut self.writer);
+        if let Some(lines) = &mut self.lines {
+            if lines.is_due(now) {
+                lines.write_due(now, snapshot, &mut self.writer);
             }
         }
     }
@@ -156,14 +157,14 @@ impl<E: Write + Drop> StatusPublisher<E> {
 }
 
 /// Adds these streams to a snapshot that has none.
-fn add_streams(snapshot: &mut Snapshot, seen: &[StreamStatus])
+fn add_streams(snapshot: &mut Snapshot, statuses: &[StreamStatus])
     requires { snapshot.old.streams.items ≡ [] }
-    ensures streams { length seen.now ≤ 16 → AreEach IsBlankOf seen.now snapshot.new.streams.items }
+    ensures streams { length statuses.now ≤ 16 → AreEach IsBlankOf statuses.now snapshot.new.streams.items }
     ensures outputs { snapshot.new.outputs ≡ snapshot.old.outputs }
 {
-    for one in seen {
+    for status in statuses {
         // A snapshot has room for 16 streams, as many as a studio has at most.
-        let _ = snapshot.streams.try_push(one.blank());
+        let _ = snapshot.streams.try_push(status.blank());
     }
 }
 
@@ -182,31 +183,31 @@ fn add_outputs(snapshot: &mut Snapshot, channels: usize)
 
 /// Sets the condition of each of these streams at the time `now`.
 fn set_conditions(
-    seen: &mut [StreamStatus],
+    statuses: &mut [StreamStatus],
     now: i64,
     streams: &mut [StreamState],
     have_ended: bool,
 )
-    ensures streams { AreEach (Stands seen.old now have_ended) streams.old streams.new }
-    ensures seen { AreEach (Looks streams.old now) seen.old seen.new }
+    ensures streams { AreEach (SetsCondition statuses.old now have_ended) streams.old streams.new }
+    ensures statuses { AreEach (Updates streams.old now) statuses.old statuses.new }
 {
     for (number, stream) in streams.iter_mut().enumerate() {
-        set_condition_at(seen, number, now, stream, have_ended);
+        set_condition_at(statuses, number, now, stream, have_ended);
     }
 }
 
 /// Sets the condition of the stream of this number at the time `now`.
 fn set_condition_at(
-    seen: &mut [StreamStatus],
+    statuses: &mut [StreamStatus],
     number: usize,
     now: i64,
     stream: &mut StreamState,
     has_ended: bool,
 )
-    ensures stream { Stands seen.old now has_ended number stream.old stream.new }
-    ensures seen { LooksAt number stream.old.counts.taken now seen.old seen.new }
+    ensures stream { SetsCondition statuses.old now has_ended number stream.old stream.new }
+    ensures statuses { UpdatesAt number stream.old.counts.taken now statuses.old statuses.new }
 {
-    if number < seen.len() {
-        seen[number].set_condition(now, stream, has_ended);
+    if number < statuses.len() {
+        statuses[number].set_condition(now, stream, has_ended);
     }
 }

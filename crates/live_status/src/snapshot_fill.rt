@@ -1,42 +1,72 @@
 //! Filling a snapshot with the statistics of a stream, of its paths and of the mix that workers send.
 ghost use Rattle.std.specs.Prelude.{◌≡◌, Some, slice_index};
-ghost use Rattle.live_status.specs.Copies.{IsTold};
+ghost use Rattle.live_status.specs.Copies.{IsTold, spare_of, with_numbers};
 ghost use Rattle.live_status.specs.Each.{AreEach};
 ghost use Rattle.live_status.specs.Outputs.{HasCount, HasNumbers};
 
-use crate::copies::fill_copies;
-use rtp_stats::{MixStats, StreamStats};
+use rtp_stats::{MixStats, PathStats, StreamStats};
 use rtp_stream::{Counts, PathCounts};
-use status_page::{OutputState, PathState, StreamState};
+use status_page::{ArrivalMargin, CopyCounts, OutputState, PathState, StreamState};
 
 /// Fills in the counts of a stream, and the copies and arrival margins of its paths.
-pub fn fill_stream(numbers: &StreamStats, stream: &mut StreamState)
-    ensures counts { stream.new.counts ≡ numbers.now.counts }
-    ensures paths { AreEach (IsTold numbers.now.counts numbers.now.paths)
+pub fn fill_stream(stats: &StreamStats, stream: &mut StreamState)
+    ensures counts { stream.new.counts ≡ stats.now.counts }
+    ensures paths { AreEach (IsTold stats.now.counts stats.now.paths)
         stream.old.paths.items stream.new.paths.items }
     ensures rest { (stream.new.name ≡ stream.old.name) × (stream.new.condition ≡ stream.old.condition)
         × (stream.new.latency ≡ stream.old.latency) }
 {
-    stream.counts = numbers.counts;
-    fill_paths(numbers, stream.paths.as_mut_slice());
+    stream.counts = stats.counts;
+    fill_paths(stats, stream.paths.as_mut_slice());
 }
 
 /// Fills in each path.
-fn fill_paths(numbers: &StreamStats, paths: &mut [PathState])
-    ensures { AreEach (IsTold numbers.now.counts numbers.now.paths) paths.old paths.new }
+fn fill_paths(stats: &StreamStats, paths: &mut [PathState])
+    ensures { AreEach (IsTold stats.now.counts stats.now.paths) paths.old paths.new }
 {
     for (place, path) in paths.iter_mut().enumerate() {
-        fill_path(numbers, place, path);
+        fill_path(stats, place, path);
     }
 }
 
 /// Fills in the path at a place, if there are statistics for it.
-fn fill_path(numbers: &StreamStats, place: usize, path: &mut PathState)
-    ensures { IsTold numbers.now.counts numbers.now.paths place path.old path.new }
+fn fill_path(stats: &StreamStats, place: usize, path: &mut PathState)
+    ensures { IsTold stats.now.counts stats.now.paths place path.old path.new }
 {
-    if let Some(of_path) = numbers.paths.get(place) {
-        path.first = first_at(&numbers.counts, place);
-        fill_copies(of_path, numbers.counts.lost, path);
+    if let Some(of_path) = stats.paths.get(place) {
+        path.first = first_at(&stats.counts, place);
+        fill_copies(of_path, stats.counts.lost, path);
+    }
+}
+
+/// Fills in the copies and arrival margins of a path from its statistics. `lost` is the number of packets that the
+/// stream lost.
+pub(crate) fn fill_copies(stats: &PathStats, lost: u64, state: &mut PathState)
+    ensures { state.new ≡ with_numbers stats.now lost state.old }
+{
+    let tally = stats.tally;
+    // A packet that the stream lost was taken from no path, so it counts as lost on each, also if it arrived there
+    // after its deadline. `missed` has only packets that another path brought.
+    state.copies = Some(CopyCounts {
+        lost: tally.missed.saturating_add(lost),
+        double: tally.double,
+        unlike: tally.unlike,
+        late: tally.late,
+    });
+    state.spare = match stats.spare {
+        Some(spare) => Some(shown_spare(spare)),
+        None => None,
+    };
+}
+
+/// Returns the arrival margins of a path as they are shown, in sampling instants.
+fn shown_spare(spare: rtp_stats::ArrivalMargin) -> ArrivalMargin
+    ensures { result ≡ spare_of spare }
+{
+    // The median is rounded down to a multiple of 6, so it may be below the least.
+    ArrivalMargin {
+        least: u64::from(spare.least),
+        median: u64::from(spare.median.max(spare.least)),
     }
 }
 
@@ -62,22 +92,22 @@ pub fn fill_datagrams(counts: PathCounts, state: &mut PathState)
 }
 
 /// Fills in the mix: each channel's peak and its number of saturated samples.
-pub fn fill_outputs(numbers: &MixStats, outputs: &mut [OutputState])
-    ensures { AreEach (HasNumbers numbers.now) outputs.old outputs.new }
+pub fn fill_outputs(stats: &MixStats, outputs: &mut [OutputState])
+    ensures { AreEach (HasNumbers stats.now) outputs.old outputs.new }
 {
     for (channel, output) in outputs.iter_mut().enumerate() {
-        fill_channel(numbers, channel, output);
+        fill_channel(stats, channel, output);
     }
 }
 
 /// Fills in the output channel at a place, if there are statistics for it.
-fn fill_channel(numbers: &MixStats, channel: usize, output: &mut OutputState)
-    ensures { HasNumbers numbers.now channel output.old output.new }
+fn fill_channel(stats: &MixStats, channel: usize, output: &mut OutputState)
+    ensures { HasNumbers stats.now channel output.old output.new }
 {
-    if let Some(peak) = numbers.peaks.get(channel) {
+    if let Some(peak) = stats.peaks.get(channel) {
         output.peak = *peak;
     }
-    if let Some(count) = numbers.saturated.get(channel) {
+    if let Some(count) = stats.saturated.get(channel) {
         output.saturated = *count;
     }
 }

@@ -3,10 +3,10 @@ use crate::fault::ProgramFault;
 use command_line::LiveArgs;
 use file_commands::{CommandFault, Host, output_result, parse_studio, read_config, table_in};
 use live_io::{
-    InheritedSockets, LivePorts, RecordResult, SocketConfig, StreamName, TaiOffset, TaiTime,
-    UnexpectedSources, tai_now,
+    InheritedSockets, LivePorts, RecordResult, SocketConfig, TaiOffset, TaiTime, UnexpectedSources,
+    tai_now,
 };
-use live_run::{LiveFault, LiveInputs, run_studio_live};
+use live_run::{LiveFault, LiveInputs, StreamName, run_studio_live};
 use rtp_stream::Path;
 use std::alloc::Global;
 use std::io::Write;

@@ -14,14 +14,25 @@ ghost use Rattle.live_io.specs.RecordBlocks.{
 };
 
 use crate::record::block_producer::BlockProducer;
-use crate::way::DatagramOrigin;
 use pcap_file::{MAX_DATAGRAM_LEN, RecordedDatagram, nanoseconds_after};
 use rtp_stream::StreamSpec;
 use rtrb::Producer;
+use std::net::SocketAddrV4;
 use studio_config::StudioSpec;
 
 /// The letter of a stream's first path.
-const FIRST: u8 = b'a';
+const FIRST_LETTER: u8 = b'a';
+
+/// The path on which a datagram arrived, and its two addresses.
+#[derive(Clone, Copy, Debug, PartialEq, Eq)]
+pub struct DatagramOrigin {
+    /// The path's index among the paths of all streams, ordered by stream and then by path.
+    pub path_index: u32,
+    /// The address from which it was sent.
+    pub source: SocketAddrV4,
+    /// The address to which it was sent.
+    pub destination: SocketAddrV4,
+}
 
 /// The observer that makes the blocks of a record, and counts the datagrams. The record ends before the first block
 /// that cannot be written: if the ring is full, the datagram is too long, or its time does not fit 64 bits.
@@ -42,7 +53,7 @@ impl RecordObserver {
 
     /// Returns the observer of a run of this studio, and puts the start of the record into the ring: the studio's
     /// opening time and its paths.
-    pub fn new(ring: Producer<u8>, studio: &StudioSpec) -> RecordObserver
+    pub(crate) fn new(ring: Producer<u8>, studio: &StudioSpec) -> RecordObserver
         requires fresh { sent ring ≡ [] }
         ensures opens { Opens studio.now result.end }
         ensures open_at { result.open_at ≡ studio.now.open_at }
@@ -60,15 +71,15 @@ impl RecordObserver {
 
     /// Puts the packet block of a datagram that arrived at `time`, in sampling instants, and counts the datagram. It
     /// does not wait: if the block cannot be put, the record ends.
-    pub fn arrived(&mut self, time: i64, octets: &[u8], way: &DatagramOrigin)
-        ensures puts { PutsPacket self.old.open_at time way.now octets.now self.old.end self.new.end }
+    pub fn arrived(&mut self, time: i64, octets: &[u8], origin: &DatagramOrigin)
+        ensures puts { PutsPacket self.old.open_at time origin.now octets.now self.old.end self.new.end }
         ensures ended { self.old.end.ended ≡ true → self.new.end.ended ≡ true }
     {
         self.received = self.received.saturating_add(1);
         if self.end.ended {
             return;
         }
-        match self.arrival(time, octets, way) {
+        match self.arrival(time, octets, origin) {
             Some(arrival) => self.end.put_datagram(&arrival),
             None => self.end.ended = true,
         }
@@ -90,19 +101,19 @@ impl RecordObserver {
         &self,
         time: i64,
         octets: &'a [u8],
-        way: &DatagramOrigin,
+        origin: &DatagramOrigin,
     ) -> Option<RecordedDatagram<'a>>
         ensures few { IfSome result (λ arrival. length arrival.octets.now ≤ 2048) }
         ensures packet { IfSome result
-            (λ arrival. IsPacket self.now.open_at time way.now octets.now (arrival_view arrival)) }
+            (λ arrival. IsPacket self.now.open_at time origin.now octets.now (arrival_view arrival)) }
     {
         if octets.len() > MAX_DATAGRAM_LEN {
             return None;
         }
         let nanoseconds = self.nanoseconds(time)?;
-        let (source, destination) = (&way.source, &way.destination);
+        let (source, destination) = (&origin.source, &origin.destination);
         Some(RecordedDatagram {
-            interface: way.path_index,
+            interface: origin.path_index,
             nanoseconds,
             source: *source.ip(),
             source_port: source.port(),
@@ -149,6 +160,6 @@ fn put_paths(end: &mut BlockProducer, stream: u16, count: u8)
     ensures ended { end.old.ended ≡ true → end.new.ended ≡ true }
 {
     for path in 0..count {
-        end.put_interface(stream, FIRST + path);
+        end.put_interface(stream, FIRST_LETTER + path);
     }
 }

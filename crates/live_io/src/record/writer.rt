@@ -12,11 +12,11 @@ use std::time::Duration;
 
 /// The number of octets that are taken from the ring at once, at most.
 // More than the longest block has, so a block always becomes whole.
-const TAKEN: usize = 65_536;
+const BUFFER_OCTETS: usize = 65_536;
 
-/// The rest of the writer if the ring is empty, in milliseconds.
+/// The pause of the writer if the ring is empty, in milliseconds.
 // The ring holds far more than arrives in that time, so the run's thread never has to wake the writer.
-const REST: u64 = 10;
+const PAUSE_MS: u64 = 10;
 
 /// The type of a block that holds a datagram.
 const ENHANCED_PACKET_BLOCK: u32 = 6;
@@ -59,8 +59,8 @@ impl<D: Write + Drop> RecordWriter<D> {
         ring: Consumer<u8>,
         file: D,
     ) -> Result<RecordWriter<D>, AllocError> {
-        let mut octets = Vec::with_capacity(alloc, TAKEN)?;
-        octets.resize(TAKEN, 0)?;
+        let mut octets = Vec::with_capacity(alloc, BUFFER_OCTETS)?;
+        octets.resize(BUFFER_OCTETS, 0)?;
         Ok(RecordWriter {
             ring,
             file,
@@ -139,17 +139,17 @@ fn word_at(octets: &[u8], place: usize) -> Option<u32> {
 
 /// Writes the blocks that come through the ring, until its other end was dropped and it is empty, or a write fails. It
 /// blocks the calling thread until then.
-pub fn write_record<R: Wait, D: Write + Drop>(rt: &R, recorder: RecordWriter<D>) -> FileResult {
-    let mut recorder = recorder;
+pub fn write_record<R: Wait, D: Write + Drop>(rt: &R, writer: RecordWriter<D>) -> FileResult {
+    let mut writer = writer;
     let parker = Parker::new();
     for _ in rt.forever() {
         // Asked before the ring is read: once it is true nothing more is put, so a ring that is empty then is the end.
-        let is_last = recorder.ring.is_abandoned();
-        match recorder.write_some() {
-            Ok(0) if is_last => return recorder.written(false),
-            Ok(0) => parker.park_timeout(rt, Duration::from_millis(REST)),
+        let is_last = writer.ring.is_abandoned();
+        match writer.write_some() {
+            Ok(0) if is_last => return writer.written(false),
+            Ok(0) => parker.park_timeout(rt, Duration::from_millis(PAUSE_MS)),
             Ok(_) => {}
-            Err(_) => return recorder.written(true),
+            Err(_) => return writer.written(true),
         }
     }
     unreachable!()

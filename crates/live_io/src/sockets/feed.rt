@@ -1,10 +1,10 @@
-//! The feed of a path from a socket.
-ghost use Rattle.std.specs.Prelude.{◌≡◌, [], ℕ};
+//! The feeds of the paths, one for each socket that receives.
+ghost use Rattle.std.specs.Prelude.{◌≡◌, [], ℕ, length, IfOk};
 ghost use Rattle.studio_io.specs.Answers.{IsWithin};
 
-use crate::clock::SystemClock;
+use crate::clock::{RunPeriod, SystemClock};
 use crate::sockets::receiver::Receiver;
-use crate::start::RunPeriod;
+use std::alloc::{AllocError, Global};
 use std::io::ErrorKind;
 use std::net::SocketAddrV4;
 use std::sync::atomic::{AtomicBool, Ordering};
@@ -35,34 +35,34 @@ pub struct UdpFeed<'a, R: Clock> {
     stop: &'a AtomicBool,
     /// A flag that is true if the socket is to be read once. `None` if receives wait.
     ready: Option<&'a AtomicBool>,
-    /// The path's place among the paths of all streams.
-    place: u32,
+    /// The path's index among the paths of all streams.
+    path_index: u32,
 }
 
 impl<'a, R: Clock> UdpFeed<'a, R> {
-    /// Returns the feed of the path at a place, from its socket.
+    /// Returns the feed of the path at an index, from its socket.
     pub(crate) fn new(
         rt: &'a R,
         receiver: Receiver<'a>,
-        start: RunPeriod,
+        period: RunPeriod,
         flags: FeedFlags<'a>,
-        place: usize,
+        path_index: usize,
     ) -> UdpFeed<'a, R> {
         UdpFeed {
             receiver,
-            clock: start.clock(rt),
-            until: start.until(),
+            clock: period.clock(rt),
+            until: period.until(),
             stop: flags.stop,
-            ready: flags.ready.get(place),
-            place: u32::try_from(place).unwrap_or(u32::MAX),
+            ready: flags.ready.get(path_index),
+            path_index: u32::try_from(path_index).unwrap_or(u32::MAX),
         }
     }
 
-    /// Returns the path's place among the paths of all streams, ordered by stream and then by path.
-    pub fn place(&self) -> u32
-        ensures { result ≡ self.now.place }
+    /// Returns the path's index among the paths of all streams, ordered by stream and then by path.
+    pub fn path_index(&self) -> u32
+        ensures { result ≡ self.now.path_index }
     {
-        self.place
+        self.path_index
     }
 
     /// Returns the source address of the last datagram, or 0.0.0.0:0 if the receiver keeps no sources.
@@ -97,6 +97,25 @@ impl<'a, R: Clock> UdpFeed<'a, R> {
             None => false,
         }
     }
+}
+
+/// Returns a feed for each socket, in the order of the sockets. The feeds end by the run's clock or by their flags.
+/// Returns `AllocError` if an allocation fails.
+pub fn udp_feeds<'a, R: Clock>(
+    rt: &'a R,
+    alloc: Global,
+    receivers: Vec<Receiver<'a>>,
+    period: RunPeriod,
+    flags: FeedFlags<'a>,
+) -> Result<Vec<UdpFeed<'a, R>>, AllocError>
+    ensures { IfOk result (λ feeds. length feeds.items ≡ length receivers.entry.items) }
+{
+    let mut feeds = Vec::with_capacity(alloc, receivers.len())?;
+    for receiver in receivers {
+        let path_index = feeds.len();
+        feeds.push(UdpFeed::new(rt, receiver, period, flags, path_index))?;
+    }
+    Ok(feeds)
 }
 
 /// Returns the feed's result for a receive that failed with this error.

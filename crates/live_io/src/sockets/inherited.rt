@@ -12,10 +12,10 @@ use thiserror::Error;
 
 /// The first inherited descriptor.
 // SD_LISTEN_FDS_START of sd_listen_fds(3).
-const FIRST: i32 = 3;
+const FIRST_FD: i32 = 3;
 
 /// The greatest number of inherited sockets: 16 streams with four paths each, and two copies of the mix.
-const MOST: u32 = 66;
+const MAX_SOCKETS: u32 = 66;
 
 /// The error of inherited sockets that are not taken.
 #[derive(Debug, Drop, Error)]
@@ -47,12 +47,12 @@ pub struct InheritedSockets {
     /// The descriptor of each path of each stream.
     paths: [[Option<i32>; 4]; 16],
     /// The descriptor for the mix's first copy.
-    pub to_a: Option<i32>,
+    pub(crate) to_a: Option<i32>,
     /// The descriptor for the mix's second copy.
-    pub to_b: Option<i32>,
+    pub(crate) to_b: Option<i32>,
 }
 
-/// The use of a socket.
+/// The role of a socket.
 #[derive(Clone, Copy)]
 enum SocketRole {
     /// It receives a path: the stream's number and the path's.
@@ -81,37 +81,37 @@ impl InheritedSockets {
         alloc: Global,
         streams: &[StreamSpec],
     ) -> Result<InheritedSockets, InheritedSocketFault> {
-        let mut handed = InheritedSockets::none();
+        let mut inherited = InheritedSockets::none();
         if !is_for_this_process(rt, alloc)? {
-            return Ok(handed);
+            return Ok(inherited);
         }
         let count = fd_count(rt, alloc)?;
         let names = variable(rt, alloc, "LISTEN_FDNAMES")?;
         let mut names = names.as_str().split(':');
-        let mut descriptor = FIRST;
+        let mut descriptor = FIRST_FD;
         for _ in 0..count {
             // The name that sd_listen_fds_with_names(3) gives to a descriptor without one; here it is refused.
             let name = names.next().unwrap_or("unknown");
-            if !handed.assign(name, streams, descriptor) {
+            if !inherited.assign(name, streams, descriptor) {
                 return Err(fault_of(alloc, name));
             }
             descriptor = descriptor.saturating_add(1);
         }
-        Ok(handed)
+        Ok(inherited)
     }
 
     /// Sets the descriptor of a name, and returns true if it did. Returns false if there is no such name, it has a
     /// descriptor already, or the descriptor is no socket at an IPv4 address.
     fn assign(&mut self, name: &str, streams: &[StreamSpec], descriptor: i32) -> bool {
-        let Some(named) = role_of(name, streams) else {
+        let Some(role) = role_of(name, streams) else {
             return false;
         };
-        match named {
+        match role {
             SocketRole::ToA => set_once(&mut self.to_a, descriptor),
             SocketRole::ToB => set_once(&mut self.to_b, descriptor),
             SocketRole::Path(stream, path) => match self.paths.get_mut(stream) {
                 Some(row) => match row.get_mut(path) {
-                    Some(place) => set_once(place, descriptor),
+                    Some(slot) => set_once(slot, descriptor),
                     None => false,
                 },
                 None => false,
@@ -121,7 +121,7 @@ impl InheritedSockets {
 
     /// Returns the descriptor of each path, ordered by stream and then by path, or `None` for a path without one.
     /// Returns `AllocError` if an allocation fails.
-    pub fn descriptors(
+    pub(crate) fn descriptors(
         &self,
         alloc: Global,
         streams: &[StreamSpec],
@@ -136,13 +136,13 @@ impl InheritedSockets {
     }
 }
 
-/// Sets a place to a descriptor, and returns true if it did. Returns false if the place is taken or the descriptor is
+/// Sets a slot to a descriptor, and returns true if it did. Returns false if the slot is taken or the descriptor is
 /// no socket at an IPv4 address.
-fn set_once(place: &mut Option<i32>, descriptor: i32) -> bool {
-    if place.is_some() || !is_ipv4_socket(descriptor) {
+fn set_once(slot: &mut Option<i32>, descriptor: i32) -> bool {
+    if slot.is_some() || !is_ipv4_socket(descriptor) {
         return false;
     }
-    *place = Some(descriptor);
+    *slot = Some(descriptor);
     true
 }
 
@@ -185,12 +185,12 @@ fn fd_count<R: Env + AllocGlobal>(rt: &R, alloc: Global) -> Result<u32, Inherite
     let name = "LISTEN_FDS";
     let count = variable(rt, alloc, name)?;
     match count.as_str().parse::<u32>() {
-        Ok(count) if count <= MOST => Ok(count),
+        Ok(count) if count <= MAX_SOCKETS => Ok(count),
         _ => Err(fault_of(alloc, name)),
     }
 }
 
-/// Returns the use of a socket by its name, or `None` if the name belongs to no copy and no path of the streams.
+/// Returns the role of a socket by its name, or `None` if the name belongs to no copy and no path of the streams.
 fn role_of(name: &str, streams: &[StreamSpec]) -> Option<SocketRole> {
     match name {
         "to_a" => return Some(SocketRole::ToA),
@@ -209,7 +209,7 @@ fn role_of(name: &str, streams: &[StreamSpec]) -> Option<SocketRole> {
 
 /// Returns true if a descriptor is a socket at an IPv4 address. It stays open.
 fn is_ipv4_socket(descriptor: i32) -> bool {
-    if descriptor < FIRST {
+    if descriptor < FIRST_FD {
         return false;
     }
     let socket = unsafe { UdpSocket::from_raw_fd(descriptor) };

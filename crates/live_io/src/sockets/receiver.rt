@@ -29,7 +29,7 @@ pub struct Receiver<'a> {
     /// The source address of the last datagram, if sources are kept.
     pub(crate) last_source: SocketAddrV4,
     /// True if the source address of each datagram is kept.
-    tells_sources: bool,
+    keeps_sources: bool,
 }
 
 impl<'a> Receiver<'a> {
@@ -50,13 +50,13 @@ impl<'a> Receiver<'a> {
             source,
             address,
             last_source: SocketAddrV4::new(Ipv4Addr::UNSPECIFIED, 0),
-            tells_sources: false,
+            keeps_sources: false,
         }
     }
 
     /// Makes the receiver keep the source address of each datagram, which makes each receive slower.
     pub fn keep_sources(&mut self) {
-        self.tells_sources = true;
+        self.keeps_sources = true;
     }
 
     /// Makes receives return at once from now on, and returns the socket's descriptor, by which its readiness is
@@ -66,13 +66,18 @@ impl<'a> Receiver<'a> {
         Ok(self.socket.as_raw_fd())
     }
 
+    /// Returns the address to which the path's datagrams are sent.
+    pub fn address(&self) -> SocketAddrV4 {
+        self.address
+    }
+
     /// Receives a datagram into `buf`, and returns its length in octets, or `None` if it is from an unexpected source.
     pub(crate) fn receive(&mut self, buf: &mut [u8]) -> io::Result<Option<usize>>
         ensures within { IfOk result (λ own. IfSome own (λ count. count ≤ length buf.old)) }
     {
         let source = self.source;
         // `recv` is cheaper than `recv_from`.
-        if source.is_none() && !self.tells_sources {
+        if source.is_none() && !self.keeps_sources {
             return Ok(Some(self.socket.recv(buf)?));
         }
         let (count, from) = self.socket.recv_from(buf)?;
@@ -100,7 +105,7 @@ pub(crate) fn receiving_socket<R: Net>(
         UdpSocket::bind(rt, SocketAddr::from((address, port)))?
     };
     socket.set_read_timeout(Some(Duration::from_millis(RECEIVE_WAIT)))?;
-    ask_for_room(&socket);
+    set_receive_buffer(&socket);
     Ok(socket)
 }
 
@@ -148,7 +153,7 @@ pub(crate) fn inherited_socket(descriptor: i32) -> io::Result<UdpSocket> {
 }
 
 /// Sets the receive buffer of a socket. The system may give less, and an error is ignored: nothing depends on the size.
-fn ask_for_room(socket: &UdpSocket) {
+fn set_receive_buffer(socket: &UdpSocket) {
     let value = option_of(RECEIVE_BUFFER);
     let _ = unsafe {
         libc::net::setsockopt(

@@ -24,7 +24,7 @@ impl Sender {
     /// of the system's choice. Each of the two addresses is 127.0.0.1 if it is not given.
     fn bind<R: Net>(
         rt: &R,
-        handed: Option<i32>,
+        inherited: Option<i32>,
         from: Option<Ipv4Addr>,
         to: Option<Ipv4Addr>,
         port: u16,
@@ -32,7 +32,7 @@ impl Sender {
     ) -> io::Result<Sender> {
         let from = from.unwrap_or(Ipv4Addr::LOCALHOST);
         let to = to.unwrap_or(Ipv4Addr::LOCALHOST);
-        let socket = match handed {
+        let socket = match inherited {
             Some(descriptor) => inherited_sender(descriptor)?,
             None => UdpSocket::bind(rt, SocketAddr::from((from, 0)))?,
         };
@@ -46,7 +46,7 @@ impl Sender {
     }
 
     /// Sends a datagram, and returns true if the system took it.
-    fn sends(&self, datagram: &[u8]) -> bool {
+    fn send(&self, datagram: &[u8]) -> bool {
         self.socket.send_to(datagram, self.to).is_ok()
     }
 }
@@ -88,18 +88,32 @@ impl UdpSink {
         rt: &R,
         to_a: u16,
         to_b: u16,
-        senders: &OutputAddresses,
-        handed: &InheritedSockets,
+        addresses: &OutputAddresses,
+        inherited: &InheritedSockets,
     ) -> io::Result<UdpSink> {
-        let ttl = senders.ttl;
+        let ttl = addresses.ttl;
         Ok(UdpSink {
-            a: Sender::bind(rt, handed.to_a, senders.from_a, senders.to_a, to_a, ttl)?,
-            b: Sender::bind(rt, handed.to_b, senders.from_b, senders.to_b, to_b, ttl)?,
+            a: Sender::bind(
+                rt,
+                inherited.to_a,
+                addresses.from_a,
+                addresses.to_a,
+                to_a,
+                ttl,
+            )?,
+            b: Sender::bind(
+                rt,
+                inherited.to_b,
+                addresses.from_b,
+                addresses.to_b,
+                to_b,
+                ttl,
+            )?,
         })
     }
 
     /// Returns the addresses and ports to which the two copies are sent.
-    pub(crate) fn addresses(&self) -> [SocketAddr; 2] {
+    pub fn addresses(&self) -> [SocketAddr; 2] {
         [self.a.to, self.b.to]
     }
 }
@@ -109,8 +123,8 @@ impl Sink for UdpSink {
 
     fn send(&mut self, datagram: &[u8]) -> SendAnswer {
         SendAnswer {
-            a: self.a.sends(datagram),
-            b: self.b.sends(datagram),
+            a: self.a.send(datagram),
+            b: self.b.send(datagram),
         }
     }
 }

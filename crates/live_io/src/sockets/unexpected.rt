@@ -24,36 +24,40 @@ impl UnexpectedSources {
         Ok(UnexpectedSources { counts })
     }
 
-    /// Returns the count so far of the path at this place, or 0 if there is no such path.
-    pub fn count(&self, place: usize) -> u64 {
-        match self.counts.get(place) {
+    /// Returns the count so far of the path at this index, or 0 if there is no such path.
+    pub fn count(&self, path_index: usize) -> u64 {
+        match self.counts.get(path_index) {
             Some(count) => count.load(Ordering::SeqCst),
             None => 0,
         }
     }
 
-    /// Returns the source of the path at this place, or `None` if it has no address or there is no such path.
-    pub fn source(&self, place: usize, address: Option<Ipv4Addr>) -> Option<ExpectedSource<'_>> {
+    /// Returns the source of the path at this index, or `None` if it has no address or there is no such path.
+    pub(crate) fn source(
+        &self,
+        path_index: usize,
+        address: Option<Ipv4Addr>,
+    ) -> Option<ExpectedSource<'_>> {
         Some(ExpectedSource {
             address: address?,
-            strangers: self.counts.get(place)?,
+            unexpected: self.counts.get(path_index)?,
         })
     }
 }
 
 /// The only address from which a path takes datagrams, and the count of those from other addresses.
 #[derive(Clone, Copy)]
-pub struct ExpectedSource<'a> {
+pub(crate) struct ExpectedSource<'a> {
     address: Ipv4Addr,
-    strangers: &'a AtomicU64,
+    unexpected: &'a AtomicU64,
 }
 
 impl ExpectedSource<'_> {
     /// Returns true if a datagram is from this source. Counts it otherwise. Ports are not compared.
-    pub fn accepts(&self, from: SocketAddr) -> bool {
+    pub(crate) fn accepts(&self, from: SocketAddr) -> bool {
         let is_own = from.ip() == IpAddr::V4(self.address);
         if !is_own {
-            self.strangers.fetch_add(1, Ordering::SeqCst);
+            self.unexpected.fetch_add(1, Ordering::SeqCst);
         }
         is_own
     }

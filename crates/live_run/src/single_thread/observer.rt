@@ -29,9 +29,9 @@ impl<'v, E: Write + Drop> LiveObserver<'v, E> {
         record: Option<RecordObserver>,
         outputs: StatusOutputs<'v, E>,
     ) -> Result<LiveObserver<'v, E>, AllocError> {
-        let StatusOutputs { board, meter } = outputs;
-        let status = match board {
-            Some(board) => Some(EngineStatus::new(alloc, studio.streams(), board, meter)?),
+        let StatusOutputs { publisher, meter } = outputs;
+        let status = match publisher {
+            Some(publisher) => Some(EngineStatus::new(alloc, studio.streams(), publisher, meter)?),
             None => None,
         };
         Ok(LiveObserver { record, status })
@@ -60,7 +60,7 @@ impl<'a, R: Clock, E: Write + Drop> RunObserver<UdpFeed<'a, R>> for LiveObserver
     ) {
         if let Some(record) = &mut self.record {
             let origin = DatagramOrigin {
-                path_index: feed.place(),
+                path_index: feed.path_index(),
                 source: feed.source(),
                 destination: feed.destination(),
             };

@@ -1,7 +1,7 @@
 use Rattle.std.proofs.Common.{◌+◌, List, length, sym, refl, subst}
 use Rattle.std.proofs.lemmas.Option.{slice_get_read}
 use Rattle.rtp_stats.specs.declared.copy_tracker.CopyTracker.{CopyTracker}
-use Rattle.live_status.specs.EngineOffers.{IsUnheard}
+use Rattle.live_status.specs.EngineOffers.{IsNewTracker}
 use Rattle.live_status.proofs.Each.{IsBegun, begun-push}
 use Rattle.live_status.proofs.engine_offers.copy_trackers.Goals as goal
 
@@ -10,6 +10,6 @@ loop-stream-preserved c =
     let n = c.loop-stream.stream-index in
     let streams = c.args.streams.now in
     let stream = c.stream-item.result in
-    let watch = c.in_ok-new.field-0 in
+    let tracker = c.in_ok-new.field-0 in
     let at = slice_get_read streams (length streams) n stream refl c.loop-stream-test.true c.stream-item.is in
-    subst (λ (items : List CopyTracker). IsBegun IsUnheard (n + 1) streams items) (sym {A = List CopyTracker} c.in_ok-push.ensures.items) (begun-push IsUnheard n streams c.loop-stream.watched.items stream watch c.loop-stream.invariant at c.in_ok-new.ensures)
+    subst (λ (items : List CopyTracker). IsBegun IsNewTracker (n + 1) streams items) (sym {A = List CopyTracker} c.in_ok-push.ensures.items) (begun-push IsNewTracker n streams c.loop-stream.trackers.items stream tracker c.loop-stream.invariant at c.in_ok-new.ensures)

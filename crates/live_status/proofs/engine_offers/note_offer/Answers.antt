@@ -7,29 +7,29 @@ use Rattle.live_status.specs.EngineOffers.{AddsOffer}
 use Rattle.live_status.proofs.Each.{get-set, get-set_else}
 use Rattle.live_status.proofs.engine_offers.note_offer.Goals as goal
 
-pub returns-then-number-watched : goal.returns-then-number-watched
-returns-then-number-watched c =
-    let watched = c.args.watched.now in
+pub returns-then-number-trackers : goal.returns-then-number-trackers
+returns-then-number-trackers c =
+    let trackers = c.args.trackers.now in
     let n = c.args.number in
-    let watch = c.index-watched-number.result in
+    let tracker = c.index-trackers-number.result in
     let is_new = c.note.new.self in
-    let within = c.if-number-watched.true in
+    let within = c.if-number-trackers.true in
     let Adds = AddsOffer c.args.path c.args.fate c.args.numbers.seq in
     let z : to_z w64 (of_z w64 c.args.now) ≡ c.args.now = to_z-of_z w64 c.args.now c.ranges.now in
-    let there = slice_get_read watched (length watched) n watch refl within c.index-watched-number.is in
-    let noted : Adds c.args.now watch is_new = subst (λ now. Adds now watch is_new) z (subst (λ (w : CopyTracker). Adds (to_z w64 (of_z w64 c.args.now)) w is_new) (sym c.index-watched-number.is) c.note.ensures) in
+    let there = slice_get_read trackers (length trackers) n tracker refl within c.index-trackers-number.is in
+    let noted : Adds c.args.now tracker is_new = subst (λ now. Adds now tracker is_new) z (subst (λ (w : CopyTracker). Adds (to_z w64 (of_z w64 c.args.now)) w is_new) (sym c.index-trackers-number.is) c.note.ensures) in
     record {
       length_is = grind (arith, common_steps);
       here = λ was is at_was at_is.
-          let old_is : watch ≡ was = cc (there, at_was) in
-          let new_is : is_new ≡ is = cc (get-set watched n is_new within, at_is) in
+          let old_is : tracker ≡ was = cc (there, at_was) in
+          let new_is : is_new ≡ is = cc (get-set trackers n is_new within, at_is) in
           subst (λ w. Adds c.args.now was w) new_is (subst (λ w. Adds c.args.now w is_new) old_is noted);
-      elsewhere = λ place other. get-set_else watched n place is_new other;
+      elsewhere = λ place other. get-set_else trackers n place is_new other;
     }
 
-pub returns-else-number-watched : goal.returns-else-number-watched
-returns-else-number-watched c = record {
+pub returns-else-number-trackers : goal.returns-else-number-trackers
+returns-else-number-trackers c = record {
   length_is = refl;
-  here = λ was is at_was at_is. absurd (let within = slice_get_within c.args.watched.now c.args.number was at_was in let past = c.if-number-watched.false in omega (arith, within, past));
+  here = λ was is at_was at_is. absurd (let within = slice_get_within c.args.trackers.now c.args.number was at_was in let past = c.if-number-trackers.false in omega (arith, within, past));
   elsewhere = λ place other. refl;
 }

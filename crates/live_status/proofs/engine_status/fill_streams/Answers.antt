@@ -1,13 +1,13 @@
 use Rattle.std.proofs.Common.{◌<◌, length, sym, refl, subst, ◌∙◌, arith}
 use Rattle.std.proofs.lemmas.Option.{slice_get_read}
 use Rattle.status_page.specs.declared.snapshot.StreamState.{StreamState}
-use Rattle.live_status.specs.EngineStatus.{SeesStream}
+use Rattle.live_status.specs.EngineStatus.{FillsStream}
 use Rattle.live_status.proofs.Each.{upto-all, upto-set}
 use Rattle.live_status.proofs.engine_status.fill_streams.Goals as goal
 
 pub loop-number-preserved : goal.loop-number-preserved
 loop-number-preserved c =
-    let Sees = SeesStream c.args.engine.now in
+    let Sees = FillsStream c.args.engine.now in
     let n = c.loop-number.number in
     let stream = c.index-streams-number.result in
     let streams = c.loop-number.streams in
@@ -20,4 +20,4 @@ loop-number-preserved c =
     upto-set Sees n c.args.streams.now streams stream c.fill_engine_stream.new.stream upto within at this
 
 pub returns : goal.returns
-returns c = upto-all (SeesStream c.args.engine.now) c.loop-number.number c.args.streams.now c.loop-number.streams c.loop-number-test.false c.loop-number.invariant
+returns c = upto-all (FillsStream c.args.engine.now) c.loop-number.number c.args.streams.now c.loop-number.streams c.loop-number-test.false c.loop-number.invariant

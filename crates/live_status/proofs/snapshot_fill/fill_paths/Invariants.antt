@@ -3,4 +3,4 @@ use Rattle.live_status.proofs.Each.{IsUpTo}
 use Rattle.live_status.proofs.snapshot_fill.fill_paths.Given as goal
 
 abbrev pub invariant-loop-place : goal.invariant-loop-place
-invariant-loop-place l = IsUpTo (IsTold l.numbers.counts l.numbers.paths) l.place l.initial.paths l.paths
+invariant-loop-place l = IsUpTo (IsTold l.stats.counts l.stats.paths) l.place l.initial.paths l.paths

@@ -7,31 +7,31 @@ use Rattle.status_page.specs.declared.snapshot.StreamState.{StreamState}
 use Rattle.live_status.specs.Each.{AreEach}
 use Rattle.live_status.specs.Outputs.{blank_output}
 use Rattle.live_status.specs.Publisher.{Shows}
-use Rattle.live_status.specs.EngineStatus.{IsEngineOutput, IsEngineStream, SeesStream}
+use Rattle.live_status.specs.EngineStatus.{IsEngineOutput, IsEngineStream, FillsStream}
 use Rattle.live_status.proofs.Each.{refilled}
-use Rattle.live_status.proofs.EngineStatusLemmas.{streams-seen}
+use Rattle.live_status.proofs.EngineStatusLemmas.{streams-filled}
 use Rattle.live_status.proofs.engine_status.EngineStatus.publish.Goals as goal
 
 pub returns-clause-shown : goal.returns-clause-shown
 returns-clause-shown g c =
     let engine = c.args.engine.now in
-    let board = c.args.self.now.board in
+    let publisher = c.args.self.now.publisher in
     let blank = c.blank_snapshot-snapshot.result in
     let streams = c.fill_streams.new.streams in
     let outputs = c.fill_engine_outputs.new.outputs in
-    let handed : Snapshot = record {
+    let filled : Snapshot = record {
       streams = record { items = refill (length blank.streams.items) blank.streams.items streams };
       outputs = record { items = refill (length blank.outputs.items) blank.outputs.items outputs };
     } in
-    let sees : AreEach (SeesStream engine) blank.streams.items streams = subst (λ (l : List StreamState). AreEach (SeesStream engine) l streams) c.as_mut_slice-streams.ensures.value c.fill_streams.ensures in
+    let sees : AreEach (FillsStream engine) blank.streams.items streams = subst (λ (l : List StreamState). AreEach (FillsStream engine) l streams) c.as_mut_slice-streams.ensures.value c.fill_streams.ensures in
     let heard : AreEach (IsEngineOutput engine) blank.outputs.items outputs = subst (λ (l : List OutputState). AreEach (IsEngineOutput engine) l outputs) c.as_mut_slice.ensures.value c.fill_engine_outputs.ensures in
     let time : to_z w64 (of_z w64 c.time.result) ≡ engine.time = to_z-of_z w64 c.time.result (search rules) ∙ c.time.ensures.value in (
-      handed,
+      filled,
       record {
-        streams = λ few. subst (λ (l : List StreamState). AreEach (IsEngineStream engine) board.streams.items l) (sym (refilled blank.streams.items streams sees.length_is))
-            (streams-seen engine board.streams.items blank.streams.items streams (c.blank_snapshot-snapshot.ensures.streams few) sees);
-        outputs = subst (λ (l : List OutputState). AreEach (IsEngineOutput engine) (replicate board.channels blank_output) l) (sym (refilled blank.outputs.items outputs heard.length_is))
+        streams = λ few. subst (λ (l : List StreamState). AreEach (IsEngineStream engine) publisher.streams.items l) (sym (refilled blank.streams.items streams sees.length_is))
+            (streams-filled engine publisher.streams.items blank.streams.items streams (c.blank_snapshot-snapshot.ensures.streams few) sees);
+        outputs = subst (λ (l : List OutputState). AreEach (IsEngineOutput engine) (replicate publisher.channels blank_output) l) (sym (refilled blank.outputs.items outputs heard.length_is))
             (subst (λ (l : List OutputState). AreEach (IsEngineOutput engine) l outputs) c.blank_snapshot-snapshot.ensures.outputs heard);
       },
-      subst (λ (now : ℤ). Shows board.streams.items now c.args.has_ended handed board.page c.publish.new.self.page) time c.publish.ensures.shown,
+      subst (λ (now : ℤ). Shows publisher.streams.items now c.args.has_ended filled publisher.page c.publish.new.self.page) time c.publish.ensures.shown,
     )

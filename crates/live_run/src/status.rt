@@ -1,0 +1,47 @@
+//! Opening the status of a run: its page, the line with its addresses, and the outputs that the run fills.
+
+use crate::address_line::write_address_line;
+use crate::options::LiveOptions;
+use live_io::Sockets;
+use live_status::{
+    OpenPage, PageFault, PageThread, StatusInputs, StatusOutputs, open_outputs, open_page,
+};
+use std::alloc::Global;
+use std::io::Write;
+use std::net::Net;
+use std::random::RandomSource;
+use studio_config::StudioSpec;
+
+/// The open status of a run.
+#[derive(Drop)]
+pub(crate) struct OpenStatus<'a, E> {
+    /// The page's server, if a page is wanted. The caller runs it in a thread of its own.
+    pub(crate) serving: Option<PageThread>,
+    /// The outputs that the run fills.
+    pub(crate) showing: StatusOutputs<'a, E>,
+}
+
+/// Opens the status of a run: binds the page's port, if a page is wanted, and writes the line with the run's addresses,
+/// if a page or lines are wanted. Lines go to `faults`. Allocates all memory of the status. Returns `PageFault::Memory`
+/// if an allocation fails, and `PageFault::Page` if the port cannot be bound.
+pub(crate) fn open_status<'a, R: Net + RandomSource, E: Write + Drop>(
+    rt: &R,
+    alloc: Global,
+    studio: &StudioSpec,
+    sockets: &Sockets<'_>,
+    options: &LiveOptions,
+    inputs: StatusInputs<'a>,
+    faults: E,
+) -> Result<OpenStatus<'a, E>, PageFault> {
+    let mut faults = faults;
+    // The page comes before the line, which has its port.
+    let OpenPage {
+        thread: serving,
+        snapshots,
+    } = open_page(rt, alloc, options.page)?;
+    if options.stats.is_some() || serving.is_some() {
+        write_address_line(studio, sockets, &serving, &mut faults);
+    }
+    let showing = open_outputs(alloc, studio, options.stats, inputs, snapshots, faults)?;
+    Ok(OpenStatus { serving, showing })
+}
