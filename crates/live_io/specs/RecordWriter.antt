@@ -9,7 +9,7 @@ module _ {D : Type 0} where
   abbrev pub HasPassed : RecordWriter D → List ℕ → Type 0
   HasPassed writer done = received writer.ring ≡ done ++ take writer.held writer.octets.items
 
-  -- the ring was seen empty, or what is held leaves no room
+  -- the ring was found empty, or what is held leaves no room
   abbrev pub SeesNone : RecordWriter D → RecordWriter D → Type 0
   SeesNone old new = (known_items new.ring ≡ []) ⊎ (length old.octets.items ≤ old.held)
 

@@ -7,6 +7,7 @@
 //! The modules, in the order of a run:
 //!
 //! - `launch` opens sockets and status, and calls one of the two forms with a `RunContext`.
+//! - `status` opens the page and the other outputs of the status, and writes the line of addresses.
 //! - `workers` is the form with a thread for each path and stream and one for the mix,
 //!   `run_in_workers`.
 //! - `single_thread` is the form with an engine in one thread, `run_in_one_thread`. It waits by

@@ -17,7 +17,7 @@ pub record IsBegun {X Y : Type 0} (P : ℕ → X → Y → Type 0) (n : ℕ) (xs
   pub length_is : length ys ≡ n
   pub each : (place : ℕ) (x : X) (y : Y) → slice_get xs place ≡ Some x → slice_get ys place ≡ Some y → P place x y
 
--- what stands in a list with one more is that one, or stood there before
+-- an element of a list with one more is that one, or was there before
 pub get-push : {Y : Type 0} (ys : List Y) (y b : Y) (place : ℕ) → slice_get (ys ++ y ∷ []) place ≡ Some b → (slice_get ys place ≡ Some b) ⊎ ((place ≡ length ys) × (y ≡ b))
 get-push [] y b zero at = inr (refl, cc at)
 get-push [] y b (suc place) at = absurd (cc at)
@@ -38,7 +38,7 @@ begun-push {X} P n xs ys x y begun at this = record {
       ];
 }
 
--- what stands where it was written, and elsewhere
+-- the elements where one was written, and elsewhere
 pub get-set : {X : Type 0} (xs : List X) (n : ℕ) (y : X) → n < length xs → slice_get (set xs n y) n ≡ Some y
 get-set xs n y within = grind (arith, common_steps, gets)
 

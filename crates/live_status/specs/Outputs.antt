@@ -7,7 +7,7 @@ use Rattle.status_page.specs.declared.snapshot.OutputState.{OutputState}
 abbrev pub blank_output : OutputState
 blank_output = record { peak = 0; saturated = 0 }
 
--- the channel at a place has the count that stands there, if any does, and its peak
+-- the channel at a place has the count at that place, if there is one, and its peak
 abbrev pub HasCount : List ℕ → ℕ → OutputState → OutputState → Type 0
 HasCount saturated place old new = MatchOption (slice_get saturated place) (new ≡ old) (λ count. new ≡ record old { saturated = count })
 

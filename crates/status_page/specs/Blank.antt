@@ -1,4 +1,4 @@
--- What is seen where nothing came.
+-- The states of paths and streams from which nothing came.
 use Rattle.std.specs.Prelude.{◌≡◌, ℕ, Option, None, replicate}
 use Rattle.arrayvec.specs.ArrayString.{ArrayString}
 use Rattle.rtp_stream.specs.Counts.{tally_of}

@@ -21,7 +21,7 @@ use Rattle.status_page.specs.declared.fields.output.TheConstants.{OUTPUT_FIELDS}
 use Rattle.status_page.specs.declared.condition.TheConstants.{CONDITIONS}
 use Rattle.status_page.specs.Fields.{path_key, path_kind, path_help, path_value, stream_key, stream_kind, stream_help, stream_value, output_key, output_kind, output_help, output_value}
 
--- what stands for an octet in the value of a label: a backslash, a quotation mark and a line feed are escaped
+-- an octet in the value of a label: a backslash, a quotation mark and a line feed are escaped
 abbrev pub label_octet : ℕ → List ℕ
 label_octet octet = if octet == 92 then codes "\\\\" else (if octet == 34 then codes "\\\"" else (if octet == 10 then codes "\\n" else octet ∷ []))
 

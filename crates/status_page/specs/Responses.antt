@@ -13,7 +13,7 @@ use Rattle.status_page.specs.declared.snapshot.Snapshot.{Snapshot}
 use Rattle.status_page.specs.Metrics.{metrics_text}
 use Rattle.status_page.specs.State.{state_tokens}
 
--- what stands at a path
+-- the resource at a path
 abbrev pub resource_of : List ℕ → Option Resource
 resource_of path =
     if bytes_eq path (codes "/") then Some Page
@@ -48,7 +48,7 @@ shown_fields resource = (codes "content-type", media_type resource) ∷ (codes "
 abbrev pub refused_fields : List Header
 refused_fields = (codes "allow", codes "GET, HEAD") ∷ []
 
--- what stands nowhere is 404, what can't be read so is 405, and the rest is shown
+-- 404 without a resource, 405 for a method that does not only read, and else the resource
 abbrev pub answers : Snapshot → Bool → Option Resource → Response → Type 0
 answers snapshot read None response = IsResponse 404 [] [] response
 answers snapshot false (Some resource) response = IsResponse 405 refused_fields [] response

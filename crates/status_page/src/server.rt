@@ -112,7 +112,7 @@ impl PageServer {
 
     /// Notes which clients are ready.
     fn note_ready(&mut self) {
-        // The listener's token is no client's place. New clients are looked for in each turn anyway.
+        // The listener's token is no client's place. Each turn accepts new clients, also without its event.
         for event in self.events.iter() {
             if let Some(client) = self.clients.get_mut(event.token().0) {
                 client.progress = Progress::Ready;
