@@ -1,7 +1,7 @@
 //! Filling a snapshot's streams with the statistics that the workers sent.
 ghost use Rattle.std.specs.Prelude.{◌≡◌, drop};
 ghost use Rattle.live_status.specs.Each.{AreEach};
-ghost use Rattle.live_run.specs.StreamStatus.{HasCounts, FillsStreamAt, FillsStream, FillsEachStream};
+ghost use Rattle.live_run.specs.StreamStatus.{FillsEachStream, FillsStream, FillsStreamAt, HasCounts};
 
 use live_status::{fill_datagrams, fill_stream};
 use rtp_stats::StreamStats;
