@@ -9,9 +9,6 @@ use std::net::Ipv4Addr;
 use studio_config::{Networks, OutputAddresses, Ports, StudioSpec};
 use studio_run::millis;
 
-/// The names of a stream's paths.
-const PATH_NAMES: [&str; 4] = ["a", "b", "c", "d"];
-
 /// Writes a line for each stream and each of its paths, for the output and each of its copies, and the gains with the
 /// times from which they are in force. Returns the writer's error if a write fails.
 pub(crate) fn write_summary<W: Write>(studio: &StudioSpec, output: &mut W) -> io::Result<()> {
@@ -40,7 +37,7 @@ fn write_millis<W: Write>(instants: u64, output: &mut W) -> io::Result<()> {
 // Lines are written in several short formats: one format of many values takes long to prove.
 /// Writes the encoding and the channels of packets, and their length in sampling instants and in milliseconds.
 fn write_packets<W: Write>(enc: Enc, channels: u8, frames: u16, output: &mut W) -> io::Result<()> {
-    let name = name_of(enc);
+    let name = enc.name();
     write!(output, "{name}, channels {channels}, packets of {frames} ")?;
     write_millis(u64::from(frames), output)
 }
@@ -105,12 +102,12 @@ fn write_path_at<W: Write>(
     output: &mut W,
 ) -> io::Result<()> {
     // Never none: a stream has at most four paths.
-    let (Some(name), Some(path)) = (PATH_NAMES.get(usize::from(place)), Path::new(place)) else {
+    let Some(path) = Path::new(place) else {
         return Ok(());
     };
     let at = networks.address(number, path);
     let from = networks.source(number, path);
-    write_path(name, ports.port(number, path), at, from, output)
+    write_path(path.letter(), ports.port(number, path), at, from, output)
 }
 
 /// Writes a path's port, and, if the configuration has them, the address to which its packets come and the source
@@ -198,12 +195,4 @@ fn write_gains<W: Write>(matrix: &Matrix, output: &mut W) -> io::Result<()> {
         write!(output, "{space}{gain}")?;
     }
     writeln!(output)
-}
-
-/// Returns an encoding's name, as configurations write it.
-fn name_of(enc: Enc) -> &'static str {
-    match enc {
-        Enc::L16 => "L16",
-        Enc::L24 => "L24",
-    }
 }

@@ -2,13 +2,10 @@
 
 use live_io::Sockets;
 use live_status::{PageThread, STDERR, is_ready};
+use rtp_stream::Path;
 use std::io;
 use std::io::Write;
-use std::ops::Range;
 use studio_config::StudioSpec;
-
-/// The letters of a stream's paths.
-const PATH_LETTERS: [&str; 4] = ["a", "b", "c", "d"];
 
 /// Writes one line with the addresses of the paths, of the mix and of the page, if there is one. The line is left out
 /// if standard error would block. Errors of the write are ignored.
@@ -46,24 +43,25 @@ fn write_addresses<W: Write>(
 ) -> io::Result<()> {
     let mut first = 0usize;
     for (stream, spec) in studio.streams().iter().enumerate() {
-        let end = first.saturating_add(usize::from(spec.paths()));
-        write_paths(stream, sockets, first..end, writer)?;
-        first = end;
+        write_paths(stream, spec.paths(), first, sockets, writer)?;
+        first = first.saturating_add(usize::from(spec.paths()));
     }
     let [to_a, to_b] = sockets.sink.addresses();
     write!(writer, " to_a={to_a} to_b={to_b}")
 }
 
-/// Writes the addresses of a stream's paths, whose sockets have these indexes.
+/// Writes the addresses of a stream's paths, of which the socket of the first has this index.
 fn write_paths<W: Write>(
     stream: usize,
+    paths: u8,
+    first: usize,
     sockets: &Sockets<'_>,
-    indexes: Range<usize>,
     writer: &mut W,
 ) -> io::Result<()> {
-    for (index, letter) in indexes.zip(PATH_LETTERS) {
-        if let Some(receiver) = sockets.receiving.get(index) {
-            let address = receiver.address();
+    for number in 0..paths {
+        let index = first.saturating_add(usize::from(number));
+        if let (Some(path), Some(receiver)) = (Path::new(number), sockets.receiving.get(index)) {
+            let (letter, address) = (path.letter(), receiver.address());
             write!(writer, " {stream}{letter}={address}")?;
         }
     }

@@ -5,6 +5,7 @@ use crate::packet_format::channels_that_fit;
 use crate::skew::{FlowPair, Skew, push_pairs, skews_of};
 use crate::streams::{StreamFlows, group_streams};
 use crate::table::FlowTable;
+use rtp_wire::Enc;
 use std::alloc::{AllocError, Global};
 use std::net::Ipv4Addr;
 
@@ -14,8 +15,8 @@ const NAMES: [&str; 4] = ["a", "b", "c", "d"];
 /// The names of the paths after the first.
 const FURTHER: [&str; 3] = ["b", "c", "d"];
 
-/// The encodings, with the octets of a sample.
-const ENCODINGS: [(&str, usize); 2] = [("L16", 2), ("L24", 3)];
+/// The encodings of a stream's samples.
+const ENCODINGS: [Enc; 2] = [Enc::L16, Enc::L24];
 
 /// Returns a line for each flow of a capture's table, stream by stream. A stream of several paths has a line for the
 /// skew of each further path behind these. `octets` is the capture. Returns `AllocError` if an allocation fails.
@@ -133,9 +134,9 @@ fn push_fits(text: &mut String, len: usize, step: u32) -> Result<(), AllocError>
 /// Appends the encodings and channels that fit. Returns true if any do.
 fn push_encodings(text: &mut String, len: usize, step: u32) -> Result<bool, AllocError> {
     let mut before = "";
-    for (name, octets) in ENCODINGS {
-        if let Some(fit) = channels_that_fit(len, step, octets) {
-            let channels = fit.channels;
+    for enc in ENCODINGS {
+        if let Some(fit) = channels_that_fit(len, step, enc.octets()) {
+            let (name, channels) = (enc.name(), fit.channels);
             write!(text, "{before}{name}, channels {channels}")?;
             before = " or ";
         }

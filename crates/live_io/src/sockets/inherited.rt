@@ -1,7 +1,7 @@
 //! Sockets that are inherited from the program that started this one, by the convention of sd_listen_fds(3).
 
 use os::FromRawFd;
-use rtp_stream::StreamSpec;
+use rtp_stream::{Path, StreamSpec};
 use std::alloc::{AllocError, AllocFailed, Global};
 use std::env;
 use std::env::VarError;
@@ -197,11 +197,12 @@ fn role_of(name: &str, streams: &[StreamSpec]) -> Option<SocketRole> {
         "to_b" => return Some(SocketRole::ToB),
         _ => {}
     }
-    for (path, letter) in ["a", "b", "c", "d"].iter().enumerate() {
-        if let Some(digits) = name.strip_suffix(*letter) {
+    for number in 0..4u8 {
+        let path = Path::new(number)?;
+        if let Some(digits) = name.strip_suffix(path.letter()) {
             let stream = digits.parse::<usize>().ok()?;
-            let paths = usize::from(streams.get(stream)?.paths());
-            return (path < paths).then_some(SocketRole::Path(stream, path));
+            let paths = streams.get(stream)?.paths();
+            return (number < paths).then_some(SocketRole::Path(stream, usize::from(number)));
         }
     }
     None

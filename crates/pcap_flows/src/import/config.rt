@@ -3,7 +3,6 @@ use crate::fault::ImportFault;
 use crate::import::stream_plan::{StreamPlan, stream_plans};
 use crate::routes::Routes;
 use crate::table::FlowTable;
-use rtp_wire::Enc;
 use std::alloc::{AllocError, Global};
 
 /// The greatest number of channels of an output.
@@ -47,7 +46,7 @@ fn text_of(alloc: Global, plans: &[StreamPlan], is_chosen: bool) -> Result<Strin
 fn push_stream(text: &mut String, alloc: Global, plan: &StreamPlan) -> Result<(), AllocError> {
     let format = plan.format;
     let (enc, channels, frames, pt) = (
-        name_of(format.enc),
+        format.enc.name(),
         format.channels,
         format.frames,
         format.pt,
@@ -61,14 +60,6 @@ fn push_stream(text: &mut String, alloc: Global, plan: &StreamPlan) -> Result<()
         "clock = \"media\"\noffset = {offset}\nlatency = {latency}\nwindow = {window}\npaths = {paths}\n"
     )?;
     text.push_str(&times)
-}
-
-/// Returns the name of an encoding.
-fn name_of(enc: Enc) -> &'static str {
-    match enc {
-        Enc::L16 => "L16",
-        Enc::L24 => "L24",
-    }
 }
 
 /// Appends the table of the output.

@@ -6,7 +6,6 @@ use crate::draw::ticks::{TICKS_HEIGHT, push_ticks};
 use crate::draw::{fmt_result, millis};
 use crate::reception::panel_data::PanelData;
 use rtp_stream::StreamSpec;
-use rtp_wire::Enc;
 use std::alloc::{AllocError, Global};
 use std::io::Write;
 use studio_session::Cursor;
@@ -52,10 +51,7 @@ pub(crate) fn push_panel(
 /// Appends the name of a stream, with its paths, format and latency.
 fn push_name(svg: &mut Vec<u8>, top: u32, number: u8, spec: &StreamSpec) -> Result<(), AllocError> {
     let y = top.saturating_add(15);
-    let enc = match spec.enc() {
-        Enc::L16 => "L16",
-        Enc::L24 => "L24",
-    };
+    let enc = spec.enc().name();
     let (paths, channels) = (spec.paths(), spec.channels());
     let (ms, us) = millis(u64::from(spec.frames()));
     let (late_ms, late_us) = millis(u64::from(spec.latency()));
