@@ -3,6 +3,9 @@ use Rattle.std.specs.Prelude.{ℕ, suc, ◌+◌, ◌++◌, ◌∷◌, [], List, 
 use Rattle.std.specs.Fmt.{decimal}
 use Rattle.hex.specs.Hex.{encode_lower}
 use Rattle.rtp_stream.specs.CountsFacts.{Tally}
+use Rattle.rtp_stream.specs.CountField.{count_value, count_word}
+use Rattle.rtp_stream.specs.declared.count_field.CountField.{CountField}
+use Rattle.rtp_stream.specs.declared.count_field.TheConstants.{COUNTS_AFTER_PATHS, COUNTS_BEFORE_PATHS}
 use Rattle.rtp_stream.specs.PathCounts.{PathTally}
 
 -- the line of a datagram
@@ -38,27 +41,17 @@ abbrev pub taken_text : List ℕ → ℕ → List ℕ → List ℕ
 taken_text between path [] = []
 taken_text between path (number ∷ more) = codes " from_" ++ path_letter path ++ between ++ decimal number ++ taken_text between (suc path) more
 
--- how many arrivals were not taken, by their fate
-abbrev pub refused_text : List ℕ → Tally → List ℕ
-refused_text between counts =
-    pair_text between (codes "double") counts.double
-    ++ pair_text between (codes "unlike") counts.unlike
-    ++ pair_text between (codes "off_grid") counts.off_grid
-    ++ pair_text between (codes "late") counts.late
-    ++ pair_text between (codes "ahead") counts.ahead
-    ++ pair_text between (codes "source") counts.wrong_source
-
--- the number of slots by the kind of their mark, and the number of restarts
-abbrev pub slots_text : List ℕ → Tally → List ℕ
-slots_text between counts = pair_text between (codes "got") counts.got ++ pair_text between (codes "lost") counts.lost ++ pair_text between (codes "restarts") counts.restarts
+-- these counts, each after its word
+unfoldable pub fields_text : List ℕ → List CountField → Tally → List ℕ
+fields_text between [] counts = []
+fields_text between (field ∷ fields) counts = pair_text between (count_word field) (count_value field counts) ++ fields_text between fields counts
 
 -- what a merge came to, whose stream has so many paths
 abbrev pub tally_text : List ℕ → ℕ → Tally → List ℕ
 tally_text between paths counts =
-    pair_text between (codes "arrived") counts.arrived
-    ++ pair_text between (codes "taken") counts.taken
+    fields_text between COUNTS_BEFORE_PATHS counts
     ++ taken_text between 0 (take paths counts.taken_by)
-    ++ refused_text between counts ++ slots_text between counts
+    ++ fields_text between COUNTS_AFTER_PATHS counts
 
 -- the line of a merge
 abbrev pub merge_line : ℕ → ℕ → Tally → List ℕ

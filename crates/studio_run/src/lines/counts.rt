@@ -1,5 +1,5 @@
 //! The lines of a run's report.
-ghost use Rattle.std.specs.Prelude.{◌≡◌, ◌+◌, ◌≤◌, ◌<◌, ◌++◌, length, take, OnOk, OnErr};
+ghost use Rattle.std.specs.Prelude.{◌≡◌, ◌+◌, ◌*◌, ◌≤◌, ◌<◌, ◌++◌, length, take, OnOk, OnErr};
 ghost use Rattle.rtp_stream.specs.Counts.{tally_of};
 ghost use Rattle.studio_run.specs.Buffer.{PassesOn, BreaksOff};
 ghost use Rattle.rtp_stream.specs.PathCounts.{path_tally_of};
@@ -10,8 +10,7 @@ ghost use Rattle.studio_run.specs.Report.{
   count_text,
   path_line,
   taken_text,
-  refused_text,
-  slots_text,
+  fields_text,
   tally_text,
   merge_line,
 };
@@ -20,7 +19,7 @@ ghost use Rattle.studio_run.specs.LiveReport.{running_line};
 use crate::buffer::TextBuffer;
 use crate::text_io::WriteFault;
 use path_merge::{Counts, Path};
-use rtp_stream::PathCounts;
+use rtp_stream::{COUNTS_AFTER_PATHS, COUNTS_BEFORE_PATHS, CountField, PathCounts};
 use std::io::Write;
 
 /// Writes the line of a datagram of the output: an RTP header of 12 octets and a payload of at most 1,440.
@@ -115,38 +114,22 @@ pub(crate) fn push_tally(text: &mut TextBuffer, between: &str, paths: u8, counts
     ensures text { text.new ≡ text.old ++ tally_text between.now paths (tally_of counts.now) }
     ensures few { length text.new ≤ length text.old + 900 }
 {
-    push_field(text, between, "arrived", counts.arrived);
-    push_field(text, between, "taken", counts.taken);
+    push_fields(text, between, &COUNTS_BEFORE_PATHS, counts);
     push_taken(text, between, taken_from(paths, counts));
-    push_refused(text, between, counts);
-    push_slots(text, between, counts);
+    push_fields(text, between, &COUNTS_AFTER_PATHS, counts);
 }
 
-/// Adds the counts of the arrivals that were not taken.
-fn push_refused(text: &mut TextBuffer, between: &str, counts: &Counts)
+/// Adds these counts, each after its word.
+#[tactic(auto, unfolding(crate::specs::Report::fields_text))]
+fn push_fields(text: &mut TextBuffer, between: &str, fields: &[CountField], counts: &Counts)
     requires one { length between.now ≡ 1 }
-    requires room { length text.old + 400 ≤ 65536 }
-    ensures text { text.new ≡ text.old ++ refused_text between.now (tally_of counts.now) }
-    ensures few { length text.new ≤ length text.old + 400 }
+    requires room { length text.old + 54 * length fields.now ≤ 65536 }
+    ensures text { text.new ≡ text.old ++ fields_text between.now fields.now (tally_of counts.now) }
+    ensures few { length text.new ≤ length text.old + 54 * length fields.now }
 {
-    push_field(text, between, "double", counts.double);
-    push_field(text, between, "unlike", counts.unlike);
-    push_field(text, between, "off_grid", counts.off_grid);
-    push_field(text, between, "late", counts.late);
-    push_field(text, between, "ahead", counts.ahead);
-    push_field(text, between, "source", counts.wrong_source);
-}
-
-/// Adds the counts of slots and restarts.
-fn push_slots(text: &mut TextBuffer, between: &str, counts: &Counts)
-    requires one { length between.now ≡ 1 }
-    requires room { length text.old + 200 ≤ 65536 }
-    ensures text { text.new ≡ text.old ++ slots_text between.now (tally_of counts.now) }
-    ensures few { length text.new ≤ length text.old + 200 }
-{
-    push_field(text, between, "got", counts.got);
-    push_field(text, between, "lost", counts.lost);
-    push_field(text, between, "restarts", counts.restarts);
+    for field in fields {
+        push_field(text, between, field.word(), field.of(counts));
+    }
 }
 
 /// Returns the number of packets that were taken from each of the first `paths` paths.
