@@ -70,7 +70,7 @@ const CHANGES: [(usize, u8, Option<RecordMark>); 12] = [
 ];
 
 /// Returns the mark that a header gives.
-fn told(rt: &impl Abort, header: &[u8; 76]) -> Option<RecordMark> {
+fn mark_of(rt: &impl Abort, header: &[u8; 76]) -> Option<RecordMark> {
     let mut parts = BlockParser::open(header).expect(rt, "a header");
     parts.next(header).expect(rt, "a block").mark
 }
@@ -83,6 +83,6 @@ fn only_a_whole_number_of_ours_is_an_opening(rt: HostRuntime) {
         let mut octets = latest_header();
         // The remainder shows that the place is one of the header's.
         octets[*place % 76] = *octet;
-        assert!(rt; told(&rt, &octets) == *mark, "{octet} at {place}");
+        assert!(rt; mark_of(&rt, &octets) == *mark, "{octet} at {place}");
     }
 }

@@ -3,8 +3,8 @@ ghost use Rattle.std.specs.Prelude.{◌≡◌, length};
 
 use super::record::record;
 use pcap_file::{
-    MAX_BLOCK_LEN, Packet, RecordedDatagram, UdpBody, UdpDatagram, UdpPacket, nanoseconds_after,
-    open, write_interface, write_packet, write_section_header, write_statistics,
+    Capture, MAX_BLOCK_LEN, Packet, RecordedDatagram, UdpBody, UdpDatagram, UdpPacket,
+    nanoseconds_after, open, write_interface, write_packet, write_section_header, write_statistics,
 };
 use std::net::Ipv4Addr;
 
@@ -29,33 +29,52 @@ fn is_written(out: &[u8], len: usize, want: Option<&[u8]>) -> bool {
     out.get(..len) == want && out.get(len) == Some(&0x55)
 }
 
+/// Returns true if the opening of a studio at 1000 is written as these octets.
+fn is_opening(octets: Option<&[u8]>) -> bool {
+    let mut out = [0x55u8; MAX_BLOCK_LEN];
+    let len = write_section_header(1000, &mut out);
+    is_written(&out, len, octets)
+}
+
+/// Returns true if the interface of a stream's path is written as these octets.
+fn is_interface(stream: u16, letter: u8, octets: Option<&[u8]>) -> bool {
+    let mut out = [0x55u8; MAX_BLOCK_LEN];
+    let len = write_interface(stream, letter, &mut out);
+    is_written(&out, len, octets)
+}
+
 /// Each call writes one block to the start of its buffer, and nothing after it.
 #[test]
 fn the_opening_and_interfaces_are_these_octets(rt: HostRuntime) {
     let record = record();
-    let mut out = [0x55u8; MAX_BLOCK_LEN];
-    let len = write_section_header(1000, &mut out);
-    assert!(rt; is_written(&out, len, record.get(..60)), "the opening");
-    let mut out = [0x55u8; MAX_BLOCK_LEN];
-    let len = write_interface(0, b'a', &mut out);
+    assert!(rt; is_opening(record.get(..60)), "the opening");
     assert!(rt;
-        is_written(&out, len, record.get(60..100)),
+        is_interface(0, b'a', record.get(60..100)),
         "the first interface"
     );
-    let len = write_interface(12, b'b', &mut out);
-    assert!(rt; is_written(&out, len, record.get(100..140)), "the second");
+    assert!(rt; is_interface(12, b'b', record.get(100..140)), "the second");
+}
+
+/// Returns true if the record's datagram is written as these octets.
+fn is_datagram(octets: Option<&[u8]>) -> bool {
+    let mut out = [0x55u8; MAX_BLOCK_LEN];
+    let len = write_packet(&arrival(), &mut out);
+    is_written(&out, len, octets)
+}
+
+/// Returns true if the record's close is written as these octets.
+fn is_close(octets: Option<&[u8]>) -> bool {
+    let mut out = [0x55u8; MAX_BLOCK_LEN];
+    let len = write_statistics(4_295_083_334, &mut out);
+    is_written(&out, len, octets)
 }
 
 /// A datagram is written as an IPv4 packet with a correct checksum, and the close as an interface's statistics.
 #[test]
 fn a_datagram_and_the_close_are_these_octets(rt: HostRuntime) {
     let record = record();
-    let mut out = [0x55u8; MAX_BLOCK_LEN];
-    let len = write_packet(&arrival(), &mut out);
-    assert!(rt; is_written(&out, len, record.get(140..204)), "the datagram");
-    let mut out = [0x55u8; MAX_BLOCK_LEN];
-    let len = write_statistics(4_295_083_334, &mut out);
-    assert!(rt; is_written(&out, len, record.get(204..)), "the close");
+    assert!(rt; is_datagram(record.get(140..204)), "the datagram");
+    assert!(rt; is_close(record.get(204..)), "the close");
 }
 
 /// Sampling instants after the opening, and the first nanosecond that is not before them.
@@ -94,11 +113,19 @@ fn packet() -> Packet<'static> {
     }
 }
 
+/// Returns true if a capture has the record's datagram next.
+fn gives_datagram(capture: &mut Capture<'_>) -> bool {
+    match capture.next() {
+        Some(Ok(given)) => given == packet(),
+        Some(Err(_)) | None => false,
+    }
+}
+
 /// A record is a capture of the datagrams that arrived.
 #[test]
 fn a_record_is_a_capture_of_its_datagrams(rt: HostRuntime) {
     let record = record();
-    let mut capture = open(&record).expect(&rt, "a capture");
-    assert!(rt; capture.next() == Some(Ok(packet())), "the datagram");
-    assert!(rt; capture.next() == None, "nothing more");
+    let capture = &mut open(&record).expect(&rt, "a capture");
+    assert!(rt; gives_datagram(capture), "the datagram");
+    assert!(rt; capture.next().is_none(), "nothing more");
 }

@@ -116,21 +116,31 @@ pub fn events_of(rt: &impl Abort, alloc: Global, spec: &StreamSpec, steps: &str)
     ensures { All (IsEventOf spec.now) result.items }
 {
     let mut events = Vec::new(alloc);
-    for words in steps.split(',') {
-        push_events(rt, spec, &mut events, step_of(rt, words));
-    }
+    push_all(rt, spec, &mut events, steps);
     assert!(rt; are_events_of(spec, &events), "a stream's events");
     events
+}
+
+/// Appends the events of the steps of a text.
+fn push_all(rt: &impl Abort, spec: &StreamSpec, events: &mut Vec<Event>, steps: &str) {
+    for words in steps.split(',') {
+        push_events(rt, spec, events, step_of(rt, words));
+    }
 }
 
 /// Appends the events of a step.
 fn push_events(rt: &impl Abort, spec: &StreamSpec, events: &mut Vec<Event>, step: Step) {
     match step {
         Step::On(path, first, times) => push_arrivals(rt, spec, events, path, first, times),
-        Step::Tick(now) => events.push(Event::Tick(now)).expect(rt, "there is memory"),
+        Step::Tick(now) => push(rt, events, Event::Tick(now)),
         Step::Advance(_) => { panic!(rt; "a single call is no event") }
-        Step::Close => events.push(Event::Close).expect(rt, "there is memory"),
+        Step::Close => push(rt, events, Event::Close),
     }
+}
+
+/// Appends an event.
+fn push(rt: &impl Abort, events: &mut Vec<Event>, event: Event) {
+    events.push(event).expect(rt, "there is memory");
 }
 
 /// Appends the arrivals of packets in sequence.
@@ -144,8 +154,7 @@ fn push_arrivals(
 ) {
     let mut sent = first;
     for _ in 0..times {
-        let arrival = Event::Arrive(path, sent.packet(spec));
-        events.push(arrival).expect(rt, "there is memory");
+        push(rt, events, Event::Arrive(path, sent.packet(spec)));
         sent = sent.next();
     }
 }

@@ -115,28 +115,39 @@ impl Player {
     /// Takes these steps, and tests each result.
     fn take(&mut self, rt: &impl Abort, steps: &[Step]) {
         for (place, step) in steps.iter().enumerate() {
-            assert!(rt; self.is_as_told(*step), "step {place}");
+            assert!(rt; self.gives_result(*step), "step {place}");
         }
     }
 
     /// Takes a step, and returns true if it gave the step's result.
-    fn is_as_told(&mut self, step: Step) -> bool {
+    fn gives_result(&mut self, step: Step) -> bool {
         let format = self.lane.format();
         match step {
             Step::Feed(plain) => self.feeds(&mark_of(format, plain)),
             Step::Keep(plain) => self.keeps(&mark_of(format, plain)),
-            Step::NoRoom(plain) => !self.lane.has_room(&mark_of(format, plain).as_ref()),
-            Step::Refuse(plain) => !self.lane.accepts(&mark_of(format, plain)),
+            Step::NoRoom(plain) => self.has_no_room(plain),
+            Step::Refuse(plain) => self.refuses(format, plain),
             Step::RefuseOther(plain) => {
                 let other = PacketFormat {
                     channels: 2,
                     ..format
                 };
-                !self.lane.accepts(&mark_of(other, plain))
+                self.refuses(other, plain)
             }
             Step::Covered => !self.lane.wants(self.lane.position() + 12),
             Step::Play(samples) => self.plays(&samples),
         }
+    }
+
+    /// Returns true if the lane has no room for a mark.
+    fn has_no_room(&self, plain: Plain) -> bool {
+        let mark = mark_of(self.lane.format(), plain);
+        !self.lane.has_room(&mark.lent())
+    }
+
+    /// Returns true if the lane does not accept a mark of this format.
+    fn refuses(&self, format: Format, plain: Plain) -> bool {
+        !self.lane.accepts(&mark_of(format, plain))
     }
 
     /// Feeds a mark, if the lane wants and accepts it, and returns true if so.
@@ -234,7 +245,12 @@ fn each_refused_allocation_is_answered(rt: HostRuntime) {
             ..STREAM
         },
     );
-    let first = Lane::new(rt.alloc(), spec, 0, 192).is_ok();
-    let second = Lane::new(rt.alloc(), spec, 0, 192).is_ok();
+    let first = is_made(rt.alloc(), spec);
+    let second = is_made(rt.alloc(), spec);
     assert!(rt; first || second, "with memory again");
+}
+
+/// Returns true if a lane was made. Returns false if an allocation failed.
+fn is_made(alloc: Global, spec: StreamSpec) -> bool {
+    Lane::new(alloc, spec, 0, 192).is_ok()
 }

@@ -186,7 +186,7 @@ fn the_first_copy_counts(rt: HostRuntime) {
 
 const CLOCKS: [Case; 2] = [
     Case {
-        shows: "by the arrival clock the first packet stands at the time as it came",
+        shows: "by the arrival clock the first packet has the media time of its arrival",
         stream: Stream {
             clock: StreamClock::Arrival,
             ..STREAM
@@ -198,7 +198,7 @@ const CLOCKS: [Case; 2] = [
         counts: "2 arrived, 2 from_a, 2 got",
     },
     Case {
-        shows: "from the opening to the first slot each reading tells how far the stream is silent, \
+        shows: "from the opening to the first slot each reading gives how far the stream is silent, \
             where that is new",
         stream: STREAM,
         open_at: 100,
@@ -212,7 +212,7 @@ const CLOCKS: [Case; 2] = [
 /// Clock readings before and between packets give the times of silence and of slots, by the media clock and by the
 /// arrival clock.
 #[test]
-fn silence_is_told_and_the_arrival_clock_followed(rt: HostRuntime) {
+fn silence_is_reported_and_the_arrival_clock_followed(rt: HostRuntime) {
     for case in &CLOCKS {
         case.check(&rt, rt.alloc());
     }
@@ -409,7 +409,7 @@ const PROBATIONS: [Case; 8] = [
         counts: "10 arrived, 1 from_a, 9 off_grid, 1 got",
     },
     Case {
-        shows: "probations begin anew with an epoch: the second path's eighth comes after it",
+        shows: "probations begin again with an epoch: the second path's eighth comes after it",
         stream: STREAM,
         open_at: 0,
         steps: "tick 0, a 1 0, tick 12, b 100 1 x 7, a 500 4294967274 x 8, tick 32, b 107 43",

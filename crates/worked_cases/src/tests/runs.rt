@@ -5,7 +5,11 @@ ghost use Rattle.path_merge.specs.Run.{IsEventOf};
 use super::bench::{Bench, slots_bench, sorted_bench};
 use super::cases::{STREAM, are_events_of, events_of, spec_of};
 use super::steps::Sent;
-use path_merge::{Event, Fate, Merge, Path, RunFault, StreamSpec, Window, run_merge};
+use super::words::says;
+use path_merge::{
+    Event, Fate, MarkKindRef, MarkRef, Merge, Path, RunFault, StreamSpec, Window, run_merge,
+};
+use rtp_stream::PacketRef;
 use std::alloc::Global;
 use std::process::Abort;
 
@@ -20,47 +24,92 @@ fn three_cycles_with_every_thousandth_lost(rt: HostRuntime) {
 
 /// Tests that on a bench.
 fn loses_every_thousandth<W: Window>(rt: &impl Abort, bench: &mut Bench<W>) {
-    for step in 0..200_000u32 {
-        bench.tick(rt, i64::from(step) * 6);
-        if !is_lost(step) {
-            take_in_time(rt, bench, 65_537 + step, step * 6);
+    bench.take_all(rt, "tick 0, a 1 0, tick 6, a 2 6");
+    for step in 2..200_000u32 {
+        let number = 65_537 + step;
+        // A slot is due 12 sampling instants after its media time: two steps.
+        gives_slot(rt, bench, number - 2, step * 6 - 12, !is_lost(number - 2));
+        if !is_lost(number) {
+            take_in_time(rt, bench, number, step * 6);
         }
     }
     bench.close(rt);
-    has_wanted_marks(rt, *bench.fates.allocator(), &bench.marks);
-    bench.has_counts(
-        rt,
-        "199800 arrived, 199800 from_a, 199800 got, 200 lost",
-        "",
-    );
+    let marks = "quiet -6, got 265535 1199988, got 265536 1199994, end";
+    says(rt, &bench.marks, marks, "the first and the last marks");
+    let counts = "199800 arrived, 199800 from_a, 199800 got, 200 lost";
+    bench.has_counts(rt, counts, "");
 }
 
+/// Returns true if a number is a multiple of 1,000.
+fn is_lost(number: u32) -> bool {
+    number % 1000 == 0
+}
+
+// Long runs use the calls that borrow payloads: copies of 1,440 octets for each packet and mark would take most of the
+// time.
 /// Offers the packet of a number, and tests that it is taken.
 fn take_in_time<W: Window>(rt: &impl Abort, bench: &mut Bench<W>, number: u32, ts: u32) {
     let path = Path::new(0).expect(rt, "a path");
-    let fate = bench.offer(rt, path, Sent::new((number % 65_536) as u16, ts));
+    let payload = payload_of(number);
+    let packet = PacketRef {
+        seq: (number % 65_536) as u16,
+        ts,
+        ssrc: 1,
+        payload: &payload,
+    };
+    // `Merge::offer_ref` requires these.
+    assert!(rt; path.number() < bench.spec.paths() && bench.spec.payload_len() == 18);
+    let fate = bench.merge.offer_ref(path, packet);
     assert!(rt; fate == Fate::Taken, "number {number}");
 }
 
-/// Returns true if a step's number is a multiple of 1,000.
-fn is_lost(step: u32) -> bool
-    requires { step < 200_000 }
-{
-    (65_537 + step) % 1000 == 0
+/// Advances to the deadline of a number, and tests that this gives its slot and no other mark.
+fn gives_slot<W: Window>(
+    rt: &impl Abort,
+    bench: &mut Bench<W>,
+    number: u32,
+    media: u32,
+    is_got: bool,
+) {
+    let merge = &mut bench.merge;
+    let goal = merge
+        .goal(i64::from(media) + 12)
+        .expect(rt, "the reading is in order");
+    let mark = merge.mark_to(goal).expect(rt, "the slot is due");
+    assert!(rt; is_slot(&mark, number, media, is_got), "number {number}");
+    let is_more = merge.pass_to(goal);
+    assert!(rt;
+        is_more && merge.mark_to(goal).is_none(),
+        "number {number} alone"
+    );
 }
 
-/// Tests that the marks are those that the steps give.
-fn has_wanted_marks(rt: &impl Abort, alloc: Global, marks: &str) {
-    let mut wanted = String::from_str(alloc, "quiet -6").expect(rt, "there is memory");
-    for step in 0..200_000u32 {
-        let word = if is_lost(step) { "lost" } else { "got" };
-        let media = step * 6;
-        write!(wanted, ", {word} {} {media}", 65_537 + step).expect(rt, "there is memory");
+/// Returns true if a mark is the slot of this number and media time, with the number's payload or lost.
+fn is_slot(mark: &MarkRef<'_>, number: u32, media: u32, is_got: bool) -> bool {
+    let octets = payload_of(number);
+    let body = if is_got {
+        Some(octets.as_slice())
+    } else {
+        None
+    };
+    match mark.kind() {
+        MarkKindRef::Slot {
+            epoch,
+            number: given,
+            media: begin,
+            payload,
+        } => {
+            (epoch, given, begin) == (0, u64::from(number), i64::from(media)) && payload == body
+        }
+        MarkKindRef::Quiet { .. } | MarkKindRef::End => false,
     }
-    assert!(rt;
-        marks.strip_suffix(", end") == Some(wanted.as_str()),
-        "the marks"
-    );
+}
+
+/// Returns the payload of a number's packet, as `Sent::packet` makes it.
+fn payload_of(number: u32) -> [u8; 18] {
+    let mut octets = [1, 2, 3, 4, 5, 6, 7, 8, 9, 10, 11, 12, 13, 14, 15, 16, 17, 0];
+    octets[17] = (number % 256) as u8;
+    octets
 }
 
 /// After packets 65,536 to 131,071 a restart opens an epoch. Its first number is again near 65,536: 66,043.
@@ -73,13 +122,14 @@ fn numbers_begin_again_with_an_epoch(rt: HostRuntime) {
 
 /// Tests that on a bench.
 fn restarts_after_a_cycle<W: Window>(rt: &impl Abort, bench: &mut Bench<W>) {
-    for step in 0..65_536u32 {
-        bench.tick(rt, i64::from(step) * 6);
-        take_in_time(rt, bench, step, step * 6);
+    bench.take_all(rt, "tick 0, a 0 0, tick 6, a 1 6");
+    for step in 2..65_536u32 {
+        gives_slot(rt, bench, 65_534 + step, step * 6 - 12, true);
+        take_in_time(rt, bench, 65_536 + step, step * 6);
     }
     bench.take_all(rt, "tick 393222, a 500 393188 x 8, tick 393242");
-    let last = ", got 131071 393210, got 1:66043 393230";
-    assert!(rt; bench.marks.ends_with(last), "the last marks");
+    let marks = "quiet -6, got 131070 393204, got 131071 393210, got 1:66043 393230";
+    says(rt, &bench.marks, marks, "the first and the last marks");
     let counts = "65544 arrived, 65537 from_a, 7 off_grid, 65537 got, 1 restarts";
     bench.has_counts(rt, counts, "");
 }
@@ -115,13 +165,18 @@ fn place_of_fault(alloc: Global, spec: StreamSpec, open_at: i64, events: &[Event
 /// follows a close.
 #[test]
 fn a_run_names_the_first_reading_out_of_order(rt: HostRuntime) {
-    let spec = spec_of(&rt, STREAM);
     for (open_at, steps, want) in &READINGS {
-        let events = events_of(&rt, rt.alloc(), &spec, *steps);
-        assert!(rt; 0 <= *open_at && *open_at <= 10);
-        let place = place_of_fault(rt.alloc(), spec, *open_at, &events);
+        let place = place_in(&rt, rt.alloc(), *open_at, *steps);
         assert!(rt; place == *want, "{steps}");
     }
+}
+
+/// Returns the place of the first clock reading that is out of order in a run over these steps, if there is one.
+fn place_in(rt: &impl Abort, alloc: Global, open_at: i64, steps: &str) -> Option<usize> {
+    let spec = spec_of(rt, STREAM);
+    // `run_merge` requires an opening time from 0 to 2^60.
+    assert!(rt; 0 <= open_at && open_at <= 10);
+    place_of_fault(alloc, spec, open_at, &events_of(rt, alloc, &spec, steps))
 }
 
 /// A run of 101 marks, whose list grows several times, is made twice: if one allocation fails, each run gives all marks
@@ -130,9 +185,14 @@ fn a_run_names_the_first_reading_out_of_order(rt: HostRuntime) {
 fn each_refused_allocation_of_a_run_is_answered(rt: HostRuntime) {
     let spec = spec_of(&rt, STREAM);
     let events = [arrival(&rt, &spec), Event::Tick(606), Event::Close];
-    assert!(rt; are_events_of(&spec, &events));
-    let first = mark_count(&rt, rt.alloc(), spec, &events);
-    let second = mark_count(&rt, rt.alloc(), spec, &events);
+    runs_again(&rt, rt.alloc(), spec, &events);
+}
+
+/// Tests that with these events.
+fn runs_again(rt: &impl Abort, alloc: Global, spec: StreamSpec, events: &[Event]) {
+    assert!(rt; are_events_of(&spec, events));
+    let first = mark_count(rt, alloc, spec, events);
+    let second = mark_count(rt, alloc, spec, events);
     let counts = [first.unwrap_or(101), second.unwrap_or(101)];
     assert!(rt; counts == [101, 101], "all marks or none");
     assert!(rt;
@@ -162,7 +222,12 @@ fn mark_count(rt: &impl Abort, alloc: Global, spec: StreamSpec, events: &[Event]
 #[test]
 fn each_refused_allocation_is_answered(rt: HostRuntime) {
     let spec = spec_of(&rt, STREAM);
-    let first = Merge::new(rt.alloc(), spec, 0).is_ok();
-    let second = Merge::new(rt.alloc(), spec, 0).is_ok();
+    let first = is_made(rt.alloc(), spec);
+    let second = is_made(rt.alloc(), spec);
     assert!(rt; first || second, "a merge");
+}
+
+/// Returns true if a merge was made. Returns false if an allocation failed.
+fn is_made(alloc: Global, spec: StreamSpec) -> bool {
+    Merge::new(alloc, spec, 0).is_ok()
 }

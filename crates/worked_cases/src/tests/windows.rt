@@ -6,6 +6,7 @@ use super::cases::{STREAM, spec_of};
 use super::steps::Sent;
 use path_merge::{SlotWindow, SortedWindow, Window};
 use rtp_stream::{Put, StreamSpec};
+use std::alloc::Global;
 use std::process::Abort;
 
 /// Numbers 131070 and 131078 have one remainder by the window's width of 8, so they use one slot in turn. A copy of the
@@ -48,10 +49,18 @@ fn keeps_packets_by_number<W: Window>(rt: &impl Abort, window: &mut W, spec: &St
 #[test]
 fn each_refused_allocation_is_answered(rt: HostRuntime) {
     let spec = spec_of(&rt, STREAM);
-    let first = SlotWindow::new(rt.alloc(), &spec).is_ok();
-    let second = SlotWindow::new(rt.alloc(), &spec).is_ok();
-    assert!(rt; first || second, "a window of slots");
-    let first = SortedWindow::new(rt.alloc(), &spec).is_ok();
-    let second = SortedWindow::new(rt.alloc(), &spec).is_ok();
-    assert!(rt; first || second, "a sorted window");
+    let first = has_slots(rt.alloc(), &spec);
+    assert!(rt; has_slots(rt.alloc(), &spec) || first, "a window of slots");
+    let first = is_sorted(rt.alloc(), &spec);
+    assert!(rt; is_sorted(rt.alloc(), &spec) || first, "a sorted window");
+}
+
+/// Returns true if a window of slots was made. Returns false if an allocation failed.
+fn has_slots(alloc: Global, spec: &StreamSpec) -> bool {
+    SlotWindow::new(alloc, spec).is_ok()
+}
+
+/// Returns true if a sorted window was made. Returns false if an allocation failed.
+fn is_sorted(alloc: Global, spec: &StreamSpec) -> bool {
+    SortedWindow::new(alloc, spec).is_ok()
 }

@@ -67,10 +67,10 @@ const ROWS: [Row; 13] = [
 ];
 
 /// Returns true if a datagram has this fault, or, if there is no fault, this payload.
-fn is_told(octets: &[u8], fault: Option<WireFault>, payload: &[u8]) -> bool {
+fn is_read_as(octets: &[u8], fault: Option<WireFault>, payload: &[u8]) -> bool {
     match read(octets) {
         Ok(view) => fault == None && view.payload == payload,
-        Err(told) => fault == Some(told),
+        Err(found) => fault == Some(found),
     }
 }
 
@@ -80,7 +80,7 @@ fn is_told(octets: &[u8], fault: Option<WireFault>, payload: &[u8]) -> bool {
 fn header_faults_and_payloads(rt: HostRuntime) {
     for (place, row) in ROWS.iter().enumerate() {
         let (octets, fault, payload) = row;
-        assert!(rt; is_told(*octets, *fault, *payload), "row {place}");
+        assert!(rt; is_read_as(*octets, *fault, *payload), "row {place}");
     }
 }
 
@@ -106,7 +106,7 @@ fn fault_of_cut(k: usize) -> Option<WireFault> {
 #[test]
 fn each_cut_of_a_full_header_has_its_fault(rt: HostRuntime) {
     for k in 0..34usize {
-        let is_so = is_told(&FULL[..k], fault_of_cut(k), &[0xaa, 0xbb]);
+        let is_so = is_read_as(&FULL[..k], fault_of_cut(k), &[0xaa, 0xbb]);
         assert!(rt; is_so, "the first {k}");
     }
 }

@@ -76,57 +76,61 @@ fn word_of(rt: &impl Abort, number: u64, body: &Body) -> &'static str {
 
 /// Says fates, each with the number of times that it came in a row.
 pub fn say_fates(rt: &impl Abort, text: &mut String, fates: &[Fate]) {
+    let mut last = None;
     let mut times: usize = 0;
-    for (place, fate) in fates.iter().enumerate() {
-        times = times.saturating_add(1);
-        if fates.get(place + 1) != Some(fate) {
-            // The empty word writes the comma.
-            say(rt, text, "");
-            write!(text, "{times} {fate:?}").expect(rt, "there is memory");
+    for fate in fates {
+        if last != Some(*fate) {
+            say_run(rt, text, last, times);
             times = 0;
         }
+        last = Some(*fate);
+        times = times.saturating_add(1);
+    }
+    say_run(rt, text, last, times);
+}
+
+/// Says a fate and the number of times that it came in a row. Says nothing if there is no fate.
+fn say_run(rt: &impl Abort, text: &mut String, fate: Option<Fate>, times: usize) {
+    if let Some(fate) = fate {
+        // The empty word writes the comma.
+        say(rt, text, "");
+        write!(text, "{times} {fate:?}").expect(rt, "there is memory");
     }
 }
-
-/// Says a count and its name.
-fn say_count(rt: &impl Abort, text: &mut String, count: u64, name: &str) {
-    // The empty word writes the comma.
-    say(rt, text, "");
-    write!(text, "{count} {name}").expect(rt, "there is memory");
-}
-
-/// The names of the counts, in the order of `values_of`.
-const NAMES: [&str; 14] = [
-    "arrived", "from_a", "from_b", "from_c", "from_d", "double", "unlike", "off_grid", "late",
-    "ahead", "source", "got", "lost", "restarts",
-];
 
 /// Says the counts that are not 0. `taken` is said path by path.
 pub fn say_counts(rt: &impl Abort, text: &mut String, counts: &Counts) {
-    for (name, count) in NAMES.iter().zip(values_of(counts).iter()) {
-        if *count != 0 {
-            say_count(rt, text, *count, *name);
-        }
+    for (count, name) in &named_counts(counts) {
+        say_count(rt, text, *count, *name);
     }
 }
 
-/// Returns the counts in the order of `NAMES`.
-fn values_of(counts: &Counts) -> [u64; 14] {
+/// Says a count and its name, unless the count is 0.
+fn say_count(rt: &impl Abort, text: &mut String, count: u64, name: &str) {
+    if count != 0 {
+        // The empty word writes the comma.
+        say(rt, text, "");
+        write!(text, "{count} {name}").expect(rt, "there is memory");
+    }
+}
+
+/// Returns the counts with their names, in the order in which they are said.
+fn named_counts(counts: &Counts) -> [(u64, &'static str); 14] {
     let [a, b, c, d] = counts.taken_by;
     [
-        counts.arrived,
-        a,
-        b,
-        c,
-        d,
-        counts.double,
-        counts.unlike,
-        counts.off_grid,
-        counts.late,
-        counts.ahead,
-        counts.wrong_source,
-        counts.got,
-        counts.lost,
-        counts.restarts,
+        (counts.arrived, "arrived"),
+        (a, "from_a"),
+        (b, "from_b"),
+        (c, "from_c"),
+        (d, "from_d"),
+        (counts.double, "double"),
+        (counts.unlike, "unlike"),
+        (counts.off_grid, "off_grid"),
+        (counts.late, "late"),
+        (counts.ahead, "ahead"),
+        (counts.wrong_source, "source"),
+        (counts.got, "got"),
+        (counts.lost, "lost"),
+        (counts.restarts, "restarts"),
     ]
 }
