@@ -17,15 +17,12 @@ pub fn stream(frames: u16, latency: u32, paths: u8) -> Result<StreamSpec, SpecFa
 /// The first datagram has sequence number 65,535. None if an allocation fails, if there are no streams or more than 16,
 /// or if no output has packets of this length.
 pub fn sum_of(alloc: Global, specs: &[StreamSpec], frames: u16) -> Option<StudioSpec> {
-    let output = OutSpec::new(Enc::L24, 1, frames, 97, 2, 65_535, 0, 0).ok()?;
-    let mut streams = Vec::new(alloc);
-    for spec in specs {
-        streams.push(*spec).ok()?;
-    }
-    if streams.is_empty() || streams.len() > 16 {
+    if specs.is_empty() || specs.len() > 16 {
         return None;
     }
-    let ins = channel_total(&streams);
+    let output = OutSpec::new(Enc::L24, 1, frames, 97, 2, 65_535, 0, 0).ok()?;
+    let ins = channel_total(specs);
+    let streams = Vec::from_slice(alloc, specs).ok()?;
     let schedule = gain_of_one(alloc, ins)?;
     // Never, but `StudioSpec::new` requires equal shapes, which no clause of `gain_of_one` gives.
     if schedule.outs() != usize::from(output.channels()) || schedule.ins() != ins {
@@ -36,10 +33,14 @@ pub fn sum_of(alloc: Global, specs: &[StreamSpec], frames: u16) -> Option<Studio
 
 /// Returns a schedule of gain 1 from each of so many inputs to one output, without changes.
 fn gain_of_one(alloc: Global, ins: usize) -> Option<Schedule> {
-    let mut gains = Vec::new(alloc);
-    gains.resize(ins, 65_536).ok()?;
-    let matrix = Matrix::new(alloc, 1, ins, &gains).ok()?;
+    let matrix = row_of_ones(alloc, ins)?;
     Schedule::new(matrix, Vec::new(alloc)).ok()
+}
+
+/// Returns a matrix of gain 1 from each of so many inputs to one output.
+fn row_of_ones(alloc: Global, ins: usize) -> Option<Matrix> {
+    let gains = vec![in alloc; 65_536; ins].ok()?;
+    Matrix::new(alloc, 1, ins, &gains).ok()
 }
 
 /// Returns a studio that adds two streams into packets of 48 sampling instants: one of 6 sampling instants a packet on

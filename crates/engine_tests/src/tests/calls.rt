@@ -69,10 +69,14 @@ fn path(rt: &impl Abort, number: u8) -> Path {
 /// A number without a stream and a path that a stream does not have are each refused by a fault of their own.
 #[test]
 fn a_wrong_place_has_a_name(rt: HostRuntime) {
-    let engine = &mut six(&rt, rt.alloc());
-    let first = path(&rt, 0);
+    refuses_places(&rt, &mut six(&rt, rt.alloc()));
+}
+
+/// Tests that on an engine of one stream on two paths.
+fn refuses_places(rt: &impl Abort, engine: &mut Engine) {
+    let first = path(rt, 0);
     assert!(rt; engine.arrive(1, first, &[]) == Err(ArriveFault::Stream));
-    assert!(rt; engine.arrive(0, path(&rt, 2), &[]) == Err(ArriveFault::Path));
+    assert!(rt; engine.arrive(0, path(rt, 2), &[]) == Err(ArriveFault::Path));
     assert!(rt; engine.path_counts(1, first).is_none() && engine.counts(1).is_none());
 }
 
@@ -86,14 +90,23 @@ fn long_packet() -> [u8; 31] {
 /// An empty datagram, one of another payload type and one with an octet too many are each reported by name and counted.
 #[test]
 fn what_is_no_packet_has_a_name(rt: HostRuntime) {
-    let engine = &mut six(&rt, rt.alloc());
-    let path = path(&rt, 1);
+    names_others(&rt, &mut six(&rt, rt.alloc()));
+}
+
+/// Tests that on an engine.
+fn names_others(rt: &impl Abort, engine: &mut Engine) {
+    let path = path(rt, 1);
     assert!(rt; engine.arrive(0, path, &[]) == Ok(ArriveOutcome::Bad));
     assert!(rt; engine.arrive(0, path, &block_of_six(1, 1)) == Ok(ArriveOutcome::WrongType));
     assert!(rt; engine.arrive(0, path, &long_packet()) == Ok(ArriveOutcome::WrongLength));
-    let counts = engine.path_counts(0, path).expect(&rt, "the stream");
-    assert!(rt; counts.offered == 3 && counts.bad == 1);
-    assert!(rt; counts.wrong_type == 1 && counts.wrong_length == 1);
+    let counts = engine.path_counts(0, path).expect(rt, "the stream");
+    let found = [
+        counts.offered,
+        counts.bad,
+        counts.wrong_type,
+        counts.wrong_length,
+    ];
+    assert!(rt; found == [3, 1, 1, 1]);
 }
 
 const OUT_OF_ORDER: [Step; 7] = [
@@ -161,8 +174,12 @@ fn first_of_both() -> [u8; 156] {
 /// other one are kept for their block.
 #[test]
 fn marks_are_kept_until_the_slower_stream_has_come(rt: HostRuntime) {
-    let engine = &mut six_and_forty_eight(&rt, rt.alloc());
-    let path = path(&rt, 0);
+    keeps_marks(&rt, &mut six_and_forty_eight(&rt, rt.alloc()));
+}
+
+/// Tests that on an engine of both streams.
+fn keeps_marks(rt: &impl Abort, engine: &mut Engine) {
+    let path = path(rt, 0);
     assert!(rt; engine.arrive(1, path, &packet_of_48(1, 48, 4)) == TAKEN);
     assert!(rt; engine.arrive(0, path, &packet_of_six(1, 24, 1)) == TAKEN);
     assert!(rt; answers(engine, 143, Ok(None)));

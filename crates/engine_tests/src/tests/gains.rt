@@ -150,7 +150,11 @@ const IN_FORCE: [(i64, i32); 5] = [
 /// Each change is in force from its own time on.
 #[test]
 fn gains_are_in_force_from_their_time_on(rt: HostRuntime) {
-    let schedule = two_changes(&rt, rt.alloc());
+    has_gains(&rt, &two_changes(&rt, rt.alloc()));
+}
+
+/// Tests the gains of that schedule.
+fn has_gains(rt: &impl Abort, schedule: &Schedule) {
     assert!(rt; schedule.later().len() == 2);
     for (t, gain) in &IN_FORCE {
         assert!(rt; schedule.at(*t).gains() == [*gain].as_slice(), "at {t}");
@@ -160,13 +164,17 @@ fn gains_are_in_force_from_their_time_on(rt: HostRuntime) {
 /// The table of changes in MIXING.md holds: each change takes effect at its own sampling instant, within a span.
 #[test]
 fn gains_change_within_a_span(rt: HostRuntime) {
-    let schedule = two_changes(&rt, rt.alloc());
+    changes_gains(&rt, &two_changes(&rt, rt.alloc()));
+}
+
+/// Tests that with that schedule.
+fn changes_gains(rt: &impl Abort, schedule: &Schedule) {
     let ins = [1, 2, 3, 4, 5, 6];
     let mut outs = [0; 6];
     // `mix_span` requires these values and this shape.
     assert!(rt; are_24_bits(&ins));
     assert!(rt; schedule.first().ins() == 1 && schedule.first().outs() == 1);
-    mix_span(&schedule, 98, &ins, &mut outs, 6, 16);
+    mix_span(schedule, 98, &ins, &mut outs, 6, 16);
     assert!(rt; outs == [1, 2, 6, 8, 10, -6]);
 }
 
@@ -178,17 +186,19 @@ const LOUD: [i32; 4] = [4_194_303, 4_194_304, -4_194_304, -4_194_305];
 #[test]
 fn saturated_samples_are_counted(rt: HostRuntime) {
     let matrix = matrix_of(&rt, rt.alloc(), 2, 1, &[131_072, -131_072]);
-    let schedule = Schedule::new(matrix, Vec::new(rt.alloc())).expect(
-        &rt,
-        "a schedule of no change",
-    );
+    let schedule = Schedule::new(matrix, Vec::new(rt.alloc()));
+    counts_saturated(&rt, &schedule.expect(&rt, "a schedule of no change"));
+}
+
+/// Tests that with a schedule of gains 2 and -2.
+fn counts_saturated(rt: &impl Abort, schedule: &Schedule) {
     let mut outs = [0; 8];
     // The second count begins at 5, to see that the call adds to it.
     let mut counts = [0, 5];
     // `mix_counted` requires these values and this shape.
     assert!(rt; are_24_bits(&LOUD));
     assert!(rt; schedule.first().ins() == 1 && schedule.first().outs() == 2);
-    mix_counted(&schedule, 0, &LOUD, &mut outs, 4, 16, &mut counts);
+    mix_counted(schedule, 0, &LOUD, &mut outs, 4, 16, &mut counts);
     assert!(rt; outs[2..6] == [8_388_607, -8_388_608, -8_388_608, 8_388_607]);
     assert!(rt; counts == [2, 7]);
 }

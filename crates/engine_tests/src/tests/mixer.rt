@@ -13,8 +13,12 @@ fn lost(spec: &StreamSpec, media: i16) -> Mark {
 
 /// Returns a mixer whose lanes have room.
 fn with_room(rt: &impl Abort, alloc: Global, spec: &StudioSpec) -> Mixer {
-    let mixer = Mixer::with_room(alloc, spec);
-    mixer.expect(rt, "there is memory")
+    Mixer::with_room(alloc, spec).expect(rt, "there is memory")
+}
+
+/// Returns a mixer whose lanes have no room.
+fn without_room(rt: &impl Abort, alloc: Global, spec: &StudioSpec) -> Mixer {
+    Mixer::new(alloc, spec).expect(rt, "there is memory")
 }
 
 /// Tests that a mixer with room keeps a stream's slot that is within the room, and has none for one that is beyond it.
@@ -38,22 +42,33 @@ fn has_none(rt: &impl Abort, mixer: &Mixer, number: usize, mark: &Mark) {
 
 /// A stream's number, its sampling instants a packet, its latency, and the media time of the last slot that its lane
 /// has room for.
-const ROOMS: [(usize, u16, u32, i16); 2] = [(0, 6, 12, 468), (1, 48, 48, 432)];
+type Room = (usize, u16, u32, i16);
+
+const ROOMS: [Room; 2] = [(0, 6, 12, 468), (1, 48, 48, 432)];
 
 /// Next to a stream that lags by 432 sampling instants, a stream of latency 12 has room for 474: for a slot of 6 at
 /// 468.
 #[test]
-fn a_lane_has_room_beside_the_stream_that_lags_most(rt: HostRuntime) {
+fn a_lane_has_room_next_to_the_stream_that_lags_most(rt: HostRuntime) {
     let studio = six_and_forty_eight(rt.alloc(), 1).expect(&rt, "there is memory");
-    for (number, frames, latency, last) in &ROOMS {
-        let spec = stream(*frames, *latency, 1).expect(&rt, "a stream");
-        let within = lost(&spec, *last);
-        let beyond = lost(&spec, last.wrapping_add(1));
-        let mixer = &mut with_room(&rt, rt.alloc(), &studio);
-        keeps(&rt, mixer, *number, &within, &beyond);
-        let plain = Mixer::new(rt.alloc(), &studio).expect(&rt, "there is memory");
-        has_none(&rt, &plain, *number, &within);
+    for room in &ROOMS {
+        has_this_room(&rt, rt.alloc(), &studio, *room);
     }
+}
+
+/// Tests the room of a stream's lane, which only a mixer with room has.
+fn has_this_room(rt: &impl Abort, alloc: Global, studio: &StudioSpec, room: Room) {
+    let (number, frames, latency, last) = room;
+    let spec = stream(frames, latency, 1).expect(rt, "a stream");
+    let (within, beyond) = (lost(&spec, last), lost(&spec, last.wrapping_add(1)));
+    keeps(
+        rt,
+        &mut with_room(rt, alloc, studio),
+        number,
+        &within,
+        &beyond,
+    );
+    has_none(rt, &without_room(rt, alloc, studio), number, &within);
 }
 
 /// A mixer is made twice: if one allocation fails, at most one of the two calls returns an error.

@@ -7,7 +7,7 @@ use studio_engine::{ArriveFault, Engine, Unfinished};
 use studio_session::ArriveOutcome;
 
 /// The greatest number of octets of an output's datagram.
-const MOST: usize = 1452;
+const MAX_OCTETS: usize = 1452;
 
 /// Returns an engine of one stream, in and out in packets of 6 sampling instants.
 pub fn six(rt: &impl Abort, alloc: Global) -> Engine {
@@ -118,12 +118,12 @@ pub enum Step {
 pub fn play(rt: &impl Abort, alloc: Global, steps: &[Step]) {
     let engine = &mut six(rt, alloc);
     for (place, step) in steps.iter().enumerate() {
-        assert!(rt; is_as_told(engine, *step), "step {place}");
+        assert!(rt; gives_result(engine, *step), "step {place}");
     }
 }
 
 /// Takes a step, and returns true if it gave the step's result.
-fn is_as_told(engine: &mut Engine, step: Step) -> bool {
+fn gives_result(engine: &mut Engine, step: Step) -> bool {
     match step {
         Step::Hand(on, number, want) => hand(engine, on, number) == Some(want),
         Step::Give(now, block, sample) => gives(engine, now, &block_of_six(block, sample)),
@@ -148,15 +148,15 @@ fn hand(engine: &mut Engine, on: u8, number: u8) -> Option<Result<ArriveOutcome,
 
 /// Returns true if a turn gives this datagram.
 pub fn gives(engine: &mut Engine, now: i64, want: &[u8]) -> bool {
-    let mut out = [0u8; MOST];
-    // Called for its clause: a datagram has at most `MOST` octets, so `out` has room.
+    let mut out = [0u8; MAX_OCTETS];
+    // Called for its clause: a datagram has at most `MAX_OCTETS` octets, so `out` has room.
     let _short = engine.output().datagram_len();
     engine.turn(now, &mut out) == Ok(Some(want.len())) && out.starts_with(want)
 }
 
 /// Returns true if a turn returns this result.
 pub fn answers(engine: &mut Engine, now: i64, want: Result<Option<usize>, ClockFault>) -> bool {
-    let mut out = [0u8; MOST];
+    let mut out = [0u8; MAX_OCTETS];
     // Called for its clause, as in `gives`.
     let _short = engine.output().datagram_len();
     engine.turn(now, &mut out) == want
@@ -164,7 +164,7 @@ pub fn answers(engine: &mut Engine, now: i64, want: Result<Option<usize>, ClockF
 
 /// Returns true if a drain gives a datagram of this length and these octets, or none if there is no length.
 fn drains(engine: &mut Engine, len: Option<usize>, want: &[u8]) -> bool {
-    let mut out = [0u8; MOST];
+    let mut out = [0u8; MAX_OCTETS];
     // Called for its clause, as in `gives`.
     let _short = engine.output().datagram_len();
     engine.drain(&mut out) == len && out.starts_with(want)
