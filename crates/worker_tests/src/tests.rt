@@ -5,7 +5,7 @@ mod holding;
 mod memory;
 mod packets;
 mod rings;
+mod stats;
 mod threads;
 mod timed;
-mod watches;
 mod workers;

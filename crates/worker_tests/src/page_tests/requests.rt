@@ -77,9 +77,20 @@ const SHORT: [(&str, &str); 9] = [
 fn requests_are_answered_octet_by_octet(rt: HostRuntime) {
     let page = &mut Page::new(rt.alloc(), snapshot(&rt));
     for (request, answer) in &SHORT {
-        let sent = answers(&rt, rt.alloc(), page, request.as_bytes());
-        assert!(rt; sent.as_slice() == answer.as_bytes(), "{request}");
+        is_answered(&rt, rt.alloc(), page, *request, *answer);
     }
+}
+
+/// Tests that a page gives this answer to a client that sends a request and no more.
+fn is_answered(
+    rt: &(impl Abort + RandomSource),
+    alloc: Global,
+    page: &mut Page,
+    request: &str,
+    answer: &str,
+) {
+    let sent = answers(rt, alloc, page, request.as_bytes());
+    assert!(rt; sent.as_slice() == answer.as_bytes(), "{request}");
 }
 
 /// Returns the octets that a client gets that asks for the state and then for the page, up to the page's length.
@@ -95,10 +106,14 @@ const KEPT: [&str; 3] = [
 fn a_connection_is_kept(rt: HostRuntime) {
     let page = &mut Page::new(rt.alloc(), snapshot(&rt));
     let requests = b"GET /state HTTP/1.1\r\nHost: h\r\n\r\nGET /?now HTTP/1.1\r\nHost: h\r\n\r\n";
-    let sent = answers(&rt, rt.alloc(), page, requests);
-    let mut rest = sent.as_slice();
+    has_kept_parts(&rt, &answers(&rt, rt.alloc(), page, requests));
+}
+
+/// Tests that these octets are those of `KEPT`, then the page's length, and the page.
+fn has_kept_parts(rt: &impl Abort, sent: &[u8]) {
+    let mut rest = sent;
     for part in &KEPT {
-        rest = rest.strip_prefix(part.as_bytes()).expect(&rt, "a part");
+        rest = rest.strip_prefix(part.as_bytes()).expect(rt, "a part");
     }
     assert!(rt; rest.ends_with(HTML.as_bytes()));
 }
@@ -110,24 +125,32 @@ fn long_request(rt: &impl Abort, alloc: Global, front: &str) -> Vec<u8> {
     request
 }
 
+/// The begin of a request that is too long, and of its answer.
+const LONG: [(&str, &str); 2] = [
+    ("GET / HTTP/1.1\r\nHost: h\r\nX: ", "HTTP/1.1 431 "),
+    ("GET /", "HTTP/1.1 414 "),
+];
+
 /// A head of more than 8,192 octets is refused, wherever it is cut.
 #[test]
 fn a_long_head_is_refused(rt: HostRuntime) {
     let page = &mut Page::new(rt.alloc(), snapshot(&rt));
-    let sent = answers(
-        &rt,
-        rt.alloc(),
-        page,
-        &long_request(&rt, rt.alloc(), "GET / HTTP/1.1\r\nHost: h\r\nX: "),
-    );
-    assert!(rt; sent.starts_with(b"HTTP/1.1 431 "));
-    let sent = answers(
-        &rt,
-        rt.alloc(),
-        page,
-        &long_request(&rt, rt.alloc(), "GET /"),
-    );
-    assert!(rt; sent.starts_with(b"HTTP/1.1 414 "));
+    for (front, answer) in &LONG {
+        is_refused(&rt, rt.alloc(), page, *front, *answer);
+    }
+}
+
+/// Tests that the answer to a long request begins so.
+fn is_refused(
+    rt: &(impl Abort + RandomSource),
+    alloc: Global,
+    page: &mut Page,
+    front: &str,
+    answer: &str,
+) {
+    let request = long_request(rt, alloc, front);
+    let sent = answers(rt, alloc, page, &request);
+    assert!(rt; sent.starts_with(answer.as_bytes()), "{front}");
 }
 
 /// The words that would have a browser fetch something from elsewhere.

@@ -42,20 +42,34 @@ fn counts() -> Counts {
     counts
 }
 
-/// A stream with a name and two paths, of one of which little is known, and two output channels.
-pub(super) fn snapshot(rt: &impl Abort) -> Snapshot {
+/// Returns a stream with a name and two paths, of one of which little is known.
+fn stream(rt: &impl Abort) -> StreamState {
     let mut stream = StreamState::default();
     stream.name = StreamName::from(NAME).ok();
     stream.condition = Condition::Running;
     stream.latency = 240;
     stream.counts = counts();
+    add_paths(rt, &mut stream);
+    stream
+}
+
+/// Adds both paths of the stream.
+fn add_paths(rt: &impl Abort, stream: &mut StreamState) {
     assert!(rt; stream.paths.try_push(heard_path()).is_ok());
     assert!(rt; stream.paths.try_push(PathState::default()).is_ok());
+}
+
+/// Adds an output channel with this peak.
+fn add_output(rt: &impl Abort, snapshot: &mut Snapshot, peak: u32) {
+    let output = OutputState { peak, saturated: 2 };
+    assert!(rt; snapshot.outputs.try_push(output).is_ok());
+}
+
+/// Returns a snapshot of that stream and of two output channels.
+pub(super) fn snapshot(rt: &impl Abort) -> Snapshot {
     let mut snapshot = Snapshot::new();
-    assert!(rt; snapshot.streams.try_push(stream).is_ok());
-    for peak in [8_388_608, 0] {
-        let output = OutputState { peak, saturated: 2 };
-        assert!(rt; snapshot.outputs.try_push(output).is_ok());
-    }
+    assert!(rt; snapshot.streams.try_push(stream(rt)).is_ok());
+    add_output(rt, &mut snapshot, 8_388_608);
+    add_output(rt, &mut snapshot, 0);
     snapshot
 }

@@ -2,6 +2,7 @@
 use super::sample::snapshot;
 use status_page::{MAX_CLIENTS, Page, PageServer};
 use std::hash::RandomState;
+use std::io;
 use std::io::{ErrorKind, Read, Write};
 use std::net::TcpStream;
 use std::process::Abort;
@@ -49,6 +50,24 @@ fn fates_of(clients: &mut [TcpStream]) -> (u32, u32) {
     (answered, let_go)
 }
 
+/// Adds a client that has connected and sends a request.
+fn add_client(rt: &impl Abort, clients: &mut Vec<TcpStream>, client: io::Result<TcpStream>) {
+    let mut client = client.expect(rt, "a connection");
+    ask(rt, &mut client);
+    assert!(rt; clients.push(client).is_ok());
+}
+
+/// Tests that a server answers 64 of 70 clients, and lets all go after 10 s.
+fn serves(rt: &impl Abort, server: &mut PageServer, page: &mut Page, clients: &mut [TcpStream]) {
+    for turn in 0..20 {
+        server.wait(Duration::from_millis(10));
+        server.turn(page, Duration::from_millis(turn));
+    }
+    assert!(rt; fates_of(clients) == (64, 6));
+    server.turn(page, Duration::from_secs(11));
+    assert!(rt; fates_of(clients) == (0, 70));
+}
+
 /// 70 clients at once: 64 are answered, and the others let go. Those who then do nothing are let go after 10 s.
 #[test]
 fn clients_are_answered_or_let_go(rt: HostRuntime) {
@@ -57,16 +76,8 @@ fn clients_are_answered_or_let_go(rt: HostRuntime) {
     let mut server = PageServer::bind(&rt, rt.alloc(), keys, 0).expect(&rt, "a port");
     let address = server.address().expect(&rt, "an address");
     let mut clients = Vec::new(rt.alloc());
-    for _ in 0..MAX_CLIENTS + 6 {
-        let mut client = TcpStream::connect(&rt, address).expect(&rt, "a connection");
-        ask(&rt, &mut client);
-        assert!(rt; clients.push(client).is_ok());
+    for _ in 0..MOST_CLIENTS + 6 {
+        add_client(&rt, &mut clients, TcpStream::connect(&rt, address));
     }
-    for turn in 0..20 {
-        server.wait(Duration::from_millis(10));
-        server.turn(page, Duration::from_millis(turn));
-    }
-    assert!(rt; fates_of(&mut clients) == (64, 6));
-    server.turn(page, Duration::from_secs(11));
-    assert!(rt; fates_of(&mut clients) == (0, 70));
+    serves(&rt, &mut server, page, &mut clients);
 }

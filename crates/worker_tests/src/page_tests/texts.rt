@@ -33,7 +33,7 @@ const METRICS: [&str; 8] = [
 ];
 
 /// Returns true if the state was written; else an allocation was refused.
-fn is_told(rt: &impl Abort, alloc: Global, snapshot: &Snapshot, want: &str) -> bool {
+fn is_state(rt: &impl Abort, alloc: Global, snapshot: &Snapshot, want: &str) -> bool {
     match state_json(alloc, snapshot) {
         Ok(text) => {
             assert!(rt; text.as_slice() == want.as_bytes());
@@ -46,9 +46,9 @@ fn is_told(rt: &impl Abort, alloc: Global, snapshot: &Snapshot, want: &str) -> b
 /// A name is escaped as JSON asks, and what isn't known is null.
 #[test]
 fn the_state_is_json(rt: HostRuntime) {
-    assert!(rt; is_told(&rt, rt.alloc(), &snapshot(&rt), STATE));
+    assert!(rt; is_state(&rt, rt.alloc(), &snapshot(&rt), STATE));
     assert!(rt;
-        is_told(
+        is_state(
             &rt,
             rt.alloc(),
             &Snapshot::new(),
@@ -58,7 +58,7 @@ fn the_state_is_json(rt: HostRuntime) {
 }
 
 /// Returns true if the metrics were written; else an allocation was refused.
-fn are_told(rt: &impl Abort, alloc: Global, snapshot: &Snapshot) -> bool {
+fn are_metrics(rt: &impl Abort, alloc: Global, snapshot: &Snapshot) -> bool {
     match metrics_text(alloc, snapshot) {
         Ok(octets) => {
             has_parts(rt, &octets);
@@ -68,7 +68,7 @@ fn are_told(rt: &impl Abort, alloc: Global, snapshot: &Snapshot) -> bool {
     }
 }
 
-/// Each part stands in the text.
+/// Tests that each part is in the text.
 fn has_parts(rt: &impl Abort, octets: &[u8]) {
     let Ok(text) = str::from_utf8(octets) else {
         panic!(rt; "no text")
@@ -81,15 +81,15 @@ fn has_parts(rt: &impl Abort, octets: &[u8]) {
 /// A name is escaped as labels ask, and what isn't known has no line.
 #[test]
 fn the_metrics_are_in_prometheus_form(rt: HostRuntime) {
-    assert!(rt; are_told(&rt, rt.alloc(), &snapshot(&rt)));
+    assert!(rt; are_metrics(&rt, rt.alloc(), &snapshot(&rt)));
 }
 
-/// Both texts, made twice with any one allocation refused: want of memory at most once.
+/// Both texts are made twice: if one allocation fails, at most one of the two calls returns an error.
 #[test]
 fn each_refused_allocation_of_a_text_is_answered(rt: HostRuntime) {
     let snapshot = snapshot(&rt);
-    let first = is_told(&rt, rt.alloc(), &snapshot, STATE);
-    assert!(rt; is_told(&rt, rt.alloc(), &snapshot, STATE) || first);
-    let first = are_told(&rt, rt.alloc(), &snapshot);
-    assert!(rt; are_told(&rt, rt.alloc(), &snapshot) || first);
+    let first = is_state(&rt, rt.alloc(), &snapshot, STATE);
+    assert!(rt; is_state(&rt, rt.alloc(), &snapshot, STATE) || first);
+    let first = are_metrics(&rt, rt.alloc(), &snapshot);
+    assert!(rt; are_metrics(&rt, rt.alloc(), &snapshot) || first);
 }

@@ -39,7 +39,7 @@ impl<'a> Feed for FaultyFeed<'a> {
     }
 }
 
-/// Keeps what it is handed, and tells it. Address B doesn't take the datagram of this number.
+/// Keeps what it is handed, and contracts know it. Address B doesn't take the datagram of this number.
 #[derive(Drop)]
 pub(super) struct FailingSink<'a, R: Abort> {
     rt: &'a R,

@@ -74,10 +74,8 @@ fn paths_are_read_at_the_same_time(rt: HostRuntime) {
         MeetingFeed::new(&rt, &packets, &first, &second),
         MeetingFeed::new(&rt, &packets, &second, &first),
     ];
-    let feeds = list_of(&rt, alloc, feeds);
-    let clocks = list_of(&rt, alloc, [MemoryClock::new(&[0])]);
-    let sink = MemorySink::new(alloc);
-    let (report, sink) = run_one(&rt, alloc, 64, feeds, clocks, sink);
+    let (clock, sink) = (MemoryClock::new(&[0]), MemorySink::new(alloc));
+    let (report, sink) = run_one(&rt, alloc, 64, feeds, clock, sink);
     got_two(&rt, &report);
     gave_both(&rt, sink.kept());
 }
@@ -202,7 +200,7 @@ impl<'a, R: Wait> Sink for HoldingSink<'a, R> {
 
 /// Feeds that end only after a datagram was sent, and a sink that holds one until a clock is asked again.
 #[test]
-fn mixing_goes_on_beside_reception(rt: HostRuntime) {
+fn mixing_goes_on_during_reception(rt: HostRuntime) {
     let alloc = rt.alloc();
     let packets = two_packets(&rt, alloc);
     let first = AtomicBool::new(false);
@@ -213,11 +211,9 @@ fn mixing_goes_on_beside_reception(rt: HostRuntime) {
         LastingFeed::new(&packets, &first, &sent),
         LastingFeed::new(&packets, &second, &sent),
     ];
-    let feeds = list_of(&rt, alloc, feeds);
-    let clocks = [CountingClock::new(&asked, &first, &second)];
-    let clocks = list_of(&rt, alloc, clocks);
+    let clock = CountingClock::new(&asked, &first, &second);
     let sink = HoldingSink::new(&rt, alloc, &asked, &sent);
-    let (report, sink) = run_one(&rt, alloc, 64, feeds, clocks, sink);
+    let (report, sink) = run_one(&rt, alloc, 64, feeds, clock, sink);
     assert!(rt;
         sink.asked_again,
         "the stream's worker went on while the sink held"
@@ -226,7 +222,7 @@ fn mixing_goes_on_beside_reception(rt: HostRuntime) {
     gave_both(&rt, sink.sink.kept());
 }
 
-/// Answers only once both feeds told their end.
+/// Answers only once both feeds have returned their end.
 #[derive(Drop)]
 struct LateClock<'a, R: Wait> {
     rt: &'a R,
@@ -249,7 +245,7 @@ impl<'a, R: Wait> Clock for LateClock<'a, R> {
     }
 }
 
-/// Runs one stream over rings of one place, whose clock answers only once both feeds told these packets and their end.
+/// Runs one stream over rings of one place, whose clock answers only once both feeds have returned these packets and their end.
 fn run_late<R: Threads + Wait + Abort + Sync>(
     rt: &R,
     alloc: Global,
@@ -262,16 +258,13 @@ fn run_late<R: Threads + Wait + Abort + Sync>(
         LastingFeed::new(packets, &first, &ends),
         LastingFeed::new(packets, &second, &ends),
     ];
-    let feeds = list_of(rt, alloc, feeds);
     let clock = LateClock {
         rt,
         pause: Parker::new(),
         first: &first,
         second: &second,
     };
-    let clocks = list_of(rt, alloc, [clock]);
-    let sink = MemorySink::new(alloc);
-    let (report, _) = run_one(rt, alloc, 1, feeds, clocks, sink);
+    let (report, _) = run_one(rt, alloc, 1, feeds, clock, MemorySink::new(alloc));
     report
 }
 

@@ -6,13 +6,13 @@ use super::fakes::NoRest;
 use super::packets::both_packets;
 use super::workers::{one_stream, try_run};
 use engine_run::{NoObserver, run_engine};
-use std::alloc::Global;
+use std::alloc::{AllocError, Global};
 use std::process::Abort;
 use std::sync::Wait;
 use std::thread::Threads;
 use studio_config::StudioSpec;
 use studio_io::{MemoryClock, MemoryFeed, MemorySink};
-use studio_rings::WorkReport;
+use studio_rings::{WorkFault, WorkReport};
 use studio_run::{PlayFault, play};
 
 /// Both packets on the first path, with the readings at which they are due.
@@ -62,8 +62,8 @@ fn each_refused_allocation_of_a_report_is_answered(rt: HostRuntime) {
     assert!(rt; first || second, "with memory again");
 }
 
-/// Of two blocks each was kept, or is told as a fault of both addresses.
-fn kept_or_told(rt: &impl Abort, report: &WorkReport, sink: &MemorySink) {
+/// Tests that each of two blocks was kept, or is reported as a fault of both addresses.
+fn kept_or_reported(rt: &impl Abort, report: &WorkReport, sink: &MemorySink) {
     assert!(rt; report.settled);
     assert!(rt; report.blocks == 2);
     let kept = sink.kept().len() as u64;
@@ -71,30 +71,29 @@ fn kept_or_told(rt: &impl Abort, report: &WorkReport, sink: &MemorySink) {
     assert!(rt; sink.is_whole() == (kept == 2));
 }
 
-/// The feeds of two paths; none where memory is refused.
-fn two_feeds<'a>(alloc: Global, packets: &'a [Vec<u8>]) -> Option<Vec<MemoryFeed<'a>>> {
-    Vec::from_array(alloc, [MemoryFeed::new(packets), MemoryFeed::new(packets)]).ok()
+/// Returns the feeds of two paths.
+fn two_feeds<'a>(alloc: Global, packets: &'a [Vec<u8>]) -> Result<Vec<MemoryFeed<'a>>, AllocError> {
+    Ok(Vec::from_array(alloc, [MemoryFeed::new(packets), MemoryFeed::new(packets)])?)
 }
 
-/// The clock of one stream; none where memory is refused.
-fn one_clock(alloc: Global) -> Option<Vec<MemoryClock<'static>>> {
-    Vec::from_array(alloc, [MemoryClock::new(&[0])]).ok()
+/// Returns the clock of one stream.
+fn one_clock(alloc: Global) -> Result<Vec<MemoryClock<'static>>, AllocError> {
+    Ok(Vec::from_array(alloc, [MemoryClock::new(&[0])])?)
 }
 
-/// A run of two blocks by workers; none where memory, or a thread, is refused. What the sink could not keep is told as
-/// a fault of both addresses.
+/// Runs two blocks by workers. What the sink could not keep is reported as a fault of both addresses.
 fn run_by_workers<R: Threads + Wait + Abort + Sync>(
     rt: &R,
     alloc: Global,
     studio: &StudioSpec,
     packets: &[Vec<u8>],
-) -> Option<()> {
+) -> Result<(), WorkFault> {
     let feeds = two_feeds(alloc, packets)?;
     let clocks = one_clock(alloc)?;
     let sink = MemorySink::new(alloc);
     let (report, sink) = try_run(rt, alloc, studio, 64, feeds, clocks, sink)?;
-    kept_or_told(rt, &report, &sink);
-    Some(())
+    kept_or_reported(rt, &report, &sink);
+    Ok(())
 }
 
 /// A run by workers with any one allocation refused: each block is kept or reported as a fault, or the run returns an
@@ -107,12 +106,18 @@ fn each_refused_allocation_of_a_run_is_answered(rt: HostRuntime) {
     let packets = packets.expect(&rt, "with memory again");
     let first = run_by_workers(&rt, alloc, &studio, &packets);
     let second = run_by_workers(&rt, alloc, &studio, &packets);
-    assert!(rt; first.is_some() || second.is_some(), "with memory again");
+    assert!(rt; first.is_ok() || second.is_ok(), "with memory again");
+    for fault in [first.err(), second.err()] {
+        assert!(rt;
+            fault == None || fault == Some(WorkFault::Memory),
+            "{fault:?}"
+        );
+    }
 }
 
 /// The feeds of one stream on two paths; none where memory is refused.
 fn feeds_of_one<'a>(alloc: Global, packets: &'a [Vec<u8>]) -> Option<Vec<Vec<MemoryFeed<'a>>>> {
-    let own = two_feeds(alloc, packets)?;
+    let own = two_feeds(alloc, packets).ok()?;
     Vec::from_array(alloc, [own]).ok()
 }
 
@@ -129,7 +134,7 @@ fn is_run_alone<R: Wait + Abort>(
     let (clock, sink) = (MemoryClock::new(&[0]), MemorySink::new(alloc));
     match run_engine(rt, alloc, studio, feeds, clock, sink, NoObserver, NoRest) {
         Ok((report, sink, _)) => {
-            kept_or_told(rt, &report, &sink);
+            kept_or_reported(rt, &report, &sink);
             true
         }
         Err(_) => false,

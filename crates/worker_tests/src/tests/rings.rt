@@ -206,7 +206,7 @@ const ONE_PLACE: [Step; 10] = [
     Step::Refuse(17),
 ];
 
-/// Rings of one place: full, stopped for want of room, caught up, and a reading that goes back.
+/// Rings of one place: full, stopped because there is no room, caught up, and a reading that goes back.
 #[test]
 fn rings_of_one_place_lose_nothing(rt: HostRuntime) {
     let mut ends = one_stream(&rt, rt.alloc(), MEDIA, 1);
@@ -464,7 +464,7 @@ fn is_opened(rt: &impl Abort, alloc: Global, studio: &StudioSpec) -> bool {
     }
 }
 
-/// A studio's ends, opened twice with any one allocation refused: want of memory at most once.
+/// A studio's ends are opened twice: if one allocation fails, at most one of the two calls returns an error.
 #[test]
 fn each_refused_allocation_is_answered(rt: HostRuntime) {
     let alloc = rt.alloc();

@@ -10,21 +10,21 @@ use studio_ends::{Ends, MixEnd, Offer, StatsReceivers, open_with_stats};
 enum Step {
     /// A path is offered a packet, which finds room.
     Send(usize, &'static [u8; 30]),
-    /// A path's watch has its datagrams offered and sent, or nothing.
+    /// A path's receiver has its datagrams offered and sent, or nothing.
     Path(usize, Option<(u64, u64)>),
     /// A turn at a reading.
     Turn(i64),
-    /// The stream's watch has the first copies and the doubles of both paths, or nothing.
+    /// The stream's receiver has the first copies and the doubles of both paths, or nothing.
     Stream(Option<[(u64, u64); 2]>),
     /// The mixer gives a datagram.
     Mix,
-    /// The mix's watch has the output channel's saturated samples and its peak, or nothing.
+    /// The mix's receiver has the output channel's saturated samples and its peak, or nothing.
     Output(Option<(u64, u32)>),
 }
 
 /// A path's receiver gets the counts of the first datagram since it last looked. The stream's gets its statistics once
 /// in a tenth of a second. The mix's gets those of its first datagram since it last looked, with the peak of all since:
-/// the samples are 1 to 6, then 7 to 12, of which it isn't told, then silence.
+/// the samples are 1 to 6, then 7 to 12, which it does not get, then silence.
 const STEPS: [Step; 24] = [
     Step::Path(0, None),
     Step::Send(0, &FIRST),
@@ -52,13 +52,13 @@ const STEPS: [Step; 24] = [
     Step::Output(None),
 ];
 
-fn told_of_path(watches: &mut StatsReceivers, path: usize) -> Option<(u64, u64)> {
-    let counts = watches.paths.get_mut(path)?.latest()?;
+fn path_counts(stats: &mut StatsReceivers, path: usize) -> Option<(u64, u64)> {
+    let counts = stats.paths.get_mut(path)?.latest()?;
     Some((counts.offered, counts.sent))
 }
 
-fn told_of_stream(watches: &mut StatsReceivers) -> Option<[(u64, u64); 2]> {
-    let numbers = watches.streams.first_mut()?.latest()?;
+fn stream_counts(stats: &mut StatsReceivers) -> Option<[(u64, u64); 2]> {
+    let numbers = stats.streams.first_mut()?.latest()?;
     let [a, b, _, _] = numbers.paths;
     Some([
         (a.tally.first, a.tally.double),
@@ -66,8 +66,8 @@ fn told_of_stream(watches: &mut StatsReceivers) -> Option<[(u64, u64); 2]> {
     ])
 }
 
-fn told_of_output(watches: &mut StatsReceivers) -> Option<(u64, u32)> {
-    let numbers = watches.mix.as_mut()?.latest()?;
+fn output_stats(stats: &mut StatsReceivers) -> Option<(u64, u32)> {
+    let numbers = stats.mix.as_mut()?.latest()?;
     Some((*numbers.saturated.first()?, *numbers.peaks.first()?))
 }
 
@@ -92,19 +92,19 @@ fn gives(mix: &mut MixEnd) -> bool {
 }
 
 /// Returns true if the outcome of a step is the expected one.
-fn is_as_told(ends: &mut Ends, watches: &mut StatsReceivers, step: Step) -> bool {
+fn gives_result(ends: &mut Ends, stats: &mut StatsReceivers, step: Step) -> bool {
     match step {
         Step::Send(path, packet) => sends(ends, path, packet),
-        Step::Path(path, want) => told_of_path(watches, path) == want,
+        Step::Path(path, want) => path_counts(stats, path) == want,
         Step::Turn(now) => turns(ends, now),
-        Step::Stream(want) => told_of_stream(watches) == want,
+        Step::Stream(want) => stream_counts(stats) == want,
         Step::Mix => gives(&mut ends.mix),
-        Step::Output(want) => told_of_output(watches) == want,
+        Step::Output(want) => output_stats(stats) == want,
     }
 }
 
-/// The ends and watches of that stream.
-fn watched(rt: &impl Abort, alloc: Global) -> (Ends, StatsReceivers) {
+/// The ends and receivers of that stream.
+fn open_both(rt: &impl Abort, alloc: Global) -> (Ends, StatsReceivers) {
     let studio = studio_of(rt, alloc, MEDIA, 8);
     match open_with_stats(alloc, &studio, 4) {
         Ok(both) => both,
@@ -114,9 +114,14 @@ fn watched(rt: &impl Abort, alloc: Global) -> (Ends, StatsReceivers) {
 
 /// Two packets on the first path, of which the second path brings the later one too, and the first path once more.
 #[test]
-fn watches_tell_what_becomes_of_each_paths_packets(rt: HostRuntime) {
-    let (mut ends, mut watches) = watched(&rt, rt.alloc());
+fn receivers_get_what_becomes_of_each_paths_packets(rt: HostRuntime) {
+    let (mut ends, mut stats) = open_both(&rt, rt.alloc());
+    take_all(&rt, &mut ends, &mut stats);
+}
+
+/// Takes all steps, and tests each outcome.
+fn take_all(rt: &impl Abort, ends: &mut Ends, stats: &mut StatsReceivers) {
     for (place, step) in STEPS.iter().enumerate() {
-        assert!(rt; is_as_told(&mut ends, &mut watches, *step), "step {place}");
+        assert!(rt; gives_result(ends, stats, *step), "step {place}");
     }
 }

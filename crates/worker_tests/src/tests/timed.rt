@@ -7,7 +7,7 @@ use studio_engine::Engine;
 use studio_io::MemoryFeed;
 use studio_rings::{Clock, Feed, FeedAnswer, SendAnswer, Sink};
 
-/// Tells the time.
+/// Reads the time.
 #[derive(Drop)]
 pub(super) struct TimedClock<'a> {
     pub(super) time: &'a AtomicI64,

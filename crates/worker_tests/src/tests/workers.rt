@@ -1,4 +1,6 @@
 //! Whole runs of the workers over feeds, clocks and a sink in memory.
+ghost use Rattle.std.specs.Prelude.{IfSome};
+ghost use Rattle.studio_ends.specs.FreshEnds.{AreOpened};
 
 use super::fakes::{FailingSink, FaultyFeed};
 use super::packets::{FIRST, SECOND, datagram, ones_alone, sums, thousands};
@@ -9,9 +11,9 @@ use std::process::Abort;
 use std::sync::Wait;
 use std::thread::Threads;
 use studio_config::StudioSpec;
-use studio_ends::open;
+use studio_ends::{Ends, OpenFault, open};
 use studio_io::{MemoryClock, MemoryFeed, MemorySink};
-use studio_rings::{Clock, Feed, Sink, WorkReport, run_workers};
+use studio_rings::{Clock, Feed, Sink, WorkFault, WorkReport, run_workers};
 
 /// One stream on two paths, in packets of six sampling instants; its output is alike. None where memory was refused.
 pub(super) fn one_stream(alloc: Global) -> Option<StudioSpec> {
@@ -19,7 +21,21 @@ pub(super) fn one_stream(alloc: Global) -> Option<StudioSpec> {
     sum_of(alloc, &[spec], 6)
 }
 
-/// Runs the workers of a studio over rings of so many places; none where memory, or a thread, is refused.
+/// Opens the rings of a studio. None if an allocation fails, which is the only fault of rings of these lengths.
+fn try_open(rt: &impl Abort, alloc: Global, studio: &StudioSpec, places: usize) -> Option<Ends>
+    ensures opened { IfSome result (AreOpened studio.now places) }
+{
+    match open(alloc, studio, places) {
+        Ok(ends) => Some(ends),
+        Err(fault) => {
+            assert!(rt; fault == OpenFault::Memory, "{fault:?}");
+            None
+        }
+    }
+}
+
+/// Runs the workers of a studio over rings of so many places. Rings that could not be allocated are a fault of memory
+/// too.
 pub(super) fn try_run<R: Threads + Wait + Abort + Sync, F: Feed + Send, C: Clock + Send, K: Sink>(
     rt: &R,
     alloc: Global,
@@ -28,17 +44,17 @@ pub(super) fn try_run<R: Threads + Wait + Abort + Sync, F: Feed + Send, C: Clock
     feeds: Vec<F>,
     clocks: Vec<C>,
     sink: K,
-) -> Option<(WorkReport, K)> {
+) -> Result<(WorkReport, K), WorkFault> {
     let _sound = studio.streams();
-    let Ok(ends) = open(alloc, studio, places) else {
-        return None;
+    let Some(ends) = try_open(rt, alloc, studio, places) else {
+        return Err(WorkFault::Memory);
     };
     assert!(rt; feeds.len() == ends.paths.len(), "a feed for each path");
     assert!(rt;
         clocks.len() == ends.streams.len(),
         "a clock for each stream"
     );
-    run_workers(rt, alloc, ends, feeds, clocks, sink).ok()
+    run_workers(rt, alloc, ends, feeds, clocks, sink)
 }
 
 /// Runs the workers of a studio as `try_run` does. Nothing is refused.
@@ -51,22 +67,24 @@ pub(super) fn run<R: Threads + Wait + Abort + Sync, F: Feed + Send, C: Clock + S
     clocks: Vec<C>,
     sink: K,
 ) -> (WorkReport, K) {
-    let Some(done) = try_run(rt, alloc, studio, places, feeds, clocks, sink) else {
+    let Ok(done) = try_run(rt, alloc, studio, places, feeds, clocks, sink) else {
         panic!(rt; "there is memory")
     };
     done
 }
 
-/// Runs the workers of one stream over rings of so many places.
+/// Runs the workers of one stream on two paths, over rings of so many places.
 pub(super) fn run_one<R: Threads + Wait + Abort + Sync, F: Feed + Send, C: Clock + Send, K: Sink>(
     rt: &R,
     alloc: Global,
     places: usize,
-    feeds: Vec<F>,
-    clocks: Vec<C>,
+    feeds: [F; 2],
+    clock: C,
     sink: K,
 ) -> (WorkReport, K) {
     let studio = one_stream(alloc).expect(rt, "a studio");
+    let feeds = list_of(rt, alloc, feeds);
+    let clocks = list_of(rt, alloc, [clock]);
     run(rt, alloc, &studio, places, feeds, clocks, sink)
 }
 
@@ -130,10 +148,8 @@ fn runs_alike<R: Threads + Wait + Abort + Sync>(
 ) {
     let packets = two_packets(rt, alloc);
     let feeds = [MemoryFeed::new(&packets), MemoryFeed::new(&packets)];
-    let feeds = list_of(rt, alloc, feeds);
-    let clocks = list_of(rt, alloc, [MemoryClock::new(readings)]);
-    let sink = MemorySink::new(alloc);
-    let (report, sink) = run_one(rt, alloc, places, feeds, clocks, sink);
+    let (clock, sink) = (MemoryClock::new(readings), MemorySink::new(alloc));
+    let (report, sink) = run_one(rt, alloc, places, feeds, clock, sink);
     is_alike(rt, &report);
     gave_both(rt, sink.kept());
 }
@@ -217,10 +233,8 @@ fn an_address_that_fails(rt: HostRuntime) {
     let alloc = rt.alloc();
     let packets = two_packets(&rt, alloc);
     let feeds = [MemoryFeed::new(&packets), MemoryFeed::new(&[])];
-    let feeds = list_of(&rt, alloc, feeds);
-    let clocks = list_of(&rt, alloc, [MemoryClock::new(&[0])]);
-    let sink = FailingSink::new(&rt, alloc, 1);
-    let (report, sink) = run_one(&rt, alloc, 64, feeds, clocks, sink);
+    let (clock, sink) = (MemoryClock::new(&[0]), FailingSink::new(&rt, alloc, 1));
+    let (report, sink) = run_one(&rt, alloc, 64, feeds, clock, sink);
     assert!(rt; only(&rt, &report).got == 2);
     assert!(rt; sends(&report) == (2, [2, 1], [0, 1]));
     gave_both(&rt, sink.handed());
@@ -241,10 +255,8 @@ fn run_failing<R: Threads + Wait + Abort + Sync>(
         FaultyFeed::new(first.0, first.1, &packets),
         FaultyFeed::new(second.0, second.1, &packets),
     ];
-    let feeds = list_of(rt, alloc, feeds);
-    let clocks = list_of(rt, alloc, [MemoryClock::new(&[0])]);
-    let sink = MemorySink::new(alloc);
-    let (report, sink) = run_one(rt, alloc, 4, feeds, clocks, sink);
+    let (clock, sink) = (MemoryClock::new(&[0]), MemorySink::new(alloc));
+    let (report, sink) = run_one(rt, alloc, 4, feeds, clock, sink);
     gave_both(rt, sink.kept());
     report
 }
