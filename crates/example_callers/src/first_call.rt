@@ -8,7 +8,7 @@ use std::alloc::Global;
 
 /// Returns a stream of mono L24, in packets of 6 sampling instants (125 us). Each slot is due 12 instants after its
 /// media time.
-fn stream() -> anyhow::Result<StreamSpec> {
+pub(crate) fn stream() -> anyhow::Result<StreamSpec> {
     let clock = StreamClock::Media { offset: 0 };
     let spec = StreamSpec::new(Enc::L24, 1, 6, 96, None, clock, 12, 8, 2)?;
     Ok(spec)

@@ -12,7 +12,7 @@ use studio_run::{
 };
 
 /// The greatest number of octets of an output's datagram.
-const MOST_OCTETS: usize = 1452;
+const MAX_OCTETS: usize = 1452;
 
 /// The lines of a report that are not written yet, and their writer.
 #[derive(Drop)]
@@ -121,8 +121,8 @@ fn write_next<W: Write>(
     now: Option<i64>,
     lines: &mut Lines<'_, W>,
 ) -> anyhow::Result<bool> {
-    let mut out = [0; MOST_OCTETS];
-    // Called for its clause: a datagram has at most `MOST_OCTETS` octets, so `out` has room.
+    let mut out = [0; MAX_OCTETS];
+    // Called for its clause: a datagram has at most `MAX_OCTETS` octets, so `out` has room.
     let _short = engine.output().datagram_len();
     let given = match now {
         Some(now) => engine.turn(now, &mut out)?,

@@ -8,6 +8,7 @@ use crate::receive::receive_stream;
 use anyhow::{Context, ensure};
 use path_merge::{Mark, StreamSpec};
 use std::alloc::Global;
+use studio_config::StudioSpec;
 use studio_mix::Mixer;
 
 /// Prints three calls of `mix_next`. The marks of the two streams are final to the end of two blocks, so there is no
@@ -15,13 +16,28 @@ use studio_mix::Mixer;
 pub(crate) fn show_mix(rt: &impl Print, alloc: Global) -> anyhow::Result<()> {
     println!(rt; "mix_next:")?;
     let studio = studio_of(alloc, TWO_STREAMS)?;
+    print_mix(rt, alloc, &studio)
+}
+
+/// Prints the mix of `thousands` and `ones`.
+fn print_mix(rt: &impl Print, alloc: Global, studio: &StudioSpec) -> anyhow::Result<()> {
     let first = thousands(alloc, studio.streams().first().context("no stream")?)?;
     let second = ones(alloc, studio.streams().last().context("no stream")?)?;
-    let mut mixer = Mixer::new(alloc, &studio)?;
+    let mut mixer = Mixer::new(alloc, studio)?;
+    print_blocks(rt, &mut mixer, &first, &second)
+}
+
+/// Prints three calls, each of which goes on with the marks that those before it left.
+fn print_blocks(
+    rt: &impl Print,
+    mixer: &mut Mixer,
+    first: &[Mark],
+    second: &[Mark],
+) -> anyhow::Result<()> {
     ensure!(mixer.streams() == 2, "two streams");
-    let (mut first, mut second) = (first.as_slice(), second.as_slice());
+    let (mut first, mut second) = (first, second);
     for _ in 0..3 {
-        let mixed = print_next(rt, &mut mixer, first, second)?;
+        let mixed = print_next(rt, mixer, first, second)?;
         first = first.split_at(mixed.first).1;
         second = second.split_at(mixed.second).1;
     }

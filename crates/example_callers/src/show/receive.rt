@@ -1,17 +1,17 @@
 //! Arrivals to marks, and faults of arrivals.
 
 use crate::arrival::Arrival;
-use crate::inputs::{FIRST, ONE_STREAM, SECOND, arrival, path, studio_of};
+use crate::first_call::stream;
+use crate::inputs::{FIRST, SECOND, arrival, path};
 use crate::receive::{ReceiveFault, receive_stream};
-use anyhow::{Context, bail};
-use path_merge::StreamSpec;
+use anyhow::{Context, ensure};
+use path_merge::{Mark, StreamSpec};
 use std::alloc::Global;
 
 /// Prints the marks of two packets, and the faults of a reading that goes back and of a path that the stream lacks.
 pub(crate) fn show_receive(rt: &impl Print, alloc: Global) -> anyhow::Result<()> {
     println!(rt; "receive_stream:")?;
-    let studio = studio_of(alloc, ONE_STREAM)?;
-    let spec = studio.streams().first().context("no stream")?;
+    let spec = stream()?;
     let (a, b, c) = (path(0)?, path(1)?, path(2)?);
     let arrivals = [
         arrival(0, a, &FIRST),
@@ -19,10 +19,10 @@ pub(crate) fn show_receive(rt: &impl Print, alloc: Global) -> anyhow::Result<()>
         arrival(12, b, &SECOND),
         arrival(12, a, &SECOND[..29]),
     ];
-    print_marks(rt, alloc, *spec, &arrivals)?;
+    print_marks(rt, alloc, spec, &arrivals)?;
     let back = [arrival(6, a, &FIRST), arrival(5, a, &FIRST)];
-    print_fault(rt, alloc, *spec, &back)?;
-    print_fault(rt, alloc, *spec, &[arrival(0, c, &FIRST)])
+    print_fault(rt, alloc, spec, &back)?;
+    print_fault(rt, alloc, spec, &[arrival(0, c, &FIRST)])
 }
 
 /// Prints the marks that these arrivals give.
@@ -32,7 +32,13 @@ fn print_marks(
     spec: StreamSpec,
     arrivals: &[Arrival<'_>],
 ) -> anyhow::Result<()> {
-    for mark in &receive_stream(alloc, spec, 0, arrivals)? {
+    let marks = receive_stream(alloc, spec, 0, arrivals)?;
+    print_each(rt, &marks)
+}
+
+/// Prints marks.
+fn print_each(rt: &impl Print, marks: &[Mark]) -> anyhow::Result<()> {
+    for mark in marks {
         println!(rt; "{:?}", mark.kind())?;
     }
     Ok(())
@@ -45,10 +51,13 @@ fn print_fault(
     spec: StreamSpec,
     arrivals: &[Arrival<'_>],
 ) -> anyhow::Result<()> {
-    match receive_stream(alloc, spec, 0, arrivals) {
-        Ok(_) => bail!("arrivals with no fault"),
-        Err(ReceiveFault::Memory) => bail!("out of memory"),
-        Err(fault) => println!(rt; "{fault:?}")?,
-    }
+    let fault = fault_of(alloc, spec, arrivals).context("arrivals with no fault")?;
+    ensure!(!matches!(fault, ReceiveFault::Memory), "out of memory");
+    println!(rt; "{fault:?}")?;
     Ok(())
+}
+
+/// Returns the fault of these arrivals, if they have one.
+fn fault_of(alloc: Global, spec: StreamSpec, arrivals: &[Arrival<'_>]) -> Option<ReceiveFault> {
+    receive_stream(alloc, spec, 0, arrivals).err()
 }

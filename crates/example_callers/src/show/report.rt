@@ -24,11 +24,32 @@ const UNKNOWN_WORD: &str = "tick 0\ntock\n";
 pub(crate) fn show_report(rt: &impl Print, alloc: Global) -> anyhow::Result<()> {
     println!(rt; "report_trace:")?;
     let studio = studio_of(alloc, ONE_STREAM)?;
-    let report = report_trace(alloc, &studio, TRACE.as_bytes())?;
-    for line in str::from_utf8(&report)?.lines() {
+    print_both(rt, alloc, &studio)
+}
+
+/// Prints the report of `TRACE`, and the fault of `UNKNOWN_WORD`.
+fn print_both(rt: &impl Print, alloc: Global, studio: &StudioSpec) -> anyhow::Result<()> {
+    print_report(rt, alloc, studio, TRACE)?;
+    print_fault(rt, alloc, studio, UNKNOWN_WORD)
+}
+
+/// Prints the report of a trace.
+fn print_report(
+    rt: &impl Print,
+    alloc: Global,
+    studio: &StudioSpec,
+    trace: &str,
+) -> anyhow::Result<()> {
+    let report = report_trace(alloc, studio, trace.as_bytes())?;
+    print_lines(rt, &report)
+}
+
+/// Prints the lines of a text.
+fn print_lines(rt: &impl Print, text: &[u8]) -> anyhow::Result<()> {
+    for line in str::from_utf8(text)?.lines() {
         println!(rt; "{line}")?;
     }
-    print_fault(rt, alloc, &studio, UNKNOWN_WORD)
+    Ok(())
 }
 
 /// Prints the line and the kind of a trace's fault.

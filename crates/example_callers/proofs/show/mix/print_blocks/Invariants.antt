@@ -1,5 +1,5 @@
 use Rattle.std.proofs.Common.{◌≡◌, length}
-use Rattle.example_callers.proofs.show.mix.show_mix.Given as goal
+use Rattle.example_callers.proofs.show.mix.print_blocks.Given as goal
 
 -- before each call the mixer has two streams
 abbrev pub invariant-loop : goal.invariant-loop
