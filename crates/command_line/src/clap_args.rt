@@ -89,7 +89,7 @@ fn program_of<'a>(alloc: Global, commands: Vec<Command<'a>>) -> Result<Command<'
              the marks of the trace on standard input, by the configuration of examples/first";
     let command = Command::new(alloc, "darbexum")
         .about(about)
-        .version("0.2.0")
+        .version("0.3.0")
         // The caller leaves the program's name out of the words.
         .no_binary_name(true);
     command.subcommands(commands)?.bin_name("darbexum")
