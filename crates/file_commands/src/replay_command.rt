@@ -16,20 +16,19 @@ use std::io::Write;
 use studio_config::StudioSpec;
 
 /// The kind of a capture, which is known before it is replayed.
-#[derive(Clone, Copy)]
-enum CaptureKind<'a> {
+#[derive(Drop)]
+enum CaptureKind {
     /// The record of a live run.
     Record,
     /// Another capture, with the routes of its flows.
-    Flows(&'a Routes),
+    Flows(Routes),
 }
 
-/// A capture, and the studio that plays it.
-#[derive(Clone, Copy)]
-struct ReplaySource<'a> {
-    path: &'a str,
-    studio: &'a StudioSpec,
-    kind: CaptureKind<'a>,
+/// The kind of a capture, and the studio that plays it.
+#[derive(Drop)]
+struct ReplaySource {
+    studio: StudioSpec,
+    kind: CaptureKind,
 }
 
 /// Writes the report of a capture, by the configuration at a path. Before the fault of a WAV file or a chart its path
@@ -47,25 +46,26 @@ pub fn run_replay<H: Host>(
     faults: &mut H::Stderr,
 ) -> Result<(), CommandFault> {
     let studio = studio_of(host, alloc, config)?;
-    match opening_at(host, alloc, args.file)? {
-        Some(opening) => {
-            let studio = opened_at(alloc, studio, opening)?;
-            let source = ReplaySource {
-                path: args.file,
-                studio: &studio,
-                kind: CaptureKind::Record,
-            };
-            source.replay(host, alloc, args, output, faults)
-        }
-        None => {
-            let routes = routes_at(host, alloc, args.file)?;
-            let source = ReplaySource {
-                path: args.file,
-                studio: &studio,
-                kind: CaptureKind::Flows(&routes),
-            };
-            source.replay(host, alloc, args, output, faults)
-        }
+    let source = source_of(host, alloc, studio, args.file)?;
+    source.replay(host, alloc, args, output, faults)
+}
+
+/// Returns the kind of the capture at a path, and the studio for it.
+fn source_of<H: Host>(
+    host: &H,
+    alloc: Global,
+    studio: StudioSpec,
+    path: &str,
+) -> Result<ReplaySource, CommandFault> {
+    match opening_at(host, alloc, path)? {
+        Some(opening) => Ok(ReplaySource {
+            studio: opened_at(alloc, studio, opening)?,
+            kind: CaptureKind::Record,
+        }),
+        None => Ok(ReplaySource {
+            kind: CaptureKind::Flows(routes_at(host, alloc, path)?),
+            studio,
+        }),
     }
 }
 
@@ -94,7 +94,7 @@ fn table_at<H: Host>(host: &H, alloc: Global, path: &str) -> Result<FlowTable, C
     Ok(scan_flows(alloc, &mut input)?)
 }
 
-impl ReplaySource<'_> {
+impl ReplaySource {
     /// Writes the report, and then the WAV file and the chart that are asked for.
     fn replay<H: Host>(
         &self,
@@ -105,37 +105,40 @@ impl ReplaySource<'_> {
         faults: &mut H::Stderr,
     ) -> Result<(), CommandFault> {
         let streams = match args.chart {
-            Some(_) => Some(StudioTracker::measure(alloc, self.studio)?),
+            Some(_) => Some(StudioTracker::measure(alloc, &self.studio)?),
             None => None,
         };
         let wav = create_wav(host, args.wav, self.studio.output(), faults)?;
         let mut outputs = ReplayOutputs { wav, streams };
-        let played = self.play(host, alloc, output, &mut outputs);
+        let played = self.play(host, alloc, args.file, output, &mut outputs);
         let ReplayOutputs { wav, streams } = outputs;
         finish_wav(wav, played, args.wav, faults)?;
         match (args.chart, streams) {
-            (Some(path), Some(streams)) => self.draw(host, alloc, &streams, path, faults),
+            (Some(chart), Some(streams)) => {
+                self.draw(host, alloc, args.file, &streams, chart, faults)
+            }
             _ => Ok(()),
         }
     }
 
-    /// Writes the report, and reports each event and each datagram to an observer.
+    /// Writes the report of the capture at a path, and reports each event and each datagram to an observer.
     fn play<H: Host, W: Write, L: ReplayObserver>(
         &self,
         host: &H,
         alloc: Global,
+        path: &str,
         output: &mut W,
         observer: &mut L,
     ) -> Result<(), CommandFault>
         requires fresh { L.heard observer.old observer.old [] [] }
     {
-        let mut input = open_capture(host, self.path)?;
+        let mut input = open_capture(host, path)?;
         let played = match &self.kind {
-            CaptureKind::Record => replay_record(alloc, self.studio, &mut input, output, observer),
+            CaptureKind::Record => replay_record(alloc, &self.studio, &mut input, output, observer),
             CaptureKind::Flows(routes) => {
                 replay(
                     alloc,
-                    self.studio,
+                    &self.studio,
                     routes.list(),
                     &mut input,
                     output,
@@ -146,26 +149,27 @@ impl ReplaySource<'_> {
         Ok(played?)
     }
 
-    /// Plays the capture again, and draws what its streams received to the file at a path.
+    /// Plays the capture at a path again, and draws what its streams received to the file of a chart.
     fn draw<H: Host>(
         &self,
         host: &H,
         alloc: Global,
-        streams: &StudioTracker<Extent>,
         path: &str,
+        streams: &StudioTracker<Extent>,
+        chart: &str,
         faults: &mut H::Stderr,
     ) -> Result<(), CommandFault> {
         let mut outputs = ReplayOutputs::<H::Target, _> {
             wav: None,
-            streams: Some(streams.for_drawing(alloc, self.studio)?),
+            streams: Some(streams.for_drawing(alloc, &self.studio)?),
         };
         // The first pass measured the span of each stream's media time, which the chart's bins divide, so only this
         // second pass can fill the bins. Its report was written by the first.
-        self.play(host, alloc, &mut io::sink(), &mut outputs)?;
+        self.play(host, alloc, path, &mut io::sink(), &mut outputs)?;
         match &outputs.streams {
             Some(streams) => {
-                let chart = streams.svg(alloc)?;
-                write_chart(host, path, chart.as_slice(), faults)
+                let svg = streams.svg(alloc)?;
+                write_chart(host, chart, svg.as_slice(), faults)
             }
             None => Ok(()),
         }

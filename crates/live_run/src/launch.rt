@@ -33,8 +33,14 @@ struct PreparedRun<'a, E, D> {
     recording: RecordOutput<'a, D>,
 }
 
-/// Opens all that a run needs before its first thread starts, and runs it: the record, the sockets and the outputs of
-/// its status.
+/// The state that the threads of a run share.
+#[derive(Drop)]
+struct SharedState {
+    flags: StopFlags,
+    meter: Meter,
+}
+
+/// Opens all that a run needs before its first thread starts, and runs it.
 pub(crate) fn launch_run<
     R: Threads + Wait + Sync + Net + Clock + RandomSource,
     E: Write + Send + Drop,
@@ -51,15 +57,40 @@ pub(crate) fn launch_run<
     ensures run { IfOk result (IsRunOf options.now.one_thread studio.now) }
     ensures early { IfErr result IsEarly }
 {
-    let flags = StopFlags::new();
-    let meter = Meter::new(studio.output().enc(), studio.output().channels());
+    // Made here and not in `bind_and_run`, whose parts and threads borrow it.
+    let state = SharedState {
+        flags: StopFlags::new(),
+        meter: Meter::new(studio.output().enc(), studio.output().channels()),
+    };
+    bind_and_run(rt, alloc, studio, inputs, options, &state, faults, file)
+}
+
+/// Opens the record, the sockets and the outputs of the status of a run, and runs it.
+fn bind_and_run<
+    'a,
+    R: Threads + Wait + Sync + Net + Clock + RandomSource,
+    E: Write + Send + Drop,
+    D: Write + Send + Drop,
+>(
+    rt: &'a R,
+    alloc: Global,
+    studio: &StudioSpec,
+    inputs: LiveInputs<'a>,
+    options: &LiveOptions,
+    state: &'a SharedState,
+    faults: E,
+    file: Option<D>,
+) -> Result<WorkReport, LiveFault>
+    ensures run { IfOk result (IsRunOf options.now.one_thread studio.now) }
+    ensures early { IfErr result IsEarly }
+{
     let recording = recording_of(alloc, studio, inputs.recorded, file)?;
     // Before the first socket, which would else get the descriptor of a standard stream that is closed.
     open_missing_fds();
     let sockets = open_sockets(rt, alloc, studio, inputs.sockets)?;
     let shown = StatusInputs {
         names: inputs.names,
-        meter: &meter,
+        meter: &state.meter,
     };
     let status = open_status(rt, alloc, studio, &sockets, options, shown, faults)?;
     let OpenStatus { serving, showing } = status;
@@ -70,7 +101,7 @@ pub(crate) fn launch_run<
             period: RunPeriod::new(studio, inputs.began, options.instants),
             until_eof: options.until_eof,
             status: showing,
-            flags: &flags,
+            flags: &state.flags,
         },
         recording,
     };
