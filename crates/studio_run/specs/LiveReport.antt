@@ -2,7 +2,8 @@
 use Rattle.std.specs.Prelude.{ℕ, ℤ, ◌++◌, ◌∷◌, [], List, codes}
 use Rattle.std.specs.Fmt.{decimal, signed_decimal}
 use Rattle.rtp_stream.specs.CountsFacts.{Tally}
-use Rattle.studio_run.specs.Report.{count_text, path_letter, tally_text}
+use Rattle.rtp_stream.specs.Path.{path_letter}
+use Rattle.studio_run.specs.Report.{count_text, tally_text}
 use Rattle.studio_run.specs.declared.lines.live.SinkCounts.{SinkCounts}
 
 -- the line of a path's feed: how often it failed

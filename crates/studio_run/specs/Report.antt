@@ -1,20 +1,17 @@
 -- The lines of a run's report: its datagrams, and the counts of each stream.
-use Rattle.std.specs.Prelude.{ℕ, suc, ◌+◌, ◌++◌, ◌∷◌, [], List, codes, take}
+use Rattle.std.specs.Prelude.{ℕ, suc, ◌++◌, ◌∷◌, [], List, codes, take}
 use Rattle.std.specs.Fmt.{decimal}
 use Rattle.hex.specs.Hex.{encode_lower}
 use Rattle.rtp_stream.specs.CountsFacts.{Tally}
 use Rattle.rtp_stream.specs.CountField.{count_value, count_word}
 use Rattle.rtp_stream.specs.declared.count_field.CountField.{CountField}
 use Rattle.rtp_stream.specs.declared.count_field.TheConstants.{COUNTS_AFTER_PATHS, COUNTS_BEFORE_PATHS}
+use Rattle.rtp_stream.specs.Path.{path_letter}
 use Rattle.rtp_stream.specs.PathCounts.{PathTally}
 
 -- the line of a datagram
 abbrev pub datagram_line : List ℕ → List ℕ
 datagram_line datagram = codes "out " ++ encode_lower datagram ++ 10 ∷ []
-
--- the letter of a path: from `a`, 97, on
-abbrev pub path_letter : ℕ → List ℕ
-path_letter path = (97 + path) ∷ []
 
 -- a number, after a word and the text between them
 abbrev pub pair_text : List ℕ → List ℕ → ℕ → List ℕ

@@ -5,7 +5,6 @@ ghost use Rattle.studio_run.specs.Buffer.{PassesOn, BreaksOff};
 ghost use Rattle.rtp_stream.specs.PathCounts.{path_tally_of};
 ghost use Rattle.studio_run.specs.Report.{
   datagram_line,
-  path_letter,
   pair_text,
   count_text,
   path_line,
@@ -85,7 +84,7 @@ fn push_path_line(text: &mut TextBuffer, stream: u8, path: Path, counts: &PathCo
     text.push("path ");
     text.push_number(stream);
     text.push(" ");
-    text.push(path_letter(path.number()));
+    text.push(path.letter());
     push_count(text, "offered", counts.offered);
     push_count(text, "sent", counts.sent);
     push_count(text, "bad", counts.bad);
@@ -150,8 +149,12 @@ fn push_taken(text: &mut TextBuffer, between: &str, taken_by: &[u64])
     ensures few { length text.new ≤ length text.old + 200 }
 {
     for (path, number) in taken_by.iter().enumerate() {
+        // Never none: there are at most four paths.
+        let Some(path) = Path::new(path as u8) else {
+            return;
+        };
         text.push(" from_");
-        text.push(path_letter(path as u8));
+        text.push(path.letter());
         text.push(between);
         text.push_number(*number);
     }
@@ -177,20 +180,6 @@ fn push_field(text: &mut TextBuffer, between: &str, word: &str, number: u64)
     text.push(word);
     text.push(between);
     text.push_number(number);
-}
-
-/// Returns the letter of a path by its number.
-pub(crate) fn path_letter(path: u8) -> &'static str
-    requires { path < 4 }
-    ensures text { result.now ≡ path_letter path }
-    ensures one { length result.now ≡ 1 }
-{
-    match path {
-        0 => "a",
-        1 => "b",
-        2 => "c",
-        _ => "d",
-    }
 }
 
 /// Writes the line of a stream's counts at a clock reading, in sampling instants: each number after its word and `=`.

@@ -4,7 +4,7 @@ ghost use Rattle.studio_run.specs.Buffer.{PassesOn, BreaksOff};
 ghost use Rattle.studio_run.specs.LiveReport.{feed_line, sink_line};
 
 use crate::buffer::TextBuffer;
-use crate::lines::counts::{path_letter, push_count};
+use crate::lines::counts::push_count;
 use crate::text_io::WriteFault;
 use path_merge::Path;
 use std::io::Write;
@@ -66,7 +66,7 @@ fn push_feed_line(text: &mut TextBuffer, stream: u8, path: Path, faults: u64)
     text.push("feed ");
     text.push_number(stream);
     text.push(" ");
-    text.push(path_letter(path.number()));
+    text.push(path.letter());
     push_count(text, "faults", faults);
     text.push("\n");
 }
