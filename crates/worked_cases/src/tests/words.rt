@@ -1,6 +1,7 @@
 //! The fates, marks and counts of a case in words, with commas between them.
 use super::steps::payload_of;
 use path_merge::{Body, ClockFault, Counts, Fate, Mark, MarkKind, StreamSpec};
+use rtp_stream::COUNTS_AFTER_PATHS;
 use std::process::Abort;
 
 /// Appends a word.
@@ -98,14 +99,7 @@ fn say_run(rt: &impl Abort, text: &mut String, fate: Option<Fate>, times: usize)
     }
 }
 
-/// Says the counts that are not 0. `taken` is said path by path.
-pub fn say_counts(rt: &impl Abort, text: &mut String, counts: &Counts) {
-    for (count, name) in &named_counts(counts) {
-        say_count(rt, text, *count, *name);
-    }
-}
-
-/// Says a count and its name, unless the count is 0.
+/// Says a count and its name, if it is not 0.
 fn say_count(rt: &impl Abort, text: &mut String, count: u64, name: &str) {
     if count != 0 {
         // The empty word writes the comma.
@@ -114,23 +108,16 @@ fn say_count(rt: &impl Abort, text: &mut String, count: u64, name: &str) {
     }
 }
 
-/// Returns the counts with their names, in the order in which they are said.
-fn named_counts(counts: &Counts) -> [(u64, &'static str); 14] {
-    let [a, b, c, d] = counts.taken_by;
-    [
-        (counts.arrived, "arrived"),
-        (a, "from_a"),
-        (b, "from_b"),
-        (c, "from_c"),
-        (d, "from_d"),
-        (counts.double, "double"),
-        (counts.unlike, "unlike"),
-        (counts.off_grid, "off_grid"),
-        (counts.late, "late"),
-        (counts.ahead, "ahead"),
-        (counts.wrong_source, "source"),
-        (counts.got, "got"),
-        (counts.lost, "lost"),
-        (counts.restarts, "restarts"),
-    ]
+/// The names of the packets taken by each path.
+const TAKEN_BY: [&str; 4] = ["from_a", "from_b", "from_c", "from_d"];
+
+/// Says the counts that are not 0. `taken` is said path by path.
+pub fn say_counts(rt: &impl Abort, text: &mut String, counts: &Counts) {
+    say_count(rt, text, counts.arrived, "arrived");
+    for (name, count) in TAKEN_BY.iter().zip(counts.taken_by.iter()) {
+        say_count(rt, text, *count, *name);
+    }
+    for field in COUNTS_AFTER_PATHS.iter() {
+        say_count(rt, text, field.of(counts), field.word());
+    }
 }
