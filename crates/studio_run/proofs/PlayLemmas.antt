@@ -59,7 +59,7 @@ pub fails_reading : (studio : Studio) (IsText : Studio → List TraceEvent → L
     → FailsOf studio IsText left left_then a a fault
 fails_reading studio IsText left left_then a Read stops = refl
 fails_reading studio IsText left left_then a Memory stops = refl
-fails_reading studio IsText left left_then a (Trace fault) stops = (stops.0, stops.1, stops.2, refl)
+fails_reading studio IsText left left_then a (Trace fault) stops = (stops.0, stops.1, (stops.2, refl))
 fails_reading studio IsText left left_then a (Run fault) stops = absurd stops
 fails_reading studio IsText left left_then a Write stops = absurd stops
 
@@ -68,7 +68,7 @@ pub fails_read : (studio : Studio) (IsText : Studio → List TraceEvent → List
     → Consumes left left_then trace → IsAtEnd left_then → FailsOn studio IsText trace a b fault → FailsOf studio IsText left left_then a b fault
 fails_read studio IsText left left_then trace a b Read read end fails = absurd fails
 fails_read studio IsText left left_then trace a b Memory read end fails = fails
-fails_read studio IsText left left_then trace a b (Trace fault) read end fails = (trace, (read, inl end), fails.0, fails.1)
+fails_read studio IsText left left_then trace a b (Trace fault) read end fails = (trace, (read, inl end), fails)
 fails_read studio IsText left left_then trace a b (Run fault) read end fails = (trace, read, end, fails)
 fails_read studio IsText left left_then trace a b Write read end fails = (trace, read, end, fails)
 
