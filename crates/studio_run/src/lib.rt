@@ -24,7 +24,9 @@ mod trace;
 
 pub use buffer::TextBuffer;
 pub use laws::{a_report_is_the_only_one, events_have_a_report};
-pub use lines::counts::{write_datagram, write_merge_counts, write_path_counts};
+pub use lines::counts::{
+    write_datagram, write_merge_counts, write_path_counts, write_running_counts,
+};
 pub use lines::instants::millis;
 pub use lines::live::{SinkCounts, write_feed_faults, write_sink_counts};
 pub use lines::mark::write_mark;

@@ -5,6 +5,7 @@ ghost use Rattle.studio_session.specs.Cursor.{IsSameCursor};
 use crate::reception::{CopyTiming, ReceptionEvent, ReceptionKind, ReceptionObserver};
 use path_merge::{Fate, MarkKindRef, PacketRef, Path};
 use rtp_stream::{StreamSpec, is_taken, near32};
+use rtp_wire::MAX_ARRIVAL_OCTETS;
 use std::alloc::{AllocError, Global};
 use studio_config::StudioSpec;
 use studio_session::{ArriveOutcome, Cursor, EventHeader, EventSource, ReceptionRef, receive_ref};
