@@ -14,6 +14,7 @@
 //!   writes a datagram that arrived, as an IPv4 packet, and `write_statistics` the time of the close.
 //!   Each writes one block to the front of the caller's slice, which has `MAX_BLOCK_LEN` octets, and
 //!   returns its length. Times are in nanoseconds since the opening (`nanoseconds_after`).
+//!   `whole_blocks` finds how much of what was written so far ends with a whole block.
 //!
 //! Only `open_reader` allocates. What a file holds is defined as `packets_of` and, with the marks of
 //! a record, `entries_of`, by draft-ietf-opsawg-pcap, draft-ietf-opsawg-pcapng and tcpdump's registry
@@ -29,6 +30,7 @@ mod encode;
 mod fault;
 mod laws;
 mod reader;
+mod record_blocks;
 
 pub use block_parser::{BlockParser, CaptureBlock};
 pub use capture::open;
@@ -44,3 +46,4 @@ pub use fault::{CaptureFault, CaptureFaultKind, ReaderFault};
 pub use laws::{checksums_are_right, instants_come_back, records_are_read_back};
 pub use reader::buffer::ReadBuffer;
 pub use reader::{has_block, next_block, open_reader};
+pub use record_blocks::{WholeBlocks, whole_blocks};

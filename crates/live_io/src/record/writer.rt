@@ -1,7 +1,8 @@
 //! The writer of a record, which moves blocks from the ring to the record's file.
-ghost use Rattle.std.specs.Prelude.{◌≡◌, ◌≤◌, length, IfOk, IfSome, OnOk};
+ghost use Rattle.std.specs.Prelude.{◌≡◌, IfOk, OnOk};
 ghost use Rattle.live_io.specs.RecordWriter.{Passes, SeesNone};
 
+use pcap_file::whole_blocks;
 use rtrb::Consumer;
 use std::alloc::{AllocError, Global};
 use std::io;
@@ -18,9 +19,6 @@ const BUFFER_OCTETS: usize = 65_536;
 // The ring holds far more than arrives in that time, so the run's thread never has to wake the writer.
 const PAUSE_MS: u64 = 10;
 
-/// The type of a block that holds a datagram.
-const ENHANCED_PACKET_BLOCK: u32 = 6;
-
 /// The result of writing a record's file.
 #[derive(Clone, Copy, Debug, PartialEq, Eq)]
 pub struct FileResult {
@@ -28,15 +26,6 @@ pub struct FileResult {
     pub datagrams: u64,
     /// True if a write failed. Nothing was written after it.
     pub failed: bool,
-}
-
-/// The extent of the whole blocks in a prefix of some octets.
-#[derive(Clone, Copy)]
-struct Blocks {
-    /// The number of octets in these blocks.
-    len: usize,
-    /// The number of these blocks that hold a datagram.
-    datagrams: u64,
 }
 
 /// The end of a ring from which blocks are taken, and the file to which they go.
@@ -81,7 +70,7 @@ impl<D: Write + Drop> RecordWriter<D> {
         let held = self.held.min(octets.len());
         let taken = self.ring.pop_partial_slice(&mut octets[held..]);
         let end = held + taken;
-        let blocks = blocks_in(&octets[..end]);
+        let blocks = whole_blocks(&octets[..end]);
         self.file.write_all(&octets[..blocks.len])?;
         octets.copy_within(blocks.len..end, 0);
         self.held = end - blocks.len;
@@ -96,45 +85,6 @@ impl<D: Write + Drop> RecordWriter<D> {
             failed,
         }
     }
-}
-
-/// Returns the extent of the whole blocks in a prefix of some octets.
-fn blocks_in(octets: &[u8]) -> Blocks
-    ensures within { result.len ≤ length octets.now }
-{
-    let mut blocks = Blocks {
-        len: 0,
-        datagrams: 0,
-    };
-    while let Some((kind, len)) = block_at(&octets[blocks.len..]) {
-        blocks.len += len;
-        if kind == ENHANCED_PACKET_BLOCK {
-            blocks.datagrams = blocks.datagrams.saturating_add(1);
-        }
-    }
-    blocks
-}
-
-/// Returns the type and the length in octets of the block at the start of some octets, or `None` if it is not whole.
-fn block_at(octets: &[u8]) -> Option<(u32, usize)>
-    ensures within { IfSome result (λ block. (12 ≤ block.1) × (block.1 ≤ length octets.now)) }
-{
-    let kind = word_at(octets, 0)?;
-    let len = word_at(octets, 4)? as usize;
-    // 12 octets are the shortest block: the type and the two lengths. A block of 0 octets would never end the loop.
-    if len < 12 || len > octets.len() {
-        return None;
-    }
-    Some((kind, len))
-}
-
-/// Returns the 32-bit word at a place, least significant octet first, or `None` if the octets end before.
-fn word_at(octets: &[u8], place: usize) -> Option<u32> {
-    let word = octets.get(place..place.saturating_add(4))?;
-    let [a, b, c, d] = *word else {
-        return None;
-    };
-    Some(u32::from_le_bytes([a, b, c, d]))
 }
 
 /// Writes the blocks that come through the ring, until its other end was dropped and it is empty, or a write fails. It

@@ -11,7 +11,7 @@ returns-clause-passes g c = λ done before.
     let fresh = c.pop_partial_slice-taken.new.slice in
     let h = c.min-held.result in
     let t = c.pop_partial_slice-taken.result in
-    let b = c.blocks_in-blocks.result.len in
+    let b = c.whole_blocks-blocks.result.len in
     let least = c.min-held.ensures in
     let was = c.as_mut_slice-octets.ensures.value in
     let got = c.pop_partial_slice-taken.ensures.received in
@@ -22,7 +22,7 @@ returns-clause-passes g c = λ done before.
     let d = length-drop h old in length-take-le (length old - h) (drop h old) (omega (arith, d)) in
     let same : length fresh ≡ length old - h = room ∙ part in
     let tl : t ≤ length fresh = let f = got.0 in omega (arith, f, room) in
-    let bl : b ≤ h + t = let w = c.blocks_in-blocks.ensures.within in let l = length-take (h + t) now in omega (arith, w, l) in
+    let bl : b ≤ h + t = let w = c.whole_blocks-blocks.ensures.within in let l = length-take (h + t) now in omega (arith, w, l) in
     let items = with_items_is self.octets c.copy_within.new.self (c.copy_within.auto.self ∙ (same_length old fresh h hl same ∙ c.as_mut_slice-octets.ensures.len)) in
     let held : take self.held self.octets.items ≡ take h old =
     sym (take_min self.held self.octets.items) ∙ (ap (λ n. take n self.octets.items) (ap (λ (l : List ℕ). min self.held (length l)) (sym was) ∙ sym least) ∙ ap (take h) (sym was)) in

@@ -1,5 +1,5 @@
 use Rattle.std.proofs.Common.{◌≤◌, ◌-◌, length}
-use Rattle.live_io.proofs.record.writer.blocks_in.Given as goal
+use Rattle.pcap_file.proofs.record_blocks.whole_blocks.Given as goal
 
 -- the blocks so far are there
 abbrev pub invariant-loop-kind : goal.invariant-loop-kind
