@@ -7,22 +7,15 @@ use Rattle.studio_session.specs.Fault.{session_fault_of}
 use Rattle.studio_run.specs.Buffer.{BreaksOff}
 use Rattle.studio_run.specs.Trace.{BeginsWithEvents, trace_events}
 use Rattle.studio_run.specs.Listing.{listing_text}
-use Rattle.studio_run.specs.StudioReport.{IsReport}
 use Rattle.studio_run.specs.declared.trace.fault.TraceFault.{TraceFault}
 use Rattle.studio_run.specs.declared.trace.fault.TraceFaultKind.{TraceFaultKind}
 use Rattle.studio_run.specs.declared.trace.fault.TraceFaultKind.TheVariants.{TooLong, Cut, Word, Fields, Number, Hex, TooMany, Memory as NoMemory}
 use Rattle.studio_run.specs.declared.player.PlayFault.{PlayFault}
 use Rattle.studio_run.specs.declared.player.PlayFault.TheVariants.{Read, Memory, Trace, Run, Write}
-use Rattle.studio_run.specs.declared.player.TextKind.{TextKind}
-use Rattle.studio_run.specs.declared.player.TextKind.TheVariants.{Listing, Report}
 
 -- the listing of events
 abbrev pub IsListing : Studio → List TraceEvent → List ℕ → Type 0
 IsListing studio events text = text ≡ listing_text studio events
-
-abbrev pub IsTextOf : TextKind → Studio → List TraceEvent → List ℕ → Type 0
-IsTextOf Listing = IsListing
-IsTextOf Report = IsReport
 
 -- the text of these events was written
 pub record WritesEvents (studio : Studio) (IsText : Studio → List TraceEvent → List ℕ → Type 0) (events : List TraceEvent) (written written_then : Option (List ℕ)) : Type 0 where

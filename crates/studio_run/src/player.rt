@@ -6,14 +6,11 @@ ghost use Rattle.studio_session.specs.Play.{HasPathsBy, IsRunnableBy};
 ghost use Rattle.studio_run.specs.Trace.{trace_events};
 ghost use Rattle.studio_run.specs.Play.{
   FailsOf,
-  FailsOn,
   FailsWriting,
   IsListing,
-  IsTextOf,
   StopsAt,
   StopsReading,
   WritesEvents,
-  WritesText,
   WritesTextOf,
   play_fault,
 };
@@ -69,13 +66,6 @@ impl From<WriteFault> for PlayFault {
     }
 }
 
-/// The kind of text to be written.
-#[derive(Clone, Copy)]
-pub(crate) enum TextKind {
-    Listing,
-    Report,
-}
-
 /// Reads a trace to its end, and writes the listing of all marks, stream after stream.
 pub fn list_marks<R: Read, W: Write>(
     alloc: Global,
@@ -88,7 +78,10 @@ pub fn list_marks<R: Read, W: Write>(
     ensures fault { IfErr result (FailsOf spec.now IsListing (R.remaining reader.old) (R.remaining reader.new)
         (W.contents writer.old) (W.contents writer.new)) }
 {
-    write_trace(alloc, spec, TextKind::Listing, reader, writer)
+    let trace = read_all(alloc, reader)?;
+    let events = runnable_events(alloc, spec, trace.as_slice())?;
+    write_listing_of(alloc, spec, &events, writer)?;
+    Ok(())
 }
 
 /// Reads a trace to its end, and writes its report: the datagrams of all blocks that are ready, and the counts of
@@ -104,24 +97,9 @@ pub fn play<R: Read, W: Write>(
     ensures fault { IfErr result (FailsOf spec.now IsReport (R.remaining reader.old) (R.remaining reader.new)
         (W.contents writer.old) (W.contents writer.new)) }
 {
-    write_trace(alloc, spec, TextKind::Report, reader, writer)
-}
-
-/// Reads a trace to its end, and writes its text.
-fn write_trace<R: Read, W: Write>(
-    alloc: Global,
-    spec: &StudioSpec,
-    kind: TextKind,
-    reader: &mut R,
-    writer: &mut W,
-) -> Result<(), PlayFault>
-    ensures ok { OnOk result (WritesTextOf spec.now (IsTextOf kind) (R.remaining reader.old) (R.remaining reader.new)
-        (W.contents writer.old) (W.contents writer.new)) }
-    ensures fault { IfErr result (FailsOf spec.now (IsTextOf kind) (R.remaining reader.old) (R.remaining reader.new)
-        (W.contents writer.old) (W.contents writer.new)) }
-{
     let trace = read_all(alloc, reader)?;
-    write_text_of(alloc, spec, kind, trace.as_slice(), writer)?;
+    let events = runnable_events(alloc, spec, trace.as_slice())?;
+    write_report_of(alloc, spec, &events, writer)?;
     Ok(())
 }
 
@@ -140,24 +118,6 @@ pub fn read_all<R: Read>(alloc: Global, reader: &mut R) -> Result<Vec<u8>, PlayF
             kind: TraceFaultKind::TooMany,
         })),
     }
-}
-
-/// Writes the text of a trace.
-fn write_text_of<W: Write>(
-    alloc: Global,
-    spec: &StudioSpec,
-    kind: TextKind,
-    trace: &[u8],
-    writer: &mut W,
-) -> Result<(), PlayFault>
-    ensures ok { OnOk result (WritesText spec.now (IsTextOf kind) trace.now (W.contents writer.old)
-        (W.contents writer.new)) }
-    ensures fault { IfErr result
-        (FailsOn spec.now (IsTextOf kind) trace.now (W.contents writer.old) (W.contents writer.new)) }
-{
-    let events = runnable_events(alloc, spec, trace)?;
-    write_events(alloc, spec, kind, &events, writer)?;
-    Ok(())
 }
 
 /// Returns the events of a trace, if none is at fault.
@@ -192,29 +152,8 @@ fn play_fault(fault: TraceFault) -> PlayFault
     }
 }
 
-/// Writes the text of events of which none is at fault. It allocates before it writes.
-fn write_events<W: Write>(
-    alloc: Global,
-    spec: &StudioSpec,
-    kind: TextKind,
-    events: &TracedEvents<'_>,
-    writer: &mut W,
-) -> Result<(), PlayFault>
-    requires runnable { IsRunnableBy spec.now events.now }
-    requires paths { HasPathsBy spec.now events.now }
-    ensures ok { OnOk result (WritesEvents spec.now (IsTextOf kind) events.now (W.contents writer.old)
-        (W.contents writer.new)) }
-    ensures fault { IfErr result
-        (FailsWriting spec.now (IsTextOf kind) events.now (W.contents writer.old) (W.contents writer.new)) }
-{
-    match kind {
-        TextKind::Listing => write_events_listing(alloc, spec, events, writer),
-        TextKind::Report => write_events_report(alloc, spec, events, writer),
-    }
-}
-
 /// Writes the listing of events.
-fn write_events_listing<W: Write>(
+fn write_listing_of<W: Write>(
     alloc: Global,
     spec: &StudioSpec,
     events: &TracedEvents<'_>,
@@ -235,7 +174,7 @@ fn write_events_listing<W: Write>(
 }
 
 /// Writes the report of events.
-fn write_events_report<W: Write>(
+fn write_report_of<W: Write>(
     alloc: Global,
     spec: &StudioSpec,
     events: &TracedEvents<'_>,

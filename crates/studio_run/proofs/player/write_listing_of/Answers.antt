@@ -6,7 +6,7 @@ use Rattle.studio_run.specs.Listing.{listing_text}
 use Rattle.studio_run.specs.Play.{FailsWriting, IsListing}
 use Rattle.studio_run.specs.declared.player.PlayFault.TheVariants.{Write}
 use Rattle.studio_run.proofs.PlayLemmas.{told}
-use Rattle.studio_run.proofs.player.write_events_listing.Goals as goal
+use Rattle.studio_run.proofs.player.write_listing_of.Goals as goal
 
 pub write_whole_listing-requires : goal.write_whole_listing-requires
 write_whole_listing-requires g c = record {

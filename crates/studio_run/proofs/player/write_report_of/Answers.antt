@@ -2,7 +2,7 @@ use Rattle.studio_run.specs.Play.{FailsWriting}
 use Rattle.studio_run.specs.StudioReport.{IsReport}
 use Rattle.studio_run.specs.declared.player.PlayFault.TheVariants.{Write}
 use Rattle.studio_run.proofs.PlayLemmas.{told}
-use Rattle.studio_run.proofs.player.write_events_report.Goals as goal
+use Rattle.studio_run.proofs.player.write_report_of.Goals as goal
 
 pub write_whole_report-requires-clause-ready : goal.write_whole_report-requires-clause-ready
 write_whole_report-requires-clause-ready g c = c.in_ok-session.ensures.ready c.args.events.now c.requires.paths
