@@ -71,15 +71,13 @@ fn gives_slot<W: Window>(
     media: u32,
     is_got: bool,
 ) {
-    let merge = &mut bench.merge;
-    let goal = merge
-        .goal(i64::from(media) + 12)
-        .expect(rt, "the reading is in order");
-    let mark = merge.mark_to(goal).expect(rt, "the slot is due");
+    let goal = bench.merge.goal(i64::from(media) + 12);
+    let goal = goal.expect(rt, "the reading is in order");
+    let mark = bench.merge.mark_to(goal).expect(rt, "the slot is due");
     assert!(rt; is_slot(&mark, number, media, is_got), "number {number}");
-    let is_more = merge.pass_to(goal);
+    assert!(rt; bench.merge.pass_to(goal), "number {number}");
     assert!(rt;
-        is_more && merge.mark_to(goal).is_none(),
+        bench.merge.mark_to(goal).is_none(),
         "number {number} alone"
     );
 }
