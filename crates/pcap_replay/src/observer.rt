@@ -1,5 +1,5 @@
 //! The observer of a replay, which receives its events and its datagrams.
-ghost use Rattle.std.specs.Prelude.{◌≡◌, ◌≤◌, ◌∷◌, ◌++◌, ℕ, List, length};
+ghost use Rattle.std.specs.Prelude.{[], ◌≡◌, ◌≤◌, ◌∷◌, ◌++◌, ℕ, List, length};
 ghost use Rattle.studio_session.specs.Event.{TraceEvent, Arrival, Closing, Reading};
 ghost use Rattle.pcap_replay.specs.Observed.{HasHeardIf};
 
