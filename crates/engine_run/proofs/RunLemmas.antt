@@ -167,7 +167,7 @@ module _ {F C K T : Type 0} (feed_told : F → List Answer) (clock_told : C → 
             let found = h.given.each stream own at in
             let reader = found.2 path told there in
             let over = ended stream found.0 found.1 path reader.0 reader.1 in
-            subst (λ b. HasCome told b reader.0.in_a_row (feed_told reader.0.feed) (datagrams_on stream path (events_by studio.open_at h.rounds))) over (reader.2 whole);
+            subst (λ b. HasCome told b reader.0.state.in_a_row (feed_told reader.0.feed) (datagrams_on stream path (events_by studio.open_at h.rounds))) over (reader.2 whole);
         count = count-more old.counts.blocks new.counts.blocks h.datagrams sent.more h.count sent.count;
         handed = adds_more before (sink_handed old.sink) (sink_handed new.sink) h.datagrams sent.more h.handed sent.handed;
         heard = hears_close studio.open_at (events_by studio.open_at h.rounds) earlier (tap_heard old.tap) (tap_heard new.tap) mid.time closed.time h.heard told;

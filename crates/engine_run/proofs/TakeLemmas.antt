@@ -14,7 +14,7 @@ use Rattle.studio_engine.specs.Engine.{EngineState}
 use Rattle.studio_engine.specs.Session.{HasSession, turned}
 use Rattle.studio_io.specs.Answers.{Answer, reaches_end, told_datagrams}
 use Rattle.engine_run.specs.Rounds.{arrivals_on, datagrams_on}
-use Rattle.engine_run.specs.Intake.{AllEnded, GoesOn, HaveBegun, HaveEnded, HaveGiven, IsGiven, Takes, TakesAll, TakesStream, new_taker}
+use Rattle.engine_run.specs.Intake.{AllEnded, GoesOn, HaveBegun, HaveEnded, HaveGiven, IsGiven, Takes, TakesAll, TakesStream, new_reader}
 use Rattle.engine_run.specs.Observers.{Heard, Hears, heard_by}
 use Rattle.engine_run.specs.declared.feed_reader.FeedReader.{FeedReader}
 use Rattle.engine_run.proofs.AnswerLemmas.{goes-further, goes-nowhere}
@@ -48,7 +48,7 @@ begun-more v taken news x y rest left all h rest_is news_is y_is =
 module _ {F : Type 0} where
   -- the first so many feeds of a stream have ended, or those of the first streams
   abbrev pub FirstEnded : List (FeedReader F) → ℕ → Type 0
-  FirstEnded readers count = (path : ℕ) (reader : FeedReader F) → path < count → slice_get readers path ≡ Some reader → reader.ended ≡ true
+  FirstEnded readers count = (path : ℕ) (reader : FeedReader F) → path < count → slice_get readers path ≡ Some reader → reader.state.ended ≡ true
 
   abbrev pub FirstAllEnded : List (Vec (FeedReader F) Global) → ℕ → Type 0
   FirstAllEnded streams count = (stream : ℕ) (own : Vec (FeedReader F) Global) → stream < count → slice_get streams stream ≡ Some own → HaveEnded own.items
@@ -56,9 +56,9 @@ module _ {F : Type 0} where
   pub ended-none : (readers : List (FeedReader F)) → FirstEnded readers 0
   ended-none readers = λ path reader h at. absurd (omega (arith, h))
 
-  pub ended-more : (readers : List (FeedReader F)) (i : ℕ) (d : FeedReader F) → FirstEnded readers i → (get_or readers i d).ended ≡ true → FirstEnded readers (i + 1)
+  pub ended-more : (readers : List (FeedReader F)) (i : ℕ) (d : FeedReader F) → FirstEnded readers i → (get_or readers i d).state.ended ≡ true → FirstEnded readers (i + 1)
   ended-more readers i d before over = λ path reader h at. elim (cases_eq path i) [
-    | inl e ↦ subst (λ (t : FeedReader F). t.ended ≡ true) (same_at readers i d reader (subst (λ p. slice_get readers p ≡ Some reader) e at)) over
+    | inl e ↦ subst (λ (t : FeedReader F). t.state.ended ≡ true) (same_at readers i d reader (subst (λ p. slice_get readers p ≡ Some reader) e at)) over
     | inr ne ↦ before path reader (omega (arith, h, ne)) at
   ]
 
@@ -265,14 +265,14 @@ module _ {F : Type 0} (feed_told : F → List Answer) where
   given-none feeds readers begun = record {
     each = λ stream own at.
         let found = map_at (λ (v : Vec F Global). map feed_told v.items) feeds stream own at in
-        let beside = at_map (λ (v : Vec F Global). map new_taker v.items) feeds stream found.0 found.1 in
-        let new = map_at (λ (v : Vec (FeedReader F) Global). v.items) readers stream (map new_taker found.0.items) (subst (λ l. slice_get l stream ≡ Some (map new_taker found.0.items)) (sym begun) beside) in (
+        let beside = at_map (λ (v : Vec F Global). map new_reader v.items) feeds stream found.0 found.1 in
+        let new = map_at (λ (v : Vec (FeedReader F) Global). v.items) readers stream (map new_reader found.0.items) (subst (λ l. slice_get l stream ≡ Some (map new_reader found.0.items)) (sym begun) beside) in (
           new.0,
           new.1,
           λ path told there.
               let feed = map_at feed_told found.0.items path told (subst (λ l. slice_get l path ≡ Some told) found.2 there) in (
-                new_taker feed.0,
-                subst (λ l. slice_get l path ≡ Some (new_taker feed.0)) new.2 (at_map new_taker found.0.items path feed.0 feed.1),
+                new_reader feed.0,
+                subst (λ l. slice_get l path ≡ Some (new_reader feed.0)) new.2 (at_map new_reader found.0.items path feed.0 feed.1),
                 λ whole. (omega arith, subst (λ l. reaches_end 0 l ≡ true) feed.2 whole, ap (told_datagrams 0) (sym feed.2)),
               ),
         );

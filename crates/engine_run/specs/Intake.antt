@@ -8,6 +8,7 @@ use Rattle.studio_session.specs.Fault.{time_at}
 use Rattle.studio_engine.specs.Engine.{EngineState}
 use Rattle.studio_engine.specs.Session.{HasSession}
 use Rattle.studio_io.specs.Answers.{Answer, reaches_end, told_datagrams}
+use Rattle.studio_io.specs.FeedStates.{new_state}
 use Rattle.engine_run.specs.Rounds.{AreArrivals, arrivals_on, datagrams_on}
 use Rattle.engine_run.specs.Observers.{Heard, Hears, heard_by}
 use Rattle.engine_run.specs.declared.feed_reader.FeedReader.{FeedReader}
@@ -19,23 +20,23 @@ HasCome told false faults left given = (faults ≤ 999) × (reaches_end faults l
 
 module _ {F : Type 0} where
   -- a feed that wasn't asked yet
-  abbrev pub new_taker : F → FeedReader F
-  new_taker feed = record { feed = feed; in_a_row = 0; faults = 0; ended = false }
+  abbrev pub new_reader : F → FeedReader F
+  new_reader feed = record { feed = feed; state = new_state }
 
   -- each feed of a stream wasn't asked yet
   abbrev pub HaveBegun : List (Vec F Global) → List (Vec (FeedReader F) Global) → Type 0
-  HaveBegun feeds readers = map (λ (own : Vec (FeedReader F) Global). own.items) readers ≡ map (λ (own : Vec F Global). map new_taker own.items) feeds
+  HaveBegun feeds readers = map (λ (own : Vec (FeedReader F) Global). own.items) readers ≡ map (λ (own : Vec F Global). map new_reader own.items) feeds
 
   -- each of them has ended
   abbrev pub HaveEnded : List (FeedReader F) → Type 0
-  HaveEnded readers = (path : ℕ) (reader : FeedReader F) → slice_get readers path ≡ Some reader → reader.ended ≡ true
+  HaveEnded readers = (path : ℕ) (reader : FeedReader F) → slice_get readers path ≡ Some reader → reader.state.ended ≡ true
 
   abbrev pub AllEnded : List (Vec (FeedReader F) Global) → Type 0
   AllEnded readers = (stream : ℕ) (own : Vec (FeedReader F) Global) → slice_get readers stream ≡ Some own → HaveEnded own.items
 
   -- where a feed was known to reach its end, these of its datagrams came
   abbrev pub IsGiven : (F → List Answer) → List Answer → FeedReader F → List (List ℕ) → Type 0
-  IsGiven feed_told all reader given = reaches_end 0 all ≡ true → HasCome all reader.ended reader.in_a_row (feed_told reader.feed) given
+  IsGiven feed_told all reader given = reaches_end 0 all ≡ true → HasCome all reader.state.ended reader.state.in_a_row (feed_told reader.feed) given
 
   -- and then these
   abbrev pub GoesOn : (F → List Answer) → FeedReader F → FeedReader F → List (List ℕ) → Type 0

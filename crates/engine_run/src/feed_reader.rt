@@ -1,38 +1,32 @@
 //! A feed of a run with the state of reading it.
 ghost use Rattle.std.specs.Prelude.{◌≡◌, map, IsTrue, IfOk};
-ghost use Rattle.engine_run.specs.Intake.{AllEnded, HaveBegun, HaveEnded, new_taker};
+ghost use Rattle.engine_run.specs.Intake.{AllEnded, HaveBegun, HaveEnded, new_reader};
 
 use std::alloc::{AllocError, Global};
+use studio_io::FeedState;
 
 /// A feed with the state of reading it.
 #[derive(Drop)]
 pub(crate) struct FeedReader<F> {
     pub(crate) feed: F,
-    /// The number of faults that it returned in a row, at most 999. The 1,000th ends it.
-    pub(crate) in_a_row: u32,
-    /// The number of faults that it returned in all.
-    pub(crate) faults: u64,
-    /// True once the feed has ended. It is not asked again.
-    pub(crate) ended: bool,
+    pub(crate) state: FeedState,
 }
 
 impl<F: Drop> FeedReader<F> {
     /// A reader of a feed that was not asked yet.
     pub(crate) fn new(feed: F) -> FeedReader<F>
-        ensures { result ≡ new_taker feed }
+        ensures { result ≡ new_reader feed }
     {
         FeedReader {
             feed,
-            in_a_row: 0,
-            faults: 0,
-            ended: false,
+            state: FeedState::new(),
         }
     }
 }
 
 /// Allocates the readers of a stream's feeds, none of which was asked yet.
 fn readers_of<F: Drop>(alloc: Global, feeds: Vec<F>) -> Result<Vec<FeedReader<F>>, AllocError>
-    ensures { IfOk result (λ readers. readers.items ≡ map new_taker feeds.items) }
+    ensures { IfOk result (λ readers. readers.items ≡ map new_reader feeds.items) }
 {
     let mut readers = Vec::with_capacity(alloc, feeds.len())?;
     for feed in feeds {
@@ -60,7 +54,7 @@ fn have_ended<F: Drop>(readers: &[FeedReader<F>]) -> bool
     ensures { IsTrue result → HaveEnded readers.now }
 {
     for place in 0..readers.len() {
-        if !readers[place].ended {
+        if !readers[place].state.ended {
             return false;
         }
     }

@@ -13,7 +13,7 @@ use studio_io::{Feed, FeedAnswer};
 
 /// The greatest number of datagrams that a round takes from one feed.
 // A limit, so that a feed that never runs dry cannot hold up the other feeds, the clock and the sink.
-const MOST_TAKEN: u32 = 64;
+const MAX_TAKEN: u32 = 64;
 
 /// The longest rest, in sampling instants at 48 kHz: 50 ms.
 pub(crate) const LONGEST_REST: i64 = 2_400;
@@ -50,34 +50,20 @@ fn take_one<F: Feed, T: RunObserver<F>>(
         → Takes F.told studio engine.new events datagrams stream path reader.old reader.new (T.heard tap.old)
         (T.heard tap.new) 1) }
 {
-    if reader.ended {
+    if reader.state.ended {
         return Ok(FeedOutcome::Nothing);
     }
-    match reader.feed.next(buf) {
+    let answer = reader.feed.next(buf);
+    reader.state.note(answer);
+    match answer {
         FeedAnswer::Datagram(count) => {
-            reader.in_a_row = 0;
             let receipt = engine.arrive(stream, path, &buf[..count])?;
             tap.arrived(engine, stream, path, &buf[..count], receipt, &reader.feed);
             Ok(FeedOutcome::Datagram)
         }
-        FeedAnswer::Nothing => {
-            reader.in_a_row = 0;
-            Ok(FeedOutcome::Nothing)
-        }
-        FeedAnswer::Fault => {
-            reader.faults = reader.faults.saturating_add(1);
-            // The 1,000th fault in a row ends the feed.
-            if reader.in_a_row < 999 {
-                reader.in_a_row += 1;
-            } else {
-                reader.ended = true;
-            }
-            Ok(FeedOutcome::Fault)
-        }
-        FeedAnswer::Ended => {
-            reader.ended = true;
-            Ok(FeedOutcome::Nothing)
-        }
+        FeedAnswer::Nothing => Ok(FeedOutcome::Nothing),
+        FeedAnswer::Fault => Ok(FeedOutcome::Fault),
+        FeedAnswer::Ended => Ok(FeedOutcome::Nothing),
     }
 }
 
@@ -97,7 +83,7 @@ fn take_some<F: Feed, T: RunObserver<F>>(
         → Takes F.told studio engine.new events datagrams stream path reader.old reader.new (T.heard tap.old)
         (T.heard tap.new) 64) }
 {
-    for _ in 0..MOST_TAKEN {
+    for _ in 0..MAX_TAKEN {
         match take_one(engine, stream, path, reader, tap, buf)? {
             FeedOutcome::Datagram => {}
             FeedOutcome::Fault => return Ok(FAULT_REST),

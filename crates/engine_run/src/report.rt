@@ -122,7 +122,7 @@ fn all_faults<F: Drop>(
     faults.clear();
     for own in streams {
         for reader in own {
-            faults.push(reader.faults)?;
+            faults.push(reader.state.faults)?;
         }
     }
     Ok(faults)
@@ -158,15 +158,8 @@ pub(crate) fn work_report<F: Drop, C: Drop, K: Drop, T: Drop>(
         paths,
         faults,
     } = room;
-    let report = WorkReport {
-        streams: all_counts(alloc, &engine, specs, streams, paths)?,
-        feed_faults: all_faults(readers.as_slice(), faults)?,
-        blocks: counts.blocks,
-        sent_a: counts.sent_a,
-        sent_b: counts.sent_b,
-        fault_a: counts.fault_a,
-        fault_b: counts.fault_b,
-        settled,
-    };
+    let streams = all_counts(alloc, &engine, specs, streams, paths)?;
+    let faults = all_faults(readers.as_slice(), faults)?;
+    let report = WorkReport::new(streams, faults, counts, settled);
     Ok((report, sink, tap))
 }

@@ -1,4 +1,5 @@
 pub mod Answers
+pub mod FeedStates
 pub mod Clocks
 pub mod Sinks
 pub mod Balances

@@ -14,6 +14,7 @@
 
 mod clock;
 mod feed;
+mod feed_state;
 mod memory_clock;
 mod memory_feed;
 mod memory_sink;
@@ -23,6 +24,7 @@ mod sink;
 
 pub use clock::Clock;
 pub use feed::{Feed, FeedAnswer};
+pub use feed_state::FeedState;
 pub use memory_clock::MemoryClock;
 pub use memory_feed::MemoryFeed;
 pub use memory_sink::MemorySink;

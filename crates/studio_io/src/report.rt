@@ -1,7 +1,9 @@
 //! The report of a run, and the error of a run in threads that has none.
 ghost use Rattle.std.specs.Prelude.{◌≡◌};
+ghost use Rattle.studio_io.specs.Balances.{Balances};
 ghost use Rattle.studio_io.specs.declared.report.WorkFault.TheVariants as fault;
 
+use crate::send_counts::SendCounts;
 use rtp_stream::StreamCounts;
 use std::alloc::AllocError;
 use thiserror::Error;
@@ -28,6 +30,33 @@ pub struct WorkReport {
     /// True if nothing was left over: the sink was passed the datagrams of all blocks that were ready. In a run in
     /// threads it is true exactly if every stream gave its token and the mixer's end took all its marks.
     pub settled: bool,
+}
+
+impl WorkReport {
+    /// The report of a run with these counts of streams, feeds and datagrams.
+    pub fn new(
+        streams: Vec<StreamCounts>,
+        feed_faults: Vec<u64>,
+        counts: SendCounts,
+        settled: bool,
+    ) -> WorkReport
+        ensures balance { Balances result.blocks result.sent_a result.fault_a result.sent_b result.fault_b }
+        ensures streams { result.streams ≡ streams }
+        ensures faults { result.feed_faults ≡ feed_faults }
+        ensures blocks { result.blocks ≡ counts.blocks }
+        ensures settled { result.settled ≡ settled }
+    {
+        WorkReport {
+            streams,
+            feed_faults,
+            blocks: counts.blocks,
+            sent_a: counts.sent_a,
+            sent_b: counts.sent_b,
+            fault_a: counts.fault_a,
+            fault_b: counts.fault_b,
+            settled,
+        }
+    }
 }
 
 /// The error of a run in threads, which then has no report.

@@ -15,7 +15,10 @@ use Rattle.studio_ends.specs.declared.path.Offer.{Offer}
 use Rattle.studio_ends.specs.declared.path.Offer.TheVariants.{CountersFull, Bad as BadOffer, WrongType as OtherType, WrongLength as OtherLength, Full, Sent as SentOffer}
 use Rattle.studio_ends.specs.declared.path_end.PathEnd.{PathEnd}
 use Rattle.rtp_stream.specs.declared.stream_counts.PathCounts.{PathCounts}
+use Rattle.std.proofs.lemmas.Bool.{false≢true}
 use Rattle.studio_io.proofs.AnswerLemmas.{told-next}
+use Rattle.studio_io.specs.FeedStates.{Notes, new_state}
+use Rattle.studio_io.specs.declared.feed_state.FeedState.{FeedState}
 use Rattle.studio_io.specs.Answers.{Answer, CountsOthers, Tells, reaches_end, received_as, told_datagrams, told_packets, IsPartOf, packet_in, packets_in, packets_of}
 use Rattle.studio_io.specs.declared.feed.FeedAnswer.{FeedAnswer}
 use Rattle.studio_io.specs.declared.feed.FeedAnswer.TheVariants.{Datagram, Nothing, Fault, Ended}
@@ -127,7 +130,7 @@ part-take zs xs WrongType h = h
 part-take zs xs WrongLength h = h
 part-take zs xs (Sent y) h = inr (zs, refl, h)
 
-pub sends-start : (told : List Answer) (p : PathEnd) → reaches_end 0 told ≡ true → SendsSoFar told p told 0 p
+sends-start : (told : List Answer) (p : PathEnd) → reaches_end 0 told ≡ true → SendsSoFar told p told 0 p
 sends-start told p w = record {
   ring = ((refl, refl, refl, refl), refl);
   spec = refl;
@@ -232,7 +235,7 @@ step told rest p q r octets more tried pq spec w sends some all before grows lac
   others = λ b. others-more p.spec tried (octets ∷ []) (path_tally_of p.counts) (path_tally_of q.counts) (path_tally_of r.counts) (others (omega (arith, b, g))) (counted b);
 }
 
-pub sends-datagram : (told left rest : List Answer) (p q r : PathEnd) (k n : ℕ) (b : List ℕ)
+sends-datagram : (told left rest : List Answer) (p q r : PathEnd) (k n : ℕ) (b : List ℕ)
     → SendsSoFar told p left k q → Tells left b (Datagram n) rest → OffersAgain (take n b) q r → SendsSoFar told p rest 0 r
 unfolding reaches_end told_datagrams
 sends-datagram told left rest p q r k n b h t s =
@@ -247,7 +250,7 @@ sends-datagram told left rest p q r k n b h t s =
     (subst (λ (x : Stream). r.counts.offered < 2 ^ 62 → CountsOthers x (take n b ∷ []) (path_tally_of q.counts) (path_tally_of r.counts)) h.spec s.others)
     s.full s.offered
 
-pub sends-nothing : (told left rest : List Answer) (p q r : PathEnd) (k : ℕ) (b : List ℕ)
+sends-nothing : (told left rest : List Answer) (p q r : PathEnd) (k : ℕ) (b : List ℕ)
     → SendsSoFar told p left k q → r ≡ record q { teller = r.teller } → Tells left b Nothing rest → SendsSoFar told p rest 0 r
 unfolding reaches_end told_datagrams
 sends-nothing told left rest p q r k b h same t =
@@ -256,7 +259,7 @@ sends-nothing told left rest p q r k b h same t =
     record { ring = h.ring; spec = h.spec; whole = rw e at h.whole; more = h.more; sends = h.sends; some = rw e at h.some; all = rw e at h.all; tried = h.tried; before = rw e at h.before; grows = h.grows; lacking = h.lacking; others = h.others } in
     subst (SendsSoFar told p rest 0) (sym same) sends
 
-pub sends-fault : (told left rest : List Answer) (p q : PathEnd) (k : ℕ) (b : List ℕ)
+sends-fault : (told left rest : List Answer) (p q : PathEnd) (k : ℕ) (b : List ℕ)
     → (k ≡ 999 → ⊥) → SendsSoFar told p left k q → Tells left b Fault rest → SendsSoFar told p rest (k + 1) q
 unfolding reaches_end told_datagrams
 sends-fault told left rest p q k b n h t =
@@ -284,8 +287,69 @@ sends_all told p q left k all c h none a i =
     }
 
 -- the end: a stop, or the last of so many faults
-pub sends-end : (told left rest : List Answer) (p q : PathEnd) (k : ℕ) (b : List ℕ) (r : FeedAnswer) (all : List Packet) (c : PathCounts)
+sends-end : (told left rest : List Answer) (p q : PathEnd) (k : ℕ) (b : List ℕ) (r : FeedAnswer) (all : List Packet) (c : PathCounts)
     → (r ≡ Ended) ⊎ ((r ≡ Fault) × (k ≡ 999)) → SendsSoFar told p left k q → Tells left b r rest → all ≡ sent q.ring → c ≡ q.counts → SendsFeed told p all c
 unfolding told_datagrams
 sends-end told left rest p q k b r all c (inl s) h t a i = sends_all told p q left k all c h (rw (rw s at (told-next k left b r rest h.whole t)) refl) a i
 sends-end told left rest p q k b r all c (inr s) h t a i = sends_all told p q left k all c h (rw (rw s.0 at (told-next k left b r rest h.whole t), s.1) refl) a i
+
+-- what was sent of a feed that told its answers: some of it so far, or all that it comes to once it has ended
+pub record Sends (told : List Answer) (p : PathEnd) (left : List Answer) (state : FeedState) (q : PathEnd) : Type 0 where
+  pub on : state.ended ≡ false → SendsSoFar told p left state.in_a_row q
+  pub over : state.ended ≡ true → SendsFeed told p (sent q.ring) q.counts
+
+pub sends-none : (told : List Answer) (p : PathEnd) → reaches_end 0 told ≡ true → Sends told p told new_state p
+sends-none told p whole = record { on = λ _. sends-start told p whole; over = λ e. absurd (false≢true e) }
+
+-- what is done with an answer
+abbrev pub Handles : FeedAnswer → List ℕ → PathEnd → PathEnd → Type 0
+Handles (Datagram n) b q r = OffersAgain (take n b) q r
+Handles Nothing b q r = r ≡ record q { teller = r.teller }
+Handles Fault b q r = r ≡ q
+Handles Ended b q r = r ≡ q
+
+never_ends : (old new : FeedState) → new.ended ≡ old.ended → old.ended ≡ false → new.ended ≡ true → ⊥
+never_ends old new same yet e = false≢true (sym (same ∙ yet) ∙ e)
+
+sends-known : (told left rest : List Answer) (p q r : PathEnd) (old new : FeedState) (b : List ℕ) (answer : FeedAnswer) → old.ended ≡ false → old.in_a_row ≤ 999
+    → Notes answer old new → Tells left b answer rest → Handles answer b q r → SendsSoFar told p left old.in_a_row q → Sends told p rest new r
+sends-known told left rest p q r old new b (Datagram n) yet few notes tells handles h = record {
+  on = λ _. subst (λ k. SendsSoFar told p rest k r) (sym notes.0) (sends-datagram told left rest p q r old.in_a_row n b h tells handles);
+  over = λ e. absurd (never_ends old new notes.1 yet e);
+}
+sends-known told left rest p q r old new b Nothing yet few notes tells handles h = record {
+  on = λ _. subst (λ k. SendsSoFar told p rest k r) (sym notes.0) (sends-nothing told left rest p q r old.in_a_row b h handles tells);
+  over = λ e. absurd (never_ends old new notes.1 yet e);
+}
+sends-known told left rest p q r old new b Fault yet few (inl notes) tells handles h = record {
+  on = λ _.
+      let less = notes.0 in
+      let next : SendsSoFar told p rest (old.in_a_row + 1) q = sends-fault told left rest p q old.in_a_row b (λ e. absurd (omega (arith, less, e))) h tells in
+      subst (λ k. SendsSoFar told p rest k r) (sym notes.1) (subst (SendsSoFar told p rest (old.in_a_row + 1)) (sym handles) next);
+  over = λ e. absurd (never_ends old new notes.2 yet e);
+}
+sends-known told left rest p q r old new b Fault yet few (inr notes) tells handles h = record {
+  on = λ e. absurd (false≢true (sym e ∙ notes.2));
+  over = λ _.
+      let row = notes.0 in
+      let last : old.in_a_row ≡ 999 = omega (arith, row, few) in
+      subst (λ (x : PathEnd). SendsFeed told p (sent x.ring) x.counts) (sym handles) (sends-end told left rest p q old.in_a_row b Fault (sent q.ring) q.counts (inr (refl, last)) h tells refl refl);
+}
+sends-known told left rest p q r old new b Ended yet few notes tells handles h = record {
+  on = λ e. absurd (false≢true (sym e ∙ notes.1));
+  over = λ _. subst (λ (x : PathEnd). SendsFeed told p (sent x.ring) x.counts) (sym handles) (sends-end told left rest p q old.in_a_row b Ended (sent q.ring) q.counts (inl refl) h tells refl refl);
+}
+
+-- an answer more, which is known to be this one
+pub sends-answer : (told left rest : List Answer) (p q r : PathEnd) (old new : FeedState) (b : List ℕ) (answer known : FeedAnswer) → answer ≡ known → old.ended ≡ false → old.in_a_row ≤ 999
+    → Notes answer old new → Tells left b answer rest → Handles known b q r → Sends told p left old q → Sends told p rest new r
+sends-answer told left rest p q r old new b answer known is yet few notes tells handles h =
+    sends-known told left rest p q r old new b known yet few (subst (λ a. Notes a old new) is notes) (subst (λ a. Tells left b a rest) is tells) handles (h.on yet)
+
+-- fewer than 1,000 faults have come in a row
+pub few-faults : (old new : FeedState) (answer : FeedAnswer) → old.in_a_row ≤ 999 → Notes answer old new → new.in_a_row ≤ 999
+few-faults old new (Datagram n) few notes = let row = notes.0 in omega (arith, row)
+few-faults old new Nothing few notes = let row = notes.0 in omega (arith, row)
+few-faults old new Fault few (inl notes) = let row = notes.1 in let less = notes.0 in omega (arith, row, less)
+few-faults old new Fault few (inr notes) = let row = notes.1 in omega (arith, row, few)
+few-faults old new Ended few notes = let row = notes.0 in omega (arith, row, few)

@@ -1,6 +1,6 @@
 -- How a stream's worker closes its end, and hands on what is left.
-use Rattle.std.specs.Prelude.{◌≡◌, false, List, ◌∷◌, [], ◌++◌, ℤ}
-use Rattle.rtrb.specs.Ring.{sent, producer_capacity, SameProducer}
+use Rattle.std.specs.Prelude.{◌≡◌, false, List, ◌∷◌, [], ◌++◌, ℤ, Option, IfSome}
+use Rattle.rtrb.specs.Ring.{sent, producer_capacity, SameProducer, Finishes as Ends}
 use Rattle.rtp_stream.specs.declared.stream_spec.Stream.{Stream}
 use Rattle.rtp_stream.specs.History.{is_closed}
 use Rattle.rtp_stream.specs.Marks.{marks_of}
@@ -9,6 +9,8 @@ use Rattle.rtp_stream.specs.declared.event.Event.{Event}
 use Rattle.rtp_stream.specs.declared.event.Event.TheVariants.{Close}
 use Rattle.studio_ends.specs.Streams.{StreamHasHistory}
 use Rattle.studio_ends.specs.declared.stream_end.StreamEnd.{StreamEnd}
+use Rattle.studio_ends.specs.declared.stream_end.turns.StreamDone.{StreamDone}
+use Rattle.rtp_stream.specs.CountsFacts.{Tally}
 use Rattle.studio_io.specs.Clocks.{GoByClock, events_in}
 use Rattle.studio_rings.specs.Turns.{HaveArrived, HaveTold}
 use Rattle.studio_rings.specs.declared.worker.clocked_stream.ClockedStream.{ClockedStream}
@@ -33,3 +35,13 @@ pub record Drains (s t : StreamEnd) : Type 0 where
   pub marks : SameProducer s.marks t.marks
   pub stands : (stream : Stream) (open_at : ℤ) (events : List Event) → StreamHasHistory stream open_at s events → StreamHasHistory stream open_at t events
   pub all : (stream : Stream) (open_at : ℤ) (events : List Event) → StreamHasHistory stream open_at t events → sent t.marks ≡ marks_of stream open_at events
+
+module _ {C : Type 0} where
+  -- a stream went on and was closed, its end handed on all marks, and was finished
+  pub record Finishes (told : C → List ℤ) (s : ClockedStream C) (done : Option StreamDone) (counts : Tally) : Type 0 where
+    pub closed : StreamEnd
+    pub closes : ClosesLater told s closed
+    pub drained : StreamEnd
+    pub drains : Drains closed drained
+    pub token : IfSome done (λ d. Ends drained.marks d.token)
+    pub counted : counts ≡ drained.merge.counts

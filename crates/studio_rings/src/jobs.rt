@@ -1,5 +1,5 @@
 //! Makes the jobs of the workers, with all the memory that they need.
-ghost use Rattle.std.specs.Prelude.{◌≡◌, ◌+◌, ◌≤◌, ◌++◌, List, ℕ, ℤ, length, vec_len, vec_capacity, IfOk};
+ghost use Rattle.std.specs.Prelude.{◌≡◌, ◌+◌, ◌<◌, ◌≤◌, ◌∷◌, ◌++◌, List, ℕ, ℤ, length, vec_len, vec_capacity, IfOk};
 ghost use Rattle.std.specs.Vec.Iter.{into_iter_items, into_iter_len};
 ghost use Rattle.rtp_stream.specs.declared.stream_spec.Stream.{Stream};
 ghost use Rattle.studio_ends.specs.FreshEnds.{AllFreshStreams};
@@ -109,6 +109,38 @@ fn stream_job<F: Drop, C: Drop>(
     })
 }
 
+/// Makes the job of a stream from its end, the next clock, and the next ends and feeds of paths.
+fn next_job<F: Drop, C: Drop>(
+    alloc: Global,
+    end: StreamEnd,
+    paths: &mut IntoIter<PathEnd>,
+    feeds: &mut IntoIter<F>,
+    clocks: &mut IntoIter<C>,
+) -> Result<StreamJob<F, C>, AllocError>
+    requires paths { end.spec.paths ≤ into_iter_len paths.old }
+    requires feeds { end.spec.paths ≤ into_iter_len feeds.old }
+    requires clocks { 0 < into_iter_len clocks.old }
+    ensures end { IfOk result (λ job. job.end ≡ end) }
+    ensures count { IfOk result (λ job. length job.paths.items ≡ end.spec.paths) }
+    ensures paths { IfOk result (λ job. into_iter_items paths.old
+        ≡ ends_of job.paths.items ++ into_iter_items paths.new) }
+    ensures feeds { IfOk result (λ job. into_iter_items feeds.old
+        ≡ feeds_in job.paths.items ++ into_iter_items feeds.new) }
+    ensures clocks { IfOk result (λ job. into_iter_items clocks.old ≡ job.clock ∷ into_iter_items clocks.new) }
+    ensures left { IfOk result (λ job. (into_iter_len paths.new + end.spec.paths ≡ into_iter_len paths.old)
+        × (into_iter_len feeds.new + end.spec.paths ≡ into_iter_len feeds.old)
+        × (into_iter_len clocks.new + 1 ≡ into_iter_len clocks.old)) }
+    ensures room { IfOk result (λ job. HasRoom job) }
+{
+    let Some(clock) = clocks.next() else {
+        unreachable!();
+    };
+    let count = end.spec().paths();
+    let own = next_paths(alloc, count, paths, feeds)?;
+    let job = stream_job(alloc, end, clock, own)?;
+    Ok(job)
+}
+
 /// Makes the jobs of all streams. The paths' ends and the feeds are ordered by stream and then by path.
 pub(crate) fn stream_jobs<F: Drop, C: Drop>(
     alloc: Global,
@@ -130,12 +162,8 @@ pub(crate) fn stream_jobs<F: Drop, C: Drop>(
     let mut feeds = feeds.into_iter();
     let mut clocks = clocks.into_iter();
     for end in streams {
-        let Some(clock) = clocks.next() else {
-            unreachable!();
-        };
-        let count = end.spec().paths();
-        let own = next_paths(alloc, count, &mut paths, &mut feeds)?;
-        let job = stream_job(alloc, end, clock, own)?;
+        // The lists are lent to a function for each stream, since each `?` takes the longer to prove the more is held.
+        let job = next_job(alloc, end, &mut paths, &mut feeds, &mut clocks)?;
         jobs.push_reserved(job);
     }
     Ok(jobs)

@@ -23,7 +23,7 @@ use std::sync::Wait;
 use std::sync::atomic::AtomicBool;
 use std::thread::Threads;
 use studio_ends::{Ends, PathEnd, StreamEnd};
-use studio_io::{Clock, Feed, Sink, WorkFault, WorkReport};
+use studio_io::{Clock, Feed, SendCounts, Sink, WorkFault, WorkReport};
 
 /// The jobs of the workers, and the room for all their results.
 #[derive(Drop)]
@@ -32,6 +32,35 @@ struct RunMemory<F, C> {
     results: Vec<StreamResult>,
     ended: Vec<AtomicBool>,
     parts: RunResults,
+}
+
+/// The room for the results of a run, and a flag for each stream.
+#[derive(Drop)]
+struct RunRoom {
+    results: Vec<StreamResult>,
+    ended: Vec<AtomicBool>,
+    parts: RunResults,
+}
+
+/// Allocates the room for the results of so many streams and feeds.
+fn reserve_room(alloc: Global, streams: usize, feeds: usize) -> Result<RunRoom, AllocError>
+    ensures results { IfOk result (λ room. (vec_len room.results ≡ 0) × (streams ≤ vec_capacity room.results)) }
+    ensures ended { IfOk result (λ room. vec_len room.ended ≡ streams) }
+    ensures dones { IfOk result (λ room. (vec_len room.parts.dones ≡ 0)
+        × (streams ≤ vec_capacity room.parts.dones)) }
+    ensures counts { IfOk result (λ room. (vec_len room.parts.streams ≡ 0)
+        × (streams ≤ vec_capacity room.parts.streams)) }
+    ensures faults { IfOk result (λ room. (vec_len room.parts.feed_faults ≡ 0)
+        × (feeds ≤ vec_capacity room.parts.feed_faults)) }
+{
+    let parts = reserve_results(alloc, streams, feeds)?;
+    let results = Vec::with_capacity(alloc, streams)?;
+    let ended = unset_flags(alloc, streams)?;
+    Ok(RunRoom {
+        results,
+        ended,
+        parts,
+    })
 }
 
 /// Allocates all memory of a run.
@@ -57,11 +86,13 @@ fn reserve_memory<F: Drop, C: Drop>(
     ensures faults { IfOk result (λ m. (vec_len m.parts.feed_faults ≡ 0)
         × (vec_len feeds ≤ vec_capacity m.parts.feed_faults)) }
 {
-    let count = streams.len();
-    let parts = reserve_results(alloc, count, feeds.len())?;
-    let results = Vec::with_capacity(alloc, count)?;
-    let ended = unset_flags(alloc, count)?;
+    let room = reserve_room(alloc, streams.len(), feeds.len())?;
     let jobs = stream_jobs(alloc, paths, feeds, streams, clocks)?;
+    let RunRoom {
+        results,
+        ended,
+        parts,
+    } = room;
     Ok(RunMemory {
         jobs,
         results,
@@ -91,17 +122,7 @@ fn report<K: Drop>(mixed: MixResult<K>, parts: RunResults) -> (WorkReport, K)
         feed_faults,
     } = parts;
     let settled = is_settled_with(end, dones);
-    let report = WorkReport {
-        streams,
-        feed_faults,
-        blocks: counts.blocks,
-        sent_a: counts.sent_a,
-        sent_b: counts.sent_b,
-        fault_a: counts.fault_a,
-        fault_b: counts.fault_b,
-        settled,
-    };
-    (report, sink)
+    (WorkReport::new(streams, feed_faults, counts, settled), sink)
 }
 
 /// Runs a worker for each path and each stream, each in a thread of its own, and the mixer's in the calling thread,
@@ -137,16 +158,21 @@ pub fn run_workers<R: Threads + Wait + Sync, F: Feed + Send, C: Clock + Send, K:
     } = ends;
     let memory = reserve_memory(alloc, paths, feeds, streams, clocks)?;
     let RunMemory {
-        jobs,
-        results,
+        mut jobs,
+        mut results,
         ended,
         parts,
     } = memory;
+    let mut mixed = MixResult {
+        end: mix,
+        sink,
+        counts: SendCounts::new(),
+    };
     // Set by the first worker that cannot start a thread. Every worker reads it between its steps.
     let stop = AtomicBool::new(false);
-    let Ok((results, mixed)) = run_streams(rt, jobs, results, mix, sink, &ended, &stop) else {
+    if run_streams(rt, &mut jobs, &mut results, &mut mixed, &ended, &stop).is_err() {
         return Err(WorkFault::Start);
-    };
+    }
     let parts = collect_results(results, parts);
     Ok(report(mixed, parts))
 }

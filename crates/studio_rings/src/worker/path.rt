@@ -1,6 +1,6 @@
 //! The worker of a path: each datagram of its feed to its end.
 ghost use Rattle.std.specs.Prelude.{◌≡◌, true, length, IfSome, None};
-ghost use Rattle.rtrb.specs.Ring.{all_sent, Finishes, SameProducer};
+ghost use Rattle.rtrb.specs.Ring.{all_sent, sent, Finishes, SameProducer};
 ghost use Rattle.studio_ends.specs.Fitting.{fitting};
 ghost use Rattle.studio_io.specs.Answers.{reaches_end};
 ghost use Rattle.studio_rings.specs.PathWorkers.{IsPathResult, IsTokenOf, OffersAgain, SendsFeed};
@@ -10,7 +10,7 @@ use crate::worker::Backoff;
 use std::sync::Wait;
 use std::sync::atomic::{AtomicBool, Ordering};
 use studio_ends::{Offer, PathEnd};
-use studio_io::{Feed, FeedAnswer};
+use studio_io::{Feed, FeedAnswer, FeedState};
 
 /// The longest pause after a feed had nothing, in microseconds: 10 ms.
 const FEED_PAUSE: u64 = 10_000;
@@ -80,56 +80,47 @@ fn rest_for<R: Wait, F: Feed>(rt: &R, feed: &F, pause: &mut Backoff) {
     }
 }
 
-/// Sends the datagrams of the feed until it ends or the workers must stop.
-fn run_feed<R: Wait, F: Feed>(
+/// Sends the datagrams of the feed until it ends or the workers must stop. Returns the state of the feed, which has
+/// ended unless the workers must stop.
+fn send_feed<R: Wait, F: Feed>(
     rt: &R,
-    end: PathEnd,
-    feed: F,
-    ended: &AtomicBool,
+    end: &mut PathEnd,
+    feed: &mut F,
     stop: &AtomicBool,
-) -> PathResult
-    ensures token { IfSome result.done (λ done. IsTokenOf end done) }
-    ensures fit { IfSome result.done (λ done. fitting end.spec (all_sent done.token) ≡ all_sent done.token) }
-    ensures count { IfSome result.done (λ done. result.counts.sent ≡ length (all_sent done.token)) }
-    ensures sent { reaches_end 0 (F.told feed) ≡ true
-        → IfSome result.done (λ done. SendsFeed (F.told feed) end (all_sent done.token) result.counts) }
+) -> FeedState
+    ensures ring { SameProducer end.old.ring end.new.ring }
+    ensures spec { end.new.spec ≡ end.old.spec }
+    ensures sent { result.ended ≡ true → reaches_end 0 (F.told feed.old) ≡ true
+        → SendsFeed (F.told feed.old) end.old (sent end.new.ring) end.new.counts }
 {
-    let mut end = end;
-    let mut feed = feed;
+    let mut state = FeedState::new();
     let mut pause = Backoff::up_to(FEED_PAUSE);
     let mut fault_pause = Backoff::up_to(FAULT_PAUSE);
     // 2,048 octets, the length for which `Feed::next` says what it gives: more than a standard Ethernet frame carries.
     let mut buf = [0u8; 2048];
-    let mut in_a_row = 0u32;
-    let mut faults = 0u64;
     for _ in rt.forever() {
-        if stop.load(Ordering::SeqCst) {
-            return abandon_path(end, faults, ended);
+        if state.ended {
+            return state;
         }
-        match feed.next(&mut buf) {
+        if stop.load(Ordering::SeqCst) {
+            return state;
+        }
+        let answer = feed.next(&mut buf);
+        state.note(answer);
+        match answer {
             FeedAnswer::Datagram(count) => {
-                in_a_row = 0;
                 pause.reset();
-                if !offer_until_taken(rt, &mut end, &buf[..count], stop) {
-                    return abandon_path(end, faults, ended);
+                if !offer_until_taken(rt, end, &buf[..count], stop) {
+                    return state;
                 }
             }
             FeedAnswer::Nothing => {
-                in_a_row = 0;
                 // `offer` sends the counts with each datagram. While none comes, a reader gets the last ones here.
                 end.send_counts();
-                rest_for(rt, &feed, &mut pause);
+                rest_for(rt, feed, &mut pause);
             }
-            FeedAnswer::Fault => {
-                faults = faults.saturating_add(1);
-                // The 1,000th fault in a row ends the feed.
-                if in_a_row == 999 {
-                    return finish_path(end, faults, ended);
-                }
-                in_a_row += 1;
-                fault_pause.snooze(rt);
-            }
-            FeedAnswer::Ended => return finish_path(end, faults, ended),
+            FeedAnswer::Fault => fault_pause.snooze(rt),
+            FeedAnswer::Ended => {}
         }
     }
     unreachable!()
@@ -147,5 +138,12 @@ pub fn run_path<R: Wait, F: Feed>(
     ensures { IsPathResult F.told job result }
 {
     let PathJob { end, feed } = job;
-    run_feed(rt, end, feed, ended, stop)
+    let mut end = end;
+    let mut feed = feed;
+    let state = send_feed(rt, &mut end, &mut feed, stop);
+    if state.ended {
+        finish_path(end, state.faults, ended)
+    } else {
+        abandon_path(end, state.faults, ended)
+    }
 }

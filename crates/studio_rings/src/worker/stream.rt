@@ -1,5 +1,6 @@
 //! The worker of a stream: its paths, its turns, and its end once they have ended.
-ghost use Rattle.std.specs.Prelude.{◌≡◌, ◌≤◌, map, length, vec_len, vec_capacity, true, IfOk};
+ghost use Rattle.std.specs.Prelude.{◌≡◌, ◌≤◌, map, length, vec_len, vec_capacity, true, IfOk, OnOk};
+ghost use Rattle.rtp_stream.specs.Counts.{tally_of};
 ghost use Rattle.studio_rings.specs.Turns.{GoesOn, HaveTold};
 ghost use Rattle.studio_rings.specs.StreamWorkers.{
   AllTokensFit,
@@ -11,18 +12,18 @@ ghost use Rattle.studio_rings.specs.StreamWorkers.{
   IsStreamResult,
   told_by,
 };
-ghost use Rattle.studio_rings.specs.StreamClose.{ClosesLater, Drains};
+ghost use Rattle.studio_rings.specs.StreamClose.{ClosesLater, Drains, Finishes};
 
 use crate::path_job::PathResult;
 use crate::path_threads::{WorkerStopped, run_paths};
 use crate::stream_job::{StreamJob, StreamResult};
 use crate::worker::Backoff;
 use crate::worker::clocked_stream::ClockedStream;
-use rtp_stream::{PathCounts, StreamCounts};
+use rtp_stream::{Counts, PathCounts, StreamCounts};
 use std::sync::Wait;
 use std::sync::atomic::{AtomicBool, Ordering};
 use std::thread::Threads;
-use studio_ends::{PathDone, StreamEnd};
+use studio_ends::{PathDone, StreamDone, StreamEnd};
 use studio_io::{Clock, Feed};
 
 /// The longest pause at a full ring of marks, in microseconds: 2 ms.
@@ -100,14 +101,13 @@ fn close_when_taken<R: Wait, C: Clock>(
 }
 
 /// Pushes the marks that are left after the close. Returns `WorkerStopped` if the workers must stop.
-fn drain<R: Wait>(rt: &R, end: StreamEnd, stop: &AtomicBool) -> Result<StreamEnd, WorkerStopped>
-    ensures { IfOk result (λ r. Drains end r) }
+fn drain<R: Wait>(rt: &R, end: &mut StreamEnd, stop: &AtomicBool) -> Result<(), WorkerStopped>
+    ensures { OnOk result (Drains end.old end.new) }
 {
-    let mut end = end;
     let mut pause = Backoff::up_to(DRAIN_PAUSE);
     for _ in rt.forever() {
         if end.drain_turn() {
-            return Ok(end);
+            return Ok(());
         }
         if stop.load(Ordering::SeqCst) {
             return Err(WorkerStopped);
@@ -115,6 +115,20 @@ fn drain<R: Wait>(rt: &R, end: StreamEnd, stop: &AtomicBool) -> Result<StreamEnd
         pause.snooze(rt);
     }
     unreachable!()
+}
+
+/// Takes the packets that are left, closes the stream, pushes the marks that are left and finishes the end. Returns its
+/// token and counts, or `WorkerStopped` if the workers must stop.
+fn close_and_finish<R: Wait, C: Clock>(
+    rt: &R,
+    stream: ClockedStream<C>,
+    stop: &AtomicBool,
+) -> Result<(Option<StreamDone>, Counts), WorkerStopped>
+    ensures { IfOk result (λ r. Finishes C.told stream r.0 (tally_of r.1)) }
+{
+    let mut end = close_when_taken(rt, stream, stop)?;
+    drain(rt, &mut end, stop)?;
+    Ok(end.finish())
 }
 
 /// Ends a stream whose paths have ended: passes in their tokens, takes the packets that are left, closes the stream and
@@ -148,9 +162,7 @@ fn end_stream<R: Wait, C: Clock>(
             faults,
         });
     }
-    let end = close_when_taken(rt, stream, stop)?;
-    let end = drain(rt, end, stop)?;
-    let (done, merge) = end.finish();
+    let (done, merge) = close_and_finish(rt, stream, stop)?;
     let counts = StreamCounts {
         paths: counts,
         merge,
@@ -180,8 +192,10 @@ fn run_stream_and_paths<R: Threads + Wait + Sync, F: Feed + Send, C: Clock>(
         counts,
         faults,
     } = job;
-    let stream = ClockedStream::new(end, clock);
-    let (results, stream) = run_paths(rt, paths, results, stream, &ended, stop)?;
+    let mut stream = ClockedStream::new(end, clock);
+    let mut paths = paths;
+    let mut results = results;
+    run_paths(rt, &mut paths, &mut results, &mut stream, &ended, stop)?;
     end_stream(rt, stream, results, counts, faults, stop)
 }
 

@@ -1,6 +1,5 @@
 use Rattle.std.proofs.Common.{◌≡◌, ◌≤◌, List, [], ◌∷◌, ◌++◌, length, sym, ap, subst, ◌∙◌, arith, length-append}
 use Rattle.std.specs.Vec.Iter.{into_iter_items}
-use Rattle.rtp_stream.specs.declared.stream_spec.Stream.{Stream}
 use Rattle.studio_ends.specs.declared.stream_end.StreamEnd.{StreamEnd}
 use Rattle.studio_rings.specs.declared.path_job.PathJob.{PathJob}
 use Rattle.studio_rings.specs.Jobs.{HaveRoom, feeds_in}
@@ -10,51 +9,47 @@ use Rattle.studio_rings.proofs.HandLemmas.{no_items}
 use Rattle.studio_rings.proofs.JobLemmas.{AreSomeFresh, MakesJobs, enough, fresh-left, makes-all, makes-one, map_length, none_fresh, room-more}
 use Rattle.studio_rings.proofs.jobs.stream_jobs.Goals as goal
 
-pub next_paths-requires-clause-ends : goal.next_paths-requires-clause-ends
-next_paths-requires-clause-ends g c =
+pub next_job-requires-clause-paths : goal.next_job-requires-clause-paths
+next_job-requires-clause-paths g c =
     let at = c.loop-end in
     let end = c.in-Some.end in
     let fresh : AreSomeFresh (into_iter_items at.paths) (end ∷ into_iter_items c.next.new.self) = subst (λ (l : List StreamEnd). AreSomeFresh (into_iter_items at.paths) l) c.in-Some.ensures.steps.0 at.invariant.fresh in
     let some : end.spec.paths ≤ length (into_iter_items at.paths) = enough fresh.0 fresh.1 fresh.2 _ end _ fresh.3 in
-    let count : c.paths-count.result ≡ end.spec.paths = c.paths-count.ensures.value ∙ ap (λ (s : Stream). s.paths) c.spec.ensures in
     let len = at.invariant.paths_len in
-    omega (arith, some, count, len)
+    omega (arith, some, len)
 
-pub next_paths-requires-clause-feeds : goal.next_paths-requires-clause-feeds
-next_paths-requires-clause-feeds g c =
+pub next_job-requires-clause-feeds : goal.next_job-requires-clause-feeds
+next_job-requires-clause-feeds g c =
     let at = c.loop-end in
     let end = c.in-Some.end in
     let fresh : AreSomeFresh (into_iter_items at.paths) (end ∷ into_iter_items c.next.new.self) = subst (λ (l : List StreamEnd). AreSomeFresh (into_iter_items at.paths) l) c.in-Some.ensures.steps.0 at.invariant.fresh in
     let some : end.spec.paths ≤ length (into_iter_items at.paths) = enough fresh.0 fresh.1 fresh.2 _ end _ fresh.3 in
-    let count : c.paths-count.result ≡ end.spec.paths = c.paths-count.ensures.value ∙ ap (λ (s : Stream). s.paths) c.spec.ensures in
     let len = at.invariant.paths_len in
     let same = at.invariant.feeds_too in
-    omega (arith, some, count, len, same)
+    omega (arith, some, len, same)
+
+pub next_job-requires-clause-clocks : goal.next_job-requires-clause-clocks
+next_job-requires-clause-clocks g c =
+    let gone = c.in-Some.ensures.steps.1 in
+    let clocks = c.loop-end.invariant.clocks in
+    omega (arith, gone, clocks)
 
 pub loop-end-preserved : goal.loop-end-preserved
 loop-end-preserved g c =
     let at = c.loop-end in
     let end = c.in-Some.end in
-    let own = c.in_ok-own.own in
     let job = c.in_ok-job.job in
+    let own = job.paths.items in
     let fresh : AreSomeFresh (into_iter_items at.paths) (end ∷ into_iter_items c.next.new.self) = subst (λ (l : List StreamEnd). AreSomeFresh (into_iter_items at.paths) l) c.in-Some.ensures.steps.0 at.invariant.fresh in
-    let count : c.paths-count.result ≡ end.spec.paths = c.paths-count.ensures.value ∙ ap (λ (s : Stream). s.paths) c.spec.ensures in
-    let owned = c.in_ok-own.ensures.count in
-    let ok = own.ok.0 in
-    let many : length own.items ≡ end.spec.paths = omega (arith, count, owned, ok) in
-    let paths_are : job.paths ≡ own = c.in_ok-job.ensures.parts.2 in
-    let many' : length job.paths.items ≡ end.spec.paths = rw paths_are many in
-    let ends_are : into_iter_items at.paths ≡ ends_of job.paths.items ++ into_iter_items c.next_paths.new.ends = rw paths_are c.in_ok-own.ensures.ends in
-    let feeds_are : into_iter_items at.feeds ≡ feeds_in job.paths.items ++ into_iter_items c.next_paths.new.feeds = rw paths_are c.in_ok-own.ensures.feeds in
+    let many : length own ≡ end.spec.paths = c.in_ok-job.ensures.count in
     let gone = c.in-Some.ensures.steps.1 in
     let items = ap length c.in-Some.ensures.steps.0 in
-    let clock = c.in-Some-next.ensures.cases.1 in
-    let clock_items = ap length c.in-Some-next.ensures.cases.0 in
-    let clocks_len = at.invariant.clocks_len in
-    let clocks_are : into_iter_items at.clocks ≡ job.clock ∷ into_iter_items c.next-in-loop-end.new.self = rw c.in_ok-job.ensures.parts.1 c.in-Some-next.ensures.cases.0 in
-    let left = c.in_ok-own.ensures.left in
+    let left = c.in_ok-job.ensures.left in
     let left_ends = left.0 in
     let left_feeds = left.1 in
+    let left_clocks = left.2 in
+    let clock_items = ap length c.in_ok-job.ensures.clocks in
+    let clocks_len = at.invariant.clocks_len in
     let ends_len = at.invariant.ends_len in
     let paths_len = at.invariant.paths_len in
     let feeds_len = at.invariant.feeds_len in
@@ -62,22 +57,22 @@ loop-end-preserved g c =
     let clocks = at.invariant.clocks in
     let made_count = at.invariant.count in
     let pushed = c.push_reserved.ensures.len in
-    let ends_sum = ap length c.in_ok-own.ensures.ends in
-    let feeds_sum = ap length c.in_ok-own.ensures.feeds in
+    let ends_sum = ap length c.in_ok-job.ensures.paths in
+    let feeds_sum = ap length c.in_ok-job.ensures.feeds in
     record {
       made =
-          subst (λ (l : List (StreamJob g.row.F.Denot g.row.C.Denot)). MakesJobs (into_iter_items c.into_iter-paths.result) (into_iter_items c.into_iter-feeds.result) (into_iter_items c.into_iter-clocks.result) (into_iter_items c.into_iter-end-iterator.result) l (into_iter_items c.next_paths.new.ends) (into_iter_items c.next_paths.new.feeds) (into_iter_items c.next-in-loop-end.new.self) (into_iter_items c.next.new.self)) (sym c.push_reserved.ensures.items)
+          subst (λ (l : List (StreamJob g.row.F.Denot g.row.C.Denot)). MakesJobs (into_iter_items c.into_iter-paths.result) (into_iter_items c.into_iter-feeds.result) (into_iter_items c.into_iter-clocks.result) (into_iter_items c.into_iter-end-iterator.result) l (into_iter_items c.next_job.new.paths) (into_iter_items c.next_job.new.feeds) (into_iter_items c.next_job.new.clocks) (into_iter_items c.next.new.self)) (sym c.push_reserved.ensures.items)
           (makes-one _ _ _ _ at.jobs.items job _ _ _ _ _ _ end (into_iter_items c.next.new.self)
           (subst (λ (l : List StreamEnd). MakesJobs (into_iter_items c.into_iter-paths.result) (into_iter_items c.into_iter-feeds.result) (into_iter_items c.into_iter-clocks.result) (into_iter_items c.into_iter-end-iterator.result) at.jobs.items (into_iter_items at.paths) (into_iter_items at.feeds) (into_iter_items at.clocks) l) c.in-Some.ensures.steps.0 at.invariant.made)
-          ends_are feeds_are clocks_are c.in_ok-job.ensures.parts.0 many');
+          c.in_ok-job.ensures.paths c.in_ok-job.ensures.feeds c.in_ok-job.ensures.clocks c.in_ok-job.ensures.end many);
       room = subst (λ (l : List (StreamJob g.row.F.Denot g.row.C.Denot)). HaveRoom l) (sym c.push_reserved.ensures.items) (room-more at.jobs.items job at.invariant.room c.in_ok-job.ensures.room);
-      fresh = fresh-left _ _ own.items end _ fresh c.in_ok-own.ensures.ends many;
+      fresh = fresh-left _ _ own end _ fresh c.in_ok-job.ensures.paths many;
       ends_len = omega (arith, gone, items, ends_len);
-      paths_len = omega (arith, left_ends, paths_len, ends_sum, owned, ok, length-append (ends_of own.items) (into_iter_items c.next_paths.new.ends), map_length (λ (p : PathJob g.row.F.Denot). p.end) own.items);
-      feeds_len = omega (arith, left_feeds, feeds_len, feeds_sum, owned, ok, length-append (feeds_in own.items) (into_iter_items c.next_paths.new.feeds), map_length (λ (p : PathJob g.row.F.Denot). p.feed) own.items);
+      paths_len = omega (arith, left_ends, paths_len, ends_sum, many, length-append (ends_of own) (into_iter_items c.next_job.new.paths), map_length (λ (p : PathJob g.row.F.Denot). p.end) own);
+      feeds_len = omega (arith, left_feeds, feeds_len, feeds_sum, many, length-append (feeds_in own) (into_iter_items c.next_job.new.feeds), map_length (λ (p : PathJob g.row.F.Denot). p.feed) own);
       feeds_too = omega (arith, left_ends, left_feeds, feeds_too);
-      clocks_len = omega (arith, clock, clock_items, clocks_len);
-      clocks = omega (arith, gone, clock, clocks);
+      clocks_len = omega (arith, left_clocks, clock_items, clocks_len);
+      clocks = omega (arith, gone, left_clocks, clocks);
       count = omega (arith, gone, made_count, pushed);
       places = c.push_reserved.ensures.capacity ∙ at.invariant.places;
     }

@@ -1,14 +1,14 @@
 use Rattle.std.proofs.Common.{◌≡◌, ◌≤◌, length, true}
 use Rattle.rtrb.specs.Ring.{SameProducer}
 use Rattle.studio_io.specs.Answers.{reaches_end}
-use Rattle.studio_rings.specs.PathWorkers.{SendsSoFar}
-use Rattle.studio_rings.proofs.worker.path.run_feed.Given as goal
+use Rattle.studio_rings.proofs.FeedLemmas.{Sends}
+use Rattle.studio_rings.proofs.worker.path.send_feed.Given as goal
 
 abbrev pub invariant-loop : goal.invariant-loop
 invariant-loop g l = record {
-  row : l.in_a_row ≤ 999;
+  few : l.state.in_a_row ≤ 999;
   room : length l.buf ≡ 2048;
   ring : SameProducer l.initial.end.ring l.end.ring;
   spec : l.end.spec ≡ l.initial.end.spec;
-  sends : reaches_end 0 (g.F.Feed.told l.initial.feed) ≡ true → SendsSoFar (g.F.Feed.told l.initial.feed) l.initial.end (g.F.Feed.told l.feed) l.in_a_row l.end;
+  sends : reaches_end 0 (g.F.Feed.told l.initial.feed) ≡ true → Sends (g.F.Feed.told l.initial.feed) l.initial.end (g.F.Feed.told l.feed) l.state l.end;
 }
