@@ -4,10 +4,10 @@ use Rattle.pcap_replay.proofs.CaseLemmas.{err_both, ok_then}
 use Rattle.pcap_replay.proofs.ReplayLemmas.{come_to_close, stops_at_close}
 use Rattle.pcap_replay.proofs.state.ReplayState.go_to_close.Goals as goal
 
-pub returns-in_err-told-clause-fault : goal.returns-in_err-told-clause-fault
-returns-in_err-told-clause-fault g c =
-    let is : c.from_residual.result ≡ Err c.in_err-told.field-0.0 = search rules in
-    rw is (λ studio first written begun r. c.in_err-told.ensures.fault studio first written begun r)
+pub returns-in_err-marked-clause-fault : goal.returns-in_err-marked-clause-fault
+returns-in_err-marked-clause-fault g c =
+    let is : c.from_residual.result ≡ Err c.in_err-marked.field-0.0 = search rules in
+    rw is (λ studio first written begun r. c.in_err-marked.ensures.fault studio first written begun r)
 
 pub returns-clause-ok : goal.returns-clause-ok
 returns-clause-ok g c =
