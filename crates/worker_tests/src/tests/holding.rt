@@ -245,7 +245,8 @@ impl<'a, R: Wait> Clock for LateClock<'a, R> {
     }
 }
 
-/// Runs one stream over rings of one place, whose clock answers only once both feeds have returned these packets and their end.
+/// Runs one stream over rings of one place, whose clock answers only once both feeds have returned these packets and
+/// their end.
 fn run_late<R: Threads + Wait + Abort + Sync>(
     rt: &R,
     alloc: Global,
