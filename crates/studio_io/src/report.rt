@@ -33,7 +33,7 @@ pub struct WorkReport {
 }
 
 impl WorkReport {
-    /// The report of a run with these counts of streams, feeds and datagrams.
+    /// Returns the report of a run with these counts of streams, feeds and datagrams.
     pub fn new(
         streams: Vec<StreamCounts>,
         feed_faults: Vec<u64>,
@@ -44,6 +44,10 @@ impl WorkReport {
         ensures streams { result.streams ≡ streams }
         ensures faults { result.feed_faults ≡ feed_faults }
         ensures blocks { result.blocks ≡ counts.blocks }
+        ensures sent_a { result.sent_a ≡ counts.sent_a }
+        ensures sent_b { result.sent_b ≡ counts.sent_b }
+        ensures fault_a { result.fault_a ≡ counts.fault_a }
+        ensures fault_b { result.fault_b ≡ counts.fault_b }
         ensures settled { result.settled ≡ settled }
     {
         WorkReport {
