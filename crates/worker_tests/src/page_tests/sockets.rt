@@ -76,7 +76,7 @@ fn clients_are_answered_or_let_go(rt: HostRuntime) {
     let mut server = PageServer::bind(&rt, rt.alloc(), keys, 0).expect(&rt, "a port");
     let address = server.address().expect(&rt, "an address");
     let mut clients = Vec::new(rt.alloc());
-    for _ in 0..MOST_CLIENTS + 6 {
+    for _ in 0..MAX_CLIENTS + 6 {
         add_client(&rt, &mut clients, TcpStream::connect(&rt, address));
     }
     serves(&rt, &mut server, page, &mut clients);
