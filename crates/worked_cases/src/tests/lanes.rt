@@ -146,7 +146,7 @@ impl Player {
     }
 
     /// Returns true if the lane does not accept a mark of this format.
-    fn refuses(&self, format: Format, plain: Plain) -> bool {
+    fn refuses(&self, format: PacketFormat, plain: Plain) -> bool {
         !self.lane.accepts(&mark_of(format, plain))
     }
 
