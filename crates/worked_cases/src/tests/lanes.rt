@@ -142,7 +142,7 @@ impl Player {
     /// Returns true if the lane has no room for a mark.
     fn has_no_room(&self, plain: Plain) -> bool {
         let mark = mark_of(self.lane.format(), plain);
-        !self.lane.has_room(&mark.lent())
+        !self.lane.has_room(&mark.as_ref())
     }
 
     /// Returns true if the lane does not accept a mark of this format.
