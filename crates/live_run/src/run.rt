@@ -5,7 +5,6 @@ ghost use Rattle.live_run.specs.RunText.{FailsRun, WritesRun};
 use crate::fault::LiveFault;
 use crate::inputs::LiveInputs;
 use crate::launch::launch_run;
-use crate::options::{LiveInputs, LiveOptions};
 use crate::report::write_report;
 use live_io::LiveOptions;
 use std::alloc::Global;

@@ -1,8 +1,7 @@
 //! Opening the status of a run: its page, the line with its addresses, and the outputs that the run fills.
 
 use crate::address_line::write_address_line;
-use crate::options::LiveOptions;
-use live_io::Sockets;
+use live_io::{LiveOptions, Sockets};
 use live_status::{
     OpenPage, PageFault, PageThread, StatusInputs, StatusOutputs, open_outputs, open_page,
 };
