@@ -7,7 +7,6 @@ use Rattle.studio_ends.specs.Datagrams.{AreAllGiven, HasGiven}
 use Rattle.studio_ends.specs.declared.rings.TokenConsumer.{TokenConsumer}
 use Rattle.studio_ends.specs.declared.mix_end.MixEnd.{MixEnd}
 use Rattle.studio_io.specs.Sinks.{Hands}
-use Rattle.studio_rings.specs.declared.worker.mixer.MixResult.{MixResult}
 
 -- the same rings, with the same tokens
 abbrev pub AreSameSides : List (TokenConsumer MarkView) → List (TokenConsumer MarkView) → Type 0
@@ -25,7 +24,3 @@ module _ {K : Type 0} where
     pub rings : AreSameSides s.sides.items t.sides.items
     pub given : (studio : Studio) (before : List (List ℕ)) → HasGiven studio s before → HasGiven studio t (before ++ datagrams)
     pub all : idle ≡ true → (studio : Studio) (before : List (List ℕ)) → HasGiven studio s before → AreAllGiven studio t (before ++ datagrams)
-
-  -- so a worker went on until nothing was left to mix
-  abbrev pub MixesOn : (K → Option (List (List ℕ))) → MixResult K → MixResult K → Type 0
-  MixesOn handed old new = Mixes handed old.end old.sink old.counts.blocks true new.end new.sink new.counts.blocks

@@ -1,5 +1,5 @@
 //! Runs the workers of a stream's paths, each in a thread of its own, and the stream's turns in the calling thread.
-ghost use Rattle.std.specs.Prelude.{◌≡◌, ◌+◌, ◌≤◌, ◌++◌, [], ◌∷◌, List, length, vec_len, vec_capacity, OnOk};
+ghost use Rattle.std.specs.Prelude.{◌≡◌, ◌+◌, ◌≤◌, ◌++◌, [], ◌∷◌, List, length, vec_len, vec_capacity, IfOk};
 ghost use Rattle.std.specs.Thread.{IsSync};
 ghost use Rattle.std.specs.List.{AllZip};
 ghost use Rattle.studio_rings.specs.PathWorkers.{IsPathResult};
@@ -22,16 +22,17 @@ pub(crate) struct WorkerStopped;
 /// Makes turns until all paths have ended or the workers must stop.
 fn run_turns<R: Wait, C: Clock>(
     rt: &R,
-    stream: &mut ClockedStream<C>,
+    stream: ClockedStream<C>,
     ended: &[AtomicBool],
     stop: &AtomicBool,
-)
-    ensures { GoesOn C.told stream.old stream.new }
+) -> ClockedStream<C>
+    ensures { GoesOn C.told stream result }
 {
+    let mut stream = stream;
     for _ in rt.forever() {
         let all = ended.iter().all(|flag| flag.load(Ordering::SeqCst));
         if all || stop.load(Ordering::SeqCst) {
-            return;
+            return stream;
         }
         stream.turn(rt);
     }
@@ -52,25 +53,26 @@ impl<F: Feed> Promise<PathResult> for PathPromise<F> {
 /// order of the paths. Returns `WorkerStopped` if a thread cannot be started.
 pub(crate) fn run_paths<R: Threads + Wait + Sync, F: Feed + Send, C: Clock>(
     rt: &R,
-    jobs: &mut Vec<PathJob<F>>,
-    results: &mut Vec<PathResult>,
-    stream: &mut ClockedStream<C>,
+    jobs: Vec<PathJob<F>>,
+    results: Vec<PathResult>,
+    stream: ClockedStream<C>,
     ended: &[AtomicBool],
     stop: &AtomicBool,
-) -> Result<(), WorkerStopped>
-    requires room { vec_len results.old + vec_len jobs.old ≤ vec_capacity results.old }
-    requires flags { vec_len jobs.old ≤ length ended.now }
-    ensures results { OnOk result ((own : List PathResult) × (results.new.items ≡ results.old.items ++ own)
-        × AllZip (IsPathResult F.told) jobs.old.items own) }
-    ensures stream { OnOk result (GoesOn C.told stream.old stream.new) }
-    ensures len { OnOk result (vec_len results.new ≡ vec_len results.old + vec_len jobs.old) }
-    ensures capacity { OnOk result (vec_capacity results.new ≡ vec_capacity results.old) }
+) -> Result<(Vec<PathResult>, ClockedStream<C>), WorkerStopped>
+    requires room { vec_len results + vec_len jobs ≤ vec_capacity results }
+    requires flags { vec_len jobs ≤ length ended.now }
+    ensures results { IfOk result (λ r. (own : List PathResult) × (r.0.items ≡ results.items ++ own)
+        × AllZip (IsPathResult F.told) jobs.items own) }
+    ensures stream { IfOk result (λ r. GoesOn C.told stream r.1) }
+    ensures len { IfOk result (λ r. vec_len r.0 ≡ vec_len results + vec_len jobs) }
+    ensures capacity { IfOk result (λ r. vec_capacity r.0 ≡ vec_capacity results) }
 {
+    let mut jobs = jobs;
     // The last path's thread is started first and the calls below start the others, so the results come in order: the
     // last path's is pushed after theirs.
     let Some(job) = jobs.pop() else {
-        run_turns(rt, stream, ended, stop);
-        return Ok(());
+        let stream = run_turns(rt, stream, ended, stop);
+        return Ok((results, stream));
     };
     let flag = &ended[jobs.len()];
     // The join says no more of a thread's result than the thread's promise does.
@@ -80,18 +82,16 @@ pub(crate) fn run_paths<R: Threads + Wait + Sync, F: Feed + Send, C: Clock>(
     thread::scope(
         thread::scope_env(),
         rt,
-        move |scope| -> Result<(), WorkerStopped>
+        move |scope| -> Result<(Vec<PathResult>, ClockedStream<C>), WorkerStopped>
             requires sync { IsSync R.row }
-            requires room { vec_len results.now + vec_len jobs.now + 1 ≤ vec_capacity results.now }
-            requires flags { vec_len jobs.now ≤ length ended.now }
+            requires room { vec_len results + vec_len jobs + 1 ≤ vec_capacity results }
+            requires flags { vec_len jobs ≤ length ended.now }
             requires promise { promise.job.value ≡ job }
-            ensures results { OnOk result ((own : List PathResult)
-                × (results.exit.now.items ≡ results.entry.now.items ++ own)
-                × AllZip (IsPathResult F.told) (jobs.entry.now.items ++ job ∷ []) own) }
-            ensures stream { OnOk result (GoesOn C.told stream.entry.now stream.exit.now) }
-            ensures len { OnOk result (vec_len results.exit.now
-                ≡ vec_len results.entry.now + vec_len jobs.entry.now + 1) }
-            ensures capacity { OnOk result (vec_capacity results.exit.now ≡ vec_capacity results.entry.now) }
+            ensures results { IfOk result (λ r. (own : List PathResult) × (r.0.items ≡ results.items ++ own)
+                × AllZip (IsPathResult F.told) (jobs.items ++ job ∷ []) own) }
+            ensures stream { IfOk result (λ r. GoesOn C.told stream r.1) }
+            ensures len { IfOk result (λ r. vec_len r.0 ≡ vec_len results + vec_len jobs + 1) }
+            ensures capacity { IfOk result (λ r. vec_capacity r.0 ≡ vec_capacity results) }
         {
             let Ok(child) = scope.spawn_with(promise, move || run_path(rt, job, flag, stop)) else {
                 stop.store(true, Ordering::SeqCst);
@@ -100,9 +100,9 @@ pub(crate) fn run_paths<R: Threads + Wait + Sync, F: Feed + Send, C: Clock>(
             // The thread is joined before an error of the others is returned.
             let rest = run_paths(rt, jobs, results, stream, ended, stop);
             let result = child.join(rt);
-            rest?;
-            results.push_reserved(result);
-            Ok(())
+            let (mut all, stream) = rest?;
+            all.push_reserved(result);
+            Ok((all, stream))
         },
     )
 }

@@ -23,7 +23,7 @@ use std::sync::Wait;
 use std::sync::atomic::AtomicBool;
 use std::thread::Threads;
 use studio_ends::{Ends, PathEnd, StreamEnd};
-use studio_io::{Clock, Feed, SendCounts, Sink, WorkFault, WorkReport};
+use studio_io::{Clock, Feed, Sink, WorkFault, WorkReport};
 
 /// The jobs of the workers, and the room for all their results.
 #[derive(Drop)]
@@ -158,21 +158,16 @@ pub fn run_workers<R: Threads + Wait + Sync, F: Feed + Send, C: Clock + Send, K:
     } = ends;
     let memory = reserve_memory(alloc, paths, feeds, streams, clocks)?;
     let RunMemory {
-        mut jobs,
-        mut results,
+        jobs,
+        results,
         ended,
         parts,
     } = memory;
-    let mut mixed = MixResult {
-        end: mix,
-        sink,
-        counts: SendCounts::new(),
-    };
     // Set by the first worker that cannot start a thread. Every worker reads it between its steps.
     let stop = AtomicBool::new(false);
-    if run_streams(rt, &mut jobs, &mut results, &mut mixed, &ended, &stop).is_err() {
+    let Ok((results, mixed)) = run_streams(rt, jobs, results, mix, sink, &ended, &stop) else {
         return Err(WorkFault::Start);
-    }
+    };
     let parts = collect_results(results, parts);
     Ok(report(mixed, parts))
 }

@@ -7,29 +7,30 @@ ghost use Rattle.std.specs.Prelude.{
   [],
   ◌∷◌,
   List,
+  true,
   length,
   vec_len,
   vec_capacity,
   IfOk,
-  OnOk,
   IfSome,
   MatchOption,
 };
 ghost use Rattle.std.specs.Option.{option_to_list};
 ghost use Rattle.std.specs.Thread.{IsSync};
 ghost use Rattle.std.specs.List.{AllZip};
-ghost use Rattle.studio_rings.specs.MixWorker.{MixesOn};
+ghost use Rattle.studio_rings.specs.MixWorker.{Mixes};
 ghost use Rattle.studio_rings.specs.StreamWorkers.{AllReady, IsReady, IsStreamResult};
 
 use crate::path_threads::WorkerStopped;
 use crate::stream_job::{StreamJob, StreamResult};
-use crate::worker::mixer::{MixResult, mix_until_ended};
+use crate::worker::mixer::{MixResult, run_mixer};
 use crate::worker::stream::run_stream;
 use std::snapshot::Snapshot;
 use std::sync::Wait;
 use std::sync::atomic::{AtomicBool, Ordering};
 use std::thread;
 use std::thread::{Promise, Threads};
+use studio_ends::MixEnd;
 use studio_io::{Clock, Feed, Sink};
 
 /// The promise of a stream's thread: its result, if it has one, is that of running this job.
@@ -59,26 +60,28 @@ fn last_job<F: Drop, C: Drop>(jobs: &mut Vec<StreamJob<F, C>>) -> Option<StreamJ
 /// the streams. Returns `WorkerStopped` if a thread cannot be started.
 pub(crate) fn run_streams<R: Threads + Wait + Sync, F: Feed + Send, C: Clock + Send, K: Sink>(
     rt: &R,
-    jobs: &mut Vec<StreamJob<F, C>>,
-    results: &mut Vec<StreamResult>,
-    mixed: &mut MixResult<K>,
+    jobs: Vec<StreamJob<F, C>>,
+    results: Vec<StreamResult>,
+    mix: MixEnd,
+    sink: K,
     ended: &[AtomicBool],
     stop: &AtomicBool,
-) -> Result<(), WorkerStopped>
-    requires ready { AllReady jobs.old.items }
-    requires room { vec_len results.old + vec_len jobs.old ≤ vec_capacity results.old }
-    requires flags { vec_len jobs.old ≤ length ended.now }
-    ensures results { OnOk result ((own : List StreamResult) × (results.new.items ≡ results.old.items ++ own)
-        × AllZip (IsStreamResult F.told C.told) jobs.old.items own) }
-    ensures mixes { OnOk result (MixesOn K.handed mixed.old mixed.new) }
-    ensures len { OnOk result (vec_len results.new ≡ vec_len results.old + vec_len jobs.old) }
-    ensures capacity { OnOk result (vec_capacity results.new ≡ vec_capacity results.old) }
+) -> Result<(Vec<StreamResult>, MixResult<K>), WorkerStopped>
+    requires ready { AllReady jobs.items }
+    requires room { vec_len results + vec_len jobs ≤ vec_capacity results }
+    requires flags { vec_len jobs ≤ length ended.now }
+    ensures results { IfOk result (λ r. (own : List StreamResult) × (r.0.items ≡ results.items ++ own)
+        × AllZip (IsStreamResult F.told C.told) jobs.items own) }
+    ensures mixes { IfOk result (λ r. Mixes K.handed mix sink 0 true r.1.end r.1.sink r.1.counts.blocks) }
+    ensures len { IfOk result (λ r. vec_len r.0 ≡ vec_len results + vec_len jobs) }
+    ensures capacity { IfOk result (λ r. vec_capacity r.0 ≡ vec_capacity results) }
 {
+    let mut jobs = jobs;
     // The last stream's thread is started first and the calls below start the others, so the results come in order:
     // the last stream's is pushed after theirs.
-    let Some(job) = last_job(jobs) else {
-        mix_until_ended(rt, mixed, ended, stop);
-        return Ok(());
+    let Some(job) = last_job(&mut jobs) else {
+        let mixed = run_mixer(rt, mix, sink, ended, stop);
+        return Ok((results, mixed));
     };
     let flag = &ended[jobs.len()];
     // The join says no more of a thread's result than the thread's promise does.
@@ -88,20 +91,18 @@ pub(crate) fn run_streams<R: Threads + Wait + Sync, F: Feed + Send, C: Clock + S
     thread::scope(
         thread::scope_env(),
         rt,
-        move |scope| -> Result<(), WorkerStopped>
+        move |scope| -> Result<(Vec<StreamResult>, MixResult<K>), WorkerStopped>
             requires sync { IsSync R.row }
-            requires ready { AllReady jobs.now.items }
+            requires ready { AllReady jobs.items }
             requires own { IsReady job }
-            requires room { vec_len results.now + vec_len jobs.now + 1 ≤ vec_capacity results.now }
-            requires flags { vec_len jobs.now ≤ length ended.now }
+            requires room { vec_len results + vec_len jobs + 1 ≤ vec_capacity results }
+            requires flags { vec_len jobs ≤ length ended.now }
             requires promise { promise.job.value ≡ job }
-            ensures results { OnOk result ((own : List StreamResult)
-                × (results.exit.now.items ≡ results.entry.now.items ++ own)
-                × AllZip (IsStreamResult F.told C.told) (jobs.entry.now.items ++ job ∷ []) own) }
-            ensures mixes { OnOk result (MixesOn K.handed mixed.entry.now mixed.exit.now) }
-            ensures len { OnOk result (vec_len results.exit.now
-                ≡ vec_len results.entry.now + vec_len jobs.entry.now + 1) }
-            ensures capacity { OnOk result (vec_capacity results.exit.now ≡ vec_capacity results.entry.now) }
+            ensures results { IfOk result (λ r. (own : List StreamResult) × (r.0.items ≡ results.items ++ own)
+                × AllZip (IsStreamResult F.told C.told) (jobs.items ++ job ∷ []) own) }
+            ensures mixes { IfOk result (λ r. Mixes K.handed mix sink 0 true r.1.end r.1.sink r.1.counts.blocks) }
+            ensures len { IfOk result (λ r. vec_len r.0 ≡ vec_len results + vec_len jobs + 1) }
+            ensures capacity { IfOk result (λ r. vec_capacity r.0 ≡ vec_capacity results) }
         {
             let Ok(child) = scope.spawn_with(
                 promise,
@@ -115,11 +116,11 @@ pub(crate) fn run_streams<R: Threads + Wait + Sync, F: Feed + Send, C: Clock + S
                 return Err(WorkerStopped);
             };
             // The thread is joined before an error of the others is returned.
-            let rest = run_streams(rt, jobs, results, mixed, ended, stop);
+            let rest = run_streams(rt, jobs, results, mix, sink, ended, stop);
             let result = child.join(rt);
-            rest?;
-            results.push_reserved(result?);
-            Ok(())
+            let (mut all, mixed) = rest?;
+            all.push_reserved(result?);
+            Ok((all, mixed))
         },
     )
 }

@@ -1,6 +1,6 @@
 //! The worker of the mixer: turns of its end, and each datagram to the sink.
 ghost use Rattle.std.specs.Prelude.{true};
-ghost use Rattle.studio_rings.specs.MixWorker.{Mixes, MixesOn};
+ghost use Rattle.studio_rings.specs.MixWorker.{Mixes};
 
 use crate::worker::Backoff;
 use std::sync::Wait;
@@ -41,33 +41,6 @@ fn mix_once<K: Sink>(end: &mut MixEnd, sink: &mut K, counts: &mut SendCounts) ->
 }
 
 /// Mixes until every stream has ended, or the workers must stop, and a turn after that found nothing.
-pub(crate) fn mix_until_ended<R: Wait, K: Sink>(
-    rt: &R,
-    mixed: &mut MixResult<K>,
-    ended: &[AtomicBool],
-    stop: &AtomicBool,
-)
-    ensures { MixesOn K.handed mixed.old mixed.new }
-{
-    let mut pause = Backoff::between(FIRST_PAUSE, LONGEST_PAUSE);
-    for _ in rt.forever() {
-        // The flags are read before the turn: a stream sets its flag after its last mark, so if all flags were set and
-        // the turn still found nothing, no later turn finds anything.
-        let last = stop.load(Ordering::SeqCst)
-            || ended.iter().all(|flag| flag.load(Ordering::SeqCst));
-        if !mix_once(&mut mixed.end, &mut mixed.sink, &mut mixed.counts) {
-            pause.reset();
-            continue;
-        }
-        if last {
-            return;
-        }
-        pause.snooze(rt);
-    }
-    unreachable!()
-}
-
-/// Mixes until every stream has ended, or the workers must stop, and a turn after that found nothing.
 ///
 /// `ended` has a flag for each stream, which the stream's worker sets. The caller sets `stop` to stop it early.
 pub fn run_mixer<R: Wait, K: Sink>(
@@ -79,11 +52,23 @@ pub fn run_mixer<R: Wait, K: Sink>(
 ) -> MixResult<K>
     ensures { Mixes K.handed end sink 0 true result.end result.sink result.counts.blocks }
 {
-    let mut mixed = MixResult {
-        end,
-        sink,
-        counts: SendCounts::new(),
-    };
-    mix_until_ended(rt, &mut mixed, ended, stop);
-    mixed
+    let mut end = end;
+    let mut sink = sink;
+    let mut counts = SendCounts::new();
+    let mut pause = Backoff::between(FIRST_PAUSE, LONGEST_PAUSE);
+    for _ in rt.forever() {
+        // The flags are read before the turn: a stream sets its flag after its last mark, so if all flags were set and
+        // the turn still found nothing, no later turn finds anything.
+        let last = stop.load(Ordering::SeqCst)
+            || ended.iter().all(|flag| flag.load(Ordering::SeqCst));
+        if !mix_once(&mut end, &mut sink, &mut counts) {
+            pause.reset();
+            continue;
+        }
+        if last {
+            return MixResult { end, sink, counts };
+        }
+        pause.snooze(rt);
+    }
+    unreachable!()
 }

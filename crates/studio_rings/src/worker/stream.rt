@@ -192,10 +192,8 @@ fn run_stream_and_paths<R: Threads + Wait + Sync, F: Feed + Send, C: Clock>(
         counts,
         faults,
     } = job;
-    let mut stream = ClockedStream::new(end, clock);
-    let mut paths = paths;
-    let mut results = results;
-    run_paths(rt, &mut paths, &mut results, &mut stream, &ended, stop)?;
+    let stream = ClockedStream::new(end, clock);
+    let (results, stream) = run_paths(rt, paths, results, stream, &ended, stop)?;
     end_stream(rt, stream, results, counts, faults, stop)
 }
 

@@ -44,8 +44,8 @@ loop-preserved-in-Fault g c = record {
   sends = λ whole. sends-answer _ _ _ c.args.end.now c.loop.end c.loop.end c.loop.state c.note.new.self c.next-answer.new.buf _ Fault c.in-Fault.is c.if-state.false c.loop.invariant.few c.note.ensures.noted (c.next-answer.ensures.tells c.loop.invariant.room) refl (c.loop.invariant.sends whole);
 }
 
-pub loop-preserved-in-Ended : goal.loop-preserved-in-Ended
-loop-preserved-in-Ended g c = record {
+pub loop-preserved : goal.loop-preserved
+loop-preserved g c = record {
   few = few-faults c.loop.state c.note.new.self _ c.loop.invariant.few c.note.ensures.noted;
   room = search rules;
   ring = c.loop.invariant.ring;
