@@ -21,6 +21,11 @@ module _ {T : Type 0} where
   wrote_nothing one studio written (Ok it) early = absurd early
   wrote_nothing one studio written (Err fault) early = early_writes_nothing one studio written fault early
 
+  -- a fault before the run began is an early one
+  pub is_early : (r : Result T LiveFault) → IsErrAnd r IsEarly → IfErr r IsEarly
+  is_early (Ok it) early = absurd early
+  is_early (Err fault) early = early
+
   -- a write that failed broke off a report
   pub broke_off : (one : Bool) (studio : Studio) (written written_then : Option (List ℕ)) (r : Result T LiveFault) → IsErrAnd r (λ fault. fault ≡ Write)
       → BreaksOffRun one studio written written_then → IfErr r (FailsRun one studio written written_then)
