@@ -22,7 +22,7 @@ impl CopyTracker {
     /// A tracker of a stream of which no packet was offered yet. Allocates all its memory, and returns `AllocError` if
     /// that fails.
     pub fn new(alloc: Global, spec: &StreamSpec) -> Result<CopyTracker, AllocError>
-        ensures { IfOk result (λ watch. HasTally spec.now [] watch.tally) }
+        ensures { IfOk result (λ tracker. HasTally spec.now [] tracker.tally) }
     {
         Ok(CopyTracker {
             deadlines: Deadlines::new(),

@@ -6,7 +6,7 @@ use Rattle.rtp_stats.specs.declared.channel.mix_sender.MixStatsSender.{MixStatsS
 
 -- whoever is to be told measures the datagrams of this output
 abbrev pub Measures : Option MixStatsSender → Output → Type 0
-Measures teller output = (one : MixStatsSender) → teller ≡ Some one → (one.enc ≡ output.enc) × (one.channels ≡ output.channels)
+Measures sender output = (one : MixStatsSender) → sender ≡ Some one → (one.enc ≡ output.enc) × (one.channels ≡ output.channels)
 
 -- these counts went through the ring of whoever is to be told, and with them the peaks with this datagram's among them, if
 -- there was room

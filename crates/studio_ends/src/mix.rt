@@ -54,20 +54,20 @@ pub struct MixNote {
 /// Sends the saturated samples and the peaks, if the mixer has a sender and a datagram of `given` octets was written to
 /// the start of `out`.
 fn send_stats(
-    teller: &mut Option<MixStatsSender>,
+    sender: &mut Option<MixStatsSender>,
     given: Option<usize>,
     saturated: &[u64],
     out: &[u8],
 )
     requires room { IfSome given (λ len. len ≤ length out.now) }
-    ensures told { IfSome given (λ len. TellsCounts saturated.now (take len out.now) teller.old teller.new) }
-    ensures measures { (output : Output) → Measures teller.old output → Measures teller.new output }
+    ensures told { IfSome given (λ len. TellsCounts saturated.now (take len out.now) sender.old sender.new) }
+    ensures measures { (output : Output) → Measures sender.old output → Measures sender.new output }
 {
     let Some(len) = given else {
         return;
     };
-    if let Some(teller) = teller {
-        teller.send(saturated, &out[..len]);
+    if let Some(sender) = sender {
+        sender.send(saturated, &out[..len]);
     }
 }
 
@@ -107,12 +107,12 @@ impl MixEnd {
             → AreAllGiven studio self.new datagrams }
         ensures none { result.len ≡ None → out.new ≡ out.old }
         ensures told { IfSome result.len (λ len. TellsCounts self.new.mixer.saturated
-            (take len out.new) self.old.teller self.new.teller) }
+            (take len out.new) self.old.sender self.new.sender) }
         ensures spec { self.new.mixer.packer.spec ≡ self.old.mixer.packer.spec }
     {
         let (taken, strange) = take_streams(&mut self.sides, &mut self.mixer);
         let len = self.mixer.next_block(out);
-        send_stats(&mut self.teller, len, self.mixer.saturated(), out);
+        send_stats(&mut self.sender, len, self.mixer.saturated(), out);
         MixNote {
             taken,
             strange,

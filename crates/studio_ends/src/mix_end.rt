@@ -14,8 +14,8 @@ pub struct MixEnd {
     pub(crate) sides: Vec<MarkConsumer>,
     pub(crate) mixer: Mixer,
     /// The sender of saturated samples and peaks; `None` if the rings were opened without statistics.
-    pub(crate) teller: Option<MixStatsSender>,
+    pub(crate) sender: Option<MixStatsSender>,
     ghost count: { vec_len sides ≡ length mixer.lanes },
     ghost few: { vec_len sides ≤ 16 },
-    ghost measures: { Measures teller mixer.packer.spec },
+    ghost measures: { Measures sender mixer.packer.spec },
 }

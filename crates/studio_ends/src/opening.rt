@@ -58,17 +58,17 @@ fn open_path(
     alloc: Global,
     spec: &StreamSpec,
     ring_len: usize,
-    tellers: &mut StatsChannels,
+    channels: &mut StatsChannels,
 ) -> Result<(PathEnd, PacketConsumer), AllocError>
     ensures { IfOk result (λ r. IsFreshPath spec.now ring_len r.0 r.1) }
 {
-    let teller = tellers.path_channel(alloc)?;
+    let sender = channels.path_channel(alloc)?;
     let (ring, side) = open_packets(alloc, spec.payload_len(), ring_len)?;
     let end = PathEnd {
         spec: *spec,
         ring,
         counts: PathCounts::new(),
-        teller,
+        sender,
     };
     Ok((end, side))
 }
@@ -79,7 +79,7 @@ fn open_paths(
     spec: &StreamSpec,
     ring_len: usize,
     paths: &mut Vec<PathEnd>,
-    tellers: &mut StatsChannels,
+    channels: &mut StatsChannels,
 ) -> Result<Vec<PacketConsumer>, AllocError>
     ensures { IfOk result (λ sides. (own : List PathEnd) × (paths.new.items ≡ paths.old.items ++ own)
         × (length own ≡ spec.now.paths) × (vec_len sides ≡ spec.now.paths)
@@ -87,7 +87,7 @@ fn open_paths(
 {
     let mut sides = Vec::new(alloc);
     for _ in 0..spec.paths() {
-        let (end, side) = open_path(alloc, spec, ring_len, tellers)?;
+        let (end, side) = open_path(alloc, spec, ring_len, channels)?;
         paths.push(end)?;
         sides.push(side)?;
     }
@@ -101,7 +101,7 @@ fn open_stream(
     open_at: i64,
     sides: Vec<PacketConsumer>,
     ring_len: usize,
-    tellers: &mut StatsChannels,
+    channels: &mut StatsChannels,
 ) -> Result<(StreamEnd, MonitorEnd, MarkConsumer), AllocError>
     requires not_low { pos 0 ≤ℤ open_at }
     requires not_high { open_at ≤ℤ pos (2 ^ 60) }
@@ -110,7 +110,7 @@ fn open_stream(
         → IfOk result (λ r. IsFreshStream open_at ring_len spec.now own r.0) }
     ensures rings { IfOk result (λ r. AreFreshRings ring_len r.0 r.1 r.2) }
 {
-    let teller = tellers.stream_channel(alloc, spec)?;
+    let sender = channels.stream_channel(alloc, spec)?;
     let merge = Merge::new(alloc, *spec, open_at)?;
     // Called for its contract: a payload has at most 1,440 octets, which `open_marks` requires.
     let _len = spec.payload_len();
@@ -123,7 +123,7 @@ fn open_stream(
         marks,
         monitor,
         merge,
-        teller,
+        sender,
     };
     Ok((end, MonitorEnd { ring: look }, side))
 }
@@ -135,14 +135,14 @@ fn add_stream(
     open_at: i64,
     ring_len: usize,
     ends: &mut StreamEnds,
-    tellers: &mut StatsChannels,
+    channels: &mut StatsChannels,
 ) -> Result<(), AllocError>
     requires not_low { pos 0 ≤ℤ open_at }
     requires not_high { open_at ≤ℤ pos (2 ^ 60) }
     ensures { OnOk result (AddsStream open_at ring_len spec.now ends.old ends.new) }
 {
-    let sides = open_paths(alloc, spec, ring_len, &mut ends.paths, tellers)?;
-    let (end, monitor, side) = open_stream(alloc, spec, open_at, sides, ring_len, tellers)?;
+    let sides = open_paths(alloc, spec, ring_len, &mut ends.paths, channels)?;
+    let (end, monitor, side) = open_stream(alloc, spec, open_at, sides, ring_len, channels)?;
     ends.streams.push(end)?;
     ends.monitors.push(monitor)?;
     ends.marks.push(side)?;
@@ -155,7 +155,7 @@ fn open_streams(
     specs: &[StreamSpec],
     open_at: i64,
     ring_len: usize,
-    tellers: &mut StatsChannels,
+    channels: &mut StatsChannels,
 ) -> Result<StreamEnds, AllocError>
     requires not_low { pos 0 ≤ℤ open_at }
     requires not_high { open_at ≤ℤ pos (2 ^ 60) }
@@ -168,7 +168,7 @@ fn open_streams(
         marks: Vec::new(alloc),
     };
     for spec in specs {
-        add_stream(alloc, spec, open_at, ring_len, &mut ends, tellers)?;
+        add_stream(alloc, spec, open_at, ring_len, &mut ends, channels)?;
     }
     Ok(ends)
 }
@@ -178,21 +178,21 @@ fn open_mix(
     alloc: Global,
     studio: &StudioSpec,
     sides: Vec<MarkConsumer>,
-    tellers: &mut StatsChannels,
+    channels: &mut StatsChannels,
 ) -> Result<MixEnd, AllocError>
     requires sound { IsStudio studio.now }
     requires unread { AllUnread studio.now.streams sides.items }
     ensures { IfOk result (λ mix. (mix.sides ≡ sides) × HasGiven studio.now mix []) }
 {
     let output = studio.output();
-    let teller = tellers.mix_channel(alloc, output)?;
+    let sender = channels.mix_channel(alloc, output)?;
     let mixer = Mixer::new(alloc, studio)?;
     // Called for its contract: the output is within its limits, which the end's facts need.
     let _frames = output.frames();
     Ok(MixEnd {
         sides,
         mixer,
-        teller,
+        sender,
     })
 }
 
@@ -201,7 +201,7 @@ fn open_ends(
     alloc: Global,
     studio: &StudioSpec,
     ring_len: usize,
-    tellers: &mut StatsChannels,
+    channels: &mut StatsChannels,
 ) -> Result<Ends, AllocError>
     ensures { IfOk result (λ ends. AreOpened studio.now ring_len ends) }
 {
@@ -210,8 +210,8 @@ fn open_ends(
         streams,
         monitors,
         marks,
-    } = open_streams(alloc, studio.streams(), studio.open_at(), ring_len, tellers)?;
-    let mix = open_mix(alloc, studio, marks, tellers)?;
+    } = open_streams(alloc, studio.streams(), studio.open_at(), ring_len, channels)?;
+    let mix = open_mix(alloc, studio, marks, channels)?;
     Ok(Ends {
         paths,
         streams,
@@ -248,9 +248,9 @@ pub fn open_with_stats(
     ensures places { IfOk result (λ r. (1 ≤ ring_len) × (ring_len ≤ 65536)) }
     ensures fault { IfErr result (λ fault. fault ≡ open_fault_of ring_len) }
 {
-    let mut tellers = StatsChannels::new(alloc, true);
-    let ends = open_with(alloc, studio, ring_len, &mut tellers)?;
-    Ok((ends, tellers.watches))
+    let mut channels = StatsChannels::new(alloc, true);
+    let ends = open_with(alloc, studio, ring_len, &mut channels)?;
+    Ok((ends, channels.receivers))
 }
 
 /// Opens the rings, and the channels of statistics if they are wanted.
@@ -258,7 +258,7 @@ fn open_with(
     alloc: Global,
     studio: &StudioSpec,
     ring_len: usize,
-    tellers: &mut StatsChannels,
+    channels: &mut StatsChannels,
 ) -> Result<Ends, OpenFault>
     ensures opened { IfOk result (λ ends. AreOpened studio.now ring_len ends) }
     ensures places { IfOk result (λ ends. (1 ≤ ring_len) × (ring_len ≤ 65536)) }
@@ -267,5 +267,5 @@ fn open_with(
     if ring_len < 1 || 65536 < ring_len {
         return Err(OpenFault::RingLength);
     }
-    open_ends(alloc, studio, ring_len, tellers).map_err(|_| OpenFault::Memory)
+    open_ends(alloc, studio, ring_len, channels).map_err(|_| OpenFault::Memory)
 }

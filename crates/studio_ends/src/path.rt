@@ -53,9 +53,9 @@ fn lacks_room(ring: &mut PacketProducer, reception: ReceptionRef<'_>) -> bool
 }
 
 /// Sends counts, if the path has a sender.
-fn send_stats(teller: &mut Option<PathCountsSender>, counts: PathCounts) {
-    if let Some(teller) = teller {
-        teller.send(counts);
+fn send_stats(sender: &mut Option<PathCountsSender>, counts: PathCounts) {
+    if let Some(sender) = sender {
+        sender.send(counts);
     }
 }
 
@@ -78,11 +78,11 @@ impl PathEnd {
         // Room is tested before the datagram is counted: each is counted once, as full or as received.
         if lacks_room(&mut self.ring, reception) {
             self.counts.add_full();
-            send_stats(&mut self.teller, self.counts);
+            send_stats(&mut self.sender, self.counts);
             return Offer::Full;
         }
-        self.counts.add(reception);
-        send_stats(&mut self.teller, self.counts);
+        self.counts.add_ref(reception);
+        send_stats(&mut self.sender, self.counts);
         match reception {
             ReceptionRef::Sent(packet) => {
                 self.ring.push(packet);
@@ -97,9 +97,9 @@ impl PathEnd {
     /// Sends the counts of datagrams, if the path has a sender. For use while no datagram arrives: `offer` sends
     /// them itself.
     pub fn send_counts(&mut self)
-        ensures { self.new ≡ record self.old { teller = self.new.teller } }
+        ensures { self.new ≡ record self.old { sender = self.new.sender } }
     {
-        send_stats(&mut self.teller, self.counts);
+        send_stats(&mut self.sender, self.counts);
     }
 
     /// Consumes the end and returns its token and the counts of its datagrams. The token is `None` if the stream's
@@ -114,7 +114,7 @@ impl PathEnd {
             spec: _,
             ring,
             counts,
-            teller: _,
+            sender: _,
         } = self;
         match ring.finish() {
             Some(token) => (Some(PathDone { token }), counts),

@@ -20,7 +20,7 @@ pub struct PathEnd {
     pub(crate) ring: PacketProducer,
     pub(crate) counts: PathCounts,
     /// The sender of these counts; `None` if the rings were opened without statistics.
-    pub(crate) teller: Option<PathCountsSender>,
+    pub(crate) sender: Option<PathCountsSender>,
     ghost few: { counts.offered ≤ 2 ^ 62 },
     ghost all_counted: { counts.sent ≡ length (sent ring) },
     ghost roomy: { HasRoomFor (payload_length (format_of spec)) ring },

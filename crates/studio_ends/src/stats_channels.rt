@@ -23,7 +23,7 @@ pub struct StatsReceivers {
 /// The receivers that were opened so far. Without statistics it opens none.
 #[derive(Drop)]
 pub(crate) struct StatsChannels {
-    pub(crate) watches: StatsReceivers,
+    pub(crate) receivers: StatsReceivers,
     are_wanted: bool,
 }
 
@@ -31,7 +31,7 @@ impl StatsChannels {
     /// Channels of which none is open yet. If they are not wanted, none is ever opened.
     pub(crate) fn new(alloc: Global, are_wanted: bool) -> StatsChannels {
         StatsChannels {
-            watches: StatsReceivers {
+            receivers: StatsReceivers {
                 paths: Vec::new(alloc),
                 streams: Vec::new(alloc),
                 mix: None,
@@ -48,9 +48,9 @@ impl StatsChannels {
         if !self.are_wanted {
             return Ok(None);
         }
-        let (teller, watch) = path_counts_channel(alloc)?;
-        self.watches.paths.push(watch)?;
-        Ok(Some(teller))
+        let (sender, receiver) = path_counts_channel(alloc)?;
+        self.receivers.paths.push(receiver)?;
+        Ok(Some(sender))
     }
 
     /// Opens the next stream's channel and returns its sender; `None` if statistics are not wanted.
@@ -62,9 +62,9 @@ impl StatsChannels {
         if !self.are_wanted {
             return Ok(None);
         }
-        let (teller, watch) = stream_stats_channel(alloc, spec)?;
-        self.watches.streams.push(watch)?;
-        Ok(Some(teller))
+        let (sender, receiver) = stream_stats_channel(alloc, spec)?;
+        self.receivers.streams.push(receiver)?;
+        Ok(Some(sender))
     }
 
     /// Opens the mixer's channel for this output and returns its sender; `None` if statistics are not wanted.
@@ -73,13 +73,13 @@ impl StatsChannels {
         alloc: Global,
         output: &OutSpec,
     ) -> Result<Option<MixStatsSender>, AllocError>
-        ensures { IfOk result (λ teller. Measures teller output.now) }
+        ensures { IfOk result (λ sender. Measures sender output.now) }
     {
         if !self.are_wanted {
             return Ok(None);
         }
-        let (teller, watch) = mix_stats_channel(alloc, output.enc(), output.channels())?;
-        self.watches.mix = Some(watch);
-        Ok(Some(teller))
+        let (sender, receiver) = mix_stats_channel(alloc, output.enc(), output.channels())?;
+        self.receivers.mix = Some(receiver);
+        Ok(Some(sender))
     }
 }

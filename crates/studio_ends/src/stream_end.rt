@@ -24,7 +24,7 @@ pub struct StreamEnd {
     pub(crate) monitor: Producer<Counts>,
     pub(crate) merge: Merge<SlotWindow>,
     /// The sender of the packets' statistics; `None` if the rings were opened without them.
-    pub(crate) teller: Option<StreamStatsSender>,
+    pub(crate) sender: Option<StreamStatsSender>,
     ghost same: { merge.spec ≡ spec },
     ghost paths: { vec_len sides ≡ spec.paths },
     ghost roomy: { HasRoomFor (payload_length (format_of spec)) marks },

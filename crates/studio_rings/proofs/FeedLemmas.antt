@@ -251,11 +251,11 @@ sends-datagram told left rest p q r k n b h t s =
     s.full s.offered
 
 sends-nothing : (told left rest : List Answer) (p q r : PathEnd) (k : ℕ) (b : List ℕ)
-    → SendsSoFar told p left k q → r ≡ record q { teller = r.teller } → Tells left b Nothing rest → SendsSoFar told p rest 0 r
+    → SendsSoFar told p left k q → r ≡ record q { sender = r.sender } → Tells left b Nothing rest → SendsSoFar told p rest 0 r
 unfolding reaches_end told_datagrams
 sends-nothing told left rest p q r k b h same t =
     let e = told-next k left b Nothing rest h.whole t in
-    let sends : SendsSoFar told p rest 0 (record q { teller = r.teller }) =
+    let sends : SendsSoFar told p rest 0 (record q { sender = r.sender }) =
     record { ring = h.ring; spec = h.spec; whole = rw e at h.whole; more = h.more; sends = h.sends; some = rw e at h.some; all = rw e at h.all; tried = h.tried; before = rw e at h.before; grows = h.grows; lacking = h.lacking; others = h.others } in
     subst (SendsSoFar told p rest 0) (sym same) sends
 
@@ -304,7 +304,7 @@ sends-none told p whole = record { on = λ _. sends-start told p whole; over = �
 -- what is done with an answer
 abbrev pub Handles : FeedAnswer → List ℕ → PathEnd → PathEnd → Type 0
 Handles (Datagram n) b q r = OffersAgain (take n b) q r
-Handles Nothing b q r = r ≡ record q { teller = r.teller }
+Handles Nothing b q r = r ≡ record q { sender = r.sender }
 Handles Fault b q r = r ≡ q
 Handles Ended b q r = r ≡ q
 

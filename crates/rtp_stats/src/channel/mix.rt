@@ -35,13 +35,13 @@ pub fn mix_stats_channel(
     ensures peaks { IfOk result (λ ends. ends.0.peaks ≡ no_peaks) }
 {
     let (producer, consumer) = RingBuffer::new(alloc, 1)?;
-    let teller = MixStatsSender {
+    let sender = MixStatsSender {
         enc,
         channels: usize::from(channels).min(MAX_CHANNELS),
         peaks: [0; MAX_CHANNELS],
         ring: producer,
     };
-    Ok((teller, MixStatsReceiver { ring: consumer }))
+    Ok((sender, MixStatsReceiver { ring: consumer }))
 }
 
 impl MixStatsSender {

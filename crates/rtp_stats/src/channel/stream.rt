@@ -24,7 +24,7 @@ const PLACES: usize = 4;
 /// The sender of the statistics of a stream's packets.
 #[derive(Drop)]
 pub struct StreamStatsSender {
-    watch: CopyTracker,
+    tracker: CopyTracker,
     ring: Producer<StreamStats>,
     /// The time from which it sends again, in sampling instants at 48 kHz.
     next: i64,
@@ -43,18 +43,18 @@ pub fn stream_stats_channel(
     alloc: Global,
     spec: &StreamSpec,
 ) -> Result<(StreamStatsSender, StreamStatsReceiver), AllocError>
-    ensures empty { IfOk result (λ ends. HasTally spec.now [] ends.0.watch.tally) }
+    ensures empty { IfOk result (λ ends. HasTally spec.now [] ends.0.tracker.tally) }
     ensures next { IfOk result (λ ends. (now : ℤ) → neg_ℤ (pos (2 ^ 63)) ≤ℤ now → ends.0.next ≤ℤ now) }
 {
-    let watch = CopyTracker::new(alloc, spec)?;
+    let tracker = CopyTracker::new(alloc, spec)?;
     let (producer, consumer) = RingBuffer::new(alloc, PLACES)?;
-    let teller = StreamStatsSender {
-        watch,
+    let sender = StreamStatsSender {
+        tracker,
         ring: producer,
         // Before every reading, so that the first call of `send` sends.
         next: i64::MIN,
     };
-    Ok((teller, StreamStatsReceiver { ring: consumer }))
+    Ok((sender, StreamStatsReceiver { ring: consumer }))
 }
 
 impl StreamStatsSender {
@@ -70,25 +70,26 @@ impl StreamStatsSender {
         due: Option<i64>,
         now: i64,
     )
-        ensures noted { (stream : Stream) (offers : List Offer) → HasTally stream offers self.old.watch.tally
+        ensures noted { (stream : Stream) (offers : List Offer) → HasTally stream offers self.old.tracker.tally
             → (spare : Option ℕ)
             × HasTally stream
             (record { path = path; fate = fate; seq = packet.entry.seq; spare = spare; now = now } ∷ offers)
-            self.new.watch.tally }
+            self.new.tracker.tally }
         ensures ring { self.new.ring ≡ self.old.ring }
     {
-        self.watch.note(path, packet.seq, packet.ts, fate, due, now);
+        self.tracker
+            .note(path, packet.seq, packet.ts, fate, due, now);
     }
 
     /// Sends these counts and the paths' statistics at the clock reading `now`, in sampling instants at 48 kHz, if a
     /// tenth of a second went by since the last send and there is room.
     pub fn send(&mut self, counts: Counts, now: i64)
-        ensures told { (stream : Stream) (offers : List Offer) → HasTally stream offers self.old.watch.tally
+        ensures told { (stream : Stream) (offers : List Offer) → HasTally stream offers self.old.tracker.tally
             → Tells stream offers counts self.old.next now self.old.ring self.new.ring }
         ensures early { now <ℤ self.old.next → self.new.next ≡ self.old.next }
         ensures next { self.old.next ≤ℤ now → self.new.next ≤ℤ (now +ℤ TENTH) }
         ensures ring { SameProducer self.old.ring self.new.ring }
-        ensures watch { self.new.watch ≡ self.old.watch }
+        ensures tracker { self.new.tracker ≡ self.old.tracker }
     {
         if now < self.next {
             return;
@@ -98,10 +99,10 @@ impl StreamStatsSender {
         let numbers = StreamStats {
             counts,
             paths: [
-                numbers_at(&self.watch, 0, now),
-                numbers_at(&self.watch, 1, now),
-                numbers_at(&self.watch, 2, now),
-                numbers_at(&self.watch, 3, now),
+                numbers_at(&self.tracker, 0, now),
+                numbers_at(&self.tracker, 1, now),
+                numbers_at(&self.tracker, 2, now),
+                numbers_at(&self.tracker, 3, now),
             ],
         };
         try_send(&mut self.ring, numbers);
@@ -109,13 +110,13 @@ impl StreamStatsSender {
 }
 
 /// Returns the statistics of the path with this number, 0 to 3.
-fn numbers_at(watch: &CopyTracker, number: u8, now: i64) -> PathStats
+fn numbers_at(tracker: &CopyTracker, number: u8, now: i64) -> PathStats
     requires { number < 4 }
-    ensures { (stream : Stream) (offers : List Offer) → HasTally stream offers watch.now.tally
+    ensures { (stream : Stream) (offers : List Offer) → HasTally stream offers tracker.now.tally
         → AreNumbers stream offers number now result }
 {
     match Path::new(number) {
-        Some(path) => watch.stats(path, now),
+        Some(path) => tracker.stats(path, now),
         None => unreachable!(),
     }
 }

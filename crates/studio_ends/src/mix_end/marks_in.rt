@@ -41,7 +41,7 @@ fn feed_if_accepted<const N: usize>(mixer: &mut Mixer, stream: usize, room: &Mar
     ensures lanes { length mixer.new.lanes ≡ length mixer.old.lanes }
     ensures spec { mixer.new.packer.spec ≡ mixer.old.packer.spec }
 {
-    let mark = room.lent();
+    let mark = room.as_ref();
     if mixer.accepts_ref(stream, &mark) {
         mixer.feed_ref(stream, &mark);
         return true;

@@ -68,7 +68,7 @@ impl<const N: usize> MarkCell<N> {
 
     /// Returns the mark with its payload borrowed.
     #[inline]
-    pub(crate) fn lent(&self) -> MarkRef<'_>
+    pub(crate) fn as_ref(&self) -> MarkRef<'_>
         ensures { result ≡ self.now }
     {
         let octets = self.payload.octets();

@@ -50,7 +50,7 @@ impl<const N: usize> PacketCell<N> {
 
     /// Returns the packet with its payload borrowed.
     #[inline]
-    pub(crate) fn lent(&self) -> PacketRef<'_>
+    pub(crate) fn as_ref(&self) -> PacketRef<'_>
         ensures { packet_of result ≡ self.now }
     {
         PacketRef {

@@ -176,7 +176,7 @@ impl PacketConsumer {
         spec: &StreamSpec,
         merge: &mut Merge<SlotWindow>,
         path: Path,
-        teller: &mut Option<StreamStatsSender>,
+        sender: &mut Option<StreamStatsSender>,
     ) -> u32
         requires spec { merge.old.spec ≡ spec.now }
         requires path { path < spec.now.paths }
@@ -184,9 +184,9 @@ impl PacketConsumer {
             × Joins merge.old merge.new (λ stream. arrivals_by path (fitting stream packets)) }
     {
         match &mut self.end {
-            ConsumerBySize::Short(side) => take_path(side, spec, merge, path, teller),
-            ConsumerBySize::Middle(side) => take_path(side, spec, merge, path, teller),
-            ConsumerBySize::Long(side) => take_path(side, spec, merge, path, teller),
+            ConsumerBySize::Short(side) => take_path(side, spec, merge, path, sender),
+            ConsumerBySize::Middle(side) => take_path(side, spec, merge, path, sender),
+            ConsumerBySize::Long(side) => take_path(side, spec, merge, path, sender),
         }
     }
 

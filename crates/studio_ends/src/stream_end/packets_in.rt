@@ -16,14 +16,14 @@ pub(crate) const BATCH: u32 = 64;
 
 /// Notes the fate of a packet, if the stream has a sender of statistics.
 fn note(
-    teller: &mut Option<StreamStatsSender>,
+    sender: &mut Option<StreamStatsSender>,
     merge: &Merge<SlotWindow>,
     path: Path,
     packet: PacketRef<'_>,
     fate: Fate,
 ) {
-    if let Some(teller) = teller {
-        teller.note(path, packet, fate, merge.next_deadline(), merge.time());
+    if let Some(sender) = sender {
+        sender.note(path, packet, fate, merge.next_deadline(), merge.time());
     }
 }
 
@@ -33,16 +33,16 @@ fn offer_packet<const N: usize>(
     merge: &mut Merge<SlotWindow>,
     path: Path,
     room: &PacketCell<N>,
-    teller: &mut Option<StreamStatsSender>,
+    sender: &mut Option<StreamStatsSender>,
 )
     requires spec { merge.old.spec ≡ spec.now }
     requires path { path < spec.now.paths }
     ensures { Joins merge.old merge.new (λ stream. arrivals_by path (fitting stream (room.now ∷ []))) }
 {
-    let packet = room.lent();
+    let packet = room.as_ref();
     if packet.payload.len() == spec.payload_len() {
         let fate = merge.offer_ref(path, packet);
-        note(teller, merge, path, packet, fate);
+        note(sender, merge, path, packet, fate);
     }
 }
 
@@ -52,7 +52,7 @@ pub(crate) fn take_path<const N: usize>(
     spec: &StreamSpec,
     merge: &mut Merge<SlotWindow>,
     path: Path,
-    teller: &mut Option<StreamStatsSender>,
+    sender: &mut Option<StreamStatsSender>,
 ) -> u32
     requires spec { merge.old.spec ≡ spec.now }
     requires path { path < spec.now.paths }
@@ -65,7 +65,7 @@ pub(crate) fn take_path<const N: usize>(
             return taken;
         }
         // The packet is borrowed from its place in the ring, and dropped once the merge has copied it.
-        offer_packet(spec, merge, path, side.peek(), teller);
+        offer_packet(spec, merge, path, side.peek(), sender);
         side.drop_next();
         taken += 1;
     }
@@ -77,7 +77,7 @@ pub(crate) fn take_all(
     sides: &mut Vec<PacketConsumer>,
     spec: &StreamSpec,
     merge: &mut Merge<SlotWindow>,
-    teller: &mut Option<StreamStatsSender>,
+    sender: &mut Option<StreamStatsSender>,
 ) -> [u32; 4]
     requires spec { merge.old.spec ≡ spec.now }
     requires paths { vec_len sides.old ≡ spec.now.paths }
@@ -92,7 +92,7 @@ pub(crate) fn take_all(
             unreachable!();
         };
         let place = usize::from(number);
-        let count = sides[place].take(spec, merge, path, teller);
+        let count = sides[place].take(spec, merge, path, sender);
         from[place] = count;
     }
     from

@@ -73,9 +73,9 @@ fn show_counts(monitor: &mut Producer<Counts>, counts: Counts)
 }
 
 /// Sends the packets' statistics, if the stream has a sender.
-fn send_stats(teller: &mut Option<StreamStatsSender>, merge: &Merge<SlotWindow>) {
-    if let Some(teller) = teller {
-        teller.send(merge.counts(), merge.time());
+fn send_stats(sender: &mut Option<StreamStatsSender>, merge: &Merge<SlotWindow>) {
+    if let Some(sender) = sender {
+        sender.send(merge.counts(), merge.time());
     }
 }
 
@@ -100,11 +100,11 @@ impl StreamEnd {
             &mut self.sides,
             &self.spec,
             &mut self.merge,
-            &mut self.teller,
+            &mut self.sender,
         );
         let (marks, why_stopped) = push_marks(&mut self.marks, &mut self.merge, now);
         show_counts(&mut self.monitor, self.merge.counts());
-        send_stats(&mut self.teller, &self.merge);
+        send_stats(&mut self.sender, &self.merge);
         Ok(TurnNote {
             from,
             marks,
@@ -232,7 +232,7 @@ impl StreamEnd {
             marks,
             monitor: _,
             merge: _,
-            teller: _,
+            sender: _,
         } = self;
         match marks.finish() {
             Some(token) => (Some(StreamDone { token }), counts),

@@ -13,7 +13,7 @@ invariant_of-result c =
     record {
       count = length_is ∙ lanes_count c.args.studio.now c.args.sides.items c.in_ok-mixer.mixer c.requires.unread c.in_ok-mixer.ensures;
       few = omega (arith, length_is, few, count);
-      measures = subst (Measures c.in_ok-teller.teller) (c.output-output.ensures ∙ sym c.in_ok-mixer.ensures.output) c.in_ok-teller.ensures;
+      measures = subst (Measures c.in_ok-sender.sender) (c.output-output.ensures ∙ sym c.in_ok-mixer.ensures.output) c.in_ok-sender.ensures;
     }
 
 pub returns : goal.returns

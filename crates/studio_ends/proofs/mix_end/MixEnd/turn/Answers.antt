@@ -7,7 +7,7 @@ use Rattle.studio_ends.proofs.mix_end.MixEnd.turn.Goals as goal
 pub invariant_of-self-clause-measures : goal.invariant_of-self-clause-measures
 invariant_of-self-clause-measures c =
     let spec : c.next_block-len.new.self.packer.spec ≡ c.args.self.now.mixer.packer.spec = search rules in
-    subst (Measures c.send_stats.new.teller) (sym spec) (c.send_stats.ensures.measures c.args.self.now.mixer.packer.spec c.args.self.now.measures)
+    subst (Measures c.send_stats.new.sender) (sym spec) (c.send_stats.ensures.measures c.args.self.now.mixer.packer.spec c.args.self.now.measures)
 
 pub returns-clause-mixes : goal.returns-clause-mixes
 returns-clause-mixes c = λ studio number h.

@@ -15,7 +15,7 @@ asked : (g : Over) (c : After-accepts_ref g) (studio : Studio) (feeds : List Fee
     → HasFeeds studio c.args.mixer.now feeds number → slice_get feeds c.args.stream ≡ Some feed
     → c.accepts_ref.result ≡ is_mark_list (format_of feed.stream) (feed.marks ++ c.args.room.now ∷ [])
 asked g c studio feeds number feed h is =
-    subst (λ (m : MarkView). c.accepts_ref.result ≡ is_mark_list (format_of feed.stream) (feed.marks ++ m ∷ [])) c.lent-mark.ensures (c.accepts_ref.ensures.stands studio feeds number feed h is)
+    subst (λ (m : MarkView). c.accepts_ref.result ≡ is_mark_list (format_of feed.stream) (feed.marks ++ m ∷ [])) c.as_ref-mark.ensures (c.accepts_ref.ensures.stands studio feeds number feed h is)
 
 pub returns-then-accepts_ref-clause-value : goal.returns-then-accepts_ref-clause-value
 returns-then-accepts_ref-clause-value g c = λ studio feeds number feed h is.
@@ -30,7 +30,7 @@ returns-clause-value g c = λ studio feeds number feed h is.
 pub returns-then-accepts_ref-clause-stands : goal.returns-then-accepts_ref-clause-stands
 returns-then-accepts_ref-clause-stands g c = λ studio feeds number feed h is.
     let here = (goal.at.returns-then-accepts_ref-clause-stands g c).After-accepts_ref in
-    let fed = rw c.lent-mark.ensures at (c.feed_ref.ensures.stands studio feeds number feed h is) in
+    let fed = rw c.as_ref-mark.ensures at (c.feed_ref.ensures.stands studio feeds number feed h is) in
     keeps _ _ _ studio feeds number feed (sym (asked g here studio feeds number feed h is) ∙ c.if-accepts_ref.true) fed
 
 pub returns-clause-stands : goal.returns-clause-stands
