@@ -67,52 +67,34 @@ fate_counted test o offers numbers few false is are = counts_kept (λ p. offers_
     same : (p : ℕ) → p < 4 → offers_of test p (o ∷ offers) ≡ offers_of test p offers
     same p lt = offers_of-first test p o offers ∙ ap (λ b. cond b 1 0 + offers_of test p offers) (and_false (nat_eq o.path p) (test o.fate) is) ∙ omega arith
 
--- one more offer that no counter counts
-none_counted : (o : Offer) (offers : List Offer) (c : FateCounts) → o.path < 4 → HasFates offers c → is_taken_fate o.fate ≡ false → is_double o.fate ≡ false → is_unlike o.fate ≡ false → is_late o.fate ≡ false → HasFates (o ∷ offers) c
-none_counted o offers c few has first double unlike late = record {
-  first = fate_counted is_taken_fate o offers c.first few false first has.first;
-  double = fate_counted is_double o offers c.double few false double has.double;
-  unlike = fate_counted is_unlike o offers c.unlike few false unlike has.unlike;
-  late = fate_counted is_late o offers c.late few false late has.late;
+-- one more offer, which the counters count by their tests
+all_counted : (o : Offer) (offers : List Offer) (c : FateCounts) → o.path < 4 → HasFates offers c → (first double unlike late : Bool)
+    → is_taken_fate o.fate ≡ first → is_double o.fate ≡ double → is_unlike o.fate ≡ unlike → is_late o.fate ≡ late
+    → HasFates (o ∷ offers) (record {
+      first = if first then one_more o.path c.first else c.first;
+      double = if double then one_more o.path c.double else c.double;
+      unlike = if unlike then one_more o.path c.unlike else c.unlike;
+      late = if late then one_more o.path c.late else c.late;
+    })
+all_counted o offers c few has first double unlike late first_is double_is unlike_is late_is = record {
+  first = fate_counted is_taken_fate o offers c.first few first first_is has.first;
+  double = fate_counted is_double o offers c.double few double double_is has.double;
+  unlike = fate_counted is_unlike o offers c.unlike few unlike unlike_is has.unlike;
+  late = fate_counted is_late o offers c.late few late late_is has.late;
 }
 
 -- one more offer of each fate
 fates_by : (o : Offer) (offers : List Offer) (c : FateCounts) → o.path < 4 → HasFates offers c → (fate : Fate) → o.fate ≡ fate → HasFates (o ∷ offers) (with_fate o.path fate c)
-fates_by o offers c few has Taken is = record {
-  first = fate_counted is_taken_fate o offers c.first few true (ap is_taken_fate is) has.first;
-  double = fate_counted is_double o offers c.double few false (ap is_double is) has.double;
-  unlike = fate_counted is_unlike o offers c.unlike few false (ap is_unlike is) has.unlike;
-  late = fate_counted is_late o offers c.late few false (ap is_late is) has.late;
-}
-fates_by o offers c few has Restarted is = record {
-  first = fate_counted is_taken_fate o offers c.first few true (ap is_taken_fate is) has.first;
-  double = fate_counted is_double o offers c.double few false (ap is_double is) has.double;
-  unlike = fate_counted is_unlike o offers c.unlike few false (ap is_unlike is) has.unlike;
-  late = fate_counted is_late o offers c.late few false (ap is_late is) has.late;
-}
-fates_by o offers c few has Double is = record {
-  first = fate_counted is_taken_fate o offers c.first few false (ap is_taken_fate is) has.first;
-  double = fate_counted is_double o offers c.double few true (ap is_double is) has.double;
-  unlike = fate_counted is_unlike o offers c.unlike few false (ap is_unlike is) has.unlike;
-  late = fate_counted is_late o offers c.late few false (ap is_late is) has.late;
-}
-fates_by o offers c few has Unlike is = record {
-  first = fate_counted is_taken_fate o offers c.first few false (ap is_taken_fate is) has.first;
-  double = fate_counted is_double o offers c.double few false (ap is_double is) has.double;
-  unlike = fate_counted is_unlike o offers c.unlike few true (ap is_unlike is) has.unlike;
-  late = fate_counted is_late o offers c.late few false (ap is_late is) has.late;
-}
-fates_by o offers c few has Late is = record {
-  first = fate_counted is_taken_fate o offers c.first few false (ap is_taken_fate is) has.first;
-  double = fate_counted is_double o offers c.double few false (ap is_double is) has.double;
-  unlike = fate_counted is_unlike o offers c.unlike few false (ap is_unlike is) has.unlike;
-  late = fate_counted is_late o offers c.late few true (ap is_late is) has.late;
-}
-fates_by o offers c few has Closed is = none_counted o offers c few has (ap is_taken_fate is) (ap is_double is) (ap is_unlike is) (ap is_late is)
-fates_by o offers c few has CountersFull is = none_counted o offers c few has (ap is_taken_fate is) (ap is_double is) (ap is_unlike is) (ap is_late is)
-fates_by o offers c few has WrongSource is = none_counted o offers c few has (ap is_taken_fate is) (ap is_double is) (ap is_unlike is) (ap is_late is)
-fates_by o offers c few has OffGrid is = none_counted o offers c few has (ap is_taken_fate is) (ap is_double is) (ap is_unlike is) (ap is_late is)
-fates_by o offers c few has Ahead is = none_counted o offers c few has (ap is_taken_fate is) (ap is_double is) (ap is_unlike is) (ap is_late is)
+fates_by o offers c few has Taken is = all_counted o offers c few has true false false false (ap is_taken_fate is) (ap is_double is) (ap is_unlike is) (ap is_late is)
+fates_by o offers c few has Restarted is = all_counted o offers c few has true false false false (ap is_taken_fate is) (ap is_double is) (ap is_unlike is) (ap is_late is)
+fates_by o offers c few has Double is = all_counted o offers c few has false true false false (ap is_taken_fate is) (ap is_double is) (ap is_unlike is) (ap is_late is)
+fates_by o offers c few has Unlike is = all_counted o offers c few has false false true false (ap is_taken_fate is) (ap is_double is) (ap is_unlike is) (ap is_late is)
+fates_by o offers c few has Late is = all_counted o offers c few has false false false true (ap is_taken_fate is) (ap is_double is) (ap is_unlike is) (ap is_late is)
+fates_by o offers c few has Closed is = all_counted o offers c few has false false false false (ap is_taken_fate is) (ap is_double is) (ap is_unlike is) (ap is_late is)
+fates_by o offers c few has CountersFull is = all_counted o offers c few has false false false false (ap is_taken_fate is) (ap is_double is) (ap is_unlike is) (ap is_late is)
+fates_by o offers c few has WrongSource is = all_counted o offers c few has false false false false (ap is_taken_fate is) (ap is_double is) (ap is_unlike is) (ap is_late is)
+fates_by o offers c few has OffGrid is = all_counted o offers c few has false false false false (ap is_taken_fate is) (ap is_double is) (ap is_unlike is) (ap is_late is)
+fates_by o offers c few has Ahead is = all_counted o offers c few has false false false false (ap is_taken_fate is) (ap is_double is) (ap is_unlike is) (ap is_late is)
 
 pub fates_after : (o : Offer) (offers : List Offer) (c : FateCounts) → o.path < 4 → HasFates offers c → HasFates (o ∷ offers) (with_fate o.path o.fate c)
 fates_after o offers c few has = fates_by o offers c few has o.fate refl

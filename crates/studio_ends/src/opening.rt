@@ -210,7 +210,13 @@ fn open_ends(
         streams,
         monitors,
         marks,
-    } = open_streams(alloc, studio.streams(), studio.open_at(), ring_len, channels)?;
+    } = open_streams(
+        alloc,
+        studio.streams(),
+        studio.open_at(),
+        ring_len,
+        channels,
+    )?;
     let mix = open_mix(alloc, studio, marks, channels)?;
     Ok(Ends {
         paths,

@@ -81,7 +81,7 @@ impl PathEnd {
             send_stats(&mut self.sender, self.counts);
             return Offer::Full;
         }
-        self.counts.add_ref(reception);
+        self.counts.add(reception);
         send_stats(&mut self.sender, self.counts);
         match reception {
             ReceptionRef::Sent(packet) => {
