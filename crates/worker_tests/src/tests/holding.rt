@@ -74,8 +74,10 @@ fn paths_are_read_at_the_same_time(rt: HostRuntime) {
         MeetingFeed::new(&rt, &packets, &first, &second),
         MeetingFeed::new(&rt, &packets, &second, &first),
     ];
-    let (clock, sink) = (MemoryClock::new(&[0]), MemorySink::new(alloc));
-    let (report, sink) = run_one(&rt, alloc, 64, feeds, clock, sink);
+    let feeds = list_of(&rt, alloc, feeds);
+    let clocks = list_of(&rt, alloc, [MemoryClock::new(&[0])]);
+    let sink = MemorySink::new(alloc);
+    let (report, sink) = run_one(&rt, alloc, 64, feeds, clocks, sink);
     got_two(&rt, &report);
     gave_both(&rt, sink.kept());
 }
@@ -211,9 +213,10 @@ fn mixing_goes_on_during_reception(rt: HostRuntime) {
         LastingFeed::new(&packets, &first, &sent),
         LastingFeed::new(&packets, &second, &sent),
     ];
-    let clock = CountingClock::new(&asked, &first, &second);
+    let feeds = list_of(&rt, alloc, feeds);
+    let clocks = list_of(&rt, alloc, [CountingClock::new(&asked, &first, &second)]);
     let sink = HoldingSink::new(&rt, alloc, &asked, &sent);
-    let (report, sink) = run_one(&rt, alloc, 64, feeds, clock, sink);
+    let (report, sink) = run_one(&rt, alloc, 64, feeds, clocks, sink);
     assert!(rt;
         sink.asked_again,
         "the stream's worker went on while the sink held"
@@ -265,7 +268,10 @@ fn run_late<R: Threads + Wait + Abort + Sync>(
         first: &first,
         second: &second,
     };
-    let (report, _) = run_one(rt, alloc, 1, feeds, clock, MemorySink::new(alloc));
+    let feeds = list_of(rt, alloc, feeds);
+    let clocks = list_of(rt, alloc, [clock]);
+    let sink = MemorySink::new(alloc);
+    let (report, _) = run_one(rt, alloc, 1, feeds, clocks, sink);
     report
 }
 

@@ -96,15 +96,6 @@ fn run_by_workers<R: Threads + Wait + Abort + Sync>(
     Ok(())
 }
 
-/// Returns true if there is no fault, or one that a refused allocation gives.
-fn lacks_memory(fault: Option<WorkFault>) -> bool {
-    match fault {
-        None | Some(WorkFault::Memory) => true,
-        // A thread takes memory as it starts, which may be refused too.
-        Some(WorkFault::Start) => true,
-    }
-}
-
 /// A run by workers with any one allocation refused: each block is kept or reported as a fault, or the run returns an
 /// error, and succeeds the next time.
 #[test]
@@ -115,8 +106,8 @@ fn each_refused_allocation_of_a_run_is_answered(rt: HostRuntime) {
     let packets = packets.expect(&rt, "with memory again");
     let first = run_by_workers(&rt, alloc, &studio, &packets);
     let second = run_by_workers(&rt, alloc, &studio, &packets);
+    // The fault may be either: a thread takes memory as it starts.
     assert!(rt; first.is_ok() || second.is_ok(), "with memory again");
-    assert!(rt; lacks_memory(first.err()) && lacks_memory(second.err()));
 }
 
 /// The feeds of one stream on two paths; none where memory is refused.

@@ -78,13 +78,11 @@ pub(super) fn run_one<R: Threads + Wait + Abort + Sync, F: Feed + Send, C: Clock
     rt: &R,
     alloc: Global,
     places: usize,
-    feeds: [F; 2],
-    clock: C,
+    feeds: Vec<F>,
+    clocks: Vec<C>,
     sink: K,
 ) -> (WorkReport, K) {
     let studio = one_stream(alloc).expect(rt, "a studio");
-    let feeds = list_of(rt, alloc, feeds);
-    let clocks = list_of(rt, alloc, [clock]);
     run(rt, alloc, &studio, places, feeds, clocks, sink)
 }
 
@@ -148,8 +146,10 @@ fn runs_alike<R: Threads + Wait + Abort + Sync>(
 ) {
     let packets = two_packets(rt, alloc);
     let feeds = [MemoryFeed::new(&packets), MemoryFeed::new(&packets)];
-    let (clock, sink) = (MemoryClock::new(readings), MemorySink::new(alloc));
-    let (report, sink) = run_one(rt, alloc, places, feeds, clock, sink);
+    let feeds = list_of(rt, alloc, feeds);
+    let clocks = list_of(rt, alloc, [MemoryClock::new(readings)]);
+    let sink = MemorySink::new(alloc);
+    let (report, sink) = run_one(rt, alloc, places, feeds, clocks, sink);
     is_alike(rt, &report);
     gave_both(rt, sink.kept());
 }
@@ -233,8 +233,10 @@ fn an_address_that_fails(rt: HostRuntime) {
     let alloc = rt.alloc();
     let packets = two_packets(&rt, alloc);
     let feeds = [MemoryFeed::new(&packets), MemoryFeed::new(&[])];
-    let (clock, sink) = (MemoryClock::new(&[0]), FailingSink::new(&rt, alloc, 1));
-    let (report, sink) = run_one(&rt, alloc, 64, feeds, clock, sink);
+    let feeds = list_of(&rt, alloc, feeds);
+    let clocks = list_of(&rt, alloc, [MemoryClock::new(&[0])]);
+    let sink = FailingSink::new(&rt, alloc, 1);
+    let (report, sink) = run_one(&rt, alloc, 64, feeds, clocks, sink);
     assert!(rt; only(&rt, &report).got == 2);
     assert!(rt; sends(&report) == (2, [2, 1], [0, 1]));
     gave_both(&rt, sink.handed());
@@ -255,8 +257,10 @@ fn run_failing<R: Threads + Wait + Abort + Sync>(
         FaultyFeed::new(first.0, first.1, &packets),
         FaultyFeed::new(second.0, second.1, &packets),
     ];
-    let (clock, sink) = (MemoryClock::new(&[0]), MemorySink::new(alloc));
-    let (report, sink) = run_one(rt, alloc, 4, feeds, clock, sink);
+    let feeds = list_of(rt, alloc, feeds);
+    let clocks = list_of(rt, alloc, [MemoryClock::new(&[0])]);
+    let sink = MemorySink::new(alloc);
+    let (report, sink) = run_one(rt, alloc, 4, feeds, clocks, sink);
     gave_both(rt, sink.kept());
     report
 }
