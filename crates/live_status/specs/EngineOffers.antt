@@ -28,6 +28,6 @@ pub record AddsOfferAt (number path : ℕ) (fate : Fate) (seq : ℕ) (now : ℤ)
 -- the packet of a datagram that was offered, which is no shorter than a header, is noted for its stream; no other datagram is noted
 abbrev pub Notes : ArriveOutcome → ℕ → ℕ → List ℕ → ℤ → List CopyTracker → List CopyTracker → Type 0
 Notes (Offered fate) number path octets now old new = MatchBool (nat_lt (length octets) 12) (new ≡ old) (AddsOfferAt number path fate (head_at octets).seq now old new)
-Notes Bad number path octets now old new = new ≡ old
+Notes (Bad fault) number path octets now old new = new ≡ old
 Notes WrongType number path octets now old new = new ≡ old
 Notes WrongLength number path octets now old new = new ≡ old

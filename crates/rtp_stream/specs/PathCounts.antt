@@ -25,7 +25,7 @@ empty_path_tally = record { offered = 0; sent = 0; bad = 0; wrong_type = 0; wron
 -- with one more datagram
 abbrev pub with_reception : PathTally → Reception → PathTally
 with_reception t (Sent packet) = record t { offered = t.offered + 1; sent = t.sent + 1 }
-with_reception t Bad = record t { offered = t.offered + 1; bad = t.bad + 1 }
+with_reception t (Bad fault) = record t { offered = t.offered + 1; bad = t.bad + 1 }
 with_reception t WrongType = record t { offered = t.offered + 1; wrong_type = t.wrong_type + 1 }
 with_reception t WrongLength = record t { offered = t.offered + 1; wrong_length = t.wrong_length + 1 }
 

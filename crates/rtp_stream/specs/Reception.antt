@@ -18,7 +18,7 @@ abbrev pub packet_at : List ℕ → Packet
 packet_at octets = record { seq = (head_at octets).seq; ts = (head_at octets).ts; ssrc = (head_at octets).ssrc; payload = record { items = payload_at octets } }
 
 abbrev pub reception_by : List ℕ → Option WireFault → Option AdmitFault → Reception
-reception_by octets (Some fault) admitted = Bad
+reception_by octets (Some fault) admitted = Bad fault
 reception_by octets None (Some TypeFault) = WrongType
 reception_by octets None (Some LengthFault) = WrongLength
 reception_by octets None None = Sent (packet_at octets)
@@ -30,21 +30,21 @@ reception_of stream octets = reception_by octets (wire_fault_of octets) (admit_f
 -- what was received, with the packet where it is lent
 abbrev pub reception_from : ReceptionRef → Reception
 reception_from (LentSent packet) = Sent (packet_of packet)
-reception_from LentBad = Bad
+reception_from (LentBad fault) = Bad fault
 reception_from LentType = WrongType
 reception_from LentLength = WrongLength
 
 -- a payload has room for what is lent
 abbrev pub IsShortReception : ReceptionRef → Type 0
 IsShortReception (LentSent packet) = length packet.payload.now ≤ 1440
-IsShortReception LentBad = Unit {0}
+IsShortReception (LentBad fault) = Unit {0}
 IsShortReception LentType = Unit {0}
 IsShortReception LentLength = Unit {0}
 
 -- a packet that was received has the stream's length
 abbrev pub FitsReception : Stream → Reception → Type 0
 FitsReception stream (Sent packet) = Fits stream packet
-FitsReception stream Bad = Unit {0}
+FitsReception stream (Bad fault) = Unit {0}
 FitsReception stream WrongType = Unit {0}
 FitsReception stream WrongLength = Unit {0}
 
@@ -54,24 +54,24 @@ is_any reception = true
 
 abbrev pub is_sent : Reception → Bool
 is_sent (Sent packet) = true
-is_sent Bad = false
+is_sent (Bad fault) = false
 is_sent WrongType = false
 is_sent WrongLength = false
 
 abbrev pub is_bad : Reception → Bool
 is_bad (Sent packet) = false
-is_bad Bad = true
+is_bad (Bad fault) = true
 is_bad WrongType = false
 is_bad WrongLength = false
 
 abbrev pub is_wrong_type : Reception → Bool
 is_wrong_type (Sent packet) = false
-is_wrong_type Bad = false
+is_wrong_type (Bad fault) = false
 is_wrong_type WrongType = true
 is_wrong_type WrongLength = false
 
 abbrev pub is_wrong_length : Reception → Bool
 is_wrong_length (Sent packet) = false
-is_wrong_length Bad = false
+is_wrong_length (Bad fault) = false
 is_wrong_length WrongType = false
 is_wrong_length WrongLength = true

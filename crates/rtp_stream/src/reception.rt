@@ -4,14 +4,15 @@ ghost use Rattle.rtp_stream.specs.Reception.{FitsReception, IsShortReception, re
 
 use crate::packet::{Packet, PacketRef};
 use crate::stream_spec::{AdmitFault, StreamSpec};
+use rtp_wire::WireFault;
 
 /// The reception of a datagram: its packet of the stream, or the reason why there is none.
 #[derive(Debug, Drop)]
 pub enum Reception {
     /// The datagram is a packet of the stream.
     Sent(Packet),
-    /// The datagram is no RTP packet.
-    Bad,
+    /// The datagram is no RTP packet, and its first fault.
+    Bad(WireFault),
     /// The RTP packet has another payload type.
     WrongType,
     /// The RTP packet has the stream's payload type, and a payload of another length.
@@ -23,8 +24,8 @@ pub enum Reception {
 pub enum ReceptionRef<'a> {
     /// The datagram is a packet of the stream.
     Sent(PacketRef<'a>),
-    /// The datagram is no RTP packet.
-    Bad,
+    /// The datagram is no RTP packet, and its first fault.
+    Bad(WireFault),
     /// The RTP packet has another payload type.
     WrongType,
     /// The RTP packet has the stream's payload type, and a payload of another length.
@@ -37,8 +38,9 @@ pub fn receive_ref<'a>(spec: &StreamSpec, datagram: &'a [u8]) -> ReceptionRef<'a
     ensures fits { FitsReception spec.now (reception_from result) }
     ensures short { IsShortReception result }
 {
-    let Ok(view) = rtp_wire::read(datagram) else {
-        return ReceptionRef::Bad;
+    let view = match rtp_wire::read(datagram) {
+        Ok(view) => view,
+        Err(fault) => return ReceptionRef::Bad(fault),
     };
     match spec.admit_ref(&view) {
         Ok(packet) => ReceptionRef::Sent(packet),

@@ -47,7 +47,7 @@ impl PathCounts {
     {
         match reception {
             ReceptionRef::Sent(_) => self.sent += 1,
-            ReceptionRef::Bad => self.bad += 1,
+            ReceptionRef::Bad(_) => self.bad += 1,
             ReceptionRef::WrongType => self.wrong_type += 1,
             ReceptionRef::WrongLength => self.wrong_length += 1,
         }

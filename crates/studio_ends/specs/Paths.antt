@@ -27,7 +27,7 @@ pub record FindsNoRoom (octets : List ℕ) (p q : PathEnd) : Type 0 where
 -- the answer is the first that holds; the packet is sent where it is `Sent`, and nothing else ever is
 abbrev pub Offers : List ℕ → PathEnd → Offer → PathEnd → Type 0
 Offers octets p CountersFull q = (q ≡ p) × (p.counts.offered ≡ 2 ^ 62)
-Offers octets p Bad q = Receives octets p BadWire q × (sent q.ring ≡ sent p.ring)
+Offers octets p (Bad fault) q = Receives octets p (BadWire fault) q × (sent q.ring ≡ sent p.ring)
 Offers octets p WrongType q = Receives octets p OtherType q × (sent q.ring ≡ sent p.ring)
 Offers octets p WrongLength q = Receives octets p OtherLength q × (sent q.ring ≡ sent p.ring)
 Offers octets p Full q = FindsNoRoom octets p q × (sent q.ring ≡ sent p.ring)

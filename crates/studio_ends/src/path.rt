@@ -12,14 +12,15 @@ use crate::path_end::PathEnd;
 use crate::rings::packets::{PacketProducer, PacketToken};
 use rtp_stats::PathCountsSender;
 use rtp_stream::{PathCounts, ReceptionRef, receive_ref};
+use rtp_wire::WireFault;
 
 /// The outcome of `PathEnd::offer`: the first of these that applies. Each but `CountersFull` is counted.
 #[derive(Clone, Copy, PartialEq, Eq, Debug)]
 pub enum Offer {
     /// 2^62 datagrams were offered before. This one is not counted.
     CountersFull,
-    /// The datagram is not an RTP packet (RFC 3550 5.1).
-    Bad,
+    /// The datagram is not an RTP packet (RFC 3550 5.1), and its first fault.
+    Bad(WireFault),
     /// The packet has another payload type than the stream.
     WrongType,
     /// The payload has another length than the stream's.
@@ -46,7 +47,7 @@ fn lacks_room(ring: &mut PacketProducer, reception: ReceptionRef<'_>) -> bool
 {
     match reception {
         ReceptionRef::Sent(_) => ring.is_full(),
-        ReceptionRef::Bad => false,
+        ReceptionRef::Bad(_) => false,
         ReceptionRef::WrongType => false,
         ReceptionRef::WrongLength => false,
     }
@@ -88,7 +89,7 @@ impl PathEnd {
                 self.ring.push(packet);
                 Offer::Sent
             }
-            ReceptionRef::Bad => Offer::Bad,
+            ReceptionRef::Bad(fault) => Offer::Bad(fault),
             ReceptionRef::WrongType => Offer::WrongType,
             ReceptionRef::WrongLength => Offer::WrongLength,
         }

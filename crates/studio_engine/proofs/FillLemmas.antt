@@ -91,7 +91,7 @@ or_none false = refl
 -- an arrival closes nothing
 still_closed : (path : ℕ) (reception : Reception) (events : List Event) → is_closed events ≡ is_closed (event_in (Datagram path reception) ++ events)
 still_closed path (Sent packet) events = refl
-still_closed path Bad events = refl
+still_closed path (Bad fault) events = refl
 still_closed path WrongType events = refl
 still_closed path WrongLength events = refl
 

@@ -51,13 +51,13 @@ use Rattle.studio_engine.specs.Near.{HasRooms, IsAwaited, MarksAreNear}
 -- a datagram is no reading and no close
 datagram_time : (time : ℤ) (path : ℕ) (reception : Reception) (history : List Event) → time_of time (event_in (Datagram path reception) ++ history) ≡ time_of time history
 datagram_time time path (Sent packet) history = refl
-datagram_time time path Bad history = refl
+datagram_time time path (Bad fault) history = refl
 datagram_time time path WrongType history = refl
 datagram_time time path WrongLength history = refl
 
 datagram_open : (path : ℕ) (reception : Reception) (history : List Event) → is_closed (event_in (Datagram path reception) ++ history) ≡ is_closed history
 datagram_open path (Sent packet) history = refl
-datagram_open path Bad history = refl
+datagram_open path (Bad fault) history = refl
 datagram_open path WrongType history = refl
 datagram_open path WrongLength history = refl
 

@@ -45,7 +45,7 @@ reaches_end faults (Stops ∷ told) = true
 -- the packet that was received, if it is one of the stream
 abbrev pub packet_in : Reception → List Packet
 packet_in (Sent packet) = packet ∷ []
-packet_in Bad = []
+packet_in (Bad fault) = []
 packet_in WrongType = []
 packet_in WrongLength = []
 

@@ -26,7 +26,7 @@ use Rattle.studio_rings.specs.PathWorkers.{OffersAgain, SendsSoFar, SendsFeed}
 
 none_other : (o : Reception) → is_sent o ≡ true → (is_bad o ≡ false) × (is_wrong_type o ≡ false) × (is_wrong_length o ≡ false)
 none_other (Sent packet) e = (refl, refl, refl)
-none_other Bad e = absurd (cc)
+none_other (Bad fault) e = absurd (cc)
 none_other WrongType e = absurd (cc)
 none_other WrongLength e = absurd (cc)
 
@@ -51,13 +51,13 @@ offers-lost octets p q ring spec same packet full bad wrong_type wrong_length of
 
 counts-others : (stream : Stream) (octets : List ℕ) (o : Reception) (a b : PathTally) → reception_of stream octets ≡ o → b ≡ with_reception a o → CountsOthers stream (octets ∷ []) a b
 counts-others stream octets (Sent packet) a b r h = record { bad = rw (r, h) (omega arith); wrong_type = rw (r, h) (omega arith); wrong_length = rw (r, h) (omega arith) }
-counts-others stream octets Bad a b r h = record { bad = rw (r, h) (omega arith); wrong_type = rw (r, h) (omega arith); wrong_length = rw (r, h) (omega arith) }
+counts-others stream octets (Bad fault) a b r h = record { bad = rw (r, h) (omega arith); wrong_type = rw (r, h) (omega arith); wrong_length = rw (r, h) (omega arith) }
 counts-others stream octets WrongType a b r h = record { bad = rw (r, h) (omega arith); wrong_type = rw (r, h) (omega arith); wrong_length = rw (r, h) (omega arith) }
 counts-others stream octets WrongLength a b r h = record { bad = rw (r, h) (omega arith); wrong_type = rw (r, h) (omega arith); wrong_length = rw (r, h) (omega arith) }
 
 counts-offer : (o : Reception) (a b : PathTally) → b ≡ with_reception a o → (b.full ≡ a.full) × (b.offered ≡ a.offered + 1)
 counts-offer (Sent packet) a b h = rw h (refl, refl)
-counts-offer Bad a b h = rw h (refl, refl)
+counts-offer (Bad fault) a b h = rw h (refl, refl)
 counts-offer WrongType a b h = rw h (refl, refl)
 counts-offer WrongLength a b h = rw h (refl, refl)
 
@@ -111,7 +111,7 @@ refused-then octets p e q before ring spec same many =
 pub offers-then : (octets : List ℕ) (p e q : PathEnd) (answer : Offer) → FoundNoRoom p e → SameProducer p.ring q.ring → q.spec ≡ p.spec
     → (answer ≡ Full → ⊥) → Offers octets e answer q → OffersAgain octets p q
 offers-then octets p e q CountersFull before ring spec other h = refused-then octets p e q before ring spec h.0 h.1
-offers-then octets p e q BadOffer before ring spec other h = received-then octets p e q Bad before ring spec h.0 (h.1 ∙ sym (append-nil (sent e.ring)))
+offers-then octets p e q (BadOffer fault) before ring spec other h = received-then octets p e q (Bad fault) before ring spec h.0 (h.1 ∙ sym (append-nil (sent e.ring)))
 offers-then octets p e q OtherType before ring spec other h = received-then octets p e q WrongType before ring spec h.0 (h.1 ∙ sym (append-nil (sent e.ring)))
 offers-then octets p e q OtherLength before ring spec other h = received-then octets p e q WrongLength before ring spec h.0 (h.1 ∙ sym (append-nil (sent e.ring)))
 offers-then octets p e q Full before ring spec other h = absurd (other refl)
@@ -125,7 +125,7 @@ part-skip zs xs (y ∷ ys) h = inl (part-skip zs xs ys h)
 
 pub part-take : (zs xs : List Packet) (o : Reception) → IsPartOf zs xs → IsPartOf (packet_in o ++ zs) (packet_in o ++ xs)
 unfolding IsPartOf
-part-take zs xs Bad h = h
+part-take zs xs (Bad fault) h = h
 part-take zs xs WrongType h = h
 part-take zs xs WrongLength h = h
 part-take zs xs (Sent y) h = inr (zs, refl, h)
@@ -162,7 +162,7 @@ others-more stream xs ys a b c h k = record {
 }
 
 none_of : (xs : List Packet) (o : Reception) → xs ≡ xs ++ packet_in o → packet_in o ≡ []
-none_of xs Bad e = refl
+none_of xs (Bad fault) e = refl
 none_of xs WrongType e = refl
 none_of xs WrongLength e = refl
 none_of xs (Sent x) e = absurd (let h = ap length e in omega (arith, h, length-append xs (x ∷ [])))
@@ -173,7 +173,7 @@ lacks_packet false x xs ys f g is e every = grind (arith, nat_tests, is)
 
 -- nothing was sent of a datagram: it is no packet, or it found no room 1,001 times
 lacks : (o : Reception) (xs ys : List Packet) (f g : ℕ) → f ≤ g → ys ≡ xs → (g < f + 1001 → ys ≡ xs ++ packet_in o) → f + length (packet_in o) * 1001 ≤ g
-lacks Bad xs ys f g le e every = omega (arith, le)
+lacks (Bad fault) xs ys f g le e every = omega (arith, le)
 lacks WrongType xs ys f g le e every = omega (arith, le)
 lacks WrongLength xs ys f g le e every = omega (arith, le)
 lacks (Sent x) xs ys f g le e every = let h = lacks_packet (nat_lt g (f + 1001)) x xs ys f g refl e every in omega (arith, h)

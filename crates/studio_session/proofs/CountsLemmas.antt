@@ -49,7 +49,7 @@ by_reception : (on : Bool) (reception : Reception) (more before : (Reception →
     ≡ (if on then with_reception (tally (before is_any) (before is_sent) (before is_bad) (before is_wrong_type) (before is_wrong_length)) reception else tally (before is_any) (before is_sent) (before is_bad) (before is_wrong_type) (before is_wrong_length))
 by_reception false reception more before is = same_tally _ _ _ _ _ _ _ _ _ _ (is is_any) (is is_sent) (is is_bad) (is is_wrong_type) (is is_wrong_length)
 by_reception true (Sent packet) more before is = same_tally _ _ _ _ _ _ _ _ _ _ (is is_any) (is is_sent) (is is_bad) (is is_wrong_type) (is is_wrong_length)
-by_reception true Bad more before is = same_tally _ _ _ _ _ _ _ _ _ _ (is is_any) (is is_sent) (is is_bad) (is is_wrong_type) (is is_wrong_length)
+by_reception true (Bad fault) more before is = same_tally _ _ _ _ _ _ _ _ _ _ (is is_any) (is is_sent) (is is_bad) (is is_wrong_type) (is is_wrong_length)
 by_reception true WrongType more before is = same_tally _ _ _ _ _ _ _ _ _ _ (is is_any) (is is_sent) (is is_bad) (is is_wrong_type) (is is_wrong_length)
 by_reception true WrongLength more before is = same_tally _ _ _ _ _ _ _ _ _ _ (is is_any) (is is_sent) (is is_bad) (is is_wrong_type) (is is_wrong_length)
 
@@ -89,7 +89,7 @@ uncounted tallies step same = λ path tally at. (tally, at, sym (same path tally
 adds_one : (on : Bool) (tally : PathTally) (reception : Reception) → (if on then with_reception tally reception else tally).offered ≤ tally.offered + 1
 adds_one false tally reception = omega arith
 adds_one true tally (Sent packet) = omega arith
-adds_one true tally Bad = omega arith
+adds_one true tally (Bad fault) = omega arith
 adds_one true tally WrongType = omega arith
 adds_one true tally WrongLength = omega arith
 

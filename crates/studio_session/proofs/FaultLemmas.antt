@@ -39,7 +39,7 @@ in_order place false e = absurd (let f : clock_fault place false ≡ None = e in
 same_time : (time : ℤ) (closed : Bool) (path : ℕ) (reception : Reception) (history : List Event) → is_well_timed_from time closed history ≡ true
     → is_well_timed_from time closed (event_in (Datagram path reception) ++ history) ≡ true
 same_time time closed path (Sent packet) history e = e
-same_time time closed path Bad history e = e
+same_time time closed path (Bad fault) history e = e
 same_time time closed path WrongType history e = e
 same_time time closed path WrongLength history e = e
 

@@ -14,7 +14,7 @@ use Rattle.studio_session.specs.declared.receipt.ArriveOutcome.TheVariants.{Offe
 -- the fate of a packet after a history, or why the datagram has none
 abbrev pub receipt_in : Stream → ℤ → List Event → ℕ → Reception → ArriveOutcome
 receipt_in stream open_at events path (Sent packet) = Offered (fate_of stream open_at events path packet)
-receipt_in stream open_at events path Bad = BadOf
+receipt_in stream open_at events path (Bad fault) = BadOf fault
 receipt_in stream open_at events path WrongType = WrongTypeOf
 receipt_in stream open_at events path WrongLength = WrongLengthOf
 

@@ -24,7 +24,7 @@ step_of stream number Closing = End
 abbrev pub event_in : Step → List Event
 event_in Other = []
 event_in (Datagram path (Sent packet)) = Arrive path packet ∷ []
-event_in (Datagram path Bad) = []
+event_in (Datagram path (Bad fault)) = []
 event_in (Datagram path WrongType) = []
 event_in (Datagram path WrongLength) = []
 event_in (Clock time) = Tick time ∷ []

@@ -401,7 +401,7 @@ fn offer_received(
 {
     match reception {
         ReceptionRef::Sent(packet) => ArriveOutcome::Offered(merge.offer_ref(path, packet)),
-        ReceptionRef::Bad => ArriveOutcome::Bad,
+        ReceptionRef::Bad(fault) => ArriveOutcome::Bad(fault),
         ReceptionRef::WrongType => ArriveOutcome::WrongType,
         ReceptionRef::WrongLength => ArriveOutcome::WrongLength,
     }

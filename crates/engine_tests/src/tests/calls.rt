@@ -5,6 +5,7 @@ use super::studios::{
 };
 use crate::small_studios::six_and_forty_eight as studio;
 use path_merge::{ClockFault, Fate, Path};
+use rtp_wire::WireFault;
 use std::process::Abort;
 use studio_engine::{ArriveFault, Engine, Unfinished};
 use studio_session::ArriveOutcome;
@@ -96,7 +97,7 @@ fn what_is_no_packet_has_a_name(rt: HostRuntime) {
 /// Tests that on an engine.
 fn names_others(rt: &impl Abort, engine: &mut Engine) {
     let path = path(rt, 1);
-    assert!(rt; engine.arrive(0, path, &[]) == Ok(ArriveOutcome::Bad));
+    assert!(rt; engine.arrive(0, path, &[]) == Ok(ArriveOutcome::Bad(WireFault::Short)));
     assert!(rt; engine.arrive(0, path, &block_of_six(1, 1)) == Ok(ArriveOutcome::WrongType));
     assert!(rt; engine.arrive(0, path, &long_packet()) == Ok(ArriveOutcome::WrongLength));
     let counts = engine.path_counts(0, path).expect(rt, "the stream");
