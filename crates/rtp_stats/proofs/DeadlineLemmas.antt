@@ -1,9 +1,10 @@
 -- Timestamps in step tell deadlines.
-use Rattle.std.proofs.Common.{◌≡◌, ℕ, ◌^◌, ◌<◌, ◌≤◌, Bool, true, ℤ, pos, negsuc, neg_ℤ, ◌+ℤ◌, ◌-ℤ◌, ◌*ℤ◌, ◌≤ℤ◌, sym, ap, subst, ◌∙◌, arith, w64, to_z, of_z, Option, Some, None, if◌then◌else◌}
+use Rattle.std.proofs.Common.{◌≡◌, ℕ, ◌^◌, ◌<◌, ◌≤◌, Bool, true, false, ℤ, pos, negsuc, neg_ℤ, ◌+ℤ◌, ◌-ℤ◌, ◌*ℤ◌, ◌≤ℤ◌, sym, ap, subst, ◌∙◌, arith, w64, to_z, of_z, Option, Some, None, MatchOption, unwrap_or, if◌then◌else◌}
 use Rattle.std.specs.Prelude.{unsigned_abs}
 use Rattle.std.specs.Int.{int_rem_euclid, saturate_signed}
 use Rattle.std.proofs.lemmas.Bool.{eqb-true}
 use Rattle.std.proofs.lemmas.Int.{ints}
+use Rattle.std.proofs.lemmas.Option.{none-some}
 use Rattle.rtp_stream.proofs.FateLemmas.{shifted}
 use Rattle.rtp_stream.proofs.NearestLemmas.{rem_apart, rem_bounds, rem_same}
 use Rattle.rtp_stream.specs.Anchor.{deadline_of}
@@ -11,7 +12,8 @@ use Rattle.rtp_stream.specs.Grid.{expected_timestamp, is_on_grid}
 use Rattle.rtp_stream.specs.Nearest.{IsNearest}
 use Rattle.rtp_stream.specs.declared.anchor.Anchor.{Anchor}
 use Rattle.rtp_stream.specs.declared.stream_spec.Stream.{Stream}
-use Rattle.rtp_stats.specs.Deadlines.{IsDeadlineOf, IsNearby, IsShortTime, KnownDeadline}
+use Rattle.rtp_stream.specs.declared.fate.Fate.{Fate}
+use Rattle.rtp_stats.specs.Deadlines.{HasMargin, IsDeadlineOf, IsMarginOf, IsNearby, IsShortTime, KnownDeadline, is_opening, is_placed}
 
 pub saturate_short : (z : ℤ) → neg_ℤ (pos (2 ^ 62)) ≤ℤ z → z ≤ℤ pos (2 ^ 62) → saturate_signed w64 z ≡ z
 saturate_short (pos n) low high = ap pos (let small : n ≤ 2 ^ 62 = omega (arith, ints, high) in omega (arith, small))
@@ -71,3 +73,21 @@ lent_is stream anchor before ts at k same of =
 
 pub known_now : (stream : Stream) (anchor : Anchor) (number ts : ℕ) (at : ℤ) → is_on_grid stream anchor number ts ≡ true → IsShortTime (deadline_of stream anchor number) → at ≡ deadline_of stream anchor number → IsDeadlineOf stream anchor number (record { ts = ts; at = at })
 known_now stream anchor number ts at grid short is = record { ts = eqb-true ts (expected_timestamp stream anchor number) grid; at = is; short = subst IsShortTime (sym is) short }
+
+-- the time to a deadline that was found is the packet's margin
+pub margin_found : (known : Option KnownDeadline) (fated : Fate) (ts : ℕ) (due : Option ℤ) (now found : ℤ) (spare : Option ℕ)
+  → (is_opening known fated ≡ true → Some found ≡ due)
+  → ((stream : Stream) (anchor : Anchor) (before number : ℕ) (last : KnownDeadline)
+    → known ≡ Some last → IsDeadlineOf stream anchor before last → is_opening known fated ≡ false → is_placed fated ≡ true
+    → is_on_grid stream anchor number ts ≡ true → IsNearby stream before number → IsShortTime (deadline_of stream anchor number)
+    → Some found ≡ Some (deadline_of stream anchor number))
+  → (is_placed fated ≡ false → Some found ≡ None)
+  → (known ≡ None → is_opening known fated ≡ false → Some found ≡ None)
+  → HasMargin found now spare → IsMarginOf known fated ts due now spare
+margin_found known fated ts due now found spare opening in_step unplaced unknown left = record {
+  opening = λ is. subst (λ of. MatchOption of (spare ≡ None) (λ deadline. HasMargin deadline now spare)) (opening is) left;
+  in_step = λ stream anchor before number last some of closed placed grid nearby short.
+    subst (λ at. HasMargin at now spare) (ap (λ of. unwrap_or of found) (in_step stream anchor before number last some of closed placed grid nearby short)) left;
+  unplaced = λ is. absurd (none-some found (sym (unplaced is)));
+  unknown = λ none closed. absurd (none-some found (sym (unknown none closed)));
+}

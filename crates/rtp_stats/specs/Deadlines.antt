@@ -1,7 +1,7 @@
 -- The deadlines of packets that are in step, from that of one.
-use Rattle.std.specs.Prelude.{◌≡◌, ℕ, ◌^◌, ◌<◌, Bool, true, false, ℤ, pos, ◌+ℤ◌, ◌-ℤ◌, ◌*ℤ◌, ◌≤ℤ◌, ◌<ℤ◌, neg_ℤ, Option, Some, None}
+use Rattle.std.specs.Prelude.{◌≡◌, ◌⊎◌, ℕ, ◌^◌, ◌<◌, Bool, true, false, ℤ, pos, ◌+ℤ◌, ◌-ℤ◌, ◌*ℤ◌, ◌≤ℤ◌, ◌<ℤ◌, neg_ℤ, Option, Some, None, IfSome, MatchOption}
 use Rattle.rtp_stream.specs.Anchor.{deadline_of}
-use Rattle.rtp_stream.specs.Grid.{expected_timestamp}
+use Rattle.rtp_stream.specs.Grid.{expected_timestamp, is_on_grid}
 use Rattle.rtp_stream.specs.declared.anchor.Anchor.{Anchor}
 use Rattle.rtp_stream.specs.declared.fate.Fate.{Fate}
 use Rattle.rtp_stream.specs.declared.fate.Fate.TheVariants.{Closed, CountersFull, WrongSource, OffGrid, Late, Ahead, Taken, Double, Unlike, Restarted}
@@ -64,3 +64,27 @@ known_from ts (Some at) = Some (record { ts = ts; at = at })
 pub record IsSpareBefore (deadline now : ℤ) (spare : ℕ) : Type 0 where
   pub some : 0 < spare
   pub until : (now +ℤ pos spare) ≡ deadline
+
+-- the time from a clock reading to a deadline, none at and after it, nor where it does not fit 32 bits
+abbrev pub HasMargin : ℤ → ℤ → Option ℕ → Type 0
+HasMargin deadline now spare = MatchOption spare ((deadline ≤ℤ now) ⊎ ((now +ℤ pos (2 ^ 32)) ≤ℤ deadline)) (IsSpareBefore deadline now)
+
+-- the arrival margin of a packet, by its fate and timestamp: an epoch's first packet has the next deadline, a later one the
+-- deadline of its number, and one that did not come in time or is not in step has none
+pub record IsMarginOf (known : Option KnownDeadline) (fate : Fate) (ts : ℕ) (due : Option ℤ) (now : ℤ) (spare : Option ℕ) : Type 0 where
+  pub opening : is_opening known fate ≡ true → MatchOption due (spare ≡ None) (λ deadline. HasMargin deadline now spare)
+  pub in_step : (stream : Stream) (anchor : Anchor) (before number : ℕ) (last : KnownDeadline)
+    → known ≡ Some last → IsDeadlineOf stream anchor before last → is_opening known fate ≡ false → is_placed fate ≡ true
+    → is_on_grid stream anchor number ts ≡ true → IsNearby stream before number → IsShortTime (deadline_of stream anchor number)
+    → HasMargin (deadline_of stream anchor number) now spare
+  pub unplaced : is_placed fate ≡ false → spare ≡ None
+  pub unknown : known ≡ None → is_opening known fate ≡ false → spare ≡ None
+
+-- the deadline that is known after a packet: that of the last one that was taken
+pub record IsKnownAfter (known : Option KnownDeadline) (fate : Fate) (ts : ℕ) (due : Option ℤ) (next : Option KnownDeadline) : Type 0 where
+  pub opening : is_opening known fate ≡ true → next ≡ known_from ts due
+  pub taken : (stream : Stream) (anchor : Anchor) (before number : ℕ) (last : KnownDeadline)
+    → known ≡ Some last → IsDeadlineOf stream anchor before last → fate ≡ Taken
+    → is_on_grid stream anchor number ts ≡ true → IsNearby stream before number → IsShortTime (deadline_of stream anchor number)
+    → IfSome next (IsDeadlineOf stream anchor number)
+  pub kept : is_opening known fate ≡ false → (fate ≡ Taken → ⊥) → next ≡ known

@@ -7,6 +7,7 @@ pub mod MarginSecond
 pub mod Counts
 pub mod Tally
 pub mod Deadlines
+pub mod CopyTracker
 pub mod Laws
 pub mod Peaks
 pub mod Channel

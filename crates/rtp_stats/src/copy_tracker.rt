@@ -1,11 +1,12 @@
 //! Tracks the copies that each path brings of a stream's packets (SMPTE ST 2022-7), with their arrival margins.
-ghost use Rattle.std.specs.Prelude.{◌≡◌, ℕ, ◌∷◌, [], List, Option, IfOk};
+ghost use Rattle.std.specs.Prelude.{◌≡◌, None, [], List, IfOk};
 ghost use Rattle.rtp_stream.specs.declared.stream_spec.Stream.{Stream};
 ghost use Rattle.rtp_stats.specs.Offer.{Offer};
+ghost use Rattle.rtp_stats.specs.CopyTracker.{NotesOffer};
 ghost use Rattle.rtp_stats.specs.Tally.{HasTally};
 ghost use Rattle.rtp_stats.specs.Stats.{AreNumbers};
 
-use crate::deadlines::{Deadlines, margin_before};
+use crate::deadlines::Deadlines;
 use crate::stats::PathStats;
 use crate::tally::StreamTally;
 use rtp_stream::{Fate, Path, StreamSpec};
@@ -22,7 +23,8 @@ impl CopyTracker {
     /// A tracker of a stream of which no packet was offered yet. Allocates all its memory, and returns `AllocError` if
     /// that fails.
     pub fn new(alloc: Global, spec: &StreamSpec) -> Result<CopyTracker, AllocError>
-        ensures { IfOk result (λ tracker. HasTally spec.now [] tracker.tally) }
+        ensures tally { IfOk result (λ tracker. HasTally spec.now [] tracker.tally) }
+        ensures known { IfOk result (λ tracker. tracker.deadlines ≡ None) }
     {
         Ok(CopyTracker {
             deadlines: Deadlines::new(),
@@ -35,14 +37,9 @@ impl CopyTracker {
     /// `due` is the stream's next deadline after the offer and `now` the clock reading of the offer, both in sampling
     /// instants at 48 kHz.
     pub fn note(&mut self, path: Path, seq: u16, ts: u32, fate: Fate, due: Option<i64>, now: i64)
-        ensures { (stream : Stream) (offers : List Offer) → HasTally stream offers self.old.tally → (spare : Option ℕ)
-            × HasTally stream (record { path = path; fate = fate; seq = seq; spare = spare; now = now } ∷ offers)
-            self.new.tally }
+        ensures { NotesOffer path fate seq ts due now self.old self.new }
     {
-        let spare = match self.deadlines.deadline(fate, ts, due) {
-            Some(deadline) => margin_before(deadline, now),
-            None => None,
-        };
+        let spare = self.deadlines.margin(fate, ts, due, now);
         self.tally.add(path, fate, seq, spare, now);
     }
 

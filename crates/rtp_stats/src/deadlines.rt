@@ -6,10 +6,12 @@ ghost use Rattle.rtp_stream.specs.declared.anchor.Anchor.{Anchor};
 ghost use Rattle.rtp_stream.specs.declared.fate.Fate.TheVariants.{Taken};
 ghost use Rattle.rtp_stream.specs.declared.stream_spec.Stream.{Stream};
 ghost use Rattle.rtp_stats.specs.Deadlines.{
+  HasMargin,
   IsDeadlineOf,
+  IsKnownAfter,
+  IsMarginOf,
   IsNearby,
   IsShortTime,
-  IsSpareBefore,
   KnownDeadline,
   is_opening,
   is_placed,
@@ -22,8 +24,7 @@ use std::marker::Model;
 /// Returns the time from the clock reading `now` to a deadline, in sampling instants at 48 kHz; `None` at and after the
 /// deadline, and for 2^32 instants or more.
 pub fn margin_before(deadline: i64, now: i64) -> Option<u32>
-    ensures { MatchOption result ((deadline ≤ℤ now) ⊎ ((now +ℤ pos (2 ^ 32)) ≤ℤ deadline))
-        (IsSpareBefore deadline now) }
+    ensures { HasMargin deadline now result }
 {
     let left = deadline.saturating_sub(now);
     if left < 1 || left > 4_294_967_295 {
@@ -107,6 +108,21 @@ impl Deadlines {
             | Fate::OffGrid
             | Fate::Late
             | Fate::Ahead => None,
+        }
+    }
+
+    /// Returns the arrival margin of a packet that was offered at the clock reading `now`, by its fate and timestamp: the
+    /// time from `now` to its deadline, in sampling instants at 48 kHz. Returns `None` if the packet did not come in
+    /// time or is not in step, or if no deadline is known.
+    ///
+    /// `due` is the stream's next deadline after the offer, as for `deadline`.
+    pub fn margin(&mut self, fate: Fate, ts: u32, due: Option<i64>, now: i64) -> Option<u32>
+        ensures margin { IsMarginOf self.old fate ts due now result }
+        ensures known { IsKnownAfter self.old fate ts due self.new }
+    {
+        match self.deadline(fate, ts, due) {
+            Some(deadline) => margin_before(deadline, now),
+            None => None,
         }
     }
 

@@ -1,0 +1,16 @@
+-- What a tracker notes of a packet that was offered.
+use Rattle.std.specs.Prelude.{ℕ, ℤ, List, ◌∷◌, Option}
+use Rattle.rtp_stream.specs.declared.fate.Fate.{Fate}
+use Rattle.rtp_stream.specs.declared.stream_spec.Stream.{Stream}
+use Rattle.rtp_stats.specs.Deadlines.{IsMarginOf, IsKnownAfter}
+use Rattle.rtp_stats.specs.Offer.{Offer}
+use Rattle.rtp_stats.specs.Tally.{HasTally}
+use Rattle.rtp_stats.specs.declared.copy_tracker.CopyTracker.{CopyTracker}
+
+-- the packet's arrival margin is by what the tracker knew, its tally has one offer more, and it knows the deadline after the packet
+pub record NotesOffer (path : ℕ) (fate : Fate) (seq ts : ℕ) (due : Option ℤ) (now : ℤ) (old new : CopyTracker) : Type 0 where
+  pub spare : Option ℕ
+  pub margin : IsMarginOf old.deadlines fate ts due now spare
+  pub tally : (stream : Stream) (offers : List Offer) → HasTally stream offers old.tally
+    → HasTally stream (record { path = path; fate = fate; seq = seq; spare = spare; now = now } ∷ offers) new.tally
+  pub known : IsKnownAfter old.deadlines fate ts due new.deadlines
