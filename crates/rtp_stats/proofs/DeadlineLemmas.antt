@@ -76,18 +76,18 @@ known_now stream anchor number ts at grid short is = record { ts = eqb-true ts (
 
 -- the time to a deadline that was found is the packet's margin
 pub margin_found : (known : Option KnownDeadline) (fated : Fate) (ts : ℕ) (due : Option ℤ) (now found : ℤ) (spare : Option ℕ)
-  → (is_opening known fated ≡ true → Some found ≡ due)
-  → ((stream : Stream) (anchor : Anchor) (before number : ℕ) (last : KnownDeadline)
+    → (is_opening known fated ≡ true → Some found ≡ due)
+    → ((stream : Stream) (anchor : Anchor) (before number : ℕ) (last : KnownDeadline)
     → known ≡ Some last → IsDeadlineOf stream anchor before last → is_opening known fated ≡ false → is_placed fated ≡ true
     → is_on_grid stream anchor number ts ≡ true → IsNearby stream before number → IsShortTime (deadline_of stream anchor number)
     → Some found ≡ Some (deadline_of stream anchor number))
-  → (is_placed fated ≡ false → Some found ≡ None)
-  → (known ≡ None → is_opening known fated ≡ false → Some found ≡ None)
-  → HasMargin found now spare → IsMarginOf known fated ts due now spare
+    → (is_placed fated ≡ false → Some found ≡ None)
+    → (known ≡ None → is_opening known fated ≡ false → Some found ≡ None)
+    → HasMargin found now spare → IsMarginOf known fated ts due now spare
 margin_found known fated ts due now found spare opening in_step unplaced unknown left = record {
   opening = λ is. subst (λ of. MatchOption of (spare ≡ None) (λ deadline. HasMargin deadline now spare)) (opening is) left;
   in_step = λ stream anchor before number last some of closed placed grid nearby short.
-    subst (λ at. HasMargin at now spare) (ap (λ of. unwrap_or of found) (in_step stream anchor before number last some of closed placed grid nearby short)) left;
+      subst (λ at. HasMargin at now spare) (ap (λ of. unwrap_or of found) (in_step stream anchor before number last some of closed placed grid nearby short)) left;
   unplaced = λ is. absurd (none-some found (sym (unplaced is)));
   unknown = λ none closed. absurd (none-some found (sym (unknown none closed)));
 }

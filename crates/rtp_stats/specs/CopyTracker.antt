@@ -12,5 +12,5 @@ pub record NotesOffer (path : ℕ) (fate : Fate) (seq ts : ℕ) (due : Option �
   pub spare : Option ℕ
   pub margin : IsMarginOf old.deadlines fate ts due now spare
   pub tally : (stream : Stream) (offers : List Offer) → HasTally stream offers old.tally
-    → HasTally stream (record { path = path; fate = fate; seq = seq; spare = spare; now = now } ∷ offers) new.tally
+      → HasTally stream (record { path = path; fate = fate; seq = seq; spare = spare; now = now } ∷ offers) new.tally
   pub known : IsKnownAfter old.deadlines fate ts due new.deadlines

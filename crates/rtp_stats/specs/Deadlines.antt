@@ -74,9 +74,9 @@ HasMargin deadline now spare = MatchOption spare ((deadline ≤ℤ now) ⊎ ((no
 pub record IsMarginOf (known : Option KnownDeadline) (fate : Fate) (ts : ℕ) (due : Option ℤ) (now : ℤ) (spare : Option ℕ) : Type 0 where
   pub opening : is_opening known fate ≡ true → MatchOption due (spare ≡ None) (λ deadline. HasMargin deadline now spare)
   pub in_step : (stream : Stream) (anchor : Anchor) (before number : ℕ) (last : KnownDeadline)
-    → known ≡ Some last → IsDeadlineOf stream anchor before last → is_opening known fate ≡ false → is_placed fate ≡ true
-    → is_on_grid stream anchor number ts ≡ true → IsNearby stream before number → IsShortTime (deadline_of stream anchor number)
-    → HasMargin (deadline_of stream anchor number) now spare
+      → known ≡ Some last → IsDeadlineOf stream anchor before last → is_opening known fate ≡ false → is_placed fate ≡ true
+      → is_on_grid stream anchor number ts ≡ true → IsNearby stream before number → IsShortTime (deadline_of stream anchor number)
+      → HasMargin (deadline_of stream anchor number) now spare
   pub unplaced : is_placed fate ≡ false → spare ≡ None
   pub unknown : known ≡ None → is_opening known fate ≡ false → spare ≡ None
 
@@ -84,7 +84,7 @@ pub record IsMarginOf (known : Option KnownDeadline) (fate : Fate) (ts : ℕ) (d
 pub record IsKnownAfter (known : Option KnownDeadline) (fate : Fate) (ts : ℕ) (due : Option ℤ) (next : Option KnownDeadline) : Type 0 where
   pub opening : is_opening known fate ≡ true → next ≡ known_from ts due
   pub taken : (stream : Stream) (anchor : Anchor) (before number : ℕ) (last : KnownDeadline)
-    → known ≡ Some last → IsDeadlineOf stream anchor before last → fate ≡ Taken
-    → is_on_grid stream anchor number ts ≡ true → IsNearby stream before number → IsShortTime (deadline_of stream anchor number)
-    → IfSome next (IsDeadlineOf stream anchor number)
+      → known ≡ Some last → IsDeadlineOf stream anchor before last → fate ≡ Taken
+      → is_on_grid stream anchor number ts ≡ true → IsNearby stream before number → IsShortTime (deadline_of stream anchor number)
+      → IfSome next (IsDeadlineOf stream anchor number)
   pub kept : is_opening known fate ≡ false → (fate ≡ Taken → ⊥) → next ≡ known

@@ -1,5 +1,5 @@
 //! The channel that reports the fates of a stream's packets.
-ghost use Rattle.std.specs.Prelude.{◌≡◌, ℕ, ◌<◌, ◌^◌, ◌∷◌, [], List, Option, IfOk, ℤ, pos, neg_ℤ, ◌+ℤ◌, ◌<ℤ◌, ◌≤ℤ◌};
+ghost use Rattle.std.specs.Prelude.{◌≡◌, ◌<◌, ◌^◌, [], List, None, IfOk, ℤ, pos, neg_ℤ, ◌+ℤ◌, ◌<ℤ◌, ◌≤ℤ◌};
 ghost use Rattle.rtrb.specs.Ring.{SameConsumer, SameProducer};
 ghost use Rattle.rtp_stream.specs.declared.stream_spec.Stream.{Stream};
 ghost use Rattle.rtp_stats.specs.Offer.{Offer};
@@ -7,6 +7,7 @@ ghost use Rattle.rtp_stats.specs.Tally.{HasTally};
 ghost use Rattle.rtp_stats.specs.Channel.{IsNewest};
 ghost use Rattle.rtp_stats.specs.Stats.{AreNumbers};
 ghost use Rattle.rtp_stats.specs.Channels.{Tells};
+ghost use Rattle.rtp_stats.specs.CopyTracker.{NotesOffer};
 
 use crate::channel::{take_newest, try_send};
 use crate::copy_tracker::CopyTracker;
@@ -44,6 +45,7 @@ pub fn stream_stats_channel(
     spec: &StreamSpec,
 ) -> Result<(StreamStatsSender, StreamStatsReceiver), AllocError>
     ensures empty { IfOk result (λ ends. HasTally spec.now [] ends.0.tracker.tally) }
+    ensures known { IfOk result (λ ends. ends.0.tracker.deadlines ≡ None) }
     ensures next { IfOk result (λ ends. (now : ℤ) → neg_ℤ (pos (2 ^ 63)) ≤ℤ now → ends.0.next ≤ℤ now) }
 {
     let tracker = CopyTracker::new(alloc, spec)?;
@@ -70,11 +72,7 @@ impl StreamStatsSender {
         due: Option<i64>,
         now: i64,
     )
-        ensures noted { (stream : Stream) (offers : List Offer) → HasTally stream offers self.old.tracker.tally
-            → (spare : Option ℕ)
-            × HasTally stream
-            (record { path = path; fate = fate; seq = packet.entry.seq; spare = spare; now = now } ∷ offers)
-            self.new.tracker.tally }
+        ensures noted { NotesOffer path fate packet.entry.seq packet.entry.ts due now self.old.tracker self.new.tracker }
         ensures ring { self.new.ring ≡ self.old.ring }
     {
         self.tracker

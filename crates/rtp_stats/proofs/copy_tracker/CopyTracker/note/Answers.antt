@@ -12,6 +12,6 @@ returns c =
       spare = spare;
       margin = subst (λ now. IsMarginOf c.args.self.now.deadlines c.args.fate c.args.ts c.args.due now spare) z c.margin-spare.ensures.margin;
       tally = λ stream offers told.
-        subst (λ now. HasTally stream (record { path = c.args.path; fate = c.args.fate; seq = c.args.seq; spare = spare; now = now } ∷ offers) c.add.new.self) z (c.add.ensures stream offers told);
+          subst (λ now. HasTally stream (record { path = c.args.path; fate = c.args.fate; seq = c.args.seq; spare = spare; now = now } ∷ offers) c.add.new.self) z (c.add.ensures stream offers told);
       known = c.margin-spare.ensures.known;
     }
