@@ -1,4 +1,5 @@
 pub mod Addresses
+pub mod Backoff
 pub mod Clock
 pub mod Ports
 pub mod RecordBlocks

@@ -1,8 +1,9 @@
 //! The sockets of a run. `ports` and `addresses` find where they are bound, `inherited` has those that were passed in,
 //! and `receiver` and `sink` those that receive and send. `feed` makes a feed of a receiver; `unexpected` tests and
-//! counts the sources of datagrams.
+//! counts the sources of datagrams. `health` has what the sockets count, and `udp_table` what the kernel counts.
 
 use crate::sockets::addresses::{PathAddress, addresses_of};
+use crate::sockets::health::RunHealth;
 use crate::sockets::inherited::InheritedSockets;
 use crate::sockets::ports::LivePorts;
 use crate::sockets::receiver::{Receiver, inherited_socket, receiving_socket};
@@ -15,11 +16,16 @@ use std::net::{Ipv4Addr, Net, SocketAddrV4, UdpSocket};
 use studio_config::StudioSpec;
 
 pub(crate) mod addresses;
+pub(crate) mod backoff;
 pub(crate) mod feed;
+pub(crate) mod health;
 pub(crate) mod inherited;
 pub(crate) mod ports;
 pub(crate) mod receiver;
+pub(crate) mod retrying;
 pub(crate) mod sink;
+pub(crate) mod socket_kind;
+pub(crate) mod udp_table;
 pub(crate) mod unexpected;
 
 /// The configuration of a run's sockets, in addition to the studio's addresses.
@@ -31,6 +37,8 @@ pub struct SocketConfig<'a> {
     pub inherited: &'a InheritedSockets,
     /// The counts of datagrams from unexpected sources.
     pub unexpected: &'a UnexpectedSources,
+    /// The health of the sockets, which the feeds and the sink write.
+    pub health: &'a RunHealth,
 }
 
 /// The sockets of a run.
@@ -39,7 +47,7 @@ pub struct Sockets<'a> {
     /// The sockets that receive, ordered by stream and then by path.
     pub receiving: Vec<Receiver<'a>>,
     /// The sockets that send.
-    pub sink: UdpSink,
+    pub sink: UdpSink<'a>,
 }
 
 /// Returns all sockets of a run: the inherited ones, and new ones at the studio's addresses for the others. Returns the
@@ -51,9 +59,7 @@ pub fn open_sockets<'a, R: Net>(
     config: SocketConfig<'a>,
 ) -> io::Result<Sockets<'a>> {
     let receiving = open_receivers(rt, alloc, studio, config)?;
-    let output = studio.networks().output;
-    let ports = config.ports;
-    let sink = UdpSink::bind(rt, ports.to_a, ports.to_b, &output, config.inherited)?;
+    let sink = UdpSink::bind(rt, &studio.networks().output, config)?;
     Ok(Sockets { receiving, sink })
 }
 
@@ -97,7 +103,11 @@ impl<'a> ReceiverPlan<'a> {
         };
         let socket = self.socket(rt, index, address, *port)?;
         let source = self.config.unexpected.source(index, address.from);
-        Ok(Receiver::new(socket, source, SocketAddrV4::new(address.at, *port)))
+        let receiver = Receiver::new(socket, source, SocketAddrV4::new(address.at, *port));
+        if let Some(health) = self.config.health.paths().get(index) {
+            receiver.show_inode(health);
+        }
+        Ok(receiver)
     }
 
     /// Returns the inherited socket of the path at an index, or a new one at this address and port if there is none.

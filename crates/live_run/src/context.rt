@@ -1,7 +1,7 @@
 //! The context of a run, by workers or in one thread.
 
 use crate::supervisor::stop_flags::StopFlags;
-use live_io::RunPeriod;
+use live_io::{RunHealth, RunPeriod};
 use live_status::StatusOutputs;
 
 /// The context of a run, in addition to its studio and its sockets.
@@ -15,4 +15,6 @@ pub(crate) struct RunContext<'a, E> {
     pub(crate) status: StatusOutputs<'a, E>,
     /// The flags between the run and its supervisor.
     pub(crate) flags: &'a StopFlags,
+    /// The health of the run's sockets.
+    pub(crate) health: &'a RunHealth,
 }

@@ -102,6 +102,7 @@ fn bind_and_run<
             until_eof: options.until_eof,
             status: showing,
             flags: &state.flags,
+            health: inputs.sockets.health,
         },
         recording,
     };

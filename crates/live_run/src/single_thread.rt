@@ -61,6 +61,7 @@ pub(crate) fn run_in_one_thread<
         until_eof,
         status,
         flags,
+        health,
     } = context;
     let RecordOutput { record, recorded } = recording;
     // Only a record needs the sources, and keeping them makes each receive slower.
@@ -71,6 +72,7 @@ pub(crate) fn run_in_one_thread<
     let feed_flags = FeedFlags {
         stop: &flags.stop,
         ready: ready.as_slice(),
+        health: health.paths(),
     };
     let meter = status.meter;
     let (record, writer) = ends_of(record);

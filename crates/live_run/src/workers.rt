@@ -47,6 +47,7 @@ pub(crate) fn run_in_workers<'a, R: Threads + Wait + Sync + Clock, E: Write + Se
         until_eof,
         status,
         flags,
+        health,
     } = context;
     // Without a status there are no rings for statistics, and the workers send none.
     let is_shown = status.publisher.is_some();
@@ -56,6 +57,7 @@ pub(crate) fn run_in_workers<'a, R: Threads + Wait + Sync + Clock, E: Write + Se
     let feed_flags = FeedFlags {
         stop: &flags.stop,
         ready: &[],
+        health: health.paths(),
     };
     let workers = prepare_workers(rt, alloc, ends, sockets, period, feed_flags)?;
     let task = worker_status_task(rt, alloc, receivers, period, status.publisher)?;

@@ -3,8 +3,8 @@ use crate::fault::ProgramFault;
 use command_line::LiveArgs;
 use file_commands::{CommandFault, Host, output_result, parse_studio, read_config, table_in};
 use live_io::{
-    InheritedSockets, LivePorts, RecordResult, SocketConfig, TaiOffset, TaiTime, UnexpectedSources,
-    tai_now,
+    InheritedSockets, LivePorts, RecordResult, RunHealth, SocketConfig, TaiOffset, TaiTime,
+    UnexpectedSources, tai_now,
 };
 use live_run::{LiveFault, LiveInputs, StreamName, run_studio_live};
 use rtp_stream::Path;
@@ -85,6 +85,7 @@ fn run_loaded<R: Threads + Wait + Sync + Net + Clock + RandomSource + Env + Allo
             ports: &loaded.ports,
             inherited: &loaded.inherited,
             unexpected: &loaded.unexpected,
+            health: &loaded.health,
         },
         names: loaded.names.as_slice(),
         recorded: &recorded,
@@ -111,6 +112,7 @@ struct LoadedInputs {
     inherited: InheritedSockets,
     names: Vec<Option<StreamName>>,
     unexpected: UnexpectedSources,
+    health: RunHealth,
 }
 
 /// Returns the inputs of a run of a configuration's studio.
@@ -125,11 +127,13 @@ fn load_inputs<R: Env + AllocGlobal>(
     let inherited = inherited_sockets(rt, alloc, studio, listen_fds)?;
     let names = names_in(alloc, config)?;
     let unexpected = UnexpectedSources::new(alloc, studio)?;
+    let health = RunHealth::new(alloc, studio)?;
     Ok(LoadedInputs {
         ports,
         inherited,
         names,
         unexpected,
+        health,
     })
 }
 

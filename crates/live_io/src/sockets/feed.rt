@@ -1,11 +1,11 @@
 //! The feeds of the paths, one for each socket that receives.
-ghost use Rattle.std.specs.Prelude.{◌≡◌, [], ℕ, length, IfOk};
-ghost use Rattle.studio_io.specs.Answers.{IsWithin};
+ghost use Rattle.std.specs.Prelude.{◌≡◌, [], length, IfOk};
 
 use crate::clock::{RunPeriod, SystemClock};
+use crate::sockets::health::SocketHealth;
 use crate::sockets::receiver::Receiver;
+use crate::sockets::retrying::RetryingSocket;
 use std::alloc::{AllocError, Global};
-use std::io::ErrorKind;
 use std::net::SocketAddrV4;
 use std::sync::atomic::{AtomicBool, Ordering};
 use std::time::Clock;
@@ -15,26 +15,25 @@ use studio_io::{Clock as ReadClock, Feed, FeedAnswer};
 // A bound, so that the path's worker or engine goes on with its other work during a flood from an unexpected source.
 const MAX_UNEXPECTED: u32 = 64;
 
-/// The flags that all feeds of a run share with other threads and with the wait for sockets.
+/// The flags and the health that all feeds of a run share with other threads and with the wait for sockets.
 #[derive(Clone, Copy)]
 pub struct FeedFlags<'a> {
     /// True once each feed is to end.
     pub stop: &'a AtomicBool,
     /// For each path a flag that is true if its socket is to be read once. Empty if receives wait.
     pub ready: &'a [AtomicBool],
+    /// The health of each path's socket, which its feed writes.
+    pub health: &'a [SocketHealth],
 }
 
 /// A feed from a socket. Its receives wait, or they have a flag that says if one is tried. It ends once the flag `stop`
-/// is set, or once its clock has reached a time.
+/// is set, once its clock has reached a time, or after 1,000 faults of the socket without a datagram.
 #[derive(Drop)]
 pub struct UdpFeed<'a, R: Clock> {
-    receiver: Receiver<'a>,
-    clock: SystemClock<'a, R>,
+    retrying: RetryingSocket<'a, Receiver<'a>, SystemClock<'a, R>>,
     /// The time at which the feed ends, in sampling instants, if the clock ends it.
     until: Option<i64>,
     stop: &'a AtomicBool,
-    /// A flag that is true if the socket is to be read once. `None` if receives wait.
-    ready: Option<&'a AtomicBool>,
     /// The path's index among the paths of all streams.
     path_index: u32,
 }
@@ -48,12 +47,12 @@ impl<'a, R: Clock> UdpFeed<'a, R> {
         flags: FeedFlags<'a>,
         path_index: usize,
     ) -> UdpFeed<'a, R> {
+        let health = flags.health.get(path_index);
+        let ready = flags.ready.get(path_index);
         UdpFeed {
-            receiver,
-            clock: period.clock(rt),
+            retrying: RetryingSocket::new(receiver, period.clock(rt), health, ready),
             until: period.until(),
             stop: flags.stop,
-            ready: flags.ready.get(path_index),
             path_index: u32::try_from(path_index).unwrap_or(u32::MAX),
         }
     }
@@ -67,24 +66,16 @@ impl<'a, R: Clock> UdpFeed<'a, R> {
 
     /// Returns the source address of the last datagram, or 0.0.0.0:0 if the receiver keeps no sources.
     pub fn source(&self) -> SocketAddrV4
-        ensures { result ≡ self.now.receiver.last_source }
+        ensures { result ≡ self.now.retrying.socket.last_source }
     {
-        self.receiver.last_source
+        self.retrying.socket.last_source
     }
 
     /// Returns the address to which the path's datagrams are sent.
     pub fn destination(&self) -> SocketAddrV4
-        ensures { result ≡ self.now.receiver.address }
+        ensures { result ≡ self.now.retrying.socket.address }
     {
-        self.receiver.address
-    }
-
-    /// Returns true if the socket is to be read, and clears the flag that says so.
-    fn take_ready(&self) -> bool {
-        match self.ready {
-            Some(ready) => ready.swap(false, Ordering::SeqCst),
-            None => true,
-        }
+        self.retrying.socket.address
     }
 
     /// Returns true if nothing more is to be received.
@@ -93,7 +84,7 @@ impl<'a, R: Clock> UdpFeed<'a, R> {
             return true;
         }
         match self.until {
-            Some(until) => self.clock.now() >= until,
+            Some(until) => self.retrying.clock.now() >= until,
             None => false,
         }
     }
@@ -118,17 +109,6 @@ pub fn udp_feeds<'a, R: Clock>(
     Ok(feeds)
 }
 
-/// Returns the feed's result for a receive that failed with this error.
-fn answer_of(kind: ErrorKind) -> FeedAnswer
-    ensures { (len : ℕ) → IsWithin result len }
-{
-    match kind {
-        // `WouldBlock` is also the error of a receive whose time ran out.
-        ErrorKind::WouldBlock | ErrorKind::Interrupted => FeedAnswer::Nothing,
-        _ => FeedAnswer::Fault,
-    }
-}
-
 impl<R: Clock> Feed for UdpFeed<'_, R> {
     ghost told = { λ feed. [] };
 
@@ -138,13 +118,8 @@ impl<R: Clock> Feed for UdpFeed<'_, R> {
             if self.has_ended() {
                 return FeedAnswer::Ended;
             }
-            if !self.take_ready() {
-                return FeedAnswer::Nothing;
-            }
-            match self.receiver.receive(buf) {
-                Ok(Some(count)) => return FeedAnswer::Datagram(count),
-                Ok(None) => {}
-                Err(fault) => return answer_of(fault.kind()),
+            if let Some(answer) = self.retrying.next(buf) {
+                return answer;
             }
         }
         FeedAnswer::Nothing
@@ -152,6 +127,6 @@ impl<R: Clock> Feed for UdpFeed<'_, R> {
 
     /// Returns true if receives wait for a datagram, because no flag says if there may be one.
     fn waits(&self) -> bool {
-        self.ready.is_none()
+        self.retrying.waits()
     }
 }

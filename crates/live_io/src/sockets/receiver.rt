@@ -1,6 +1,7 @@
 //! The socket that receives a path.
-ghost use Rattle.std.specs.Prelude.{◌≤◌, length, IfOk, IfSome};
-
+use crate::sockets::health::SocketHealth;
+use crate::sockets::retrying::DatagramSocket;
+use crate::sockets::socket_kind::inode_of;
 use crate::sockets::unexpected::ExpectedSource;
 use os::FromRawFd;
 use std::io;
@@ -71,10 +72,14 @@ impl<'a> Receiver<'a> {
         self.address
     }
 
-    /// Receives a datagram into `buf`, and returns its length in octets, or `None` if it is from an unexpected source.
-    pub(crate) fn receive(&mut self, buf: &mut [u8]) -> io::Result<Option<usize>>
-        ensures within { IfOk result (λ own. IfSome own (λ count. count ≤ length buf.old)) }
-    {
+    /// Sets the inode of the socket in its health.
+    pub(crate) fn show_inode(&self, health: &SocketHealth) {
+        health.set_inode(inode_of(self.socket.as_raw_fd()));
+    }
+}
+
+impl DatagramSocket for Receiver<'_> {
+    fn receive(&mut self, buf: &mut [u8]) -> io::Result<Option<usize>> {
         let source = self.source;
         // `recv` is cheaper than `recv_from`.
         if source.is_none() && !self.keeps_sources {

@@ -1,7 +1,8 @@
 //! The sink of the mix's datagrams: two addresses, each with a socket of its own (SMPTE ST 2022-7).
 ghost use Rattle.std.specs.Prelude.{None};
 
-use crate::sockets::inherited::InheritedSockets;
+use crate::sockets::SocketConfig;
+use crate::sockets::health::SendHealth;
 use mio::net::UdpSocket;
 use os::FromRawFd;
 use std::io::ErrorKind;
@@ -76,29 +77,29 @@ fn set_time_to_live(socket: &UdpSocket, to: Ipv4Addr, ttl: u32) -> io::Result<()
 /// A sink of two sockets, each of which sends a copy of each datagram. A send that fails or would block is a fault of
 /// that copy alone.
 #[derive(Drop)]
-pub struct UdpSink {
+pub struct UdpSink<'a> {
     a: Sender,
     b: Sender,
+    health: &'a SendHealth,
 }
 
-impl UdpSink {
+impl<'a> UdpSink<'a> {
     /// Returns a sink to two ports at the output's addresses, by the inherited sockets if there are any. Returns the
     /// system's error if it refuses.
     pub(crate) fn bind<R: Net>(
         rt: &R,
-        to_a: u16,
-        to_b: u16,
         addresses: &OutputAddresses,
-        inherited: &InheritedSockets,
-    ) -> io::Result<UdpSink> {
+        config: SocketConfig<'a>,
+    ) -> io::Result<UdpSink<'a>> {
         let ttl = addresses.ttl;
+        let inherited = config.inherited;
         Ok(UdpSink {
             a: Sender::bind(
                 rt,
                 inherited.to_a,
                 addresses.from_a,
                 addresses.to_a,
-                to_a,
+                config.ports.to_a,
                 ttl,
             )?,
             b: Sender::bind(
@@ -106,9 +107,10 @@ impl UdpSink {
                 inherited.to_b,
                 addresses.from_b,
                 addresses.to_b,
-                to_b,
+                config.ports.to_b,
                 ttl,
             )?,
+            health: config.health.sends(),
         })
     }
 
@@ -118,13 +120,15 @@ impl UdpSink {
     }
 }
 
-impl Sink for UdpSink {
+impl Sink for UdpSink<'_> {
     ghost handed = { λ sink. None };
 
     fn send(&mut self, datagram: &[u8]) -> SendAnswer {
-        SendAnswer {
+        let answer = SendAnswer {
             a: self.a.send(datagram),
             b: self.b.send(datagram),
-        }
+        };
+        self.health.note(answer.a, answer.b);
+        answer
     }
 }

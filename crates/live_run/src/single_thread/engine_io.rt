@@ -24,7 +24,7 @@ use studio_io::{SendAnswer, Sink, WorkReport};
 pub(crate) struct SingleThreadRun<'a, R: Wait + Clock> {
     pub(crate) feeds: Vec<Vec<UdpFeed<'a, R>>>,
     clock: SystemClock<'a, R>,
-    sink: MeteredSink<'a, UdpSink>,
+    sink: MeteredSink<'a, UdpSink<'a>>,
     wait: SocketWait<'a, R>,
 }
 
@@ -67,7 +67,7 @@ pub(crate) fn prepare_engine_io<'a, R: Wait + Clock>(
     let Sockets { receiving, sink } = sockets;
     let clock = period.clock(rt);
     // The wait takes the descriptors before the feeds take the sockets.
-    let wait = SocketWait::new(rt, alloc, receiving.as_slice(), flags.ready, clock)?;
+    let wait = SocketWait::new(rt, alloc, receiving.as_slice(), flags, clock)?;
     let feeds = stream_feeds(rt, alloc, studio, receiving, period, flags)?;
     Ok(SingleThreadRun {
         feeds,

@@ -4,7 +4,7 @@ use engine_run::IdleWait;
 use libc::net;
 use libc::net::POLLIN;
 use libc::types::pollfd;
-use live_io::{Receiver, SystemClock};
+use live_io::{FeedFlags, Receiver, SocketHealth, SystemClock};
 use std::alloc::{AllocError, Global};
 use std::io;
 use std::sync::Wait;
@@ -36,6 +36,9 @@ const QUIET_WAITS: u32 = 100;
 /// The least length of such a wait in milliseconds, if no datagram arrives.
 const QUIET_WAIT: i32 = 4;
 
+/// The descriptor that makes `poll` pass over its place.
+const LEFT_OUT: i32 = -1;
+
 /// Returns a flag for each of `count` sockets, which is true if the socket may have a datagram. The wait for the
 /// sockets sets a flag. The socket's feed clears it and receives one datagram. Returns `AllocError` if an allocation
 /// fails.
@@ -66,10 +69,17 @@ enum PollOutcome {
 /// socket only as often as it has a datagram. These datagrams are judged by the clock reading before the sleep, unless
 /// it is older than a millisecond. Once no datagram has arrived for a while, a wait is longer, also past deadlines of
 /// silence. The first datagram ends it.
+///
+/// A socket that failed is left out until its feed has tried it again without a fault. Its error would end each wait at
+/// once.
 #[derive(Drop)]
 pub(crate) struct SocketWait<'a, R: Wait + Clock> {
     rt: &'a R,
+    /// The descriptor of each socket.
+    descriptors: Vec<i32>,
     sockets: Vec<pollfd>,
+    /// The health of each socket, by which those that failed are left out.
+    health: &'a [SocketHealth],
     /// The flag of each socket, which is true if it is to be read once.
     ready: &'a [AtomicBool],
     /// The parker in which it sleeps while datagrams arrive. Nobody unparks it.
@@ -89,21 +99,26 @@ impl<'a, R: Wait + Clock> SocketWait<'a, R> {
         rt: &'a R,
         alloc: Global,
         receivers: &[Receiver<'_>],
-        ready: &'a [AtomicBool],
+        flags: FeedFlags<'a>,
         clock: SystemClock<'a, R>,
     ) -> io::Result<SocketWait<'a, R>> {
+        let mut descriptors = Vec::with_capacity(alloc, receivers.len())?;
         let mut sockets = Vec::with_capacity(alloc, receivers.len())?;
         for receiver in receivers {
+            let descriptor = receiver.nonblocking_fd()?;
+            descriptors.push(descriptor)?;
             sockets.push(pollfd {
-                fd: receiver.nonblocking_fd()?,
+                fd: descriptor,
                 events: POLLIN,
                 revents: 0,
             })?;
         }
         Ok(SocketWait {
             rt,
+            descriptors,
             sockets,
-            ready,
+            health: flags.health,
+            ready: flags.ready,
             parker: Parker::new(),
             clock,
             is_busy: false,
@@ -148,8 +163,21 @@ impl<'a, R: Wait + Clock> SocketWait<'a, R> {
         };
     }
 
+    /// Leaves the sockets out that failed, and puts those in that did not.
+    fn leave_out_failed(&mut self) {
+        let sockets = self.sockets.iter_mut().zip(self.descriptors.iter());
+        for ((socket, descriptor), health) in sockets.zip(self.health) {
+            socket.fd = if health.is_resting() {
+                LEFT_OUT
+            } else {
+                *descriptor
+            };
+        }
+    }
+
     /// Polls the sockets for so many milliseconds at most, and sets the flags of those that have a datagram.
     fn poll(&mut self, limit: i32) -> PollOutcome {
+        self.leave_out_failed();
         let count = net::poll(self.sockets.as_mut_slice(), limit);
         if count == 0 {
             return PollOutcome::Nothing;

@@ -19,7 +19,7 @@ pub(crate) struct WorkerRun<'a, R: Clock> {
     pub(crate) ends: Ends,
     pub(crate) feeds: Vec<UdpFeed<'a, R>>,
     pub(crate) clocks: Vec<SystemClock<'a, R>>,
-    sink: UdpSink,
+    sink: UdpSink<'a>,
 }
 
 /// Returns the parts of the workers on these rings and sockets: a feed for each path and a clock for each stream.

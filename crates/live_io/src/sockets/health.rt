@@ -1,0 +1,165 @@
+//! The health of a run's sockets: what the feeds and the sink count, and other threads read.
+
+use std::alloc::{AllocError, Global};
+use std::sync::atomic::{AtomicBool, AtomicU64, Ordering};
+use studio_config::StudioSpec;
+
+/// The value for a number of dropped datagrams that is not known.
+const UNKNOWN: u64 = u64::MAX;
+
+/// The value for an inode that is not known. No socket has it.
+const NO_INODE: u64 = 0;
+
+/// The health of all sockets of a run.
+// Atomics throughout: feeds in several threads write, and the threads of the supervisor and of the page read.
+#[derive(Drop)]
+pub struct RunHealth {
+    paths: Vec<SocketHealth>,
+    sends: SendHealth,
+}
+
+impl RunHealth {
+    /// Returns the health of a studio's sockets, none of which has failed. Returns `AllocError` if an allocation fails.
+    pub fn new(alloc: Global, studio: &StudioSpec) -> Result<RunHealth, AllocError> {
+        let mut paths = Vec::new(alloc);
+        for stream in studio.streams() {
+            for _ in 0..stream.paths() {
+                paths.push(SocketHealth::new())?;
+            }
+        }
+        Ok(RunHealth {
+            paths,
+            sends: SendHealth::new(),
+        })
+    }
+
+    /// Returns the health of the socket of each path, ordered by stream and then by path.
+    pub fn paths(&self) -> &[SocketHealth] {
+        self.paths.as_slice()
+    }
+
+    /// Returns the health of the two sockets that send.
+    pub fn sends(&self) -> &SendHealth {
+        &self.sends
+    }
+
+    /// Returns true if the socket of a path failed so often that the path was given up.
+    pub fn has_ended_path(&self) -> bool {
+        self.paths.iter().any(|path| path.has_ended())
+    }
+}
+
+/// The health of the socket of a path.
+#[derive(Drop)]
+pub struct SocketHealth {
+    faults: AtomicU64,
+    ended: AtomicBool,
+    resting: AtomicBool,
+    inode: AtomicU64,
+    dropped: AtomicU64,
+}
+
+impl SocketHealth {
+    /// Returns the health of a socket that has not failed, and of which the kernel has told nothing.
+    pub(crate) fn new() -> SocketHealth {
+        SocketHealth {
+            faults: AtomicU64::new(0),
+            ended: AtomicBool::new(false),
+            resting: AtomicBool::new(false),
+            inode: AtomicU64::new(NO_INODE),
+            dropped: AtomicU64::new(UNKNOWN),
+        }
+    }
+
+    /// Returns the number of receives that failed so far.
+    pub fn faults(&self) -> u64 {
+        self.faults.load(Ordering::SeqCst)
+    }
+
+    /// Returns true if the socket failed so often that its path was given up.
+    pub fn has_ended(&self) -> bool {
+        self.ended.load(Ordering::SeqCst)
+    }
+
+    /// Returns true if the last receive failed, so that the socket is not read until its next attempt.
+    pub fn is_resting(&self) -> bool {
+        self.resting.load(Ordering::SeqCst)
+    }
+
+    /// Returns the number of datagrams that the kernel dropped at the socket, as of the last `read_kernel_drops`.
+    /// Returns `None` if the kernel's table did not list the socket.
+    pub fn dropped(&self) -> Option<u64> {
+        match self.dropped.load(Ordering::SeqCst) {
+            UNKNOWN => None,
+            dropped => Some(dropped),
+        }
+    }
+
+    /// Counts a receive that failed. No other follows before the next attempt.
+    pub(crate) fn note_fault(&self) {
+        self.faults.fetch_add(1, Ordering::SeqCst);
+        self.resting.store(true, Ordering::SeqCst);
+    }
+
+    /// Notes that a receive did not fail.
+    pub(crate) fn note_success(&self) {
+        self.resting.store(false, Ordering::SeqCst);
+    }
+
+    /// Notes that the path was given up.
+    pub(crate) fn note_end(&self) {
+        self.ended.store(true, Ordering::SeqCst);
+    }
+
+    /// Sets the socket's inode, by which the kernel's table lists it, if it is known.
+    pub(crate) fn set_inode(&self, inode: Option<u64>) {
+        self.inode
+            .store(inode.unwrap_or(NO_INODE), Ordering::SeqCst);
+    }
+
+    /// Returns true if the socket has this inode.
+    pub(crate) fn has_inode(&self, inode: u64) -> bool {
+        inode != NO_INODE && self.inode.load(Ordering::SeqCst) == inode
+    }
+
+    /// Sets the number of datagrams that the kernel dropped at the socket, if it is known.
+    pub(crate) fn set_dropped(&self, dropped: Option<u64>) {
+        self.dropped
+            .store(dropped.unwrap_or(UNKNOWN), Ordering::SeqCst);
+    }
+}
+
+/// The health of the two sockets that send the mix.
+#[derive(Drop)]
+pub struct SendHealth {
+    failed_a: AtomicU64,
+    failed_b: AtomicU64,
+}
+
+impl SendHealth {
+    /// Returns the health of sockets whose sends have not failed.
+    pub(crate) fn new() -> SendHealth {
+        SendHealth {
+            failed_a: AtomicU64::new(0),
+            failed_b: AtomicU64::new(0),
+        }
+    }
+
+    /// Returns the number of sends of each copy that failed so far: of the first copy, and of the second.
+    pub fn failed(&self) -> [u64; 2] {
+        [
+            self.failed_a.load(Ordering::SeqCst),
+            self.failed_b.load(Ordering::SeqCst),
+        ]
+    }
+
+    /// Counts the sends of a datagram that failed, of each copy.
+    pub(crate) fn note(&self, is_sent_a: bool, is_sent_b: bool) {
+        if !is_sent_a {
+            self.failed_a.fetch_add(1, Ordering::SeqCst);
+        }
+        if !is_sent_b {
+            self.failed_b.fetch_add(1, Ordering::SeqCst);
+        }
+    }
+}
