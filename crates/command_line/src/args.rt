@@ -77,6 +77,8 @@ pub struct LiveArgs<'a> {
     pub options: LiveOptions,
     /// True if the run uses the sockets that it inherited, as by sd_listen_fds(3).
     pub listen_fds: bool,
+    /// True if sockets at groups are bound so that other programs may bind them too.
+    pub share_groups: bool,
     /// The offset of International Atomic Time from the system's time of day, if the run opens by that time: a number
     /// of seconds, or `system` for the offset that the system knows. If `None`, the run opens at the configuration's
     /// time.

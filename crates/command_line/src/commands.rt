@@ -149,6 +149,11 @@ const LIVE: &[ArgSpec] = &[
         ..FLAG
     },
     ArgSpec {
+        name: "share-groups",
+        help: "Let other programs receive the same groups at the same ports on this machine",
+        ..FLAG
+    },
+    ArgSpec {
         name: "one-thread",
         help: "Run in one thread, in place of a worker for each path and stream",
         ..FLAG

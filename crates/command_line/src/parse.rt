@@ -84,6 +84,7 @@ fn live_args<'a>(matches: &ArgMatches<'a>) -> LiveArgs<'a> {
     LiveArgs {
         options: live_options(matches),
         listen_fds: matches.get_flag("listen-fds"),
+        share_groups: matches.get_flag("share-groups"),
         tai_offset: matches.get_str("clock").map(|_tai| offset),
         record: matches.get_str("record"),
     }

@@ -1,6 +1,5 @@
 -- The attempts of a socket that fails.
-use Rattle.std.specs.Prelude.{◌≡◌, ◌*◌, ◌+◌, ℕ, zero, suc, min, ℤ, pos, ◌+ℤ◌, ◌≤ℤ◌, Option, Some, None, Unit}
-use Rattle.live_io.specs.declared.sockets.backoff.FaultBackoff.{FaultBackoff}
+use Rattle.std.specs.Prelude.{◌*◌, ℕ, zero, suc, min, ℤ, ◌≤ℤ◌, Option, Some, None}
 
 -- how long after the latest of so many faults the next attempt is made, in sampling instants: a millisecond after the first, twice as long after each more, and a second at most
 abbrev pub retry_delay : ℕ → ℕ
@@ -16,8 +15,3 @@ most_faults = 1000
 abbrev pub IsDueAt : Option ℤ → ℤ → Type 0
 IsDueAt None now = Unit {0}
 IsDueAt (Some at) now = at ≤ℤ now
-
--- an attempt failed at a time: one fault more, and the next attempt after its delay
-pub record Fails (now : ℤ) (old new : FaultBackoff) : Type 0 where
-  pub faults : new.faults ≡ min most_faults (old.faults + 1)
-  pub next_at : new.next_at ≡ Some (now +ℤ pos (retry_delay new.faults))

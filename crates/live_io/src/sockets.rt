@@ -1,18 +1,19 @@
 //! The sockets of a run. `ports` and `addresses` find where they are bound, `inherited` has those that were passed in,
 //! and `receiver` and `sink` those that receive and send. `feed` makes a feed of a receiver; `unexpected` tests and
-//! counts the sources of datagrams. `health` has what the sockets count, and `udp_table` what the kernel counts.
+//! counts the sources of datagrams. `sharing` says which paths can be at one place. `health` has what the sockets count, and `udp_table` what the kernel counts.
 
-use crate::sockets::addresses::{PathAddress, addresses_of};
+use crate::sockets::addresses::addresses_of;
 use crate::sockets::health::RunHealth;
 use crate::sockets::inherited::InheritedSockets;
 use crate::sockets::ports::LivePorts;
 use crate::sockets::receiver::{Receiver, inherited_socket, receiving_socket};
+use crate::sockets::sharing::{PathPlace, have_collision};
 use crate::sockets::sink::UdpSink;
 use crate::sockets::unexpected::UnexpectedSources;
-use std::alloc::Global;
+use std::alloc::{AllocError, Global};
 use std::io;
 use std::io::ErrorKind;
-use std::net::{Ipv4Addr, Net, SocketAddrV4, UdpSocket};
+use std::net::{Net, SocketAddrV4, UdpSocket};
 use studio_config::StudioSpec;
 
 pub(crate) mod addresses;
@@ -20,9 +21,11 @@ pub(crate) mod backoff;
 pub(crate) mod feed;
 pub(crate) mod health;
 pub(crate) mod inherited;
+pub(crate) mod names;
 pub(crate) mod ports;
 pub(crate) mod receiver;
 pub(crate) mod retrying;
+pub(crate) mod sharing;
 pub(crate) mod sink;
 pub(crate) mod socket_kind;
 pub(crate) mod udp_table;
@@ -39,6 +42,8 @@ pub struct SocketConfig<'a> {
     pub unexpected: &'a UnexpectedSources,
     /// The health of the sockets, which the feeds and the sink write.
     pub health: &'a RunHealth,
+    /// True if the sockets at groups are bound so that other programs may bind them too.
+    pub shares_groups: bool,
 }
 
 /// The sockets of a run.
@@ -63,16 +68,17 @@ pub fn open_sockets<'a, R: Net>(
     Ok(Sockets { receiving, sink })
 }
 
-/// The addresses of the paths of a run, and the descriptors of their inherited sockets, both ordered by stream and then
-/// by path.
+/// The places of the paths of a run, and the descriptors of their inherited sockets, both ordered by stream and then by
+/// path.
 #[derive(Drop)]
 struct ReceiverPlan<'a> {
-    addresses: Vec<PathAddress>,
+    places: Vec<PathPlace>,
     descriptors: Vec<Option<i32>>,
     config: SocketConfig<'a>,
 }
 
-/// Returns a socket for each path, ordered by stream and then by path.
+/// Returns a socket for each path, ordered by stream and then by path. Before any socket is made it returns
+/// `ErrorKind::AddrInUse` if two of the new ones would be at one place and could not share it.
 fn open_receivers<'a, R: Net>(
     rt: &R,
     alloc: Global,
@@ -80,10 +86,13 @@ fn open_receivers<'a, R: Net>(
     config: SocketConfig<'a>,
 ) -> io::Result<Vec<Receiver<'a>>> {
     let plan = ReceiverPlan {
-        addresses: addresses_of(alloc, studio)?,
+        places: places_of(alloc, studio, config.ports)?,
         descriptors: config.inherited.descriptors(alloc, studio.streams())?,
         config,
     };
+    if have_collision(plan.new_places(alloc)?.as_slice()) {
+        return Err(io::Error::from(ErrorKind::AddrInUse));
+    }
     let count = config.ports.paths.len();
     let mut receivers = Vec::with_capacity(alloc, count)?;
     for index in 0..count {
@@ -92,60 +101,63 @@ fn open_receivers<'a, R: Net>(
     Ok(receivers)
 }
 
+/// Returns the places of all paths. Returns `AllocError` if an allocation fails.
+fn places_of(
+    alloc: Global,
+    studio: &StudioSpec,
+    ports: &LivePorts,
+) -> Result<Vec<PathPlace>, AllocError> {
+    let addresses = addresses_of(alloc, studio)?;
+    let mut places = Vec::with_capacity(alloc, addresses.len())?;
+    for (address, port) in addresses.iter().zip(ports.paths.iter()) {
+        places.push(PathPlace {
+            at: address.at,
+            port: *port,
+            from: address.from,
+        })?;
+    }
+    Ok(places)
+}
+
 impl<'a> ReceiverPlan<'a> {
+    /// Returns the places of the paths without inherited sockets. Returns `AllocError` if an allocation fails.
+    fn new_places(&self, alloc: Global) -> Result<Vec<PathPlace>, AllocError> {
+        let mut places = Vec::with_capacity(alloc, self.places.len())?;
+        for (place, descriptor) in self.places.iter().zip(self.descriptors.iter()) {
+            if descriptor.is_none() {
+                places.push(*place)?;
+            }
+        }
+        Ok(places)
+    }
+
     /// Returns the socket of the path at an index.
     fn receiver<R: Net>(&self, rt: &R, index: usize) -> io::Result<Receiver<'a>> {
-        let (Some(address), Some(port)) = (
-            self.addresses.get(index),
-            self.config.ports.paths.get(index),
-        ) else {
+        let Some(place) = self.places.get(index) else {
             return Err(io::Error::from(ErrorKind::InvalidInput));
         };
-        let socket = self.socket(rt, index, address, *port)?;
-        let source = self.config.unexpected.source(index, address.from);
-        let receiver = Receiver::new(socket, source, SocketAddrV4::new(address.at, *port));
+        let socket = self.socket(rt, index, place)?;
+        let source = self.config.unexpected.source(index, place.from);
+        let receiver = Receiver::new(socket, source, SocketAddrV4::new(place.at, place.port));
         if let Some(health) = self.config.health.paths().get(index) {
             receiver.show_inode(health);
         }
         Ok(receiver)
     }
 
-    /// Returns the inherited socket of the path at an index, or a new one at this address and port if there is none.
-    fn socket<R: Net>(
-        &self,
-        rt: &R,
-        index: usize,
-        address: &PathAddress,
-        port: u16,
-    ) -> io::Result<UdpSocket> {
+    /// Returns the inherited socket of the path at an index, or a new one at this place if there is none.
+    fn socket<R: Net>(&self, rt: &R, index: usize, place: &PathPlace) -> io::Result<UdpSocket> {
         match self.descriptors.get(index) {
             Some(Some(descriptor)) => inherited_socket(*descriptor),
-            _ => receiving_socket(rt, address.at, port, self.is_shared(address, port)),
+            _ => receiving_socket(rt, place.at, place.port, self.is_shared(place)),
         }
     }
 
-    /// Returns true if another path is received at the same group and port from another source.
-    fn is_shared(&self, own: &PathAddress, port: u16) -> bool {
-        // Only such sockets get SO_REUSEADDR: the source addresses distinguish their datagrams.
-        let Some(from) = own.from else {
-            return false;
-        };
-        if !own.at.is_multicast() {
-            return false;
-        }
-        for (other, other_port) in self.addresses.iter().zip(self.config.ports.paths.iter()) {
-            if other.at == own.at && *other_port == port && is_other(other.from, from) {
-                return true;
-            }
-        }
-        false
-    }
-}
-
-/// Returns true if a source is given and differs from this one.
-fn is_other(source: Option<Ipv4Addr>, own: Ipv4Addr) -> bool {
-    match source {
-        Some(source) => source != own,
-        None => false,
+    /// Returns true if other sockets may be bound at the place of a path: at a group, if its datagrams are shared with
+    /// another path of another source, or with other programs.
+    fn is_shared(&self, own: &PathPlace) -> bool {
+        // Only such sockets get SO_REUSEADDR: without it a second start of the same run is refused.
+        let is_with_others = self.config.shares_groups && own.at.is_multicast();
+        is_with_others || self.places.iter().any(|other| own.shares_with(other))
     }
 }

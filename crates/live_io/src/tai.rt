@@ -6,6 +6,14 @@ use std::time::{Clock, Duration};
 /// The number of the system's clock of TAI, which `libc` does not name.
 const CLOCK_TAI: i32 = 11;
 
+/// The greatest difference in microseconds between two readings of the monotonic clock, one before and one after that
+/// of the other clock.
+// So a run opens at most so much late or early, also if the thread was preempted between two readings.
+const MOST_APART_MICROS: u64 = 100;
+
+/// The greatest number of tries to read both clocks so soon one after the other.
+const MAX_TRIES: u32 = 100;
+
 /// The offset of TAI from the system's time of day.
 #[derive(Clone, Copy, Debug, PartialEq, Eq)]
 pub enum TaiOffset {
@@ -25,18 +33,30 @@ pub struct TaiTime {
 }
 
 /// Returns the present time by TAI, in sampling instants at 48 kHz since 1970. Returns `None` if a clock cannot be
-/// read, or if the offset is to come from the system and the system does not have it.
+/// read, if the offset is to come from the system and the system does not have it, or if in 100 tries the two clocks
+/// were not read within 100 microseconds.
 pub fn tai_now<R: Clock>(rt: &R, offset: TaiOffset) -> Option<TaiTime> {
-    let began = rt.monotonic().ok()?;
-    let now = match offset {
+    for _ in 0..MAX_TRIES {
+        let began = rt.monotonic().ok()?;
+        let now = tai_reading(rt, offset)?;
+        let apart = rt.monotonic().ok()?.checked_sub(began)?;
+        if apart <= Duration::from_micros(MOST_APART_MICROS) {
+            let at = reading_after(0, now);
+            return Some(TaiTime { at, began });
+        }
+    }
+    None
+}
+
+/// Returns the time since 1970 by TAI, or `None` if a clock cannot be read or the system does not have the offset.
+fn tai_reading<R: Clock>(rt: &R, offset: TaiOffset) -> Option<Duration> {
+    match offset {
         TaiOffset::Seconds(ahead) => {
             let ahead = Duration::from_secs(u64::from(ahead));
-            rt.since_1970().ok()?.saturating_add(ahead)
+            Some(rt.since_1970().ok()?.saturating_add(ahead))
         }
-        TaiOffset::System => system_tai()?,
-    };
-    let at = reading_after(0, now);
-    Some(TaiTime { at, began })
+        TaiOffset::System => system_tai(),
+    }
 }
 
 /// Returns the reading of the system's clock of TAI, or `None` if it cannot be read or the system does not have the

@@ -9,7 +9,6 @@ use crate::inputs::LiveInputs;
 use crate::scoped_thread::with_scoped_thread;
 use crate::single_thread::{RecordOutput, run_in_one_thread};
 use crate::status::{OpenStatus, open_status};
-use crate::std_fds::open_missing_fds;
 use crate::supervisor::stop_flags::StopFlags;
 use crate::workers::run_in_workers;
 use live_io::{LiveOptions, RecordChannel, RecordResult, RunPeriod, Sockets, open_sockets};
@@ -74,7 +73,7 @@ fn bind_and_run<
 >(
     rt: &'a R,
     alloc: Global,
-    studio: &StudioSpec,
+    studio: &'a StudioSpec,
     inputs: LiveInputs<'a>,
     options: &LiveOptions,
     state: &'a SharedState,
@@ -85,8 +84,6 @@ fn bind_and_run<
     ensures early { IfErr result IsEarly }
 {
     let recording = recording_of(alloc, studio, inputs.recorded, file)?;
-    // Before the first socket, which would else get the descriptor of a standard stream that is closed.
-    open_missing_fds();
     let sockets = open_sockets(rt, alloc, studio, inputs.sockets)?;
     let shown = StatusInputs {
         names: inputs.names,
@@ -135,7 +132,7 @@ fn run_with_page<
 >(
     rt: &'a R,
     alloc: Global,
-    studio: &StudioSpec,
+    studio: &'a StudioSpec,
     parts: PreparedRun<'a, E, D>,
     page: PageThread,
 ) -> Result<WorkReport, LiveFault>
@@ -164,7 +161,7 @@ fn run_prepared<
 >(
     rt: &'a R,
     alloc: Global,
-    studio: &StudioSpec,
+    studio: &'a StudioSpec,
     parts: PreparedRun<'a, E, D>,
 ) -> Result<WorkReport, LiveFault>
     ensures run { IfOk result (IsRunOf parts.entry.one_thread studio.now) }

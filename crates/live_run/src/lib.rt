@@ -15,6 +15,8 @@
 //! - `report` writes the text of the final report.
 //! - `supervisor` is the thread that ends the feeds, as the options say or on a pending signal that
 //!   was blocked at the start, and runs the status task (`run_supervised`).
+//! - `path_watch` is the supervisor's task that writes a line for each path that fails or ends, and
+//!   reads what the kernel dropped.
 //!
 //! If a form returns an early `LiveFault`, no run has begun.
 #![tactic(auto)]
@@ -24,12 +26,12 @@ mod context;
 mod fault;
 mod inputs;
 mod launch;
+mod path_watch;
 mod report;
 mod run;
 mod scoped_thread;
 mod single_thread;
 mod status;
-mod std_fds;
 mod supervisor;
 mod workers;
 

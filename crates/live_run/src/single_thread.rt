@@ -6,12 +6,13 @@ ghost use Rattle.live_run.specs.RunResult.{IsEarly, IsRunOf};
 
 use crate::context::RunContext;
 use crate::fault::LiveFault;
+use crate::path_watch::PathWatch;
 use crate::scoped_thread::with_scoped_thread;
 use crate::single_thread::engine_io::{SingleThreadRun, prepare_engine_io};
 use crate::single_thread::observer::LiveObserver;
 use crate::single_thread::socket_wait::ready_flags;
 use crate::supervisor::stop_flags::StopFlags;
-use crate::supervisor::{NoStatusTask, Supervisor, run_supervised};
+use crate::supervisor::{Supervisor, run_supervised};
 use live_io::{
     FeedFlags, Receiver, RecordChannel, RecordObserver, RecordResult, RecordWriter, Sockets,
     write_record,
@@ -47,7 +48,7 @@ pub(crate) fn run_in_one_thread<
 >(
     rt: &'a R,
     alloc: Global,
-    studio: &StudioSpec,
+    studio: &'a StudioSpec,
     sockets: Sockets<'a>,
     context: RunContext<'a, E>,
     recording: RecordOutput<'a, D>,
@@ -75,12 +76,14 @@ pub(crate) fn run_in_one_thread<
         health: health.paths(),
     };
     let meter = status.meter;
+    let watch = PathWatch::new(studio, health, status.publisher.is_some());
     let (record, writer) = ends_of(record);
     let observer = LiveObserver::new(alloc, studio, record, status)?;
     let io = prepare_engine_io(rt, alloc, studio, sockets, period, feed_flags, meter)?;
     let run = SupervisedRun {
         io,
         observer,
+        watch,
         until_eof,
         flags,
         recorded,
@@ -113,6 +116,7 @@ fn ends_of<D: Drop>(
 struct SupervisedRun<'a, R: Wait + Clock, E> {
     io: SingleThreadRun<'a, R>,
     observer: LiveObserver<'a, E>,
+    watch: PathWatch<'a>,
     until_eof: bool,
     flags: &'a StopFlags,
     recorded: &'a RecordResult,
@@ -129,6 +133,7 @@ impl<R: Threads + Wait + Sync + Clock, E: Write + Send + Drop> SupervisedRun<'_,
         let SupervisedRun {
             io,
             observer,
+            watch,
             until_eof,
             flags,
             recorded,
@@ -136,7 +141,7 @@ impl<R: Threads + Wait + Sync + Clock, E: Write + Send + Drop> SupervisedRun<'_,
         // The run's own thread publishes the status, since only it may look at the engine.
         let supervisor = Supervisor {
             until_eof,
-            task: NoStatusTask,
+            task: watch,
         };
         run_supervised(
             rt,

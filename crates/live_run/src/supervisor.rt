@@ -18,7 +18,7 @@ pub(crate) mod stop_flags;
 /// The time between two polls, in milliseconds.
 // A signal or the end of input is found at most so much later, and lines are written at most so much later. Polling is
 // needed since the toolchain cannot handle or await a signal.
-const POLL_INTERVAL_MS: u64 = 50;
+pub(crate) const POLL_INTERVAL_MS: u64 = 50;
 
 /// The task that publishes the status of a run from the supervisor's thread.
 pub(crate) trait StatusTask: Drop {
@@ -32,14 +32,6 @@ impl<T: StatusTask> StatusTask for Option<T> {
             task.poll();
         }
     }
-}
-
-/// The task of a run whose status the supervisor does not publish.
-#[derive(Clone, Copy)]
-pub(crate) struct NoStatusTask;
-
-impl StatusTask for NoStatusTask {
-    fn poll(&mut self) {}
 }
 
 /// The supervisor of a run.

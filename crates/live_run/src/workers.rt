@@ -8,6 +8,7 @@ ghost use Rattle.live_run.specs.RunResult.{IsEarly, IsRunOf};
 
 use crate::context::RunContext;
 use crate::fault::LiveFault;
+use crate::path_watch::{PathWatch, WatchedTask};
 use crate::supervisor::{Supervisor, run_supervised};
 use crate::workers::latest_stats::LatestStats;
 use crate::workers::rings::{Rings, open_rings};
@@ -35,7 +36,7 @@ mod worker_run;
 pub(crate) fn run_in_workers<'a, R: Threads + Wait + Sync + Clock, E: Write + Send + Drop>(
     rt: &'a R,
     alloc: Global,
-    studio: &StudioSpec,
+    studio: &'a StudioSpec,
     sockets: Sockets<'a>,
     context: RunContext<'a, E>,
 ) -> Result<WorkReport, LiveFault>
@@ -61,7 +62,11 @@ pub(crate) fn run_in_workers<'a, R: Threads + Wait + Sync + Clock, E: Write + Se
     };
     let workers = prepare_workers(rt, alloc, ends, sockets, period, feed_flags)?;
     let task = worker_status_task(rt, alloc, receivers, period, status.publisher)?;
-    let supervisor = Supervisor { until_eof, task };
+    let watch = PathWatch::new(studio, health, is_shown);
+    let supervisor = Supervisor {
+        until_eof,
+        task: WatchedTask { watch, task },
+    };
     run_supervised(
         rt,
         supervisor,

@@ -34,6 +34,9 @@ pub(crate) enum ProgramFault {
     /// A live run's report was written, but a write to its record failed.
     #[error("device: record write")]
     RecordWrite,
+    /// A live run's report was written, but a path ended before the run did, since its socket failed again and again.
+    #[error("live: path ended")]
+    PathEnded,
 }
 
 impl ProgramFault {
@@ -46,7 +49,7 @@ impl ProgramFault {
             ProgramFault::Live(LiveFault::Memory) => 4,
             ProgramFault::Inherited(InheritedSocketFault::Memory) => 4,
             ProgramFault::Live(_) | ProgramFault::Inherited(_) | ProgramFault::Clock => 5,
-            ProgramFault::Record | ProgramFault::RecordWrite => 5,
+            ProgramFault::Record | ProgramFault::RecordWrite | ProgramFault::PathEnded => 5,
         }
     }
 

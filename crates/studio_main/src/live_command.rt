@@ -86,6 +86,7 @@ fn run_loaded<R: Threads + Wait + Sync + Net + Clock + RandomSource + Env + Allo
             inherited: &loaded.inherited,
             unexpected: &loaded.unexpected,
             health: &loaded.health,
+            shares_groups: args.share_groups,
         },
         names: loaded.names.as_slice(),
         recorded: &recorded,
@@ -165,6 +166,9 @@ fn finish<W: Write>(
     ran?;
     if inputs.recorded.has_failed() {
         return Err(ProgramFault::RecordWrite);
+    }
+    if inputs.sockets.health.has_ended_path() {
+        return Err(ProgramFault::PathEnded);
     }
     Ok(())
 }

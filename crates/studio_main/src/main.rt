@@ -3,15 +3,18 @@
 //! `main` collects the words of the command line. `run` is the whole after that: it parses the words
 //! by `command_line`, runs the command, and returns the exit status. `file_commands` runs a command
 //! over files, and `live_command` the live command. A `ProgramFault` has the line and the exit
-//! status of every fault. `SystemHost` opens files by path.
+//! status of every fault. `SystemHost` opens files by path. `std_fds` opens the standard descriptors
+//! that are closed, before anything else.
 #![tactic(auto)]
 
 mod fault;
 mod live_command;
 mod program;
+mod std_fds;
 
 use crate::fault::ProgramFault;
 use crate::program::run;
+use crate::std_fds::open_missing_fds;
 use file_commands::{CommandFault, Host};
 use std::alloc::Global;
 use std::env::Args;
@@ -62,6 +65,8 @@ impl Host for SystemHost<'_> {
 }
 
 fn main(rt: HostRuntime) -> ExitCode {
+    // Before the first file or socket, which would else get the descriptor of a standard stream that is closed.
+    open_missing_fds();
     let alloc = rt.alloc();
     let mut faults = rt.stderr();
     let status = match program_args(&rt) {

@@ -1,6 +1,6 @@
 //! The attempts of a socket that fails: rarer with each fault, until its path is given up.
-ghost use Rattle.std.specs.Prelude.{◌≡◌, ◌≤◌, ◌<◌, ◌↔◌, ◌+◌, ◌^◌, None, IsTrue, pos, ◌+ℤ◌, ◌<ℤ◌};
-ghost use Rattle.live_io.specs.Backoff.{Fails, IsDueAt, most_faults, retry_delay};
+ghost use Rattle.std.specs.Prelude.{◌≡◌, ◌≤◌, ◌<◌, ◌↔◌, ◌+◌, ◌^◌, min, Some, None, IsTrue, pos, ◌+ℤ◌, ◌<ℤ◌};
+ghost use Rattle.live_io.specs.Backoff.{IsDueAt, most_faults, retry_delay};
 
 /// The delay after the first fault, in sampling instants: a millisecond.
 const FIRST_DELAY: u32 = 48;
@@ -65,7 +65,9 @@ impl FaultBackoff {
 
     /// Notes that an attempt failed at this time, in sampling instants.
     pub fn note_fault(&mut self, now: i64)
-        ensures { (now +ℤ pos 48000) <ℤ pos (2 ^ 63) → Fails now self.old self.new }
+        ensures faults { self.new.faults ≡ min most_faults (self.old.faults + 1) }
+        ensures next_at { (now +ℤ pos 48000) <ℤ pos (2 ^ 63)
+            → self.new.next_at ≡ Some (now +ℤ pos (retry_delay self.new.faults)) }
     {
         if self.faults < MOST_FAULTS {
             self.count_fault();

@@ -1,12 +1,11 @@
 //! Sockets that are inherited from the program that started this one, by the convention of sd_listen_fds(3).
 
-use os::FromRawFd;
-use rtp_stream::{Path, StreamSpec};
+use crate::sockets::names::SocketRole;
+use crate::sockets::socket_kind::is_udp_socket;
+use rtp_stream::StreamSpec;
 use std::alloc::{AllocError, AllocFailed, Global};
 use std::env;
 use std::env::VarError;
-use std::net::{SocketAddr, UdpSocket};
-use std::os::fd::IntoRawFd;
 use std::rt::Env;
 use thiserror::Error;
 
@@ -23,10 +22,16 @@ pub enum InheritedSocketFault {
     /// An allocation failed.
     #[error("out of memory")]
     Memory,
-    /// The name belongs to no path or copy, or to one that has a socket already; or the descriptor is no socket at an
-    /// IPv4 address; or a variable of the convention cannot be read, and then the name is the variable's.
+    /// The name belongs to no path or copy, or to one that has a socket already; or the descriptor is no UDP socket at
+    /// an IPv4 address; or a variable of the convention cannot be read, and then the name is the variable's.
     #[error("device: socket {0}")]
     Socket(String),
+    /// The variable `LISTEN_PID` is no number, and so it names no process.
+    #[error("device: socket LISTEN_PID names no process")]
+    NoProcess,
+    /// The sockets were passed to the process of the first number, and not to this one, which has the second.
+    #[error("device: socket LISTEN_PID is {0}, not {1}")]
+    OtherProcess(u32, u32),
 }
 
 impl From<AllocError> for InheritedSocketFault {
@@ -52,17 +57,6 @@ pub struct InheritedSockets {
     pub(crate) to_b: Option<i32>,
 }
 
-/// The role of a socket.
-#[derive(Clone, Copy)]
-enum SocketRole {
-    /// It receives a path: the stream's number and the path's.
-    Path(usize, usize),
-    /// It sends the mix's first copy.
-    ToA,
-    /// It sends the mix's second copy.
-    ToB,
-}
-
 impl InheritedSockets {
     /// Returns the value for a run without inherited sockets.
     pub fn none() -> InheritedSockets {
@@ -73,21 +67,19 @@ impl InheritedSockets {
         }
     }
 
-    /// Returns the sockets that the environment lists for this process, or none if it names another process. Names are
-    /// `0a`, `0b`, .. for the paths of streams, and `to_a` and `to_b`. Each descriptor is tested, and stays open. The
-    /// first name, descriptor or variable that is not valid is an error.
+    /// Returns the sockets that the environment lists for this process. Names are `0a`, `0b`, .. for the paths of
+    /// streams, and `to_a` and `to_b`. Each descriptor is tested, and stays open. The first variable, name or descriptor
+    /// that is not valid is an error, and so is a list for another process.
     pub fn from_env<R: Env + AllocGlobal>(
         rt: &R,
         alloc: Global,
         streams: &[StreamSpec],
     ) -> Result<InheritedSockets, InheritedSocketFault> {
-        let mut inherited = InheritedSockets::none();
-        if !is_for_this_process(rt, alloc)? {
-            return Ok(inherited);
-        }
+        require_own_list(rt, alloc)?;
         let count = fd_count(rt, alloc)?;
         let names = variable(rt, alloc, "LISTEN_FDNAMES")?;
         let mut names = names.as_str().split(':');
+        let mut inherited = InheritedSockets::none();
         let mut descriptor = FIRST_FD;
         for _ in 0..count {
             // The name that sd_listen_fds_with_names(3) gives to a descriptor without one; here it is refused.
@@ -97,25 +89,26 @@ impl InheritedSockets {
             }
             descriptor = descriptor.saturating_add(1);
         }
-        Ok(inherited)
+        match names.next() {
+            // The list of no name is the empty text, which is one name for `split`.
+            Some(name) if count > 0 || !name.is_empty() => Err(fault_of(alloc, name)),
+            _ => Ok(inherited),
+        }
     }
 
-    /// Sets the descriptor of a name, and returns true if it did. Returns false if there is no such name, it has a
-    /// descriptor already, or the descriptor is no socket at an IPv4 address.
+    /// Sets the descriptor of a name, and returns true if it did. Returns false if the studio has no socket of this
+    /// name, it has a descriptor already, or the descriptor is no UDP socket at an IPv4 address.
     fn assign(&mut self, name: &str, streams: &[StreamSpec], descriptor: i32) -> bool {
-        let Some(role) = role_of(name, streams) else {
+        let Some(role) = SocketRole::of_name(name) else {
             return false;
         };
         match role {
             SocketRole::ToA => set_once(&mut self.to_a, descriptor),
             SocketRole::ToB => set_once(&mut self.to_b, descriptor),
-            SocketRole::Path(stream, path) => match self.paths.get_mut(stream) {
-                Some(row) => match row.get_mut(path) {
-                    Some(slot) => set_once(slot, descriptor),
-                    None => false,
-                },
-                None => false,
-            },
+            SocketRole::Path(stream, path) if has_path(streams, stream, path) => {
+                set_once(&mut self.paths[stream][path], descriptor)
+            }
+            SocketRole::Path(_, _) => false,
         }
     }
 
@@ -136,10 +129,18 @@ impl InheritedSockets {
     }
 }
 
+/// Returns true if there is a stream of this number that has this path.
+fn has_path(streams: &[StreamSpec], stream: usize, path: usize) -> bool {
+    match streams.get(stream) {
+        Some(spec) => path < usize::from(spec.paths()),
+        None => false,
+    }
+}
+
 /// Sets a slot to a descriptor, and returns true if it did. Returns false if the slot is taken or the descriptor is
-/// no socket at an IPv4 address.
+/// no UDP socket at an IPv4 address.
 fn set_once(slot: &mut Option<i32>, descriptor: i32) -> bool {
-    if slot.is_some() || !is_ipv4_socket(descriptor) {
+    if slot.is_some() || !is_udp_socket(descriptor) {
         return false;
     }
     *slot = Some(descriptor);
@@ -168,54 +169,38 @@ fn variable<R: Env + AllocGlobal>(
     }
 }
 
-/// Returns true if the sockets were passed to this process, and not to one that started it.
-fn is_for_this_process<R: Env + AllocGlobal>(
+/// Returns an error if the sockets were not passed to this process.
+fn require_own_list<R: Env + AllocGlobal>(
     rt: &R,
     alloc: Global,
-) -> Result<bool, InheritedSocketFault> {
+) -> Result<(), InheritedSocketFault> {
     let process = variable(rt, alloc, "LISTEN_PID")?;
-    match process.as_str().parse::<i32>() {
-        Ok(process) => Ok(process == libc::getpid()),
-        Err(_) => Ok(false),
+    let Some(process) = number_of(process.as_str()) else {
+        return Err(InheritedSocketFault::NoProcess);
+    };
+    let own = libc::getpid().unsigned_abs();
+    if process != own {
+        return Err(InheritedSocketFault::OtherProcess(process, own));
     }
+    Ok(())
 }
 
 /// Returns the number of inherited sockets.
 fn fd_count<R: Env + AllocGlobal>(rt: &R, alloc: Global) -> Result<u32, InheritedSocketFault> {
     let name = "LISTEN_FDS";
     let count = variable(rt, alloc, name)?;
-    match count.as_str().parse::<u32>() {
-        Ok(count) if count <= MAX_SOCKETS => Ok(count),
+    match number_of(count.as_str()) {
+        Some(count) if count <= MAX_SOCKETS => Ok(count),
         _ => Err(fault_of(alloc, name)),
     }
 }
 
-/// Returns the role of a socket by its name, or `None` if the name belongs to no copy and no path of the streams.
-fn role_of(name: &str, streams: &[StreamSpec]) -> Option<SocketRole> {
-    match name {
-        "to_a" => return Some(SocketRole::ToA),
-        "to_b" => return Some(SocketRole::ToB),
-        _ => {}
+/// Returns the number that a text of decimal digits is, without a sign and a leading zero, or `None` if it is none.
+fn number_of(text: &str) -> Option<u32> {
+    // `parse` also takes a sign and leading zeros.
+    match text.as_bytes() {
+        [b'0'] => Some(0),
+        [b'1'..=b'9', ..] => text.parse::<u32>().ok(),
+        _ => None,
     }
-    for number in 0..4u8 {
-        let path = Path::new(number)?;
-        if let Some(digits) = name.strip_suffix(path.letter()) {
-            let stream = digits.parse::<usize>().ok()?;
-            let paths = streams.get(stream)?.paths();
-            return (number < paths).then_some(SocketRole::Path(stream, usize::from(number)));
-        }
-    }
-    None
-}
-
-/// Returns true if a descriptor is a socket at an IPv4 address. It stays open.
-fn is_ipv4_socket(descriptor: i32) -> bool {
-    if descriptor < FIRST_FD {
-        return false;
-    }
-    let socket = unsafe { UdpSocket::from_raw_fd(descriptor) };
-    let is_ipv4 = matches!(&socket.local_addr(), Ok(SocketAddr::V4(_)));
-    // Without this the socket would be closed here.
-    let _ = socket.into_raw_fd();
-    is_ipv4
 }

@@ -1,0 +1,172 @@
+//! The watch of a run's sockets: a line on standard error for each path that fails or ends, and the kernel's drops.
+
+use crate::supervisor::{POLL_INTERVAL_MS, StatusTask};
+use live_io::{RunHealth, SocketHealth, read_kernel_drops};
+use live_status::{STDERR, is_ready};
+use rtp_stream::{Path, StreamSpec};
+use studio_config::StudioSpec;
+
+/// The greatest number of paths: 16 streams with four each.
+const MAX_PATHS: usize = 64;
+
+/// The number of polls from one reading of the kernel's drops to the next: a second.
+const POLLS_PER_READING: u64 = 1_000 / POLL_INTERVAL_MS;
+
+/// The rest of a path's line at its first fault.
+const FAULT_TEXT: &[u8] = b": socket error\n";
+
+/// The rest of a path's line at its end.
+const END_TEXT: &[u8] = b": ended after 1000 socket errors\n";
+
+/// The watch of a run's sockets, which the supervisor's thread polls.
+#[derive(Drop)]
+pub(crate) struct PathWatch<'a> {
+    streams: &'a [StreamSpec],
+    health: &'a RunHealth,
+    /// True if the status of the run is shown, which has the kernel's drops.
+    is_shown: bool,
+    /// The number of polls since the kernel's drops were read.
+    polls: u64,
+    /// The lines that were written for each path.
+    written: [WrittenLines; MAX_PATHS],
+}
+
+/// The lines that were written for a path.
+#[derive(Clone, Copy)]
+struct WrittenLines {
+    fault: bool,
+    end: bool,
+}
+
+impl<'a> PathWatch<'a> {
+    /// Returns the watch of a run of this studio. The kernel's drops are read if the status of the run is shown.
+    pub(crate) fn new(
+        studio: &'a StudioSpec,
+        health: &'a RunHealth,
+        is_shown: bool,
+    ) -> PathWatch<'a> {
+        PathWatch {
+            streams: studio.streams(),
+            health,
+            is_shown,
+            // The first poll reads.
+            polls: POLLS_PER_READING,
+            written: [WrittenLines {
+                fault: false,
+                end: false,
+            }; MAX_PATHS],
+        }
+    }
+
+    /// Reads the kernel's drops once a second, if they are shown.
+    fn read_drops_if_due(&mut self) {
+        if !self.is_shown {
+            return;
+        }
+        self.polls = self.polls.saturating_add(1);
+        if self.polls > POLLS_PER_READING {
+            self.polls = 1;
+            read_kernel_drops(self.health);
+        }
+    }
+
+    /// Writes the lines of the paths whose first fault or end came since the last poll.
+    fn write_lines(&mut self) {
+        let mut paths = self.health.paths().iter().zip(self.written.iter_mut());
+        for (number, stream) in self.streams.iter().enumerate() {
+            for place in 0..stream.paths() {
+                let (Some((health, written)), Some(path)) = (paths.next(), Path::new(place)) else {
+                    return;
+                };
+                write_path_lines(number, path, health, written);
+            }
+        }
+    }
+}
+
+impl StatusTask for PathWatch<'_> {
+    fn poll(&mut self) {
+        self.read_drops_if_due();
+        self.write_lines();
+    }
+}
+
+/// A task of the supervisor, and the watch of the sockets before it.
+#[derive(Drop)]
+pub(crate) struct WatchedTask<'a, T> {
+    pub(crate) watch: PathWatch<'a>,
+    pub(crate) task: T,
+}
+
+impl<T: StatusTask> StatusTask for WatchedTask<'_, T> {
+    fn poll(&mut self) {
+        self.watch.poll();
+        self.task.poll();
+    }
+}
+
+/// Writes the lines of a path that are due. A line that standard error does not take now is written later.
+fn write_path_lines(stream: usize, path: Path, health: &SocketHealth, written: &mut WrittenLines) {
+    if health.faults() > 0 && !written.fault {
+        written.fault = write_line(stream, path, FAULT_TEXT);
+    }
+    if health.has_ended() && !written.end {
+        written.end = write_line(stream, path, END_TEXT);
+    }
+}
+
+/// Writes the line of a path with this rest to standard error, and returns true if it did. Returns false if standard
+/// error would block.
+// By the descriptor: the writer of standard error belongs to the status, which another thread may publish.
+fn write_line(stream: usize, path: Path, rest: &[u8]) -> bool {
+    if !is_ready(STDERR, libc::net::POLLOUT) {
+        return false;
+    }
+    let mut line = Line::new();
+    line.push(b"path ");
+    line.push_number(stream);
+    line.push(path.letter().as_bytes());
+    line.push(rest);
+    // In one call, so that no other line comes between. An error is ignored: there is nowhere to tell of it.
+    let _ = libc::write(STDERR, &line.octets[..line.len.min(MAX_LINE)]);
+    true
+}
+
+/// The greatest length of a line in octets.
+const MAX_LINE: usize = 64;
+
+/// A line that is put together before it is written.
+#[derive(Clone, Copy)]
+struct Line {
+    octets: [u8; MAX_LINE],
+    len: usize,
+}
+
+impl Line {
+    /// Returns an empty line.
+    fn new() -> Line {
+        Line {
+            octets: [0; MAX_LINE],
+            len: 0,
+        }
+    }
+
+    /// Appends octets, as far as there is room.
+    fn push(&mut self, octets: &[u8]) {
+        for octet in octets {
+            if let Some(place) = self.octets.get_mut(self.len) {
+                *place = *octet;
+                self.len = self.len.saturating_add(1);
+            }
+        }
+    }
+
+    /// Appends a number below 100 in decimal.
+    fn push_number(&mut self, number: usize) {
+        let [tens, ones] = [number / 10 % 10, number % 10];
+        if tens > 0 {
+            self.push(&[b'0' + tens as u8]);
+        }
+        self.push(&[b'0' + ones as u8]);
+    }
+}
