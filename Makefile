@@ -58,9 +58,10 @@ test:
 	gate/progress rt ci $(ANEW)
 	$(MAKE) -j4 --no-print-directory $(addsuffix .ran,$(scripts))
 	tests/loopback $(program)
+	tests/sockets $(program)
 	tests/page $(program)
 	tests/networks $(program)
-	@echo "gate: pages, proofs, edits, tests, examples, faults, statuses, blocks, WAV files, charts, captures, engine, memory, live runs, pages and networks passed"
+	@echo "gate: pages, proofs, edits, tests, examples, faults, statuses, blocks, WAV files, charts, captures, engine, memory, live runs, sockets, pages and networks passed"
 
 %.ran:
 	$* $(program)

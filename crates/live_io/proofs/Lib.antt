@@ -1,4 +1,6 @@
 pub mod AddressLemmas
+pub mod BackoffLemmas
+pub mod NameLemmas
 pub mod PortLemmas
 pub mod PutLemmas
 pub mod PassLemmas

@@ -5,3 +5,4 @@ pub mod Names
 pub mod Ports
 pub mod RecordBlocks
 pub mod RecordWriter
+pub mod Sharing

@@ -19,6 +19,8 @@ mod options;
 mod record;
 mod sockets;
 mod tai;
+#[cfg(test)]
+mod tests;
 
 pub use clock::{RunPeriod, SystemClock};
 pub use options::LiveOptions;

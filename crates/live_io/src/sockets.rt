@@ -2,7 +2,7 @@
 //! and `receiver` and `sink` those that receive and send. `feed` makes a feed of a receiver; `unexpected` tests and
 //! counts the sources of datagrams. `sharing` says which paths can be at one place. `health` has what the sockets count, and `udp_table` what the kernel counts.
 
-use crate::sockets::addresses::addresses_of;
+use crate::sockets::addresses::{PathAddress, addresses_of};
 use crate::sockets::health::RunHealth;
 use crate::sockets::inherited::InheritedSockets;
 use crate::sockets::ports::LivePorts;
@@ -109,26 +109,42 @@ fn places_of(
 ) -> Result<Vec<PathPlace>, AllocError> {
     let addresses = addresses_of(alloc, studio)?;
     let mut places = Vec::with_capacity(alloc, addresses.len())?;
-    for (address, port) in addresses.iter().zip(ports.paths.iter()) {
-        places.push(PathPlace {
-            at: address.at,
-            port: *port,
-            from: address.from,
-        })?;
+    for index in 0..addresses.len() {
+        if let Some(place) = place_at(addresses.as_slice(), ports.paths.as_slice(), index) {
+            places.push(place)?;
+        }
     }
     Ok(places)
+}
+
+/// Returns the place of the path at an index, or `None` if there is no such path.
+fn place_at(addresses: &[PathAddress], ports: &[u16], index: usize) -> Option<PathPlace> {
+    let address = addresses.get(index)?;
+    Some(PathPlace {
+        at: address.at,
+        port: *ports.get(index)?,
+        from: address.from,
+    })
 }
 
 impl<'a> ReceiverPlan<'a> {
     /// Returns the places of the paths without inherited sockets. Returns `AllocError` if an allocation fails.
     fn new_places(&self, alloc: Global) -> Result<Vec<PathPlace>, AllocError> {
         let mut places = Vec::with_capacity(alloc, self.places.len())?;
-        for (place, descriptor) in self.places.iter().zip(self.descriptors.iter()) {
-            if descriptor.is_none() {
-                places.push(*place)?;
+        for index in 0..self.places.len() {
+            if let Some(place) = self.new_place(index) {
+                places.push(place)?;
             }
         }
         Ok(places)
+    }
+
+    /// Returns the place of the path at an index, or `None` if there is no such path or its socket was inherited.
+    fn new_place(&self, index: usize) -> Option<PathPlace> {
+        match self.descriptors.get(index) {
+            Some(Some(_)) => None,
+            _ => self.places.get(index).copied(),
+        }
     }
 
     /// Returns the socket of the path at an index.

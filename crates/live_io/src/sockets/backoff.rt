@@ -64,6 +64,7 @@ impl FaultBackoff {
     }
 
     /// Notes that an attempt failed at this time, in sampling instants.
+    #[tactic(auto, using(crate::proofs::BackoffLemmas::delay_most))]
     pub fn note_fault(&mut self, now: i64)
         ensures faults { self.new.faults ≡ min most_faults (self.old.faults + 1) }
         ensures next_at { (now +ℤ pos 48000) <ℤ pos (2 ^ 63)
@@ -76,6 +77,7 @@ impl FaultBackoff {
     }
 
     /// Counts a fault, and sets the delay after it.
+    #[tactic(auto, using(crate::proofs::BackoffLemmas::delay_more, crate::proofs::BackoffLemmas::delay_most))]
     fn count_fault(&mut self)
         requires few { self.old.faults < most_faults }
         ensures faults { self.new.faults ≡ self.old.faults + 1 }

@@ -1,4 +1,6 @@
 //! Paths at one address and port: which can have a socket each, and which cannot.
+ghost use Rattle.std.specs.Prelude.{◌↔◌, IsTrue};
+ghost use Rattle.live_io.specs.Sharing.{Collide, Meet, Share};
 
 use std::net::Ipv4Addr;
 
@@ -15,13 +17,17 @@ pub struct PathPlace {
 
 impl PathPlace {
     /// Returns true if another path is received at the same address and port.
-    pub fn meets(&self, other: &PathPlace) -> bool {
+    pub fn meets(&self, other: &PathPlace) -> bool
+        ensures { IsTrue result ↔ Meet self.now other.now }
+    {
         self.at == other.at && self.port == other.port
     }
 
     /// Returns true if both paths are at the same group and port, and their sources are given and differ. Then each can
     /// have a socket of its own: the group's datagrams come to both, and the source decides which path takes one.
-    pub fn shares_with(&self, other: &PathPlace) -> bool {
+    pub fn shares_with(&self, other: &PathPlace) -> bool
+        ensures { IsTrue result ↔ Share self.now other.now }
+    {
         if !self.meets(other) || !self.at.is_multicast() {
             return false;
         }
@@ -32,7 +38,9 @@ impl PathPlace {
     }
 
     /// Returns true if both paths are at the same address and port, and cannot share it.
-    pub fn collides_with(&self, other: &PathPlace) -> bool {
+    pub fn collides_with(&self, other: &PathPlace) -> bool
+        ensures { IsTrue result ↔ Collide self.now other.now }
+    {
         self.meets(other) && !self.shares_with(other)
     }
 }

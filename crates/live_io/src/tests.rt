@@ -1,0 +1,291 @@
+//! Tests of what no clause says: the attempts of a socket that fails, over a socket and a clock of the test's own; the
+//! kernel's table of UDP sockets; the opening by International Atomic Time; paths at one place.
+ghost use Rattle.std.specs.Prelude.{[]};
+
+use crate::sockets::health::SocketHealth;
+use crate::sockets::retrying::{DatagramSocket, RetryingSocket};
+use crate::sockets::sharing::{PathPlace, have_collision};
+use crate::sockets::udp_table::drops_in;
+use crate::tai::{TaiOffset, tai_now};
+use std::cell::Cell;
+use std::io::ErrorKind;
+use std::net::Ipv4Addr;
+use std::sync::atomic::{AtomicBool, Ordering};
+use std::time::Duration;
+use std::{io, time};
+use studio_io::{Clock, FeedAnswer};
+
+/// A millisecond, in sampling instants.
+const MILLISECOND: i64 = 48;
+
+/// The result of a receive of a `TestSocket`.
+#[derive(Clone, Copy, PartialEq, Eq, Debug)]
+enum Receive {
+    Fault,
+    Nothing,
+    Datagram,
+    Unexpected,
+}
+
+/// A socket whose receives have the result that the test sets.
+#[derive(Drop)]
+struct TestSocket {
+    result: Receive,
+    /// The number of receives so far.
+    receives: u32,
+}
+
+impl DatagramSocket for TestSocket {
+    fn receive(&mut self, buf: &mut [u8]) -> io::Result<Option<usize>> {
+        self.receives = self.receives.saturating_add(1);
+        match self.result {
+            Receive::Fault => Err(io::Error::from(ErrorKind::NotConnected)),
+            Receive::Nothing => Err(io::Error::from(ErrorKind::WouldBlock)),
+            Receive::Datagram => Ok(Some(buf.len().min(1))),
+            Receive::Unexpected => Ok(None),
+        }
+    }
+}
+
+/// A clock that reads what the test sets, in sampling instants.
+#[derive(Drop)]
+struct TestClock {
+    now: i64,
+}
+
+impl Clock for TestClock {
+    ghost told = { λ clock. [] };
+
+    fn now(&mut self) -> i64 {
+        self.now
+    }
+}
+
+/// A socket under test, whose receives do not wait.
+type Retrying<'a> = RetryingSocket<'a, TestSocket, TestClock>;
+
+impl Retrying<'_> {
+    /// Lets so many sampling instants pass.
+    fn wait(&mut self, instants: i64) {
+        self.clock.now = self.clock.now.saturating_add(instants);
+    }
+}
+
+fn failing_socket<'a>(health: &'a SocketHealth, ready: &'a AtomicBool) -> Retrying<'a> {
+    let socket = TestSocket {
+        result: Receive::Fault,
+        receives: 0,
+    };
+    RetryingSocket::new(socket, TestClock { now: 0 }, Some(health), Some(ready))
+}
+
+/// A socket that always fails is tried after 1, 2, 4, .. 512 ms and each second, and ends after 1,000 faults.
+#[test]
+fn a_failing_socket_is_tried_less_often_until_it_ends(rt: HostRuntime) {
+    let health = SocketHealth::new();
+    let ready = AtomicBool::new(true);
+    let mut retrying = failing_socket(&health, &ready);
+    let mut buf = [0u8; 4];
+    let mut delay = MILLISECOND;
+    for fault in 1..=1000u64 {
+        assert_eq!(rt;
+            retrying.next(&mut buf),
+            Some(FeedAnswer::Fault),
+            "fault {fault}"
+        );
+        assert_eq!(rt; health.faults(), fault);
+        assert!(rt; health.is_resting());
+        if fault == 1000 {
+            break;
+        }
+        retrying.wait(delay.saturating_sub(1));
+        assert_eq!(rt;
+            retrying.next(&mut buf),
+            Some(FeedAnswer::Nothing),
+            "before {fault}"
+        );
+        assert_eq!(rt; u64::from(retrying.socket.receives), fault);
+        assert!(rt; !health.has_ended());
+        retrying.wait(1);
+        delay = delay.saturating_mul(2).min(1000 * MILLISECOND);
+    }
+    assert!(rt; health.has_ended());
+    assert_eq!(rt; retrying.next(&mut buf), Some(FeedAnswer::Ended));
+    assert_eq!(rt; retrying.socket.receives, 1000);
+    // 1,023 ms in ten delays, and 989 s.
+    assert_eq!(rt; retrying.clock.now, 990_023 * MILLISECOND);
+}
+
+/// After a datagram no fault counts. An attempt that found nothing ends the rest, and the faults still count.
+#[test]
+fn a_datagram_ends_the_back_off(rt: HostRuntime) {
+    // For each result of the attempt after three faults: what `next` returns, and the delay after one more fault.
+    let cases = [
+        (
+            Receive::Datagram,
+            Some(FeedAnswer::Datagram(1)),
+            MILLISECOND,
+        ),
+        (Receive::Unexpected, None, MILLISECOND),
+        (Receive::Nothing, Some(FeedAnswer::Nothing), 8 * MILLISECOND),
+        (Receive::Fault, Some(FeedAnswer::Fault), 16 * MILLISECOND),
+    ];
+    for (result, answer, delay) in cases {
+        let health = SocketHealth::new();
+        let ready = AtomicBool::new(true);
+        let mut retrying = failing_socket(&health, &ready);
+        let mut buf = [0u8; 4];
+        for _ in 0..3 {
+            let _ = retrying.next(&mut buf);
+            retrying.wait(10 * MILLISECOND);
+        }
+        retrying.socket.result = result;
+        assert_eq!(rt; retrying.next(&mut buf), answer, "{result:?}");
+        assert_eq!(rt; health.is_resting(), result == Receive::Fault, "{result:?}");
+        // Without a rest the socket is read once its flag is set, and not before.
+        if result != Receive::Fault {
+            assert_eq!(rt;
+                retrying.next(&mut buf),
+                Some(FeedAnswer::Nothing),
+                "{result:?}"
+            );
+            ready.store(true, Ordering::SeqCst);
+        }
+        retrying.wait(10 * MILLISECOND);
+        retrying.socket.result = Receive::Fault;
+        assert_eq!(rt;
+            retrying.next(&mut buf),
+            Some(FeedAnswer::Fault),
+            "{result:?}"
+        );
+        retrying.wait(delay.saturating_sub(1));
+        assert_eq!(rt;
+            retrying.next(&mut buf),
+            Some(FeedAnswer::Nothing),
+            "{result:?}"
+        );
+        retrying.wait(1);
+        assert_eq!(rt;
+            retrying.next(&mut buf),
+            Some(FeedAnswer::Fault),
+            "{result:?}"
+        );
+    }
+}
+
+/// The kernel's table as Linux 6.1 prints it, with two sockets.
+const TABLE: &[u8] =
+    b"  sl  local_address rem_address   st tx_queue rx_queue tr tm->when retrnsmt   uid  timeout inode ref pointer drops            \n   61: 0100007F:F03D 00000000:0000 07 00000000:00000000 00:00000000 00000000  1000        0 31527 2 0000000000000000 0             \n 8107: 0109EFE0:138C 00000000:0000 07 00000000:00002280 00:00000000 00000000     0        0 4026531 2 0000000000000000 18446744073709551615\n";
+
+/// The drops of a socket are those of the line with its inode; no other number of a line is taken for one.
+#[test]
+fn drops_are_read_by_the_inode(rt: HostRuntime) {
+    let cases = [
+        (31_527, Some(0)),
+        (4_026_531, Some(u64::MAX)),
+        (61, None),
+        (1_000, None),
+        (0, None),
+        (402_653, None),
+    ];
+    for (inode, drops) in cases {
+        assert_eq!(rt; drops_in(TABLE, inode), drops, "inode {inode}");
+    }
+    // A last line without its end is not read: the kernel writes whole lines.
+    let [whole @ .., _] = TABLE else {
+        return;
+    };
+    assert_eq!(rt; drops_in(whole, 4_026_531), None);
+}
+
+/// A clock whose monotonic reading steps by so many microseconds each time, for so many readings, and then stands still.
+#[derive(Drop)]
+struct SteppingClock {
+    readings: Cell<u64>,
+    steps: u64,
+    step: u64,
+}
+
+impl time::Clock for SteppingClock {
+    fn monotonic(&self) -> io::Result<Duration> {
+        let readings = self.readings.get();
+        self.readings.set(readings.saturating_add(1));
+        let steps = readings.min(self.steps);
+        Ok(Duration::from_micros(steps.saturating_mul(self.step)))
+    }
+
+    fn since_1970(&self) -> io::Result<Duration> {
+        Ok(Duration::from_secs(1))
+    }
+}
+
+/// The clocks are read again until 100 microseconds at most lie between, and not more than 100 times.
+#[test]
+fn the_opening_is_read_again_after_a_preemption(rt: HostRuntime) {
+    // The steps of the clock and their length, and the monotonic reading at the opening in microseconds, if there is one.
+    let cases = [
+        (1_000, 100, Some(0)),
+        (1, 101, Some(101)),
+        (198, 101, Some(19_998)),
+        (199, 101, None),
+        (1_000, 101, None),
+    ];
+    for (steps, step, began) in cases {
+        let clock = SteppingClock {
+            readings: Cell::new(0),
+            steps,
+            step,
+        };
+        let opened = tai_now(&clock, TaiOffset::Seconds(37));
+        let found = opened.map(|time| (time.at, time.began));
+        let wanted = began.map(|micros| (38 * 48_000, Duration::from_micros(micros)));
+        assert_eq!(rt; found, wanted, "{steps} steps of {step}");
+    }
+}
+
+/// Two paths at one place collide, unless it is a group and both have sources, which differ.
+#[test]
+fn paths_at_one_place_collide_unless_their_sources_differ(rt: HostRuntime) {
+    let group = Ipv4Addr::new(239, 71, 1, 1);
+    let [own, other] = [Ipv4Addr::new(10, 0, 0, 1), Ipv4Addr::new(10, 0, 0, 2)];
+    let cases = [
+        (group, 5004, Some(own), Some(other), false),
+        (group, 5004, Some(own), Some(own), true),
+        (group, 5004, Some(own), None, true),
+        (group, 5004, None, Some(other), true),
+        (group, 5004, None, None, true),
+        (group, 5006, None, None, false),
+        (Ipv4Addr::new(239, 71, 1, 2), 5004, None, None, false),
+    ];
+    for (at, port, first, second, collide) in cases {
+        let places = [
+            PathPlace {
+                at: own,
+                port: 5004,
+                from: None,
+            },
+            PathPlace {
+                at: group,
+                port: 5004,
+                from: first,
+            },
+            PathPlace {
+                at,
+                port,
+                from: second,
+            },
+        ];
+        assert_eq!(rt; have_collision(&places), collide, "{places:?}");
+    }
+    let interface = PathPlace {
+        at: own,
+        port: 5004,
+        from: Some(own),
+    };
+    let elsewhere = PathPlace {
+        at: own,
+        port: 5004,
+        from: Some(other),
+    };
+    assert!(rt; have_collision(&[interface, elsewhere]));
+}
