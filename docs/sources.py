@@ -215,6 +215,76 @@ def tests_of(crate):
     return [call for call in calls_of(crate) if "#[test]" in call.attributes]
 
 
+class Case(NamedTuple):
+    """A worked case: where it is, its name, its sentence, and the sentences of the rows of its table."""
+
+    place: str
+    name: str
+    sentence: str
+    rows: list
+
+
+# All worked cases, in the order in which they are read: each topic with its files of tests, its examples and its scripts.
+RECEPTION, STUDIO, WORKERS = (f"crates/{crate}/src" for crate in ("worked_cases", "engine_tests", "worker_tests"))
+CASE_PLACES = {
+    "Datagrams and samples": [f"{RECEPTION}/tests/wire.rt"],
+    "Streams": [f"{RECEPTION}/tests/{name}.rt" for name in ("numbers", "streams")],
+    "Reception": [f"{RECEPTION}/tests/{name}.rt" for name in ("merges", "boundaries", "windows", "runs")],
+    "Lanes": [f"{RECEPTION}/tests/lanes.rt"],
+    "Gains": [f"{STUDIO}/tests/gains.rt"],
+    "Outputs and blocks": [f"{STUDIO}/tests/{name}.rt" for name in ("datagrams", "mixer", "lists")],
+    "Traces": [
+        *(f"examples/{name}" for name in ("first", "wrapped", "lost", "arrival-clock", "two-streams", "unlike-packets")),
+        *(f"examples/{name}" for name in ("silent-stream", "long-latency", "gain-change", "restart", "four-paths")),
+        "examples/capture",
+        "examples/blocks",
+        f"{STUDIO}/tests/players.rt",
+    ],
+    "Faults": ["examples/faults", "examples/statuses"],
+    "Engines": [f"{STUDIO}/tests/{name}.rt" for name in ("calls", "deadlines")],
+    "Rings": [f"{WORKERS}/tests/{name}.rt" for name in ("rings", "stats", "threads")],
+    "Workers": [f"{WORKERS}/tests/{name}.rt" for name in ("workers", "holding", "memory")],
+    "One thread": [f"{WORKERS}/tests/alone.rt"],
+    "Records and statistics": [f"{RECEPTION}/{name}.rt" for name in ("record_tests/octets", "record_tests/marks", "tally_tests")],
+    "The page": [f"{WORKERS}/page_tests/{name}.rt" for name in ("texts", "requests", "sockets")],
+    "Captures and live runs": ["tests/captures", "tests/loopback", "tests/networks", "tests/page"],
+}
+ROW = re.compile(r'\bshows:\s*"((?:[^"\\]|\\.)*)"', re.DOTALL)
+TEST = re.compile(r"#\[test\]\s*fn (\w+)")
+
+
+def cases_at(place):
+    """The worked cases of a file of tests, of an example or of a script."""
+    path = ROOT / place
+    if path.suffix == ".rt":
+        yield from cases_in(place, path.read_text())
+    elif path.is_dir():
+        _, sentence = (path / "README.md").read_text().splitlines()[:2]
+        yield Case(place, path.name, sentence, [])
+    else:
+        said = path.read_text().split('"""')[1]
+        yield Case(place, path.name, FIRST_SENTENCE.match(" ".join(said.partition(": ")[2].split()))[1], [])
+
+
+def cases_in(place, text):
+    """The tests of a file. A table stands before the test that tries it."""
+    start = 0
+    for test in TEST.finditer(text):
+        rows = [re.sub(r"\\\n\s*", "", row) for row in ROW.findall(text, start, test.start())]
+        _, sentence = lines_above(text, test.start())
+        line = text.count("\n", 0, test.start(1)) + 1
+        yield Case(f"{place}:{line}", test[1], " ".join(sentence), rows)
+        start = test.end()
+
+
+def unlisted_cases():
+    """The files of tests in the crates of worked cases, and the examples, that no topic names."""
+    listed = {place for places in CASE_PLACES.values() for place in places}
+    files = [file for crate in (RECEPTION, STUDIO, WORKERS) for file in sorted((ROOT / crate).rglob("*.rt")) if TEST.search(file.read_text())]
+    examples = [trace.parent for trace in sorted((ROOT / "examples").glob("*/input.trace"))]
+    return [name for name in (str(path.relative_to(ROOT)) for path in [*files, *examples]) if name not in listed]
+
+
 def lemma_files_of(crate):
     """Each lemma file of a crate with its first line."""
     for file in sorted((ROOT / "crates" / crate / "proofs").glob("*.antt")):

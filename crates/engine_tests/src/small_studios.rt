@@ -17,10 +17,15 @@ pub fn stream(frames: u16, latency: u32, paths: u8) -> Result<StreamSpec, SpecFa
 /// The first datagram has sequence number 65,535. None if an allocation fails, if there are no streams or more than 16,
 /// or if no output has packets of this length.
 pub fn sum_of(alloc: Global, specs: &[StreamSpec], frames: u16) -> Option<StudioSpec> {
+    sum_from(alloc, specs, frames, 65_535)
+}
+
+/// Returns the studio of `sum_of`, whose first datagram has this sequence number.
+pub fn sum_from(alloc: Global, specs: &[StreamSpec], frames: u16, seq0: u16) -> Option<StudioSpec> {
     if specs.is_empty() || specs.len() > 16 {
         return None;
     }
-    let output = OutSpec::new(Enc::L24, 1, frames, 97, 2, 65_535, 0, 0).ok()?;
+    let output = OutSpec::new(Enc::L24, 1, frames, 97, 2, seq0, 0, 0).ok()?;
     let ins = channel_total(specs);
     let streams = Vec::from_slice(alloc, specs).ok()?;
     let schedule = gain_of_one(alloc, ins)?;
@@ -43,9 +48,9 @@ fn row_of_ones(alloc: Global, ins: usize) -> Option<Matrix> {
     Matrix::new(alloc, 1, ins, &gains).ok()
 }
 
-/// Returns a studio that adds two streams into packets of 48 sampling instants: one of 6 sampling instants a packet on
-/// so many paths, and one of 48 on one path. None if an allocation fails.
+/// Returns a studio that adds two streams into packets of 48 sampling instants: one of 6 sampling instants a packet and
+/// one of 48, each on so many paths. None if an allocation fails.
 pub fn six_and_forty_eight(alloc: Global, paths: u8) -> Option<StudioSpec> {
-    let specs = [stream(6, 12, paths).ok()?, stream(48, 48, 1).ok()?];
+    let specs = [stream(6, 12, paths).ok()?, stream(48, 48, paths).ok()?];
     sum_of(alloc, &specs, 48)
 }

@@ -1,15 +1,18 @@
 //! The tests of reception, from datagrams to the blocks of a lane.
 //!
-//! `wire` has those of datagrams and samples, and `lanes` those of lanes. `merges`, `boundaries`, `windows` and `runs`
-//! have those of merges. `cases`, `bench`, `steps` and `words` help these: a case gives steps in words, a bench takes
-//! them, and the fates, marks and counts are compared as words.
+//! In reading order: `wire` has those of datagrams and samples, `numbers` and `streams` those of what a stream is
+//! given, `merges`, `boundaries`, `windows` and `runs` those of merges, and `lanes` those of lanes. `cases`, `bench`,
+//! `steps` and `words` help these: a case gives steps in words, a bench takes them, and the fates, marks and counts
+//! are compared as words.
 mod bench;
 mod boundaries;
 mod cases;
 mod lanes;
 mod merges;
+mod numbers;
 mod runs;
 mod steps;
+mod streams;
 mod windows;
 mod wire;
 mod words;

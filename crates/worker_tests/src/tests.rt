@@ -3,7 +3,6 @@ mod alone;
 mod fakes;
 mod holding;
 mod memory;
-mod packets;
 mod rings;
 mod stats;
 mod threads;

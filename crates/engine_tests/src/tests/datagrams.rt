@@ -1,5 +1,5 @@
 //! Test vectors of outputs and their datagrams.
-use mix_packets::{OutSpec, Packer};
+use mix_packets::{OutFault, OutSpec, Packer};
 use rtp_wire::{Enc, read};
 use std::process::Abort;
 
@@ -28,6 +28,49 @@ fn sequence_and_timestamp_wrap(rt: HostRuntime) {
     assert!(rt; packer.next(&[1000; 48], &mut out) == 156);
     assert!(rt; &out[..15] == [0x80, 0x61, 0, 0, 0, 0, 0, 0, 0, 0, 0, 2, 0, 3, 0xe8].as_slice());
     assert!(rt; (packer.number(), out[156]) == (2, 0x55));
+}
+
+/// The sampling instants per packet of an output, its payload type and its start, and its fault.
+#[derive(Clone, Copy)]
+struct Refused {
+    shows: &'static str,
+    frames: u16,
+    pt: u8,
+    start: i64,
+    fault: OutFault,
+}
+
+const REFUSED: [Refused; 3] = [
+    Refused {
+        shows: "5 instants per packet are not allowed",
+        frames: 5,
+        pt: 97,
+        start: 0,
+        fault: OutFault::Frames,
+    },
+    Refused {
+        shows: "payload type 95 is a static one",
+        frames: 6,
+        pt: 95,
+        start: 0,
+        fault: OutFault::PayloadType,
+    },
+    Refused {
+        shows: "a start is not negative",
+        frames: 6,
+        pt: 97,
+        start: -1,
+        fault: OutFault::Start,
+    },
+];
+
+/// An output of other packets, of a static payload type or with a negative start is refused by name.
+#[test]
+fn output_faults(rt: HostRuntime) {
+    for row in &REFUSED {
+        let spec = OutSpec::new(Enc::L24, 1, row.frames, row.pt, 2, 0, row.start, 0);
+        assert!(rt; spec.err() == Some(row.fault), "{}", row.shows);
+    }
 }
 
 /// A start and an offset, and the first timestamp.

@@ -28,28 +28,89 @@ fn mix(rt: &impl Abort, matrix: &Matrix, ins: &[i32], outs: &mut [i32], frames: 
 }
 
 /// Gains, inputs, the shift, and the mixed sample.
-type Sum = ([i32; 3], [i32; 3], u32, i32);
+#[derive(Clone, Copy)]
+struct Sum {
+    shows: &'static str,
+    gains: [i32; 3],
+    ins: [i32; 3],
+    shift: u32,
+    sum: i32,
+}
 
 const SUMS: [Sum; 9] = [
-    ([65_536, 65_536, 65_536], [8_388_607, 1, -1], 16, 8_388_607),
-    ([32_768, 0, 0], [1, 0, 0], 16, 1),
-    ([32_768, 0, 0], [-1, 0, 0], 16, 0),
-    ([32_768, 0, 0], [-3, 0, 0], 16, -1),
-    ([16_384, 0, 0], [-3, 0, 0], 16, -1),
-    ([-65_536, 0, 0], [-8_388_608, 0, 0], 16, 8_388_607),
-    ([65_536, 0, 0], [127, 0, 0], 24, 0),
-    ([65_536, 0, 0], [128, 0, 0], 24, 1),
-    ([65_536, 0, 0], [8_388_607, 0, 0], 24, 32_767),
+    Sum {
+        shows: "three gains of 1 saturate once, at the sum",
+        gains: [65_536, 65_536, 65_536],
+        ins: [8_388_607, 1, -1],
+        shift: 16,
+        sum: 8_388_607,
+    },
+    Sum {
+        shows: "half of 1 is rounded up to 1",
+        gains: [32_768, 0, 0],
+        ins: [1, 0, 0],
+        shift: 16,
+        sum: 1,
+    },
+    Sum {
+        shows: "half of -1 is rounded up to 0",
+        gains: [32_768, 0, 0],
+        ins: [-1, 0, 0],
+        shift: 16,
+        sum: 0,
+    },
+    Sum {
+        shows: "half of -3 is rounded up to -1",
+        gains: [32_768, 0, 0],
+        ins: [-3, 0, 0],
+        shift: 16,
+        sum: -1,
+    },
+    Sum {
+        shows: "a quarter of -3 is rounded to -1",
+        gains: [16_384, 0, 0],
+        ins: [-3, 0, 0],
+        shift: 16,
+        sum: -1,
+    },
+    Sum {
+        shows: "minus the least sample saturates",
+        gains: [-65_536, 0, 0],
+        ins: [-8_388_608, 0, 0],
+        shift: 16,
+        sum: 8_388_607,
+    },
+    Sum {
+        shows: "127 is less than half of a step of 16 bits",
+        gains: [65_536, 0, 0],
+        ins: [127, 0, 0],
+        shift: 24,
+        sum: 0,
+    },
+    Sum {
+        shows: "128 is half of a step of 16 bits",
+        gains: [65_536, 0, 0],
+        ins: [128, 0, 0],
+        shift: 24,
+        sum: 1,
+    },
+    Sum {
+        shows: "the greatest sample saturates in 16 bits",
+        gains: [65_536, 0, 0],
+        ins: [8_388_607, 0, 0],
+        shift: 24,
+        sum: 32_767,
+    },
 ];
 
 /// The table of sums in MIXING.md holds: halves round up, and only the sum saturates.
 #[test]
 fn rounds_half_up_and_saturates_once(rt: HostRuntime) {
-    for (gains, ins, shift, sum) in &SUMS {
-        let matrix = matrix_of(&rt, rt.alloc(), 1, 3, gains);
+    for row in &SUMS {
+        let matrix = matrix_of(&rt, rt.alloc(), 1, 3, &row.gains);
         let mut outs = [0];
-        mix(&rt, &matrix, ins, &mut outs, 1, *shift);
-        assert!(rt; outs == [*sum]);
+        mix(&rt, &matrix, &row.ins, &mut outs, 1, row.shift);
+        assert!(rt; outs == [row.sum], "{}", row.shows);
     }
 }
 
@@ -66,6 +127,97 @@ fn gains_mix_inputs_by_row(rt: HostRuntime) {
     let mut outs = [0; 4];
     mix(&rt, &matrix, &ins, &mut outs, 2, 16);
     assert!(rt; outs == [10, 4, -8_388_608, -8_388_607]);
+}
+
+/// A frame of two inputs is mixed by itself as it is in a block.
+#[test]
+fn one_frame_is_mixed_by_row(rt: HostRuntime) {
+    mixes_a_frame(
+        &rt,
+        &matrix_of(&rt, rt.alloc(), 2, 2, &[65_536, 0, 32_768, -32_768]),
+    );
+}
+
+/// Tests that with a matrix of two outputs and two inputs.
+fn mixes_a_frame(rt: &impl Abort, matrix: &Matrix) {
+    let mut outs = [0; 2];
+    // `mix_frame` requires this shape.
+    assert!(rt; matrix.ins() == 2 && matrix.outs() == 2);
+    mix_frame(matrix, &[10, 3], &mut outs, 16);
+    assert!(rt; outs == [10, 4]);
+}
+
+/// The outputs, inputs and gains of a matrix, and its fault.
+#[derive(Clone, Copy)]
+struct Refused {
+    shows: &'static str,
+    outs: usize,
+    ins: usize,
+    gains: &'static [i32],
+    fault: MatrixFault,
+}
+
+/// One gain for each of 1,025 inputs.
+const MANY_GAINS: [i32; 1025] = [0; 1025];
+
+const REFUSED: [Refused; 3] = [
+    Refused {
+        shows: "two outputs of two inputs have four gains, not three",
+        outs: 2,
+        ins: 2,
+        gains: &[65_536, 0, 32_768],
+        fault: MatrixFault::Shape,
+    },
+    Refused {
+        shows: "1,025 inputs are too many",
+        outs: 1,
+        ins: 1_025,
+        gains: &MANY_GAINS,
+        fault: MatrixFault::Shape,
+    },
+    Refused {
+        shows: "a gain is at most 16, which is 1,048,576",
+        outs: 1,
+        ins: 1,
+        gains: &[1_048_577],
+        fault: MatrixFault::Range,
+    },
+];
+
+/// A wrong number of gains, too many inputs and a gain out of range are each refused by name.
+#[test]
+fn matrix_faults(rt: HostRuntime) {
+    for row in &REFUSED {
+        let fault = Matrix::new(rt.alloc(), row.outs, row.ins, row.gains).err();
+        assert!(rt; fault == Some(row.fault), "{}", row.shows);
+    }
+}
+
+/// The greatest gain, 16.
+const SIXTEEN: i32 = 1_048_576;
+
+/// Returns 1,024 gains: 16 for each even place, and this one for each odd one.
+fn every_other(gain: i32) -> [i32; 1024] {
+    let mut gains = [SIXTEEN; 1024];
+    for (place, odd) in gains.iter_mut().enumerate() {
+        if place % 2 == 1 {
+            *odd = gain;
+        }
+    }
+    gains
+}
+
+/// The sum of 1,024 inputs of the least sample at the greatest gain saturates, and with half of the gains negative it
+/// is exactly 0: no term and no partial sum is cut.
+#[test]
+fn sums_of_1024_inputs_are_exact(rt: HostRuntime) {
+    let ins = [-8_388_608; 1024];
+    for (gain, sum) in [(SIXTEEN, -8_388_608), (-SIXTEEN, 0)] {
+        let matrix = matrix_of(&rt, rt.alloc(), 1, 1_024, &every_other(gain));
+        let mut outs = [0];
+        mix(&rt, &matrix, &ins, &mut outs, 1, 16);
+        assert!(rt; outs == [sum], "every other gain is {gain}");
+    }
 }
 
 /// Appends a change at a time, to a matrix of so many outputs and inputs whose gains are all the same.

@@ -1,4 +1,5 @@
-//! The tests of lanes that no trace can make: marks that may not follow, a full lane, and failed allocations.
+//! The tests of a lane's calls, from silence to the end: its cover, the marks that it wants and refuses, a full lane,
+//! and failed allocations.
 ghost use Rattle.std.specs.Prelude.{◌≡◌};
 ghost use Rattle.rtp_stream.specs.MarkFacts.{HasLength, payload_length};
 
@@ -81,8 +82,14 @@ enum Step {
     Refuse(Plain),
     /// The lane does not accept this mark of a stream of two channels.
     RefuseOther(Plain),
+    /// The lane wants a mark before this time.
+    Wants(i64),
     /// The lane wants no mark for the next block.
     Covered,
+    /// The lane's cover.
+    CoverIs(Cover),
+    /// The time at which the last mark ends.
+    EndIs(i64),
     /// The next block has these samples.
     Play([i32; 12]),
 }
@@ -96,9 +103,9 @@ struct Player {
 }
 
 impl Player {
-    /// Returns a player whose lane begins at media time 22.
-    fn new(rt: &impl Abort, alloc: Global) -> Player {
-        let lane = Lane::new(alloc, mono(rt), 22, 12);
+    /// Returns a player whose lane begins at this media time.
+    fn new(rt: &impl Abort, alloc: Global, start: u8) -> Player {
+        let lane = Lane::new(alloc, mono(rt), i64::from(start), 12);
         Player {
             lane: lane.expect(rt, "there is memory"),
         }
@@ -134,7 +141,10 @@ impl Player {
                 };
                 self.refuses(other, plain)
             }
+            Step::Wants(until) => self.lane.wants(until),
             Step::Covered => !self.lane.wants(self.lane.position() + 12),
+            Step::CoverIs(cover) => self.lane.cover() == cover,
+            Step::EndIs(end) => self.lane.end() == end,
             Step::Play(samples) => self.plays(&samples),
         }
     }
@@ -182,7 +192,36 @@ impl Player {
     }
 }
 
-const A_ROOM: [Step; 12] = [
+/// A lane from 3 on, whose blocks end at 15 and 27.
+const FROM_SILENCE: [Step; 18] = [
+    Step::CoverIs(Cover::Nothing),
+    Step::EndIs(3),
+    Step::Feed(Plain::Quiet(-7)),
+    Step::Feed(Plain::Got(0, 65_537, 0, [1, 2, 3, 4, 5, 6])),
+    Step::Feed(Plain::Lost(0, 65_538, 6)),
+    Step::CoverIs(Cover::Until(12)),
+    Step::Wants(15),
+    Step::Refuse(Plain::Lost(0, 65_540, 18)),
+    Step::Feed(Plain::Got(0, 65_539, 12, [7, 8, 9, 10, 11, 12])),
+    Step::Covered,
+    Step::Play([4, 5, 6, 0, 0, 0, 0, 0, 0, 7, 8, 9]),
+    Step::Feed(Plain::End),
+    Step::CoverIs(Cover::All),
+    Step::EndIs(18),
+    Step::Play([10, 11, 12, 0, 0, 0, 0, 0, 0, 0, 0, 0]),
+    Step::Refuse(Plain::Lost(0, 65_540, 18)),
+    Step::Refuse(Plain::Quiet(18)),
+    Step::Refuse(Plain::End),
+];
+
+/// A lane from 3 on takes silence, a slot of 1 to 6 at 0, a lost one and one of 7 to 12, and refuses a number that does
+/// not follow. Its blocks begin amid the first slot, and after the end they are zeros.
+#[test]
+fn slots_are_read_from_the_middle_of_one_to_the_end(rt: HostRuntime) {
+    Player::new(&rt, rt.alloc(), 3).take(&rt, &FROM_SILENCE);
+}
+
+const A_ROOM: [Step; 14] = [
     Step::Feed(Plain::Quiet(14)),
     Step::Covered,
     Step::Keep(Plain::Got(0, 70_000, 15, [1, 2, 3, 4, 5, 6])),
@@ -195,16 +234,15 @@ const A_ROOM: [Step; 12] = [
     Step::Keep(Plain::End),
     Step::Play([0, 0, 0, 1, 2, 3, 4, 5, 6, 0, 0, 0]),
     Step::Play([7, 8, 9, 10, 11, 12, 13, 14, 15, 16, 17, 18]),
+    Step::CoverIs(Cover::All),
+    Step::EndIs(42),
 ];
 
 /// A lane with room for 30 frames keeps marks of two epochs before they are wanted, up to the last frame. The room
 /// begins at the next block.
 #[test]
 fn a_room_is_filled_to_its_last_frame(rt: HostRuntime) {
-    let player = &mut Player::with_room(&rt, rt.alloc());
-    player.take(&rt, &A_ROOM);
-    assert!(rt; player.lane.cover() == Cover::All);
-    assert!(rt; player.lane.end() == 42);
+    Player::with_room(&rt, rt.alloc()).take(&rt, &A_ROOM);
 }
 
 const FOLLOWERS: [Step; 17] = [
@@ -231,7 +269,7 @@ const FOLLOWERS: [Step; 17] = [
 /// numbers, epochs and streams.
 #[test]
 fn marks_that_do_not_follow_are_refused(rt: HostRuntime) {
-    Player::new(&rt, rt.alloc()).take(&rt, &FOLLOWERS);
+    Player::new(&rt, rt.alloc(), 22).take(&rt, &FOLLOWERS);
 }
 
 /// A lane is made twice: if one allocation fails, at most one of the two calls returns an error.

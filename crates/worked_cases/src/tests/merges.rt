@@ -133,15 +133,24 @@ fn slots_come_in_order_at_their_deadlines(rt: HostRuntime) {
     }
 }
 
-const COPIES: [Case; 4] = [
+const COPIES: [Case; 5] = [
     Case {
-        shows: "the first of several copies counts",
+        shows: "of three copies, of which the last differs in one octet, the first counts",
         stream: STREAM,
         open_at: 0,
-        steps: "a 1 0, b 1 0, b 1 0 odd, tick 12, b 1 0",
-        fates: "1 Taken, 1 Double, 1 Unlike, 1 Late",
+        steps: "a 1 0, b 1 0, b 1 0 odd, tick 12",
+        fates: "1 Taken, 1 Double, 1 Unlike",
         marks: "got 65537 0",
-        counts: "4 arrived, 1 from_a, 1 double, 1 unlike, 1 late, 1 got",
+        counts: "3 arrived, 1 from_a, 1 double, 1 unlike, 1 got",
+    },
+    Case {
+        shows: "a copy of a number that was handed on is late",
+        stream: STREAM,
+        open_at: 0,
+        steps: "a 1 0, b 1 0, tick 12, b 1 0",
+        fates: "1 Taken, 1 Double, 1 Late",
+        marks: "got 65537 0",
+        counts: "3 arrived, 1 from_a, 1 double, 1 late, 1 got",
     },
     Case {
         shows: "a third path counts as its own",
@@ -257,7 +266,7 @@ fn a_close_gives_what_is_held_and_the_end(rt: HostRuntime) {
     }
 }
 
-const RESTARTS: [Case; 7] = [
+const RESTARTS: [Case; 8] = [
     Case {
         shows: "eight packets in sequence restart",
         stream: STREAM,
@@ -277,7 +286,8 @@ const RESTARTS: [Case; 7] = [
         counts: "11 arrived, 3 from_a, 8 off_grid, 3 got, 1 restarts",
     },
     Case {
-        shows: "by the arrival clock an epoch begins at the time, which is 12",
+        shows: "by the arrival clock an epoch begins at the time, which is 12, if that is later than \
+            the next number's media time, which is 6",
         stream: Stream {
             clock: StreamClock::Arrival,
             ..STREAM
@@ -286,6 +296,20 @@ const RESTARTS: [Case; 7] = [
         steps: "tick 0, a 1 0, tick 12, a 500 4294967274 x 8, tick 24",
         fates: "1 Taken, 7 OffGrid, 1 Restarted",
         marks: "got 65537 0, got 1:66043 12",
+        counts: "9 arrived, 2 from_a, 7 off_grid, 2 got, 1 restarts",
+    },
+    Case {
+        shows: "by the arrival clock an epoch begins at the next number's media time, which is 6, if \
+            that is later than the time, which is 1",
+        stream: Stream {
+            clock: StreamClock::Arrival,
+            latency: 1,
+            ..STREAM
+        },
+        open_at: 0,
+        steps: "tick 0, a 1 0, tick 1, a 500 4294967274 x 8, tick 7",
+        fates: "1 Taken, 7 OffGrid, 1 Restarted",
+        marks: "got 65537 0, got 1:66043 6",
         counts: "9 arrived, 2 from_a, 7 off_grid, 2 got, 1 restarts",
     },
     Case {
@@ -429,7 +453,26 @@ fn a_probation_is_of_one_path_and_source(rt: HostRuntime) {
 }
 
 // Tried by `check_calls` alone: `run_merge` gives no marks if a reading is out of order, and has no single `advance`.
-const SINGLE_CALLS: [Case; 2] = [
+const SINGLE_CALLS: [Case; 4] = [
+    Case {
+        shows: "four slots that are due at once come one per call, and then none",
+        stream: STREAM,
+        open_at: 0,
+        steps: "a 1 0, advance 30, advance 30, advance 30, advance 30, advance 30",
+        fates: "1 Taken",
+        marks: "got 65537 0 at 12, lost 65538 6 at 18, lost 65539 12 at 24, lost 65540 18 at 30, \
+            nothing at 30",
+        counts: "1 arrived, 1 from_a, 1 got, 3 lost",
+    },
+    Case {
+        shows: "a close at once gives the end alone, and no reading is taken after it",
+        stream: STREAM,
+        open_at: 0,
+        steps: "close, advance 6",
+        fates: "",
+        marks: "end, Closed at 0",
+        counts: "",
+    },
     Case {
         shows: "readings are checked in order, and a refused one moves nothing",
         stream: STREAM,

@@ -3,67 +3,92 @@ ghost use Rattle.rtp_wire.specs.Sample.{FitsEncoding};
 
 use rtp_wire::{Enc, WireFault, read, read_samples, sample, write_sample, write_samples};
 
-/// A datagram, its fault if it has one, and else its payload.
-type Row = (&'static [u8], Option<WireFault>, &'static [u8]);
+/// A header and its fault, if it has one, or else its payload. All but the first are of type 96, number 1, timestamp 0
+/// and source 1.
+#[derive(Clone, Copy)]
+struct Header {
+    shows: &'static str,
+    octets: &'static [u8],
+    fault: Option<WireFault>,
+    payload: &'static [u8],
+}
 
-/// Eleven octets; headers with fifteen contributing sources, the last of which is cut and then whole; and headers of
-/// type 96, number 1, timestamp 0 and source 1.
-const ROWS: [Row; 13] = [
-    (
-        &[0x60, 0, 1, 0, 0, 0, 0, 0, 0, 0, 1],
-        Some(WireFault::Short),
-        &[],
-    ),
-    (&[0x8f; 71], Some(WireFault::CsrcCut), &[]),
-    (&[0x8f; 72], None, &[]),
-    (
-        &[0x40, 0x60, 0, 1, 0, 0, 0, 0, 0, 0, 0, 1],
-        Some(WireFault::Version),
-        &[],
-    ),
-    (
-        &[0x90, 0x60, 0, 1, 0, 0, 0, 0, 0, 0, 0, 1, 0xbe, 0xef],
-        Some(WireFault::ExtensionCut),
-        &[],
-    ),
-    (
-        &[0x90, 0x60, 0, 1, 0, 0, 0, 0, 0, 0, 0, 1, 0xbe, 0xef, 0, 1],
-        Some(WireFault::ExtensionCut),
-        &[],
-    ),
-    (
-        &[
+const HEADERS: [Header; 11] = [
+    Header {
+        shows: "eleven octets are too short",
+        octets: &[0x60, 0, 1, 0, 0, 0, 0, 0, 0, 0, 1],
+        fault: Some(WireFault::Short),
+        payload: &[],
+    },
+    Header {
+        shows: "version 1 is refused",
+        octets: &[0x40, 0x60, 0, 1, 0, 0, 0, 0, 0, 0, 0, 1],
+        fault: Some(WireFault::Version),
+        payload: &[],
+    },
+    Header {
+        shows: "an extension of which two octets are there is cut",
+        octets: &[0x90, 0x60, 0, 1, 0, 0, 0, 0, 0, 0, 0, 1, 0xbe, 0xef],
+        fault: Some(WireFault::ExtensionCut),
+        payload: &[],
+    },
+    Header {
+        shows: "an extension of one word without the word is cut",
+        octets: &[0x90, 0x60, 0, 1, 0, 0, 0, 0, 0, 0, 0, 1, 0xbe, 0xef, 0, 1],
+        fault: Some(WireFault::ExtensionCut),
+        payload: &[],
+    },
+    Header {
+        shows: "an extension of no words is skipped",
+        octets: &[
             0x90, 0x60, 0, 1, 0, 0, 0, 0, 0, 0, 0, 1, 0xbe, 0xef, 0, 0, 1, 2,
         ],
-        None,
-        &[1, 2],
-    ),
-    (
-        &[0xa0, 0x60, 0, 1, 0, 0, 0, 0, 0, 0, 0, 1],
-        Some(WireFault::Padding),
-        &[],
-    ),
-    (
-        &[0xa0, 0x60, 0, 1, 0, 0, 0, 0, 0, 0, 0, 1, 0, 0, 0],
-        Some(WireFault::Padding),
-        &[],
-    ),
-    (
-        &[0xa0, 0x60, 0, 1, 0, 0, 0, 0, 0, 0, 0, 1, 0, 0, 0xff],
-        Some(WireFault::Padding),
-        &[],
-    ),
-    (
-        &[0xa0, 0x60, 0, 1, 0, 0, 0, 0, 0, 0, 0, 1, 0xaa, 0xbb, 1],
-        None,
-        &[0xaa, 0xbb],
-    ),
-    (
-        &[0xa0, 0x60, 0, 1, 0, 0, 0, 0, 0, 0, 0, 1, 0, 0, 3],
-        None,
-        &[],
-    ),
-    (&[0x80, 0x60, 0, 1, 0, 0, 0, 0, 0, 0, 0, 1, 9], None, &[9]),
+        fault: None,
+        payload: &[1, 2],
+    },
+    Header {
+        shows: "padding in an empty payload is refused",
+        octets: &[0xa0, 0x60, 0, 1, 0, 0, 0, 0, 0, 0, 0, 1],
+        fault: Some(WireFault::Padding),
+        payload: &[],
+    },
+    Header {
+        shows: "padding of no octets is refused",
+        octets: &[0xa0, 0x60, 0, 1, 0, 0, 0, 0, 0, 0, 0, 1, 0, 0, 0],
+        fault: Some(WireFault::Padding),
+        payload: &[],
+    },
+    Header {
+        shows: "padding of more octets than the payload is refused",
+        octets: &[0xa0, 0x60, 0, 1, 0, 0, 0, 0, 0, 0, 0, 1, 0, 0, 0xff],
+        fault: Some(WireFault::Padding),
+        payload: &[],
+    },
+    Header {
+        shows: "padding of one octet is that octet itself",
+        octets: &[0xa0, 0x60, 0, 1, 0, 0, 0, 0, 0, 0, 0, 1, 0xaa, 0xbb, 1],
+        fault: None,
+        payload: &[0xaa, 0xbb],
+    },
+    Header {
+        shows: "padding may be the whole payload",
+        octets: &[0xa0, 0x60, 0, 1, 0, 0, 0, 0, 0, 0, 0, 1, 0, 0, 3],
+        fault: None,
+        payload: &[],
+    },
+    Header {
+        shows: "a header of twelve octets is followed by the payload",
+        octets: &[0x80, 0x60, 0, 1, 0, 0, 0, 0, 0, 0, 0, 1, 9],
+        fault: None,
+        payload: &[9],
+    },
+];
+
+/// A header with fifteen contributing sources, and no payload.
+const SOURCES: [u8; 72] = [
+    0x8f, 0x60, 0, 1, 0, 0, 0, 0, 0, 0, 0, 1, 0, 0, 0, 0, 0, 0, 0, 0, 0, 0, 0, 0, 0, 0, 0, 0, 0, 0,
+    0, 0, 0, 0, 0, 0, 0, 0, 0, 0, 0, 0, 0, 0, 0, 0, 0, 0, 0, 0, 0, 0, 0, 0, 0, 0, 0, 0, 0, 0, 0, 0,
+    0, 0, 0, 0, 0, 0, 0, 0, 0, 0,
 ];
 
 /// Returns true if a datagram has this fault, or, if there is no fault, this payload.
@@ -78,10 +103,18 @@ fn is_read_as(octets: &[u8], fault: Option<WireFault>, payload: &[u8]) -> bool {
 /// payload.
 #[test]
 fn header_faults_and_payloads(rt: HostRuntime) {
-    for (place, row) in ROWS.iter().enumerate() {
-        let (octets, fault, payload) = row;
-        assert!(rt; is_read_as(*octets, *fault, *payload), "row {place}");
+    for header in &HEADERS {
+        let is_so = is_read_as(header.octets, header.fault, header.payload);
+        assert!(rt; is_so, "{}", header.shows);
     }
+}
+
+/// Fifteen contributing sources are 60 octets: a header that is one octet short of them is cut, and one of 72 octets is
+/// whole.
+#[test]
+fn fifteen_contributing_sources_are_60_octets(rt: HostRuntime) {
+    assert!(rt; is_read_as(&SOURCES[..71], Some(WireFault::CsrcCut), &[]));
+    assert!(rt; is_read_as(&SOURCES, None, &[]));
 }
 
 /// A datagram with two contributing sources, an extension and padding.

@@ -1,4 +1,4 @@
-//! A feed and a sink that fail, and a rest that is none.
+//! A feed and a sink that fail, and a wait that does not wait.
 ghost use Rattle.std.specs.Prelude.{[], map, Some};
 
 use engine_run::IdleWait;
@@ -39,22 +39,22 @@ impl<'a> Feed for FaultyFeed<'a> {
     }
 }
 
-/// Keeps what it is handed, and contracts know it. Address B doesn't take the datagram of this number.
+/// Keeps what it is handed, and contracts know it. Address B takes so many datagrams, and then fails.
 #[derive(Drop)]
 pub(super) struct FailingSink<'a, R: Abort> {
     rt: &'a R,
     alloc: Global,
     handed: Vec<Vec<u8>>,
-    number: usize,
+    by_b: usize,
 }
 
 impl<'a, R: Abort> FailingSink<'a, R> {
-    pub(super) fn new(rt: &'a R, alloc: Global, number: usize) -> FailingSink<'a, R> {
+    pub(super) fn new(rt: &'a R, alloc: Global, by_b: usize) -> FailingSink<'a, R> {
         FailingSink {
             rt,
             alloc,
             handed: Vec::new(alloc),
-            number,
+            by_b,
         }
     }
 
@@ -68,7 +68,7 @@ impl<'a, R: Abort> Sink for FailingSink<'a, R> {
     ghost handed = { λ sink. Some (map (λ datagram. datagram.items) sink.handed.items) };
 
     fn send(&mut self, datagram: &[u8]) -> SendAnswer {
-        let b = self.handed.len() != self.number;
+        let b = self.handed.len() < self.by_b;
         let Ok(copy) = Vec::from_slice(self.alloc, datagram) else {
             panic!(self.rt; "no memory for a datagram")
         };

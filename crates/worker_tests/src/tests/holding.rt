@@ -1,8 +1,8 @@
 //! Feeds that wait for each other, and a sink that waits for a clock: workers run at the same time.
 ghost use Rattle.std.specs.Prelude.{[], None};
 
-use super::packets::{FIRST, SECOND};
 use super::workers::{gave_both, list_of, only, run_one, two_packets};
+use engine_tests::small_packets::{FIRST, SECOND};
 use std::alloc::Global;
 use std::process::Abort;
 use std::sync::Wait;

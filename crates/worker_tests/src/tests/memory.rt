@@ -3,9 +3,9 @@
 //! The tests of this file pass for every N: the call that meets it says so, and the next succeeds.
 
 use super::fakes::NoRest;
-use super::packets::both_packets;
 use super::workers::{one_stream, try_run};
 use engine_run::{NoObserver, run_engine};
+use engine_tests::small_packets::both_packets;
 use std::alloc::{AllocError, Global};
 use std::process::Abort;
 use std::sync::Wait;
@@ -13,53 +13,11 @@ use std::thread::Threads;
 use studio_config::StudioSpec;
 use studio_io::{MemoryClock, MemoryFeed, MemorySink};
 use studio_rings::{WorkFault, WorkReport};
-use studio_run::{PlayFault, play};
-
-/// Both packets on the first path, with the readings at which they are due.
-const TRACE: &str = "tick 0\n\
-    a 0 806000010000000000000001000001000002000003000004000005000006\n\
-    a 0 80600002000000060000000100000700000800000900000a00000b00000c\n\
-    tick 12\ntick 18\nclose\n";
-
-/// The report of that trace.
-const REPORT: &str = "out 8061ffff0000000000000002000001000002000003000004000005000006\n\
-    out 80610000000000060000000200000700000800000900000a00000b00000c\n\
-    path 0 a offered 2 sent 2 bad 0 type 0 length 0 full 0\n\
-    path 0 b offered 0 sent 0 bad 0 type 0 length 0 full 0\n\
-    merge 0 arrived 2 taken 2 from_a 2 from_b 0 double 0 unlike 0 off_grid 0 late 0 ahead 0 source 0 \
-    got 2 lost 0 restarts 0\n";
 
 /// A studio of one stream, though one allocation may be refused.
 fn one_stream_at_last(rt: &impl Abort, alloc: Global) -> StudioSpec {
     let studio = one_stream(alloc).or_else(|| one_stream(alloc));
     studio.expect(rt, "with memory again")
-}
-
-/// Returns true if the trace's report was written; else an allocation was refused.
-fn is_reported(rt: &impl Abort, alloc: Global, studio: &StudioSpec) -> bool {
-    let mut reader = TRACE.as_bytes();
-    let mut report = Vec::new(alloc);
-    match play(alloc, studio, &mut reader, &mut report) {
-        Ok(()) => {
-            assert!(rt; report.as_slice() == REPORT.as_bytes());
-            true
-        }
-        Err(fault) => {
-            let wants = matches!(fault, PlayFault::Memory) || matches!(fault, PlayFault::Write);
-            assert!(rt; wants, "only memory can lack");
-            false
-        }
-    }
-}
-
-/// A report that can't grow is one that can't be written.
-#[test]
-fn each_refused_allocation_of_a_report_is_answered(rt: HostRuntime) {
-    let alloc = rt.alloc();
-    let studio = one_stream_at_last(&rt, alloc);
-    let first = is_reported(&rt, alloc, &studio);
-    let second = is_reported(&rt, alloc, &studio);
-    assert!(rt; first || second, "with memory again");
 }
 
 /// Tests that each of two blocks was kept, or is reported as a fault of both addresses.
@@ -102,7 +60,7 @@ fn run_by_workers<R: Threads + Wait + Abort + Sync>(
 fn each_refused_allocation_of_a_run_is_answered(rt: HostRuntime) {
     let alloc = rt.alloc();
     let studio = one_stream_at_last(&rt, alloc);
-    let packets = both_packets(alloc).or_else(|| both_packets(alloc));
+    let packets = both_packets(alloc).or_else(|_| both_packets(alloc));
     let packets = packets.expect(&rt, "with memory again");
     let first = run_by_workers(&rt, alloc, &studio, &packets);
     let second = run_by_workers(&rt, alloc, &studio, &packets);
@@ -141,7 +99,7 @@ fn is_run_alone<R: Wait + Abort>(
 fn each_refused_allocation_of_a_run_in_one_thread_is_answered(rt: HostRuntime) {
     let alloc = rt.alloc();
     let studio = one_stream_at_last(&rt, alloc);
-    let packets = both_packets(alloc).or_else(|| both_packets(alloc));
+    let packets = both_packets(alloc).or_else(|_| both_packets(alloc));
     let packets = packets.expect(&rt, "with memory again");
     let first = is_run_alone(&rt, alloc, &studio, &packets);
     let second = is_run_alone(&rt, alloc, &studio, &packets);

@@ -4,7 +4,7 @@ ghost use Rattle.rtrb.specs.Ring.{SameProducer};
 ghost use Rattle.studio_ends.specs.FreshEnds.{AreOpened};
 ghost use Rattle.worker_tests.specs.OneStream.{AreOfOneStream};
 
-use super::packets::{FIRST, SECOND, datagram, ones_alone, sums, thousands};
+use engine_tests::small_packets::{FIRST, SECOND, thousands, thousands_alone};
 use engine_tests::small_studios::{six_and_forty_eight, sum_of};
 use path_merge::{ClockFault, SpecFault, StreamClock, StreamSpec};
 use rtp_wire::Enc;
@@ -139,7 +139,8 @@ enum Step {
     Read(i64),
     /// The deadline of the next slot.
     Deadline(Option<i64>),
-    /// The monitor's next counts, of packets on the first path: arrived and taken, and got.
+    /// The monitor's next counts, if there are any: of packets on the first path, which arrived and were taken, and of
+    /// those that were got. All other counts are 0.
     Show(Option<(u64, u64)>),
 }
 
@@ -191,6 +192,15 @@ fn shows(rt: &impl Abort, monitor: &mut MonitorEnd, expected: Option<(u64, u64)>
     assert!(rt; expected == Some((counts.arrived, counts.got)));
     assert!(rt; counts.taken == counts.arrived);
     assert!(rt; counts.taken_by == [counts.taken, 0, 0, 0]);
+    let refused = [
+        counts.double,
+        counts.unlike,
+        counts.off_grid,
+        counts.late,
+        counts.ahead,
+        counts.wrong_source,
+    ];
+    assert!(rt; refused == [0; 6] && (counts.lost, counts.restarts) == (0, 0));
 }
 
 const ONE_PLACE: [Step; 10] = [
@@ -312,23 +322,12 @@ fn offer_thousands(rt: &impl Abort, alloc: Global, path: &mut PathEnd) {
     }
 }
 
-/// Offers a packet of 1 from 20 on.
-fn offer_ones(rt: &impl Abort, alloc: Global, path: &mut PathEnd) {
-    let head = [0x80, 0x60, 0, 100, 0, 0, 0, 20, 0, 0, 0, 1];
-    let octets = datagram(alloc, head, &[(48, [0, 0, 1])]).expect(rt, "there is memory");
-    assert!(rt; path.offer(&octets) == Offer::Sent);
+/// A stream takes what has come, and hands on its marks up to 96.
+fn gives_marks(rt: &impl Abort, stream: &mut StreamEnd) {
+    assert!(rt; stream.turn(0).is_ok() && stream.turn(96).is_ok());
 }
 
-/// The mixer gives their sums, the rest of the ones, and silence.
-fn gives_the_sums(rt: &impl Abort, alloc: Global, mix: &mut MixEnd) {
-    gives(rt, mix, &sums(alloc).expect(rt, "there is memory"));
-    gives(rt, mix, &ones_alone(alloc).expect(rt, "there is memory"));
-    let head = [0x80, 0x61, 0, 1, 0, 0, 0, 96, 0, 0, 0, 2];
-    let silence = datagram(alloc, head, &[(48, [0, 0, 0])]).expect(rt, "there is memory");
-    gives(rt, mix, &silence);
-}
-
-/// One stream gives its marks, then the mixer takes so many, then the other gives.
+/// One stream gives its marks, of which the mixer takes so many and gives no datagram, and then the other stream.
 fn give_in_turn(
     rt: &impl Abort,
     early: &mut StreamEnd,
@@ -336,32 +335,36 @@ fn give_in_turn(
     mix: &mut MixEnd,
     taken: u32,
 ) {
-    assert!(rt; early.turn(0).is_ok() && early.turn(200).is_ok());
+    gives_marks(rt, early);
     gives_none(rt, mix, taken);
-    assert!(rt; late.turn(0).is_ok() && late.turn(200).is_ok());
+    gives_marks(rt, late);
 }
 
-/// Both streams have packets, and give their marks in this order.
+/// The first stream has eight packets, the second one none, and they give their marks in this order. Up to 96 the first
+/// one has fifteen slots, of which the first block wants eight, and the second one is silent up to 48.
 fn mixes_in_order(rt: &impl Abort, alloc: Global, last_first: bool) {
     let TwoStreams {
         mut of_first,
-        mut of_second,
+        of_second: _,
         mut first,
         mut second,
         mut mix,
     } = two_streams(rt, alloc);
     offer_thousands(rt, alloc, &mut of_first);
-    offer_ones(rt, alloc, &mut of_second);
     if last_first {
         give_in_turn(rt, &mut second, &mut first, &mut mix, 1);
     } else {
         give_in_turn(rt, &mut first, &mut second, &mut mix, 8);
     }
-    gives_the_sums(rt, alloc, &mut mix);
-    gives_none(rt, &mut mix, 8);
+    gives(
+        rt,
+        &mut mix,
+        &thousands_alone(alloc).expect(rt, "there is memory"),
+    );
+    gives_none(rt, &mut mix, 7);
 }
 
-/// Two streams whose turns come in both orders give the same datagrams.
+/// A stream of eight packets and a silent one, whose marks come in both orders, give the same datagram.
 #[test]
 fn the_order_of_the_streams_changes_no_datagram(rt: HostRuntime) {
     mixes_in_order(&rt, rt.alloc(), false);

@@ -1,6 +1,6 @@
 //! The statistics that receivers get of one stream and of its mix.
-use super::packets::{FIRST, SECOND};
 use super::rings::{MEDIA, studio_of};
+use engine_tests::small_packets::{FIRST, SECOND};
 use std::alloc::Global;
 use std::process::Abort;
 use studio_ends::{Ends, MixEnd, Offer, StatsReceivers, open_with_stats};

@@ -1,6 +1,6 @@
 //! One stream on two paths by four threads: two that offer, one that merges, one that mixes.
-use super::packets::FIRST;
 use super::rings::{MEDIA, last_of, open_ends, studio_of};
+use engine_tests::small_packets::FIRST;
 use path_merge::Counts;
 use std::alloc::Global;
 use std::process::Abort;

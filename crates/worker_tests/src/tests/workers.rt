@@ -3,7 +3,7 @@ ghost use Rattle.std.specs.Prelude.{IfSome};
 ghost use Rattle.studio_ends.specs.FreshEnds.{AreOpened};
 
 use super::fakes::{FailingSink, FaultyFeed};
-use super::packets::{FIRST, SECOND, datagram, ones_alone, sums, thousands};
+use engine_tests::small_packets::{FIRST, SECOND, ones, ones_alone, sums, thousands};
 use engine_tests::small_studios::{six_and_forty_eight, stream, sum_of};
 use path_merge::Counts;
 use std::alloc::Global;
@@ -137,29 +137,45 @@ pub(super) fn two_packets(rt: &impl Abort, alloc: Global) -> [Vec<u8>; 2] {
     [list_of(rt, alloc, FIRST), list_of(rt, alloc, SECOND)]
 }
 
-/// Both packets on both paths, by a clock with these readings, over rings of so many places.
+/// Runs both packets on both paths, by a clock with these readings, over rings of so many places.
+fn run_alike<R: Threads + Wait + Abort + Sync, K: Sink>(
+    rt: &R,
+    alloc: Global,
+    readings: &[i64],
+    places: usize,
+    sink: K,
+) -> (WorkReport, K) {
+    let packets = two_packets(rt, alloc);
+    let feeds = [MemoryFeed::new(&packets), MemoryFeed::new(&packets)];
+    let feeds = list_of(rt, alloc, feeds);
+    let clocks = list_of(rt, alloc, [MemoryClock::new(readings)]);
+    run_one(rt, alloc, places, feeds, clocks, sink)
+}
+
+/// Runs the packets as `run_alike` does, and tests that each was taken once and sent to both addresses.
 fn runs_alike<R: Threads + Wait + Abort + Sync>(
     rt: &R,
     alloc: Global,
     readings: &[i64],
     places: usize,
 ) {
-    let packets = two_packets(rt, alloc);
-    let feeds = [MemoryFeed::new(&packets), MemoryFeed::new(&packets)];
-    let feeds = list_of(rt, alloc, feeds);
-    let clocks = list_of(rt, alloc, [MemoryClock::new(readings)]);
     let sink = MemorySink::new(alloc);
-    let (report, sink) = run_one(rt, alloc, places, feeds, clocks, sink);
+    let (report, sink) = run_alike(rt, alloc, readings, places, sink);
     is_alike(rt, &report);
     gave_both(rt, sink.kept());
 }
 
 /// Both packets were taken once, doubled once, and sent to both addresses.
 fn is_alike(rt: &impl Abort, report: &WorkReport) {
+    are_got(rt, report);
+    assert!(rt; sends(report) == (2, [2, 2], [0, 0]));
+}
+
+/// Both packets were taken once and doubled once, and no feed failed.
+fn are_got(rt: &impl Abort, report: &WorkReport) {
     let counts = only(rt, report);
     assert!(rt; counts.arrived == 4 && counts.taken == 2 && counts.double == 2);
     assert!(rt; counts.got == 2 && counts.lost == 0);
-    assert!(rt; sends(report) == (2, [2, 2], [0, 0]));
     assert!(rt; report.feed_faults.as_slice() == [0u64, 0].as_slice());
 }
 
@@ -169,15 +185,65 @@ fn both_paths_alike(rt: HostRuntime) {
     runs_alike(&rt, rt.alloc(), &[0], 4);
 }
 
-/// It counts by the greatest answer so far, and from the opening time on.
+/// The lengths of the rings.
+const PLACES: [usize; 3] = [1, 2, 64];
+
+/// The greatest reading so far counts, from the opening time on: at 11 neither packet is due yet.
 #[test]
 fn a_clock_that_goes_back(rt: HostRuntime) {
-    for places in [1usize, 2, 64] {
+    for places in PLACES {
         runs_alike(&rt, rt.alloc(), &[-5, 11, 5, i64::MIN, 11, 0], places);
     }
 }
 
-/// Runs the streams of six and of 48: these packets on both paths, and those on one.
+/// Tests that the counts of a run of one stream balance: of packets by fate, by path, and of datagrams by address.
+fn balances(rt: &impl Abort, report: &WorkReport) {
+    let counts = only(rt, report);
+    let fates = [
+        counts.taken,
+        counts.double,
+        counts.unlike,
+        counts.off_grid,
+        counts.late,
+        counts.ahead,
+        counts.wrong_source,
+    ];
+    assert!(rt; counts.arrived == total(&fates));
+    assert!(rt;
+        counts.got == counts.taken,
+        "each packet that was taken is got"
+    );
+    let stream = report.streams.first().expect(rt, "one stream");
+    let mut sent = 0u64;
+    for path in stream.paths.iter() {
+        sent = sent.wrapping_add(path.sent);
+    }
+    assert!(rt; counts.arrived == sent);
+    let (blocks, [sent_a, sent_b], [fault_a, fault_b]) = sends(report);
+    assert!(rt; blocks == total(&[sent_a, fault_a]) && blocks == total(&[sent_b, fault_b]));
+}
+
+/// Returns the sum of small numbers.
+fn total(numbers: &[u64]) -> u64 {
+    let mut sum = 0u64;
+    for number in numbers {
+        sum = sum.wrapping_add(*number);
+    }
+    sum
+}
+
+/// By a clock that reads 0, 18, and then 6 for good, a packet may come after its deadline. However the threads run, all
+/// rings are finished and drained, and the counts balance.
+#[test]
+fn a_clock_that_passes_the_deadlines(rt: HostRuntime) {
+    for places in PLACES {
+        let sink = MemorySink::new(rt.alloc());
+        let (report, _) = run_alike(&rt, rt.alloc(), &[0, 18, 6], places, sink);
+        balances(&rt, &report);
+    }
+}
+
+/// Runs the streams of 6 and of 48 sampling instants a packet: these packets and those, each on the first of two paths.
 fn run_two<R: Threads + Wait + Abort + Sync>(
     rt: &R,
     alloc: Global,
@@ -185,21 +251,21 @@ fn run_two<R: Threads + Wait + Abort + Sync>(
     second: &[Vec<u8>],
 ) -> (WorkReport, MemorySink) {
     let studio = six_and_forty_eight(alloc, 2).expect(rt, "a studio");
-    let feeds = [first, first, second].map(MemoryFeed::new);
+    let feeds = [first, &[], second, &[]].map(MemoryFeed::new);
     let feeds = list_of(rt, alloc, feeds);
     let clocks = list_of(rt, alloc, [MemoryClock::new(&[0]), MemoryClock::new(&[0])]);
     let sink = MemorySink::new(alloc);
     run(rt, alloc, &studio, 64, feeds, clocks, sink)
 }
 
-/// Both streams got all, the first one's copies once.
+/// Tests that both streams got all.
 fn got_all(rt: &impl Abort, report: &WorkReport) {
     assert!(rt; report.settled);
     assert!(rt; report.streams.len() == 2);
     let counts = report.streams[0].merge;
-    assert!(rt; counts.arrived == 16 && counts.taken == 8);
-    assert!(rt; counts.double == 8 && counts.got == 8);
-    assert!(rt; report.streams[1].merge.got == 1);
+    assert!(rt; counts.arrived == 8 && counts.got == 8);
+    let counts = report.streams[1].merge;
+    assert!(rt; counts.arrived == 1 && counts.got == 1);
     assert!(rt; sends(report) == (2, [2, 2], [0, 0]));
 }
 
@@ -210,36 +276,28 @@ fn are_the_sums(rt: &impl Abort, alloc: Global, kept: &[Vec<u8>]) {
     assert!(rt; kept[1] == ones_alone(alloc).expect(rt, "there is memory"));
 }
 
-/// The packets of 1 from 20 on: one.
-fn ones(rt: &impl Abort, alloc: Global) -> [Vec<u8>; 1] {
-    let head = [0x80, 0x60, 0, 100, 0, 0, 0, 20, 0, 0, 0, 1];
-    [datagram(alloc, head, &[(48, [0, 0, 1])]).expect(rt, "there is memory")]
-}
-
-/// Eight packets of 1000 from 0 on, on both paths, and one of 1 from 20 on.
+/// Eight packets of 1000 from 0 on and one of 1 from 20 on, each on the first path of its stream. The second paths end
+/// at once.
 #[test]
 fn two_streams_by_workers(rt: HostRuntime) {
     let alloc = rt.alloc();
     let thousands = thousands(alloc).expect(&rt, "there is memory");
-    let ones = ones(&rt, alloc);
+    let ones = [ones(alloc).expect(&rt, "there is memory")];
     let (report, sink) = run_two(&rt, alloc, thousands.as_slice(), &ones);
     got_all(&rt, &report);
     are_the_sums(&rt, alloc, sink.kept());
 }
 
-/// An address that refuses a datagram counts a fault, and the other address gets all.
+/// An address that always fails counts a fault for each datagram, and the other address gets all.
 #[test]
-fn an_address_that_fails(rt: HostRuntime) {
-    let alloc = rt.alloc();
-    let packets = two_packets(&rt, alloc);
-    let feeds = [MemoryFeed::new(&packets), MemoryFeed::new(&[])];
-    let feeds = list_of(&rt, alloc, feeds);
-    let clocks = list_of(&rt, alloc, [MemoryClock::new(&[0])]);
-    let sink = FailingSink::new(&rt, alloc, 1);
-    let (report, sink) = run_one(&rt, alloc, 64, feeds, clocks, sink);
-    assert!(rt; only(&rt, &report).got == 2);
-    assert!(rt; sends(&report) == (2, [2, 1], [0, 1]));
-    gave_both(&rt, sink.handed());
+fn an_address_that_always_fails(rt: HostRuntime) {
+    for places in PLACES {
+        let sink = FailingSink::new(&rt, rt.alloc(), 0);
+        let (report, sink) = run_alike(&rt, rt.alloc(), &[0], places, sink);
+        are_got(&rt, &report);
+        assert!(rt; sends(&report) == (2, [2, 0], [0, 2]), "{places} places");
+        gave_both(&rt, sink.handed());
+    }
 }
 
 /// The numbers of faults of a feed: before its first answer, and before each later one.
