@@ -1,12 +1,13 @@
 -- The ends of one stream on two paths.
 use Rattle.std.specs.Prelude.{◌≡◌, length, slice_get, Some}
-use Rattle.rtrb.specs.Ring.{IsPair}
+use Rattle.rtrb.specs.Ring.{IsPair, SameProducer}
 use Rattle.rtp_stream.specs.MarkFacts.{MarkView}
 use Rattle.rtp_stream.specs.declared.packet.Packet.{Packet}
 use Rattle.studio_ends.specs.declared.rings.TokenConsumer.{TokenConsumer}
 use Rattle.studio_ends.specs.declared.path_end.PathEnd.{PathEnd}
 use Rattle.studio_ends.specs.declared.stream_end.StreamEnd.{StreamEnd}
 use Rattle.studio_ends.specs.declared.mix_end.MixEnd.{MixEnd}
+use Rattle.studio_rings.specs.Turns.{AreSameRings}
 
 -- the paths' ends are those of the stream's rings, in order, and the stream's end is that of the mixer's first ring
 pub record AreOfOneStream (first second : PathEnd) (stream : StreamEnd) (mix : MixEnd) : Type 0 where
@@ -15,3 +16,8 @@ pub record AreOfOneStream (first second : PathEnd) (stream : StreamEnd) (mix : M
   pub second_is : (side : TokenConsumer Packet) → slice_get stream.sides.items 1 ≡ Some side → IsPair second.ring side.ring
   pub one : length mix.sides.items ≡ 1
   pub marks : (side : TokenConsumer MarkView) → slice_get mix.sides.items 0 ≡ Some side → IsPair stream.marks side.ring
+
+-- a stream's end has the rings that it had, of its paths and of its marks
+pub record HasSameRings (old new : StreamEnd) : Type 0 where
+  pub marks : SameProducer old.marks new.marks
+  pub sides : AreSameRings old.sides.items new.sides.items

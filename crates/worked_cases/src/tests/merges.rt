@@ -266,7 +266,7 @@ fn a_close_gives_what_is_held_and_the_end(rt: HostRuntime) {
     }
 }
 
-const RESTARTS: [Case; 8] = [
+const RESTARTS: [Case; 9] = [
     Case {
         shows: "eight packets in sequence restart",
         stream: STREAM,
@@ -286,8 +286,8 @@ const RESTARTS: [Case; 8] = [
         counts: "11 arrived, 3 from_a, 8 off_grid, 3 got, 1 restarts",
     },
     Case {
-        shows: "by the arrival clock an epoch begins at the time, which is 12, if that is later than \
-            the next number's media time, which is 6",
+        shows: "by the arrival clock an epoch begins at the time, 12, if that is after the media time \
+            6 of the number next due",
         stream: Stream {
             clock: StreamClock::Arrival,
             ..STREAM
@@ -299,18 +299,30 @@ const RESTARTS: [Case; 8] = [
         counts: "9 arrived, 2 from_a, 7 off_grid, 2 got, 1 restarts",
     },
     Case {
-        shows: "by the arrival clock an epoch begins at the next number's media time, which is 6, if \
-            that is later than the time, which is 1",
+        shows: "and at the media time of the number next due, 6, if that is after the time, 3",
         stream: Stream {
             clock: StreamClock::Arrival,
-            latency: 1,
+            latency: 3,
             ..STREAM
         },
         open_at: 0,
-        steps: "tick 0, a 1 0, tick 1, a 500 4294967274 x 8, tick 7",
+        steps: "tick 0, a 1 0, tick 3, a 500 0 x 8, tick 9",
         fates: "1 Taken, 7 OffGrid, 1 Restarted",
         marks: "got 65537 0, got 1:66043 6",
         counts: "9 arrived, 2 from_a, 7 off_grid, 2 got, 1 restarts",
+    },
+    Case {
+        shows: "both are 12 if a number was lost before",
+        stream: Stream {
+            clock: StreamClock::Arrival,
+            latency: 3,
+            ..STREAM
+        },
+        open_at: 0,
+        steps: "tick 0, a 1 0, tick 12, a 500 0 x 8, tick 15",
+        fates: "1 Taken, 7 OffGrid, 1 Restarted",
+        marks: "got 65537 0, lost 65538 6, got 1:66043 12",
+        counts: "9 arrived, 2 from_a, 7 off_grid, 2 got, 1 lost, 1 restarts",
     },
     Case {
         shows: "an epoch at 20 is opened while the slot at 18 is next",

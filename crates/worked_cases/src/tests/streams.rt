@@ -121,7 +121,7 @@ const DATAGRAM: [u8; 30] = [
     0x80, 0x60, 0, 1, 0, 0, 0, 0, 0, 0, 0, 1, 0, 0, 1, 0, 0, 2, 0, 0, 3, 0, 0, 4, 0, 0, 5, 0, 0, 6,
 ];
 
-/// That datagram with payload type 97.
+/// A copy of it with payload type 97.
 const OF_TYPE_97: [u8; 30] = [
     0x80, 0x61, 0, 1, 0, 0, 0, 0, 0, 0, 0, 1, 0, 0, 1, 0, 0, 2, 0, 0, 3, 0, 0, 4, 0, 0, 5, 0, 0, 6,
 ];

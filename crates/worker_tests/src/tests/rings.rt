@@ -1,8 +1,12 @@
 //! One stream through its rings, by worked examples.
-ghost use Rattle.std.specs.Prelude.{◌≡◌, ◌++◌, ◌∷◌, []};
-ghost use Rattle.rtrb.specs.Ring.{SameProducer};
+ghost use Rattle.std.specs.Prelude.{◌≡◌, ◌++◌, ◌∷◌, [], ◌<◌, Some, slice_get, vec_len};
+ghost use Rattle.rtrb.specs.Ring.{IsPair};
+ghost use Rattle.rtrb.specs.Ends.{SameRing};
+ghost use Rattle.rtp_stream.specs.declared.packet.Packet.{Packet};
 ghost use Rattle.studio_ends.specs.FreshEnds.{AreOpened};
-ghost use Rattle.worker_tests.specs.OneStream.{AreOfOneStream};
+ghost use Rattle.studio_ends.specs.MarksIn.{AllTakeSome};
+ghost use Rattle.studio_ends.specs.declared.rings.TokenConsumer.{TokenConsumer};
+ghost use Rattle.worker_tests.specs.OneStream.{AreOfOneStream, HasSameRings};
 
 use engine_tests::small_packets::{FIRST, SECOND, thousands, thousands_alone};
 use engine_tests::small_studios::{six_and_forty_eight, sum_of};
@@ -70,11 +74,10 @@ struct OneStream {
     stream: StreamEnd,
     monitor: MonitorEnd,
     mix: MixEnd,
+    ghost pairs: { AreOfOneStream first second stream mix },
 }
 
-fn one_stream(rt: &impl Abort, alloc: Global, clock: StreamClock, ring_len: usize) -> OneStream
-    ensures { AreOfOneStream result.first result.second result.stream result.mix }
-{
+fn one_stream(rt: &impl Abort, alloc: Global, clock: StreamClock, ring_len: usize) -> OneStream {
     let studio = studio_of(rt, alloc, clock, 8);
     let mut ends = open_ends(rt, alloc, &studio, ring_len);
     assert!(rt; ends.paths.len() == 2);
@@ -94,7 +97,7 @@ fn one_stream(rt: &impl Abort, alloc: Global, clock: StreamClock, ring_len: usiz
 
 /// A turn's outcome: packets of the first two paths, marks, the time it reached, and the reason why it stopped.
 fn turn(rt: &impl Abort, stream: &mut StreamEnd, now: i64) -> (u32, u32, u32, i64, StopReason)
-    ensures { SameProducer stream.old.marks stream.new.marks }
+    ensures { HasSameRings stream.old stream.new }
 {
     match stream.turn(now) {
         Ok(note) => {
@@ -106,13 +109,17 @@ fn turn(rt: &impl Abort, stream: &mut StreamEnd, now: i64) -> (u32, u32, u32, i6
 }
 
 /// A turn of the mixer.
-fn mixed(mix: &mut MixEnd, out: &mut [u8; 1452]) -> MixNote {
+fn mixed(mix: &mut MixEnd, out: &mut [u8; 1452]) -> MixNote
+    ensures { AllTakeSome mix.old.sides.items mix.new.sides.items }
+{
     let _short = mix.datagram_len();
     mix.turn(out)
 }
 
 /// A turn of the mixer, which takes this many marks and gives a datagram with these samples.
-fn mixes(rt: &impl Abort, mix: &mut MixEnd, taken: u32, samples: &[u8]) {
+fn mixes(rt: &impl Abort, mix: &mut MixEnd, taken: u32, samples: &[u8])
+    ensures { AllTakeSome mix.old.sides.items mix.new.sides.items }
+{
     let mut out = [0u8; 1452];
     let note = mixed(mix, &mut out);
     assert!(rt; (note.taken, note.strange) == (taken, 0));
@@ -131,10 +138,10 @@ enum Step {
     Refuse(i64),
     /// A turn of the mixer: how many marks it takes, and the packet whose samples its datagram has.
     Mix(u32, &'static [u8; 30]),
+    /// A drain before the close, which gives nothing.
+    DrainNone,
     /// A close, which finds paths open.
     Close([bool; 4]),
-    /// A turn of the drain, which gives nothing.
-    DrainNone,
     /// A reading of the clock, which changes nothing else.
     Read(i64),
     /// The deadline of the next slot.
@@ -154,33 +161,47 @@ fn play_one(rt: &impl Abort, ends: &mut OneStream, step: Step) {
     match step {
         Step::Send(packet, answer) => assert!(rt; ends.first.offer(packet) == answer),
         Step::Turn(now, end) => assert!(rt; turn(rt, &mut ends.stream, now) == end),
-        Step::Refuse(now) => {
-            assert!(rt; matches!(ends.stream.turn(now), Err(ClockFault::WentBack)));
-        }
+        Step::Refuse(now) => assert!(rt;
+            fault_of(&mut ends.stream, now) == Some(ClockFault::WentBack)
+        ),
         Step::Mix(taken, packet) => mixes(rt, &mut ends.mix, taken, &packet[12..]),
+        Step::DrainNone => assert!(rt; !drains(&mut ends.stream), "there is a mark"),
         Step::Close(want) => assert!(rt; still_open(&mut ends.stream) == Some(want)),
-        Step::DrainNone => assert!(rt; !ends.stream.drain_turn(), "there is a mark"),
-        Step::Read(now) => {
-            assert!(rt; ends.stream.read_clock(now).ok() == Some(StopReason::CaughtUp));
-        }
+        Step::Read(now) => assert!(rt; reads(&mut ends.stream, now) == Some(StopReason::CaughtUp)),
         Step::Deadline(want) => assert!(rt; ends.stream.next_deadline() == want),
         Step::Show(counts) => shows(rt, &mut ends.monitor, counts),
     }
 }
 
-/// The paths that a close finds open, if it does.
-fn still_open(stream: &mut StreamEnd) -> Option<[bool; 4]> {
+/// Returns the fault of a turn at a reading, if it has one.
+fn fault_of(stream: &mut StreamEnd, now: i64) -> Option<ClockFault>
+    ensures { HasSameRings stream.old stream.new }
+{
+    stream.turn(now).err()
+}
+
+/// Returns the reason why a reading of the clock stopped, if it was not refused.
+fn reads(stream: &mut StreamEnd, now: i64) -> Option<StopReason>
+    ensures { HasSameRings stream.old stream.new }
+{
+    stream.read_clock(now).ok()
+}
+
+/// Returns true if a drain has given all marks that are left.
+fn drains(stream: &mut StreamEnd) -> bool
+    ensures { HasSameRings stream.old stream.new }
+{
+    stream.drain_turn()
+}
+
+/// Returns the paths that a close finds open, or none if it closed.
+fn still_open(stream: &mut StreamEnd) -> Option<[bool; 4]>
+    ensures { HasSameRings stream.old stream.new }
+{
     match stream.close() {
         Ok(_) => None,
         Err(open) => Some(open.still_open),
     }
-}
-
-/// Returns whether the stream's end was there, and the numbers of datagrams offered, sent and refused at a full ring.
-fn finished(path: PathEnd) -> (bool, [u64; 3]) {
-    let (done, counts) = path.finish();
-    let all = [counts.offered, counts.sent, counts.full];
-    (done.is_some(), all)
 }
 
 /// The monitor has these counts next, or none.
@@ -216,15 +237,6 @@ const ONE_PLACE: [Step; 10] = [
     Step::Refuse(17),
 ];
 
-/// Rings of one place: full, stopped because there is no room, caught up, and a reading that goes back.
-#[test]
-fn rings_of_one_place_lose_nothing(rt: HostRuntime) {
-    let mut ends = one_stream(&rt, rt.alloc(), MEDIA, 1);
-    play(&rt, &mut ends, &ONE_PLACE);
-    assert!(rt; !ends.mix.settled(), "no stream has finished");
-    assert!(rt; finished(ends.first) == (true, [3, 2, 1]));
-}
-
 const SHOWN: [Step; 9] = [
     Step::Send(&FIRST, Offer::Sent),
     Step::Turn(0, (1, 0, 0, 0, StopReason::CaughtUp)),
@@ -244,36 +256,6 @@ fn counts_reach_the_monitor(rt: HostRuntime) {
     play(&rt, &mut ends, &SHOWN);
 }
 
-const OPEN: [Step; 2] = [Step::Close([true, true, false, false]), Step::DrainNone];
-
-/// A close before a path's end leaves it open, and drains nothing.
-#[test]
-fn an_open_path_holds_up_the_close(rt: HostRuntime) {
-    let mut ends = one_stream(&rt, rt.alloc(), MEDIA, 1);
-    play(&rt, &mut ends, &OPEN);
-    assert!(rt; finished(ends.second) == (true, [0, 0, 0]));
-}
-
-/// The first path has finished: the close names the second, whose packets still come.
-#[test]
-fn a_path_that_goes_on_holds_up_the_close(rt: HostRuntime) {
-    let mut ends = one_stream(&rt, rt.alloc(), MEDIA, 1);
-    assert!(rt; ends.first.offer(&FIRST) == Offer::Sent);
-    let (first_done, _) = ends.first.finish();
-    let Some(first_done) = first_done else {
-        panic!(rt; "the stream's end is there")
-    };
-    let stream = &mut ends.stream;
-    stream.path_done(0, first_done);
-    let took = turn(&rt, stream, 0);
-    assert!(rt; took == (1, 0, 0, 0, StopReason::CaughtUp));
-    let Err(open) = stream.close() else {
-        panic!(rt; "the second path goes on")
-    };
-    assert!(rt; open.still_open == [false, true, false, false]);
-    assert!(rt; ends.second.offer(&SECOND) == Offer::Sent);
-}
-
 /// A turn of the mixer that gives this datagram.
 fn gives(rt: &impl Abort, mix: &mut MixEnd, datagram: &[u8]) {
     let mut out = [0u8; 1452];
@@ -283,7 +265,9 @@ fn gives(rt: &impl Abort, mix: &mut MixEnd, datagram: &[u8]) {
 }
 
 /// A turn of the mixer that takes this many marks and gives none.
-fn gives_none(rt: &impl Abort, mix: &mut MixEnd, taken: u32) {
+fn gives_none(rt: &impl Abort, mix: &mut MixEnd, taken: u32)
+    ensures { AllTakeSome mix.old.sides.items mix.new.sides.items }
+{
     let mut out = [0u8; 1452];
     let note = mixed(mix, &mut out);
     assert!(rt; (note.taken, note.strange, note.len) == (taken, 0, None));
@@ -371,44 +355,63 @@ fn the_order_of_the_streams_changes_no_datagram(rt: HostRuntime) {
     mixes_in_order(&rt, rt.alloc(), true);
 }
 
-/// Both packets are sent, and the ends finish one after the other.
-#[test]
-fn tokens_carry_the_end_to_the_mixer(rt: HostRuntime) {
+/// The first close of a stream, whose paths are both open.
+const OPEN: [Step; 2] = [Step::DrainNone, Step::Close([true, true, false, false])];
+
+/// Finishes a path's end, whose token goes to its stream's. Returns the numbers of datagrams that were offered, sent and
+/// refused at a full ring.
+fn finish_path(rt: &impl Abort, path: PathEnd, number: usize, stream: &mut StreamEnd) -> [u64; 3]
+    requires place { number < vec_len stream.old.sides }
+    requires pair { (side : TokenConsumer Packet) → slice_get stream.old.sides.items number ≡ Some side
+        → IsPair path.ring side.ring }
+    ensures { HasSameRings stream.old stream.new }
+{
+    let (done, counts) = path.finish();
+    let done = done.expect(rt, "the stream's end is there");
+    stream.path_done(number, done);
+    [counts.offered, counts.sent, counts.full]
+}
+
+/// Drains and finishes a closed stream's end, in which only the end mark is left, and returns its token.
+fn finish_stream(rt: &impl Abort, stream: StreamEnd) -> StreamDone
+    ensures { SameRing stream.marks.end result.token.end }
+{
+    let mut stream = stream;
+    assert!(rt; drains(&mut stream), "the end is all that is left");
+    let (done, counts) = stream.finish();
+    assert!(rt; (counts.arrived, counts.taken, counts.got) == (2, 2, 2));
+    done.expect(rt, "the mixer's end is there")
+}
+
+/// Finishes the ends of a stream whose two slots the mixer took. The close names the paths that go on, until both have
+/// finished. Then the mark of the end is drained, and with the stream's token the mixer is settled.
+fn finish_in_turn(rt: &impl Abort, ends: OneStream) {
     let OneStream {
-        mut first,
-        mut second,
+        first,
+        second,
         mut stream,
         monitor: _,
         mut mix,
-    } = one_stream(&rt, rt.alloc(), MEDIA, 64);
-    assert!(rt; first.offer(&FIRST) == Offer::Sent);
-    assert!(rt; second.offer(&SECOND) == Offer::Sent);
-    let (first_done, _) = first.finish();
-    let (second_done, _) = second.finish();
-    let (Some(first_done), Some(second_done)) = (first_done, second_done) else {
-        panic!(rt; "the stream's end is there")
-    };
-    stream.path_done(0, first_done);
-    stream.path_done(1, second_done);
-    let Err(open) = stream.close() else {
-        panic!(rt; "no packet was taken")
-    };
-    assert!(rt; open.still_open == [true, true, false, false]);
-    let took = turn(&rt, &mut stream, 0);
-    assert!(rt; took == (1, 1, 0, 0, StopReason::CaughtUp));
-    assert!(rt; stream.close().is_ok(), "both paths are drained");
-    assert!(rt; stream.drain_turn(), "two slots and the end");
-    let (done, counts) = stream.finish();
-    let Some(done) = done else {
-        panic!(rt; "the mixer's end is there")
-    };
-    assert!(rt; (counts.arrived, counts.taken, counts.got) == (2, 2, 2));
+    } = ends;
+    assert!(rt; finish_path(rt, first, 0, &mut stream) == [3, 2, 1]);
+    assert!(rt; still_open(&mut stream) == Some([false, true, false, false]));
+    assert!(rt; finish_path(rt, second, 1, &mut stream) == [0, 0, 0]);
+    assert!(rt; still_open(&mut stream).is_none(), "both paths are drained");
+    let done = finish_stream(rt, stream);
+    gives_none(rt, &mut mix, 1);
     mix.stream_done(0, done);
-    assert!(rt; !mix.settled(), "three marks are to be taken");
-    mixes(&rt, &mut mix, 1, &FIRST[12..]);
-    mixes(&rt, &mut mix, 1, &SECOND[12..]);
-    gives_none(&rt, &mut mix, 1);
     assert!(rt; mix.settled());
+}
+
+/// Rings of one place: full, stopped because there is no room, caught up, and a reading that goes back. Then the paths
+/// finish one after the other, the stream closes and drains, and the mixer is settled.
+#[test]
+fn rings_of_one_place_lose_nothing_to_the_end(rt: HostRuntime) {
+    let mut ends = one_stream(&rt, rt.alloc(), MEDIA, 1);
+    play(&rt, &mut ends, &ONE_PLACE);
+    assert!(rt; !ends.mix.settled(), "no stream has finished");
+    play(&rt, &mut ends, &OPEN);
+    finish_in_turn(&rt, ends);
 }
 
 /// Rings of no place, or of 65,537, are refused.
