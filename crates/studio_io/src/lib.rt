@@ -19,7 +19,6 @@ mod memory_clock;
 mod memory_feed;
 mod memory_sink;
 mod report;
-mod send_counts;
 mod sink;
 
 pub use clock::Clock;
@@ -29,5 +28,4 @@ pub use memory_clock::MemoryClock;
 pub use memory_feed::MemoryFeed;
 pub use memory_sink::MemorySink;
 pub use report::{WorkFault, WorkReport};
-pub use send_counts::SendCounts;
-pub use sink::{SendAnswer, Sink};
+pub use sink::{SendAnswer, SendCounts, Sink};

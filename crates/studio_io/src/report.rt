@@ -3,7 +3,7 @@ ghost use Rattle.std.specs.Prelude.{◌≡◌};
 ghost use Rattle.studio_io.specs.Balances.{Balances};
 ghost use Rattle.studio_io.specs.declared.report.WorkFault.TheVariants as fault;
 
-use crate::send_counts::SendCounts;
+use crate::sink::SendCounts;
 use rtp_stream::StreamCounts;
 use std::alloc::AllocError;
 use thiserror::Error;

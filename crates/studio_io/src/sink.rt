@@ -1,5 +1,5 @@
-//! The sink of a run, which takes the datagrams of the mix.
-ghost use Rattle.std.specs.Prelude.{List, ℕ, [], ◌∷◌, Option};
+//! The sink of a run, which takes the datagrams of the mix, and the counts of its results.
+ghost use Rattle.std.specs.Prelude.{◌≡◌, ◌+◌, ◌<◌, ◌^◌, List, ℕ, [], ◌∷◌, Option, if◌then◌else◌};
 ghost use Rattle.studio_io.specs.Sinks.{Hands};
 
 /// The result of `Sink::send` for each of the two addresses: true if it took the datagram.
@@ -20,4 +20,62 @@ pub trait Sink: Drop {
     /// Sends one datagram to both addresses, and returns the result for each.
     fn send(&mut self, datagram: &[u8]) -> SendAnswer
         ensures handed { Hands (handed self.old) (datagram.now ∷ []) (handed self.new) };
+}
+
+/// The numbers of datagrams that a sink was passed. At each address the sent and the failed ones add up to all of them.
+#[derive(Clone, Copy, Debug)]
+pub struct SendCounts {
+    /// The number of all datagrams.
+    pub blocks: u64,
+    /// The datagrams that the first address took.
+    pub sent_a: u64,
+    /// The datagrams that the second address took.
+    pub sent_b: u64,
+    /// The datagrams that failed at the first address.
+    pub fault_a: u64,
+    /// The datagrams that failed at the second address.
+    pub fault_b: u64,
+    ghost balanced_a: { sent_a + fault_a ≡ blocks },
+    ghost balanced_b: { sent_b + fault_b ≡ blocks },
+}
+
+impl SendCounts {
+    /// The counts of a sink that was passed no datagram yet.
+    pub fn new() -> SendCounts
+        ensures { result.blocks ≡ 0 }
+    {
+        SendCounts {
+            blocks: 0,
+            sent_a: 0,
+            sent_b: 0,
+            fault_a: 0,
+            fault_b: 0,
+        }
+    }
+
+    /// Counts a datagram by its result. After 2^64 - 1 datagrams it counts no more.
+    pub fn add(&mut self, answer: SendAnswer)
+        ensures blocks { self.old.blocks + 1 < 2 ^ 64 → self.new.blocks ≡ self.old.blocks + 1 }
+        ensures sent_a { self.old.blocks + 1 < 2 ^ 64
+            → self.new.sent_a ≡ self.old.sent_a + (if answer.a then 1 else 0) }
+        ensures sent_b { self.old.blocks + 1 < 2 ^ 64
+            → self.new.sent_b ≡ self.old.sent_b + (if answer.b then 1 else 0) }
+        ensures full { self.old.blocks + 1 ≡ 2 ^ 64 → self.new ≡ self.old }
+    {
+        // Nothing is counted from here on: single counters that stay at their greatest would not add up any more.
+        if self.blocks == u64::MAX {
+            return;
+        }
+        if answer.a {
+            self.sent_a += 1;
+        } else {
+            self.fault_a += 1;
+        }
+        if answer.b {
+            self.sent_b += 1;
+        } else {
+            self.fault_b += 1;
+        }
+        self.blocks += 1;
+    }
 }
