@@ -28,7 +28,7 @@ use Rattle.studio_ends.specs.AcceptedFeeds.{accepted_feeds}
 use Rattle.studio_ends.specs.MixEnds.{MixHasFeeds, MixesBlock, given}
 use Rattle.studio_ends.specs.Datagrams.{AllTell, AreAllGiven, HasGiven, given_after}
 use Rattle.studio_ends.specs.declared.rings.TokenConsumer.{TokenConsumer}
-use Rattle.studio_ends.specs.declared.mix.MixNote.{MixNote}
+use Rattle.studio_ends.specs.declared.mix_end.MixNote.{MixNote}
 use Rattle.studio_ends.specs.declared.mix_end.MixEnd.{MixEnd}
 use Rattle.studio_ends.proofs.AcceptedLemmas.{accepted_after-append}
 

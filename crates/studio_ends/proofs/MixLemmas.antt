@@ -9,7 +9,7 @@ use Rattle.studio_mix.specs.Output.{datagram_of}
 use Rattle.studio_ends.specs.AcceptedFeeds.{accepted_feeds}
 use Rattle.studio_ends.specs.MarksIn.{TakesAllMarks}
 use Rattle.studio_ends.specs.MixEnds.{MixHasFeeds, MixesBlock, given}
-use Rattle.studio_ends.specs.declared.mix.MixNote.{MixNote}
+use Rattle.studio_ends.specs.declared.mix_end.MixNote.{MixNote}
 use Rattle.studio_ends.specs.declared.mix_end.MixEnd.{MixEnd}
 
 -- what the next block leaves, given or not

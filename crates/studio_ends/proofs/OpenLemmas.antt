@@ -22,7 +22,7 @@ use Rattle.studio_ends.specs.declared.rings.TokenConsumer.{TokenConsumer}
 use Rattle.studio_ends.specs.declared.path_end.PathEnd.{PathEnd}
 use Rattle.studio_ends.specs.declared.stream_end.StreamEnd.{StreamEnd}
 use Rattle.studio_ends.specs.declared.monitor_end.MonitorEnd.{MonitorEnd}
-use Rattle.studio_ends.specs.declared.opening.StreamEnds.{StreamEnds}
+use Rattle.studio_ends.specs.declared.ends.StreamEnds.{StreamEnds}
 
 pub fresh_paths-snoc : (stream : Stream) (places : ℕ) (paths : List PathEnd) (sides : List (TokenConsumer Packet)) (path : PathEnd) (side : TokenConsumer Packet)
     → AllFreshPaths stream places paths sides → IsFreshPath stream places path side → AllFreshPaths stream places (paths ++ path ∷ []) (sides ++ side ∷ [])

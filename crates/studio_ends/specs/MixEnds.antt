@@ -8,7 +8,7 @@ use Rattle.studio_mix.specs.Ready.{is_ready}
 use Rattle.studio_mix.specs.Output.{datagram_of}
 use Rattle.studio_ends.specs.AcceptedFeeds.{accepted_feeds, accepted_total}
 use Rattle.studio_ends.specs.MarksIn.{AllStopTaking}
-use Rattle.studio_ends.specs.declared.mix.MixNote.{MixNote}
+use Rattle.studio_ends.specs.declared.mix_end.MixNote.{MixNote}
 use Rattle.studio_ends.specs.declared.mix_end.MixEnd.{MixEnd}
 
 -- the mixer was fed the marks that were accepted of those that the rings delivered, and so many datagrams were given

@@ -8,7 +8,7 @@ use Rattle.studio_ends.specs.declared.rings.TokenConsumer.{TokenConsumer}
 use Rattle.studio_ends.specs.declared.path_end.PathEnd.{PathEnd}
 use Rattle.studio_ends.specs.declared.stream_end.StreamEnd.{StreamEnd}
 use Rattle.studio_ends.specs.declared.monitor_end.MonitorEnd.{MonitorEnd}
-use Rattle.studio_ends.specs.declared.opening.StreamEnds.{StreamEnds}
+use Rattle.studio_ends.specs.declared.ends.StreamEnds.{StreamEnds}
 
 -- the ends of these streams
 pub record AreFreshEnds (open_at : ℤ) (places : ℕ) (streams : List Stream) (ends : StreamEnds) : Type 0 where

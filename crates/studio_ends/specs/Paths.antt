@@ -7,8 +7,8 @@ use Rattle.rtp_stream.specs.Reception.{reception_of}
 use Rattle.rtp_stream.specs.declared.reception.Reception.{Reception}
 use Rattle.rtp_stream.specs.declared.reception.Reception.TheVariants.{Sent as Received, Bad as BadWire, WrongType as OtherType, WrongLength as OtherLength}
 use Rattle.studio_ends.specs.declared.path_end.PathEnd.{PathEnd}
-use Rattle.studio_ends.specs.declared.path.Offer.{Offer}
-use Rattle.studio_ends.specs.declared.path.Offer.TheVariants.{CountersFull, Bad, WrongType, WrongLength, Full, Sent}
+use Rattle.studio_ends.specs.declared.path_end.Offer.{Offer}
+use Rattle.studio_ends.specs.declared.path_end.Offer.TheVariants.{CountersFull, Bad, WrongType, WrongLength, Full, Sent}
 
 -- the datagram was received so, and counted
 pub record Receives (octets : List ℕ) (p : PathEnd) (reception : Reception) (q : PathEnd) : Type 0 where

@@ -20,27 +20,18 @@
 //! `studio_rings` makes all these calls in threads.
 #![tactic(auto)]
 
-mod drain;
 mod ends;
-mod mark_sender;
-mod mix;
 mod mix_end;
 mod monitor_end;
-mod opening;
-mod packet_sender;
-mod path;
 mod path_end;
 mod rings;
 mod stats_channels;
 mod stream_end;
 
-pub use ends::{Ends, OpenFault};
-pub use mix::MixNote;
-pub use mix_end::MixEnd;
+pub use ends::{Ends, OpenFault, open, open_with_stats};
+pub use mix_end::{MixEnd, MixNote};
 pub use monitor_end::MonitorEnd;
-pub use opening::{open, open_with_stats};
-pub use path::{Offer, PathDone};
-pub use path_end::PathEnd;
+pub use path_end::{Offer, PathDone, PathEnd};
 pub use rtp_stream::PathCounts;
 pub use stats_channels::StatsReceivers;
 pub use stream_end::StreamEnd;

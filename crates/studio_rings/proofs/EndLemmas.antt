@@ -24,7 +24,7 @@ use Rattle.rtp_stream.specs.declared.stream_counts.PathCounts.{PathCounts}
 use Rattle.studio_ends.specs.Fitting.{fitting}
 use Rattle.studio_ends.specs.FreshEnds.{AllFreshPaths, IsFreshPath, IsFreshStream}
 use Rattle.studio_ends.specs.Streams.{StreamHasHistory, packets_by}
-use Rattle.studio_ends.specs.declared.path.PathDone.{PathDone}
+use Rattle.studio_ends.specs.declared.path_end.PathDone.{PathDone}
 use Rattle.studio_ends.specs.declared.rings.TokenConsumer.{TokenConsumer}
 use Rattle.studio_ends.specs.declared.stream_end.turns.StreamDone.{StreamDone}
 use Rattle.studio_ends.specs.declared.stream_end.StreamEnd.{StreamEnd}
@@ -35,14 +35,14 @@ use Rattle.studio_rings.specs.PathWorkers.{IsPathResult, SendsFeed}
 use Rattle.studio_rings.specs.Runs.{HasPathHistory, HavePathHistories, sent_total}
 use Rattle.studio_rings.specs.Turns.{GoesOn, HaveArrived, HaveTold}
 use Rattle.studio_rings.proofs.StreamTurnLemmas.{events-joined}
-use Rattle.studio_rings.specs.declared.path_job.PathJob.{PathJob}
-use Rattle.studio_rings.specs.declared.path_job.PathResult.{PathResult}
+use Rattle.studio_rings.specs.declared.jobs.PathJob.{PathJob}
+use Rattle.studio_rings.specs.declared.jobs.PathResult.{PathResult}
 use Rattle.studio_rings.specs.declared.worker.clocked_stream.ClockedStream.{ClockedStream}
 use Rattle.studio_rings.specs.StreamWorkers.{EndsStream, HasEnded, HasMarks, PathsGiveTokens, IsStreamResult, all_told, ends_of, told_by, told_of}
 use Rattle.studio_rings.specs.StreamClose.{ClosesLater, Drains}
 use Rattle.studio_rings.proofs.ZipLemmas.{zip-length}
-use Rattle.studio_rings.specs.declared.stream_job.StreamJob.{StreamJob}
-use Rattle.studio_rings.specs.declared.stream_job.StreamResult.{StreamResult}
+use Rattle.studio_rings.specs.declared.jobs.StreamJob.{StreamJob}
+use Rattle.studio_rings.specs.declared.jobs.StreamResult.{StreamResult}
 
 -- the token of an end whose ring is the same as this one's
 pub same_token : {T A P : Type 0} (p q : Producer T A P) (done : Finished T A P) → SameProducer p q → SameRing q.end done.end → SameRing p.end done.end
@@ -200,6 +200,7 @@ module _ {F : Type 0} (told : F → List Answer) (stream : Stream) (places : ℕ
           wrong_type = let b = counted.wrong_type in omega (arith, none, balanced, b);
           wrong_length = let b = counted.wrong_length in omega (arith, none, balanced, b);
         };
+    offered = λ whole. let few = (t.sent_are whole).offered in let none = fresh.none_offered in omega (arith, few, none);
   }
 
   path_histories : (path : ℕ) (paths : List (PathJob F)) (sides : List (TokenConsumer Packet)) (results : List PathResult) (events : List Event) → AllFreshPaths stream places (ends_of paths) sides → AllZip (IsPathResult told) paths results → PathsGiveTokens results

@@ -11,8 +11,8 @@ use Rattle.rtp_stream.specs.declared.reception.Reception.{Reception}
 use Rattle.rtp_stream.specs.declared.reception.Reception.TheVariants.{Sent, Bad, WrongType, WrongLength}
 use Rattle.rtp_stream.specs.declared.stream_spec.Stream.{Stream}
 use Rattle.studio_ends.specs.Paths.{Offers, Receives}
-use Rattle.studio_ends.specs.declared.path.Offer.{Offer}
-use Rattle.studio_ends.specs.declared.path.Offer.TheVariants.{CountersFull, Bad as BadOffer, WrongType as OtherType, WrongLength as OtherLength, Full, Sent as SentOffer}
+use Rattle.studio_ends.specs.declared.path_end.Offer.{Offer}
+use Rattle.studio_ends.specs.declared.path_end.Offer.TheVariants.{CountersFull, Bad as BadOffer, WrongType as OtherType, WrongLength as OtherLength, Full, Sent as SentOffer}
 use Rattle.studio_ends.specs.declared.path_end.PathEnd.{PathEnd}
 use Rattle.rtp_stream.specs.declared.stream_counts.PathCounts.{PathCounts}
 use Rattle.std.proofs.lemmas.Bool.{false≢true}
@@ -32,8 +32,8 @@ none_other WrongLength e = absurd (cc)
 
 -- a packet that found no room 1,001 times
 pub offers-lost : (octets : List ℕ) (p q : PathEnd) → SameProducer p.ring q.ring → q.spec ≡ p.spec → sent q.ring ≡ sent p.ring → is_sent (reception_of p.spec octets) ≡ true → q.counts.full ≡ p.counts.full + 1001
-    → q.counts.bad ≡ p.counts.bad → q.counts.wrong_type ≡ p.counts.wrong_type → q.counts.wrong_length ≡ p.counts.wrong_length → p.counts.offered ≤ q.counts.offered → OffersAgain octets p q
-offers-lost octets p q ring spec same packet full bad wrong_type wrong_length offered =
+    → q.counts.bad ≡ p.counts.bad → q.counts.wrong_type ≡ p.counts.wrong_type → q.counts.wrong_length ≡ p.counts.wrong_length → p.counts.offered ≤ q.counts.offered → q.counts.offered ≤ p.counts.offered + 1001 → OffersAgain octets p q
+offers-lost octets p q ring spec same packet full bad wrong_type wrong_length offered few =
     let none = none_other (reception_of p.spec octets) packet in
     record {
       ring = ring;
@@ -47,6 +47,7 @@ offers-lost octets p q ring spec same packet full bad wrong_type wrong_length of
       };
       full = omega (arith, full);
       offered = offered;
+      few = few;
     }
 
 counts-others : (stream : Stream) (octets : List ℕ) (o : Reception) (a b : PathTally) → reception_of stream octets ≡ o → b ≡ with_reception a o → CountsOthers stream (octets ∷ []) a b
@@ -70,6 +71,7 @@ pub record FoundNoRoom (p e : PathEnd) : Type 0 where
   pub wrong_type : e.counts.wrong_type ≡ p.counts.wrong_type
   pub wrong_length : e.counts.wrong_length ≡ p.counts.wrong_length
   pub offered : p.counts.offered ≤ e.counts.offered
+  pub few : e.counts.offered ≤ p.counts.offered + 1000
 
 -- then one was received
 received-then : (octets : List ℕ) (p e q : PathEnd) (o : Reception) → FoundNoRoom p e → SameProducer p.ring q.ring → q.spec ≡ p.spec
@@ -91,6 +93,7 @@ received-then octets p e q o before ring spec h sends =
       };
       full = omega (arith, more.0, before.full);
       offered = omega (arith, more.1, before.offered);
+      few = omega (arith, more.1, before.few);
     }
 
 -- or no more can be counted
@@ -105,6 +108,7 @@ refused-then octets p e q before ring spec same many =
       others = λ few. absurd (omega (arith, few, offered, many));
       full = let full = ap (λ (x : PathEnd). x.counts.full) same in omega (arith, full, before.full);
       offered = omega (arith, offered, before.offered);
+      few = omega (arith, offered, before.few);
     }
 
 -- an answer other than `Full`, after those
@@ -144,6 +148,7 @@ sends-start told p w = record {
   grows = omega arith;
   lacking = λ _. omega arith;
   others = λ _. record { bad = omega arith; wrong_type = omega arith; wrong_length = omega arith };
+  offered = omega arith;
 }
 
 packets-append : (stream : Stream) (xs ys : List (List ℕ)) → packets_in stream (xs ++ ys) ≡ packets_in stream xs ++ packets_in stream ys
@@ -195,8 +200,9 @@ step : (told rest : List Answer) (p q r : PathEnd) (octets : List ℕ) (more : L
     → (r.counts.full < q.counts.full + 1001 → r.counts.offered < 2 ^ 62 → sent r.ring ≡ sent q.ring ++ packets_of p.spec octets)
     → (r.counts.offered < 2 ^ 62 → CountsOthers p.spec (octets ∷ []) (path_tally_of q.counts) (path_tally_of r.counts))
     → q.counts.full ≤ r.counts.full → q.counts.offered ≤ r.counts.offered
+    → q.counts.offered ≤ p.counts.offered + 1001 * length tried → r.counts.offered ≤ q.counts.offered + 1001
     → SendsSoFar told p rest 0 r
-step told rest p q r octets more tried pq spec w sends some all before grows lacking others qr (inl e) every counted f g = record {
+step told rest p q r octets more tried pq spec w sends some all before grows lacking others qr (inl e) every counted f g many few = record {
   ring = producers p.ring q.ring r.ring pq qr;
   spec = spec;
   whole = w;
@@ -216,8 +222,9 @@ step told rest p q r octets more tried pq spec w sends some all before grows lac
       let l = tried-more p.spec tried octets in
       omega (arith, h, k, l);
   others = λ b. others-more p.spec tried (octets ∷ []) (path_tally_of p.counts) (path_tally_of q.counts) (path_tally_of r.counts) (others (omega (arith, b, g))) (counted b);
+  offered = omega (arith, many, few, length-append tried (octets ∷ []));
 }
-step told rest p q r octets more tried pq spec w sends some all before grows lacking others qr (inr e) every counted f g = record {
+step told rest p q r octets more tried pq spec w sends some all before grows lacking others qr (inr e) every counted f g many few = record {
   ring = producers p.ring q.ring r.ring pq qr;
   spec = spec;
   whole = w;
@@ -233,6 +240,7 @@ step told rest p q r octets more tried pq spec w sends some all before grows lac
       let l = tried-more p.spec tried octets in
       omega (arith, h, f, l, length-append more (packets_of p.spec octets));
   others = λ b. others-more p.spec tried (octets ∷ []) (path_tally_of p.counts) (path_tally_of q.counts) (path_tally_of r.counts) (others (omega (arith, b, g))) (counted b);
+  offered = omega (arith, many, few, length-append tried (octets ∷ []));
 }
 
 sends-datagram : (told left rest : List Answer) (p q r : PathEnd) (k n : ℕ) (b : List ℕ)
@@ -248,7 +256,7 @@ sends-datagram told left rest p q r k n b h t s =
     (subst (λ (x : Stream). (sent r.ring ≡ sent q.ring) ⊎ (sent r.ring ≡ sent q.ring ++ packets_of x (take n b))) h.spec s.sends)
     (subst (λ (x : Stream). r.counts.full < q.counts.full + 1001 → r.counts.offered < 2 ^ 62 → sent r.ring ≡ sent q.ring ++ packets_of x (take n b)) h.spec s.all)
     (subst (λ (x : Stream). r.counts.offered < 2 ^ 62 → CountsOthers x (take n b ∷ []) (path_tally_of q.counts) (path_tally_of r.counts)) h.spec s.others)
-    s.full s.offered
+    s.full s.offered h.offered s.few
 
 sends-nothing : (told left rest : List Answer) (p q r : PathEnd) (k : ℕ) (b : List ℕ)
     → SendsSoFar told p left k q → r ≡ record q { sender = r.sender } → Tells left b Nothing rest → SendsSoFar told p rest 0 r
@@ -256,7 +264,7 @@ unfolding reaches_end told_datagrams
 sends-nothing told left rest p q r k b h same t =
     let e = told-next k left b Nothing rest h.whole t in
     let sends : SendsSoFar told p rest 0 (record q { sender = r.sender }) =
-    record { ring = h.ring; spec = h.spec; whole = rw e at h.whole; more = h.more; sends = h.sends; some = rw e at h.some; all = rw e at h.all; tried = h.tried; before = rw e at h.before; grows = h.grows; lacking = h.lacking; others = h.others } in
+    record { ring = h.ring; spec = h.spec; whole = rw e at h.whole; more = h.more; sends = h.sends; some = rw e at h.some; all = rw e at h.all; tried = h.tried; before = rw e at h.before; grows = h.grows; lacking = h.lacking; others = h.others; offered = h.offered } in
     subst (SendsSoFar told p rest 0) (sym same) sends
 
 sends-fault : (told left rest : List Answer) (p q : PathEnd) (k : ℕ) (b : List ℕ)
@@ -265,7 +273,7 @@ unfolding reaches_end told_datagrams
 sends-fault told left rest p q k b n h t =
     let e = told-next k left b Fault rest h.whole t in
     let z : nat_eq k 999 ≡ false = grind (arith, nat_tests) in
-    record { ring = h.ring; spec = h.spec; whole = rw (e, z) at h.whole; more = h.more; sends = h.sends; some = rw (e, z) at h.some; all = rw (e, z) at h.all; tried = h.tried; before = rw (e, z) at h.before; grows = h.grows; lacking = h.lacking; others = h.others }
+    record { ring = h.ring; spec = h.spec; whole = rw (e, z) at h.whole; more = h.more; sends = h.sends; some = rw (e, z) at h.some; all = rw (e, z) at h.all; tried = h.tried; before = rw (e, z) at h.before; grows = h.grows; lacking = h.lacking; others = h.others; offered = h.offered }
 
 less : (a m f g : ℕ) → f ≤ g → f + a * 1001 ≤ g + m * 1001 → f + (a - m) * 1001 ≤ g
 less a m f g le h = omega arith
@@ -284,6 +292,7 @@ sends_all told p q left k all c h none a i =
       all = rw i (rw append-nil at every);
       lacking = rw i (λ few. less (length (told_packets p.spec 0 told)) (length h.more) p.counts.full q.counts.full h.grows (rw those at (h.lacking few)));
       others = rw i (rw those at h.others);
+      offered = rw i (rw those at h.offered);
     }
 
 -- the end: a stop, or the last of so many faults

@@ -9,14 +9,14 @@ use Rattle.rtp_stream.specs.declared.event.Event.{Event}
 use Rattle.rtp_stream.specs.declared.stream_counts.PathCounts.{PathCounts}
 use Rattle.studio_ends.specs.Streams.{StreamHasHistory}
 use Rattle.studio_ends.specs.Tokens.{HandsIn}
-use Rattle.studio_ends.specs.declared.path.PathDone.{PathDone}
+use Rattle.studio_ends.specs.declared.path_end.PathDone.{PathDone}
 use Rattle.studio_ends.specs.declared.path_end.PathEnd.{PathEnd}
 use Rattle.studio_ends.specs.declared.rings.TokenConsumer.{TokenConsumer}
 use Rattle.studio_io.specs.Answers.{Answer}
 use Rattle.studio_rings.specs.PathWorkers.{IsPathResult, IsTokenOf}
 use Rattle.studio_rings.specs.Turns.{AreSameRings, GoesOn, HaveTold}
-use Rattle.studio_rings.specs.declared.path_job.PathJob.{PathJob}
-use Rattle.studio_rings.specs.declared.path_job.PathResult.{PathResult}
+use Rattle.studio_rings.specs.declared.jobs.PathJob.{PathJob}
+use Rattle.studio_rings.specs.declared.jobs.PathResult.{PathResult}
 use Rattle.studio_rings.specs.declared.worker.clocked_stream.ClockedStream.{ClockedStream}
 use Rattle.studio_rings.proofs.StreamTurnLemmas.{goes-still, rings-self, same_marks}
 use Rattle.studio_rings.specs.StreamWorkers.{AllTokensFit, ArePairs, FitsAt, HandsOne, PathsGiveTokens, all_told, told_by}

@@ -4,10 +4,10 @@ use Rattle.rtp_stream.specs.declared.stream_spec.Stream.{Stream}
 use Rattle.studio_ends.specs.FreshEnds.{AllFreshStreams, IsFreshStream}
 use Rattle.studio_ends.specs.declared.path_end.PathEnd.{PathEnd}
 use Rattle.studio_ends.specs.declared.stream_end.StreamEnd.{StreamEnd}
-use Rattle.studio_rings.specs.declared.path_job.PathJob.{PathJob}
+use Rattle.studio_rings.specs.declared.jobs.PathJob.{PathJob}
 use Rattle.studio_rings.specs.Jobs.{AreJobsOf, HasRoom, HaveRoom, feeds_in}
 use Rattle.studio_rings.specs.StreamWorkers.{ends_of}
-use Rattle.studio_rings.specs.declared.stream_job.StreamJob.{StreamJob}
+use Rattle.studio_rings.specs.declared.jobs.StreamJob.{StreamJob}
 
 -- two ways to cut a list at one place
 pub cut_once : {A : Type 0} (xs xs' ys ys' : List A) → xs ++ ys ≡ xs' ++ ys' → length xs ≡ length xs' → (xs ≡ xs') × (ys ≡ ys')

@@ -9,7 +9,7 @@ use Rattle.studio_ends.specs.MarksIn.{AllTakeSome}
 use Rattle.studio_ends.specs.MixEnds.{MixHasFeeds, MixesBlock}
 use Rattle.studio_ends.specs.Datagrams.{AreAllGiven, HasGiven, given_after}
 use Rattle.studio_ends.specs.declared.rings.TokenConsumer.{TokenConsumer}
-use Rattle.studio_ends.specs.declared.mix.MixNote.{MixNote}
+use Rattle.studio_ends.specs.declared.mix_end.MixNote.{MixNote}
 use Rattle.studio_ends.specs.declared.mix_end.MixEnd.{MixEnd}
 use Rattle.studio_io.specs.Sinks.{Hands}
 use Rattle.studio_rings.specs.MixWorker.{AreSameSides, Mixes}

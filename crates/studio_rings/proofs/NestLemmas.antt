@@ -2,7 +2,7 @@
 use Rattle.std.proofs.Common.{◌≡◌, List, [], ◌∷◌, ◌++◌, Option, Some, None, IfSome, subst, append-nil, ◌∙◌}
 use Rattle.std.specs.Option.{option_to_list}
 use Rattle.studio_rings.specs.StreamWorkers.{AllReady, IsReady}
-use Rattle.studio_rings.specs.declared.stream_job.StreamJob.{StreamJob}
+use Rattle.studio_rings.specs.declared.jobs.StreamJob.{StreamJob}
 
 module _ {F C : Type 0} where
   ready_last : (jobs : List (StreamJob F C)) (job : StreamJob F C) → AllReady (jobs ++ job ∷ []) → AllReady jobs × IsReady job

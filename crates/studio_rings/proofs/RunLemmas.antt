@@ -29,13 +29,13 @@ use Rattle.studio_io.specs.declared.report.WorkReport.{WorkReport}
 use Rattle.studio_rings.specs.MixWorker.{Mixes}
 use Rattle.studio_rings.specs.Runs.{HaveStreamHistories, IsSettledRun, feeds_of}
 use Rattle.studio_rings.specs.StreamTokens.{AllGiveTokens, AllTellMarks, AreTold}
-use Rattle.studio_rings.specs.declared.path_job.PathJob.{PathJob}
+use Rattle.studio_rings.specs.declared.jobs.PathJob.{PathJob}
 use Rattle.studio_rings.proofs.StreamTokenLemmas.{AreTokensFor}
 use Rattle.studio_rings.specs.Jobs.{AreJobsOf, HaveRoom, feeds_in}
 use Rattle.studio_rings.specs.StreamResults.{AreOpenedTogether, counts_in, dones_in, fault_numbers}
 use Rattle.studio_rings.specs.StreamWorkers.{AllReady, ArePairs, HasMarks, IsStreamResult, ends_of, told_of}
-use Rattle.studio_rings.specs.declared.stream_job.StreamJob.{StreamJob}
-use Rattle.studio_rings.specs.declared.stream_job.StreamResult.{StreamResult}
+use Rattle.studio_rings.specs.declared.jobs.StreamJob.{StreamJob}
+use Rattle.studio_rings.specs.declared.jobs.StreamResult.{StreamResult}
 use Rattle.studio_rings.proofs.EndLemmas.{some_of}
 use Rattle.studio_rings.proofs.JobLemmas.{cut_once, map_length}
 

@@ -26,7 +26,7 @@ use Rattle.studio_ends.specs.declared.stream_end.marks_out.TurnNote.{TurnNote}
 use Rattle.studio_ends.proofs.CloseLemmas.{delivered-looked}
 use Rattle.studio_ends.proofs.TurnLemmas.{producers}
 use Rattle.studio_io.specs.Clocks.{GoByClock, IsTurnAt, TellsTime, events_in, time_with}
-use Rattle.studio_rings.specs.Turns.{AreSameRings, GoesOn, HaveArrived, HaveTold, KeepsTokens, ReadsFirst}
+use Rattle.studio_rings.specs.Turns.{AreSameRings, CatchesUp, GoesOn, HaveArrived, HaveTold, KeepsTokens, ReadsFirst}
 use Rattle.studio_rings.specs.declared.worker.clocked_stream.ClockedStream.{ClockedStream}
 
 -- rings that are the same as ones that are the same
@@ -175,6 +175,15 @@ is-turn-at stream open_at places s m t now note events f n shut room h =
       most = n.not_after;
       caught_up = stopped note.why_stopped note.reached now note.marks (known_free t.marks) _ _ n.stop (λ e. omega (arith, e, before, after, first, gained)) (λ e. omega (arith, e, after, same, within, room));
     }
+
+-- what a turn came to, whatever came first
+pub catches-up : (s m t : StreamEnd) (first_at now time : ℤ) (note : TurnNote) → now ≡ time → ReadsFirst s first_at m → TakesTurn m now note t → CatchesUp s time t
+catches-up s m t first_at now time note same f n =
+    let first = f.more in
+    let gained = n.marks in
+    let stop : StopsFor note.why_stopped note.reached time note.marks (known_free t.marks) = subst (λ u. StopsFor note.why_stopped note.reached u note.marks (known_free t.marks)) same n.stop in
+    subst (λ r. (r ≡ time) ⊎ ((length (sent s.marks) + 64 ≤ length (sent t.marks)) ⊎ (known_free t.marks ≡ 0))) n.reached
+    (stopped note.why_stopped note.reached time note.marks (known_free t.marks) (length (sent s.marks) + 64 ≤ length (sent t.marks)) (known_free t.marks ≡ 0) stop (λ e. omega (arith, e, first, gained)) (λ e. e))
 
 module _ {C : Type 0} (told : C → List ℤ) where
   -- the history, the clock and the time are as they were

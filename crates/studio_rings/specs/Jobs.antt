@@ -2,9 +2,9 @@
 use Rattle.std.specs.Prelude.{◌≡◌, ◌≤◌, List, [], ◌∷◌, ◌++◌, length, map, vec_len, vec_capacity}
 use Rattle.studio_ends.specs.declared.path_end.PathEnd.{PathEnd}
 use Rattle.studio_ends.specs.declared.stream_end.StreamEnd.{StreamEnd}
-use Rattle.studio_rings.specs.declared.path_job.PathJob.{PathJob}
+use Rattle.studio_rings.specs.declared.jobs.PathJob.{PathJob}
 use Rattle.studio_rings.specs.StreamWorkers.{ends_of}
-use Rattle.studio_rings.specs.declared.stream_job.StreamJob.{StreamJob}
+use Rattle.studio_rings.specs.declared.jobs.StreamJob.{StreamJob}
 
 module _ {F : Type 0} where
   abbrev pub feeds_in : List (PathJob F) → List F

@@ -6,13 +6,14 @@ use Rattle.rtp_stream.specs.declared.packet.Packet.{Packet}
 use Rattle.rtp_stream.specs.PathCounts.{path_tally_of}
 use Rattle.rtp_stream.specs.declared.stream_counts.PathCounts.{PathCounts}
 use Rattle.studio_ends.specs.Fitting.{fitting}
-use Rattle.studio_ends.specs.declared.path.PathDone.{PathDone}
+use Rattle.studio_ends.specs.declared.path_end.PathDone.{PathDone}
 use Rattle.studio_ends.specs.declared.path_end.PathEnd.{PathEnd}
 use Rattle.studio_io.specs.Answers.{Answer, CountsOthers, IsPartOf, packets_in, packets_of, reaches_end, told_datagrams, told_packets}
-use Rattle.studio_rings.specs.declared.path_job.PathJob.{PathJob}
-use Rattle.studio_rings.specs.declared.path_job.PathResult.{PathResult}
+use Rattle.studio_rings.specs.declared.jobs.PathJob.{PathJob}
+use Rattle.studio_rings.specs.declared.jobs.PathResult.{PathResult}
 
--- a datagram was offered, and again while it found no room, but at most 1,000 times more: its packet was sent at most once, and once where fewer than 1,001 of these offers found no room
+-- a datagram was offered, and again while it found no room, but at most 1,000 times more: its packet was sent at most
+-- once, and once where fewer than 1,001 of these offers found no room
 pub record OffersAgain (octets : List ℕ) (p q : PathEnd) : Type 0 where
   pub ring : SameProducer p.ring q.ring
   pub spec : q.spec ≡ p.spec
@@ -21,8 +22,11 @@ pub record OffersAgain (octets : List ℕ) (p q : PathEnd) : Type 0 where
   pub others : q.counts.offered < 2 ^ 62 → CountsOthers p.spec (octets ∷ []) (path_tally_of p.counts) (path_tally_of q.counts)
   pub full : p.counts.full ≤ q.counts.full
   pub offered : p.counts.offered ≤ q.counts.offered
+  pub few : q.counts.offered ≤ p.counts.offered + 1001
 
--- what was sent in all, of a feed that told its answers: packets of its datagrams, in order, each at most once, and all of them where at most 1,000 offers found no room; for each that is lacking 1,001 offers found none, and each other datagram was counted once
+-- what was sent in all, of a feed that told its answers: packets of its datagrams, in order, each at most once, and all of
+-- them where at most 1,000 offers found no room; for each that is lacking 1,001 offers found none, and each other datagram
+-- was counted once; there were at most 1,001 offers for each datagram
 pub record SendsFeed (told : List Answer) (p : PathEnd) (sent_in_all : List Packet) (counts : PathCounts) : Type 0 where
   pub more : List Packet
   pub sends : sent_in_all ≡ sent p.ring ++ more
@@ -30,6 +34,7 @@ pub record SendsFeed (told : List Answer) (p : PathEnd) (sent_in_all : List Pack
   pub all : counts.full ≤ 1000 → counts.offered < 2 ^ 62 → more ≡ told_packets p.spec 0 told
   pub lacking : counts.offered < 2 ^ 62 → p.counts.full + (length (told_packets p.spec 0 told) - length more) * 1001 ≤ counts.full
   pub others : counts.offered < 2 ^ 62 → CountsOthers p.spec (told_datagrams 0 told) (path_tally_of p.counts) (path_tally_of counts)
+  pub offered : counts.offered ≤ p.counts.offered + 1001 * length (told_datagrams 0 told)
 
 -- the same on the way, where these answers are left, so many faults have come in a row, and these datagrams were tried
 pub record SendsSoFar (told : List Answer) (p : PathEnd) (left : List Answer) (faults : ℕ) (q : PathEnd) : Type 0 where
@@ -45,6 +50,7 @@ pub record SendsSoFar (told : List Answer) (p : PathEnd) (left : List Answer) (f
   pub grows : p.counts.full ≤ q.counts.full
   pub lacking : q.counts.offered < 2 ^ 62 → p.counts.full + length (packets_in p.spec tried) * 1001 ≤ q.counts.full + length more * 1001
   pub others : q.counts.offered < 2 ^ 62 → CountsOthers p.spec tried (path_tally_of p.counts) (path_tally_of q.counts)
+  pub offered : q.counts.offered ≤ p.counts.offered + 1001 * length tried
 
 -- the token of this path's ring
 abbrev pub IsTokenOf : PathEnd → PathDone → Type 0

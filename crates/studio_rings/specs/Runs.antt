@@ -18,13 +18,16 @@ use Rattle.studio_io.specs.Clocks.{GoByClock, events_in}
 use Rattle.studio_io.specs.Sinks.{Hands}
 use Rattle.studio_io.specs.declared.report.WorkReport.{WorkReport}
 
--- the arrivals of a path are packets of its feed's datagrams, in order, each at most once, and all of them where at most 1,000 offers found no room; for each that is lacking 1,001 offers found none, and each other datagram was counted once
+-- the arrivals of a path are packets of its feed's datagrams, in order, each at most once, and all of them where at most
+-- 1,000 offers found no room; for each that is lacking 1,001 offers found none, and each other datagram was counted once;
+-- there were at most 1,001 offers for each datagram
 pub record HasPathHistory (stream : Stream) (path : ℕ) (told : List Answer) (counts : PathCounts) (events : List Event) : Type 0 where
   pub sent : counts.sent ≡ length (packets_by path events)
   pub some : reaches_end 0 told ≡ true → IsPartOf (packets_by path events) (told_packets stream 0 told)
   pub all : reaches_end 0 told ≡ true → counts.full ≤ 1000 → counts.offered < 2 ^ 62 → packets_by path events ≡ told_packets stream 0 told
   pub lacking : reaches_end 0 told ≡ true → counts.offered < 2 ^ 62 → (length (told_packets stream 0 told) - length (packets_by path events)) * 1001 ≤ counts.full
   pub others : reaches_end 0 told ≡ true → counts.offered < 2 ^ 62 → CountsOthers stream (told_datagrams 0 told) empty_path_tally (path_tally_of counts)
+  pub offered : reaches_end 0 told ≡ true → counts.offered ≤ 1001 * length (told_datagrams 0 told)
 
 -- so it is of each path, from this one on
 abbrev pub HavePathHistories : Stream → ℕ → List (List Answer) → List PathCounts → List Event → Type 0

@@ -7,7 +7,7 @@ use Rattle.studio_ends.specs.declared.ends.Ends.{Ends}
 use Rattle.studio_ends.specs.declared.monitor_end.MonitorEnd.{MonitorEnd}
 use Rattle.studio_ends.specs.declared.stream_end.turns.StreamDone.{StreamDone}
 use Rattle.rtp_stream.specs.declared.stream_counts.StreamCounts.{StreamCounts}
-use Rattle.studio_rings.specs.declared.stream_job.StreamResult.{StreamResult}
+use Rattle.studio_rings.specs.declared.jobs.StreamResult.{StreamResult}
 
 -- the ends were opened together, and nothing was done with them; the monitors' may be elsewhere
 pub record AreOpenedTogether (studio : Studio) (places : ℕ) (ends : Ends) : Type 0 where

@@ -13,18 +13,18 @@ use Rattle.rtp_stream.specs.History.{is_closed, is_well_timed}
 use Rattle.studio_ends.specs.FreshEnds.{IsFreshStream}
 use Rattle.studio_ends.specs.Streams.{StreamHasHistory}
 use Rattle.studio_ends.specs.Tokens.{HandsIn}
-use Rattle.studio_ends.specs.declared.path.PathDone.{PathDone}
+use Rattle.studio_ends.specs.declared.path_end.PathDone.{PathDone}
 use Rattle.studio_ends.specs.declared.path_end.PathEnd.{PathEnd}
 use Rattle.studio_ends.specs.declared.rings.TokenConsumer.{TokenConsumer}
 use Rattle.studio_io.specs.Answers.{Answer}
 use Rattle.studio_io.specs.Clocks.{GoByClock, events_in}
 use Rattle.studio_rings.specs.Runs.{HasStreamHistory}
 use Rattle.studio_rings.specs.Turns.{HaveArrived}
-use Rattle.studio_rings.specs.declared.path_job.PathJob.{PathJob}
-use Rattle.studio_rings.specs.declared.path_job.PathResult.{PathResult}
+use Rattle.studio_rings.specs.declared.jobs.PathJob.{PathJob}
+use Rattle.studio_rings.specs.declared.jobs.PathResult.{PathResult}
 use Rattle.studio_rings.specs.declared.worker.clocked_stream.ClockedStream.{ClockedStream}
-use Rattle.studio_rings.specs.declared.stream_job.StreamJob.{StreamJob}
-use Rattle.studio_rings.specs.declared.stream_job.StreamResult.{StreamResult}
+use Rattle.studio_rings.specs.declared.jobs.StreamJob.{StreamJob}
+use Rattle.studio_rings.specs.declared.jobs.StreamResult.{StreamResult}
 
 abbrev pub all_told : Option PathDone → List Packet
 all_told None = []

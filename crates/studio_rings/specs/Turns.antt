@@ -1,6 +1,6 @@
 -- What the turns of a stream's worker come to.
-use Rattle.std.specs.Prelude.{◌≡◌, ℕ, suc, ◌≤◌, true, false, List, [], ◌∷◌, ◌++◌, length, ℤ, ◌≤ℤ◌, IfSome}
-use Rattle.rtrb.specs.Ring.{all_sent, sent, producer_capacity, SameConsumer, SameProducer}
+use Rattle.std.specs.Prelude.{◌≡◌, ◌⊎◌, ℕ, suc, ◌+◌, ◌≤◌, true, false, List, [], ◌∷◌, ◌++◌, length, ℤ, ◌≤ℤ◌, IfSome}
+use Rattle.rtrb.specs.Ring.{all_sent, known_free, sent, producer_capacity, SameConsumer, SameProducer}
 use Rattle.rtp_stream.specs.declared.stream_spec.Stream.{Stream}
 use Rattle.rtp_stream.specs.declared.packet.Packet.{Packet}
 use Rattle.rtp_stream.specs.declared.event.Event.{Event}
@@ -9,7 +9,7 @@ use Rattle.studio_ends.specs.Fitting.{fitting}
 use Rattle.studio_ends.specs.Streams.{StreamHasHistory, packets_by}
 use Rattle.studio_ends.specs.declared.rings.TokenConsumer.{TokenConsumer}
 use Rattle.studio_ends.specs.declared.stream_end.StreamEnd.{StreamEnd}
-use Rattle.studio_io.specs.Clocks.{GoByClock, events_in}
+use Rattle.studio_io.specs.Clocks.{GoByClock, TellsTime, events_in, time_with}
 use Rattle.studio_rings.specs.declared.worker.clocked_stream.ClockedStream.{ClockedStream}
 
 module _ {T : Type 0} where
@@ -54,6 +54,16 @@ pub record ReadsFirst (s : StreamEnd) (now : ℤ) (t : StreamEnd) : Type 0 where
   pub still_open : t.merge.closed ≡ false
   pub not_after : t.merge.time ≤ℤ now
   pub stands : (stream : Stream) (open_at : ℤ) (events : List Event) → StreamHasHistory stream open_at s events → StreamHasHistory stream open_at t (events ++ first)
+
+-- a turn reached the time, or gave 64 marks, or has found no free place in its ring at its end
+abbrev pub CatchesUp : StreamEnd → ℤ → StreamEnd → Type 0
+CatchesUp s time t = (t.merge.time ≡ time) ⊎ ((length (sent s.marks) + 64 ≤ length (sent t.marks)) ⊎ (known_free t.marks ≡ 0))
+
+-- a clock was asked once, and the time is the greatest so far with its answer
+pub record ReadsClockOnce {C : Type 0} (told : C → List ℤ) (clock : C) (time : ℤ) (later : C) (new_time : ℤ) : Type 0 where
+  pub answer : ℤ
+  pub tells : TellsTime (told clock) answer (told later)
+  pub time_is : new_time ≡ time_with time answer
 
 module _ {C : Type 0} where
   -- a stream that is not closed went on: its history grew by turns that go by its clock

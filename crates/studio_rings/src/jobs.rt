@@ -1,4 +1,4 @@
-//! Makes the jobs of the workers, with all the memory that they need.
+//! The jobs of the workers, with all the memory that they need, and their results.
 ghost use Rattle.std.specs.Prelude.{◌≡◌, ◌+◌, ◌<◌, ◌≤◌, ◌∷◌, ◌++◌, List, ℕ, ℤ, length, vec_len, vec_capacity, IfOk};
 ghost use Rattle.std.specs.Vec.Iter.{into_iter_items, into_iter_len};
 ghost use Rattle.rtp_stream.specs.declared.stream_spec.Stream.{Stream};
@@ -6,13 +6,54 @@ ghost use Rattle.studio_ends.specs.FreshEnds.{AllFreshStreams};
 ghost use Rattle.studio_rings.specs.Jobs.{AreJobsOf, HasRoom, HaveRoom, feeds_in};
 ghost use Rattle.studio_rings.specs.StreamWorkers.{ends_of};
 
-use crate::path_job::{PathJob, PathResult};
-use crate::stream_job::StreamJob;
-use rtp_stream::PathCounts;
+use rtp_stream::{PathCounts, StreamCounts};
 use std::alloc::{AllocError, Global};
 use std::sync::atomic::AtomicBool;
 use std::vec::IntoIter;
-use studio_ends::{PathEnd, StreamEnd};
+use studio_ends::{PathDone, PathEnd, StreamDone, StreamEnd};
+
+/// The job of a path's worker: a path's end and its feed.
+#[derive(Drop)]
+pub struct PathJob<F> {
+    pub end: PathEnd,
+    pub feed: F,
+}
+
+/// The result of a path's worker.
+#[derive(Drop)]
+pub struct PathResult {
+    /// The token of the path's end; `None` if the worker was stopped or the stream's end was dropped.
+    pub done: Option<PathDone>,
+    pub counts: PathCounts,
+    /// The number of faults that the feed returned.
+    pub faults: u64,
+}
+
+/// The job of a stream's worker: its end, its clock, its paths, and the memory that their workers need.
+#[derive(Drop)]
+pub(crate) struct StreamJob<F, C> {
+    pub(crate) end: StreamEnd,
+    pub(crate) clock: C,
+    pub(crate) paths: Vec<PathJob<F>>,
+    /// A flag for each path, set once it has ended.
+    pub(crate) ended: Vec<AtomicBool>,
+    /// The room for the result of each path's worker.
+    pub(crate) results: Vec<PathResult>,
+    /// The room for the counts of each path.
+    pub(crate) counts: Vec<PathCounts>,
+    /// The room for the number of each feed's faults.
+    pub(crate) faults: Vec<u64>,
+}
+
+/// The result of a stream's worker.
+#[derive(Drop)]
+pub(crate) struct StreamResult {
+    /// The token of the stream's end; `None` if a path gave none or the mixer's end was dropped.
+    pub(crate) done: Option<StreamDone>,
+    pub(crate) counts: StreamCounts,
+    /// The number of faults that each feed returned.
+    pub(crate) faults: Vec<u64>,
+}
 
 /// Allocates so many flags, none of them set.
 pub(crate) fn unset_flags(alloc: Global, count: usize) -> Result<Vec<AtomicBool>, AllocError>

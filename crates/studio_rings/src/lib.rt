@@ -19,16 +19,14 @@
 #![tactic(auto)]
 
 mod jobs;
-mod path_job;
 mod path_threads;
 mod results;
 mod run;
-mod stream_job;
 mod stream_threads;
 mod tokens;
 mod worker;
 
-pub use path_job::{PathJob, PathResult};
+pub use jobs::{PathJob, PathResult};
 pub use run::run_workers;
 pub use studio_io::{Clock, Feed, FeedAnswer, SendAnswer, SendCounts, Sink, WorkFault, WorkReport};
 pub use tokens::is_settled_with;

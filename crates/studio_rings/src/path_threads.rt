@@ -5,7 +5,7 @@ ghost use Rattle.std.specs.List.{AllZip};
 ghost use Rattle.studio_rings.specs.PathWorkers.{IsPathResult};
 ghost use Rattle.studio_rings.specs.Turns.{GoesOn};
 
-use crate::path_job::{PathJob, PathResult};
+use crate::jobs::{PathJob, PathResult};
 use crate::worker::clocked_stream::ClockedStream;
 use crate::worker::path::run_path;
 use std::snapshot::Snapshot;

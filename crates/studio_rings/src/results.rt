@@ -2,7 +2,7 @@
 ghost use Rattle.std.specs.Prelude.{◌≡◌, ◌≤◌, vec_len, vec_capacity, IfOk};
 ghost use Rattle.studio_rings.specs.StreamResults.{counts_in, dones_in, fault_numbers};
 
-use crate::stream_job::StreamResult;
+use crate::jobs::StreamResult;
 use rtp_stream::StreamCounts;
 use std::alloc::{AllocError, Global};
 use studio_ends::StreamDone;

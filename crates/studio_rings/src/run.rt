@@ -12,9 +12,8 @@ ghost use Rattle.studio_rings.specs.StreamTokens.{AllGiveTokens, AreAllDrained, 
 ghost use Rattle.studio_rings.specs.Jobs.{AreJobsOf, HaveRoom};
 ghost use Rattle.studio_rings.specs.StreamResults.{AreOpenedTogether};
 
-use crate::jobs::{stream_jobs, unset_flags};
+use crate::jobs::{StreamJob, StreamResult, stream_jobs, unset_flags};
 use crate::results::{RunResults, collect_results, reserve_results};
-use crate::stream_job::{StreamJob, StreamResult};
 use crate::stream_threads::run_streams;
 use crate::tokens::is_settled_with;
 use crate::worker::mixer::MixResult;

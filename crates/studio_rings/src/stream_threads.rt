@@ -21,8 +21,8 @@ ghost use Rattle.std.specs.List.{AllZip};
 ghost use Rattle.studio_rings.specs.MixWorker.{Mixes};
 ghost use Rattle.studio_rings.specs.StreamWorkers.{AllReady, IsReady, IsStreamResult};
 
+use crate::jobs::{StreamJob, StreamResult};
 use crate::path_threads::WorkerStopped;
-use crate::stream_job::{StreamJob, StreamResult};
 use crate::worker::mixer::{MixResult, run_mixer};
 use crate::worker::stream::run_stream;
 use std::snapshot::Snapshot;

@@ -33,10 +33,9 @@ ghost use Rattle.studio_ends.specs.MarksIn.{TakesWanted};
 ghost use Rattle.studio_ends.specs.RoomRings.{HasRoomFor};
 ghost use Rattle.studio_ends.specs.DrainedRing.{IsDrained};
 
-use crate::mark_sender::SizedMarkProducer;
 use crate::mix_end::marks_in::take_stream;
 use crate::rings::TokenConsumer;
-use crate::rings::mark_cell::MarkCell;
+use crate::rings::mark_cell::{MarkCell, SizedMarkProducer};
 use crate::rings::payload_cell::{LONG, MIDDLE, SHORT};
 use path_merge::{MarkRef, PacketFormat};
 use rtrb::{Finished, RingBuffer};

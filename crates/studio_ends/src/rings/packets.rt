@@ -37,9 +37,8 @@ ghost use Rattle.studio_ends.specs.RoomRings.{HasRoomFor};
 ghost use Rattle.studio_ends.specs.DrainedRing.{IsDrained};
 ghost use Rattle.studio_ends.specs.StreamTurns.{Joins, TakesPackets, arrivals_by};
 
-use crate::packet_sender::SizedPacketProducer;
 use crate::rings::TokenConsumer;
-use crate::rings::packet_cell::PacketCell;
+use crate::rings::packet_cell::{PacketCell, SizedPacketProducer};
 use crate::rings::payload_cell::{LONG, MIDDLE, SHORT};
 use crate::stream_end::packets_in::take_path;
 use path_merge::{Merge, PacketRef, Path, SlotWindow, StreamSpec};

@@ -5,12 +5,15 @@ ghost use Rattle.std.specs.Prelude.{
   ◌<◌,
   ◌≤◌,
   ◌^◌,
+  ◌+◌,
+  ◌⊎◌,
   ℤ,
   ◌≤ℤ◌,
   pos,
   List,
   ◌++◌,
   length,
+  true,
   false,
   None,
   if◌then◌else◌,
@@ -24,7 +27,7 @@ ghost use Rattle.path_merge.specs.Goal.{CanReach, Gives, HasGivenAll, MovesTo, n
 ghost use Rattle.rtp_stream.specs.MarkFacts.{payload_length};
 ghost use Rattle.rtp_stream.specs.StreamSpecFacts.{format_of};
 ghost use Rattle.studio_ends.specs.RoomRings.{HasRoomFor};
-ghost use Rattle.studio_ends.specs.StreamTurns.{PushesMarks};
+ghost use Rattle.studio_ends.specs.StreamTurns.{DrainsMarks, PushesMarks};
 ghost use Rattle.studio_ends.specs.StopReasons.{StopsFor};
 
 use crate::rings::marks::MarkProducer;
@@ -106,4 +109,27 @@ pub(crate) fn push_marks(
         count += 1;
     }
     (count, StopReason::Batch)
+}
+
+/// Pushes the marks that are left, at most 64 and while there is room. Returns true if the end mark was pushed.
+pub(crate) fn drain_marks(marks: &mut MarkProducer, merge: &mut Merge<SlotWindow>) -> bool
+    requires closed { merge.old.closed ≡ true }
+    requires roomy { HasRoomFor (payload_length (format_of merge.old.spec)) marks.old }
+    ensures drained { DrainsMarks marks.old merge.old marks.new merge.new }
+    ensures all { result ≡ true → HasGivenAll merge.new }
+    ensures some { result ≡ false → (length (sent marks.new) ≡ length (sent marks.old) + 64)
+        ⊎ (known_free marks.new ≡ 0) }
+{
+    for _ in 0..BATCH {
+        if merge.ended() {
+            return true;
+        }
+        if marks.is_full() {
+            return false;
+        }
+        if !push_next(marks, merge, Goal::End) {
+            return true;
+        }
+    }
+    merge.ended()
 }

@@ -37,12 +37,11 @@ ghost use Rattle.path_merge.specs.Steps.{next_deadline_of};
 ghost use Rattle.studio_ends.specs.Streams.{ReadsClock, ShowsCounts, StreamHasHistory, TakesTurn};
 ghost use Rattle.studio_ends.specs.Tokens.{HandsIn};
 
-use crate::drain::drain_marks;
-use crate::path::PathDone;
+use crate::path_end::PathDone;
 use crate::rings::drained::any_path_open;
 use crate::rings::marks::MarkToken;
 use crate::stream_end::StreamEnd;
-use crate::stream_end::marks_out::{StopReason, TurnNote, push_marks};
+use crate::stream_end::marks_out::{StopReason, TurnNote, drain_marks, push_marks};
 use crate::stream_end::packets_in::take_all;
 use path_merge::{ClockFault, Counts, Merge, SlotWindow, StreamSpec, clock_fault};
 use rtp_stats::StreamStatsSender;

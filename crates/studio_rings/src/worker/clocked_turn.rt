@@ -1,7 +1,7 @@
 //! The turns of a stream at its clock's readings, and its close.
 ghost use Rattle.std.specs.Prelude.{◌≡◌, ◌^◌, ◌≤ℤ◌, pos, false, IfOk, IfErr};
 ghost use Rattle.studio_ends.specs.Streams.{TakesTurn};
-ghost use Rattle.studio_rings.specs.Turns.{Closes, GoesOn, KeepsTokens, ReadsFirst};
+ghost use Rattle.studio_rings.specs.Turns.{CatchesUp, Closes, GoesOn, KeepsTokens, ReadsClockOnce, ReadsFirst};
 
 use crate::worker::Backoff;
 use crate::worker::clocked_stream::ClockedStream;
@@ -59,6 +59,8 @@ impl<C: Clock> ClockedStream<C> {
     /// time passes.
     pub fn turn<R: Wait>(&mut self, rt: &R)
         ensures later { GoesOn C.told self.old self.new }
+        ensures time { ReadsClockOnce C.told self.old.clock self.old.now self.new.clock self.new.now }
+        ensures caught_up { CatchesUp self.old.end self.new.now self.new.end }
         ensures tokens { KeepsTokens self.old.end.sides.items self.new.end.sides.items }
     {
         // A reading before the last one or after 2^60 would be a clock fault, whatever the clock returns.

@@ -3,6 +3,7 @@ ghost use Rattle.std.specs.Prelude.{true};
 ghost use Rattle.studio_rings.specs.MixWorker.{Mixes};
 
 use crate::worker::Backoff;
+use mix_packets::MAX_OUTPUT_OCTETS;
 use std::sync::Wait;
 use std::sync::atomic::{AtomicBool, Ordering};
 use studio_ends::MixEnd;
@@ -28,8 +29,7 @@ pub struct MixResult<K> {
 fn mix_once<K: Sink>(end: &mut MixEnd, sink: &mut K, counts: &mut SendCounts) -> bool
     ensures { Mixes K.handed end.old sink.old counts.old.blocks result end.new sink.new counts.new.blocks }
 {
-    // The longest datagram: a header of 12 octets and a payload of 1,440.
-    let mut out = [0u8; 1452];
+    let mut out = [0u8; MAX_OUTPUT_OCTETS];
     let len = end.datagram_len();
     let note = end.turn(&mut out);
     if note.len.is_none() {

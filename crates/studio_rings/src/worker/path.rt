@@ -5,8 +5,9 @@ ghost use Rattle.studio_ends.specs.Fitting.{fitting};
 ghost use Rattle.studio_io.specs.Answers.{reaches_end};
 ghost use Rattle.studio_rings.specs.PathWorkers.{IsPathResult, IsTokenOf, OffersAgain, SendsFeed};
 
-use crate::path_job::{PathJob, PathResult};
+use crate::jobs::{PathJob, PathResult};
 use crate::worker::Backoff;
+use rtp_wire::MAX_ARRIVAL_OCTETS;
 use std::sync::Wait;
 use std::sync::atomic::{AtomicBool, Ordering};
 use studio_ends::{Offer, PathEnd};
@@ -96,8 +97,8 @@ fn send_feed<R: Wait, F: Feed>(
     let mut state = FeedState::new();
     let mut pause = Backoff::up_to(FEED_PAUSE);
     let mut fault_pause = Backoff::up_to(FAULT_PAUSE);
-    // 2,048 octets, the length for which `Feed::next` says what it gives: more than a standard Ethernet frame carries.
-    let mut buf = [0u8; 2048];
+    // The length for which `Feed::next` says what it gives.
+    let mut buf = [0u8; MAX_ARRIVAL_OCTETS];
     for _ in rt.forever() {
         if state.ended {
             return state;

@@ -14,9 +14,8 @@ ghost use Rattle.studio_rings.specs.StreamWorkers.{
 };
 ghost use Rattle.studio_rings.specs.StreamClose.{ClosesLater, Drains, Finishes};
 
-use crate::path_job::PathResult;
+use crate::jobs::{PathResult, StreamJob, StreamResult};
 use crate::path_threads::{WorkerStopped, run_paths};
-use crate::stream_job::{StreamJob, StreamResult};
 use crate::worker::Backoff;
 use crate::worker::clocked_stream::ClockedStream;
 use rtp_stream::{Counts, PathCounts, StreamCounts};

@@ -1,10 +1,10 @@
 use Rattle.std.proofs.Common.{◌≡◌, ◌≤◌, List, [], ◌∷◌, ◌++◌, length, sym, ap, subst, ◌∙◌, arith, length-append}
 use Rattle.std.specs.Vec.Iter.{into_iter_items}
 use Rattle.studio_ends.specs.declared.stream_end.StreamEnd.{StreamEnd}
-use Rattle.studio_rings.specs.declared.path_job.PathJob.{PathJob}
+use Rattle.studio_rings.specs.declared.jobs.PathJob.{PathJob}
 use Rattle.studio_rings.specs.Jobs.{HaveRoom, feeds_in}
 use Rattle.studio_rings.specs.StreamWorkers.{ends_of}
-use Rattle.studio_rings.specs.declared.stream_job.StreamJob.{StreamJob}
+use Rattle.studio_rings.specs.declared.jobs.StreamJob.{StreamJob}
 use Rattle.studio_rings.proofs.HandLemmas.{no_items}
 use Rattle.studio_rings.proofs.JobLemmas.{AreSomeFresh, MakesJobs, enough, fresh-left, makes-all, makes-one, map_length, none_fresh, room-more}
 use Rattle.studio_rings.proofs.jobs.stream_jobs.Goals as goal

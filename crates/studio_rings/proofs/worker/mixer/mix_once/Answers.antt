@@ -7,4 +7,4 @@ returns-then-is_none g c = let t = c.turn-note.ensures in mixes-idle g.K.Sink.ha
 
 pub returns : goal.returns
 returns g c = let t = c.turn-note.ensures in
-    mixes-one g.K.Sink.handed _ _ _ _ _ _ _ _ _ _ _ (search rules) c.add.ensures c.datagram_len-len.ensures.value refl t.taken t.mixes t.given c.send-answer.ensures.handed
+    mixes-one g.K.Sink.handed _ _ _ _ _ _ _ _ _ _ _ (search rules) c.add.ensures.blocks c.datagram_len-len.ensures.value refl t.taken t.mixes t.given c.send-answer.ensures.handed

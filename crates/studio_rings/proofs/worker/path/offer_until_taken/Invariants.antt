@@ -15,4 +15,5 @@ invariant-loop g l = record {
   wrong_length : l.end.counts.wrong_length ≡ l.initial.end.counts.wrong_length;
   packet : 0 < l.counter → is_sent (reception_of l.initial.end.spec l.datagram) ≡ true;
   offered : l.initial.end.counts.offered ≤ l.end.counts.offered;
+  few : l.end.counts.offered ≤ l.initial.end.counts.offered + l.counter;
 }

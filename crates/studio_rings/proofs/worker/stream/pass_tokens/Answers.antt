@@ -1,6 +1,6 @@
 use Rattle.std.proofs.Common.{◌≡◌, List, [], ◌∷◌, ◌++◌, refl, sym, ap, subst, ◌∙◌, arith, append_assoc, length-append}
 use Rattle.std.specs.Vec.Iter.{into_iter_items}
-use Rattle.studio_rings.specs.declared.path_job.PathResult.{PathResult}
+use Rattle.studio_rings.specs.declared.jobs.PathResult.{PathResult}
 use Rattle.studio_rings.proofs.StreamTurnLemmas.{goes-none, goes-trans}
 use Rattle.studio_rings.specs.StreamWorkers.{AllTokensFit}
 use Rattle.studio_rings.proofs.HandLemmas.{counted-more, fits-at, handed-next, handed-result, no_items, whole_front}

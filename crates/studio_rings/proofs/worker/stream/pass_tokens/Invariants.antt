@@ -1,7 +1,7 @@
 use Rattle.std.proofs.Common.{◌≡◌, ◌+◌, ◌++◌, length, map, vec_len, vec_capacity}
 use Rattle.std.specs.Vec.Iter.{into_iter_items, into_iter_len}
 use Rattle.studio_rings.specs.Turns.{GoesOn}
-use Rattle.studio_rings.specs.declared.path_job.PathResult.{PathResult}
+use Rattle.studio_rings.specs.declared.jobs.PathResult.{PathResult}
 use Rattle.studio_rings.proofs.HandLemmas.{AreHandedIn}
 use Rattle.studio_rings.proofs.worker.stream.pass_tokens.Given as goal
 

@@ -4,7 +4,7 @@ use Rattle.std.specs.List.{AllZip}
 use Rattle.studio_ends.specs.declared.stream_end.StreamEnd.{StreamEnd}
 use Rattle.studio_rings.specs.PathWorkers.{IsPathResult}
 use Rattle.studio_rings.specs.Turns.{AreSameRings}
-use Rattle.studio_rings.specs.declared.stream_job.StreamResult.{StreamResult}
+use Rattle.studio_rings.specs.declared.jobs.StreamResult.{StreamResult}
 use Rattle.studio_rings.proofs.HandLemmas.{no_items, own_results, tokens-fit}
 use Rattle.studio_rings.proofs.EndLemmas.{is-stream-result}
 use Rattle.studio_rings.proofs.worker.stream.run_stream_and_paths.Goals as goal

@@ -1,5 +1,5 @@
 use Rattle.std.proofs.Common.{◌≡◌, ◌∙◌, to_z, of_z, w64, rules, ap}
-use Rattle.studio_rings.proofs.StreamTurnLemmas.{goes-turn, tokens-taken, took-first}
+use Rattle.studio_rings.proofs.StreamTurnLemmas.{catches-up, goes-turn, tokens-taken, took-first}
 use Rattle.studio_rings.proofs.worker.clocked_stream.ClockedStream.turn.Goals as goal
 
 pub returns-clause-later : goal.returns-clause-later
@@ -9,6 +9,22 @@ returns-clause-later g c =
     let answer : to_z w64 (of_z w64 c.now.result) ≡ c.now.result = search rules in
     let word = ap (λ z. to_z w64 (of_z w64 z)) at in
     goes-turn g.C.Clock.told _ _ c.read_first.new.end c.now.result _ _ c.turn_at-note.result c.now.ensures.tells (at ∙ (rw (was, answer) at c.clamp-self.ensures.value)) word word c.read_first.ensures c.turn_at-note.ensures
+
+pub returns-clause-time : goal.returns-clause-time
+returns-clause-time g c =
+    let at : to_z w64 (of_z w64 c.clamp-self.result) ≡ c.clamp-self.result = search rules in
+    let was : to_z w64 (of_z w64 c.args.self.now.now) ≡ c.args.self.now.now = search rules in
+    let answer : to_z w64 (of_z w64 c.now.result) ≡ c.now.result = search rules in
+    record {
+      answer = c.now.result;
+      tells = c.now.ensures.tells;
+      time_is = at ∙ (rw (was, answer) at c.clamp-self.ensures.value);
+    }
+
+pub returns-clause-caught_up : goal.returns-clause-caught_up
+returns-clause-caught_up g c =
+    let at : to_z w64 (of_z w64 c.clamp-self.result) ≡ c.clamp-self.result = search rules in
+    catches-up _ c.read_first.new.end _ _ _ _ c.turn_at-note.result (ap (λ z. to_z w64 (of_z w64 z)) at) c.read_first.ensures c.turn_at-note.ensures
 
 pub returns-clause-tokens : goal.returns-clause-tokens
 returns-clause-tokens g c =

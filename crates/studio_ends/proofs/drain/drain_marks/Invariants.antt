@@ -1,7 +1,0 @@
-use Rattle.std.proofs.Common.{◌≡◌, ◌+◌, length}
-use Rattle.rtrb.specs.Ring.{sent}
-use Rattle.studio_ends.specs.StreamTurns.{DrainsMarks}
-use Rattle.studio_ends.proofs.drain.drain_marks.Given as goal
-
-abbrev pub invariant-loop : goal.invariant-loop
-invariant-loop l = DrainsMarks l.initial.marks l.initial.merge l.marks l.merge × (length (sent l.marks) ≡ length (sent l.initial.marks) + l.counter)

@@ -1,6 +1,0 @@
-use Rattle.std.proofs.Common.{take}
-use Rattle.studio_ends.specs.Opening.{AreFreshEnds}
-use Rattle.studio_ends.proofs.opening.open_streams.Given as goal
-
-abbrev pub invariant-loop-spec : goal.invariant-loop-spec
-invariant-loop-spec l = AreFreshEnds l.open_at l.ring_len (take l.spec-index l.specs) l.ends
